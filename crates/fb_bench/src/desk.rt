@@ -1,6 +1,5 @@
 //! Desks: the recorded calls, as one session makes them.
-ghost use Rattle.std.specs.Prelude.{◌≡◌, IfOk};
-ghost use Rattle.fb_bench.specs.Calls.{said_in, IsAnswered, IsOfCall};
+ghost use Rattle.std.specs.Prelude.{◌≡◌};
 
 use crate::answers::{Answered, Taken};
 use crate::bench::Bench;
@@ -8,7 +7,6 @@ use crate::request::Request;
 use fb_entries::jobs::{Finished, Key};
 use fb_entries::library::Change;
 use fb_history::{Asked, CheckpointRefused, Committed, Delivered, GivenBack, Limits, Refused};
-use std::alloc::AllocError;
 
 /// Why a desk does not record a call.
 #[derive(Clone, Copy, PartialEq, Eq, Debug)]
@@ -34,70 +32,39 @@ pub enum DeskCheckpointRefused {
     Memory,
 }
 
-/// What is asked of a desk.
-#[derive(Clone, Copy)]
-pub enum Demand<'a> {
-    /// A call, which is recorded.
-    Call(Request<'a>),
-    /// That the present state becomes what the history begins from, with new limits.
-    Checkpoint(Limits),
-}
-
-/// What a desk says to it.
-#[derive(Drop)]
-pub enum Said {
-    Answered(Answered),
-    HistoryFull,
-    Behind,
-    /// The checkpoint is made; so many calls came before it.
-    Kept(u64),
-    UnitsOver(u64),
-    NumbersOver,
-    NotAlone,
-}
-
-/// The answer to a call, or why it is not recorded.
-fn answer_of(said: Result<Said, AllocError>) -> Result<Answered, DeskRefused>
-    requires { IfOk said (λ told. IsOfCall (said_in told)) }
-    ensures { IsAnswered said result }
-{
-    match said {
-        Ok(Said::Answered(answer)) => Ok(answer),
-        Ok(Said::HistoryFull) => Err(DeskRefused::HistoryFull),
-        Ok(Said::Behind) => Err(DeskRefused::Behind),
-        Ok(Said::Kept(_) | Said::UnitsOver(_) | Said::NumbersOver | Said::NotAlone) =>
-            unreachable!(),
-        Err(_) => Err(DeskRefused::Memory),
-    }
-}
-
-/// The recorded calls and the checkpoint, as one session makes them. A desk says what it does with any of them; the calls by name are that.
-// Where a request is made, both types that it can lend are named: the check of loans has to have met them.
+/// The recorded calls and the checkpoint, as one session makes them. A desk says how it makes any call and a checkpoint; the calls by name are that.
+// Works around the borrow checker: both types that a `Request` can borrow must occur in a function that makes one.
 pub trait Desk {
-    ghost use Rattle.std.specs.Prelude.{IfOk, OnErr};
-    ghost use Rattle.fb_history.specs.Machine.{ToCommit, ToTake, ToDeliver, ToGiveBack, ToAsk, OfCommit, OfDeliver, OfGiveBack};
+    ghost use Rattle.std.specs.Prelude.{IfOk};
+    ghost use Rattle.fb_history.specs.Limits.{Bounds};
+    ghost use Rattle.fb_history.specs.Machine.{Call, ToCommit, ToTake, ToDeliver, ToGiveBack, ToAsk, OfCommit, OfDeliver, OfGiveBack};
     ghost use Rattle.fb_bench.specs.Records.{listed};
-    ghost use Rattle.fb_bench.specs.Calls.{Answer, Deed, Serves, ServesCheckpoint, Suits, said_in, deed_for, take_reply, ask_reply};
+    ghost use Rattle.fb_bench.specs.Requests.{call_for, reply_in};
+    ghost use Rattle.fb_bench.specs.Calls.{Answer, CheckpointAnswer, Fits, Serves, ServesCheckpoint, take_reply, ask_reply};
 
-    /// From the first desk the call or the checkpoint may be answered so, and leave the second.
-    ghost step: { Self → Deed → Answer → Self → Type 0 };
+    /// From the first desk the call may be answered so, and leave the second.
+    ghost step: { Self → Call → Answer → Self → Type 0 };
 
-    /// Does what is asked. For want of memory nothing is changed.
-    fn serve(&mut self, demand: &Demand<'_>) -> Result<Said, AllocError>
-        ensures suits { IfOk result (λ said. Suits (deed_for demand.now) (said_in said)) }
-        ensures step { IfOk result
-            (λ said. step self.old (deed_for demand.now) (said_in said) self.new) }
-        ensures err { OnErr result (self.new ≡ self.old) };
+    /// From the first desk the checkpoint may be answered so, and leave the second.
+    ghost checkpoint_step: { Self → Bounds → CheckpointAnswer → Self → Type 0 };
+
+    /// Makes any call. The answer is of the call's kind.
+    fn perform(&mut self, request: &Request<'_>) -> Result<Answered, DeskRefused>
+        ensures fits { IfOk result (λ answer. Fits (call_for request.now) (reply_in answer)) }
+        ensures step { Serves step self.old (call_for request.now) reply_in result self.new };
+
+    /// Makes the present state what the history begins from, with new limits, and gives the number of all calls so far.
+    fn checkpoint(&mut self, limits: Limits) -> Result<u64, DeskCheckpointRefused>
+        ensures step { ServesCheckpoint checkpoint_step self.old limits result self.new };
 
     /// Changes the texts, or says what is first against it.
     fn commit(&mut self, changes: &[Change]) -> Result<Committed, DeskRefused>
         ensures { Serves step self.old (ToCommit (listed changes.now)) OfCommit result self.new }
     {
         let _finished: Option<&Finished> = None;
-        match answer_of(self.serve(&Demand::Call(Request::Commit(changes))))? {
+        match self.perform(&Request::Commit(changes))? {
             Answered::Commit(committed) => Ok(committed),
-            Answered::Take(_) | Answered::Deliver(_) | Answered::GiveBack(_) | Answered::Ask(_) =>
-                unreachable!(),
+            _ => unreachable!(),
         }
     }
 
@@ -107,10 +74,9 @@ pub trait Desk {
     {
         let _changes: &[Change] = &[];
         let _finished: Option<&Finished> = None;
-        match answer_of(self.serve(&Demand::Call(Request::Take)))? {
+        match self.perform(&Request::Take)? {
             Answered::Take(taken) => Ok(taken),
-            Answered::Commit(_) | Answered::Deliver(_) | Answered::GiveBack(_) | Answered::Ask(_) =>
-                unreachable!(),
+            _ => unreachable!(),
         }
     }
 
@@ -119,10 +85,9 @@ pub trait Desk {
         ensures { Serves step self.old (ToDeliver finished.now) OfDeliver result self.new }
     {
         let _changes: &[Change] = &[];
-        match answer_of(self.serve(&Demand::Call(Request::Deliver(finished))))? {
+        match self.perform(&Request::Deliver(finished))? {
             Answered::Deliver(delivered) => Ok(delivered),
-            Answered::Commit(_) | Answered::Take(_) | Answered::GiveBack(_) | Answered::Ask(_) =>
-                unreachable!(),
+            _ => unreachable!(),
         }
     }
 
@@ -132,10 +97,9 @@ pub trait Desk {
     {
         let _changes: &[Change] = &[];
         let _finished: Option<&Finished> = None;
-        match answer_of(self.serve(&Demand::Call(Request::GiveBack(key))))? {
+        match self.perform(&Request::GiveBack(key))? {
             Answered::GiveBack(returned) => Ok(returned),
-            Answered::Commit(_) | Answered::Take(_) | Answered::Deliver(_) | Answered::Ask(_) =>
-                unreachable!(),
+            _ => unreachable!(),
         }
     }
 
@@ -145,28 +109,9 @@ pub trait Desk {
     {
         let _changes: &[Change] = &[];
         let _finished: Option<&Finished> = None;
-        match answer_of(self.serve(&Demand::Call(Request::Ask(key))))? {
+        match self.perform(&Request::Ask(key))? {
             Answered::Ask(asked) => Ok(asked),
-            Answered::Commit(_)
-            | Answered::Take(_)
-            | Answered::Deliver(_)
-            | Answered::GiveBack(_) => unreachable!(),
-        }
-    }
-
-    /// Makes the present state what the history begins from, with new limits, and gives the number of all calls so far.
-    fn checkpoint(&mut self, limits: Limits) -> Result<u64, DeskCheckpointRefused>
-        ensures { ServesCheckpoint step self.old limits result self.new }
-    {
-        let _changes: &[Change] = &[];
-        let _finished: Option<&Finished> = None;
-        match self.serve(&Demand::Checkpoint(limits)) {
-            Ok(Said::Kept(before)) => Ok(before),
-            Ok(Said::UnitsOver(count)) => Err(DeskCheckpointRefused::UnitsOver(count)),
-            Ok(Said::NumbersOver) => Err(DeskCheckpointRefused::NumbersOver),
-            Ok(Said::NotAlone) => Err(DeskCheckpointRefused::NotAlone),
-            Ok(Said::Answered(_) | Said::HistoryFull | Said::Behind) => unreachable!(),
-            Err(_) => Err(DeskCheckpointRefused::Memory),
+            _ => unreachable!(),
         }
     }
 }
@@ -190,31 +135,38 @@ impl<'a> Solo<'a> {
 }
 
 impl Desk for Solo<'_> {
-    ghost use Rattle.std.specs.Prelude.{IfErr, IfOk, OnErr};
-    ghost use Rattle.fb_bench.specs.Calls.{deed_for, said_in, Suits};
-    ghost use Rattle.fb_bench.specs.Solo.{IsOpen, SoloStep};
+    ghost use Rattle.std.specs.Prelude.{IfOk};
+    ghost use Rattle.fb_bench.specs.Calls.{Fits, Serves, ServesCheckpoint};
+    ghost use Rattle.fb_bench.specs.Requests.{call_for, reply_in};
+    ghost use Rattle.fb_bench.specs.Solo.{IsOpenCheckpoint, IsOpenCall, SoloCheckpoint, SoloCall};
 
-    ghost step = { SoloStep };
+    ghost step = { SoloCall };
 
-    fn serve(&mut self, demand: &Demand<'_>) -> Result<Said, AllocError>
-        ensures suits { IfOk result (λ said. Suits (deed_for demand.now) (said_in said)) }
-        ensures step { IfOk result
-            (λ said. SoloStep self.old (deed_for demand.now) (said_in said) self.new) }
-        ensures err { OnErr result (self.new ≡ self.old) }
-        ensures open { IfErr result (λ _. IsOpen self.old.bench.now (deed_for demand.now)) }
+    ghost checkpoint_step = { SoloCheckpoint };
+
+    fn perform(&mut self, request: &Request<'_>) -> Result<Answered, DeskRefused>
+        ensures fits { IfOk result (λ answer. Fits (call_for request.now) (reply_in answer)) }
+        ensures step { Serves SoloCall self.old (call_for request.now) reply_in result self.new }
+        ensures open { IsOpenCall self.old.bench.now result }
     {
-        match demand {
-            Demand::Call(request) => match self.bench.perform(self.caller, request) {
-                Ok((_record, answer)) => Ok(Said::Answered(answer)),
-                Err(Refused::HistoryFull) => Ok(Said::HistoryFull),
-                Err(Refused::Memory) => Err(AllocError),
-            },
-            Demand::Checkpoint(limits) => match self.bench.checkpoint(*limits) {
-                Ok(before) => Ok(Said::Kept(before)),
-                Err(CheckpointRefused::UnitsOver(count)) => Ok(Said::UnitsOver(count)),
-                Err(CheckpointRefused::NumbersOver) => Ok(Said::NumbersOver),
-                Err(CheckpointRefused::Memory) => Err(AllocError),
-            },
+        match self.bench.perform(self.caller, request) {
+            Ok((_record, answer)) => Ok(answer),
+            Err(Refused::HistoryFull) => Err(DeskRefused::HistoryFull),
+            Err(Refused::Memory) => Err(DeskRefused::Memory),
+        }
+    }
+
+    fn checkpoint(&mut self, limits: Limits) -> Result<u64, DeskCheckpointRefused>
+        ensures step { ServesCheckpoint SoloCheckpoint self.old limits result self.new }
+        ensures open { IsOpenCheckpoint self.old.bench.now limits result }
+    {
+        match self.bench.checkpoint(limits) {
+            Ok(before) => Ok(before),
+            Err(CheckpointRefused::UnitsOver(count)) => {
+                Err(DeskCheckpointRefused::UnitsOver(count))
+            }
+            Err(CheckpointRefused::NumbersOver) => Err(DeskCheckpointRefused::NumbersOver),
+            Err(CheckpointRefused::Memory) => Err(DeskCheckpointRefused::Memory),
         }
     }
 }

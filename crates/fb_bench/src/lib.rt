@@ -11,7 +11,7 @@ mod request;
 
 pub use answers::{Answered, Taken};
 pub use bench::Bench;
-pub use desk::{Demand, Desk, DeskCheckpointRefused, DeskRefused, Said, Solo};
+pub use desk::{Desk, DeskCheckpointRefused, DeskRefused, Solo};
 pub use fb_history::{
     Asked, Call, CheckpointRefused, Committed, Delivered, GivenBack, Limits, Record, Refused,
     Reply, Start, TextChange, Wanted, checkpoints_are_unseen, entries_follow_the_texts,

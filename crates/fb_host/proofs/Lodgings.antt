@@ -1,7 +1,7 @@
 -- What the steps of a lodger's desk leave in its receipts.
 use Rattle.std.proofs.Common.{◌≡◌, ℕ, inl, inr, List, [], ◌∷◌, ◌++◌, Option, Some, Result, Ok, Err, map, refl, sym, subst}
-use Rattle.fb_wire.specs.Talk.{Pair, Runs}
-use Rattle.fb_locked.specs.Bench.Calls.{Answer, Deed, Makes, Keeps, Replied, FullHistory, BehindHistory, Checked, SharedHistory}
+use Rattle.fb_wire.specs.Talk.{Runs}
+use Rattle.fb_locked.specs.Bench.Calls.{Replied, FullHistory, BehindHistory, Exchange, AskedCall, AskedCheckpoint}
 use Rattle.fb_locked.specs.History.Machine.{Call, ToGiveBack}
 use Rattle.fb_locked.specs.Jobs.declared.key.Key.{Key}
 use Rattle.fb_locked.specs.Rolling.{MayReturn}
@@ -15,24 +15,23 @@ use Rattle.fb_serve.proofs.Sessions.{session_shown}
 use Rattle.fb_host.specs.Lodging.{LeadsTo, LodgerStep}
 
 -- each is a step of a desk with a seat
-sits : (old : Sitter) (deed : Deed) (answer : Answer) (new : Sitter) → LodgerStep old deed answer new → SitterStep old deed answer new
-sits old deed FullHistory new step = absurd step
-sits old deed (Replied reply) new step = step
-sits old deed BehindHistory new step = step
-sits old deed (Checked checking) new step = step
-sits old deed SharedHistory new step = step
+sits : (old : Sitter) (exchange : Exchange) (new : Sitter) → LodgerStep old exchange new → SitterStep old exchange new
+sits old (AskedCall call (Replied reply)) new step = step
+sits old (AskedCall call FullHistory) new step = absurd step
+sits old (AskedCall call BehindHistory) new step = step
+sits old (AskedCheckpoint limits answer) new step = step
 
-all_sit : (pairs : List Pair) (old new : Sitter) → Runs LodgerStep old pairs new → Runs SitterStep old pairs new
+all_sit : (pairs : List Exchange) (old new : Sitter) → Runs LodgerStep old pairs new → Runs SitterStep old pairs new
 all_sit [] old new runs = runs
-all_sit (p ∷ ps) old new runs = (runs.0, sits old p.0 p.1 runs.0 runs.1, all_sit ps runs.0 new runs.2)
+all_sit (p ∷ ps) old new runs = (runs.0, sits old p runs.0 runs.1, all_sit ps runs.0 new runs.2)
 
 -- from a desk with no receipts, whose seat and receipts are then taken out
-pub lodger_runs : (pairs : List Pair) (seat : SeatState) (old new : Sitter) (left : SeatState) (receipts : List Claim) → old ≡ record { seat = seat; receipts = [] } → Runs LodgerStep old pairs new → record { seat = left; receipts = receipts } ≡ new
+pub lodger_runs : (pairs : List Exchange) (seat : SeatState) (old new : Sitter) (left : SeatState) (receipts : List Claim) → old ≡ record { seat = seat; receipts = [] } → Runs LodgerStep old pairs new → record { seat = left; receipts = receipts } ≡ new
     → Runs LodgerStep (record { seat = seat; receipts = [] }) pairs (record { seat = left; receipts = receipts })
 lodger_runs pairs seat old new left receipts begun runs is =
     subst (λ (s : Sitter). Runs LodgerStep (record { seat = seat; receipts = [] }) pairs s) (sym is) (subst (λ (s : Sitter). Runs LodgerStep s pairs new) begun runs)
 
-pub lodger_shown : (pairs : List Pair) (seat left : SeatState) (receipts : List Claim) → Runs LodgerStep (record { seat = seat; receipts = [] }) pairs (record { seat = left; receipts = receipts }) → (answered_in pairs ≡ map call_shown receipts) × IsRun seat receipts left
+pub lodger_shown : (pairs : List Exchange) (seat left : SeatState) (receipts : List Claim) → Runs LodgerStep (record { seat = seat; receipts = [] }) pairs (record { seat = left; receipts = receipts }) → (answered_in pairs ≡ map call_shown receipts) × IsRun seat receipts left
 lodger_shown pairs seat left receipts runs = session_shown pairs seat left receipts (all_sit pairs (record { seat = seat; receipts = [] }) (record { seat = left; receipts = receipts }) runs)
 
 -- ---- where calls lead

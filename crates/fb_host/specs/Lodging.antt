@@ -1,17 +1,19 @@
 -- The desk of a session of a server that stays.
 use Rattle.std.specs.Prelude.{List}
-use Rattle.fb_locked.specs.Bench.Calls.{Answer, Deed, Makes, Keeps, Replied, FullHistory, BehindHistory, Checked, SharedHistory}
+use Rattle.fb_locked.specs.History.Machine.{Call}
+use Rattle.fb_locked.specs.Bench.Calls.{Answer, Replied, FullHistory, BehindHistory, Exchange, Exchanges}
 use Rattle.fb_locked.specs.Runs.{IsRun}
 use Rattle.fb_locked.specs.Seats.{SeatState, Claim}
-use Rattle.fb_shared.specs.Sitting.{Sitter, SitterStep}
+use Rattle.fb_shared.specs.Sitting.{Sitter, IsCallSitting, IsCheckpointSitting}
 
--- as a desk with a seat steps, and it never says that the history is full
-abbrev pub LodgerStep : Sitter → Deed → Answer → Sitter → Type 0
-LodgerStep old deed FullHistory new = ⊥
-LodgerStep old deed (Replied reply) new = SitterStep old deed (Replied reply) new
-LodgerStep old deed BehindHistory new = SitterStep old deed BehindHistory new
-LodgerStep old deed (Checked checking) new = SitterStep old deed (Checked checking) new
-LodgerStep old deed SharedHistory new = SitterStep old deed SharedHistory new
+-- as a desk with a seat makes it, which here never says that the history is full
+abbrev pub IsCallLodging : Sitter → Call → Answer → Sitter → Type 0
+IsCallLodging old call (Replied reply) new = IsCallSitting old call (Replied reply) new
+IsCallLodging old call FullHistory new = ⊥
+IsCallLodging old call BehindHistory new = IsCallSitting old call BehindHistory new
+
+abbrev pub LodgerStep : Sitter → Exchange → Sitter → Type 0
+LodgerStep = Exchanges IsCallLodging IsCheckpointSitting
 
 -- calls with the seat, one after another, lead from the first to the second
 abbrev pub LeadsTo : SeatState → SeatState → Type 0

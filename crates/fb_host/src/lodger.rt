@@ -3,11 +3,14 @@ ghost use Rattle.std.specs.Prelude.{◌≡◌, []};
 
 use crate::drawer::Drawer;
 use crate::told::Told;
-use fb_locked::bench::{Answered, Delivered, Demand, Desk, GivenBack, Request, Said, Taken};
+use fb_locked::bench::{
+    Answered, Delivered, Desk, DeskCheckpointRefused, DeskRefused, GivenBack, Limits, Request,
+    Taken,
+};
 use fb_locked::jobs::{Finished, Key};
 use fb_locked::library::Change;
 use fb_shared::{Receipt, Seat, Seated, Shared};
-use std::alloc::{AllocError, Global};
+use std::alloc::Global;
 use std::marker::Model;
 use std::sync::Wait;
 
@@ -86,32 +89,41 @@ impl<'a, R: Wait> Lodger<'a, R> {
 }
 
 impl<R: Wait> Desk for Lodger<'_, R> {
-    ghost use Rattle.fb_host.specs.Lodging.{LodgerStep};
+    ghost use Rattle.fb_shared.specs.Sitting.{IsCheckpointSitting};
+    ghost use Rattle.fb_host.specs.Lodging.{IsCallLodging};
 
-    ghost step = { LodgerStep };
+    ghost step = { IsCallLodging };
 
-    fn serve(&mut self, demand: &Demand<'_>) -> Result<Said, AllocError> {
-        self.held.reserve(1)?;
-        match self.seated.serve(demand)? {
-            Said::HistoryFull => Err(AllocError),
-            Said::Answered(answer) => {
+    ghost checkpoint_step = { IsCheckpointSitting };
+
+    fn perform(&mut self, request: &Request<'_>) -> Result<Answered, DeskRefused> {
+        if self.held.reserve(1).is_err() {
+            return Err(DeskRefused::Memory);
+        }
+        match self.seated.perform(request) {
+            Ok(answer) => {
                 match self.seated.receipts.last() {
                     Some(receipt) => {
                         self.told = self.told.then(receipt);
-                        note(&mut self.held, demand, &answer, receipt.number());
+                        note(&mut self.held, request, &answer, receipt.number());
                     }
                     None => unreachable!(),
                 }
                 self.drawer.add(self.seated.rt, &mut self.seated.receipts);
-                Ok(Said::Answered(answer))
+                Ok(answer)
             }
-            said => Ok(said),
+            Err(DeskRefused::HistoryFull) => Err(DeskRefused::Memory),
+            Err(refused) => Err(refused),
         }
+    }
+
+    fn checkpoint(&mut self, limits: Limits) -> Result<u64, DeskCheckpointRefused> {
+        self.seated.checkpoint(limits)
     }
 }
 
 /// Keeps in mind which keys are held after a call of this number.
-fn note(held: &mut Vec<Held>, demand: &Demand<'_>, answer: &Answered, number: u64) {
+fn note(held: &mut Vec<Held>, request: &Request<'_>, answer: &Answered, number: u64) {
     match answer {
         Answered::Take(Taken::Job(job)) => {
             let key = job.key();
@@ -119,7 +131,7 @@ fn note(held: &mut Vec<Held>, demand: &Demand<'_>, answer: &Answered, number: u6
             let _ = held.push(Held { key, since: number });
         }
         Answered::Deliver(Delivered::Accepted) | Answered::GiveBack(GivenBack::Returned) => {
-            if let Some(key) = settled(demand) {
+            if let Some(key) = settled(request) {
                 forget(held, &key);
             }
         }
@@ -128,10 +140,7 @@ fn note(held: &mut Vec<Held>, demand: &Demand<'_>, answer: &Answered, number: u6
 }
 
 /// The key that is settled where this is done.
-fn settled(demand: &Demand<'_>) -> Option<Key> {
-    let Demand::Call(request) = demand else {
-        return None;
-    };
+fn settled(request: &Request<'_>) -> Option<Key> {
     match request {
         Request::Deliver(finished) => Some(finished.key()),
         Request::GiveBack(key) => Some(*key),

@@ -35,8 +35,8 @@ pub mod jobs {
 /// Of `fb_bench`, for the crates above.
 pub mod bench {
     pub use fb_bench::{
-        Answered, Asked, Bench, Call, CheckpointRefused, Committed, Delivered, Demand, Desk,
-        DeskCheckpointRefused, DeskRefused, GivenBack, Limits, Reply, Request, Said, Start, Taken,
+        Answered, Asked, Bench, Call, CheckpointRefused, Committed, Delivered, Desk,
+        DeskCheckpointRefused, DeskRefused, GivenBack, Limits, Reply, Request, Start, Taken,
         TextChange, Wanted,
     };
 }

@@ -1,7 +1,8 @@
 -- A shared workbench as the desk of one seat. Nothing is known of the workbench but what the seat and its receipts tell.
 use Rattle.std.specs.Prelude.{◌≡◌, ◌++◌, ◌∷◌, [], List, ℕ}
 use Rattle.fb_locked.specs.History.Machine.{Call}
-use Rattle.fb_locked.specs.Bench.Calls.{Answer, Deed, Makes, Keeps, Replied, FullHistory, BehindHistory, Checked, SharedHistory}
+use Rattle.fb_locked.specs.History.Limits.{Bounds}
+use Rattle.fb_locked.specs.Bench.Calls.{Answer, Replied, FullHistory, BehindHistory, CheckpointAnswer, Checked, SharedHistory, Exchange, Exchanges}
 use Rattle.fb_locked.specs.Seats.{SeatState, Claim, IsReceiptOf, seat_after}
 
 -- a workbench behind its lock: for how many callers seats were made. What lies there is known to nobody without the lock
@@ -19,22 +20,11 @@ IsCallSitting old call (Replied reply) new =
     (claim : Claim) × (new.receipts ≡ old.receipts ++ claim ∷ []) × IsReceiptOf old.seat call claim × (claim.entry.reply ≡ reply) × (new.seat ≡ seat_after old.seat claim)
 IsCallSitting old call FullHistory new = new ≡ old
 IsCallSitting old call BehindHistory new = new ≡ old
-IsCallSitting old call (Checked checking) new = ⊥
-IsCallSitting old call SharedHistory new = ⊥
 
 -- a checkpoint is refused, since others may share the workbench, and changes neither
-abbrev pub IsCheckpointSitting : Sitter → Answer → Sitter → Type 0
-IsCheckpointSitting old SharedHistory new = new ≡ old
-IsCheckpointSitting old (Replied reply) new = ⊥
-IsCheckpointSitting old FullHistory new = ⊥
-IsCheckpointSitting old BehindHistory new = ⊥
-IsCheckpointSitting old (Checked checking) new = ⊥
+abbrev pub IsCheckpointSitting : Sitter → Bounds → CheckpointAnswer → Sitter → Type 0
+IsCheckpointSitting old limits SharedHistory new = new ≡ old
+IsCheckpointSitting old limits (Checked checking) new = ⊥
 
--- what a desk is asked is a call
-abbrev pub IsCall : Deed → Type 0
-IsCall (Makes call) = Unit {0}
-IsCall (Keeps limits) = ⊥
-
-abbrev pub SitterStep : Sitter → Deed → Answer → Sitter → Type 0
-SitterStep old (Makes call) answer new = IsCallSitting old call answer new
-SitterStep old (Keeps limits) answer new = IsCheckpointSitting old answer new
+abbrev pub SitterStep : Sitter → Exchange → Sitter → Type 0
+SitterStep = Exchanges IsCallSitting IsCheckpointSitting

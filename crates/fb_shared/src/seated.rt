@@ -1,8 +1,7 @@
 //! A shared workbench as the desk of one seat.
 use crate::shared::Shared;
-use fb_locked::bench::{Demand, Desk, Said};
+use fb_locked::bench::{Answered, Desk, DeskCheckpointRefused, DeskRefused, Limits, Request};
 use fb_locked::{Receipt, Seat, SharedRefused};
-use std::alloc::AllocError;
 use std::marker::Model;
 use std::sync::Wait;
 
@@ -24,30 +23,30 @@ impl<'a, R: Wait> Model for Seated<'a, R> {
 }
 
 impl<R: Wait> Desk for Seated<'_, R> {
-    ghost use Rattle.std.specs.Prelude.{◌≡◌, IfErr, IfOk, OnErr};
-    ghost use Rattle.fb_locked.specs.Bench.Calls.{deed_for, said_in, Suits};
-    ghost use Rattle.fb_shared.specs.Sitting.{IsCall, SitterStep};
+    ghost use Rattle.std.specs.Prelude.{◌≡◌, Err};
+    ghost use Rattle.fb_locked.specs.Bench.Calls.{ServesCheckpoint};
+    ghost use Rattle.fb_shared.specs.Sitting.{IsCallSitting, IsCheckpointSitting};
 
-    ghost step = { SitterStep };
+    ghost step = { IsCallSitting };
 
-    /// A seat is not alone at its workbench: others may hold receipts of the records that would go at a checkpoint.
-    fn serve(&mut self, demand: &Demand<'_>) -> Result<Said, AllocError>
-        ensures suits { IfOk result (λ said. Suits (deed_for demand.now) (said_in said)) }
-        ensures step { IfOk result
-            (λ said. SitterStep self.old (deed_for demand.now) (said_in said) self.new) }
-        ensures err { OnErr result (self.new ≡ self.old) }
-        ensures calls { IfErr result (λ _. IsCall (deed_for demand.now)) }
-    {
-        let Demand::Call(request) = demand else {
-            return Ok(Said::NotAlone);
-        };
+    ghost checkpoint_step = { IsCheckpointSitting };
+
+    fn perform(&mut self, request: &Request<'_>) -> Result<Answered, DeskRefused> {
         let shared = self.shared;
         match shared.perform_kept(self.rt, &mut self.seat, &mut self.receipts, request) {
-            Ok(answer) => Ok(Said::Answered(answer)),
-            Err(SharedRefused::SeatDiffers { .. }) => Ok(Said::Behind),
-            Err(SharedRefused::Behind { .. }) => Ok(Said::Behind),
-            Err(SharedRefused::HistoryFull) => Ok(Said::HistoryFull),
-            Err(SharedRefused::Memory) => Err(AllocError),
+            Ok(answer) => Ok(answer),
+            Err(SharedRefused::SeatDiffers { .. }) => Err(DeskRefused::Behind),
+            Err(SharedRefused::Behind { .. }) => Err(DeskRefused::Behind),
+            Err(SharedRefused::HistoryFull) => Err(DeskRefused::HistoryFull),
+            Err(SharedRefused::Memory) => Err(DeskRefused::Memory),
         }
+    }
+
+    /// A seat is not alone at its workbench: others may hold receipts of the records that would go at a checkpoint.
+    fn checkpoint(&mut self, _limits: Limits) -> Result<u64, DeskCheckpointRefused>
+        ensures step { ServesCheckpoint IsCheckpointSitting self.old _limits result self.new }
+        ensures alone { result ≡ Err DeskCheckpointRefused.NotAlone }
+    {
+        Err(DeskCheckpointRefused::NotAlone)
     }
 }

@@ -1,54 +1,70 @@
 -- A conversation is decided by its bytes and by what decides its answers.
-use Rattle.std.proofs.Common.{◌≡◌, ℕ, List, [], ◌∷◌, ◌++◌, Bool, true, false, MatchBool, refl, sym, ap, ap₂, ◌∙◌, subst, arith}
+use Rattle.std.proofs.Common.{◌≡◌, inl, inr, ℕ, List, [], ◌∷◌, ◌++◌, Bool, true, false, MatchBool, refl, sym, ap, ap₂, ◌∙◌, subst, arith}
 use Rattle.serde_json.specs.Data.{Data}
-use Rattle.fb_bench.specs.Calls.{Answer, Deed}
-use Rattle.fb_bench.specs.Solo.{IsStep}
+use Rattle.fb_bench.specs.History.Limits.{Bounds}
+use Rattle.fb_bench.specs.History.Machine.{Call}
+use Rattle.fb_bench.specs.Calls.{Answer, CheckpointAnswer, Exchange, AskedCall, AskedCheckpoint}
+use Rattle.fb_bench.specs.Solo.{IsCallStep, IsCheckpointStep, IsStep}
 use Rattle.fb_bench.specs.History.Story.{Story}
 use Rattle.fb_wire.specs.Lines.{Fits, IsTooLong, is_blank, lines_of}
 use Rattle.fb_messages.specs.Requests.{request_of}
 use Rattle.fb_messages.specs.Replies.{reply_line}
 use Rattle.fb_wire.specs.Ends.{AnsweredAll, AnsweredEnded, IsBetweenLines, Stands}
-use Rattle.fb_wire.specs.Talk.{Jobs, Pair, Plan, says, asks, Leads, Talk, Runs, answers_of, plan_of}
+use Rattle.fb_wire.specs.Talk.{Jobs, Plan, says, asks, checks, Leads, Talk, Runs, answers_of, plan_of}
 use Rattle.fb_wire.specs.declared.end.RunEnd.{RunEnd}
 use Rattle.fb_wire.specs.declared.end.RunEnd.TheVariants as end
-use Rattle.fb_wire.proofs.Scripts.{step_is}
+use Rattle.fb_wire.proofs.Scripts.{call_is, checkpoint_is}
 
 -- pairs that agree agree on the answer to one call or checkpoint, and behind it
-module _ (Agrees : List Pair → List Pair → Type 0)
-    (first_agrees : (p q : Pair) (ps qs : List Pair) → p.0 ≡ q.0 → Agrees (p ∷ ps) (q ∷ qs) → (p.1 ≡ q.1) × Agrees ps qs) where
-  same_plan : (plan : Plan) (ps qs more others : List Pair) (r s : Data) (a b : Jobs) → Leads plan ps (says r a) → Leads plan qs (says s b)
+module _ (Agrees : List Exchange → List Exchange → Type 0)
+    (first_call : (call : Call) (a b : Answer) (ps qs : List Exchange) → Agrees (AskedCall call a ∷ ps) (AskedCall call b ∷ qs) → (a ≡ b) × Agrees ps qs)
+    (first_checkpoint : (limits : Bounds) (a b : CheckpointAnswer) (ps qs : List Exchange) → Agrees (AskedCheckpoint limits a ∷ ps) (AskedCheckpoint limits b ∷ qs) → (a ≡ b) × Agrees ps qs) where
+  same_plan : (plan : Plan) (ps qs more others : List Exchange) (r s : Data) (a b : Jobs) → Leads plan ps (says r a) → Leads plan qs (says s b)
       → Agrees (ps ++ more) (qs ++ others) → (ps ≡ qs) × (r ≡ s) × (a ≡ b) × Agrees more others
   same_plan (says d jobs) [] [] more others r s a b l k e = let both : says r a ≡ says s b = l ∙ sym k in (refl, cc, cc, e)
   same_plan (says d jobs) [] (q ∷ qs) more others r s a b l k e = absurd k
   same_plan (says d jobs) (p ∷ ps) qs more others r s a b l k e = absurd l
-  same_plan (asks deed next) [] qs more others r s a b l k e = absurd cc
-  same_plan (asks deed next) (p ∷ ps) [] more others r s a b l k e = absurd cc
-  same_plan (asks deed next) (p ∷ ps) (q ∷ qs) more others r s a b l k e =
-      let deeds : p.0 ≡ q.0 = l.0 ∙ sym k.0 in
-      let step = first_agrees p q (ps ++ more) (qs ++ others) deeds e in
-      let P : Answer → Type 0 = λ x. Leads (next x) qs (says s b) in
-      let rest = same_plan (next p.1) ps qs more others r s a b l.1 (subst P (sym step.0) k.1) step.1 in
-      let pair : ◌≡◌ {A = Pair} (p.0, p.1) (q.0, q.1) = λ i. (deeds i, step.0 i) in
-      (λ i. pair i ∷ rest.0 i, rest.1, rest.2, rest.3)
+  same_plan (asks call next) [] qs more others r s a b l k e = absurd cc
+  same_plan (asks call next) (p ∷ ps) [] more others r s a b l k e = absurd cc
+  same_plan (asks call next) (AskedCall c x ∷ ps) (AskedCall d y ∷ qs) more others r s a b l k e =
+      let P : Call → Type 0 = λ z. Agrees (AskedCall z x ∷ (ps ++ more)) (AskedCall d y ∷ (qs ++ others)) in
+      let calls : c ≡ d = l.0 ∙ sym k.0 in
+      let step = first_call d x y (ps ++ more) (qs ++ others) (subst P calls e) in
+      let Q : Answer → Type 0 = λ z. Leads (next z) qs (says s b) in
+      let rest = same_plan (next x) ps qs more others r s a b l.1 (subst Q (sym step.0) k.1) step.1 in
+      (λ i. AskedCall (calls i) (step.0 i) ∷ rest.0 i, rest.1, rest.2, rest.3)
+  same_plan (asks call next) (AskedCall c x ∷ ps) (AskedCheckpoint d y ∷ qs) more others r s a b l k e = absurd k
+  same_plan (asks call next) (AskedCheckpoint c x ∷ ps) (q ∷ qs) more others r s a b l k e = absurd l
+  same_plan (checks limits next) [] qs more others r s a b l k e = absurd cc
+  same_plan (checks limits next) (p ∷ ps) [] more others r s a b l k e = absurd cc
+  same_plan (checks limits next) (AskedCheckpoint c x ∷ ps) (AskedCheckpoint d y ∷ qs) more others r s a b l k e =
+      let P : Bounds → Type 0 = λ z. Agrees (AskedCheckpoint z x ∷ (ps ++ more)) (AskedCheckpoint d y ∷ (qs ++ others)) in
+      let same : c ≡ d = l.0 ∙ sym k.0 in
+      let step = first_checkpoint d x y (ps ++ more) (qs ++ others) (subst P same e) in
+      let Q : CheckpointAnswer → Type 0 = λ z. Leads (next z) qs (says s b) in
+      let rest = same_plan (next x) ps qs more others r s a b l.1 (subst Q (sym step.0) k.1) step.1 in
+      (λ i. AskedCheckpoint (same i) (step.0 i) ∷ rest.0 i, rest.1, rest.2, rest.3)
+  same_plan (checks limits next) (AskedCheckpoint c x ∷ ps) (AskedCall d y ∷ qs) more others r s a b l k e = absurd k
+  same_plan (checks limits next) (AskedCall c x ∷ ps) (q ∷ qs) more others r s a b l k e = absurd l
 
-  same_line_by : (blank : Bool) (plan : Plan) (held : Jobs) (ps qs more others : List Pair) (out written : List ℕ) (after last : Jobs)
+  same_line_by : (blank : Bool) (plan : Plan) (held : Jobs) (ps qs more others : List Exchange) (out written : List ℕ) (after last : Jobs)
       → MatchBool blank ((ps ≡ []) × (out ≡ []) × (after ≡ held)) ((reply : Data) × Leads plan ps (says reply after) × (out ≡ reply_line reply))
       → MatchBool blank ((qs ≡ []) × (written ≡ []) × (last ≡ held)) ((reply : Data) × Leads plan qs (says reply last) × (written ≡ reply_line reply))
       → Agrees (ps ++ more) (qs ++ others) → (ps ≡ qs) × (out ≡ written) × (after ≡ last) × Agrees more others
   same_line_by true plan held ps qs more others out written after last t u e =
-      let P : List Pair → Type 0 = λ xs. Agrees (xs ++ more) (qs ++ others) in
-      let Q : List Pair → Type 0 = λ xs. Agrees more (xs ++ others) in
+      let P : List Exchange → Type 0 = λ xs. Agrees (xs ++ more) (qs ++ others) in
+      let Q : List Exchange → Type 0 = λ xs. Agrees more (xs ++ others) in
       (t.0 ∙ sym u.0, t.1 ∙ sym u.1, t.2 ∙ sym u.2, subst Q u.0 (subst P t.0 e))
   same_line_by false plan held ps qs more others out written after last t u e =
       let same = same_plan plan ps qs more others t.0 u.0 after last t.1 u.1 e in
       (same.0, t.2 ∙ ap reply_line same.1 ∙ sym u.2, same.2, same.3)
 
-  same_talk : (lines : List (List ℕ)) (held : Jobs) (ps qs : List Pair) (out written : List ℕ) (after last : Jobs)
+  same_talk : (lines : List (List ℕ)) (held : Jobs) (ps qs : List Exchange) (out written : List ℕ) (after last : Jobs)
       → Talk lines held ps out after → Talk lines held qs written last → Agrees ps qs → (ps ≡ qs) × (out ≡ written) × (after ≡ last)
   same_talk [] held ps qs out written after last t u e = (t.0 ∙ sym u.0, t.1 ∙ sym u.1, t.2 ∙ sym u.2)
   same_talk (line ∷ lines) held ps qs out written after last t u e =
-      let P : List Pair → Type 0 = λ xs. Agrees xs qs in
-      let Q : List Pair → Type 0 = λ xs. Agrees (t.0 ++ t.1) xs in
+      let P : List Exchange → Type 0 = λ xs. Agrees xs qs in
+      let Q : List Exchange → Type 0 = λ xs. Agrees (t.0 ++ t.1) xs in
       let line_same = same_line_by (is_blank line) (plan_of held (request_of line)) held t.0 u.0 t.1 u.1 t.2 u.2 t.4 u.4 t.8 u.8 (subst Q u.5 (subst P t.5 e)) in
       let R : Jobs → Type 0 = λ jobs. Talk lines jobs u.1 u.3 last in
       let rest = same_talk lines t.4 t.1 u.1 t.3 u.3 after last t.9 (subst R (sym line_same.2) u.9) line_same.3 in
@@ -56,18 +72,22 @@ module _ (Agrees : List Pair → List Pair → Type 0)
 
 -- ---- by the answers
 
-AnswersAgree : List Pair → List Pair → Type 0
+AnswersAgree : List Exchange → List Exchange → Type 0
 AnswersAgree ps qs = answers_of ps ≡ answers_of qs
 
-first_answers : (p q : Pair) (ps qs : List Pair) → p.0 ≡ q.0 → AnswersAgree (p ∷ ps) (q ∷ qs) → (p.1 ≡ q.1) × AnswersAgree ps qs
+first_call_answers : (call : Call) (a b : Answer) (ps qs : List Exchange) → AnswersAgree (AskedCall call a ∷ ps) (AskedCall call b ∷ qs) → (a ≡ b) × AnswersAgree ps qs
 unfolding AnswersAgree
-first_answers p q ps qs deeds e = let both : p.1 ∷ answers_of ps ≡ q.1 ∷ answers_of qs = e in (cc, cc)
+first_call_answers call a b ps qs e = let both : inl a ∷ answers_of ps ≡ inl b ∷ answers_of qs = e in (cc, cc)
 
-one_by_lines : (lines : List (List ℕ)) (pairs others : List Pair) (out written : List ℕ) (after last : Jobs) → Talk lines [] pairs out after → Talk lines [] others written last
+first_checkpoint_answers : (limits : Bounds) (a b : CheckpointAnswer) (ps qs : List Exchange) → AnswersAgree (AskedCheckpoint limits a ∷ ps) (AskedCheckpoint limits b ∷ qs) → (a ≡ b) × AnswersAgree ps qs
+unfolding AnswersAgree
+first_checkpoint_answers limits a b ps qs e = let both : inr a ∷ answers_of ps ≡ inr b ∷ answers_of qs = e in (cc, cc)
+
+one_by_lines : (lines : List (List ℕ)) (pairs others : List Exchange) (out written : List ℕ) (after last : Jobs) → Talk lines [] pairs out after → Talk lines [] others written last
     → answers_of pairs ≡ answers_of others → (pairs ≡ others) × (out ≡ written)
 unfolding AnswersAgree
 one_by_lines lines pairs others out written after last t u e =
-    let same = same_talk AnswersAgree first_answers lines [] pairs others out written after last t u e in
+    let same = same_talk AnswersAgree first_call_answers first_checkpoint_answers lines [] pairs others out written after last t u e in
     (same.0, same.1)
 
 none_behind : (ys : List (List ℕ)) (b : List ℕ) → [] ≡ ys ++ b ∷ [] → ⊥
@@ -88,7 +108,7 @@ AllFit : List (List ℕ) → Type 0
 AllFit [] = Unit {0}
 AllFit (line ∷ lines) = Fits line × AllFit lines
 
-all_fit : (lines : List (List ℕ)) (held after : Jobs) (pairs : List Pair) (out : List ℕ) → Talk lines held pairs out after → AllFit lines
+all_fit : (lines : List (List ℕ)) (held after : Jobs) (pairs : List Exchange) (out : List ℕ) → Talk lines held pairs out after → AllFit lines
 unfolding AllFit
 all_fit [] held after pairs out t = tt
 all_fit (line ∷ lines) held after pairs out t = (t.7, all_fit lines t.4 after t.1 t.3 t.9)
@@ -110,14 +130,14 @@ lines_before_long (x ∷ xs) (y ∷ ys) ps qs a b f g h k e =
     let tail : xs ++ a ∷ ps ≡ ys ++ b ∷ qs = cc in
     ap₂ (λ h t. h ∷ t) head (lines_before_long xs ys ps qs a b f.1 g.1 h k tail)
 
-ended_is_one : (bytes : List ℕ) (pairs others : List Pair) (out written : List ℕ) → AnsweredEnded bytes pairs out → AnsweredEnded bytes others written
+ended_is_one : (bytes : List ℕ) (pairs others : List Exchange) (out written : List ℕ) → AnsweredEnded bytes pairs out → AnsweredEnded bytes others written
     → answers_of pairs ≡ answers_of others → (pairs ≡ others) × (out ≡ written)
 ended_is_one bytes pairs others out written t u e =
     let P : List (List ℕ) → Type 0 = λ ls. Talk ls [] pairs out t.2 in
     let same = lines_before t.0 u.0 t.1 u.1 (sym t.3 ∙ u.3) in
     one_by_lines u.0 pairs others out written t.2 u.2 (subst P same t.5) u.5 e
 
-pub one_by_answers : (stop : RunEnd) (bytes : List ℕ) (pairs others : List Pair) (out written : List ℕ) → IsBetweenLines stop → Stands stop bytes pairs out → Stands stop bytes others written
+pub one_by_answers : (stop : RunEnd) (bytes : List ℕ) (pairs others : List Exchange) (out written : List ℕ) → IsBetweenLines stop → Stands stop bytes pairs out → Stands stop bytes others written
     → answers_of pairs ≡ answers_of others → (pairs ≡ others) × (out ≡ written)
 one_by_answers end.End bytes pairs others out written between t u e = one_by_lines (lines_of bytes) pairs others out written t.0 u.0 t.1 u.1 e
 one_by_answers end.ReadFailed bytes pairs others out written between t u e = ended_is_one bytes pairs others out written t u e
@@ -132,37 +152,53 @@ one_by_answers end.Memory bytes pairs others out written between t u e = absurd 
 -- ---- by a workbench
 
 -- a call or a checkpoint on a workbench has one answer, and leads to one workbench
-one_step : (caller : ℕ) (old : Story) (deed : Deed) (a b : Answer) (left right : Story) → IsStep caller old deed a left → IsStep caller old deed b right → (a ≡ b) × (left ≡ right)
-one_step caller old deed a b left right s t =
-    let first = step_is caller old deed a left s in
-    let second = step_is caller old deed b right t in
+one_call : (caller : ℕ) (old : Story) (call : Call) (a b : Answer) (left right : Story) → IsCallStep caller old call a left → IsCallStep caller old call b right → (a ≡ b) × (left ≡ right)
+one_call caller old call a b left right s t =
+    let first = call_is caller old call a left s in
+    let second = call_is caller old call b right t in
     (first.0 ∙ sym second.0, first.1 ∙ sym second.1)
 
-one_run : (caller : ℕ) (start left right : Story) (pairs : List Pair) → Runs (IsStep caller) start pairs left → Runs (IsStep caller) start pairs right → left ≡ right
+one_checkpoint : (old : Story) (limits : Bounds) (a b : CheckpointAnswer) (left right : Story) → IsCheckpointStep old limits a left → IsCheckpointStep old limits b right → (a ≡ b) × (left ≡ right)
+one_checkpoint old limits a b left right s t =
+    let first = checkpoint_is old limits a left s in
+    let second = checkpoint_is old limits b right t in
+    (first.0 ∙ sym second.0, first.1 ∙ sym second.1)
+
+one_state : (caller : ℕ) (old : Story) (exchange : Exchange) (left right : Story) → IsStep caller old exchange left → IsStep caller old exchange right → left ≡ right
+one_state caller old (AskedCall call answer) left right s t = (one_call caller old call answer answer left right s t).1
+one_state caller old (AskedCheckpoint limits answer) left right s t = (one_checkpoint old limits answer answer left right s t).1
+
+one_run : (caller : ℕ) (start left right : Story) (pairs : List Exchange) → Runs (IsStep caller) start pairs left → Runs (IsStep caller) start pairs right → left ≡ right
 one_run caller start left right [] r s = r ∙ sym s
 one_run caller start left right (p ∷ ps) r s =
-    let step = one_step caller start p.0 p.1 p.1 r.0 s.0 r.1 s.1 in
+    let step = one_state caller start p r.0 s.0 r.1 s.1 in
     let P : Story → Type 0 = λ mid. Runs (IsStep caller) mid ps right in
-    one_run caller r.0 left right ps r.2 (subst P (sym step.1) s.2)
+    one_run caller r.0 left right ps r.2 (subst P (sym step) s.2)
 
 module _ (caller : ℕ) (left right : Story) where
   -- both are runs from one workbench
-  RunsAgree : List Pair → List Pair → Type 0
+  RunsAgree : List Exchange → List Exchange → Type 0
   RunsAgree ps qs = (start : Story) × Runs (IsStep caller) start ps left × Runs (IsStep caller) start qs right
 
-  first_runs : (p q : Pair) (ps qs : List Pair) → p.0 ≡ q.0 → RunsAgree (p ∷ ps) (q ∷ qs) → (p.1 ≡ q.1) × RunsAgree ps qs
+  first_call_runs : (call : Call) (a b : Answer) (ps qs : List Exchange) → RunsAgree (AskedCall call a ∷ ps) (AskedCall call b ∷ qs) → (a ≡ b) × RunsAgree ps qs
   unfolding RunsAgree
-  first_runs p q ps qs deeds e =
-      let P : Deed → Type 0 = λ deed. IsStep caller e.0 deed q.1 e.2.0 in
-      let step = one_step caller e.0 p.0 p.1 q.1 e.1.0 e.2.0 e.1.1 (subst P (sym deeds) e.2.1) in
+  first_call_runs call a b ps qs e =
+      let step = one_call caller e.0 call a b e.1.0 e.2.0 e.1.1 e.2.1 in
       let Q : Story → Type 0 = λ mid. Runs (IsStep caller) mid qs right in
       (step.0, (e.1.0, e.1.2, subst Q (sym step.1) e.2.2))
 
-pub one_by_steps : (caller : ℕ) (bytes : List ℕ) (pairs others : List Pair) (out written : List ℕ) (start left right : Story)
+  first_checkpoint_runs : (limits : Bounds) (a b : CheckpointAnswer) (ps qs : List Exchange) → RunsAgree (AskedCheckpoint limits a ∷ ps) (AskedCheckpoint limits b ∷ qs) → (a ≡ b) × RunsAgree ps qs
+  unfolding RunsAgree
+  first_checkpoint_runs limits a b ps qs e =
+      let step = one_checkpoint e.0 limits a b e.1.0 e.2.0 e.1.1 e.2.1 in
+      let Q : Story → Type 0 = λ mid. Runs (IsStep caller) mid qs right in
+      (step.0, (e.1.0, e.1.2, subst Q (sym step.1) e.2.2))
+
+pub one_by_steps : (caller : ℕ) (bytes : List ℕ) (pairs others : List Exchange) (out written : List ℕ) (start left right : Story)
     → AnsweredAll bytes pairs out → Runs (IsStep caller) start pairs left → AnsweredAll bytes others written → Runs (IsStep caller) start others right
     → (pairs ≡ others) × (out ≡ written) × (left ≡ right)
 unfolding RunsAgree
 one_by_steps caller bytes pairs others out written start left right t r u s =
-    let same = same_talk (RunsAgree caller left right) (first_runs caller left right) (lines_of bytes) [] pairs others out written t.0 u.0 t.1 u.1 (start, r, s) in
-    let P : List Pair → Type 0 = λ ps. Runs (IsStep caller) start ps right in
+    let same = same_talk (RunsAgree caller left right) (first_call_runs caller left right) (first_checkpoint_runs caller left right) (lines_of bytes) [] pairs others out written t.0 u.0 t.1 u.1 (start, r, s) in
+    let P : List Exchange → Type 0 = λ ps. Runs (IsStep caller) start ps right in
     (same.0, same.1, one_run caller start left right pairs r (subst P (sym same.0) s))

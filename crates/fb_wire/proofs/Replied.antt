@@ -3,7 +3,7 @@ use Rattle.std.proofs.Common.{◌≡◌, ℕ, List, [], ◌++◌, Some, Ok, Err,
 use Rattle.std.specs.Prelude.{Vec}
 use Rattle.std.specs.declared.alloc.AllocError.{AllocError}
 use Rattle.std.specs.declared.alloc.Global.{Global}
-use Rattle.fb_bench.specs.Calls.{Answer, Deed}
+use Rattle.fb_bench.specs.Calls.{Exchange}
 use Rattle.fb_wire.specs.Served.{LineServed, LineSaid}
 use Rattle.fb_wire.specs.Talk.{Jobs, says}
 use Rattle.fb_wire.specs.declared.end.RunEnd.TheVariants as end

@@ -2,12 +2,12 @@
 use Rattle.std.proofs.Math.Seq.{take-add}
 use Rattle.std.proofs.lemmas.List.{take_rest, take-append-drop}
 use Rattle.std.proofs.Common.{Bool, true, false, MatchBool, take, drop, ◌-◌, ◌≡◌, ◌+◌, ℕ, List, [], ◌∷◌, ◌++◌, length, Result, Ok, Err, refl, sym, ap, ◌∙◌, subst, append_assoc, append-nil, arith}
-use Rattle.fb_bench.specs.Calls.{Answer, Deed}
+use Rattle.fb_bench.specs.Calls.{Exchange}
 use Rattle.fb_wire.specs.Lines.{Fits, lines_of, is_blank, IsLine}
 use Rattle.fb_messages.specs.Requests.{request_of}
 use Rattle.fb_wire.specs.Ends.{Stands, AnsweredEnded, IsNothing}
 use Rattle.fb_wire.specs.Served.{LineSaid, Standing, PieceTaken, Extends}
-use Rattle.fb_wire.specs.Talk.{Jobs, Pair, Plan, plan_of, Leads, LineTalk, Talk, Runs}
+use Rattle.fb_wire.specs.Talk.{Jobs, Plan, plan_of, Leads, LineTalk, Talk, Runs}
 use Rattle.fb_wire.specs.declared.end.RunEnd.{RunEnd}
 use Rattle.fb_wire.specs.declared.end.RunEnd.TheVariants as end
 use Rattle.fb_wire.proofs.Cuts.{after_line, after_part}
@@ -16,7 +16,7 @@ use Rattle.fb_wire.proofs.Talks.{Runs-append}
 pub none_fits : Fits []
 none_fits = omega arith
 
-pub Talk-snoc : (lines : List (List ℕ)) (line : List ℕ) (held mid after : Jobs) (ps qs : List Pair) (out more : List ℕ)
+pub Talk-snoc : (lines : List (List ℕ)) (line : List ℕ) (held mid after : Jobs) (ps qs : List Exchange) (out more : List ℕ)
     → Talk lines held ps out mid → Fits line → LineTalk line mid qs more after → Talk (lines ++ line ∷ []) held (ps ++ qs) (out ++ more) after
 Talk-snoc [] line held mid after ps qs out more t fits last =
     let P : Jobs → Type 0 = λ j. LineTalk line j qs more after in
@@ -35,7 +35,7 @@ Talk-snoc (l ∷ ls) line held mid after ps qs out more t fits last = (
 )
 
 -- of a line that was not looked at nothing was asked or said
-nothing_yet : (blank : Bool) (plan : Plan) → MatchBool blank ((◌≡◌ {A = List Pair} [] []) × (◌≡◌ {A = List ℕ} [] [])) ((rest : Plan) × Leads plan [] rest × IsNothing rest [])
+nothing_yet : (blank : Bool) (plan : Plan) → MatchBool blank ((◌≡◌ {A = List Exchange} [] []) × (◌≡◌ {A = List ℕ} [] [])) ((rest : Plan) × Leads plan [] rest × IsNothing rest [])
 nothing_yet true plan = (refl, refl)
 nothing_yet false plan = (plan, refl, refl)
 
@@ -49,7 +49,7 @@ module _ {S : Type 0} (Step : S → Deed → Answer → S → Type 0) where
   -- The run stops at a line of which nothing was asked or said: it is too long, or memory ran out for it.
   stops_at : (start old : S) (given bytes line new_line front : List ℕ) (others : List (List ℕ)) (jobs : Jobs) (held out : List ℕ) (stop : RunEnd) (st : Standing Step start given line jobs out old)
       → lines_of (given ++ bytes) ≡ st.0 ++ (line ++ front) ∷ others → Extends line front (Err stop) new_line
-      → (more : List ℕ) × (pairs : List Pair) × (held ≡ held ++ more) × Runs Step start pairs old × Stands stop (given ++ bytes) pairs (out ++ more)
+      → (more : List ℕ) × (pairs : List Exchange) × (held ≡ held ++ more) × Runs Step start pairs old × Stands stop (given ++ bytes) pairs (out ++ more)
   stops_at start old given bytes line new_line front others jobs held out end.LineTooLong st split long =
       ([], st.1, sym (append-nil held), st.5, (st.0, others, line ++ front, jobs, split, long, rw (append-nil out) st.4))
   stops_at start old given bytes line new_line front others jobs held out end.Memory st split fits =
@@ -152,14 +152,14 @@ module _ {S : Type 0} (Step : S → Deed → Answer → S → Type 0) where
 
   -- the run ends between two reads
   pub run_breaks : (old new : S) (line : List ℕ) (jobs : Jobs) (old_held held bytes : List ℕ) → PieceTaken Step old [] [] old_held bytes [] (Ok tt) new line jobs held
-      → (pairs : List Pair) × (out : List ℕ) × Runs Step old pairs new × (held ≡ old_held ++ out) × AnsweredEnded bytes pairs out
+      → (pairs : List Exchange) × (out : List ℕ) × Runs Step old pairs new × (held ≡ old_held ++ out) × AnsweredEnded bytes pairs out
   run_breaks old new line jobs old_held held bytes a =
       let x = a old [] [] (starts old) in
       (x.2.1, x.0, x.2.5, x.1, (x.2.0, line, jobs, x.2.2, x.2.3, x.2.4))
 
   -- the run stops inside the bytes
   pub run_stops : (old new : S) (line : List ℕ) (jobs : Jobs) (old_held held bytes : List ℕ) (stop : RunEnd) → PieceTaken Step old [] [] old_held bytes [] (Err stop) new line jobs held
-      → (pairs : List Pair) × (out : List ℕ) × Runs Step old pairs new × (held ≡ old_held ++ out) × Stands stop bytes pairs out
+      → (pairs : List Exchange) × (out : List ℕ) × Runs Step old pairs new × (held ≡ old_held ++ out) × Stands stop bytes pairs out
   run_stops old new line jobs old_held held bytes stop a =
       let x = a old [] [] (starts old) in
       let P : List ℕ → Type 0 = λ xs. Stands stop xs x.1 x.0 in

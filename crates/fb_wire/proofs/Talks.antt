@@ -1,12 +1,12 @@
 -- Plans, runs and talks, one after another.
-use Rattle.std.proofs.Common.{ap₂, suc, ◌-◌, arith, nat_le, length, ◌+◌, ◌<◌, ◌≡◌, ℕ, List, [], ◌∷◌, ◌++◌, Some, None, Result, Ok, Err, true, false, option_map, refl, sym, ap, ◌∙◌, subst, append-nil}
+use Rattle.std.proofs.Common.{Option, ap₂, suc, ◌-◌, arith, nat_le, length, ◌+◌, ◌<◌, ◌≡◌, ℕ, List, [], ◌∷◌, ◌++◌, Some, None, Result, Ok, Err, true, false, option_map, refl, sym, ap, ◌∙◌, subst, append-nil}
 use Rattle.std.specs.declared.alloc.AllocError.{AllocError}
 use Rattle.fb_bench.specs.History.Checkpoints.{KeptUpTo, OverUnits, OverNumbers}
 use Rattle.fb_bench.specs.History.Limits.{Bounds}
 use Rattle.fb_bench.specs.History.Machine.{Call, ToTake, ToDeliver, OfTake, OfDeliver, Reply as MachineReply}
 use Rattle.fb_bench.specs.Solo.{IsStep, SoloStep}
 use Rattle.fb_bench.specs.declared.desk.Solo.{Solo}
-use Rattle.fb_bench.specs.Calls.{Answer, Deed, Makes, Keeps, Replied, FullHistory, BehindHistory, Checked, SharedHistory, Serves, ServesCheckpoint, take_reply}
+use Rattle.fb_bench.specs.Calls.{Answer, Replied, FullHistory, BehindHistory, CheckpointAnswer, Checked, SharedHistory, Exchange, AskedCall, AskedCheckpoint, Exchanges, Serves, ServesCheckpoint, take_reply}
 use Rattle.fb_messages.specs.Jobs.Reads.{PlainJob}
 use Rattle.std.specs.Result.{result_ok}
 use Rattle.fb_bench.specs.declared.answers.Taken.{Taken}
@@ -18,20 +18,56 @@ use Rattle.fb_bench.specs.declared.desk.DeskCheckpointRefused.{DeskCheckpointRef
 use Rattle.fb_bench.specs.declared.desk.DeskCheckpointRefused.TheVariants as checkpoint
 use Rattle.serde_json.specs.Data.{Data}
 use Rattle.fb_wire.specs.Lines.{is_blank}
-use Rattle.fb_messages.specs.Replies.{work_done}
-use Rattle.fb_wire.specs.Said.{said_to}
-use Rattle.fb_messages.specs.ReplyView.{data_of}
-use Rattle.fb_wire.specs.Served.{Reaches, LineSaid, Served, RoundServed, KeepsTaken, left_after, answer_in, checked_in, reply_in}
-use Rattle.fb_wire.specs.Talk.{Jobs, Pair, Plan, says, asks, Leads, Runs, call_once, deed_once, take_plan, held_after, after_take, after_deliver, work_plan}
+use Rattle.fb_messages.specs.Replies.{refused, work_done, work_refused}
+use Rattle.fb_wire.specs.Said.{said_to, checkpoint_said}
+use Rattle.fb_messages.specs.ReplyView.{data_of, refusal_text}
+use Rattle.fb_wire.specs.Served.{Reaches, LineSaid, Served, RoundServed, KeepsTaken, left_after, unrecorded, answer_in, checked_in, refusal_for, data_in}
+use Rattle.fb_wire.specs.Talk.{Jobs, Plan, says, asks, checks, Leads, Runs, call_once, checkpoint_once, take_plan, held_after, after_take, after_deliver, work_plan}
+use Rattle.fb_messages.specs.declared.reply.Refusal.{Refusal}
 use Rattle.fb_messages.specs.declared.reply.Reply.{Reply}
 
-pub Leads-append : (plan mid rest : Plan) (ps qs : List Pair) → Leads plan ps mid → Leads mid qs rest → Leads plan (ps ++ qs) rest
+pub Leads-append : (plan mid rest : Plan) (ps qs : List Exchange) → Leads plan ps mid → Leads mid qs rest → Leads plan (ps ++ qs) rest
 Leads-append plan mid rest [] qs first more = let P : Plan → Type 0 = λ q. Leads q qs rest in subst P first more
 Leads-append (says reply jobs) mid rest (p ∷ ps) qs first more = absurd first
-Leads-append (asks deed next) mid rest (p ∷ ps) qs first more = (first.0, Leads-append (next p.1) mid rest ps qs first.1 more)
+Leads-append (asks call next) mid rest (AskedCall made answer ∷ ps) qs first more = (first.0, Leads-append (next answer) mid rest ps qs first.1 more)
+Leads-append (asks call next) mid rest (AskedCheckpoint made answer ∷ ps) qs first more = absurd first
+Leads-append (checks limits next) mid rest (AskedCall made answer ∷ ps) qs first more = absurd first
+Leads-append (checks limits next) mid rest (AskedCheckpoint made answer ∷ ps) qs first more = (first.0, Leads-append (next answer) mid rest ps qs first.1 more)
 
-module _ {S : Type 0} (Step : S → Deed → Answer → S → Type 0) where
-  pub Runs-append : (old mid new : S) (ps qs : List Pair) → Runs Step old ps mid → Runs Step mid qs new → Runs Step old (ps ++ qs) new
+-- ---- calls that are not recorded
+
+pub refused_said : (n : ℕ) (why : DeskRefused) (r : Result Refusal AllocError) → result_ok r ≡ refusal_for why → option_map (said_to n) (unrecorded why) ≡ option_map (λ it. refused (refusal_text it)) (result_ok r)
+refused_said n HistoryFull r is = rw is refl
+refused_said n Behind r is = rw is refl
+refused_said n Memory r is = rw is refl
+
+pub refused_take : (held : Jobs) (count : ℕ) (more : ℕ → Plan) (why : DeskRefused) (r : Result Refusal AllocError) → result_ok r ≡ refusal_for why
+    → option_map (after_take held count more) (unrecorded why) ≡ option_map (λ it. says (work_refused count (refusal_text it)) held) (result_ok r)
+refused_take held count more HistoryFull r is = rw is refl
+refused_take held count more Behind r is = rw is refl
+refused_take held count more Memory r is = rw is refl
+
+pub refused_delivery : (held : Jobs) (count : ℕ) (more : ℕ → Plan) (why : DeskRefused) (r : Result Refusal AllocError) → result_ok r ≡ refusal_for why
+    → option_map (after_deliver held count more) (unrecorded why) ≡ option_map (λ it. says (work_refused count (refusal_text it)) held) (result_ok r)
+refused_delivery held count more HistoryFull r is = rw is refl
+refused_delivery held count more Behind r is = rw is refl
+refused_delivery held count more Memory r is = rw is refl
+
+pub refused_memory : (why : DeskRefused) → None ≡ refusal_for why → unrecorded why ≡ None
+refused_memory HistoryFull is = absurd cc
+refused_memory Behind is = absurd cc
+refused_memory Memory is = refl
+
+pub refused_kept : (old : Jobs) (why : DeskRefused) (reply : Option Data) → ((n : ℕ) → option_map (said_to n) (unrecorded why) ≡ reply) → KeepsTaken old (unrecorded why) reply old
+refused_kept old why None is = tt
+refused_kept old HistoryFull (Some reply) is = let same : Some (said_to (length old + 1) FullHistory) ≡ Some reply = is (length old + 1) in (cc, refl)
+refused_kept old Behind (Some reply) is = let same : Some (said_to (length old + 1) BehindHistory) ≡ Some reply = is (length old + 1) in (cc, refl)
+refused_kept old Memory (Some reply) is = let none : None ≡ Some reply = is 0 in absurd cc
+
+-- ---- plans
+
+module _ {S : Type 0} (Step : S → Exchange → S → Type 0) where
+  pub Runs-append : (old mid new : S) (ps qs : List Exchange) → Runs Step old ps mid → Runs Step mid qs new → Runs Step old (ps ++ qs) new
   Runs-append old mid new [] qs first more = let P : S → Type 0 = λ s. Runs Step s qs new in subst P first more
   Runs-append old mid new (p ∷ ps) qs first more = (first.0, first.1, Runs-append first.0 mid new ps qs first.2 more)
 
@@ -43,123 +79,9 @@ module _ {S : Type 0} (Step : S → Deed → Answer → S → Type 0) where
   reaches_on plan mid rest old between new first more =
       (first.0 ++ more.0, Leads-append plan mid rest first.0 more.0 first.1 more.1, Runs-append old between new first.0 more.0 first.2 more.2)
 
-  -- one call or checkpoint, and its answer
-  pub reaches_by : (old new : S) (deed : Deed) (next : Answer → Plan) (answer : Answer) → Step old deed answer new → Reaches Step (asks deed next) old (next answer) new
-  reaches_by old new deed next answer step = ((deed, answer) ∷ [], (refl, refl), (new, step, refl))
-
-  by_some : (old new : S) (deed : Deed) (a b : Answer) → Step old deed a new → Some a ≡ Some b → Step old deed b new
-  by_some old new deed a b step is =
-      let same : a ≡ b = cc in
-      let P : Answer → Type 0 = λ x. Step old deed x new in
-      subst P same step
-
-  deed_replied : (old new : S) (deed : Deed) (answer : Answer) (reply : Reply) (held : Jobs) → Step old deed answer new → Some (said_to 0 answer) ≡ Some (data_of reply)
-      → Reaches Step (deed_once held deed) old (says (data_of reply) held) new
-  deed_replied old new deed answer reply held step is =
-      let same : said_to 0 answer ≡ data_of reply = cc in
-      ((deed, answer) ∷ [], (refl, ap (λ d. says d held) (sym same)), (new, step, refl))
-
-  -- what a served call was answered, and that want of memory left all as it was
-  pub serves_some : {R : Type 0} (old new : S) (call : Call) (reply_of : R → MachineReply) (r : Result R DeskRefused) (answer : Answer)
-      → Serves Step old call reply_of r new → answer_in reply_of r ≡ Some answer → Step old (Makes call) answer new
-  serves_some old new call reply_of (Ok r) answer step is = by_some old new (Makes call) (Replied (reply_of r)) answer step is
-  serves_some old new call reply_of (Err HistoryFull) answer step is = by_some old new (Makes call) FullHistory answer step is
-  serves_some old new call reply_of (Err Behind) answer step is = by_some old new (Makes call) BehindHistory answer step is
-  serves_some old new call reply_of (Err Memory) answer step is = absurd cc
-
-  pub serves_none : {R : Type 0} (old new : S) (call : Call) (reply_of : R → MachineReply) (r : Result R DeskRefused)
-      → Serves Step old call reply_of r new → answer_in reply_of r ≡ None → new ≡ old
-  serves_none old new call reply_of (Ok r) step is = absurd cc
-  serves_none old new call reply_of (Err HistoryFull) step is = absurd cc
-  serves_none old new call reply_of (Err Behind) step is = absurd cc
-  serves_none old new call reply_of (Err Memory) same is = same
-
-  -- a call whose answer alone is the reply
-  pub call_served : {R : Type 0} (old new : S) (call : Call) (reply_of : R → MachineReply) (r : Result R DeskRefused) (reply : Result Reply AllocError) (held : Jobs)
-      → Serves Step old call reply_of r new → option_map (said_to 0) (answer_in reply_of r) ≡ reply_in reply → Served Step (call_once held call) old reply held new
-  call_served old new call reply_of (Ok r) (Ok reply) held step is = deed_replied old new (Makes call) (Replied (reply_of r)) reply held step is
-  call_served old new call reply_of (Err HistoryFull) (Ok reply) held step is = deed_replied old new (Makes call) FullHistory reply held step is
-  call_served old new call reply_of (Err Behind) (Ok reply) held step is = deed_replied old new (Makes call) BehindHistory reply held step is
-  call_served old new call reply_of (Err Memory) (Ok reply) held same is = absurd cc
-  call_served old new call reply_of (Ok r) (Err e) held step is = absurd cc
-  call_served old new call reply_of (Err HistoryFull) (Err e) held step is = absurd cc
-  call_served old new call reply_of (Err Behind) (Err e) held step is = absurd cc
-  call_served old new call reply_of (Err Memory) (Err e) held same is = (call_once held call, ([], refl, same))
-
-  -- a checkpoint, whose answer is the reply
-  pub checkpoint_served : (old new : S) (limits : Bounds) (r : Result ℕ DeskCheckpointRefused) (reply : Result Reply AllocError) (held : Jobs)
-      → ServesCheckpoint Step old limits r new → option_map (said_to 0) (checked_in r) ≡ reply_in reply → Served Step (deed_once held (Keeps limits)) old reply held new
-  checkpoint_served old new limits (Ok before) (Ok reply) held step is = deed_replied old new (Keeps limits) (Checked (KeptUpTo before)) reply held step is
-  checkpoint_served old new limits (Err (checkpoint.UnitsOver units)) (Ok reply) held step is = deed_replied old new (Keeps limits) (Checked (OverUnits units)) reply held step is
-  checkpoint_served old new limits (Err checkpoint.NumbersOver) (Ok reply) held step is = deed_replied old new (Keeps limits) (Checked OverNumbers) reply held step is
-  checkpoint_served old new limits (Err checkpoint.NotAlone) (Ok reply) held step is = deed_replied old new (Keeps limits) SharedHistory reply held step is
-  checkpoint_served old new limits (Err checkpoint.Memory) (Ok reply) held same is = absurd cc
-  checkpoint_served old new limits (Ok before) (Err e) held step is = absurd cc
-  checkpoint_served old new limits (Err (checkpoint.UnitsOver units)) (Err e) held step is = absurd cc
-  checkpoint_served old new limits (Err checkpoint.NumbersOver) (Err e) held step is = absurd cc
-  checkpoint_served old new limits (Err checkpoint.NotAlone) (Err e) held step is = absurd cc
-  checkpoint_served old new limits (Err checkpoint.Memory) (Err e) held same is = (deed_once held (Keeps limits), ([], refl, same))
-
   -- memory ran out before any call
   pub none_served : (plan : Plan) (old : S) (e : AllocError) (held : Jobs) → Served Step plan old (Err e) held old
   none_served plan old e held = (plan, reaches_itself plan old)
-
-  by_plan : (old new : S) (deed : Deed) (next : Answer → Plan) (answer : Answer) (rest : Plan) → Step old deed answer new → Some (next answer) ≡ Some rest → Reaches Step (asks deed next) old rest new
-  by_plan old new deed next answer rest step is =
-      let same : next answer ≡ rest = cc in
-      let P : Plan → Type 0 = λ p. Reaches Step (asks deed next) old p new in
-      subst P same (reaches_by old new deed next answer step)
-
-  -- a served call leads to what its answer leaves of the plan
-  pub by_answer : {R : Type 0} (old new : S) (call : Call) (next : Answer → Plan) (reply_of : R → MachineReply) (r : Result R DeskRefused) (rest : Plan)
-      → Serves Step old call reply_of r new → option_map next (answer_in reply_of r) ≡ Some rest → Reaches Step (asks (Makes call) next) old rest new
-  by_answer old new call next reply_of (Ok r) rest step is = by_plan old new (Makes call) next (Replied (reply_of r)) rest step is
-  by_answer old new call next reply_of (Err HistoryFull) rest step is = by_plan old new (Makes call) next FullHistory rest step is
-  by_answer old new call next reply_of (Err Behind) rest step is = by_plan old new (Makes call) next BehindHistory rest step is
-  by_answer old new call next reply_of (Err Memory) rest same is = absurd cc
-
-  -- a served call leads somewhere, also where memory ran out
-  pub by_any : {R : Type 0} (old new : S) (call : Call) (next : Answer → Plan) (reply_of : R → MachineReply) (r : Result R DeskRefused)
-      → Serves Step old call reply_of r new → (rest : Plan) × Reaches Step (asks (Makes call) next) old rest new
-  by_any old new call next reply_of (Ok r) step = (next (Replied (reply_of r)), reaches_by old new (Makes call) next (Replied (reply_of r)) step)
-  by_any old new call next reply_of (Err HistoryFull) step = (next FullHistory, reaches_by old new (Makes call) next FullHistory step)
-  by_any old new call next reply_of (Err Behind) step = (next BehindHistory, reaches_by old new (Makes call) next BehindHistory step)
-  by_any old new call next reply_of (Err Memory) same = (asks (Makes call) next, ([], refl, same))
-
-  taken_by : (old new : S) (answer : Answer) (reply : Data) (held after : Jobs) → nat_le 64 (length held) ≡ false → Step old (Makes ToTake) answer new
-      → reply ≡ said_to (length held + 1) answer → after ≡ held_after held answer → Reaches Step (take_plan held) old (says reply after) new
-  taken_by old new answer reply held after room step said left =
-      ((Makes ToTake, answer) ∷ [], rw room (refl, ap₂ says said left), (new, step, refl))
-
-  -- a take where there is room for another job
-  pub take_served : (old new : S) (r : Result Taken DeskRefused) (reply : Result Reply AllocError) (held after : Jobs) → nat_le 64 (length held) ≡ false
-      → Serves Step old ToTake take_reply r new → KeepsTaken held (answer_in take_reply r) (reply_in reply) after → Served Step (take_plan held) old reply after new
-  take_served old new (Ok r) (Ok reply) held after room step kept = taken_by old new (Replied (take_reply r)) (data_of reply) held after room step kept.0 kept.1
-  take_served old new (Err HistoryFull) (Ok reply) held after room step kept = taken_by old new FullHistory (data_of reply) held after room step kept.0 kept.1
-  take_served old new (Err Behind) (Ok reply) held after room step kept = taken_by old new BehindHistory (data_of reply) held after room step kept.0 kept.1
-  take_served old new (Err Memory) (Ok reply) held after room step kept = absurd kept
-  take_served old new r (Err e) held after room step kept =
-      let next : Answer → Plan = λ answer. says (said_to (length held + 1) answer) (held_after held answer) in
-      let P : Plan → Type 0 = λ p. (rest : Plan) × Reaches Step p old rest new in
-      let open_plan : asks (Makes ToTake) next ≡ take_plan held = rw room refl in
-      subst P open_plan (by_any old new ToTake next take_reply r step)
-
-  -- a round whose job was taken, run and delivered
-  pub round_served : (old mid new : S) (held : Jobs) (count : ℕ) (more : ℕ → Plan) (order : PlainJob) (taken : Result Taken DeskRefused) (r : Result Delivered DeskRefused) (round : Result Round AllocError)
-      → Serves Step old ToTake take_reply taken mid → answer_in take_reply taken ≡ Some (Replied (OfTake (Some order)))
-      → Serves Step mid (ToDeliver order) OfDeliver r new
-      → option_map (after_deliver held count more) (answer_in OfDeliver r) ≡ option_map (left_after held count more) (result_ok round)
-      → RoundServed Step held count more old round new
-  round_served old mid new held count more order taken r (Ok round) first is second ends =
-      reaches_on (asks (Makes ToTake) (after_take held count more)) (asks (Makes (ToDeliver order)) (after_deliver held count more)) (left_after held count more round) old mid new
-      (reaches_by old mid (Makes ToTake) (after_take held count more) (Replied (OfTake (Some order))) (serves_some old mid ToTake take_reply taken (Replied (OfTake (Some order))) first is))
-      (by_answer mid new (ToDeliver order) (after_deliver held count more) OfDeliver r (left_after held count more round) second ends)
-  round_served old mid new held count more order taken r (Err e) first is second ends =
-      let far = by_any mid new (ToDeliver order) (after_deliver held count more) OfDeliver r second in (
-        far.0,
-        reaches_on (asks (Makes ToTake) (after_take held count more)) (asks (Makes (ToDeliver order)) (after_deliver held count more)) far.0 old mid new
-            (reaches_by old mid (Makes ToTake) (after_take held count more) (Replied (OfTake (Some order))) (serves_some old mid ToTake take_reply taken (Replied (OfTake (Some order))) first is)) far.1,
-      )
 
   -- one more round of a work
   pub work_goes_on : (plan : Plan) (old mid new : S) (held : Jobs) (turns i count : ℕ) (round : Round) → i < turns → Reaches Step plan old (work_plan held (turns - i) count) mid
@@ -188,10 +110,133 @@ module _ {S : Type 0} (Step : S → Deed → Answer → S → Type 0) where
   pub blank_said : (line : List ℕ) (old_jobs jobs : Jobs) (old new : S) (held : List ℕ) → is_blank line ≡ true → jobs ≡ old_jobs → new ≡ old → LineSaid Step line old_jobs old held (Ok tt) jobs new held
   blank_said line old_jobs jobs old new held blank same is = ([], [], rw blank (refl, refl, same), is, sym (append-nil held))
 
+-- ---- calls and a checkpoint of a desk
+
+module _ {S : Type 0} (CallStep : S → Call → Answer → S → Type 0) (CheckpointStep : S → Bounds → CheckpointAnswer → S → Type 0) where
+  abbrev Step : S → Exchange → S → Type 0
+  Step = Exchanges CallStep CheckpointStep
+
+  -- one call, and its answer
+  reaches_by : (old new : S) (call : Call) (next : Answer → Plan) (answer : Answer) → CallStep old call answer new → Reaches Step (asks call next) old (next answer) new
+  reaches_by old new call next answer step = (AskedCall call answer ∷ [], (refl, refl), (new, step, refl))
+
+  by_some : (old new : S) (call : Call) (a b : Answer) → CallStep old call a new → Some a ≡ Some b → CallStep old call b new
+  by_some old new call a b step is =
+      let same : a ≡ b = cc in
+      let P : Answer → Type 0 = λ x. CallStep old call x new in
+      subst P same step
+
+  call_replied : (old new : S) (call : Call) (answer : Answer) (reply : Reply) (held : Jobs) → CallStep old call answer new → Some (said_to 0 answer) ≡ Some (data_of reply)
+      → Reaches Step (call_once held call) old (says (data_of reply) held) new
+  call_replied old new call answer reply held step is =
+      let same : said_to 0 answer ≡ data_of reply = cc in
+      (AskedCall call answer ∷ [], (refl, ap (λ d. says d held) (sym same)), (new, step, refl))
+
+  checkpoint_replied : (old new : S) (limits : Bounds) (answer : CheckpointAnswer) (reply : Reply) (held : Jobs) → CheckpointStep old limits answer new → Some (checkpoint_said answer) ≡ Some (data_of reply)
+      → Reaches Step (checkpoint_once held limits) old (says (data_of reply) held) new
+  checkpoint_replied old new limits answer reply held step is =
+      let same : checkpoint_said answer ≡ data_of reply = cc in
+      (AskedCheckpoint limits answer ∷ [], (refl, ap (λ d. says d held) (sym same)), (new, step, refl))
+
+  -- what a served call was answered
+  serves_some : {R : Type 0} (old new : S) (call : Call) (reply_of : R → MachineReply) (r : Result R DeskRefused) (answer : Answer)
+      → Serves CallStep old call reply_of r new → answer_in reply_of r ≡ Some answer → CallStep old call answer new
+  serves_some old new call reply_of (Ok r) answer step is = by_some old new call (Replied (reply_of r)) answer step is
+  serves_some old new call reply_of (Err HistoryFull) answer step is = by_some old new call FullHistory answer step is
+  serves_some old new call reply_of (Err Behind) answer step is = by_some old new call BehindHistory answer step is
+  serves_some old new call reply_of (Err Memory) answer step is = absurd cc
+
+  -- a call whose answer alone is the reply
+  pub call_served : {R : Type 0} (old new : S) (call : Call) (reply_of : R → MachineReply) (r : Result R DeskRefused) (reply : Result Reply AllocError) (held : Jobs)
+      → Serves CallStep old call reply_of r new → option_map (said_to 0) (answer_in reply_of r) ≡ data_in reply → Served Step (call_once held call) old reply held new
+  call_served old new call reply_of (Ok r) (Ok reply) held step is = call_replied old new call (Replied (reply_of r)) reply held step is
+  call_served old new call reply_of (Err HistoryFull) (Ok reply) held step is = call_replied old new call FullHistory reply held step is
+  call_served old new call reply_of (Err Behind) (Ok reply) held step is = call_replied old new call BehindHistory reply held step is
+  call_served old new call reply_of (Err Memory) (Ok reply) held same is = absurd cc
+  call_served old new call reply_of (Ok r) (Err e) held step is = absurd cc
+  call_served old new call reply_of (Err HistoryFull) (Err e) held step is = absurd cc
+  call_served old new call reply_of (Err Behind) (Err e) held step is = absurd cc
+  call_served old new call reply_of (Err Memory) (Err e) held same is = (call_once held call, ([], refl, same))
+
+  -- a checkpoint, whose answer is the reply
+  pub checkpoint_served : (old new : S) (limits : Bounds) (r : Result ℕ DeskCheckpointRefused) (reply : Result Reply AllocError) (held : Jobs)
+      → ServesCheckpoint CheckpointStep old limits r new → option_map checkpoint_said (checked_in r) ≡ data_in reply → Served Step (checkpoint_once held limits) old reply held new
+  checkpoint_served old new limits (Ok before) (Ok reply) held step is = checkpoint_replied old new limits (Checked (KeptUpTo before)) reply held step is
+  checkpoint_served old new limits (Err (checkpoint.UnitsOver units)) (Ok reply) held step is = checkpoint_replied old new limits (Checked (OverUnits units)) reply held step is
+  checkpoint_served old new limits (Err checkpoint.NumbersOver) (Ok reply) held step is = checkpoint_replied old new limits (Checked OverNumbers) reply held step is
+  checkpoint_served old new limits (Err checkpoint.NotAlone) (Ok reply) held step is = checkpoint_replied old new limits SharedHistory reply held step is
+  checkpoint_served old new limits (Err checkpoint.Memory) (Ok reply) held same is = absurd cc
+  checkpoint_served old new limits (Ok before) (Err e) held step is = absurd cc
+  checkpoint_served old new limits (Err (checkpoint.UnitsOver units)) (Err e) held step is = absurd cc
+  checkpoint_served old new limits (Err checkpoint.NumbersOver) (Err e) held step is = absurd cc
+  checkpoint_served old new limits (Err checkpoint.NotAlone) (Err e) held step is = absurd cc
+  checkpoint_served old new limits (Err checkpoint.Memory) (Err e) held same is = (checkpoint_once held limits, ([], refl, same))
+
+  by_plan : (old new : S) (call : Call) (next : Answer → Plan) (answer : Answer) (rest : Plan) → CallStep old call answer new → Some (next answer) ≡ Some rest → Reaches Step (asks call next) old rest new
+  by_plan old new call next answer rest step is =
+      let same : next answer ≡ rest = cc in
+      let P : Plan → Type 0 = λ p. Reaches Step (asks call next) old p new in
+      subst P same (reaches_by old new call next answer step)
+
+  -- a served call leads to what its answer leaves of the plan
+  pub by_answer : {R : Type 0} (old new : S) (call : Call) (next : Answer → Plan) (reply_of : R → MachineReply) (r : Result R DeskRefused) (rest : Plan)
+      → Serves CallStep old call reply_of r new → option_map next (answer_in reply_of r) ≡ Some rest → Reaches Step (asks call next) old rest new
+  by_answer old new call next reply_of (Ok r) rest step is = by_plan old new call next (Replied (reply_of r)) rest step is
+  by_answer old new call next reply_of (Err HistoryFull) rest step is = by_plan old new call next FullHistory rest step is
+  by_answer old new call next reply_of (Err Behind) rest step is = by_plan old new call next BehindHistory rest step is
+  by_answer old new call next reply_of (Err Memory) rest same is = absurd cc
+
+  -- a served call leads somewhere, also where memory ran out
+  pub by_any : {R : Type 0} (old new : S) (call : Call) (next : Answer → Plan) (reply_of : R → MachineReply) (r : Result R DeskRefused)
+      → Serves CallStep old call reply_of r new → (rest : Plan) × Reaches Step (asks call next) old rest new
+  by_any old new call next reply_of (Ok r) step = (next (Replied (reply_of r)), reaches_by old new call next (Replied (reply_of r)) step)
+  by_any old new call next reply_of (Err HistoryFull) step = (next FullHistory, reaches_by old new call next FullHistory step)
+  by_any old new call next reply_of (Err Behind) step = (next BehindHistory, reaches_by old new call next BehindHistory step)
+  by_any old new call next reply_of (Err Memory) same = (asks call next, ([], refl, same))
+
+  taken_by : (old new : S) (answer : Answer) (reply : Data) (held after : Jobs) → nat_le 64 (length held) ≡ false → CallStep old ToTake answer new
+      → reply ≡ said_to (length held + 1) answer → after ≡ held_after held answer → Reaches Step (take_plan held) old (says reply after) new
+  taken_by old new answer reply held after room step said left =
+      (AskedCall ToTake answer ∷ [], rw room (refl, ap₂ says said left), (new, step, refl))
+
+  -- a take where there is room for another job
+  pub take_served : (old new : S) (r : Result Taken DeskRefused) (reply : Result Reply AllocError) (held after : Jobs) → nat_le 64 (length held) ≡ false
+      → Serves CallStep old ToTake take_reply r new → KeepsTaken held (answer_in take_reply r) (data_in reply) after → Served Step (take_plan held) old reply after new
+  take_served old new (Ok r) (Ok reply) held after room step kept = taken_by old new (Replied (take_reply r)) (data_of reply) held after room step kept.0 kept.1
+  take_served old new (Err HistoryFull) (Ok reply) held after room step kept = taken_by old new FullHistory (data_of reply) held after room step kept.0 kept.1
+  take_served old new (Err Behind) (Ok reply) held after room step kept = taken_by old new BehindHistory (data_of reply) held after room step kept.0 kept.1
+  take_served old new (Err Memory) (Ok reply) held after room step kept = absurd kept
+  take_served old new r (Err e) held after room step kept =
+      let next : Answer → Plan = λ answer. says (said_to (length held + 1) answer) (held_after held answer) in
+      let P : Plan → Type 0 = λ p. (rest : Plan) × Reaches Step p old rest new in
+      let open_plan : asks ToTake next ≡ take_plan held = rw room refl in
+      subst P open_plan (by_any old new ToTake next take_reply r step)
+
+  -- a round whose job was taken, run and delivered
+  pub round_served : (old mid new : S) (held : Jobs) (count : ℕ) (more : ℕ → Plan) (order : PlainJob) (taken : Result Taken DeskRefused) (r : Result Delivered DeskRefused) (round : Result Round AllocError)
+      → Serves CallStep old ToTake take_reply taken mid → answer_in take_reply taken ≡ Some (Replied (OfTake (Some order)))
+      → Serves CallStep mid (ToDeliver order) OfDeliver r new
+      → option_map (after_deliver held count more) (answer_in OfDeliver r) ≡ option_map (left_after held count more) (result_ok round)
+      → RoundServed Step held count more old round new
+  round_served old mid new held count more order taken r (Ok round) first is second ends =
+      reaches_on Step (asks ToTake (after_take held count more)) (asks (ToDeliver order) (after_deliver held count more)) (left_after held count more round) old mid new
+      (reaches_by old mid ToTake (after_take held count more) (Replied (OfTake (Some order))) (serves_some old mid ToTake take_reply taken (Replied (OfTake (Some order))) first is))
+      (by_answer mid new (ToDeliver order) (after_deliver held count more) OfDeliver r (left_after held count more round) second ends)
+  round_served old mid new held count more order taken r (Err e) first is second ends =
+      let far = by_any mid new (ToDeliver order) (after_deliver held count more) OfDeliver r second in (
+        far.0,
+        reaches_on Step (asks ToTake (after_take held count more)) (asks (ToDeliver order) (after_deliver held count more)) far.0 old mid new
+            (reaches_by old mid ToTake (after_take held count more) (Replied (OfTake (Some order))) (serves_some old mid ToTake take_reply taken (Replied (OfTake (Some order))) first is)) far.1,
+      )
+
 -- a run on a lent workbench
-pub Runs-solo : (old new : Solo) (pairs : List Pair) → Runs SoloStep old pairs new → Runs (IsStep old.caller) old.bench.now pairs new.bench.now × (new.bench.ghost_name ≡ old.bench.ghost_name)
+pub Runs-solo : (old new : Solo) (pairs : List Exchange) → Runs SoloStep old pairs new → Runs (IsStep old.caller) old.bench.now pairs new.bench.now × (new.bench.ghost_name ≡ old.bench.ghost_name)
 Runs-solo old new [] same = (ap (λ s. s.bench.now) same, ap (λ s. s.bench.ghost_name) same)
-Runs-solo old new (p ∷ ps) h =
+Runs-solo old new (AskedCall call answer ∷ ps) h =
+    let rest = Runs-solo h.0 new ps h.2 in
+    let P : ℕ → Type 0 = λ caller. Runs (IsStep caller) h.0.bench.now ps new.bench.now in
+    ((h.0.bench.now, h.1.0, subst P h.1.1 rest.0), rest.1 ∙ h.1.2)
+Runs-solo old new (AskedCheckpoint limits answer ∷ ps) h =
     let rest = Runs-solo h.0 new ps h.2 in
     let P : ℕ → Type 0 = λ caller. Runs (IsStep caller) h.0.bench.now ps new.bench.now in
     ((h.0.bench.now, h.1.0, subst P h.1.1 rest.0), rest.1 ∙ h.1.2)

@@ -3,31 +3,32 @@ use Rattle.std.specs.Prelude.{◌≡◌, ◌↔◌, ◌≤◌, ◌+◌, ℕ, Boo
 use Rattle.std.specs.Io.KnownBytes.{Consumes, IsAtEnd}
 use Rattle.fb_streams.specs.Streams.{StaysFlushed}
 use Rattle.serde_json.specs.Data.{Data}
+use Rattle.fb_bench.specs.Calls.{Exchange}
 use Rattle.fb_wire.specs.Lines.{Fits, IsTooLong, lines_of}
 use Rattle.fb_messages.specs.Replies.{reply_line}
-use Rattle.fb_wire.specs.Talk.{Jobs, LinePart, Pair, Plan, says, Talk}
+use Rattle.fb_wire.specs.Talk.{Jobs, LinePart, Plan, says, Talk}
 use Rattle.fb_wire.specs.declared.end.RunEnd.{RunEnd}
 use Rattle.fb_wire.specs.declared.end.RunEnd.TheVariants.{End, LineTooLong, ReadFailed, WriteFailed, TurnsOver, Memory}
 
 -- every line was answered, the last one too; so none is too long
-abbrev pub AnsweredAll : List ℕ → List Pair → List ℕ → Type 0
+abbrev pub AnsweredAll : List ℕ → List Exchange → List ℕ → Type 0
 AnsweredAll bytes pairs out = (after : Jobs) × Talk (lines_of bytes) [] pairs out after
 
 -- every line that has its line feed was answered, and what has come of the next one is not too long
-abbrev pub AnsweredEnded : List ℕ → List Pair → List ℕ → Type 0
+abbrev pub AnsweredEnded : List ℕ → List Exchange → List ℕ → Type 0
 AnsweredEnded bytes pairs out =
     (lines : List (List ℕ)) × (rest : List ℕ) × (after : Jobs) × (lines_of bytes ≡ lines ++ rest ∷ []) × Fits rest × Talk lines [] pairs out after
 
 -- every line before the first one that is too long was answered
-abbrev pub AnsweredBefore : List ℕ → List Pair → List ℕ → Type 0
+abbrev pub AnsweredBefore : List ℕ → List Exchange → List ℕ → Type 0
 AnsweredBefore bytes pairs out =
     (lines more : List (List ℕ)) × (long : List ℕ) × (after : Jobs)
     × (lines_of bytes ≡ lines ++ long ∷ more) × IsTooLong long × Talk lines [] pairs out after
 
 -- Some lines were answered whole. Of the next one, which is not too long, some calls or its checkpoint were made, and `part` was written.
-abbrev pub AnsweredPart : (Plan → List ℕ → Type 0) → List ℕ → List Pair → List ℕ → Type 0
+abbrev pub AnsweredPart : (Plan → List ℕ → Type 0) → List ℕ → List Exchange → List ℕ → Type 0
 AnsweredPart IsPart bytes pairs out =
-    (lines more : List (List ℕ)) × (line : List ℕ) × (first begun : List Pair) × (said part : List ℕ) × (held : Jobs)
+    (lines more : List (List ℕ)) × (line : List ℕ) × (first begun : List Exchange) × (said part : List ℕ) × (held : Jobs)
     × (lines_of bytes ≡ lines ++ line ∷ more) × Fits line × (pairs ≡ first ++ begun) × (out ≡ said ++ part)
     × Talk lines [] first said held × LinePart IsPart line held begun part
 
@@ -39,7 +40,7 @@ abbrev pub IsNothing : Plan → List ℕ → Type 0
 IsNothing rest part = part ≡ []
 
 -- what stands at each end, by the bytes that were read, the calls and checkpoints with their answers, and what was written
-abbrev pub Stands : RunEnd → List ℕ → List Pair → List ℕ → Type 0
+abbrev pub Stands : RunEnd → List ℕ → List Exchange → List ℕ → Type 0
 Stands End bytes pairs out = AnsweredAll bytes pairs out
 Stands ReadFailed bytes pairs out = AnsweredEnded bytes pairs out
 Stands TurnsOver bytes pairs out = AnsweredEnded bytes pairs out
@@ -93,7 +94,7 @@ pub record ShowsEnd (end : RunEnd) (turns : ℕ) (old new : Streams) : Type 0 wh
 -- what was read, asked and written is what stands at this end, which the reader and the writer show
 pub record IsTalk (end : RunEnd) (turns : ℕ) (old new : Streams) : Type 0 where
   pub bytes : List ℕ
-  pub pairs : List Pair
+  pub pairs : List Exchange
   pub out : List ℕ
   pub given : new.given ≡ old.given ++ bytes
   pub consumed : Consumes old.left new.left bytes

@@ -1,10 +1,10 @@
 -- What is said to each answer of the machine.
-use Rattle.std.specs.Prelude.{ℕ, codes, true, false, Option, Some, None}
+use Rattle.std.specs.Prelude.{ℕ, true, false, Option, Some, None}
 use Rattle.serde_json.specs.Data.{Data}
 use Rattle.fb_messages.specs.Jobs.Reads.{PlainJob}
 use Rattle.fb_bench.specs.History.Checkpoints.{Checking, KeptUpTo, OverUnits, OverNumbers}
 use Rattle.fb_bench.specs.History.Machine.{Reply, OfCommit, OfTake, OfDeliver, OfGiveBack, OfAsk, Shown, Finds, Waits, Unknown}
-use Rattle.fb_bench.specs.Calls.{Answer, Replied, FullHistory, BehindHistory, Checked, SharedHistory}
+use Rattle.fb_bench.specs.Calls.{Answer, Replied, FullHistory, BehindHistory, CheckpointAnswer, Checked, SharedHistory}
 use Rattle.fb_bench.specs.History.declared.answers.Committed.{Committed}
 use Rattle.fb_bench.specs.History.declared.answers.Committed.TheVariants.{Done, NoChange, TooManyChanges, SameUnitTwice, StaleBase, NoSuchUnit, TooManyUnits}
 use Rattle.fb_bench.specs.History.declared.answers.Delivered.{Delivered}
@@ -12,15 +12,17 @@ use Rattle.fb_bench.specs.History.declared.answers.Delivered.TheVariants.{Accept
 use Rattle.fb_bench.specs.History.declared.answers.GivenBack.{GivenBack}
 use Rattle.fb_bench.specs.History.declared.answers.GivenBack.TheVariants.{Returned, NothingOut}
 use Rattle.fb_messages.specs.Replies.{refused, refused_unit, committed, refused_base, job_given, no_job, delivered, returned, value_said, pending_said, checkpointed}
+use Rattle.fb_messages.specs.ReplyView.{refusal_text}
+use Rattle.fb_messages.specs.declared.reply.Refusal.TheVariants as because
 
 abbrev pub commit_said : Committed → Data
 commit_said (Done commit) = committed commit
-commit_said NoChange = refused (codes "NoChange")
-commit_said TooManyChanges = refused (codes "TooManyChanges")
-commit_said (SameUnitTwice unit) = refused_unit (codes "SameUnitTwice") unit
+commit_said NoChange = refused (refusal_text because.NoChange)
+commit_said TooManyChanges = refused (refusal_text because.TooManyChanges)
+commit_said (SameUnitTwice unit) = refused_unit (refusal_text because.SameUnitTwice) unit
 commit_said (StaleBase unit current) = refused_base unit current
-commit_said (NoSuchUnit unit) = refused_unit (codes "NoSuchUnit") unit
-commit_said TooManyUnits = refused (codes "TooManyUnits")
+commit_said (NoSuchUnit unit) = refused_unit (refusal_text because.NoSuchUnit) unit
+commit_said TooManyUnits = refused (refusal_text because.TooManyUnits)
 
 -- a job gets this number
 abbrev pub take_said : ℕ → Option PlainJob → Data
@@ -29,9 +31,9 @@ take_said n (Some order) = job_given n order.key
 
 abbrev pub deliver_said : Delivered → Data
 deliver_said Accepted = delivered
-deliver_said NoSuchKey = refused (codes "NoSuchKey")
-deliver_said NotPending = refused (codes "NotPending")
-deliver_said (Stale unit) = refused_unit (codes "Stale") unit
+deliver_said NoSuchKey = refused (refusal_text because.NoSuchKey)
+deliver_said NotPending = refused (refusal_text because.NotPending)
+deliver_said (Stale unit) = refused_unit (refusal_text because.Stale) unit
 
 abbrev pub give_back_said : GivenBack → Data
 give_back_said Returned = returned true
@@ -40,7 +42,7 @@ give_back_said NothingOut = returned false
 abbrev pub ask_said : Shown → Data
 ask_said (Finds finding) = value_said finding
 ask_said Waits = pending_said
-ask_said Unknown = refused (codes "NoSuchKey")
+ask_said Unknown = refused (refusal_text because.NoSuchKey)
 
 abbrev pub reply_said : ℕ → Reply → Data
 reply_said n (OfCommit answer) = commit_said answer
@@ -51,13 +53,16 @@ reply_said n (OfAsk shown) = ask_said shown
 
 abbrev pub checking_said : Checking → Data
 checking_said (KeptUpTo before) = checkpointed before
-checking_said (OverUnits units) = refused (codes "UnitsOver")
-checking_said OverNumbers = refused (codes "NumbersOver")
+checking_said (OverUnits units) = refused (refusal_text because.UnitsOver)
+checking_said OverNumbers = refused (refusal_text because.NumbersOver)
 
 -- what is said to an answer; a job gets this number
 abbrev pub said_to : ℕ → Answer → Data
 said_to n (Replied reply) = reply_said n reply
-said_to n FullHistory = refused (codes "HistoryFull")
-said_to n BehindHistory = refused (codes "Behind")
-said_to n (Checked checking) = checking_said checking
-said_to n SharedHistory = refused (codes "NotAlone")
+said_to n FullHistory = refused (refusal_text because.HistoryFull)
+said_to n BehindHistory = refused (refusal_text because.Behind)
+
+-- what is said to the answer to a checkpoint
+abbrev pub checkpoint_said : CheckpointAnswer → Data
+checkpoint_said (Checked checking) = checking_said checking
+checkpoint_said SharedHistory = refused (refusal_text because.NotAlone)

@@ -2,25 +2,32 @@
 use Rattle.std.specs.Prelude.{◌≡◌, ℕ, List, [], ◌∷◌, ◌++◌, length, nat_lt, if◌then◌else◌}
 use Rattle.serde_json.specs.Data.{Data}
 use Rattle.fb_bench.specs.History.Checkpoints.{checking, story_checked}
-use Rattle.fb_bench.specs.History.Machine.{reply}
+use Rattle.fb_bench.specs.History.Limits.{Bounds}
+use Rattle.fb_bench.specs.History.Machine.{Call, reply}
 use Rattle.fb_bench.specs.History.Story.{Story, state_of, recorded}
-use Rattle.fb_bench.specs.Calls.{Answer, Deed, Makes, Keeps, Replied, FullHistory, Checked}
+use Rattle.fb_bench.specs.Calls.{Answer, Replied, FullHistory, CheckpointAnswer, Checked}
 use Rattle.fb_wire.specs.Lines.{is_blank, lines_of}
 use Rattle.fb_messages.specs.Replies.{reply_line}
 use Rattle.fb_messages.specs.Requests.{request_of}
-use Rattle.fb_wire.specs.Talk.{Jobs, Plan, says, asks, plan_of}
+use Rattle.fb_wire.specs.Talk.{Jobs, Plan, says, asks, checks, plan_of}
 use Rattle.fb_wire.specs.declared.end.RunEnd.{RunEnd}
 use Rattle.fb_wire.specs.declared.end.RunEnd.TheVariants.{End}
 
--- the answer to a call: the machine's, where the history has room; and to a checkpoint: what it comes to
-abbrev pub answer_from : Story → Deed → Answer
-answer_from story (Makes call) = if nat_lt (length story.log.records) story.log.limit then Replied (reply (state_of story) call) else FullHistory
-answer_from story (Keeps limits) = Checked (checking limits story)
+-- the answer to a call: the machine's, where the history has room
+abbrev pub answer_from : Story → Call → Answer
+answer_from story call = if nat_lt (length story.log.records) story.log.limit then Replied (reply (state_of story) call) else FullHistory
 
--- the workbench after it: the call is recorded, the history begins anew, or nothing has changed
-abbrev pub story_after : ℕ → Story → Deed → Story
-story_after caller story (Makes call) = if nat_lt (length story.log.records) story.log.limit then recorded story caller call else story
-story_after caller story (Keeps limits) = story_checked (checking limits story) limits story
+-- the workbench after it: the call is recorded, or nothing has changed
+abbrev pub story_after : ℕ → Story → Call → Story
+story_after caller story call = if nat_lt (length story.log.records) story.log.limit then recorded story caller call else story
+
+-- the answer to a checkpoint: what it comes to
+abbrev pub checkpoint_from : Story → Bounds → CheckpointAnswer
+checkpoint_from story limits = Checked (checking limits story)
+
+-- the workbench after it: the history begins anew, or nothing has changed
+abbrev pub story_anew : Story → Bounds → Story
+story_anew story limits = story_checked (checking limits story) limits story
 
 -- what a line has come to: its reply, the jobs that are held and the workbench
 pub record Told : Type 0 where
@@ -31,7 +38,8 @@ pub record Told : Type 0 where
 -- the calls and checkpoints of a plan, each answered by the workbench
 unfoldable pub told : ℕ → Plan → Story → Told
 told caller (says reply held) story = record { reply = reply; held = held; story = story }
-told caller (asks deed next) story = told caller (next (answer_from story deed)) (story_after caller story deed)
+told caller (asks call next) story = told caller (next (answer_from story call)) (story_after caller story call)
+told caller (checks limits next) story = told caller (next (checkpoint_from story limits)) (story_anew story limits)
 
 -- what is written, and the workbench then
 pub record Script : Type 0 where

@@ -4,7 +4,7 @@ use Rattle.std.specs.declared.alloc.AllocError.{AllocError}
 use Rattle.serde_json.specs.Data.{Data}
 use Rattle.fb_bench.specs.History.Checkpoints.{KeptUpTo, OverUnits, OverNumbers}
 use Rattle.fb_bench.specs.History.Machine.{ToTake, OfTake, Reply as MachineReply}
-use Rattle.fb_bench.specs.Calls.{Answer, Deed, Makes, Replied, FullHistory, BehindHistory, Checked, SharedHistory}
+use Rattle.fb_bench.specs.Calls.{Answer, Replied, FullHistory, BehindHistory, CheckpointAnswer, Checked, SharedHistory, Exchange}
 use Rattle.fb_bench.specs.declared.desk.DeskRefused.{DeskRefused}
 use Rattle.fb_bench.specs.declared.desk.DeskRefused.TheVariants.{HistoryFull, Behind, Memory}
 use Rattle.fb_bench.specs.declared.desk.DeskCheckpointRefused.{DeskCheckpointRefused}
@@ -20,34 +20,46 @@ use Rattle.fb_messages.specs.Requests.{request_of}
 use Rattle.fb_wire.specs.Ends.{IsFrontOfReply, IsNothing, Stands}
 use Rattle.fb_wire.specs.declared.end.RunEnd.{RunEnd}
 use Rattle.fb_wire.specs.declared.end.RunEnd.TheVariants as end
-use Rattle.fb_wire.specs.Talk.{plan_of, LineTalk, Talk, Jobs, Pair, Plan, says, asks, Leads, Runs, after_take, held_after}
+use Rattle.fb_wire.specs.Talk.{plan_of, LineTalk, Talk, Jobs, Plan, says, asks, Leads, Runs, after_take, held_after}
 use Rattle.fb_messages.specs.Replies.{work_done, work_refused, reply_line}
 use Rattle.fb_wire.specs.Said.{said_to}
 use Rattle.fb_messages.specs.ReplyView.{data_of, refusal_text}
 use Rattle.fb_wire.specs.declared.answer.Round.{Round}
 use Rattle.fb_wire.specs.declared.answer.Round.TheVariants as rounds
 use Rattle.fb_messages.specs.declared.reply.Reply.{Reply}
+use Rattle.fb_messages.specs.declared.reply.Refusal.{Refusal}
+use Rattle.fb_messages.specs.declared.reply.Refusal.TheVariants as because
 use Rattle.fb_wire.specs.declared.answer.Taking.{Taking}
 use Rattle.fb_wire.specs.declared.answer.Taking.TheVariants.{Job, Ended}
 
 -- some calls and checkpoints of the plan lead the desk from old to new, and this is left of it
-abbrev pub Reaches : {S : Type 0} → (S → Deed → Answer → S → Type 0) → Plan → S → Plan → S → Type 0
-Reaches Step plan old rest new = (pairs : List Pair) × Leads plan pairs rest × Runs Step old pairs new
+abbrev pub Reaches : {S : Type 0} → (S → Exchange → S → Type 0) → Plan → S → Plan → S → Type 0
+Reaches Step plan old rest new = (pairs : List Exchange) × Leads plan pairs rest × Runs Step old pairs new
 
 -- the plan came to its reply, or memory ran out on the way
-abbrev pub Served : {S : Type 0} → (S → Deed → Answer → S → Type 0) → Plan → S → Result Reply AllocError → Jobs → S → Type 0
+abbrev pub Served : {S : Type 0} → (S → Exchange → S → Type 0) → Plan → S → Result Reply AllocError → Jobs → S → Type 0
 Served Step plan old (Ok reply) held new = Reaches Step plan old (says (data_of reply) held) new
 Served Step plan old (Err e) held new = (rest : Plan) × Reaches Step plan old rest new
 
--- the answer that a call's result is, or none for want of memory
+-- the answer of a desk that does not record a call, or none for want of memory
+abbrev pub unrecorded : DeskRefused → Option Answer
+unrecorded HistoryFull = Some FullHistory
+unrecorded Behind = Some BehindHistory
+unrecorded Memory = None
+
+-- the answer that a call's result is
 abbrev pub answer_in : {R : Type 0} → (R → MachineReply) → Result R DeskRefused → Option Answer
 answer_in reply_of (Ok r) = Some (Replied (reply_of r))
-answer_in reply_of (Err HistoryFull) = Some FullHistory
-answer_in reply_of (Err Behind) = Some BehindHistory
-answer_in reply_of (Err Memory) = None
+answer_in reply_of (Err why) = unrecorded why
 
--- the same of a checkpoint's result
-abbrev pub checked_in : Result ℕ DeskCheckpointRefused → Option Answer
+-- the word that a reply has for it, or none for want of memory
+abbrev pub refusal_for : DeskRefused → Option Refusal
+refusal_for HistoryFull = Some because.HistoryFull
+refusal_for Behind = Some because.Behind
+refusal_for Memory = None
+
+-- the answer that a checkpoint's result is, or none for want of memory
+abbrev pub checked_in : Result ℕ DeskCheckpointRefused → Option CheckpointAnswer
 checked_in (Ok before) = Some (Checked (KeptUpTo before))
 checked_in (Err (checkpoint.UnitsOver units)) = Some (Checked (OverUnits units))
 checked_in (Err checkpoint.NumbersOver) = Some (Checked OverNumbers)
@@ -55,9 +67,9 @@ checked_in (Err checkpoint.NotAlone) = Some SharedHistory
 checked_in (Err checkpoint.Memory) = None
 
 -- the reply that was made, as JSON
-abbrev pub reply_in : Result Reply AllocError → Option Data
-reply_in (Ok reply) = Some (data_of reply)
-reply_in (Err e) = None
+abbrev pub data_in : Result Reply AllocError → Option Data
+data_in (Ok reply) = Some (data_of reply)
+data_in (Err e) = None
 
 -- what is left of a work's plan after one round, where `more` goes on with a count
 abbrev pub left_after : Jobs → ℕ → (ℕ → Plan) → Round → Plan
@@ -66,9 +78,9 @@ left_after held count more rounds.Refused = more count
 left_after held count more rounds.Nothing = says (work_done count) held
 left_after held count more (rounds.Stopped refusal) = says (work_refused count (refusal_text refusal)) held
 
-abbrev pub RoundServed : {S : Type 0} → (S → Deed → Answer → S → Type 0) → Jobs → ℕ → (ℕ → Plan) → S → Result Round AllocError → S → Type 0
-RoundServed Step held count more old (Ok round) new = Reaches Step (asks (Makes ToTake) (after_take held count more)) old (left_after held count more round) new
-RoundServed Step held count more old (Err e) new = (rest : Plan) × Reaches Step (asks (Makes ToTake) (after_take held count more)) old rest new
+abbrev pub RoundServed : {S : Type 0} → (S → Exchange → S → Type 0) → Jobs → ℕ → (ℕ → Plan) → S → Result Round AllocError → S → Type 0
+RoundServed Step held count more old (Ok round) new = Reaches Step (asks ToTake (after_take held count more)) old (left_after held count more round) new
+RoundServed Step held count more old (Err e) new = (rest : Plan) × Reaches Step (asks ToTake (after_take held count more)) old rest new
 
 -- the job is the one that was taken, or the round says how the answer ends the work
 abbrev pub Takes : Option Answer → Result Taking AllocError → Type 0
@@ -85,7 +97,7 @@ KeepsTaken old (Some answer) (Some reply) new = (reply ≡ said_to (length old +
 -- ---- lines
 
 -- what was said to a line: nothing to a blank one
-abbrev pub LineServed : {S : Type 0} → (S → Deed → Answer → S → Type 0) → List ℕ → Jobs → S → Result (Option (Vec ℕ Global)) AllocError → Jobs → S → Type 0
+abbrev pub LineServed : {S : Type 0} → (S → Exchange → S → Type 0) → List ℕ → Jobs → S → Result (Option (Vec ℕ Global)) AllocError → Jobs → S → Type 0
 LineServed Step line old_jobs old (Ok None) jobs new = (is_blank line ≡ true) × (jobs ≡ old_jobs) × (new ≡ old)
 LineServed Step line old_jobs old (Ok (Some out)) jobs new =
     (is_blank line ≡ false) × (reply : Data) × Reaches Step (plan_of old_jobs (request_of line)) old (says reply jobs) new × (out.items ≡ reply_line reply)
@@ -98,27 +110,27 @@ IsPartAt end.WriteFailed rest part = IsFrontOfReply rest part
 IsPartAt end.Memory rest part = IsNothing rest part
 IsPartAt _ rest part = ⊥
 
-abbrev pub LineSaid : {S : Type 0} → (S → Deed → Answer → S → Type 0) → List ℕ → Jobs → S → List ℕ → Result ⊤ RunEnd → Jobs → S → List ℕ → Type 0
+abbrev pub LineSaid : {S : Type 0} → (S → Exchange → S → Type 0) → List ℕ → Jobs → S → List ℕ → Result ⊤ RunEnd → Jobs → S → List ℕ → Type 0
 LineSaid Step line old_jobs old old_held (Ok u) jobs new held =
-    (pairs : List Pair) × (out : List ℕ) × LineTalk line old_jobs pairs out jobs × Runs Step old pairs new × (held ≡ old_held ++ out)
+    (pairs : List Exchange) × (out : List ℕ) × LineTalk line old_jobs pairs out jobs × Runs Step old pairs new × (held ≡ old_held ++ out)
 LineSaid Step line old_jobs old old_held (Err stop) jobs new held =
-    (pairs : List Pair) × (part : List ℕ) × (rest : Plan) × (is_blank line ≡ false) × Leads (plan_of old_jobs (request_of line)) pairs rest
+    (pairs : List Exchange) × (part : List ℕ) × (rest : Plan) × (is_blank line ≡ false) × Leads (plan_of old_jobs (request_of line)) pairs rest
     × Runs Step old pairs new × (held ≡ old_held ++ part) × IsPartAt stop rest part
 
 -- ---- bytes
 
 -- all lines that have their line feed were answered, and this has come of the next one
-abbrev pub Standing : {S : Type 0} → (S → Deed → Answer → S → Type 0) → S → List ℕ → List ℕ → Jobs → List ℕ → S → Type 0
+abbrev pub Standing : {S : Type 0} → (S → Exchange → S → Type 0) → S → List ℕ → List ℕ → Jobs → List ℕ → S → Type 0
 Standing Step start given partial jobs out new =
-    (lines : List (List ℕ)) × (pairs : List Pair) × (lines_of given ≡ lines ++ partial ∷ []) × Fits partial × Talk lines [] pairs out jobs × Runs Step start pairs new
+    (lines : List (List ℕ)) × (pairs : List Exchange) × (lines_of given ≡ lines ++ partial ∷ []) × Fits partial × Talk lines [] pairs out jobs × Runs Step start pairs new
 
 -- A piece of the bytes was taken, whatever came before it; or the run stops in it, with these bytes behind it.
-abbrev pub PieceTaken : {S : Type 0} → (S → Deed → Answer → S → Type 0) → S → List ℕ → Jobs → List ℕ → List ℕ → List ℕ → Result ⊤ RunEnd → S → List ℕ → Jobs → List ℕ → Type 0
+abbrev pub PieceTaken : {S : Type 0} → (S → Exchange → S → Type 0) → S → List ℕ → Jobs → List ℕ → List ℕ → List ℕ → Result ⊤ RunEnd → S → List ℕ → Jobs → List ℕ → Type 0
 PieceTaken {S} Step old old_line old_jobs old_held piece behind result new line jobs held =
     (start : S) (given out : List ℕ) → Standing Step start given old_line old_jobs out old →
     MatchResult result
     (λ _. (more : List ℕ) × (held ≡ old_held ++ more) × Standing Step start (given ++ piece) line jobs (out ++ more) new)
-    (λ stop. (more : List ℕ) × (pairs : List Pair) × (held ≡ old_held ++ more) × Runs Step start pairs new × Stands stop (given ++ (piece ++ behind)) pairs (out ++ more))
+    (λ stop. (more : List ℕ) × (pairs : List Exchange) × (held ≡ old_held ++ more) × Runs Step start pairs new × Stands stop (given ++ (piece ++ behind)) pairs (out ++ more))
 
 -- the line has the bytes at its end, unless it would be too long or memory ran out
 abbrev pub Extends : List ℕ → List ℕ → Result ⊤ RunEnd → List ℕ → Type 0

@@ -1,5 +1,6 @@
 -- What is said to each line, and what it asks of a desk.
-use Rattle.std.specs.Prelude.{◌≡◌, ℕ, zero, suc, ◌+◌, List, [], ◌∷◌, ◌++◌, length, take, map, codes, MatchBool, nat_le, Option, Some, None, Result, Ok, Err, if◌then◌else◌, slice_get}
+use Rattle.std.specs.Prelude.{◌≡◌, ◌⊎◌, ℕ, zero, suc, ◌+◌, List, [], ◌∷◌, ◌++◌, length, take, map, MatchBool, nat_le, Option, Some, None, Result, Ok, Err, if◌then◌else◌, slice_get}
+use mathlib.Core.Logic.{inl, inr}
 use Rattle.serde_json.specs.Data.{Data}
 use Rattle.fb_text.specs.Name.{name_of}
 use Rattle.fb_text.specs.declared.name.NameFault.{NameFault}
@@ -7,11 +8,14 @@ use Rattle.fb_library.specs.Parse.Source.{longest_text}
 use Rattle.fb_library.specs.Texts.{Edit, Puts, Removes}
 use Rattle.fb_messages.specs.Jobs.Reads.{PlainJob}
 use Rattle.fb_bench.specs.History.Machine.{most_changes, Call, ToCommit, ToTake, ToDeliver, ToGiveBack, ToAsk, OfTake, OfDeliver}
-use Rattle.fb_bench.specs.Calls.{Answer, Deed, Makes, Keeps, Replied, FullHistory, BehindHistory, Checked, SharedHistory}
+use Rattle.fb_bench.specs.History.Limits.{Bounds}
+use Rattle.fb_bench.specs.Calls.{Answer, Replied, FullHistory, BehindHistory, CheckpointAnswer, Exchange, AskedCall, AskedCheckpoint}
 use Rattle.fb_bench.specs.History.declared.answers.Delivered.TheVariants.{Accepted}
 use Rattle.fb_wire.specs.Lines.{Fits, is_blank}
 use Rattle.fb_messages.specs.Replies.{refused, work_done, work_refused, reply_line}
-use Rattle.fb_wire.specs.Said.{said_to}
+use Rattle.fb_messages.specs.ReplyView.{refusal_text}
+use Rattle.fb_messages.specs.declared.reply.Refusal.TheVariants as because
+use Rattle.fb_wire.specs.Said.{said_to, checkpoint_said}
 use Rattle.fb_messages.specs.Requests as asked
 use Rattle.fb_messages.specs.Requests.{Request, Change, puts, removes, request_of}
 
@@ -19,41 +23,44 @@ use Rattle.fb_messages.specs.Requests.{Request, Change, puts, removes, request_o
 abbrev pub Jobs : Type 0
 Jobs = List PlainJob
 
--- a call or a checkpoint, and its answer
-abbrev pub Pair : Type 0
-Pair = Deed × Answer
+abbrev pub answer_of : Exchange → Answer ⊎ CheckpointAnswer
+answer_of (AskedCall call answer) = inl answer
+answer_of (AskedCheckpoint limits answer) = inr answer
 
-abbrev pub answers_of : List Pair → List Answer
-answers_of pairs = map (λ (p : Pair). p.1) pairs
+abbrev pub answers_of : List Exchange → List (Answer ⊎ CheckpointAnswer)
+answers_of exchanges = map answer_of exchanges
 
 -- Calls and checkpoints, each after the answer to the one before, and at the end a reply and the jobs that are held then.
 pub data Plan : Type 0 where
   says : Data → Jobs → Plan
-  asks : Deed → (Answer → Plan) → Plan
+  asks : Call → (Answer → Plan) → Plan
+  checks : Bounds → (CheckpointAnswer → Plan) → Plan
 
 -- These calls and checkpoints with these answers are the plan's first ones, and this is what is left of it.
-abbrev pub Leads : Plan → List Pair → Plan → Type 0
+abbrev pub Leads : Plan → List Exchange → Plan → Type 0
 Leads plan [] rest = rest ≡ plan
-Leads (says reply jobs) (p ∷ ps) rest = ⊥
-Leads (asks deed next) (p ∷ ps) rest = (p.0 ≡ deed) × Leads (next p.1) ps rest
+Leads (asks call next) (AskedCall made answer ∷ more) rest = (made ≡ call) × Leads (next answer) more rest
+Leads (checks limits next) (AskedCheckpoint made answer ∷ more) rest = (made ≡ limits) × Leads (next answer) more rest
+Leads plan (exchange ∷ more) rest = ⊥
 
 -- ---- the plan of each request
 
--- one call or checkpoint, whose answer is the reply
-abbrev pub deed_once : Jobs → Deed → Plan
-deed_once held deed = asks deed (λ answer. says (said_to 0 answer) held)
-
+-- one call, whose answer is the reply
 abbrev pub call_once : Jobs → Call → Plan
-call_once held call = deed_once held (Makes call)
+call_once held call = asks call (λ answer. says (said_to 0 answer) held)
+
+-- one checkpoint, whose answer is the reply
+abbrev pub checkpoint_once : Jobs → Bounds → Plan
+checkpoint_once held limits = checks limits (λ answer. says (checkpoint_said answer) held)
 
 abbrev pub with_name : Jobs → Result (List ℕ) NameFault → (List ℕ → Plan) → Plan
-with_name held (Err fault) next = says (refused (codes "BadName")) held
+with_name held (Err fault) next = says (refused (refusal_text because.BadName)) held
 with_name held (Ok unit) next = next unit
 
 -- a change as an edit of texts, or why it is refused
 abbrev pub edit_named : Change → Result (List ℕ) NameFault → Result Edit (List ℕ)
-edit_named change (Err fault) = Err (codes "BadName")
-edit_named (puts name base text) (Ok unit) = if nat_le (length text) longest_text then Ok (Puts unit base text) else Err (codes "TextTooLong")
+edit_named change (Err fault) = Err (refusal_text because.BadName)
+edit_named (puts name base text) (Ok unit) = if nat_le (length text) longest_text then Ok (Puts unit base text) else Err (refusal_text because.TextTooLong)
 edit_named (removes name base) (Ok unit) = Ok (Removes unit base)
 
 abbrev pub name_in : Change → List ℕ
@@ -92,11 +99,11 @@ held_after held _ = held
 
 abbrev pub take_plan : Jobs → Plan
 take_plan held =
-    if nat_le most_held (length held) then says (refused (codes "TooManyJobs")) held
-    else asks (Makes ToTake) (λ answer. says (said_to (length held + 1) answer) (held_after held answer))
+    if nat_le most_held (length held) then says (refused (refusal_text because.TooManyJobs)) held
+    else asks ToTake (λ answer. says (said_to (length held + 1) answer) (held_after held answer))
 
 abbrev pub deliver_held : Jobs → Option PlainJob → Plan
-deliver_held held None = says (refused (codes "NoSuchJob")) held
+deliver_held held None = says (refused (refusal_text because.NoSuchJob)) held
 deliver_held held (Some order) = call_once held (ToDeliver order)
 
 -- jobs are numbered from 1
@@ -107,62 +114,57 @@ job_at held (suc place) = slice_get held place
 abbrev pub deliver_plan : Jobs → ℕ → Plan
 deliver_plan held number = deliver_held held (job_at held number)
 
--- After an answer to a delivery: the count of accepted results goes on, or the work is refused. No desk gives an answer of a checkpoint to a
--- call; after one the work would end.
+-- after an answer to a delivery: the count of accepted results goes on, or the work is refused
 abbrev pub after_deliver : Jobs → ℕ → (ℕ → Plan) → Answer → Plan
 after_deliver held count more (Replied (OfDeliver Accepted)) = more (count + 1)
 after_deliver held count more (Replied _) = more count
-after_deliver held count more FullHistory = says (work_refused count (codes "HistoryFull")) held
-after_deliver held count more BehindHistory = says (work_refused count (codes "Behind")) held
-after_deliver held count more (Checked checking) = says (work_done count) held
-after_deliver held count more SharedHistory = says (work_refused count (codes "NotAlone")) held
+after_deliver held count more FullHistory = says (work_refused count (refusal_text because.HistoryFull)) held
+after_deliver held count more BehindHistory = says (work_refused count (refusal_text because.Behind)) held
 
 -- after an answer to a take: the job is delivered, or the work is done or refused
 abbrev pub after_take : Jobs → ℕ → (ℕ → Plan) → Answer → Plan
-after_take held count more (Replied (OfTake (Some order))) = asks (Makes (ToDeliver order)) (after_deliver held count more)
+after_take held count more (Replied (OfTake (Some order))) = asks (ToDeliver order) (after_deliver held count more)
 after_take held count more (Replied _) = says (work_done count) held
-after_take held count more FullHistory = says (work_refused count (codes "HistoryFull")) held
-after_take held count more BehindHistory = says (work_refused count (codes "Behind")) held
-after_take held count more (Checked checking) = says (work_done count) held
-after_take held count more SharedHistory = says (work_refused count (codes "NotAlone")) held
+after_take held count more FullHistory = says (work_refused count (refusal_text because.HistoryFull)) held
+after_take held count more BehindHistory = says (work_refused count (refusal_text because.Behind)) held
 
 -- take, run and deliver, at most so many times; this many results were accepted before
 unfoldable pub work_plan : Jobs → ℕ → ℕ → Plan
 work_plan held zero count = says (work_done count) held
-work_plan held (suc turns) count = asks (Makes ToTake) (after_take held count (work_plan held turns))
+work_plan held (suc turns) count = asks ToTake (after_take held count (work_plan held turns))
 
 abbrev pub plan_of : Jobs → Option Request → Plan
-plan_of held None = says (refused (codes "BadRequest")) held
+plan_of held None = says (refused (refusal_text because.BadRequest)) held
 plan_of held (Some (asked.commit changes)) = commit_plan held (edits_in changes)
 plan_of held (Some (asked.ask kind unit)) = with_name held (name_of unit) (λ name. call_once held (ToAsk (record { kind = kind; unit = name })))
 plan_of held (Some (asked.work turns)) = work_plan held turns 0
 plan_of held (Some asked.take) = take_plan held
 plan_of held (Some (asked.deliver number)) = deliver_plan held number
 plan_of held (Some (asked.give_back kind unit)) = with_name held (name_of unit) (λ name. call_once held (ToGiveBack (record { kind = kind; unit = name })))
-plan_of held (Some (asked.checkpoint limits)) = deed_once held (Keeps limits)
+plan_of held (Some (asked.checkpoint limits)) = checkpoint_once held limits
 
 -- ---- lines
 
 -- what one line asks and is told, with the jobs that are held before it and after it
-abbrev pub LineTalk : List ℕ → Jobs → List Pair → List ℕ → Jobs → Type 0
+abbrev pub LineTalk : List ℕ → Jobs → List Exchange → List ℕ → Jobs → Type 0
 LineTalk line held pairs out after =
     MatchBool (is_blank line) ((pairs ≡ []) × (out ≡ []) × (after ≡ held))
     ((reply : Data) × Leads (plan_of held (request_of line)) pairs (says reply after) × (out ≡ reply_line reply))
 
 -- some of what one line asks, and the part of its reply that was written; a blank line asks and is told nothing
-abbrev pub LinePart : (Plan → List ℕ → Type 0) → List ℕ → Jobs → List Pair → List ℕ → Type 0
+abbrev pub LinePart : (Plan → List ℕ → Type 0) → List ℕ → Jobs → List Exchange → List ℕ → Type 0
 LinePart IsPart line held begun part =
     MatchBool (is_blank line) ((begun ≡ []) × (part ≡ []))
     ((rest : Plan) × Leads (plan_of held (request_of line)) begun rest × IsPart rest part)
 
 -- the lines, one after another; none of them is too long
-abbrev pub Talk : List (List ℕ) → Jobs → List Pair → List ℕ → Jobs → Type 0
+abbrev pub Talk : List (List ℕ) → Jobs → List Exchange → List ℕ → Jobs → Type 0
 Talk [] held pairs out after = (pairs ≡ []) × (out ≡ []) × (after ≡ held)
 Talk (line ∷ lines) held pairs out after =
-    (first rest : List Pair) × (said more : List ℕ) × (mid : Jobs) × (pairs ≡ first ++ rest) × (out ≡ said ++ more)
+    (first rest : List Exchange) × (said more : List ℕ) × (mid : Jobs) × (pairs ≡ first ++ rest) × (out ≡ said ++ more)
     × Fits line × LineTalk line held first said mid × Talk lines mid rest more after
 
 -- from the first state to the second by these calls and checkpoints with these answers
-abbrev pub Runs : {S : Type 0} → (S → Deed → Answer → S → Type 0) → S → List Pair → S → Type 0
+abbrev pub Runs : {S : Type 0} → (S → Exchange → S → Type 0) → S → List Exchange → S → Type 0
 Runs Step old [] new = new ≡ old
-Runs {S} Step old (p ∷ ps) new = (mid : S) × Step old p.0 p.1 mid × Runs Step mid ps new
+Runs {S} Step old (p ∷ ps) new = (mid : S) × Step old p mid × Runs Step mid ps new

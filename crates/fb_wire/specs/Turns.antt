@@ -1,13 +1,13 @@
 -- For private clauses: what one read comes to.
 use Rattle.std.specs.Prelude.{⊤, List, ℕ, Result}
-use Rattle.fb_bench.specs.Calls.{Answer, Deed}
+use Rattle.fb_bench.specs.Calls.{Exchange}
 use Rattle.fb_wire.specs.Served.{PieceTaken}
 use Rattle.fb_wire.specs.declared.end.RunEnd.{RunEnd}
 use Rattle.fb_wire.specs.declared.end.RunEnd.TheVariants as end
 use Rattle.fb_wire.specs.declared.line.Conversation.{Conversation}
 
 -- the conversation takes a piece of the bytes, by its line and its jobs
-abbrev pub TakesPiece : {S : Type 0} → (S → Deed → Answer → S → Type 0) → S → Conversation → List ℕ → List ℕ → List ℕ → Result ⊤ RunEnd → S → Conversation → List ℕ → Type 0
+abbrev pub TakesPiece : {S : Type 0} → (S → Exchange → S → Type 0) → S → Conversation → List ℕ → List ℕ → List ℕ → Result ⊤ RunEnd → S → Conversation → List ℕ → Type 0
 TakesPiece Step old old_talk old_held piece behind result new talk held =
     PieceTaken Step old old_talk.line.items old_talk.held.items old_held piece behind result new talk.line.items talk.held.items held
 

@@ -3,17 +3,20 @@ ghost use Rattle.std.specs.Prelude.{◌≡◌, ℕ, Some, option_map, length, ma
 ghost use Rattle.std.specs.Option.{option_copied};
 ghost use Rattle.std.specs.Result.{result_ok};
 ghost use Rattle.fb_text.specs.Name.{name_of};
-ghost use Rattle.fb_bench.specs.Calls.{Keeps, take_reply, ask_reply};
-ghost use Rattle.fb_bench.specs.History.Machine.{ToCommit, ToDeliver, ToGiveBack, ToAsk, OfCommit, OfDeliver, OfGiveBack};
+ghost use Rattle.fb_bench.specs.Calls.{Exchanges, take_reply};
+ghost use Rattle.fb_bench.specs.History.Machine.{ToCommit, ToDeliver, ToGiveBack, ToAsk, OfDeliver};
+ghost use Rattle.fb_bench.specs.Requests.{call_for, reply_in};
 ghost use Rattle.fb_bench.specs.Records.{listed};
-ghost use Rattle.fb_wire.specs.Said.{said_to};
+ghost use Rattle.fb_messages.specs.ReplyView.{data_of};
+ghost use Rattle.fb_wire.specs.Said.{said_to, reply_said, checkpoint_said};
 ghost use Rattle.fb_messages.specs.RequestView.{change_view, request_view};
-ghost use Rattle.fb_wire.specs.Served.{Served, RoundServed, KeepsTaken, Takes, left_after, answer_in, checked_in, reply_in};
-ghost use Rattle.fb_wire.specs.Talk.{plan_of, with_name, commit_plan, edits_in, Jobs, Plan, after_deliver, call_once, deed_once, job_at, take_plan, deliver_plan, work_plan};
+ghost use Rattle.fb_wire.specs.Served.{Served, RoundServed, KeepsTaken, Takes, left_after, unrecorded, answer_in, checked_in, refusal_for, data_in};
+ghost use Rattle.fb_wire.specs.Talk.{plan_of, with_name, commit_plan, edits_in, Jobs, Plan, after_deliver, call_once, checkpoint_once, job_at, take_plan, deliver_plan, work_plan};
 
 use crate::change::{ChangeFault, changes_of};
 use fb_bench::{
-    Asked, Committed, Delivered, Desk, DeskCheckpointRefused, DeskRefused, GivenBack, Limits, Taken,
+    Answered, Asked, Committed, Delivered, Desk, DeskCheckpointRefused, DeskRefused, GivenBack,
+    Limits, Taken,
 };
 use fb_library::Change;
 use fb_messages::jobs::{Finished, Job, Key, Kind};
@@ -24,69 +27,71 @@ use std::alloc::{AllocError, Global};
 /// How many jobs a run may hold.
 const MOST_HELD: usize = 64;
 
-fn commit_reply(committed: &Result<Committed, DeskRefused>) -> Result<Reply, AllocError>
-    ensures { option_map (said_to 0) (answer_in OfCommit committed.now) ≡ reply_in result }
+/// The word for why a desk does not record a call, or want of memory.
+fn refusal_of(refused: DeskRefused) -> Result<Refusal, AllocError>
+    ensures { result_ok result ≡ refusal_for refused }
 {
-    match committed {
-        Ok(Committed::Done(number)) => Ok(Reply::Committed(*number)),
-        Ok(Committed::NoChange) => Ok(Reply::Refused(Refusal::NoChange)),
-        Ok(Committed::TooManyChanges) => Ok(Reply::Refused(Refusal::TooManyChanges)),
-        Ok(Committed::SameUnitTwice(unit)) => {
-            Ok(Reply::RefusedUnit(Refusal::SameUnitTwice, *unit))
+    match refused {
+        DeskRefused::HistoryFull => Ok(Refusal::HistoryFull),
+        DeskRefused::Behind => Ok(Refusal::Behind),
+        DeskRefused::Memory => Err(AllocError),
+    }
+}
+
+/// The reply to an answer of a desk. A job gets this number.
+fn reply_to(answered: Answered, job_number: u64) -> Reply
+    ensures { data_of result ≡ reply_said job_number (reply_in answered) }
+{
+    match answered {
+        Answered::Commit(Committed::Done(number)) => Reply::Committed(number),
+        Answered::Commit(Committed::NoChange) => Reply::Refused(Refusal::NoChange),
+        Answered::Commit(Committed::TooManyChanges) => Reply::Refused(Refusal::TooManyChanges),
+        Answered::Commit(Committed::SameUnitTwice(unit)) => {
+            Reply::RefusedUnit(Refusal::SameUnitTwice, unit)
         }
-        Ok(Committed::StaleBase { unit, current }) => Ok(Reply::StaleBase {
-            unit: *unit,
-            current: *current,
-        }),
-        Ok(Committed::NoSuchUnit(unit)) => Ok(Reply::RefusedUnit(Refusal::NoSuchUnit, *unit)),
-        Ok(Committed::TooManyUnits) => Ok(Reply::Refused(Refusal::TooManyUnits)),
-        Err(DeskRefused::HistoryFull) => Ok(Reply::Refused(Refusal::HistoryFull)),
-        Err(DeskRefused::Behind) => Ok(Reply::Refused(Refusal::Behind)),
-        Err(DeskRefused::Memory) => Err(AllocError),
+        Answered::Commit(Committed::StaleBase { unit, current }) => {
+            Reply::StaleBase { unit, current }
+        }
+        Answered::Commit(Committed::NoSuchUnit(unit)) => {
+            Reply::RefusedUnit(Refusal::NoSuchUnit, unit)
+        }
+        Answered::Commit(Committed::TooManyUnits) => Reply::Refused(Refusal::TooManyUnits),
+        Answered::Take(Taken::Job(job)) => Reply::Job(job_number, job.key()),
+        Answered::Take(Taken::Nothing) => Reply::NoJob,
+        Answered::Deliver(Delivered::Accepted) => Reply::Delivered,
+        Answered::Deliver(Delivered::NoSuchKey) => Reply::Refused(Refusal::NoSuchKey),
+        Answered::Deliver(Delivered::NotPending) => Reply::Refused(Refusal::NotPending),
+        Answered::Deliver(Delivered::Stale(unit)) => Reply::RefusedUnit(Refusal::Stale, unit),
+        Answered::GiveBack(GivenBack::Returned) => Reply::GivenBack(true),
+        Answered::GiveBack(GivenBack::NothingOut) => Reply::GivenBack(false),
+        Answered::Ask(Asked::Value(value)) => Reply::Found(value),
+        Answered::Ask(Asked::Pending) => Reply::Pending,
+        Answered::Ask(Asked::NoSuchKey) => Reply::Refused(Refusal::NoSuchKey),
     }
 }
 
-fn deliver_reply(delivered: &Result<Delivered, DeskRefused>) -> Result<Reply, AllocError>
-    ensures { option_map (said_to 0) (answer_in OfDeliver delivered.now) ≡ reply_in result }
+/// The reply to a call, of which no job is kept.
+fn call_reply(performed: Result<Answered, DeskRefused>) -> Result<Reply, AllocError>
+    ensures { option_map (said_to 0) (answer_in reply_in performed) ≡ data_in result }
 {
-    match delivered {
-        Ok(Delivered::Accepted) => Ok(Reply::Delivered),
-        Ok(Delivered::NoSuchKey) => Ok(Reply::Refused(Refusal::NoSuchKey)),
-        Ok(Delivered::NotPending) => Ok(Reply::Refused(Refusal::NotPending)),
-        Ok(Delivered::Stale(unit)) => Ok(Reply::RefusedUnit(Refusal::Stale, *unit)),
-        Err(DeskRefused::HistoryFull) => Ok(Reply::Refused(Refusal::HistoryFull)),
-        Err(DeskRefused::Behind) => Ok(Reply::Refused(Refusal::Behind)),
-        Err(DeskRefused::Memory) => Err(AllocError),
+    match performed {
+        Ok(answered) => Ok(reply_to(answered, 0)),
+        Err(refused) => refused_reply(refused),
     }
 }
 
-fn give_back_reply(given_back: Result<GivenBack, DeskRefused>) -> Result<Reply, AllocError>
-    ensures { option_map (said_to 0) (answer_in OfGiveBack given_back) ≡ reply_in result }
+/// The reply to a call that is not recorded.
+fn refused_reply(refused: DeskRefused) -> Result<Reply, AllocError>
+    ensures { (n : ℕ) → option_map (said_to n) (unrecorded refused) ≡ data_in result }
 {
-    match given_back {
-        Ok(GivenBack::Returned) => Ok(Reply::GivenBack(true)),
-        Ok(GivenBack::NothingOut) => Ok(Reply::GivenBack(false)),
-        Err(DeskRefused::HistoryFull) => Ok(Reply::Refused(Refusal::HistoryFull)),
-        Err(DeskRefused::Behind) => Ok(Reply::Refused(Refusal::Behind)),
-        Err(DeskRefused::Memory) => Err(AllocError),
-    }
-}
-
-fn shown_reply(asked: Result<Asked, DeskRefused>) -> Result<Reply, AllocError>
-    ensures { option_map (said_to 0) (answer_in ask_reply asked) ≡ reply_in result }
-{
-    match asked {
-        Ok(Asked::Value(value)) => Ok(Reply::Found(value)),
-        Ok(Asked::Pending) => Ok(Reply::Pending),
-        Ok(Asked::NoSuchKey) => Ok(Reply::Refused(Refusal::NoSuchKey)),
-        Err(DeskRefused::HistoryFull) => Ok(Reply::Refused(Refusal::HistoryFull)),
-        Err(DeskRefused::Behind) => Ok(Reply::Refused(Refusal::Behind)),
-        Err(DeskRefused::Memory) => Err(AllocError),
+    match refusal_of(refused) {
+        Ok(refusal) => Ok(Reply::Refused(refusal)),
+        Err(e) => Err(e),
     }
 }
 
 fn checkpoint_reply(checked: Result<u64, DeskCheckpointRefused>) -> Result<Reply, AllocError>
-    ensures { option_map (said_to 0) (checked_in checked) ≡ reply_in result }
+    ensures { option_map checkpoint_said (checked_in checked) ≡ data_in result }
 {
     match checked {
         Ok(before) => Ok(Reply::Checkpointed(before)),
@@ -97,14 +102,25 @@ fn checkpoint_reply(checked: Result<u64, DeskCheckpointRefused>) -> Result<Reply
     }
 }
 
+/// Makes one call, whose answer is the reply.
+// Works around the borrow checker: both types that a `fb_bench::Request` can borrow must occur in a function that makes one.
+fn answer_call<D: Desk>(desk: &mut D, call: &fb_bench::Request<'_>) -> Result<Reply, AllocError>
+    ensures { (held : Jobs)
+        → Served (Exchanges D.step D.checkpoint_step)
+        (call_once held (call_for call.now)) desk.old result held desk.new }
+{
+    let performed = desk.perform(call);
+    call_reply(performed)
+}
+
 /// Asks for a commit of changes that were read.
 fn answer_changes<D: Desk>(desk: &mut D, changes: &[Change]) -> Result<Reply, AllocError>
     ensures { (held : Jobs)
-        → Served D.step
+        → Served (Exchanges D.step D.checkpoint_step)
         (call_once held (ToCommit (listed changes.now))) desk.old result held desk.new }
 {
-    let committed = desk.commit(changes);
-    commit_reply(&committed)
+    let _finished: Option<&Finished> = None;
+    answer_call(desk, &fb_bench::Request::Commit(changes))
 }
 
 fn answer_commit<D: Desk>(
@@ -113,7 +129,7 @@ fn answer_commit<D: Desk>(
     asked: &[AskedChange<'_>],
 ) -> Result<Reply, AllocError>
     ensures { (held : Jobs)
-        → Served D.step
+        → Served (Exchanges D.step D.checkpoint_step)
         (commit_plan held (edits_in (map change_view asked.now))) desk.old result held desk.new }
 {
     match changes_of(alloc, asked) {
@@ -123,25 +139,9 @@ fn answer_commit<D: Desk>(
     }
 }
 
-fn answer_ask<D: Desk>(desk: &mut D, key: Key) -> Result<Reply, AllocError>
-    ensures { (held : Jobs)
-        → Served D.step (call_once held (ToAsk key)) desk.old result held desk.new }
-{
-    let asked = desk.ask(key);
-    shown_reply(asked)
-}
-
-fn answer_give_back<D: Desk>(desk: &mut D, key: Key) -> Result<Reply, AllocError>
-    ensures { (held : Jobs)
-        → Served D.step (call_once held (ToGiveBack key)) desk.old result held desk.new }
-{
-    let given_back = desk.give_back(key);
-    give_back_reply(given_back)
-}
-
 fn answer_checkpoint<D: Desk>(desk: &mut D, limits: Limits) -> Result<Reply, AllocError>
     ensures { (held : Jobs)
-        → Served D.step (deed_once held (Keeps limits)) desk.old result held desk.new }
+        → Served (Exchanges D.step D.checkpoint_step) (checkpoint_once held limits) desk.old result held desk.new }
 {
     let checked = desk.checkpoint(limits);
     checkpoint_reply(checked)
@@ -149,16 +149,17 @@ fn answer_checkpoint<D: Desk>(desk: &mut D, limits: Limits) -> Result<Reply, All
 
 fn answer_deliver<D: Desk>(desk: &mut D, finished: &Finished) -> Result<Reply, AllocError>
     ensures { (held : Jobs)
-        → Served D.step (call_once held (ToDeliver finished.now)) desk.old result held desk.new }
+        → Served (Exchanges D.step D.checkpoint_step)
+        (call_once held (ToDeliver finished.now)) desk.old result held desk.new }
 {
-    let delivered = desk.deliver(finished);
-    deliver_reply(&delivered)
+    let _changes: &[Change] = &[];
+    answer_call(desk, &fb_bench::Request::Deliver(finished))
 }
 
 /// Keeps a taken job with those that are held.
 fn keep_taken(held: &mut Vec<Job>, taken: Result<Taken, DeskRefused>) -> Result<Reply, AllocError>
     ensures { KeepsTaken held.old.items (answer_in take_reply taken)
-        (reply_in result) held.new.items }
+        (data_in result) held.new.items }
 {
     match taken {
         Ok(Taken::Job(job)) => {
@@ -170,14 +171,12 @@ fn keep_taken(held: &mut Vec<Job>, taken: Result<Taken, DeskRefused>) -> Result<
             Ok(Reply::Job(number, key))
         }
         Ok(Taken::Nothing) => Ok(Reply::NoJob),
-        Err(DeskRefused::HistoryFull) => Ok(Reply::Refused(Refusal::HistoryFull)),
-        Err(DeskRefused::Behind) => Ok(Reply::Refused(Refusal::Behind)),
-        Err(DeskRefused::Memory) => Err(AllocError),
+        Err(refused) => refused_reply(refused),
     }
 }
 
 fn answer_take<D: Desk>(desk: &mut D, held: &mut Vec<Job>) -> Result<Reply, AllocError>
-    ensures { Served D.step (take_plan held.old.items) desk.old result held.new.items desk.new }
+    ensures { Served (Exchanges D.step D.checkpoint_step) (take_plan held.old.items) desk.old result held.new.items desk.new }
 {
     if held.len() >= MOST_HELD {
         return Ok(Reply::Refused(Refusal::TooManyJobs));
@@ -200,7 +199,7 @@ fn held_job(held: &[Job], number: u64) -> Option<&Job>
 /// Runs a job, and delivers its result.
 fn answer_job<D: Desk>(alloc: Global, desk: &mut D, job: &Job) -> Result<Reply, AllocError>
     ensures { (held : Jobs)
-        → Served D.step (call_once held (ToDeliver job.now)) desk.old result held desk.new }
+        → Served (Exchanges D.step D.checkpoint_step) (call_once held (ToDeliver job.now)) desk.old result held desk.new }
 {
     match job.run(alloc) {
         Ok(finished) => answer_deliver(desk, &finished),
@@ -214,7 +213,7 @@ fn answer_number<D: Desk>(
     held: &[Job],
     number: u64,
 ) -> Result<Reply, AllocError>
-    ensures { Served D.step (deliver_plan held.now number) desk.old result held.now desk.new }
+    ensures { Served (Exchanges D.step D.checkpoint_step) (deliver_plan held.now number) desk.old result held.now desk.new }
 {
     match held_job(held, number) {
         None => Ok(Reply::Refused(Refusal::NoSuchJob)),
@@ -245,9 +244,10 @@ fn job_or_round(taken: Result<Taken, DeskRefused>) -> Result<Taking, AllocError>
     match taken {
         Ok(Taken::Job(job)) => Ok(Taking::Job(job)),
         Ok(Taken::Nothing) => Ok(Taking::Ended(Round::Nothing)),
-        Err(DeskRefused::HistoryFull) => Ok(Taking::Ended(Round::Stopped(Refusal::HistoryFull))),
-        Err(DeskRefused::Behind) => Ok(Taking::Ended(Round::Stopped(Refusal::Behind))),
-        Err(DeskRefused::Memory) => Err(AllocError),
+        Err(refused) => match refusal_of(refused) {
+            Ok(refusal) => Ok(Taking::Ended(Round::Stopped(refusal))),
+            Err(e) => Err(e),
+        },
     }
 }
 
@@ -261,16 +261,17 @@ fn round_by(delivered: Result<Delivered, DeskRefused>) -> Result<Round, AllocErr
         Ok(Delivered::NoSuchKey) => Ok(Round::Refused),
         Ok(Delivered::NotPending) => Ok(Round::Refused),
         Ok(Delivered::Stale(_)) => Ok(Round::Refused),
-        Err(DeskRefused::HistoryFull) => Ok(Round::Stopped(Refusal::HistoryFull)),
-        Err(DeskRefused::Behind) => Ok(Round::Stopped(Refusal::Behind)),
-        Err(DeskRefused::Memory) => Err(AllocError),
+        Err(refused) => match refusal_of(refused) {
+            Ok(refusal) => Ok(Round::Stopped(refusal)),
+            Err(e) => Err(e),
+        },
     }
 }
 
 /// Takes a job, runs it and delivers its result.
 fn work_once<D: Desk>(alloc: Global, desk: &mut D) -> Result<Round, AllocError>
     ensures { (held : Jobs) (count : ℕ) (more : ℕ → Plan)
-        → RoundServed D.step held count more desk.old result desk.new }
+        → RoundServed (Exchanges D.step D.checkpoint_step) held count more desk.old result desk.new }
 {
     let taken = desk.take();
     let job = match job_or_round(taken) {
@@ -286,7 +287,7 @@ fn work_once<D: Desk>(alloc: Global, desk: &mut D) -> Result<Round, AllocError>
 }
 
 fn answer_work<D: Desk>(alloc: Global, desk: &mut D, turns: u64) -> Result<Reply, AllocError>
-    ensures { (held : Jobs) → Served D.step (work_plan held turns 0) desk.old result held desk.new }
+    ensures { (held : Jobs) → Served (Exchanges D.step D.checkpoint_step) (work_plan held turns 0) desk.old result held desk.new }
 {
     let mut accepted = 0;
     for _round in 0..turns {
@@ -307,28 +308,32 @@ fn answer_work<D: Desk>(alloc: Global, desk: &mut D, turns: u64) -> Result<Reply
 /// Asks for the key of a kind and a name.
 fn answer_ask_named<D: Desk>(desk: &mut D, kind: Kind, unit: &str) -> Result<Reply, AllocError>
     ensures { (held : Jobs)
-        → Served D.step
+        → Served (Exchanges D.step D.checkpoint_step)
         (with_name held (name_of unit.now)
         (λ name. call_once held
         (ToAsk (record { kind = kind; unit = name })))) desk.old result held desk.new }
 {
+    let _changes: &[Change] = &[];
+    let _finished: Option<&Finished> = None;
     match Name::read(unit) {
         Err(_) => Ok(Reply::Refused(Refusal::BadName)),
-        Ok(unit) => answer_ask(desk, Key { kind, unit }),
+        Ok(unit) => answer_call(desk, &fb_bench::Request::Ask(Key { kind, unit })),
     }
 }
 
 /// Gives back the key of a kind and a name.
 fn answer_back_named<D: Desk>(desk: &mut D, kind: Kind, unit: &str) -> Result<Reply, AllocError>
     ensures { (held : Jobs)
-        → Served D.step
+        → Served (Exchanges D.step D.checkpoint_step)
         (with_name held (name_of unit.now)
         (λ name. call_once held
         (ToGiveBack (record { kind = kind; unit = name })))) desk.old result held desk.new }
 {
+    let _changes: &[Change] = &[];
+    let _finished: Option<&Finished> = None;
     match Name::read(unit) {
         Err(_) => Ok(Reply::Refused(Refusal::BadName)),
-        Ok(unit) => answer_give_back(desk, Key { kind, unit }),
+        Ok(unit) => answer_call(desk, &fb_bench::Request::GiveBack(Key { kind, unit })),
     }
 }
 
@@ -338,7 +343,7 @@ fn answer_request<D: Desk>(
     held: &mut Vec<Job>,
     request: &Request<'_>,
 ) -> Result<Reply, AllocError>
-    ensures { Served D.step
+    ensures { Served (Exchanges D.step D.checkpoint_step)
         (plan_of held.old.items
         (Some (request_view request.now))) desk.old result held.new.items desk.new }
 {
@@ -360,7 +365,7 @@ pub(crate) fn answer<D: Desk>(
     held: &mut Vec<Job>,
     request: &Option<Request<'_>>,
 ) -> Result<Reply, AllocError>
-    ensures { Served D.step
+    ensures { Served (Exchanges D.step D.checkpoint_step)
         (plan_of held.old.items
         (option_map request_view request.now)) desk.old result held.new.items desk.new }
 {

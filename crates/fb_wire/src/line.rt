@@ -1,5 +1,6 @@
 //! What is said to one line.
 ghost use Rattle.std.specs.Prelude.{◌≡◌, ◌↔◌, [], IsTrue, IfOk, IfErr, true, false, is_err};
+ghost use Rattle.fb_bench.specs.Calls.{Exchanges};
 ghost use Rattle.fb_wire.specs.Lines.{is_blank};
 ghost use Rattle.serde_json.specs.View.{view};
 ghost use Rattle.fb_messages.specs.Requests.{request_in, request_of};
@@ -30,7 +31,7 @@ fn answer_value<D: Desk>(
     held: &mut Vec<Job>,
     value: &Value,
 ) -> Result<Reply, AllocError>
-    ensures { Served D.step
+    ensures { Served (Exchanges D.step D.checkpoint_step)
         (plan_of held.old.items
         (request_in (view value.now))) desk.old result held.new.items desk.new }
 {
@@ -46,7 +47,7 @@ fn answer_bytes<D: Desk>(
     held: &mut Vec<Job>,
     line: &[u8],
 ) -> Result<Reply, AllocError>
-    ensures { Served D.step
+    ensures { Served (Exchanges D.step D.checkpoint_step)
         (plan_of held.old.items (request_of line.now)) desk.old result held.new.items desk.new }
 {
     match Value::from_slice(alloc, line) {
@@ -69,7 +70,7 @@ fn answer_line<D: Desk>(
     room: Vec<u8>,
     line: &[u8],
 ) -> Result<Option<Vec<u8>>, AllocError>
-    ensures { LineServed D.step line.now held.old.items desk.old result held.new.items desk.new }
+    ensures { LineServed (Exchanges D.step D.checkpoint_step) line.now held.old.items desk.old result held.new.items desk.new }
 {
     if is_blank(line) {
         return Ok(None);
@@ -132,7 +133,7 @@ pub(crate) fn say_line<D: Desk, S: Sink>(
     writer: &mut S,
 ) -> Result<(), RunEnd>
     requires { S.has_failed writer.old ≡ false }
-    ensures said { LineSaid D.step talk.old.line.items talk.old.held.items desk.old
+    ensures said { LineSaid (Exchanges D.step D.checkpoint_step) talk.old.line.items talk.old.held.items desk.old
         (S.held writer.old) result talk.new.held.items desk.new (S.held writer.new) }
     ensures flushed { StaysFlushed (S.is_flushed writer.old) (S.has_failed writer.new)
         (S.is_flushed writer.new) }

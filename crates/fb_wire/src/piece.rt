@@ -1,5 +1,6 @@
 //! Bytes as they come, and the lines in them.
 ghost use Rattle.std.specs.Prelude.{◌≡◌, ◌↔◌, ◌≤◌, ◌<◌, ◌+◌, ◌==◌, ℕ, List, ◌∷◌, [], ◌++◌, length, take, IsTrue, false, MatchOption, MatchResult, IfErr};
+ghost use Rattle.fb_bench.specs.Calls.{Exchanges};
 ghost use Rattle.fb_streams.specs.Streams.{StaysFlushed};
 ghost use Rattle.fb_wire.specs.Lines.{IsLine};
 ghost use Rattle.fb_wire.specs.Served.{Extends, StopsInside};
@@ -55,7 +56,7 @@ fn end_line<D: Desk, S: Sink>(
     requires line { IsLine front.now }
     // whatever comes behind them
     ensures taken { (behind : List ℕ)
-        → TakesPiece D.step desk.old talk.old (S.held writer.old)
+        → TakesPiece (Exchanges D.step D.checkpoint_step) desk.old talk.old (S.held writer.old)
         (front.now ++ 10 ∷ []) behind result desk.new talk.new (S.held writer.new) }
     ensures flushed { StaysFlushed (S.is_flushed writer.old) (S.has_failed writer.new)
         (S.is_flushed writer.new) }
@@ -84,7 +85,7 @@ pub(crate) fn take_piece<D: Desk, S: Sink>(
     piece: &[u8],
 ) -> Result<(), RunEnd>
     requires { S.has_failed writer.old ≡ false }
-    ensures taken { TakesPiece D.step desk.old talk.old
+    ensures taken { TakesPiece (Exchanges D.step D.checkpoint_step) desk.old talk.old
         (S.held writer.old) piece.now [] result desk.new talk.new (S.held writer.new) }
     ensures flushed { StaysFlushed (S.is_flushed writer.old) (S.has_failed writer.new)
         (S.is_flushed writer.new) }

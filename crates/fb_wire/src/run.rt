@@ -1,6 +1,7 @@
 //! The whole conversation.
 ghost use Rattle.std.specs.Prelude.{◌≡◌, ◌↔◌, ◌≤◌, ◌<◌, ◌+◌, ℕ, List, [], ◌++◌, length, IsTrue, IfErr, OnOk, Ok, Err, false};
 ghost use Rattle.std.specs.Io.KnownBytes.{Consumes, IsAtEnd};
+ghost use Rattle.fb_bench.specs.Calls.{Exchanges};
 ghost use Rattle.fb_bench.specs.Solo.{IsStep};
 ghost use Rattle.fb_streams.specs.Streams.{StaysFlushed};
 ghost use Rattle.fb_wire.specs.Ends.{IsTalk, streams};
@@ -26,7 +27,7 @@ fn end_talk<D: Desk, S: Sink>(
     writer: &mut S,
 ) -> RunEnd
     requires { S.has_failed writer.old ≡ false }
-    ensures taken { TakesPiece D.step desk.old talk.old (S.held writer.old) [] []
+    ensures taken { TakesPiece (Exchanges D.step D.checkpoint_step) desk.old talk.old (S.held writer.old) [] []
         (Err result) desk.new talk.new (S.held writer.new) }
     ensures flushed { StaysFlushed (S.is_flushed writer.old) (S.has_failed writer.new)
         (S.is_flushed writer.new) }
@@ -55,7 +56,7 @@ fn take_turn<F: Feed, S: Sink, D: Desk>(
     ensures taken { (bytes : List ℕ)
         × (F.given reader.new ≡ F.given reader.old ++ bytes)
         × Consumes (F.left reader.old) (F.left reader.new) bytes
-        × TakesPiece D.step desk.old talk.old (S.held writer.old) bytes [] result desk.new talk.new
+        × TakesPiece (Exchanges D.step D.checkpoint_step) desk.old talk.old (S.held writer.old) bytes [] result desk.new talk.new
         (S.held writer.new) }
     ensures whole { result ≡ Err RunEnd.End → IsAtEnd (F.left reader.new) }
     ensures turn { F.reads reader.new ≡ F.reads reader.old + 1 }
@@ -96,7 +97,7 @@ pub fn run_lines<F: Feed, S: Sink, D: Desk>(
         writer.old)
         (streams F.given F.left F.reads F.has_failed S.held S.is_flushed S.has_failed reader.new
         writer.new))
-        × Runs D.step desk.old talk.pairs desk.new }
+        × Runs (Exchanges D.step D.checkpoint_step) desk.old talk.pairs desk.new }
     ensures open { result ≡ RunEnd.TurnsOver → F.has_ended reader.new ≡ false }
 {
     let mut talk = Conversation::new(alloc);

@@ -80,7 +80,7 @@ fn try_requests(rt: &impl Print, alloc: Global, given: &Given, calls: &[Call]) -
 fn try_desk(rt: &impl Print, alloc: Global, given: &Given, calls: &[Call]) -> Result<(), Fail> {
     for (which, about) in calls {
         let setting = (*which, Way::AtDesk, given);
-        try_call::<Recorded<'_>>(rt, alloc, "Solo::serve", about, setting)?;
+        try_call::<Recorded<'_>>(rt, alloc, "Solo::perform", about, setting)?;
     }
     Ok(())
 }

@@ -102,7 +102,7 @@ fn try_all<R: Wait + Print>(
 ) -> Result<(), Fail> {
     for (which, about) in calls {
         let setting = (rt, *which, given);
-        try_call::<OfSeated<'_, R>>(rt, alloc, "Seated::serve", about, setting)?;
+        try_call::<OfSeated<'_, R>>(rt, alloc, "Seated::perform", about, setting)?;
     }
     Ok(())
 }

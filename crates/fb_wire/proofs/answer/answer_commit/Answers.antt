@@ -1,5 +1,6 @@
 use Rattle.std.proofs.Common.{◌≡◌, take}
 use Rattle.std.proofs.lemmas.List.{take-map}
+use Rattle.fb_bench.specs.Calls.{Exchanges}
 use Rattle.fb_library.specs.Changes.{edit_of, edits_of}
 use Rattle.fb_bench.specs.Records.{listed}
 use Rattle.fb_wire.proofs.Talks.{reaches_itself}
@@ -13,4 +14,4 @@ returns-in-Ok g c = λ held.
     rw (asked, first) said
 
 pub returns-in-Err-Memory : goal.returns-in-Err-Memory
-returns-in-Err-Memory g c = λ held. (_, reaches_itself g.D.Desk.step _ _)
+returns-in-Err-Memory g c = λ held. (_, reaches_itself (Exchanges g.D.Desk.step g.D.Desk.checkpoint_step) _ _)

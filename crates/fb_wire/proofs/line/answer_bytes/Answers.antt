@@ -1,4 +1,5 @@
 use Rattle.std.proofs.lemmas.Bool.{false≢true}
+use Rattle.fb_bench.specs.Calls.{Exchanges}
 use Rattle.fb_messages.proofs.RequestReads.{request_of-read, request_of-unread}
 use Rattle.fb_wire.proofs.Talks.{reaches_itself}
 use Rattle.fb_wire.proofs.line.answer_bytes.Goals as goal
@@ -9,7 +10,7 @@ returns-in-Ok g c =
     rw is c.answer_value.ensures
 
 pub returns-then-is_memory : goal.returns-then-is_memory
-returns-then-is_memory g c = (_, reaches_itself g.D.Desk.step _ _)
+returns-then-is_memory g c = (_, reaches_itself (Exchanges g.D.Desk.step g.D.Desk.checkpoint_step) _ _)
 
 pub returns-else-is_memory : goal.returns-else-is_memory
 returns-else-is_memory g c =

@@ -1,5 +1,6 @@
 use Rattle.std.proofs.Common.{◌≡◌, ℕ, ◌≤◌, ◌+◌, List, ◌++◌, [], length, length-append, subst, Ok, Err, append-nil, append_assoc, sym, ap, ◌∙◌, arith, rules}
 use Rattle.std.proofs.KnownBytes.{Consumes-nil, Consumes-trans}
+use Rattle.fb_bench.specs.Calls.{Exchanges}
 use Rattle.fb_wire.specs.declared.end.RunEnd.{RunEnd}
 use Rattle.fb_wire.specs.declared.end.RunEnd.TheVariants as end
 use Rattle.fb_wire.specs.Turns.{StopsRead}
@@ -20,9 +21,9 @@ pub returns-in-Err-clause-talk : goal.returns-in-Err-clause-talk
 returns-in-Err-clause-talk g c =
     let inv = c.loop-turn.invariant in
     let turn = rw c.in-Err.is at c.take_turn.ensures.taken in
-    let both = pieces_come g.D.Desk.step c.args.desk.now c.loop-turn.desk c.take_turn.new.desk [] c.loop-turn.talk.line.items c.take_turn.new.talk.line.items [] c.loop-turn.talk.held.items c.take_turn.new.talk.held.items
+    let both = pieces_come (Exchanges g.D.Desk.step g.D.Desk.checkpoint_step) c.args.desk.now c.loop-turn.desk c.take_turn.new.desk [] c.loop-turn.talk.line.items c.take_turn.new.talk.line.items [] c.loop-turn.talk.held.items c.take_turn.new.talk.held.items
     (g.S.Sink.held c.args.writer.now) (g.S.Sink.held c.loop-turn.writer) (g.S.Sink.held c.take_turn.new.writer) inv.3 turn.0 [] (Err c.in-Err.end) inv.6 turn.3 in
-    let ran = run_stops g.D.Desk.step c.args.desk.now c.take_turn.new.desk c.take_turn.new.talk.line.items c.take_turn.new.talk.held.items (g.S.Sink.held c.args.writer.now) (g.S.Sink.held c.take_turn.new.writer) (inv.3 ++ turn.0) c.in-Err.end both in
+    let ran = run_stops (Exchanges g.D.Desk.step g.D.Desk.checkpoint_step) c.args.desk.now c.take_turn.new.desk c.take_turn.new.talk.line.items c.take_turn.new.talk.held.items (g.S.Sink.held c.args.writer.now) (g.S.Sink.held c.take_turn.new.writer) (inv.3 ++ turn.0) c.in-Err.end both in
     let left = Consumes-trans (g.F.Feed.left c.args.reader.now) (g.F.Feed.left c.loop-turn.reader) (g.F.Feed.left c.take_turn.new.reader) inv.3 turn.0 inv.5 turn.2 in (
       record {
         bytes = inv.3 ++ turn.0;
@@ -51,7 +52,7 @@ returns-in-Err-clause-talk g c =
 pub returns-clause-talk : goal.returns-clause-talk
 returns-clause-talk g c =
     let inv = c.loop-turn.invariant in
-    let ran = run_breaks g.D.Desk.step c.args.desk.now c.loop-turn.desk c.loop-turn.talk.line.items c.loop-turn.talk.held.items (g.S.Sink.held c.args.writer.now) (g.S.Sink.held c.loop-turn.writer) inv.3 inv.6 in (
+    let ran = run_breaks (Exchanges g.D.Desk.step g.D.Desk.checkpoint_step) c.args.desk.now c.loop-turn.desk c.loop-turn.talk.line.items c.loop-turn.talk.held.items (g.S.Sink.held c.args.writer.now) (g.S.Sink.held c.loop-turn.writer) inv.3 inv.6 in (
       record {
         bytes = inv.3;
         pairs = ran.0;
@@ -88,7 +89,7 @@ loop-turn-init g c = (
   [],
   sym (append-nil _),
   Consumes-nil _,
-  rw (c.new-talk.ensures.line, c.new-talk.ensures.held) (begins g.D.Desk.step _ _),
+  rw (c.new-talk.ensures.line, c.new-talk.ensures.held) (begins (Exchanges g.D.Desk.step g.D.Desk.checkpoint_step) _ _),
   λ was. was,
   omega arith,
   c.requires.open,
@@ -98,7 +99,7 @@ pub loop-turn-preserved : goal.loop-turn-preserved
 loop-turn-preserved g c =
     let inv = c.loop-turn.invariant in
     let turn = rw c.in-Ok.is at c.take_turn.ensures.taken in
-    let both = pieces_come g.D.Desk.step c.args.desk.now c.loop-turn.desk c.take_turn.new.desk [] c.loop-turn.talk.line.items c.take_turn.new.talk.line.items [] c.loop-turn.talk.held.items c.take_turn.new.talk.held.items
+    let both = pieces_come (Exchanges g.D.Desk.step g.D.Desk.checkpoint_step) c.args.desk.now c.loop-turn.desk c.take_turn.new.desk [] c.loop-turn.talk.line.items c.take_turn.new.talk.line.items [] c.loop-turn.talk.held.items c.take_turn.new.talk.held.items
     (g.S.Sink.held c.args.writer.now) (g.S.Sink.held c.loop-turn.writer) (g.S.Sink.held c.take_turn.new.writer) inv.3 turn.0 [] (Ok tt) inv.6 turn.3 in
     let left = Consumes-trans (g.F.Feed.left c.args.reader.now) (g.F.Feed.left c.loop-turn.reader) (g.F.Feed.left c.take_turn.new.reader) inv.3 turn.0 inv.5 turn.2 in
     let written = not_failed end.WriteFailed _ c.take_turn.result c.take_turn.ensures.write_failed c.in-Ok.is in (

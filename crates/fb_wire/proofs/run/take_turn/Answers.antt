@@ -1,10 +1,11 @@
 use Rattle.std.proofs.Common.{[], take}
+use Rattle.fb_bench.specs.Calls.{Exchanges}
 use Rattle.fb_wire.proofs.Takings.{read_fails}
 use Rattle.fb_wire.proofs.run.take_turn.Goals as goal
 
 pub returns-in-Err-clause-taken : goal.returns-in-Err-clause-taken
 returns-in-Err-clause-taken g c =
-    ([], c.in-Err.ensures.given, c.in-Err.ensures.left, read_fails g.D.Desk.step _ _ _ _)
+    ([], c.in-Err.ensures.given, c.in-Err.ensures.left, read_fails (Exchanges g.D.Desk.step g.D.Desk.checkpoint_step) _ _ _ _)
 
 pub returns-then-count-eq0-clause-taken : goal.returns-then-count-eq0-clause-taken
 returns-then-count-eq0-clause-taken g c =
