@@ -72,6 +72,8 @@ WORDS = {
     r"(?:is|are|was|were|be) worked out|works? out": "is computed, calculates",
     r"the other ones?(?= is| are)": "name it",
     r"in short|as such": "leave it out",
+    r"(?:depends?|depending) on [^.;|]{1,80} alone": "depends only on",
+    r"for ever": "forever, or for good",
     r"shall|hitherto|thereof|therein|thereby|whereby|whilst|lest|thus far": "a word of today",
     r"parts of (?:100|a hundred)": "percent",
     r"[Ww]here (?:it|there|this|that|one|none|no|nothing|somebody|both|either|neither|memory|all|any|two) \w+": "if",
