@@ -33,20 +33,29 @@ def neovim():
     return f"\n    $ clients/tests/editor\n{textwrap.indent(printed, '    ')}\n"
 
 
-def options(command, common=False):
-    """The options of a client, by its own help, and what its status means. Those that all clients share are left out, or are given alone."""
-    words = [sys.executable, f"{code_parts.TOP}/clients/{command[0]}", *command[1:], "--help"]
-    printed = subprocess.run(words, capture_output=True, text=True, check=True, env={**os.environ, "COLUMNS": "10000"}).stdout
-    listed, status = re.search(r"\noptions:\n(.*?)(?:\n\n(.*))?\Z", printed, re.S).groups()
-    rows = [(name, help) for name, help in re.findall(r"^  (-\S.*?)(?:  +|\n +)(\S.*)$", listed, re.M) if not re.match(r"-h,|--version", name)]
-    rows = [(name, help) for name, help in rows if bool(re.match(r"--(?:program|connect|secret) ", name)) is common]
-    cells = [f"| `{name}` | {help} |".replace("FOLDER|FILE", "FOLDER\\|FILE") for name, help in rows]
-    return "\n".join(["| Option | Effect |", "|---|---|", *cells, *(["", status.strip()] if status and status.startswith("The status") and not common else []), ""])
+@functools.cache
+def help_of(client):
+    """What a client prints of itself, in lines of any length."""
+    command, *words = client.split()
+    surroundings = {**os.environ, "COLUMNS": "10000", "PYTHONDONTWRITEBYTECODE": "1"}
+    return subprocess.run([sys.executable, f"{code_parts.TOP}/clients/{command}", *words, "--help"], capture_output=True, text=True, check=True, env=surroundings).stdout
 
+
+def options(client, shared=False):
+    """The options of a client, by its own help, and what its status means; or those that all clients share."""
+    listed, end = re.search(r"\noptions:\n(.*?)(?:\n\n(.*))?\Z", help_of(client), re.S).groups()
+    rows = [it for it in re.findall(r"^  (-\S.*?)(?:  +|\n +)(\S.*)$", listed, re.M) if not it[0].startswith(("-h,", "--version"))]
+    cells = [f"| `{name}` | {sentence} |".replace("FOLDER|FILE", r"FOLDER\|FILE") for name, sentence in rows if name.startswith(SHARED) is shared]
+    status = ["", end.strip()] if not shared and end and end.startswith("The status") else []
+    return "\n".join(["| Option | Effect |", "|---|---|", *cells, *status, ""])
+
+
+SHARED = ("--program ", "--connect ", "--secret ")
+CLIENTS = ("check", "format", "plan", "draw", "board", "exchange import", "exchange export", "exchange boot")
 
 TABLES = {
-    "options of all clients": lambda: options(["lsp"], common=True),
-    **{f"options of {it}": functools.partial(options, it.split()) for it in ("check", "plan", "draw", "board", "exchange import", "exchange export", "exchange boot")},
+    "options of all clients": functools.partial(options, "lsp", shared=True),
+    **{f"options of {it}": functools.partial(options, it) for it in CLIENTS},
     "tools": tools,
     "what Neovim shows": neovim,
     "how much to read": headline.how_much,

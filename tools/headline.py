@@ -223,7 +223,7 @@ def counts(whole, new):
 def how_much():
     """How much each section of the page has, as a table for other pages."""
     rows = (f"| [{title}](HEADLINE.md#{title.lower().replace(' ', '-')}) | {counts(whole, new)} |" for title, _, _, whole, new in sections())
-    return "\n".join(["| To believe | Definitions | Lines | Of these not above | Lines |", "|---|---|---|---|---|", *rows, ""])
+    return "\n".join(["| To believe | Definitions | Lines | Of these in no row above | Lines |", "|---|---|---|---|---|", *rows, ""])
 
 
 def made():
@@ -232,5 +232,5 @@ def made():
     for title, sentence, named, whole, new in sections():
         rows.append(f"| [{title}](#{title.lower().replace(' ', '-')}) | {named} | {counts(whole, new)} |")
         texts.append("\n".join([f"## {title}\n", f"{sentence} Cited by the contracts of {named}.\n", *map(shown, new)]))
-    head = "| Promise | Calls | Definitions | Lines | Not above | Lines |\n|---|---|---|---|---|---|"
+    head = "| Promise | Calls | Definitions | Lines | Of these in no row above | Lines |\n|---|---|---|---|---|---|"
     return "\n".join([TITLE, head, *rows, "", *texts]).rstrip("\n") + "\n"

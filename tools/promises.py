@@ -143,7 +143,7 @@ def all_promises():
         above |= {(it.path, it.name) for it in new}
         read = (len(below(number)), headline.lines_of(below(number)), headline.lines_of(new))
         rows.append([f"[{number} {title}](#{anchor})", *(f"{it:,}" for it in (*read, len(laws_of(number)), *(folders[it] for it in parts.FOLDERS), len(tests_of(number))))])
-    return table(["Promise", "Definitions", "Lines", "Lines not above", "Laws", "Wrong bodies in the gate", "beside it", "Tests"], rows)
+    return table(["Promise", "Definitions", "Lines", "Lines in no row above", "Laws", "Wrong bodies in the gate", "beside it", "Tests"], rows)
 
 
 def sentence(crate):
