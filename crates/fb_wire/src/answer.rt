@@ -8,7 +8,7 @@ ghost use Rattle.fb_bench.specs.History.Machine.{ToCommit, ToDeliver, ToGiveBack
 ghost use Rattle.fb_bench.specs.Requests.{call_for, reply_in};
 ghost use Rattle.fb_bench.specs.Records.{listed};
 ghost use Rattle.fb_messages.specs.ReplyView.{data_of};
-ghost use Rattle.fb_wire.specs.Said.{said_to, reply_said, checkpoint_said};
+ghost use Rattle.fb_wire.specs.Said.{commit_said, deliver_said, reply_said, said_to, checkpoint_said};
 ghost use Rattle.fb_messages.specs.RequestView.{change_view, request_view};
 ghost use Rattle.fb_wire.specs.Served.{Served, RoundServed, KeepsTaken, Takes, left_after, unrecorded, answer_in, checked_in, refusal_for, data_in};
 ghost use Rattle.fb_wire.specs.Talk.{plan_of, with_name, commit_plan, edits_in, Jobs, Plan, after_deliver, call_once, checkpoint_once, job_at, take_plan, deliver_plan, work_plan};
@@ -38,30 +38,43 @@ fn refusal_of(refused: DeskRefused) -> Result<Refusal, AllocError>
     }
 }
 
+fn commit_reply(committed: &Committed) -> Reply
+    ensures { data_of result ≡ commit_said committed.now }
+{
+    match committed {
+        Committed::Done(number) => Reply::Committed(*number),
+        Committed::NoChange => Reply::Refused(Refusal::NoChange),
+        Committed::TooManyChanges => Reply::Refused(Refusal::TooManyChanges),
+        Committed::SameUnitTwice(unit) => Reply::RefusedUnit(Refusal::SameUnitTwice, *unit),
+        Committed::StaleBase { unit, current } => Reply::StaleBase {
+            unit: *unit,
+            current: *current,
+        },
+        Committed::NoSuchUnit(unit) => Reply::RefusedUnit(Refusal::NoSuchUnit, *unit),
+        Committed::TooManyUnits => Reply::Refused(Refusal::TooManyUnits),
+    }
+}
+
+fn deliver_reply(delivered: &Delivered) -> Reply
+    ensures { data_of result ≡ deliver_said delivered.now }
+{
+    match delivered {
+        Delivered::Accepted => Reply::Delivered,
+        Delivered::NoSuchKey => Reply::Refused(Refusal::NoSuchKey),
+        Delivered::NotPending => Reply::Refused(Refusal::NotPending),
+        Delivered::Stale(unit) => Reply::RefusedUnit(Refusal::Stale, *unit),
+    }
+}
+
 /// The reply to an answer of a desk. A job gets this number.
 fn reply_to(answered: Answered, job_number: u64) -> Reply
     ensures { data_of result ≡ reply_said job_number (reply_in answered) }
 {
     match answered {
-        Answered::Commit(Committed::Done(number)) => Reply::Committed(number),
-        Answered::Commit(Committed::NoChange) => Reply::Refused(Refusal::NoChange),
-        Answered::Commit(Committed::TooManyChanges) => Reply::Refused(Refusal::TooManyChanges),
-        Answered::Commit(Committed::SameUnitTwice(unit)) => {
-            Reply::RefusedUnit(Refusal::SameUnitTwice, unit)
-        }
-        Answered::Commit(Committed::StaleBase { unit, current }) => {
-            Reply::StaleBase { unit, current }
-        }
-        Answered::Commit(Committed::NoSuchUnit(unit)) => {
-            Reply::RefusedUnit(Refusal::NoSuchUnit, unit)
-        }
-        Answered::Commit(Committed::TooManyUnits) => Reply::Refused(Refusal::TooManyUnits),
+        Answered::Commit(committed) => commit_reply(&committed),
         Answered::Take(Taken::Job(job)) => Reply::Job(job_number, job.key()),
         Answered::Take(Taken::Nothing) => Reply::NoJob,
-        Answered::Deliver(Delivered::Accepted) => Reply::Delivered,
-        Answered::Deliver(Delivered::NoSuchKey) => Reply::Refused(Refusal::NoSuchKey),
-        Answered::Deliver(Delivered::NotPending) => Reply::Refused(Refusal::NotPending),
-        Answered::Deliver(Delivered::Stale(unit)) => Reply::RefusedUnit(Refusal::Stale, unit),
+        Answered::Deliver(delivered) => deliver_reply(&delivered),
         Answered::GiveBack(GivenBack::Returned) => Reply::GivenBack(true),
         Answered::GiveBack(GivenBack::NothingOut) => Reply::GivenBack(false),
         Answered::Ask(Asked::Value(value)) => Reply::Found(value),
