@@ -91,7 +91,7 @@ def wrong_bodies(number):
     counts = Counter(it.crate for it in beside)
     in_gate = "; ".join(f"`{crate}`: {', '.join(names)}" for crate, names in named.items())
     standing = ", ".join(f"[{count} of `{crate}`](../crates/{crate}/must-fail/README.md)" for crate, count in counts.items())
-    said = [f"{place} {names}" for place, names in (("in the gate", in_gate), ("beside it", standing)) if names]
+    said = [f"{place} {names}" for place, names in (("in the gate", in_gate), ("outside the gate", standing)) if names]
     return "; ".join(said)
 
 
@@ -110,7 +110,7 @@ def points_of(number):
     all_below = below(number)
     said, readers = ([it for it in laws_of(number) if (law(it).crate == READERS) is is_for_readers] for is_for_readers in (False, True))
     yield "Contracts", ", ".join(map(linked, calls))
-    yield "Definitions", f"{shown.definitions(places) or 'none of the project'}; with all that they and the laws use {len(all_below):,}, of {headline.lines_of(all_below):,} lines"
+    yield "Definitions", f"{shown.definitions(places) or 'none of the project'}; with all that these and the laws use, {len(all_below):,} definitions of {headline.lines_of(all_below):,} lines"
     yield "Laws", in_words(said, places)
     yield "In other words", in_words(readers, places)
     yield "Wrong bodies", wrong_bodies(number)
@@ -143,7 +143,7 @@ def all_promises():
         above |= {(it.path, it.name) for it in new}
         read = (len(below(number)), headline.lines_of(below(number)), headline.lines_of(new))
         rows.append([f"[{number} {title}](#{anchor})", *(f"{it:,}" for it in (*read, len(laws_of(number)), *(folders[it] for it in parts.FOLDERS), len(tests_of(number))))])
-    return table(["Promise", "Definitions", "Lines", "Lines in no row above", "Laws", "Wrong bodies in the gate", "beside it", "Tests"], rows)
+    return table(["Promise", "Definitions", "Lines", "Lines in no row above", "Laws", "Wrong bodies in the gate", "outside the gate", "Tests"], rows)
 
 
 def sentence(crate):

@@ -247,7 +247,7 @@ def counted(counts, absent):
 
 def count_edits(edits):
     by_folder = Counter(folder for _, folder, _ in {(it.crate, it.folder, it.name) for it in edits})
-    return {"in the gate": by_folder[parts.FOLDERS[0]], "beside it": by_folder[parts.FOLDERS[1]]}
+    return {"in the gate": by_folder[parts.FOLDERS[0]], "outside the gate": by_folder[parts.FOLDERS[1]]}
 
 
 def count_tests(tests):
@@ -425,7 +425,7 @@ def total():
     gate, beside = (by_folder[it] for it in parts.FOLDERS)
     return (
         f"{calls} public calls, {len(rows('refused'))} refusals, {len(rows('limit'))} limits, {len(rows('code'))} codes of faults; {len(parts.laws())} laws; "
-        f"{gate} wrong bodies in the gate and {beside} beside it, those of calls beneath these too; {len(parts.tests())} tests."
+        f"{gate} wrong bodies in the gate and {beside} outside it, also of calls below these; {len(parts.tests())} tests."
     )
 
 
