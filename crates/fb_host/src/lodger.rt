@@ -6,37 +6,11 @@ use crate::told::Told;
 use fb_locked::bench::{Answered, Delivered, Demand, Desk, GivenBack, Request, Said, Taken};
 use fb_locked::jobs::{Finished, Key};
 use fb_locked::library::Change;
-use fb_shared::{Receipt, Seat, Seated, Shared};
-use std::alloc::{AllocError, Global};
+use fb_serve::{Held, Place, forget, hold};
+use fb_shared::{Seated, Shared};
+use std::alloc::AllocError;
 use std::marker::Model;
 use std::sync::Wait;
-
-/// A key that a session has taken, and the number of the last take.
-#[derive(Clone, Copy)]
-pub struct Held {
-    pub key: Key,
-    pub since: u64,
-}
-
-/// What is kept from one session of a seat to the next: keys that are not given back yet, and receipts for which the drawer had no room.
-#[derive(Drop)]
-pub struct Place {
-    pub seat: Seat,
-    pub held: Vec<Held>,
-    pub receipts: Vec<Receipt>,
-}
-
-impl Place {
-    pub(crate) fn new(alloc: Global, seat: Seat) -> Place
-        ensures { result.seat ≡ seat }
-    {
-        Place {
-            seat,
-            held: Vec::new(alloc),
-            receipts: Vec::new(alloc),
-        }
-    }
-}
 
 /// A shared workbench as the desk of one seat, whose receipts go to the drawer. It never says that the history is full: want of memory alone keeps
 /// a full one from beginning anew.
@@ -114,9 +88,11 @@ impl<R: Wait> Desk for Lodger<'_, R> {
 fn note(held: &mut Vec<Held>, demand: &Demand<'_>, answer: &Answered, number: u64) {
     match answer {
         Answered::Take(Taken::Job(job)) => {
-            let key = job.key();
-            forget(held, &key);
-            let _ = held.push(Held { key, since: number });
+            let taken = Held {
+                key: job.key(),
+                since: number,
+            };
+            hold(held, taken);
         }
         Answered::Deliver(Delivered::Accepted) | Answered::GiveBack(GivenBack::Returned) => {
             if let Some(key) = settled(demand) {
@@ -137,8 +113,4 @@ fn settled(demand: &Demand<'_>) -> Option<Key> {
         Request::GiveBack(key) => Some(*key),
         Request::Commit(_) | Request::Take | Request::Ask(_) => None,
     }
-}
-
-fn forget(held: &mut Vec<Held>, key: &Key) {
-    held.retain(|it| it.key != *key);
 }
