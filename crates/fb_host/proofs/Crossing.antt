@@ -1,15 +1,13 @@
 -- What threads of a host share and leave may cross threads.
 use denote.Param.Send.{IsSend, IsSync, sendable}
 use Rattle.std.proofs.Crossing.{crosses}
-use Rattle.fb_shared.proofs.Crossing.{seat_send, receipt_send, shared_field_sync}
+use Rattle.fb_shared.proofs.Crossing.{receipt_send, shared_field_sync}
 use Rattle.fb_host.specs.contracts.drawer.Epoch as Epoch
 use Rattle.fb_host.specs.contracts.drawer.Drawer as Drawer
 use Rattle.fb_host.specs.contracts.guest.Guest as Guest
 use Rattle.fb_host.specs.contracts.counter.Waiting as Waiting
 use Rattle.fb_host.specs.contracts.counter.Counter as Counter
 use Rattle.fb_host.specs.contracts.threads.House as House
-use Rattle.fb_host.specs.contracts.lodger.Held as Held
-use Rattle.fb_host.specs.contracts.lodger.Place as Place
 
 epoch_field_send : IsSend (Epoch.the_field).row
 epoch_field_send = search (receipt_send, crosses, sendable) depth 60 fits 20000
@@ -40,18 +38,6 @@ counter_field_sync = search (waiting_send, crosses, sendable) depth 60 fits 2000
 
 pub counter_sync : IsSync Counter.the_row
 counter_sync = search (counter_field_sync, crosses, sendable) depth 60 fits 20000
-
-held_field_send : IsSend (Held.the_field).row
-held_field_send = search (crosses, sendable) depth 60 fits 20000
-
-held_send : IsSend Held.the_row
-held_send = search (held_field_send, crosses, sendable) depth 60 fits 20000
-
-place_field_send : IsSend (Place.the_field).row
-place_field_send = search (seat_send, receipt_send, held_send, crosses, sendable) depth 60 fits 20000
-
-pub place_send : IsSend Place.the_row
-place_send = search (place_field_send, crosses, sendable) depth 60 fits 20000
 
 house_field_sync : IsSync (House.the_field).row
 house_field_sync = search (shared_field_sync, drawer_field_sync, counter_field_sync, crosses, sendable) depth 60 fits 20000

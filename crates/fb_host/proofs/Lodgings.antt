@@ -1,16 +1,13 @@
 -- What the steps of a lodger's desk leave in its receipts.
-use Rattle.std.proofs.Common.{◌≡◌, ℕ, inl, inr, List, [], ◌∷◌, ◌++◌, Option, Some, Result, Ok, Err, map, refl, sym, subst}
+use Rattle.std.proofs.Common.{◌≡◌, List, [], ◌∷◌, ◌++◌, map, refl, sym, subst}
 use Rattle.fb_wire.specs.Talk.{Runs}
 use Rattle.fb_locked.specs.Bench.Calls.{Replied, FullHistory, BehindHistory, Exchange, AskedCall, AskedCheckpoint}
-use Rattle.fb_locked.specs.History.Machine.{Call, ToGiveBack}
-use Rattle.fb_locked.specs.Jobs.declared.key.Key.{Key}
-use Rattle.fb_locked.specs.Rolling.{MayReturn}
-use Rattle.fb_locked.specs.Runs.{IsRun, Works, Empty}
-use Rattle.fb_locked.specs.Seats.{SeatState, Claim, IsReceiptOf, seat_after}
-use Rattle.fb_locked.specs.declared.locked.SharedRefused.{SharedRefused}
-use Rattle.fb_locked.specs.declared.look.WorkEnd.{WorkEnd}
+use Rattle.fb_locked.specs.Runs.{IsRun}
+use Rattle.fb_locked.specs.Seats.{SeatState, Claim}
 use Rattle.fb_shared.specs.Sitting.{Sitter, SitterStep}
+use Rattle.fb_serve.specs.Places.{AddsRun}
 use Rattle.fb_serve.specs.Sessions.{answered_in, call_shown}
+use Rattle.fb_serve.proofs.Places.{run_append}
 use Rattle.fb_serve.proofs.Sessions.{session_shown}
 use Rattle.fb_host.specs.Lodging.{LeadsTo, LodgerStep}
 
@@ -36,27 +33,16 @@ lodger_shown pairs seat left receipts runs = session_shown pairs seat left recei
 
 -- ---- where calls lead
 
-run_append : (seat : SeatState) (xs ys : List Claim) (middle after : SeatState) → IsRun seat xs middle → IsRun middle ys after → IsRun seat (xs ++ ys) after
-run_append seat [] ys middle after one two = subst (λ (s : SeatState). IsRun s ys after) one two
-run_append seat (x ∷ xs) ys middle after one two = (one.0, run_append (seat_after seat x) xs ys middle after one.1 two)
-
 pub leads_nowhere : (seat : SeatState) → LeadsTo seat seat
 leads_nowhere seat = ([], refl)
 
 pub leads_on : (seat middle after : SeatState) → LeadsTo seat middle → LeadsTo middle after → LeadsTo seat after
 leads_on seat middle after one two = (one.0 ++ two.0, run_append seat one.0 two.0 middle after one.1 two.1)
 
-pub leads_back : (seat after : SeatState) (key : Key) (T : Type 0) (result : Result T SharedRefused) (old new : List Claim) → MayReturn seat key result old after new → LeadsTo seat after
-leads_back seat after key T (Ok done) old new (inl given) =
-    let is : IsReceiptOf seat given.0.entry.call given.0 = subst (λ (c : Call). IsReceiptOf seat c given.0) (sym given.2.call_is) given.2 in
-    (given.0 ∷ [], (is, given.3))
-leads_back seat after key T (Ok done) old new (inr stays) = ([], stays.1)
-leads_back seat after key T (Err refused) old new stays = ([], stays.2)
-
-pub leads_work : (most : ℕ) (seat after : SeatState) (old new : List Claim) (end : Option WorkEnd) → Works Empty most seat old new after end → LeadsTo seat after
-leads_work most seat after old new end works = (works.1.added, works.1.run)
+pub leads_adds : (seat : SeatState) (old : List Claim) (after : SeatState) (new : List Claim) → AddsRun seat old after new → LeadsTo seat after
+leads_adds seat old after new adds = (adds.0, adds.2)
 
 pub leads_run : (seat after : SeatState) (claims : List Claim) → IsRun seat claims after → LeadsTo seat after
 leads_run seat after claims run = (claims, run)
 
-pub ruleset leads = (leads_nowhere, leads_on, leads_back, leads_work, leads_run)
+pub ruleset leads = (leads_nowhere, leads_on, leads_adds, leads_run)

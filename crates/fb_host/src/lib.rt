@@ -16,6 +16,6 @@ mod told;
 pub use drawer::Drawer;
 pub use head::{is_secret, speaks_http};
 pub use hosting::{PATIENCE, Terms, host, host_on};
-pub use lodger::{Held, Lodger, Place};
+pub use lodger::Lodger;
 pub use session::{Lodged, give_back_all, run_lodger};
 pub use told::Told;

@@ -9,37 +9,10 @@ use fb_locked::bench::{
 };
 use fb_locked::jobs::{Finished, Key};
 use fb_locked::library::Change;
-use fb_shared::{Receipt, Seat, Seated, Shared};
-use std::alloc::Global;
+use fb_serve::{Held, Place, forget, hold};
+use fb_shared::{Seated, Shared};
 use std::marker::Model;
 use std::sync::Wait;
-
-/// A key that a session has taken, and the number of the last take.
-#[derive(Clone, Copy)]
-pub struct Held {
-    pub key: Key,
-    pub since: u64,
-}
-
-/// What is kept from one session of a seat to the next: keys that are not given back yet, and receipts for which the drawer had no room.
-#[derive(Drop)]
-pub struct Place {
-    pub seat: Seat,
-    pub held: Vec<Held>,
-    pub receipts: Vec<Receipt>,
-}
-
-impl Place {
-    pub(crate) fn new(alloc: Global, seat: Seat) -> Place
-        ensures { result.seat ≡ seat }
-    {
-        Place {
-            seat,
-            held: Vec::new(alloc),
-            receipts: Vec::new(alloc),
-        }
-    }
-}
 
 /// A shared workbench as the desk of one seat, whose receipts go to the drawer. It never says that the history is full: want of memory alone keeps
 /// a full one from beginning anew.
@@ -126,9 +99,11 @@ impl<R: Wait> Desk for Lodger<'_, R> {
 fn note(held: &mut Vec<Held>, request: &Request<'_>, answer: &Answered, number: u64) {
     match answer {
         Answered::Take(Taken::Job(job)) => {
-            let key = job.key();
-            forget(held, &key);
-            let _ = held.push(Held { key, since: number });
+            let taken = Held {
+                key: job.key(),
+                since: number,
+            };
+            hold(held, taken);
         }
         Answered::Deliver(Delivered::Accepted) | Answered::GiveBack(GivenBack::Returned) => {
             if let Some(key) = settled(request) {
@@ -146,8 +121,4 @@ fn settled(request: &Request<'_>) -> Option<Key> {
         Request::GiveBack(key) => Some(*key),
         Request::Commit(_) | Request::Take | Request::Ask(_) => None,
     }
-}
-
-fn forget(held: &mut Vec<Held>, key: &Key) {
-    held.retain(|it| it.key != *key);
 }

@@ -7,8 +7,9 @@ ghost use Rattle.fb_serve.specs.Sessions.{answered_in, call_shown};
 ghost use Rattle.fb_host.specs.Lodging.{LeadsTo, LodgerStep};
 
 use crate::drawer::Drawer;
-use crate::lodger::{Lodger, Place};
+use crate::lodger::Lodger;
 use crate::told::Told;
+use fb_serve::{Place, give_back_held};
 use fb_shared::{Seated, Shared};
 use fb_wire::{Feed, RunEnd, Sink, run_lines};
 use std::alloc::Global;
@@ -71,37 +72,12 @@ pub fn run_lodger<R: Wait, F: Feed, S: Sink>(
     Lodged { end, place, told }
 }
 
-/// Gives back the last key that is in hand, if it is still out since it was taken. It stays in hand where the call is refused. It tells whether to go on.
-#[tactic(auto, using(crate::proofs::Lodgings::leads))]
-fn give_back_last<R: Wait>(rt: &R, shared: &Shared, place: &mut Place) -> bool
-    ensures { LeadsTo place.old.seat place.new.seat }
-{
-    let Some(it) = place.held.pop() else {
-        return false;
-    };
-    let given = shared.give_back_held(rt, &mut place.seat, &mut place.receipts, it.key, it.since);
-    if given.is_err() {
-        let _ = place.held.push(it);
-        return false;
-    }
-    true
-}
-
 /// Gives back the keys that are still out since they were taken, as far as memory reaches; the others stay in hand. The receipts go to the drawer.
+#[tactic(auto, using(crate::proofs::Lodgings::leads))]
 pub fn give_back_all<R: Wait>(rt: &R, shared: &Shared, drawer: &Drawer, place: &mut Place)
     // The seat goes on where the calls lead.
     ensures { LeadsTo place.old.seat place.new.seat }
 {
     give_back_held(rt, shared, place);
     drawer.add(rt, &mut place.receipts);
-}
-
-fn give_back_held<R: Wait>(rt: &R, shared: &Shared, place: &mut Place)
-    ensures { LeadsTo place.old.seat place.new.seat }
-{
-    for _ in 0..place.held.len() {
-        if !give_back_last(rt, shared, place) {
-            return;
-        }
-    }
 }

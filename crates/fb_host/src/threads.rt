@@ -6,10 +6,9 @@ use crate::counter::Counter;
 use crate::door::keep_door;
 use crate::drawer::Drawer;
 use crate::guest::{Guest, Rest};
-use crate::lodger::{Held, Place};
 use crate::session::{Lodged, give_back_all, run_lodger};
-use fb_locked::bench::Reply;
-use fb_shared::{Plain, Receipt, Seat, Shared, WorkEnd, work_on};
+use fb_serve::{Place, keep_working, pause, say_fault};
+use fb_shared::{Seat, Shared, WorkEnd};
 use fb_wire::{FromRead, IntoWrite, RunEnd, fault_of};
 use std::alloc::Global;
 use std::io::Write;
@@ -27,9 +26,6 @@ const BATCH: u64 = 64;
 
 /// How many first lines are looked at at once.
 pub(crate) const DOORS: u64 = 32;
-
-/// How many milliseconds a worker without memory pauses, and a listener that has failed.
-const PAUSE: u64 = 100;
 
 /// How often in a row a listener may fail.
 const FAILURES: u64 = 600;
@@ -128,7 +124,7 @@ fn start_workers<'s, Env, R: Threads + Wait + Clock + Sync>(
             is_whole = false;
             break;
         }
-        match scope.spawn(move || keep_working(rt, alloc, house, Place::new(alloc, seat))) {
+        match scope.spawn(move || work(rt, alloc, house, Place::new(alloc, seat))) {
             Ok(thread) => threads.push_reserved(thread),
             Err(_) => {
                 is_whole = false;
@@ -201,10 +197,6 @@ fn let_in<R: Wait + Clock>(rt: &R, alloc: Global, listener: &TcpListener, house:
     true
 }
 
-fn pause<R: Clock>(rt: &R) {
-    thread::sleep(rt, Duration::from_millis(PAUSE));
-}
-
 fn accept<R: Clock>(rt: &R, listener: &TcpListener) -> Option<TcpStream> {
     for _ in 0..FAILURES {
         match listener.accept() {
@@ -215,58 +207,22 @@ fn accept<R: Clock>(rt: &R, listener: &TcpListener) -> Option<TcpStream> {
     None
 }
 
-/// A worker's thread. If memory is wanting, it pauses and begins again.
-fn keep_working<R: Wait + Clock>(rt: &R, alloc: Global, house: &House, place: Place) -> Place
+/// A worker's thread. Its receipts go to the drawer now and then.
+#[tactic(auto, using(crate::proofs::Lodgings::leads))]
+fn work<R: Wait + Clock>(rt: &R, alloc: Global, house: &House, place: Place) -> Place
     ensures { LeadsTo place.seat result.seat }
 {
     let mut place = place;
     for _ in rt.forever() {
-        match work_batch(rt, alloc, house, &mut place) {
+        let end = keep_working(rt, alloc, &house.shared, &mut place, BATCH);
+        house.drawer.add(rt, &mut place.receipts);
+        match end {
             WorkEnd::TurnsOver => {}
             WorkEnd::Memory | WorkEnd::HistoryFull => pause(rt),
             WorkEnd::Stopped | WorkEnd::SeatDiffers { .. } | WorkEnd::Behind { .. } => return place,
         }
     }
     unreachable!()
-}
-
-/// Some looks of a worker. It then gives back the key that it still has, and its receipts go to the drawer.
-fn work_batch<R: Wait>(rt: &R, alloc: Global, house: &House, place: &mut Place) -> WorkEnd
-    ensures { LeadsTo place.old.seat place.new.seat }
-{
-    let end = work_on(
-        rt,
-        alloc,
-        &house.shared,
-        &mut place.seat,
-        &mut place.receipts,
-        &Plain,
-        BATCH,
-    );
-    hold_unsettled(place);
-    give_back_all(rt, &house.shared, &house.drawer, place);
-    end
-}
-
-/// Keeps in hand the key of a job that was taken and not settled.
-fn hold_unsettled(place: &mut Place)
-    ensures { place.new.seat ≡ place.old.seat }
-{
-    if let Some(it) = unsettled(&place.receipts) {
-        let _ = place.held.push(it);
-    }
-}
-
-/// The key of the last receipt, where it is of a take: of that no result was delivered, and it was not given back.
-fn unsettled(receipts: &[Receipt]) -> Option<Held> {
-    let receipt = receipts.last()?;
-    match receipt.reply() {
-        Reply::Taking(Some(wanted)) => Some(Held {
-            key: wanted.key,
-            since: receipt.number(),
-        }),
-        _ => None,
-    }
 }
 
 /// A seat's thread: session after session.
@@ -338,6 +294,6 @@ fn tell<R: Wait, E: Write>(rt: &R, errors: &Mutex<E>, caller: u32, end: RunEnd, 
     if end == RunEnd::ReadFailed && is_idle {
         let _ = writeln!(&mut *errors, "session {caller}: idle");
     } else {
-        let _ = writeln!(&mut *errors, "session {caller}: {fault}");
+        say_fault(&mut *errors, caller, fault);
     }
 }

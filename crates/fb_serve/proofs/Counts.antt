@@ -1,5 +1,5 @@
 -- How many receipts there are of a caller.
-use Rattle.std.proofs.Common.{◌≡◌, ◌≤◌, ◌==◌, ◌&&◌, ◌||◌, ℕ, ◌+◌, List, [], ◌∷◌, ◌++◌, Bool, true, false, not, cond, Option, refl, ap, sym, ◌∙◌, subst, arith, nat_lt, nat_le}
+use Rattle.std.proofs.Common.{◌≡◌, ◌≤◌, ◌==◌, ◌&&◌, ◌||◌, ℕ, ◌+◌, List, [], ◌∷◌, ◌++◌, Bool, true, false, not, cond, refl, ap, sym, ◌∙◌, subst, arith, nat_lt, nat_le}
 use Rattle.std.proofs.lemmas.Bool.{eqb-true, eq-eqb}
 use Rattle.std.proofs.lemmas.Bool.Decides.{nat_tests}
 use Rattle.std.proofs.lemmas.List.Elements.{All-weaker, All-push, recursion_from_All}
@@ -8,9 +8,9 @@ use Rattle.std.specs.List.{list_any, AllByRecursion}
 use Rattle.fb_wire.specs.History.Story.{Story, all_turns, turns_of}
 use Rattle.fb_shared.specs.Locked.Book.{is_caller}
 use Rattle.fb_shared.specs.Locked.Closing.{AgreesWith, has_seat, receipts_of}
-use Rattle.fb_shared.specs.Locked.Runs.{IsRun, Works, Empty}
-use Rattle.fb_shared.specs.Locked.declared.look.WorkEnd.{WorkEnd}
+use Rattle.fb_shared.specs.Locked.Runs.{IsRun}
 use Rattle.fb_shared.specs.Locked.Seats.{SeatState, Claim, seat_after}
+use Rattle.fb_serve.specs.Places.{AddsRun}
 use Rattle.fb_serve.specs.Shown.{IsNew, IsShown, AreShown, ShowsAll}
 
 -- 1 for a receipt of this caller
@@ -42,10 +42,9 @@ run_shown seat claims after new run =
     let same : receipts_of after.caller claims ≡ receipts_of seat.caller claims = ap (λ q. receipts_of q claims) counts.0 in
     omega (arith, new, counts.1, same)
 
-pub work_shown : (most : ℕ) (seat after : SeatState) (old claims : List Claim) (end : Option WorkEnd) → IsNew seat → old ≡ [] → Works Empty most seat old claims after end → IsShown claims after
-work_shown most seat after old claims end new none works =
-    let adds = works.1 in
-    run_shown seat claims after new (subst (λ (l : List Claim). IsRun seat l after) (sym (adds.behind ∙ ap (λ (l : List Claim). l ++ adds.added) none)) adds.run)
+pub adds_shown : (seat after : SeatState) (old claims : List Claim) → IsNew seat → old ≡ [] → AddsRun seat old after claims → IsShown claims after
+adds_shown seat after old claims new none adds =
+    run_shown seat claims after new (subst (λ (l : List Claim). IsRun seat l after) (sym (adds.1 ∙ ap (λ (l : List Claim). l ++ adds.0) none)) adds.2)
 
 -- ---- all seats
 

@@ -8,7 +8,10 @@ use Rattle.std.specs.contracts.alloc.Global as Heap
 use Rattle.std.specs.contracts.impls.GlobalAllocator.TheImpl.{ghosts}
 use Rattle.fb_serve.specs.contracts.callers.NewSeat as NewSeat
 use Rattle.fb_serve.specs.contracts.callers.Left as Left
+use Rattle.fb_serve.specs.contracts.callers.Gathered as Gathered
 use Rattle.fb_serve.specs.contracts.callers.SessionFault as SessionFault
+use Rattle.fb_serve.specs.contracts.place.Held as Held
+use Rattle.fb_serve.specs.contracts.place.Place as Place
 use Rattle.fb_wire.specs.contracts.fault.Fault as Fault
 
 pub new_seat_field_send : IsSend (NewSeat.the_field).row
@@ -23,6 +26,24 @@ left_field_send = search (seat_send, receipt_send, crosses, sendable) depth 60 f
 pub left_send : IsSend Left.the_row
 left_send = search (left_field_send, crosses, sendable) depth 60 fits 20000
 
+gathered_field_send : IsSend (Gathered.the_field).row
+gathered_field_send = search (seat_send, receipt_send, crosses, sendable) depth 60 fits 20000
+
+pub gathered_send : IsSend Gathered.the_row
+gathered_send = search (gathered_field_send, crosses, sendable) depth 60 fits 20000
+
+held_field_send : IsSend (Held.the_field).row
+held_field_send = search (crosses, sendable) depth 60 fits 20000
+
+held_send : IsSend Held.the_row
+held_send = search (held_field_send, crosses, sendable) depth 60 fits 20000
+
+place_field_send : IsSend (Place.the_field).row
+place_field_send = search (seat_send, receipt_send, held_send, crosses, sendable) depth 60 fits 20000
+
+pub place_send : IsSend Place.the_row
+place_send = search (place_field_send, crosses, sendable) depth 60 fits 20000
+
 fault_field_send : IsSend (Fault.the_field).row
 fault_field_send = search (crosses, sendable) depth 60 fits 20000
 
@@ -34,6 +55,9 @@ session_fault_send = search (session_fault_field_send, crosses, sendable) depth 
 
 pub sender_sync : IsSync (Sender.the_row SessionFault.the_row Heap.the_row ghosts)
 sender_sync = search (session_fault_send, crosses, sendable) depth 60 fits 20000
+
+pub sender_send : IsSend (Sender.the_row SessionFault.the_row Heap.the_row ghosts)
+sender_send = search (session_fault_send, crosses, sendable) depth 60 fits 20000
 
 pub stream_send : IsSend TcpStream.the_row
 stream_send = search (crosses, sendable) depth 60 fits 20000

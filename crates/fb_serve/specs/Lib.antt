@@ -1,3 +1,4 @@
 pub mod Lines
+pub mod Places
 pub mod Sessions
 pub mod Shown

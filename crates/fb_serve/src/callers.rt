@@ -2,15 +2,20 @@
 ghost use Rattle.std.specs.Prelude.{◌≡◌, [], if◌then◌else◌, List};
 ghost use Rattle.fb_serve.specs.Shown.{IsNew, IsShown, AreShown};
 
+use crate::place::Place;
+use crate::say::say_fault;
 use crate::session::{Session, run_session};
-use crossbeam_channel::Sender;
-use fb_shared::{Plain, Receipt, Seat, Shared, work_on};
+use crate::worker::keep_working;
+use crossbeam_channel::{Receiver, Sender};
+use fb_shared::{Receipt, Seat, Shared};
 use fb_wire::{Fault, FromRead, IntoWrite, fault_of};
 use std::alloc::Global;
+use std::io::Write;
 use std::net::{OpenListener, TcpListener, TcpStream};
 use std::sync::Wait;
 use std::thread;
 use std::thread::{JoinHandle, Scope, Threads};
+use std::time::Clock;
 
 /// How many reads a session, and how many looks a worker may make.
 const TURNS: u64 = 1_000_000_000;
@@ -64,11 +69,11 @@ pub(crate) struct Gathered {
 }
 
 impl Gathered {
-    fn new(alloc: Global) -> Gathered {
+    fn new(alloc: Global, is_whole: bool) -> Gathered {
         Gathered {
             seats: Vec::new(alloc),
             receipts: Vec::new(alloc),
-            is_whole: true,
+            is_whole,
         }
     }
 
@@ -101,21 +106,24 @@ struct Started {
 }
 
 /// Runs the sessions of the connections that come, one for each seat, with workers beside them, and
-/// joins them all. Once a thread is not started, no further one is.
-pub(crate) fn run_callers<R: Threads + Wait + Sync>(
+/// joins them all. Once a thread is not started, no further connection is let in. A fault of a session is told at once.
+pub(crate) fn run_callers<R: Threads + Wait + Clock + Sync, E: Write>(
     rt: &R,
     alloc: Global,
     listener: &TcpListener,
     shared: &Shared,
     sessions: Vec<NewSeat>,
     workers: Vec<NewSeat>,
-    faults: &Sender<SessionFault>,
+    faults: Sender<SessionFault>,
+    told: &Receiver<SessionFault>,
+    errors: &mut E,
 ) -> Gathered {
     thread::scope(thread::scope_env(), rt, |scope| {
         let working = start_workers(scope, rt, alloc, shared, workers);
         let sessions = seats_beside(&working, sessions);
-        let talking = start_sessions(scope, rt, alloc, listener, shared, sessions, faults);
-        let gathered = join_sessions(rt, alloc, talking);
+        let talking = start_door(scope, rt, alloc, listener, shared, sessions, faults);
+        tell(rt, told, errors);
+        let gathered = join_door(rt, alloc, talking);
         shared.stop(rt);
         join_workers(rt, gathered, working)
     })
@@ -132,10 +140,53 @@ fn seats_beside(working: &Started, seats: Vec<NewSeat>) -> Vec<NewSeat>
     seats
 }
 
-fn join_sessions<R: Threads>(rt: &R, alloc: Global, talking: Started) -> Gathered {
-    let mut gathered = Gathered::new(alloc);
-    gathered.add_all(rt, talking);
-    gathered
+/// Tells the faults of the sessions as they come, until all have ended.
+fn tell<R: Wait, E: Write>(rt: &R, told: &Receiver<SessionFault>, errors: &mut E) {
+    for it in told.iter(rt) {
+        let SessionFault { caller, fault } = it;
+        say_fault(errors, caller, fault);
+    }
+}
+
+/// Starts the thread that lets connections in.
+fn start_door<'s, E, R: Threads + Wait + Sync>(
+    scope: &Scope<'s, E>,
+    rt: &'s R,
+    alloc: Global,
+    listener: &'s TcpListener,
+    shared: &'s Shared,
+    seats: Vec<NewSeat>,
+    faults: Sender<SessionFault>,
+) -> Option<JoinHandle<Gathered>> {
+    scope
+        .spawn(move || run_sessions(rt, alloc, listener, shared, seats, faults))
+        .ok()
+}
+
+/// What the sessions left; nothing whole where no connection could be let in.
+fn join_door<R: Threads>(rt: &R, alloc: Global, talking: Option<JoinHandle<Gathered>>) -> Gathered {
+    match talking {
+        Some(thread) => thread.join(rt),
+        None => Gathered::new(alloc, false),
+    }
+}
+
+/// Runs the sessions of the connections that come, and joins them.
+fn run_sessions<R: Threads + Wait + Sync>(
+    rt: &R,
+    alloc: Global,
+    listener: &TcpListener,
+    shared: &Shared,
+    seats: Vec<NewSeat>,
+    faults: Sender<SessionFault>,
+) -> Gathered {
+    let faults = &faults;
+    thread::scope(thread::scope_env(), rt, |scope| {
+        let talking = start_sessions(scope, rt, alloc, listener, shared, seats, faults);
+        let mut gathered = Gathered::new(alloc, true);
+        gathered.add_all(rt, talking);
+        gathered
+    })
 }
 
 fn join_workers<R: Threads>(rt: &R, gathered: Gathered, working: Started) -> Gathered {
@@ -144,7 +195,7 @@ fn join_workers<R: Threads>(rt: &R, gathered: Gathered, working: Started) -> Gat
     gathered
 }
 
-fn start_workers<'s, E, R: Threads + Wait + Sync>(
+fn start_workers<'s, E, R: Threads + Wait + Clock + Sync>(
     scope: &Scope<'s, E>,
     rt: &'s R,
     alloc: Global,
@@ -202,10 +253,15 @@ fn start_sessions<'s, E, R: Threads + Wait + Sync>(
 }
 
 /// A worker's thread.
-fn work<R: Wait>(rt: &R, alloc: Global, shared: &Shared, seat: NewSeat) -> Left {
-    let NewSeat { mut seat } = seat;
-    let mut receipts = Vec::new(alloc);
-    let _end = work_on(rt, alloc, shared, &mut seat, &mut receipts, &Plain, TURNS);
+fn work<R: Wait + Clock>(rt: &R, alloc: Global, shared: &Shared, seat: NewSeat) -> Left {
+    let NewSeat { seat } = seat;
+    let mut place = Place::new(alloc, seat);
+    let _end = keep_working(rt, alloc, shared, &mut place, TURNS);
+    let Place {
+        seat,
+        held: _,
+        receipts,
+    } = place;
     Left::of(seat, receipts)
 }
 

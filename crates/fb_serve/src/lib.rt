@@ -2,10 +2,14 @@
 #![tactic(auto)]
 
 mod callers;
+mod place;
 mod say;
 mod server;
 mod session;
+mod worker;
 
-pub use say::greet;
+pub use place::{Held, Place, forget, give_back_held, hold};
+pub use say::{greet, say_fault};
 pub use server::{Ended, NotServed, Numbers, Served, serve, serve_on, serve_sessions};
 pub use session::{Session, run_session};
+pub use worker::{keep_working, pause};

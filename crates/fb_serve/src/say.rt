@@ -1,10 +1,11 @@
-//! The line that the server prints first.
+//! Lines that a server prints.
 ghost use Rattle.std.specs.Prelude.{◌≡◌, ◌<◌, ◌^◌, ℕ, IfOk, false};
 ghost use Rattle.fb_streams.specs.Streams.{WritesAll};
 ghost use Rattle.fb_serve.specs.Lines.{greeting};
 
-use fb_wire::{Failed, Sink, write_all};
+use fb_wire::{Failed, Fault, Sink, write_all};
 use std::alloc::Global;
+use std::io::Write;
 use std::net::TcpListener;
 
 /// Tells where the server listens. It fails where this is not known or not written.
@@ -22,4 +23,9 @@ pub fn greet<S: Sink>(alloc: Global, listener: &TcpListener, out: &mut S) -> Res
         return Err(Failed);
     };
     write_all(out, line.as_bytes())
+}
+
+/// Tells the fault of a session.
+pub fn say_fault<E: Write>(errors: &mut E, caller: u32, fault: Fault) {
+    let _ = writeln!(errors, "session {caller}: {fault}");
 }

@@ -4,9 +4,9 @@ ghost use Rattle.fb_shared.specs.Locked.Book.{IsBookOf};
 ghost use Rattle.fb_serve.specs.Lines.{SaysLines};
 ghost use Rattle.fb_serve.specs.Shown.{IsNew, ShowsAll};
 
-use crate::callers::{Gathered, NewSeat, SessionFault, run_callers};
+use crate::callers::{Gathered, NewSeat, run_callers};
 use crate::say::greet;
-use crossbeam_channel::{Receiver, bounded};
+use crossbeam_channel::bounded;
 use fb_shared::{Closed, Receipt, Seat, Shared};
 use fb_wire::bench::Limits;
 use fb_wire::{Sink, write_all};
@@ -15,6 +15,7 @@ use std::io::Write;
 use std::net::{Net, TcpListener, TcpStream};
 use std::sync::Wait;
 use std::thread::Threads;
+use std::time::Clock;
 
 /// How many callers of each sort a server has, and the limits of its workbench. Callers 1 to `sessions` are sessions, those behind them workers.
 #[derive(Clone, Copy)]
@@ -76,8 +77,8 @@ impl Ended {
 }
 
 /// Lets in as many connections as there are sessions, with workers beside them, and closes when all sessions have ended. Where a thread or
-/// a connection fails, it lets no further one in. A fault of a session is told on `errors`, and the others go on.
-pub fn serve_sessions<R: Threads + Wait + Sync, E: Write>(
+/// a connection fails, it lets no further one in. A fault of a session is told on `errors` at once, and the others go on.
+pub fn serve_sessions<R: Threads + Wait + Clock + Sync, E: Write>(
     rt: &R,
     alloc: Global,
     listener: &TcpListener,
@@ -97,9 +98,9 @@ pub fn serve_sessions<R: Threads + Wait + Sync, E: Write>(
     let workers = new_seats(alloc, workers)?;
     let sessions = new_seats(alloc, seats)?;
     let (faults, told) = bounded(alloc, usize::from(numbers.sessions))?;
-    let gathered = run_callers(rt, alloc, listener, &shared, sessions, workers, &faults);
-    drop(faults);
-    tell(rt, &told, errors);
+    let gathered = run_callers(
+        rt, alloc, listener, &shared, sessions, workers, faults, &told, errors,
+    );
     close(alloc, shared, gathered)
 }
 
@@ -136,16 +137,8 @@ fn close(alloc: Global, shared: Shared, gathered: Gathered) -> Result<Served, No
     }
 }
 
-/// Tells the faults of the sessions, which have all ended.
-fn tell<R: Wait, E: Write>(rt: &R, told: &Receiver<SessionFault>, errors: &mut E) {
-    for it in told.iter(rt) {
-        let SessionFault { caller, fault } = it;
-        let _ = writeln!(errors, "session {caller}: {fault}");
-    }
-}
-
 /// Prints where it listens, serves its sessions, and prints that it is closed.
-fn serve_and_close<R: Threads + Wait + Sync, S: Sink, E: Write>(
+fn serve_and_close<R: Threads + Wait + Clock + Sync, S: Sink, E: Write>(
     rt: &R,
     alloc: Global,
     listener: &TcpListener,
@@ -176,7 +169,7 @@ fn serve_and_close<R: Threads + Wait + Sync, S: Sink, E: Write>(
 
 /// Prints where it listens, serves its sessions, and prints that it is closed. Where something fails it comes back once the sessions that run
 /// have ended and the workers are stopped and joined.
-pub fn serve_on<R: Threads + Wait + Sync, S: Sink, E: Write>(
+pub fn serve_on<R: Threads + Wait + Clock + Sync, S: Sink, E: Write>(
     rt: &R,
     alloc: Global,
     listener: &TcpListener,
@@ -199,7 +192,7 @@ pub fn serve_on<R: Threads + Wait + Sync, S: Sink, E: Write>(
 
 /// Serves as `serve_on` does, on this port of 127.0.0.1; any free one for 0.
 pub fn serve<
-    R: Net<Listener = TcpListener, Stream = TcpStream> + Threads + Wait + Sync,
+    R: Net<Listener = TcpListener, Stream = TcpStream> + Threads + Wait + Clock + Sync,
     S: Sink,
     E: Write,
 >(rt: &R, alloc: Global, port: u16, numbers: Numbers, out: &mut S, errors: &mut E) -> Ended

@@ -1,4 +1,4 @@
-//! A server of which two sessions fail, each in its own way.
+//! Servers of which sessions fail, each in its own way.
 use crate::peers::{COMMIT, connect};
 use crate::servers::{long_line, talk};
 use fb_program::bench::Limits;
@@ -8,8 +8,8 @@ use std::alloc::Global;
 use std::io::{Read, Write};
 use std::net::{Net, OpenListener, TcpListener, TcpStream};
 use std::process::Abort;
-use std::sync::Wait;
 use std::sync::atomic::{AtomicU64, Ordering};
+use std::sync::{Mutex, Wait};
 use std::test::Fail;
 use std::thread::{Threads, join};
 use std::time::{Clock, Duration};
@@ -76,7 +76,7 @@ fn two_fail_and_wait<R: Net<Listener = TcpListener, Stream = TcpStream> + Clock 
 }
 
 // The status of a server of three sessions, and whether it says what is wanted of the first two.
-fn served<R: Threads + Wait + Sync>(
+fn served<R: Threads + Wait + Clock + Sync>(
     rt: &R,
     alloc: Global,
     listener: &TcpListener,
@@ -110,5 +110,89 @@ fn two_sessions_fail(rt: HostRuntime) -> Result<(), Fail> {
     );
     assert_eq!(rt; told?.as_str(), STALE);
     assert_eq!(rt; ended, (0, true));
+    Ok(())
+}
+
+/// What a server says on its errors, which others read meanwhile.
+#[derive(Drop)]
+struct Errors<'a, R: Wait> {
+    rt: &'a R,
+    said: &'a Mutex<Vec<u8>>,
+}
+
+impl<R: Wait> Write for Errors<'_, R> {
+    fn write(&mut self, buf: &[u8]) -> io::Result<usize> {
+        self.said.lock(self.rt).extend_from_slice(buf)?;
+        Ok(buf.len())
+    }
+
+    fn flush(&mut self) -> io::Result<()> {
+        Ok(())
+    }
+}
+
+const FIRST_ERROR: &str = "session 1: line too long\n";
+
+// Waits until the fault of the first session is told; the test fails where it is not.
+fn wait_for_fault<R: Wait + Clock + Abort>(rt: &R, said: &Mutex<Vec<u8>>) {
+    for _ in 0..MOST_LOOKS {
+        if said.lock(rt).as_slice() == FIRST_ERROR.as_bytes() {
+            return;
+        }
+        thread::sleep(rt, Duration::from_millis(1));
+    }
+    panic!(rt; "the fault is not told")
+}
+
+// The first says a line that is too long. Once that is told, the second talks. It gives what both are told.
+fn one_fails<R: Net<Listener = TcpListener, Stream = TcpStream> + Wait + Clock + Abort>(
+    rt: &R,
+    alloc: Global,
+    port: u16,
+    line: &str,
+    said: &Mutex<Vec<u8>>,
+) -> io::Result<String> {
+    let first = connect(rt, alloc, port)?;
+    let second = connect(rt, alloc, port)?;
+    let mut told = talk(alloc, &first, line)?;
+    wait_for_fault(rt, said);
+    told.push_str(talk(alloc, &second, COMMIT)?.as_str())?;
+    Ok(told)
+}
+
+// The status of a server of two sessions.
+fn served_beside<R: Threads + Wait + Clock + Sync>(
+    rt: &R,
+    alloc: Global,
+    listener: &TcpListener,
+    limits: Limits,
+    said: &Mutex<Vec<u8>>,
+) -> u8 {
+    let mut out = MemorySink::new(alloc, 8192, u64::MAX);
+    let mut errors = Errors { rt, said };
+    let numbers = Numbers {
+        workers: 1,
+        sessions: 2,
+        limits,
+    };
+    serve_on(rt, alloc, listener, numbers, &mut out, &mut errors).status
+}
+
+#[test]
+fn a_fault_is_told_at_once(rt: HostRuntime) -> Result<(), Fail> {
+    let alloc: Global = rt.alloc();
+    let line = long_line(alloc)?;
+    let listener = TcpListener::bind(&rt, "127.0.0.1:0")?;
+    let port = listener.local_addr()?.port();
+    let limits = Limits::new(16, 1000).ok_or("limits")?;
+    let said = Mutex::new(Vec::new(alloc));
+    let (status, told) = join(
+        &rt,
+        || served_beside(&rt, alloc, &listener, limits, &said),
+        || one_fails(&rt, alloc, port, line.as_str(), &said),
+    );
+    assert_eq!(rt; told?.as_str(), "{\"commit\":1}\n");
+    assert_eq!(rt; status, 0);
+    assert_eq!(rt; said.into_inner().as_slice(), FIRST_ERROR.as_bytes());
     Ok(())
 }

@@ -15,3 +15,5 @@ mod secrets;
 mod servers;
 #[cfg(test)]
 mod sessions;
+#[cfg(test)]
+mod workers;

@@ -12,6 +12,7 @@ use std::process::Abort;
 use std::sync::Wait;
 use std::test::Fail;
 use std::thread::{Threads, join};
+use std::time::Clock;
 
 const ALWAYS: u64 = u64::MAX;
 
@@ -74,7 +75,7 @@ struct Ended {
 }
 
 // Serves over an output of which so many writes are good.
-fn serve_in_memory<R: Threads + Wait + Sync>(
+fn serve_in_memory<R: Threads + Wait + Clock + Sync>(
     rt: &R,
     alloc: Global,
     listener: &TcpListener,
@@ -150,7 +151,7 @@ struct Wanted<'a> {
 }
 
 // A server with a session for each of the texts.
-fn serve_texts<R: Net<Listener = TcpListener, Stream = TcpStream> + Threads + Wait + Sync>(
+fn serve_texts<R: Net<Listener = TcpListener, Stream = TcpStream> + Threads + Wait + Clock + Sync>(
     rt: &R,
     alloc: Global,
     workers: u8,
@@ -194,12 +195,9 @@ fn is_as_wanted(ended: &Ended, wanted: &Wanted<'_>) -> bool {
 }
 
 /// Plays, and compares what comes of it with what is wanted.
-fn compare<R: Net<Listener = TcpListener, Stream = TcpStream> + Threads + Wait + Sync + Abort>(
-    rt: &R,
-    alloc: Global,
-    play: &Play<'_>,
-    wanted: &Wanted<'_>,
-) -> Result<(), Fail> {
+fn compare<
+    R: Net<Listener = TcpListener, Stream = TcpStream> + Threads + Wait + Clock + Sync + Abort,
+>(rt: &R, alloc: Global, play: &Play<'_>, wanted: &Wanted<'_>) -> Result<(), Fail> {
     let Play {
         workers,
         sessions,
@@ -336,7 +334,7 @@ fn a_line_is_not_printed(rt: HostRuntime) -> Result<(), Fail> {
 }
 
 // Whether a server on this port that lets no session in comes to its close, and whether it says nothing.
-fn serve_none<R: Net<Listener = TcpListener, Stream = TcpStream> + Threads + Wait + Sync>(
+fn serve_none<R: Net<Listener = TcpListener, Stream = TcpStream> + Threads + Wait + Clock + Sync>(
     rt: &R,
     alloc: Global,
     port: u16,
@@ -357,7 +355,7 @@ fn serve_none<R: Net<Listener = TcpListener, Stream = TcpStream> + Threads + Wai
 }
 
 // The same while somebody else listens on this port of this address.
-fn serve_beside<R: Net<Listener = TcpListener, Stream = TcpStream> + Threads + Wait + Sync>(
+fn serve_beside<R: Net<Listener = TcpListener, Stream = TcpStream> + Threads + Wait + Clock + Sync>(
     rt: &R,
     alloc: Global,
     address: &str,

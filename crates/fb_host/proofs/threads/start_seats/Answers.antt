@@ -1,7 +1,8 @@
 use denote.Param.Send.{sendable}
 use Rattle.std.proofs.Crossing.{crosses}
 use Rattle.fb_shared.proofs.Crossing.{seat_send}
-use Rattle.fb_host.proofs.Crossing.{house_sync, place_send}
+use Rattle.fb_serve.proofs.Crossing.{place_send}
+use Rattle.fb_host.proofs.Crossing.{house_sync}
 use Rattle.fb_host.proofs.threads.start_seats.Goals as goal
 
 pub spawn-requires-send-F : goal.spawn-requires-send-F

@@ -1,0 +1,11 @@
+use Rattle.fb_host.proofs.Lodgings.{leads_on, leads_adds}
+use Rattle.fb_host.proofs.threads.work.Goals as goal
+
+pub loop-preserved : goal.loop-preserved
+loop-preserved g c = leads_on _ _ _ c.loop.invariant (leads_adds _ _ _ _ c.keep_working-end.ensures)
+
+pub loop-preserved-in-TurnsOver : goal.loop-preserved-in-TurnsOver
+loop-preserved-in-TurnsOver g c = leads_on _ _ _ c.loop.invariant (leads_adds _ _ _ _ c.keep_working-end.ensures)
+
+pub returns-in-Stopped : goal.returns-in-Stopped
+returns-in-Stopped g c = leads_on _ _ _ c.loop.invariant (leads_adds _ _ _ _ c.keep_working-end.ensures)

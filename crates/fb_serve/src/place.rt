@@ -1,0 +1,80 @@
+//! The place of a caller: its seat, the receipts of its calls, and the keys that it is to give back.
+ghost use Rattle.std.specs.Prelude.{◌≡◌, []};
+ghost use Rattle.fb_serve.specs.Places.{AddsRun};
+
+use fb_shared::{Receipt, Seat, Shared};
+use fb_wire::jobs::Key;
+use std::alloc::Global;
+use std::sync::Wait;
+
+/// A key that a caller has taken, and the number of the last take.
+#[derive(Clone, Copy)]
+pub struct Held {
+    pub key: Key,
+    pub since: u64,
+}
+
+/// A seat, the keys that were taken there and are to be given back, and the receipts of its calls that nobody else keeps.
+#[derive(Drop)]
+pub struct Place {
+    pub seat: Seat,
+    pub held: Vec<Held>,
+    pub receipts: Vec<Receipt>,
+}
+
+impl Place {
+    /// A place with no key and no receipt. It has room for a key, if there is memory.
+    pub fn new(alloc: Global, seat: Seat) -> Place
+        ensures seat { result.seat ≡ seat }
+        ensures none { result.receipts.items ≡ [] }
+    {
+        let mut held = Vec::new(alloc);
+        let _room = held.reserve(1);
+        Place {
+            seat,
+            held,
+            receipts: Vec::new(alloc),
+        }
+    }
+}
+
+/// Adds a key that was taken.
+pub fn hold(held: &mut Vec<Held>, it: Held) {
+    forget(held, &it.key);
+    let _ = held.push(it);
+}
+
+/// Removes a key that is settled.
+pub fn forget(held: &mut Vec<Held>, key: &Key) {
+    held.retain(|it| it.key != *key);
+}
+
+/// Gives back the last key that is held, if it is still out since it was taken. If the call is refused, the key stays held. It tells whether to go on.
+#[tactic(auto, using(crate::proofs::Places::adds))]
+fn give_back_last<R: Wait>(rt: &R, shared: &Shared, place: &mut Place) -> bool
+    ensures { AddsRun place.old.seat place.old.receipts.items
+        place.new.seat place.new.receipts.items }
+{
+    let Some(it) = place.held.pop() else {
+        return false;
+    };
+    let given = shared.give_back_held(rt, &mut place.seat, &mut place.receipts, it.key, it.since);
+    if given.is_err() {
+        let _ = place.held.push(it);
+        return false;
+    }
+    true
+}
+
+/// Gives back the keys that are still out since they were taken. If a call is refused, the keys that are left stay held.
+pub fn give_back_held<R: Wait>(rt: &R, shared: &Shared, place: &mut Place)
+    // The receipts of its calls, one after another, are added at the end, and lead to the seat as it is then.
+    ensures { AddsRun place.old.seat place.old.receipts.items
+        place.new.seat place.new.receipts.items }
+{
+    for _ in 0..place.held.len() {
+        if !give_back_last(rt, shared, place) {
+            return;
+        }
+    }
+}

@@ -1,0 +1,82 @@
+//! A worker, which begins again after it found no memory.
+ghost use Rattle.std.specs.Prelude.{◌≡◌};
+ghost use Rattle.fb_serve.specs.Places.{AddsRun};
+
+use crate::place::{Held, Place, give_back_held, hold};
+use fb_shared::bench::Reply;
+use fb_shared::{Plain, Receipt, Shared, WorkEnd, work_on};
+use std::alloc::Global;
+use std::sync::Wait;
+use std::thread;
+use std::time::{Clock, Duration};
+
+/// How many milliseconds a worker without memory pauses.
+const PAUSE: u64 = 100;
+
+/// Pauses before the next try.
+pub fn pause<R: Clock>(rt: &R) {
+    thread::sleep(rt, Duration::from_millis(PAUSE));
+}
+
+/// A worker looks for a job as often as there are turns. If it finds no memory, it gives back the key that it has taken, pauses, and begins again.
+pub fn keep_working<R: Wait + Clock>(
+    rt: &R,
+    alloc: Global,
+    shared: &Shared,
+    place: &mut Place,
+    turns: u64,
+) -> WorkEnd
+    // The receipts of its calls, one after another, are added at the end, and lead to the seat as it is then.
+    ensures { AddsRun place.old.seat place.old.receipts.items
+        place.new.seat place.new.receipts.items }
+{
+    for _ in 0..turns {
+        match look_once(rt, alloc, shared, place) {
+            WorkEnd::TurnsOver => {}
+            WorkEnd::Memory => pause(rt),
+            end => return end,
+        }
+    }
+    WorkEnd::TurnsOver
+}
+
+/// Looks once, and gives back the keys that it then still has.
+fn look_once<R: Wait>(rt: &R, alloc: Global, shared: &Shared, place: &mut Place) -> WorkEnd
+    ensures { AddsRun place.old.seat place.old.receipts.items
+        place.new.seat place.new.receipts.items }
+{
+    let end = work_on(
+        rt,
+        alloc,
+        shared,
+        &mut place.seat,
+        &mut place.receipts,
+        &Plain,
+        1,
+    );
+    hold_unsettled(place);
+    give_back_held(rt, shared, place);
+    end
+}
+
+/// Holds the key of a job that was taken and not settled.
+fn hold_unsettled(place: &mut Place)
+    ensures seat { place.new.seat ≡ place.old.seat }
+    ensures receipts { place.new.receipts.items ≡ place.old.receipts.items }
+{
+    if let Some(it) = unsettled(&place.receipts) {
+        hold(&mut place.held, it);
+    }
+}
+
+/// The key of the last receipt, if it is of a take: no result was delivered for that key, and it was not given back.
+fn unsettled(receipts: &[Receipt]) -> Option<Held> {
+    let receipt = receipts.last()?;
+    match receipt.reply() {
+        Reply::Taking(Some(wanted)) => Some(Held {
+            key: wanted.key,
+            since: receipt.number(),
+        }),
+        _ => None,
+    }
+}
