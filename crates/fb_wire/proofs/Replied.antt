@@ -8,7 +8,7 @@ use Rattle.fb_wire.specs.Served.{LineServed, LineSaid}
 use Rattle.fb_wire.specs.Talk.{Jobs, says}
 use Rattle.fb_wire.specs.declared.end.RunEnd.TheVariants as end
 
-module _ {S : Type 0} (Step : S → Deed → Answer → S → Type 0) where
+module _ {S : Type 0} (Step : S → Exchange → S → Type 0) where
   -- the reply's line was written
   pub reply_said : (line : List ℕ) (old_jobs jobs : Jobs) (old new : S) (text : Vec ℕ Global) (old_held held : List ℕ) → LineServed Step line old_jobs old (Ok (Some text)) jobs new
       → held ≡ old_held ++ text.items → LineSaid Step line old_jobs old old_held (Ok tt) jobs new held

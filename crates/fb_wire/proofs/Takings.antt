@@ -45,7 +45,7 @@ line_at : (given partial front behind : List ℕ) (lines : List (List ℕ)) → 
 line_at given partial front behind lines is whole =
     ap (λ xs. lines_of (given ++ xs)) (append_assoc front (10 ∷ []) behind) ∙ after_line given partial front behind lines is whole
 
-module _ {S : Type 0} (Step : S → Deed → Answer → S → Type 0) where
+module _ {S : Type 0} (Step : S → Exchange → S → Type 0) where
   -- The run stops at a line of which nothing was asked or said: it is too long, or memory ran out for it.
   stops_at : (start old : S) (given bytes line new_line front : List ℕ) (others : List (List ℕ)) (jobs : Jobs) (held out : List ℕ) (stop : RunEnd) (st : Standing Step start given line jobs out old)
       → lines_of (given ++ bytes) ≡ st.0 ++ (line ++ front) ∷ others → Extends line front (Err stop) new_line
