@@ -15,7 +15,7 @@ use Rattle.fb_text.specs.Order.{name_cmp}
 use Rattle.fb_deploy.specs.Library.Texts.{Texts, Held, held, text_in}
 use Rattle.fb_jobs.specs.declared.key.Key.{Key}
 use Rattle.fb_jobs.specs.Keys.{needs, has_key, scratch}
-use Rattle.fb_jobs.specs.Reads.{Seen, PlainJob, IsRight, is_among, Agree, read_names, read_texts, put_found, reads_under, reads_for, same_found, same_held, is_current, stale, IsLeastStale}
+use Rattle.fb_jobs.specs.Reads.{Seen, PlainJob, IsOf, IsRight, is_among, Agree, read_names, read_texts, put_found, reads_under, reads_for, same_found, same_held, is_current, stale, IsLeastStale}
 use Rattle.fb_jobs.proofs.SameNeeds.{same_at, needs_local, has_key_local, scratch_local, needs_rise}
 
 -- each read is what the texts have
@@ -82,9 +82,13 @@ current_from_stale T (r ∷ rs) e =
 
 -- ---- jobs
 
-current_under : (T : Texts) (ns : List (List ℕ)) → AllCurrent T (reads_under T ns)
+pub current_under : (T : Texts) (ns : List (List ℕ)) → AllCurrent T (reads_under T ns)
 current_under T [] = tt
 current_under T (n ∷ ns) = (refl, current_under T ns)
+
+pub of_under : (T : Texts) (ns : List (List ℕ)) → All (IsOf T) (reads_under T ns)
+of_under T [] = All-nil (IsOf T)
+of_under T (n ∷ ns) = All-cons (IsOf T) _ (reads_under T ns) refl (of_under T ns)
 
 pub names_under : (T : Texts) (ns : List (List ℕ)) → read_names (reads_under T ns) ≡ ns
 names_under T [] = refl

@@ -1,18 +1,18 @@
 -- What is kept is right in the reads of a job that needs all that its unit rests on.
-use Rattle.std.proofs.Common.{arith, ◌≡◌, ◌≢◌, ℕ, Bool, true, false, cond, ◌&&◌, not, List, [], ◌∷◌, ◌++◌, refl, sym, ap, subst, ◌∙◌, Option, filter, All, Contains}
+use Rattle.std.proofs.Common.{arith, ◌<◌, length, get_or, ◌≡◌, ◌≢◌, ℕ, Bool, true, false, cond, ◌&&◌, not, List, [], ◌∷◌, ◌++◌, refl, sym, ap, subst, ◌∙◌, Option, filter, All, Contains}
 use Rattle.std.specs.BTreeMap.{is_at}
 use Rattle.std.specs.List.{AllPairs, AllByRecursion}
 use Rattle.std.specs.List.Sorted.{IsStrictlySortedBy}
-use Rattle.std.specs.Option.{option_and_then}
+use Rattle.std.specs.Option.{option_and_then, option_map}
 use Rattle.std.specs.declared.cmp.Ordering.TheVariants.{Less}
-use Rattle.std.proofs.lemmas.List.Elements.{All-nil, All-cons, All-push, All-contains, All-contains_itself, filter-append}
+use Rattle.std.proofs.lemmas.List.Elements.{All-get_or, All-nil, All-cons, All-push, All-contains, All-contains_itself, filter-append}
 use Rattle.std.proofs.lemmas.List.Kept.{AllPairs-cons, IsStrictlySortedBy-filter}
 use Rattle.std.proofs.lemmas.Cmp.{tied_itself}
-use Rattle.std.proofs.lemmas.List.{append-nil, map-append}
+use Rattle.std.proofs.lemmas.List.{append-nil, get_or-map, length-map, map-append}
 use Rattle.fb_text.specs.Order.{name_cmp}
 use Rattle.fb_text.proofs.Members.{contains_map, passes_in_filter}
-use Rattle.fb_deploy.specs.Library.Texts.{Texts, sources_of}
-use Rattle.fb_deploy.specs.Library.View.{Sources, tree_of}
+use Rattle.fb_deploy.specs.Library.Texts.{Texts, sources_of, text_in}
+use Rattle.fb_deploy.specs.Library.View.{Sources, tree_at, tree_of}
 use Rattle.fb_deploy.specs.Library.Rests.{Rests, itself, through}
 use Rattle.fb_deploy.proofs.Library.Names.{name_total}
 use Rattle.fb_deploy.proofs.Library.Sources.{get_source}
@@ -27,8 +27,9 @@ use Rattle.fb_jobs.specs.declared.key.Key.{Key}
 use Rattle.fb_jobs.specs.Keys.{Finding, needs, needs_of, scratch}
 use Rattle.fb_jobs.specs.Kept.{AreKept}
 use Rattle.fb_jobs.specs.Kinds.{needs_all}
-use Rattle.fb_jobs.specs.Reads.{is_among, read_names, read_texts, reads_for}
-use Rattle.fb_jobs.specs.Values.{finding_of, all_seen}
+use Rattle.fb_jobs.specs.Left.{seen_text}
+use Rattle.fb_jobs.specs.Reads.{IsOf, Seen, is_among, read_names, read_texts, reads_for}
+use Rattle.fb_jobs.specs.Values.{finding_of, all_seen, seen_of}
 use Rattle.fb_jobs.specs.Hints.{AddsChosen, AreChosen, AreHints, IsHint, IsKeptHint, is_chosen, is_other_subapplication, net_key, units_of}
 use Rattle.fb_jobs.specs.declared.read.Read.{Read}
 use Rattle.fb_jobs.proofs.SameNeeds.{scratch_local, needs_local, needs_rise}
@@ -126,12 +127,24 @@ chosen_hints T kept key hints right all chosen = record {
       units_apart hints (subst (IsStrictlySortedBy name_cmp) (sym chosen.units) (IsStrictlySortedBy-filter name_cmp (is_chosen T kept key.unit) (read_names (reads_for T key)) (subst (IsStrictlySortedBy name_cmp) (sym (names_under T (needs T key))) (needs_rise T key))));
 }
 
+pub no_hints : (T : Texts) (key : Key) → AreHints T key []
+no_hints T key = record { none = λ e. refl; each = All-nil (IsHint T key); once = λ i j d first last. absurd (omega (arith, last)) }
+
 -- ---- gathering them
+
+-- what is read of texts is theirs
+pub tree_read : (T : Texts) (it : Seen) → IsOf T it → option_and_then tree_of (seen_text it) ≡ tree_at (sources_of T) it.name
+tree_read T it is = ap (λ (o : Option (List ℕ)). option_and_then tree_of o) (ap (option_map text_in) (sym is) ∙ sym (get_source T it.name))
+
+pub of_at : (T : Texts) (reads : List Read) (i : ℕ) (read : Read) → i < length reads → read ≡ get_or reads i read → All (IsOf T) (all_seen reads) → IsOf T (seen_of read)
+of_at T reads i read lt is all =
+    subst (IsOf T) (get_or-map seen_of reads i read (seen_of read) lt ∙ ap seen_of (sym is))
+    (All-get_or (IsOf T) (all_seen reads) i (seen_of read) (omega (arith, lt, length-map reads seen_of)) all)
 
 pub nothing_chosen : (T : Texts) (kept : Key → Option Finding) (unit : List ℕ) (hints : List Hint) → hints ≡ [] → AreChosen T kept unit [] hints
 nothing_chosen T kept unit hints e = record { units = ap units_of e; nets = subst (All (IsKeptHint kept)) (sym e) (All-nil (IsKeptHint kept)) }
 
-names_more : (reads : List Read) (read : Read) → read_names (all_seen (reads ++ read ∷ [])) ≡ read_names (all_seen reads) ++ read.name ∷ []
+pub names_more : (reads : List Read) (read : Read) → read_names (all_seen (reads ++ read ∷ [])) ≡ read_names (all_seen reads) ++ read.name ∷ []
 names_more [] read = refl
 names_more (r ∷ reads) read = ap (λ ns. r.name ∷ ns) (names_more reads read)
 

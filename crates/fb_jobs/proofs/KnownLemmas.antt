@@ -1,22 +1,19 @@
 -- What a job knows beside its reads holds in them.
-use Rattle.std.proofs.Common.{◌≡◌, ◌⊎◌, inl, inr, ℕ, Bool, true, false, true≢false, cond, ◌||◌, is_none, is_some, List, [], ◌∷◌, ◌++◌, refl, sym, ap, subst, ◌∙◌, Option, Some, None, Contains}
+use Rattle.std.proofs.Common.{arith, ◌≡◌, ◌⊎◌, inl, inr, ℕ, zero, suc, ◌<◌, length, get_or, ◌&&◌, Bool, true, false, true≢false, cond, ◌||◌, is_none, is_some, List, [], ◌∷◌, ◌++◌, refl, sym, ap, subst, ◌∙◌, Option, Some, None, Contains}
 use Rattle.std.specs.Map.{lookup}
-use Rattle.std.specs.List.{list_any}
+use Rattle.std.specs.List.{AllZip, list_any}
 use Rattle.std.specs.Option.{option_map}
 use Rattle.std.specs.FinMap.{get}
 use Rattle.std.specs.BTreeMap as tree
 use Rattle.std.specs.BTreeMap.{is_at}
 use Rattle.std.specs.BTreeSet as set
 use Rattle.std.specs.Ordering.{is_eq}
-use Rattle.std.specs.Cmp.Lexicographic.{nat_list_cmp_total}
-use Rattle.std.specs.FinMap.{slice_cmp-IsAntisymmetric, nat_cmp-IsAntisymmetric}
 use Rattle.std.specs.declared.sync.Arc.{Arc}
 use Rattle.std.specs.declared.alloc.Global.{Global}
-use Rattle.std.proofs.lemmas.List.Elements.{All-contains, Contains-append_cases, Contains-append_left, Contains-append_right}
+use Rattle.std.proofs.lemmas.List.Elements.{All-contains, Contains-append_left, Contains-append_right}
 use Rattle.fb_text.specs.Order.{name_cmp}
-use Rattle.fb_text.proofs.OrderLemmas.{in_order-members}
-use Rattle.fb_text.proofs.Members.{contains_nothing, contains_cases, contains_here}
-use Rattle.fb_deploy.specs.Library.Texts.{Texts, sources_of, text_at}
+use Rattle.fb_text.proofs.Members.{contains_here}
+use Rattle.fb_deploy.specs.Library.Texts.{Texts, held, sources_of, text_at, text_in}
 use Rattle.fb_deploy.specs.Library.View.{Sources}
 use Rattle.fb_deploy.specs.Library.Near.{near_of}
 use Rattle.fb_deploy.proofs.Library.Locality.{near_far, rests_both}
@@ -35,7 +32,6 @@ use Rattle.fb_jobs.specs.declared.hints.Hint.{Hint}
 use Rattle.fb_jobs.specs.declared.key.Kind.{Kind}
 use Rattle.fb_jobs.specs.declared.key.Kind.TheVariants as kind
 use Rattle.fb_jobs.specs.declared.key.Key.{Key}
-use Rattle.fb_jobs.specs.declared.read.Read.{Read}
 use Rattle.fb_jobs.specs.declared.value.Value.{Value}
 use Rattle.fb_jobs.specs.declared.value.Value.TheVariants.{Faults, Net, Deploy}
 use Rattle.fb_jobs.specs.Hints.{AreChosen, AreHints, IsHint, net_key}
@@ -43,12 +39,12 @@ use Rattle.fb_jobs.specs.Keys.{Finding, FaultsFound, NetFound, has_key, needs, n
 use Rattle.fb_jobs.specs.Kept.{AreKept}
 use Rattle.fb_jobs.specs.Kinds.{needs_all}
 use Rattle.fb_jobs.specs.declared.known.Knowledge.{Knowledge}
-use Rattle.fb_jobs.specs.Known.{IsKnowledge, AddsFaultless, AddsNet, AreFaultlessAmong, AreNetsOf, AreWithoutFaults, IsKeptFaultless, IsNetOfUnit, IsOwnNet, IsThere, Nets, faults_key, hint_in, net_in}
+use Rattle.fb_jobs.specs.Known.{IsKnowledge, AddsNet, AreFaultlessAmong, AreNetsOf, AreWithoutFaults, IsFlag, IsKeptFaultless, IsNetOfUnit, IsOwnNet, IsThere, Nets, faults_key, hint_in, is_flagged, net_in}
 use Rattle.fb_jobs.specs.Reads.{Agree, Seen, is_among, read_names, read_texts, reads_for}
-use Rattle.fb_jobs.specs.Values.{all_seen, finding_of}
+use Rattle.fb_jobs.specs.Values.{finding_of}
 use Rattle.fb_jobs.specs.Work.{IsOwnIn}
 use Rattle.fb_jobs.proofs.SameNeeds.{has_key_local, scratch_local, same_at, at_itself, unit_needed}
-use Rattle.fb_jobs.proofs.Currents.{agree_for, names_under}
+use Rattle.fb_jobs.proofs.Currents.{AllCurrent, agree_for, current_under, names_under}
 use Rattle.fb_jobs.proofs.HintLemmas.{chosen_hints, hints_stay, net_stays}
 
 -- ---- nets by the names of their units
@@ -143,55 +139,13 @@ faults_needed : (T : Texts) (key : Key) (name n : List ℕ) → needs_all key.ki
 unfolding needs
 faults_needed T key name n far first second = near_within key.kind (sources_of T) key.unit name n far first second
 
-pub faultless_stay : (T : Texts) (key : Key) (kept : Key → Option Finding) (units : set.BTreeSet (List ℕ)) → AreKept T kept → needs_all key.kind ≡ true → AreFaultlessAmong T kept (reads_for T key) units → AreWithoutFaults (read_texts (reads_for T key)) units
-faultless_stay T key kept units right all among name has =
+pub faultless_stay : (T : Texts) (key : Key) (kept : Key → Option Finding) (faultless : List ℕ → Bool) → AreKept T kept → needs_all key.kind ≡ true → AreFaultlessAmong T kept (reads_for T key) faultless → AreWithoutFaults (read_texts (reads_for T key)) faultless
+faultless_stay T key kept faultless right all among name has =
     let it = among name has in
     let needed : is_among name (needs T key) ≡ true = ap (is_among name) (sym (names_under T (needs T key))) ∙ it.0 in
     let read = read_texts (reads_for T key) in
     let agree : Agree T read (needs T (faults_key name)) = λ n near. agree_for T key n (faults_needed T key name n all needed near) in
     (has_key_local T read (faults_key name) agree ∙ it.1, scratch_local T read (faults_key name) agree ∙ sym (right (faults_key name) (FaultsFound []) it.2))
-
--- gathered read by read
-no_member : (units : set.BTreeSet (List ℕ)) (name : List ℕ) → units.keys ≡ [] → set.contains name_cmp units name ≡ true → ⊥
-no_member units name empty has =
-    let none : set.contains name_cmp units name ≡ false = ap (λ ks. list_any (is_at (name_cmp name)) ks) empty in absurd (true≢false (sym has ∙ none))
-
-pub none_faultless : (T : Texts) (kept : Key → Option Finding) (reads : List Seen) (units : set.BTreeSet (List ℕ)) → units.keys ≡ [] → AreFaultlessAmong T kept reads units
-none_faultless T kept reads units empty name has = absurd (no_member units name empty has)
-
-or_first : (a b c : Bool) → (b ≡ true → c ≡ true) → (a || b) ≡ true → (a || c) ≡ true
-or_first true b c step e = refl
-or_first false b c step e = step e
-
-or_last : (a b : Bool) → b ≡ true → (a || b) ≡ true
-or_last true b e = refl
-or_last false b e = e
-
-among_more : (name : List ℕ) (reads : List Read) (read : Read) → is_among name (read_names (all_seen reads)) ≡ true → is_among name (read_names (all_seen (reads ++ read ∷ []))) ≡ true
-among_more name [] read e = cc
-among_more name (r ∷ reads) read e = or_first (is_at (name_cmp name) r.name) _ _ (among_more name reads read) e
-
-among_last : (reads : List Read) (read : Read) → is_among read.name (read_names (all_seen (reads ++ read ∷ []))) ≡ true
-among_last [] read = ap (λ b. b || false) (at_itself read.name)
-among_last (r ∷ reads) read = or_last (is_at (name_cmp read.name) r.name) _ (among_last reads read)
-
-pub one_more_faultless : (T : Texts) (kept : Key → Option Finding) (before now : List Read) (read : Read) (old new : set.BTreeSet (List ℕ)) → now ≡ before ++ read ∷ [] → AreFaultlessAmong T kept (all_seen before) old → AddsFaultless T kept read.name old new → AreFaultlessAmong T kept (all_seen now) new
-one_more_faultless T kept before now read old new more so_far adds name has =
-    subst (λ (reads : List Read). (is_among name (read_names (all_seen reads)) ≡ true) × IsThere T name × IsKeptFaultless kept name) (sym more)
-    (elim (adds name has) [
-      | inl was ↦ let it = so_far name was in (among_more name before read it.0, it.1, it.2)
-      | inr is ↦ (subst (λ n. is_among n (read_names (all_seen (before ++ read ∷ []))) ≡ true) (sym is.0) (among_last before read), is.1, is.2)
-    ])
-
-put_unit : (T : Texts) (kept : Key → Option Finding) (name other : List ℕ) (old new same : Bool) → is_at (name_cmp name) other ≡ same → new ≡ cond same true old → IsThere T name → IsKeptFaultless kept name → new ≡ true → (old ≡ true) ⊎ ((other ≡ name) × IsThere T other × IsKeptFaultless kept other)
-put_unit T kept name other old new true is now there none has =
-    let named : name ≡ other = same_at name other is in
-    inr (sym named, subst (IsThere T) named there, subst (IsKeptFaultless kept) named none)
-put_unit T kept name other old new false is now there none has = inl (sym now ∙ has)
-
-pub adds_unit : (T : Texts) (kept : Key → Option Finding) (name : List ℕ) (old new : set.BTreeSet (List ℕ)) → IsThere T name → IsKeptFaultless kept name → ((other : List ℕ) → set.contains name_cmp new other ≡ cond (is_at (name_cmp name) other) true (set.contains name_cmp old other)) → AddsFaultless T kept name old new
-adds_unit T kept name old new there none now other has =
-    put_unit T kept name other (set.contains name_cmp old other) (set.contains name_cmp new other) (is_at (name_cmp name) other) refl (now other) there none has
 
 unblocked : (T : Texts) (name : List ℕ) → IsThere T name → scratch T (faults_key name) ≡ FaultsFound [] → is_absent_or_faulty (sources_of T) name ≡ false
 unfolding has_key scratch
@@ -203,22 +157,87 @@ unblocked T name there none =
     by (Some text) e [] none = refl
     by (Some text) e (f ∷ fs) none = cc
 
-pub faultless_in : (T : Texts) (units : set.BTreeSet (List ℕ)) → AreWithoutFaults T units → AreFaultless (sources_of T) (λ name. set.contains name_cmp units name)
-faultless_in T units are name has = let it = are name has in unblocked T name it.0 it.1
+pub faultless_in : (T : Texts) (faultless : List ℕ → Bool) → AreWithoutFaults T faultless → AreFaultless (sources_of T) faultless
+faultless_in T faultless are name has = let it = are name has in unblocked T name it.0 it.1
 
 pub is_there : {A : Type 0} (T : Texts) (name : List ℕ) (o : Option A) (text : A → List ℕ) → is_some o ≡ true → option_map text o ≡ text_at T name → IsThere T name
 unfolding has_key
 is_there T name None text e same = cc
 is_there T name (Some x) text e same = ap is_some (sym same)
 
-pub no_units : (T : Texts) (units : set.BTreeSet (List ℕ)) → units.keys ≡ [] → AreWithoutFaults T units
-no_units T units empty name has = absurd (no_member units name empty has)
+-- ---- which reads are flagged
 
-pub hints_alone : (T : Texts) (key : Key) (hints : List Hint) (it : Knowledge) → AreHints T key hints → it.hints.items ≡ hints → it.own ≡ None → it.faultless.keys ≡ [] → IsKnowledge (read_texts (reads_for T key)) key it
+none_flagged : (reads : List Seen) (name : List ℕ) → is_flagged reads [] name ≡ false
+none_flagged [] name = refl
+none_flagged (it ∷ reads) name = refl
+
+pub no_flags : (T : Texts) (reads : List Seen) (flags : List Bool) → flags ≡ [] → AreWithoutFaults T (is_flagged reads flags)
+no_flags T reads flags none name has =
+    absurd (true≢false (sym has ∙ ap (λ (fs : List Bool). is_flagged reads fs name) none ∙ none_flagged reads name))
+
+or_last : (a b : Bool) → b ≡ true → (a || b) ≡ true
+or_last true b e = refl
+or_last false b e = e
+
+-- what is flagged was read of the texts, where it is there, and is kept without faults
+record IsFlagged (T : Texts) (kept : Key → Option Finding) (reads : List Seen) (name : List ℕ) : Type 0 where
+  pub among : is_among name (read_names reads) ≡ true
+  pub there : IsThere T name
+  pub none : IsKeptFaultless kept name
+
+later : (T : Texts) (kept : Key → Option Finding) (it : Seen) (reads : List Seen) (name : List ℕ) → IsFlagged T kept reads name → IsFlagged T kept (it ∷ reads) name
+later T kept it reads name more = record { among = or_last (is_at (name_cmp name) it.name) _ more.among; there = more.there; none = more.none }
+
+first_or_later : (T : Texts) (kept : Key → Option Finding) (it : Seen) (reads : List Seen) (name : List ℕ) (rest same : Bool) → held T it.name ≡ it.found → (is_some it.found ≡ true) × IsKeptFaultless kept it.name → (rest ≡ true → IsFlagged T kept reads name) → is_at (name_cmp name) it.name ≡ same → (same || rest) ≡ true → IsFlagged T kept (it ∷ reads) name
+first_or_later T kept it reads name rest true current is more at h =
+    let named : it.name ≡ name = sym (same_at name it.name at) in
+    record {
+      among = ap (λ b. b || is_among name (read_names reads)) at;
+      there = subst (IsThere T) named (is_there T it.name (held T it.name) text_in (ap is_some current ∙ is.0) refl);
+      none = subst (IsKeptFaultless kept) named is.1;
+    }
+first_or_later T kept it reads name rest false current is more at h = later T kept it reads name (more h)
+
+flagged : (T : Texts) (kept : Key → Option Finding) (reads : List Seen) (flags : List Bool) → AllCurrent T reads → AllZip (IsFlag kept) reads flags → (name : List ℕ) → is_flagged reads flags name ≡ true → IsFlagged T kept reads name
+flagged T kept [] flags current are name has = absurd (true≢false (sym has))
+flagged T kept (it ∷ reads) [] current are name has = absurd are
+flagged T kept (it ∷ reads) (false ∷ flags) current are name has = later T kept it reads name (flagged T kept reads flags current.1 are.1 name has)
+flagged T kept (it ∷ reads) (true ∷ flags) current are name has =
+    first_or_later T kept it reads name (is_flagged reads flags name) (is_at (name_cmp name) it.name) current.0 (are.0 refl) (flagged T kept reads flags current.1 are.1 name) refl has
+
+pub flags_among : (T : Texts) (kept : Key → Option Finding) (reads : List Seen) (flags : List Bool) → AllCurrent T reads → AllZip (IsFlag kept) reads flags → AreFaultlessAmong T kept reads (is_flagged reads flags)
+flags_among T kept reads flags current are name has = let it = flagged T kept reads flags current are name has in (it.among, it.there, it.none)
+
+-- a flag at a place
+pub flagged_there : (reads : List Seen) (flags : List Bool) (k : ℕ) (d : Seen) → k < length reads → get_or flags k false ≡ true → is_flagged reads flags (get_or reads k d).name ≡ true
+flagged_there [] flags k d lt e = absurd (omega (arith, lt))
+flagged_there (it ∷ reads) [] k d lt e = cc
+flagged_there (it ∷ reads) (flag ∷ flags) zero d lt e =
+    ap (λ b. (b && is_at (name_cmp it.name) it.name) || is_flagged reads flags it.name) e ∙ ap (λ b. b || is_flagged reads flags it.name) (at_itself it.name)
+flagged_there (it ∷ reads) (flag ∷ flags) (suc k) d lt e =
+    or_last (flag && is_at (name_cmp (get_or reads k d).name) it.name) _ (flagged_there reads flags k d (omega (arith, lt)) e)
+
+-- one name more of a read that is flagged
+put_name : (passes : List ℕ → Bool) (name other : List ℕ) (old new same : Bool) → is_at (name_cmp name) other ≡ same → new ≡ cond same true old → passes name ≡ true → (old ≡ true → passes other ≡ true) → new ≡ true → passes other ≡ true
+put_name passes name other old new true at now here before has = ap passes (sym (same_at name other at)) ∙ here
+put_name passes name other old new false at now here before has = before (sym now ∙ has)
+
+pub puts_name : (passes : List ℕ → Bool) (name : List ℕ) (old new : set.BTreeSet (List ℕ)) → ((other : List ℕ) → set.contains name_cmp new other ≡ cond (is_at (name_cmp name) other) true (set.contains name_cmp old other)) → passes name ≡ true → ((other : List ℕ) → set.contains name_cmp old other ≡ true → passes other ≡ true) → (other : List ℕ) → set.contains name_cmp new other ≡ true → passes other ≡ true
+puts_name passes name old new now here before other has =
+    put_name passes name other (set.contains name_cmp old other) (set.contains name_cmp new other) (is_at (name_cmp name) other) refl (now other) here (before other) has
+
+pub puts_none : (passes : List ℕ → Bool) (names : set.BTreeSet (List ℕ)) → names.keys ≡ [] → (other : List ℕ) → set.contains name_cmp names other ≡ true → passes other ≡ true
+puts_none passes names empty other has =
+    let none : set.contains name_cmp names other ≡ false = ap (λ ks. list_any (is_at (name_cmp other)) ks) empty in
+    absurd (true≢false (sym has ∙ none))
+
+-- ---- together
+
+pub hints_alone : (T : Texts) (key : Key) (hints : List Hint) (it : Knowledge) → AreHints T key hints → it.hints.items ≡ hints → it.own ≡ None → it.faultless.items ≡ [] → IsKnowledge (reads_for T key) key it
 hints_alone T key hints it right is none empty = record {
   hints_are = subst (AreHints (read_texts (reads_for T key)) key) (sym is) (hints_stay T key hints right);
   own_is = λ value there. absurd (no_value it.own value none there);
-  faultless_are = no_units (read_texts (reads_for T key)) it.faultless empty;
+  faultless_are = no_flags (read_texts (reads_for T key)) (reads_for T key) it.faultless.items empty;
 }
   where
     no_value : (o : Option (Arc Value Global)) (value : Arc Value Global) → o ≡ None → o ≡ Some value → ⊥
@@ -226,9 +245,11 @@ hints_alone T key hints it right is none empty = record {
     no_value (Some v) value none there = cc
 
 -- what is kept of what the key needs
-pub kept_known : (T : Texts) (key : Key) (kept found : Key → Option Finding) (it : Knowledge) → AreKept T kept → AreKept T found → needs_all key.kind ≡ true → AreChosen T kept key.unit (reads_for T key) it.hints.items → IsOwnNet kept found key.unit it.own → AreFaultlessAmong T kept (reads_for T key) it.faultless → IsKnowledge (read_texts (reads_for T key)) key it
+pub kept_known : (T : Texts) (key : Key) (kept found : Key → Option Finding) (it : Knowledge) → AreKept T kept → AreKept T found → needs_all key.kind ≡ true → AreChosen T kept key.unit (reads_for T key) it.hints.items → IsOwnNet kept found key.unit it.own → AllZip (IsFlag kept) (reads_for T key) it.faultless.items → IsKnowledge (reads_for T key) key it
 kept_known T key kept found it right right_found all chosen own faultless = record {
   hints_are = hints_stay T key it.hints.items (chosen_hints T kept key it.hints.items right all chosen);
   own_is = own_stays T key kept found it.own right right_found all own;
-  faultless_are = faultless_stay T key kept it.faultless right all faultless;
+  faultless_are =
+      faultless_stay T key kept (is_flagged (reads_for T key) it.faultless.items) right all
+      (flags_among T kept (reads_for T key) it.faultless.items (current_under T (needs T key)) faultless);
 }

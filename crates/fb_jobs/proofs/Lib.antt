@@ -11,6 +11,7 @@ pub mod WorkLemmas
 pub mod Searches
 pub mod TextLemmas
 pub mod LeftLemmas
+pub mod Again
 -- Of the crates below, for the crates above.
 pub use Rattle.fb_deploy.proofs.Library as Library
 pub use Rattle.fb_deploy.proofs.Flatten as Flatten

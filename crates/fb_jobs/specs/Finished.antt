@@ -25,7 +25,7 @@ pub record IsJob (key : Key) (reads : List Read) (texts : List Seen) : Type 0 wh
 -- and what is known beside them is what the reads give
 pub record IsGiven (key : Key) (reads : List Read) (texts : List Seen) (knowledge : Knowledge) : Type 0 where
   pub job : IsJob key reads texts
-  pub known : IsKnowledge (read_texts (all_seen reads)) key knowledge
+  pub known : IsKnowledge (all_seen reads) key knowledge
 
 -- the value is that of the reads, from scratch, and so are the nets that were found on the way
 pub record IsFinished (key : Key) (reads : List Read) (texts : List Seen) (value : Arc Value Global) (found : List Hint) : Type 0 where

@@ -1,7 +1,7 @@
 -- What a job knows beside its reads and its hints.
-use Rattle.std.specs.Prelude.{◌≡◌, ◌⊎◌, ℕ, true, List, [], Option, Some, None, Contains}
+use Rattle.std.specs.Prelude.{◌≡◌, ◌⊎◌, ℕ, Bool, true, false, ◌&&◌, ◌||◌, is_some, List, [], ◌∷◌, Option, Some, None, Contains}
 use Rattle.std.specs.BTreeMap as tree
-use Rattle.std.specs.BTreeSet as set
+use Rattle.std.specs.BTreeMap.{is_at}
 use Rattle.std.specs.declared.sync.Arc.{Arc}
 use Rattle.std.specs.declared.alloc.Global.{Global}
 use Rattle.fb_text.specs.Order.{name_cmp}
@@ -14,7 +14,7 @@ use Rattle.fb_jobs.specs.declared.key.Key.{Key}
 use Rattle.fb_jobs.specs.declared.value.Value.{Value}
 use Rattle.fb_jobs.specs.declared.value.Value.TheVariants.{Faults, Net, Deploy}
 use Rattle.fb_jobs.specs.Keys.{Finding, FaultsFound, has_key, scratch}
-use Rattle.fb_jobs.specs.Reads.{Seen, read_names, is_among}
+use Rattle.fb_jobs.specs.Reads.{Seen, read_names, read_texts, is_among}
 use Rattle.fb_jobs.specs.Hints.{AreHints, net_key}
 use Rattle.fb_jobs.specs.Values.{finding_of}
 
@@ -68,24 +68,29 @@ IsKeptFaultless kept unit = kept (faults_key unit) ≡ Some (FaultsFound [])
 abbrev pub IsThere : Texts → List ℕ → Type 0
 IsThere texts unit = has_key texts (faults_key unit) ≡ true
 
--- each is read, there, and kept without faults
-abbrev pub AreFaultlessAmong : Texts → (Key → Option Finding) → List Seen → set.BTreeSet (List ℕ) → Type 0
-AreFaultlessAmong texts kept reads units =
-    (name : List ℕ) → set.contains name_cmp units name ≡ true → (is_among name (read_names reads) ≡ true) × IsThere texts name × IsKeptFaultless kept name
+-- whether some read of this name is flagged; the flags stand in the order of the reads
+abbrev pub is_flagged : List Seen → List Bool → List ℕ → Bool
+is_flagged [] flags name = false
+is_flagged (it ∷ reads) [] name = false
+is_flagged (it ∷ reads) (flag ∷ flags) name = (flag && is_at (name_cmp name) it.name) || is_flagged reads flags name
 
-abbrev pub AddsFaultless : Texts → (Key → Option Finding) → List ℕ → set.BTreeSet (List ℕ) → set.BTreeSet (List ℕ) → Type 0
-AddsFaultless texts kept name old new =
-    (other : List ℕ) → set.contains name_cmp new other ≡ true
-    → (set.contains name_cmp old other ≡ true) ⊎ ((other ≡ name) × IsThere texts other × IsKeptFaultless kept other)
+-- what is flagged is there, and kept without faults
+abbrev pub IsFlag : (Key → Option Finding) → Seen → Bool → Type 0
+IsFlag kept it flag = flag ≡ true → (is_some it.found ≡ true) × IsKeptFaultless kept it.name
+
+-- each is read, there, and kept without faults
+abbrev pub AreFaultlessAmong : Texts → (Key → Option Finding) → List Seen → (List ℕ → Bool) → Type 0
+AreFaultlessAmong texts kept reads faultless =
+    (name : List ℕ) → faultless name ≡ true → (is_among name (read_names reads) ≡ true) × IsThere texts name × IsKeptFaultless kept name
 
 -- each is there and has no faults
-abbrev pub AreWithoutFaults : Texts → set.BTreeSet (List ℕ) → Type 0
-AreWithoutFaults texts units =
-    (name : List ℕ) → set.contains name_cmp units name ≡ true → IsThere texts name × (scratch texts (faults_key name) ≡ FaultsFound [])
+abbrev pub AreWithoutFaults : Texts → (List ℕ → Bool) → Type 0
+AreWithoutFaults texts faultless =
+    (name : List ℕ) → faultless name ≡ true → IsThere texts name × (scratch texts (faults_key name) ≡ FaultsFound [])
 
 -- ---- together
 
-pub record IsKnowledge (texts : Texts) (key : Key) (it : Knowledge) : Type 0 where
-  pub hints_are : AreHints texts key it.hints.items
-  pub own_is : IsNetOfUnit texts key.unit it.own
-  pub faultless_are : AreWithoutFaults texts it.faultless
+pub record IsKnowledge (reads : List Seen) (key : Key) (it : Knowledge) : Type 0 where
+  pub hints_are : AreHints (read_texts reads) key it.hints.items
+  pub own_is : IsNetOfUnit (read_texts reads) key.unit it.own
+  pub faultless_are : AreWithoutFaults (read_texts reads) (is_flagged reads it.faultless.items)

@@ -1,13 +1,13 @@
 -- What is read now, beside what gave a value before.
 use Rattle.std.specs.Prelude.{◌≡◌, ◌⊎◌, ⊤, ℕ, Bool, true, false, List, Option, None, Some}
 use Rattle.std.specs.List.{AllZip}
-use Rattle.std.specs.Option.{option_map}
+use Rattle.std.specs.Option.{option_and_then, option_map}
 use Rattle.fb_deploy.specs.Deploy.{plain_deploy}
 use Rattle.fb_deploy.specs.Plans.{is_whole_plan}
 use Rattle.fb_deploy.specs.Flatten.Hints.{is_whole_net}
 use Rattle.fb_deploy.specs.Flatten.Net.{plain_net}
 use Rattle.fb_deploy.specs.Library.Texts.{Held, text_in}
-use Rattle.fb_deploy.specs.Library.View.{tree_of}
+use Rattle.fb_deploy.specs.Library.View.{mentions_of_tree, tree_of}
 use Rattle.fb_deploy.specs.Flatten.Wiring.Local.{AreAlikeBlocks}
 use Rattle.fb_jobs.specs.declared.key.Key.{Key}
 use Rattle.fb_jobs.specs.declared.value.Value.{Value}
@@ -29,6 +29,10 @@ is_whole_value (Deploy deploy) = is_whole_plan (plain_deploy deploy)
 
 abbrev pub seen_text : Seen → Option (List ℕ)
 seen_text it = option_map text_in it.found
+
+-- what is read under a name mentions what it mentioned
+abbrev pub MentionsTheSame : Seen → Seen → Type 0
+MentionsTheSame before now = mentions_of_tree (option_and_then tree_of (seen_text before)) ≡ mentions_of_tree (option_and_then tree_of (seen_text now))
 
 -- the text of a name on which the unit rests is the same, or it is of another unit, a block type still that says the same
 abbrev pub IsStillText : List ℕ → List ℕ → List ℕ → List ℕ → Type 0

@@ -11,6 +11,7 @@ pub mod Hints
 pub mod Known
 pub mod Work
 pub mod Left
+pub mod Again
 pub mod Finished
 -- Of the crates below, for the crates above.
 pub use Rattle.fb_deploy.specs.Parse as Parse

@@ -34,6 +34,10 @@ reads_under texts names = map (λ name. record { name = name; found = held texts
 abbrev pub reads_for : Texts → Key → List Seen
 reads_for texts key = reads_under texts (needs texts key)
 
+-- it was read of these texts
+abbrev pub IsOf : Texts → Seen → Type 0
+IsOf texts it = held texts it.name ≡ it.found
+
 -- whether a name is one of the names
 abbrev pub is_among : List ℕ → List (List ℕ) → Bool
 is_among name names = list_any (is_at (name_cmp name)) names

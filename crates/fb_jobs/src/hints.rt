@@ -1,15 +1,23 @@
 //! The nets of other subapplications that a job is given along.
-ghost use Rattle.std.specs.Prelude.{◌≡◌, IfOk, OnOk};
+ghost use Rattle.std.specs.Prelude.{◌≡◌, All, IfOk, OnOk};
+ghost use Rattle.std.specs.Option.{option_and_then};
+ghost use Rattle.fb_deploy.specs.Flatten.Tables.{is_subapplication_in, is_subapplication_tree};
+ghost use Rattle.fb_deploy.specs.Library.Texts.{Texts};
+ghost use Rattle.fb_deploy.specs.Library.View.{tree_in, tree_of};
+ghost use Rattle.fb_parse.specs.Body.{body_tree};
+ghost use Rattle.fb_tree.specs.Tree.{decl_tree};
 ghost use Rattle.fb_jobs.specs.Hints.{AddsChosen, AreChosen, net_key};
-ghost use Rattle.fb_jobs.specs.Values.{all_seen};
+ghost use Rattle.fb_jobs.specs.Left.{seen_text};
+ghost use Rattle.fb_jobs.specs.Reads.{IsOf};
+ghost use Rattle.fb_jobs.specs.Values.{all_seen, seen_of};
 
 use crate::kept::Kept;
 use crate::key::{Key, Kind};
 use crate::read::Read;
 use crate::value::Value;
-use fb_deploy::flatten::is_subapplication;
-use fb_deploy::library::Library;
+use fb_parse::Body;
 use fb_text::{Name, same_name};
+use fb_tree::Decl;
 use std::alloc::{AllocError, Global};
 use std::sync::Arc;
 
@@ -31,23 +39,42 @@ pub(crate) fn net_key(unit: Name) -> Key
     }
 }
 
-/// Adds the net that is kept of a unit, where it is another subapplication.
+fn is_of_subapplication(body: &Body) -> bool
+    ensures { result ≡ is_subapplication_in (tree_in (body_tree body.now)) }
+{
+    match body {
+        Body::Tree(Decl::Subapplication(_)) => true,
+        Body::Tree(_) | Body::Broken(_) => false,
+    }
+}
+
+/// Whether what was read is a subapplication.
+fn is_subapplication(read: &Read) -> bool
+    ensures { result
+        ≡ is_subapplication_in (option_and_then tree_of (seen_text (seen_of read.now))) }
+{
+    match &read.source {
+        Some(source) => is_of_subapplication(source.body()),
+        None => false,
+    }
+}
+
+/// Adds the net that is kept of what was read, where that is another subapplication.
 fn add_hint<K: Kept>(
-    library: &Library,
     kept: &K,
     unit: &Name,
     hints: &mut Vec<Hint>,
-    name: &Name,
+    read: &Read,
 ) -> Result<(), AllocError>
-    ensures { OnOk result
-        (AddsChosen library.now (K.kept kept.now) unit.now name.now hints.old.items hints.new.items) }
+    ensures { OnOk result ((texts : Texts) → IsOf texts (seen_of read.now)
+        → AddsChosen texts (K.kept kept.now) unit.now read.now.name hints.old.items hints.new.items) }
 {
-    if same_name(unit, name) || !is_subapplication(library, name) {
+    if same_name(unit, &read.name) || !is_subapplication(read) {
         return Ok(());
     }
-    if let Some(value) = kept.value(&net_key(*name)) {
+    if let Some(value) = kept.value(&net_key(read.name)) {
         hints.push(Hint {
-            unit: *name,
+            unit: read.name,
             value: value.clone()?,
         })?;
     }
@@ -57,17 +84,16 @@ fn add_hint<K: Kept>(
 /// The nets that are kept of other subapplications among the reads.
 pub(crate) fn hints_among<K: Kept>(
     alloc: Global,
-    library: &Library,
     kept: &K,
     unit: &Name,
     reads: &[Read],
 ) -> Result<Vec<Hint>, AllocError>
-    ensures { IfOk result
-        (λ hints. AreChosen library.now (K.kept kept.now) unit.now (all_seen reads.now) hints.items) }
+    ensures { IfOk result (λ hints. (texts : Texts) → All (IsOf texts) (all_seen reads.now)
+        → AreChosen texts (K.kept kept.now) unit.now (all_seen reads.now) hints.items) }
 {
     let mut hints = Vec::new(alloc);
     for read in reads {
-        add_hint(library, kept, unit, &mut hints, &read.name)?;
+        add_hint(kept, unit, &mut hints, read)?;
     }
     Ok(hints)
 }

@@ -19,11 +19,11 @@ use crate::computed::{Worked, work_of};
 use crate::hints::Hint;
 use crate::kept::Kept;
 use crate::key::Key;
-use crate::known::{Knowledge, KnownNets, nets_of};
+use crate::known::{Knowledge, KnownNets, flagged_names, nets_of};
 use crate::left::{are_still_read, is_whole_value};
 use crate::made::Made;
 use crate::read::Read;
-use crate::reads::reads_of;
+use crate::reads::{reads_anew, reads_of};
 use crate::result::Finished;
 use crate::texts::TextReads;
 use crate::value::Value;
@@ -41,7 +41,7 @@ pub struct Job {
     reads: Arc<Vec<Read>>,
     texts: Arc<TextReads>,
     knowledge: Knowledge,
-    // a value that the key had once, with the texts that gave it, to be shared where it comes out again
+    // a value that the key had once, with the reads that gave it, to be shared where it comes out again
     former: Option<Made>,
 }
 
@@ -84,7 +84,7 @@ impl Job {
             (λ job. job ≡ record { key = key; reads = reads_for library.now key }) }
     {
         let wanted = key;
-        let (reads, texts) = reads_of(alloc, library, wanted)?;
+        let (reads, texts) = reads_anew(alloc, library, wanted)?;
         let knowledge = Knowledge::of_hints(alloc, hints);
         Job::of_reads(alloc, key, reads, texts, knowledge, None)
     }
@@ -104,12 +104,12 @@ impl Job {
             (λ job. job ≡ record { key = key; reads = reads_for library.now key }) }
     {
         let wanted = key;
-        let (reads, texts) = reads_of(alloc, library, wanted)?;
-        let knowledge = Knowledge::of_kept(alloc, library, kept, &key, &reads)?;
         let former = match kept.former(&key) {
             Some(made) => Some(made.share()?),
             None => None,
         };
+        let (reads, texts) = reads_of(alloc, library, wanted, &former)?;
+        let knowledge = Knowledge::of_kept(alloc, kept, &key, &reads)?;
         Job::of_reads(alloc, key, reads, texts, knowledge, former)
     }
 
@@ -124,7 +124,7 @@ impl Job {
         requires right { IsRight (plain_job key reads.items) }
         requires own { All IsOwn reads.items }
         requires texts { texts ≡ all_seen reads.items }
-        requires known { IsKnowledge (read_texts (all_seen reads.items)) key knowledge }
+        requires known { IsKnowledge (all_seen reads.items) key knowledge }
         ensures { IfOk result (λ job. job ≡ plain_job key reads.items) }
     {
         let texts = Arc::new(alloc, texts)?;
@@ -180,7 +180,7 @@ impl Job {
             return Ok(None);
         }
         let faultless = &self.knowledge.faultless;
-        if are_still_read(alloc, &self.key.unit, faultless, made.texts(), &self.reads)? {
+        if are_still_read(alloc, &self.key.unit, faultless, made.reads(), &self.reads)? {
             return Ok(Some(value));
         }
         Ok(None)
@@ -192,9 +192,10 @@ impl Job {
             (IsWork self.now.key.kind (sources_of (read_texts self.now.reads)) self.now.key.unit) }
     {
         let nets = nets_of(alloc, &self.knowledge.hints)?;
+        let faultless = flagged_names(alloc, &self.reads, &self.knowledge.faultless)?;
         let known = KnownNets {
             nets: &nets,
-            faultless: &self.knowledge.faultless,
+            faultless: &faultless,
         };
         let own = &self.knowledge.own;
         work_of(alloc, self, self.key, &known, own, &self.former)

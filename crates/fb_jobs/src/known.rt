@@ -1,13 +1,15 @@
 //! What a job knows beside its reads: the nets of its hints, its unit's own net, and units without faults.
-ghost use Rattle.std.specs.Prelude.{◌≡◌, true, [], None, option_map, option_copied, IfOk, OnOk};
+ghost use Rattle.std.specs.Prelude.{◌≡◌, ℕ, List, true, false, [], None, option_map, option_copied, get_or, IfOk, OnOk};
+ghost use Rattle.std.specs.List.{AllZip};
 ghost use Rattle.std.specs.BTreeMap as tree;
 ghost use Rattle.std.specs.BTreeSet as set;
 ghost use Rattle.fb_text.specs.Order.{name_cmp};
 ghost use Rattle.fb_deploy.specs.Flatten.Net.{plain_net};
 ghost use Rattle.fb_jobs.specs.Kept.{AreKept};
-ghost use Rattle.fb_jobs.specs.Known.{AddsFaultless, AddsNet, AreFaultlessAmong, AreNetsOf, IsKeptFaultless, IsKnowledge, IsOwnNet, hint_in, net_in};
-ghost use Rattle.fb_jobs.specs.Reads.{read_texts, reads_for};
-ghost use Rattle.fb_jobs.specs.Values.{all_seen};
+ghost use Rattle.fb_deploy.specs.Library.Texts.{Texts};
+ghost use Rattle.fb_jobs.specs.Known.{AddsNet, AreNetsOf, IsFlag, IsKeptFaultless, IsKnowledge, IsOwnNet, hint_in, is_flagged, net_in};
+ghost use Rattle.fb_jobs.specs.Reads.{reads_for};
+ghost use Rattle.fb_jobs.specs.Values.{all_seen, seen_of};
 
 use crate::hints::{Hint, hints_among, net_key};
 use crate::kept::Kept;
@@ -15,7 +17,6 @@ use crate::key::{Key, Kind};
 use crate::read::Read;
 use crate::value::Value;
 use fb_deploy::flatten::{Hints, Known, Net};
-use fb_deploy::library::Library;
 use fb_text::Name;
 use std::alloc::{AllocError, Global};
 use std::collections::{BTreeMap, BTreeSet};
@@ -26,7 +27,8 @@ use std::sync::Arc;
 pub(crate) struct Knowledge {
     pub(crate) hints: Vec<Hint>,
     pub(crate) own: Option<Arc<Value>>,
-    pub(crate) faultless: BTreeSet<Name>,
+    /// Of each read, by its place, whether its unit is known to be there without faults. Past the end of the list nothing is known.
+    pub(crate) faultless: Vec<bool>,
 }
 
 impl Knowledge {
@@ -34,35 +36,33 @@ impl Knowledge {
     pub(crate) fn of_hints(alloc: Global, hints: Vec<Hint>) -> Knowledge
         ensures hints { result.hints ≡ hints }
         ensures own { result.own ≡ None }
-        ensures faultless { result.faultless.keys ≡ [] }
+        ensures faultless { result.faultless.items ≡ [] }
     {
         Knowledge {
             hints,
             own: None,
-            faultless: BTreeSet::new(alloc),
+            faultless: Vec::new(alloc),
         }
     }
 
-    /// What is kept of what the key needs. For the faults of a unit that is nothing.
+    /// What is kept of what was read for the key. For the faults of a unit that is nothing.
     pub(crate) fn of_kept<K: Kept>(
         alloc: Global,
-        library: &Library,
         kept: &K,
         key: &Key,
         reads: &[Read],
     ) -> Result<Knowledge, AllocError>
-        requires kept { AreKept library.now (K.kept kept.now) }
-        requires found { AreKept library.now (K.found kept.now) }
-        requires reads { all_seen reads.now ≡ reads_for library.now key.now }
-        ensures { IfOk result (IsKnowledge (read_texts (all_seen reads.now)) key.now) }
+        ensures { IfOk result (λ it. (texts : Texts) → AreKept texts (K.kept kept.now)
+            → AreKept texts (K.found kept.now) → all_seen reads.now ≡ reads_for texts key.now
+            → IsKnowledge (all_seen reads.now) key.now it) }
     {
         if !key.kind.needs_all() {
             return Ok(Knowledge::of_hints(alloc, Vec::new(alloc)));
         }
         Ok(Knowledge {
-            hints: hints_among(alloc, library, kept, &key.unit, reads)?,
+            hints: hints_among(alloc, kept, &key.unit, reads)?,
             own: own_net(kept, key)?,
-            faultless: faultless_of(alloc, library, kept, reads)?,
+            faultless: faultless_of(alloc, kept, reads)?,
         })
     }
 }
@@ -165,34 +165,53 @@ fn is_kept_faultless<K: Kept>(kept: &K, unit: &Name) -> bool
     }
 }
 
-fn add_faultless<K: Kept>(
-    library: &Library,
-    kept: &K,
-    units: &mut BTreeSet<Name>,
-    name: &Name,
-) -> Result<(), AllocError>
-    ensures { OnOk result
-        (AddsFaultless library.now (K.kept kept.now) name.now units.old units.new) }
+/// Whether what was read is there, and kept without faults.
+fn is_faultless<K: Kept>(kept: &K, read: &Read) -> bool
+    ensures { IsFlag (K.kept kept.now) (seen_of read.now) result }
 {
-    if library.source(name).is_some() && is_kept_faultless(kept, name) {
-        units.insert(*name)?;
-    }
-    Ok(())
+    read.source.is_some() && is_kept_faultless(kept, &read.name)
 }
 
-/// The units among the reads of which it is known that they have no faults.
+/// Of each read, by its place, whether it is known that its unit is there without faults.
 pub(crate) fn faultless_of<K: Kept>(
     alloc: Global,
-    library: &Library,
     kept: &K,
     reads: &[Read],
-) -> Result<BTreeSet<Name>, AllocError>
+) -> Result<Vec<bool>, AllocError>
     ensures { IfOk result
-        (λ units. AreFaultlessAmong library.now (K.kept kept.now) (all_seen reads.now) units) }
+        (λ flags. AllZip (IsFlag (K.kept kept.now)) (all_seen reads.now) flags.items) }
 {
-    let mut units = BTreeSet::new(alloc);
+    let mut flags = Vec::with_capacity(alloc, reads.len())?;
     for read in reads {
-        add_faultless(library, kept, &mut units, &read.name)?;
+        flags.push(is_faultless(kept, read))?;
     }
-    Ok(units)
+    Ok(flags)
+}
+
+/// Whether the read at a place is flagged.
+pub(crate) fn flag_at(flags: &[bool], place: usize) -> bool
+    ensures { result ≡ get_or flags.now place false }
+{
+    match flags.get(place) {
+        Some(flag) => *flag,
+        None => false,
+    }
+}
+
+/// The names of the reads that are flagged.
+pub(crate) fn flagged_names(
+    alloc: Global,
+    reads: &[Read],
+    flags: &[bool],
+) -> Result<BTreeSet<Name>, AllocError>
+    ensures { IfOk result (λ names. (name : List ℕ) → set.contains name_cmp names name ≡ true
+        → is_flagged (all_seen reads.now) flags.now name ≡ true) }
+{
+    let mut names = BTreeSet::new(alloc);
+    for place in 0..reads.len() {
+        if flag_at(flags, place) {
+            names.insert(reads[place].name)?;
+        }
+    }
+    Ok(names)
 }

@@ -1,33 +1,41 @@
 //! Whether what is read leaves a value as it was, which is told without computing it.
-ghost use Rattle.std.specs.Prelude.{◌≡◌, true, IfOk, string_bytes};
-ghost use Rattle.std.specs.BTreeSet as set;
-ghost use Rattle.fb_text.specs.Order.{name_cmp};
-ghost use Rattle.fb_deploy.specs.Library.View.{tree_of};
+ghost use Rattle.std.specs.Prelude.{◌≡◌, ℕ, List, Bool, true, IfOk};
+ghost use Rattle.fb_deploy.specs.Library.View.{mentions_of_tree, tree_of};
 ghost use Rattle.fb_deploy.specs.Flatten.Hints.{is_whole_net};
 ghost use Rattle.fb_deploy.specs.Flatten.Net.{plain_net};
-ghost use Rattle.fb_deploy.specs.Flatten.Wiring.Local.{AreAlikeBlocks};
-ghost use Rattle.fb_jobs.specs.Left.{AreStillRead, IsStillRead, IsStillText, is_whole_value};
-ghost use Rattle.fb_jobs.specs.Values.{all_seen, seen_of, text_seen};
+ghost use Rattle.fb_jobs.specs.Known.{is_flagged};
+ghost use Rattle.fb_jobs.specs.Left.{AreStillRead, IsStillRead, IsStillText, MentionsTheSame, is_whole_value};
+ghost use Rattle.fb_jobs.specs.Values.{all_seen, seen_of};
 
+use crate::known::flag_at;
 use crate::read::Read;
-use crate::texts::{TextRead, TextReads};
+use crate::same::are_equal;
 use crate::value::Value;
 use fb_deploy::Deploy;
 use fb_deploy::flatten::{Net, is_alike};
-use fb_deploy::library::Version;
 use fb_deploy::parse::Source;
 use fb_text::{Name, same_name};
 use std::alloc::{AllocError, Global};
-use std::collections::BTreeSet;
 
-/// Whether both texts are of a block type, which says to networks what it said before. Where there is no memory to read that once more, this is not told.
-fn says_same(alloc: Global, before: &Version, now: &Source) -> Result<bool, AllocError>
-    ensures { IfOk result (λ says. says ≡ true
-        → AreAlikeBlocks (tree_of (string_bytes before.now.text.value)) (tree_of now.now.text)) }
+/// Whether both texts mention the same.
+fn mention_the_same(a: &Source, b: &Source) -> bool
+    ensures { result ≡ true
+        → mentions_of_tree (tree_of a.now.text) ≡ mentions_of_tree (tree_of b.now.text) }
 {
-    match Source::read(alloc, before.unit, before.text.as_str()) {
-        Ok(source) => is_alike(alloc, &source, now),
-        Err(_) => Ok(false),
+    let (a, b) = (a.mentions(), b.mentions());
+    a.is_structure == b.is_structure
+        && are_equal(&a.parts, &b.parts)
+        && are_equal(&a.of_values, &b.of_values)
+}
+
+/// Whether what is read under a name mentions what was mentioned there.
+pub(crate) fn mentions_the_same(before: &Read, now: &Read) -> bool
+    ensures { result ≡ true → MentionsTheSame (seen_of before.now) (seen_of now.now) }
+{
+    match (&before.source, &now.source) {
+        (None, None) => true,
+        (Some(before), Some(now)) => mention_the_same(before, now),
+        _ => false,
     }
 }
 
@@ -35,66 +43,64 @@ fn says_same(alloc: Global, before: &Version, now: &Source) -> Result<bool, Allo
 fn is_still_text(
     alloc: Global,
     unit: &Name,
-    before: &Version,
     name: &Name,
+    before: &Source,
     now: &Source,
 ) -> Result<bool, AllocError>
-    ensures { IfOk result (λ is. is ≡ true
-        → IsStillText unit.now name.now (string_bytes before.now.text.value) now.now.text) }
+    ensures { IfOk result
+        (λ is. is ≡ true → IsStillText unit.now name.now before.now.text now.now.text) }
 {
-    if before.text.as_str() == now.text() {
+    if before.text() == now.text() {
         return Ok(true);
     }
     if same_name(name, unit) {
         return Ok(false);
     }
-    says_same(alloc, before, now)
+    is_alike(alloc, before, now)
 }
 
-/// Whether what is read under a name says what was read before, and is known to be without faults.
+/// Whether what is read under a name says what was read before, where it is told whether its unit is known to be without faults.
 fn is_still_read(
     alloc: Global,
     unit: &Name,
-    faultless: &BTreeSet<Name>,
-    before: &TextRead<'_>,
+    is_faultless: bool,
+    before: &Read,
     now: &Read,
 ) -> Result<bool, AllocError>
-    ensures { IfOk result (λ is. is ≡ true
-        → IsStillRead unit.now (set.contains name_cmp faultless.now) (text_seen before.now)
-        (seen_of now.now)) }
+    ensures { IfOk result (λ is. is ≡ true → (faultless : List ℕ → Bool)
+        → (is_faultless ≡ true → faultless now.now.name ≡ true)
+        → IsStillRead unit.now faultless (seen_of before.now) (seen_of now.now)) }
 {
     if !same_name(&before.name, &now.name) {
         return Ok(false);
     }
-    match (before.version, &now.source) {
+    match (&before.source, &now.source) {
         (None, None) => Ok(true),
-        (Some(version), Some(source)) if faultless.contains(&now.name) => {
-            is_still_text(alloc, unit, version, &now.name, source)
+        (Some(source), Some(other)) if is_faultless => {
+            is_still_text(alloc, unit, &now.name, source, other)
         }
         _ => Ok(false),
     }
 }
 
-/// The same at each place.
+/// The same at each place. `faultless` says of each read, by its place, whether its unit is known to be without faults.
 pub(crate) fn are_still_read(
     alloc: Global,
     unit: &Name,
-    faultless: &BTreeSet<Name>,
-    before: &TextReads,
+    faultless: &[bool],
+    before: &[Read],
     now: &[Read],
 ) -> Result<bool, AllocError>
     ensures { IfOk result (λ are. are ≡ true
-        → AreStillRead unit.now (set.contains name_cmp faultless.now) before.now
-        (all_seen now.now)) }
+        → AreStillRead unit.now (is_flagged (all_seen now.now) faultless.now)
+        (all_seen before.now) (all_seen now.now)) }
 {
     if before.len() != now.len() {
         return Ok(false);
     }
     for place in 0..now.len() {
-        let Some(text) = before.get(place) else {
-            return Ok(false);
-        };
-        if !is_still_read(alloc, unit, faultless, &text, &now[place])? {
+        let is_faultless = flag_at(faultless, place);
+        if !is_still_read(alloc, unit, is_faultless, &before[place], &now[place])? {
             return Ok(false);
         }
     }

@@ -1,21 +1,22 @@
 //! Values with what gives them.
 ghost use Rattle.std.specs.Prelude.{◌≡◌, IfOk};
+ghost use Rattle.fb_jobs.specs.Finished.{plain_job};
 ghost use Rattle.fb_jobs.specs.Keys.{scratch};
 ghost use Rattle.fb_jobs.specs.Left.{IsMade};
 ghost use Rattle.fb_jobs.specs.Reads.{IsRight, read_texts};
-ghost use Rattle.fb_jobs.specs.Values.{finding_of};
+ghost use Rattle.fb_jobs.specs.Values.{all_seen, finding_of};
 
 use crate::key::Key;
-use crate::texts::TextReads;
+use crate::read::Read;
 use crate::value::Value;
 use std::alloc::AllocError;
 use std::marker::Model;
 use std::sync::Arc;
 
-/// A value of a key, with the texts that give it. Both are shared with whoever else keeps them.
+/// A value of a key, with the reads that give it. Both are shared with whoever else keeps them.
 pub struct Made {
     key: Key,
-    texts: Arc<TextReads>,
+    reads: Arc<Vec<Read>>,
     value: Arc<Value>,
 }
 
@@ -23,7 +24,7 @@ impl Drop for Made {
     fn drop(self) {
         let Self {
             key: _,
-            texts: _,
+            reads: _,
             value: _,
         } = self;
     }
@@ -34,30 +35,32 @@ impl Model for Made {
 
     ghost Value = { PlainJob };
 
+    ghost use Rattle.fb_jobs.specs.Finished.{plain_job};
     ghost use Rattle.fb_jobs.specs.Left.{IsMade};
+    ghost use Rattle.fb_jobs.specs.Values.{all_seen};
 
-    ghost view = { λ it. record { key = it.key; reads = it.texts.value } };
+    ghost view = { λ it. plain_job it.key it.reads.value.items };
 
-    ghost invariant = { λ it. IsMade it.key it.texts.value it.value.value };
+    ghost invariant = { λ it. IsMade it.key (all_seen it.reads.value.items) it.value.value };
 }
 
 impl Made {
-    pub(crate) fn new(key: Key, texts: Arc<TextReads>, value: Arc<Value>) -> Made
-        requires { IsMade key texts.value value.value }
-        ensures { result ≡ record { key = key; reads = texts.value } }
+    pub(crate) fn new(key: Key, reads: Arc<Vec<Read>>, value: Arc<Value>) -> Made
+        requires { IsMade key (all_seen reads.value.items) value.value }
+        ensures { result ≡ plain_job key reads.value.items }
     {
-        Made { key, texts, value }
+        Made { key, reads, value }
     }
 
-    /// The same value of the same texts.
+    /// The same value of the same reads.
     pub fn share(&self) -> Result<Made, AllocError>
         ensures { IfOk result (λ made. made ≡ self.now) }
     {
-        let texts = self.texts.clone()?;
+        let reads = self.reads.clone()?;
         let value = self.value.clone()?;
         Ok(Made {
             key: self.key,
-            texts,
+            reads,
             value,
         })
     }
@@ -68,14 +71,14 @@ impl Made {
         self.key
     }
 
-    pub(crate) fn texts(&self) -> &TextReads
-        ensures same { result.now ≡ self.now.reads }
+    pub(crate) fn reads(&self) -> &[Read]
+        ensures same { all_seen result.now ≡ self.now.reads }
         ensures right { IsRight self.now }
     {
-        &self.texts
+        &self.reads
     }
 
-    /// The value that the texts give from scratch.
+    /// The value that the reads give from scratch.
     pub fn value(&self) -> &Arc<Value>
         ensures { finding_of result.now.value ≡ scratch (read_texts self.now.reads) self.now.key }
     {

@@ -1,12 +1,14 @@
 //! The reads of a library for a key.
-ghost use Rattle.std.specs.Prelude.{◌≡◌, IfOk, All};
+ghost use Rattle.std.specs.Prelude.{◌≡◌, IfOk, IfSome};
 ghost use Rattle.fb_deploy.specs.Library.Texts.{held};
 ghost use Rattle.fb_jobs.specs.Keys.{needs};
-ghost use Rattle.fb_jobs.specs.Reads.{reads_for};
+ghost use Rattle.fb_jobs.specs.Again.{AreReadAgain, AreReads};
 ghost use Rattle.fb_jobs.specs.Texts.{seen_under, text_of};
 ghost use Rattle.fb_jobs.specs.Values.{all_seen, seen_of, IsOwn};
 
 use crate::key::{Key, Kind};
+use crate::left::mentions_the_same;
+use crate::made::Made;
 use crate::read::Read;
 use crate::texts::TextReads;
 use fb_deploy::flatten::all_far;
@@ -50,15 +52,13 @@ fn read_under(library: &Library, name: Name) -> Result<(Read, Option<Arc<Version
     Ok((read, Some(version)))
 }
 
-/// What a job for the key reads, and what is kept of that.
-pub(crate) fn reads_of(
+/// What a job for the key reads, and what is kept of that, by a walk from text to text.
+pub(crate) fn reads_anew(
     alloc: Global,
     library: &Library,
     key: Key,
 ) -> Result<(Vec<Read>, TextReads), AllocError>
-    ensures seen { IfOk result (λ made. all_seen made.0.items ≡ reads_for library.now key) }
-    ensures own { IfOk result (λ made. All IsOwn made.0.items) }
-    ensures kept { IfOk result (λ made. made.1 ≡ all_seen made.0.items) }
+    ensures { IfOk result (λ made. AreReads library.now key made.0.items made.1) }
 {
     let names = needed(alloc, library, key)?;
     let mut reads = Vec::with_capacity(alloc, names.len())?;
@@ -69,4 +69,62 @@ pub(crate) fn reads_of(
         texts = texts.with(*name, version)?;
     }
     Ok((reads, texts))
+}
+
+/// What is read now under the names of earlier reads, and what is kept of that. None where one of the names mentions something else now.
+fn read_again(
+    alloc: Global,
+    library: &Library,
+    before: &[Read],
+) -> Result<Option<(Vec<Read>, TextReads)>, AllocError>
+    ensures { IfOk result (λ again. IfSome again
+        (λ made. AreReadAgain library.now (all_seen before.now) made.0.items made.1)) }
+{
+    let mut reads = Vec::with_capacity(alloc, before.len())?;
+    let mut texts = TextReads::with_capacity(alloc, before.len())?;
+    for it in before {
+        let (read, version) = read_under(library, it.name)?;
+        if !mentions_the_same(it, &read) {
+            return Ok(None);
+        }
+        reads.push(read)?;
+        texts = texts.with(it.name, version)?;
+    }
+    Ok(Some((reads, texts)))
+}
+
+/// What a job for the key reads, and what is kept of that, where each name that was read for it before mentions what it mentioned: then
+/// the key needs the same names still.
+fn reads_as_before(
+    alloc: Global,
+    library: &Library,
+    key: Key,
+    former: &Option<Made>,
+) -> Result<Option<(Vec<Read>, TextReads)>, AllocError>
+    ensures { IfOk result
+        (λ again. IfSome again (λ made. AreReads library.now key made.0.items made.1)) }
+{
+    let Some(made) = former else {
+        return Ok(None);
+    };
+    if made.key() != key {
+        return Ok(None);
+    }
+    read_again(alloc, library, made.reads())
+}
+
+/// What a job for the key reads, and what is kept of that. What was read for it before spares the walk where its mentions are as they were.
+pub(crate) fn reads_of(
+    alloc: Global,
+    library: &Library,
+    key: Key,
+    former: &Option<Made>,
+) -> Result<(Vec<Read>, TextReads), AllocError>
+    ensures { IfOk result (λ made. AreReads library.now key made.0.items made.1) }
+{
+    let wanted = key;
+    match reads_as_before(alloc, library, wanted, former)? {
+        Some(made) => Ok(made),
+        None => reads_anew(alloc, library, key),
+    }
 }

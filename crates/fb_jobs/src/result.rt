@@ -94,13 +94,13 @@ impl Finished {
         &self.work.value
     }
 
-    /// The value with the texts that give it.
+    /// The value with the reads that give it.
     pub fn made(&self) -> Result<Made, AllocError>
         ensures { IfOk result (λ made. made ≡ self.now) }
     {
-        let texts = self.texts.clone()?;
+        let reads = self.reads.clone()?;
         let value = self.work.value.clone()?;
-        Ok(Made::new(self.key, texts, value))
+        Ok(Made::new(self.key, reads, value))
     }
 
     /// The nets of other units that were computed on the way, from scratch by the same reads.

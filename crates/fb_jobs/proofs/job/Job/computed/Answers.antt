@@ -1,5 +1,5 @@
 -- The job is right in its reads, and so is what it knows beside them.
-use Rattle.std.proofs.Common.{◌≡◌, true, ap, subst, IfOk}
+use Rattle.std.proofs.Common.{◌≡◌, Bool, true, List, ap, subst, ◌∙◌, IfOk}
 use Rattle.std.specs.BTreeMap as tree
 use Rattle.std.specs.BTreeSet as set
 use Rattle.std.specs.FinMap.{get}
@@ -7,8 +7,9 @@ use Rattle.fb_text.specs.Order.{name_cmp}
 use Rattle.fb_deploy.specs.Flatten.Hints.{AreFaultless, AreRightHints}
 use Rattle.fb_deploy.specs.Library.Texts.{sources_of}
 use Rattle.fb_jobs.specs.declared.key.Key.{Key}
+use Rattle.fb_jobs.specs.declared.read.Read.{Read}
 use Rattle.fb_jobs.specs.Keys.{has_kind_at}
-use Rattle.fb_jobs.specs.Known.{AreNetsOf, hint_in}
+use Rattle.fb_jobs.specs.Known.{AreNetsOf, hint_in, is_flagged}
 use Rattle.fb_jobs.specs.Work.{IsOwnIn, IsWork}
 use Rattle.fb_jobs.specs.Reads.{PlainJob, read_texts}
 use Rattle.fb_jobs.specs.Values.{all_seen}
@@ -32,8 +33,10 @@ work_of-requires-clause-right c =
 pub work_of-requires-clause-faultless : goal.work_of-requires-clause-faultless
 work_of-requires-clause-faultless c =
     let inside = c.self.inside in
-    subst (λ (it : PlainJob). AreFaultless (sources_of (read_texts it.reads)) (λ name. set.contains name_cmp inside.knowledge.faultless name)) c.self.view_is
-    (faultless_in (read_texts (all_seen inside.reads.value.items)) inside.knowledge.faultless c.self.invariant.known.faultless_are)
+    subst (λ (it : PlainJob). AreFaultless (sources_of (read_texts it.reads)) (λ name. set.contains name_cmp c.in_ok-faultless.faultless name)) c.self.view_is
+    (λ name has. faultless_in (read_texts (all_seen inside.reads.value.items)) (is_flagged (all_seen inside.reads.value.items) inside.knowledge.faultless.items) c.self.invariant.known.faultless_are name
+    (subst (λ (reads : List Read). is_flagged (all_seen reads) inside.knowledge.faultless.items name ≡ true) (c.deref-3.ensures.value ∙ ap (λ it. it.items) c.deref-2.ensures)
+    (subst (λ (flags : List Bool). is_flagged (all_seen c.deref-3.result.now) flags name ≡ true) c.deref-4.ensures.value (c.in_ok-faultless.ensures name has))))
 
 pub work_of-requires-clause-own : goal.work_of-requires-clause-own
 work_of-requires-clause-own c =

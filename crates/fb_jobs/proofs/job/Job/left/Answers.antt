@@ -1,10 +1,9 @@
 -- What is read leaves the value as it was, so it is that of the reads.
 use Rattle.std.proofs.Common.{◌≡◌, Bool, true, false, not, List, refl, sym, ap, subst, ◌∙◌}
-use Rattle.std.specs.BTreeSet as set
-use Rattle.fb_text.specs.Order.{name_cmp}
 use Rattle.fb_jobs.specs.declared.key.Key.{Key}
 use Rattle.fb_jobs.specs.declared.read.Read.{Read}
 use Rattle.fb_jobs.specs.Keys.{scratch}
+use Rattle.fb_jobs.specs.Known.{is_flagged}
 use Rattle.fb_jobs.specs.Left.{AreStillRead, is_whole_value}
 use Rattle.fb_jobs.specs.Reads.{IsRight, PlainJob, Seen, read_texts}
 use Rattle.fb_jobs.specs.Values.{all_seen}
@@ -21,15 +20,16 @@ returns-then-branch c =
     let inside = c.self.inside in
     let made = c.in-Some.made in
     let now : List Seen = all_seen inside.reads.value.items in
-    let units = inside.knowledge.faultless in
+    let flags = inside.knowledge.faultless.items in
     let key : made.key ≡ inside.key = sym c.key.ensures ∙ (one_key c.key.result inside.key).0 (told _ (sym c.ne.ensures ∙ c.if-ne.false)) in
     let whole : is_whole_value c.value-value.result.now.value ≡ true = ap is_whole_value (sym c.deref.ensures) ∙ sym c.is_whole_value.ensures ∙ c.if-not-is_whole_value.false in
-    let still = subst (λ (before : List Seen). AreStillRead inside.key.unit (set.contains name_cmp units) before now) c.texts.ensures.same
-    (subst (λ (reads : List Read). AreStillRead inside.key.unit (set.contains name_cmp units) c.texts.result.now (all_seen reads)) (c.deref-3.ensures.value ∙ ap (λ it. it.items) c.deref-2.ensures)
-    (c.in_ok-are_still_read.ensures c.if-branch.true)) in
-    left_value inside.key made.reads now c.value-value.result.now.value units
+    let still = subst (λ (before : List Seen). AreStillRead inside.key.unit (is_flagged now flags) before now) c.reads.ensures.same
+    (subst (λ (bs : List Bool). AreStillRead inside.key.unit (is_flagged now bs) (all_seen c.reads.result.now) now) c.deref-2.ensures.value
+    (subst (λ (reads : List Read). AreStillRead inside.key.unit (is_flagged (all_seen reads) c.deref-2.result.now) (all_seen c.reads.result.now) (all_seen reads)) (c.deref-4.ensures.value ∙ ap (λ it. it.items) c.deref-3.ensures)
+    (c.in_ok-are_still_read.ensures c.if-branch.true))) in
+    left_value inside.key made.reads now c.value-value.result.now.value (is_flagged now flags)
     (record {
-      right = subst (λ (k : Key). IsRight (record { key = k; reads = made.reads })) key c.texts.ensures.right;
+      right = subst (λ (k : Key). IsRight (record { key = k; reads = made.reads })) key c.reads.ensures.right;
       value_is = c.value-value.ensures ∙ ap (scratch (read_texts made.reads)) key;
     })
     c.self.invariant.job.right whole c.self.invariant.known.faultless_are still

@@ -1,5 +1,5 @@
 -- The value that is left is that of the reads, and nothing is found on the way.
-use Rattle.std.proofs.Common.{◌≡◌, List, [], IfSome, Option, Bor, All, sym, ap, subst, ◌∙◌}
+use Rattle.std.proofs.Common.{◌≡◌, List, IfSome, Option, Bor, All, sym, ap, subst, ◌∙◌}
 use Rattle.std.proofs.lemmas.List.Elements.{All-nil}
 use Rattle.std.specs.declared.alloc.Global.{Global}
 use Rattle.std.specs.declared.sync.Arc.{Arc}

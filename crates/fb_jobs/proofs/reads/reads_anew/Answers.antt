@@ -5,7 +5,7 @@ use Rattle.std.proofs.lemmas.List.Elements.{All-push}
 use Rattle.fb_deploy.specs.Library.Texts.{held}
 use Rattle.fb_jobs.specs.Reads.{reads_under}
 use Rattle.fb_jobs.specs.Values.{seen_of, all_seen, IsOwn}
-use Rattle.fb_jobs.proofs.reads.reads_of.Goals as goal
+use Rattle.fb_jobs.proofs.reads.reads_anew.Goals as goal
 
 pub loop-name-preserved : goal.loop-name-preserved
 loop-name-preserved c =

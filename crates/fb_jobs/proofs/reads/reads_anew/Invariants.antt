@@ -1,7 +1,7 @@
 use Rattle.std.proofs.Common.{◌≡◌, take, All}
 use Rattle.fb_jobs.specs.Reads.{reads_under}
 use Rattle.fb_jobs.specs.Values.{all_seen, IsOwn}
-use Rattle.fb_jobs.proofs.reads.reads_of.Given as goal
+use Rattle.fb_jobs.proofs.reads.reads_anew.Given as goal
 
 abbrev pub invariant-loop-name : goal.invariant-loop-name
 invariant-loop-name l =

@@ -1,0 +1,42 @@
+-- A net that is kept of another subapplication is one more.
+use Rattle.std.proofs.Common.{Bool, not, ◌&&◌, is_some, Some, refl, sym, ap, ◌∙◌}
+use Rattle.std.specs.Prelude.{option_copied, option_map}
+use Rattle.fb_deploy.specs.Flatten.Tables.{is_subapplication_in}
+use Rattle.fb_deploy.specs.Library.Texts.{sources_of}
+use Rattle.fb_deploy.specs.Library.View.{tree_at}
+use Rattle.fb_jobs.specs.declared.hints.Hint.{Hint}
+use Rattle.fb_jobs.specs.declared.value.Value.{Value}
+use Rattle.fb_jobs.specs.Hints.{net_key}
+use Rattle.fb_jobs.specs.Values.{finding_of, seen_of}
+use Rattle.fb_jobs.proofs.HintLemmas.{adds_none, adds_one, tree_read}
+use Rattle.fb_jobs.proofs.hints.add_hint.Goals as goal
+use Rattle.fb_jobs.proofs.hints.add_hint.Goals.{then-same_name-via-then-same_name, then-same_name-via-else-same_name+then-not-is_subapplication}
+
+pub returns-then-same_name : goal.returns-then-same_name
+returns-then-same_name g c texts of =
+    let kept = g.K.Kept.kept c.args.kept.now in
+    let unit = c.args.unit.now in
+    let name = c.args.read.now.name in
+    let some = is_some (kept (net_key name)) in
+    let sub = is_subapplication_in (tree_at (sources_of texts) name) in
+    elim c.then-same_name.branch [
+      | then-same_name-via-then-same_name w ↦
+          adds_none texts kept unit name c.args.hints.now.items (ap (λ (b : Bool). (not b && sub) && some) (sym c.same_name.ensures ∙ w.if-same_name.true))
+      | then-same_name-via-else-same_name+then-not-is_subapplication w ↦
+          let no = sym (ap is_subapplication_in (tree_read texts (seen_of c.args.read.now) of)) ∙ sym w.is_subapplication.ensures ∙ w.if-not-is_subapplication.true in
+          adds_none texts kept unit name c.args.hints.now.items (ap (λ (b : Bool). (not b && sub) && some) (sym c.same_name.ensures ∙ w.if-same_name.false) ∙ ap (λ (b : Bool). b && some) no)
+    ]
+
+pub returns-in_ok-push : goal.returns-in_ok-push
+returns-in_ok-push g c texts of =
+    let kept = g.K.Kept.kept c.args.kept.now in
+    let unit = c.args.unit.now in
+    let name = c.args.read.now.name in
+    let some = is_some (kept (net_key name)) in
+    let sub = is_subapplication_in (tree_at (sources_of texts) name) in
+    let yes = sym (ap is_subapplication_in (tree_read texts (seen_of c.args.read.now) of)) ∙ sym c.is_subapplication.ensures ∙ c.if-not-is_subapplication.false in
+    let kept_is = ap kept (sym c.net_key.ensures) ∙ sym c.value.ensures ∙ ap (λ o. option_map (λ it. finding_of it.value) (option_copied o)) c.in-Some.is in
+    let hint : Hint = record { unit = name; value = c.in_ok-clone.field-0 } in
+    adds_one texts kept unit name c.args.hints.now.items c.push.new.self.items hint
+    (ap (λ (b : Bool). (not b && sub) && some) (sym c.same_name.ensures ∙ c.if-same_name.false) ∙ ap (λ (b : Bool). b && some) yes ∙ ap is_some kept_is)
+    refl (kept_is ∙ ap (λ (v : Value). Some (finding_of v)) (sym c.in_ok-clone.ensures.cases)) c.in_ok-push.ensures.items

@@ -1,0 +1,22 @@
+-- What is read of texts, and what is read again under the names of earlier reads.
+use Rattle.std.specs.Prelude.{◌≡◌, List, All}
+use Rattle.std.specs.List.{AllZip}
+use Rattle.fb_deploy.specs.Library.Texts.{Texts}
+use Rattle.fb_jobs.specs.declared.key.Key.{Key}
+use Rattle.fb_jobs.specs.declared.read.Read.{Read}
+use Rattle.fb_jobs.specs.Left.{MentionsTheSame}
+use Rattle.fb_jobs.specs.Reads.{Seen, read_names, reads_for, reads_under}
+use Rattle.fb_jobs.specs.Values.{all_seen, IsOwn}
+
+-- what the key needs is read of the library, each source is of the name that it was read under, and these are the texts
+pub record AreReads (library : Texts) (key : Key) (reads : List Read) (texts : List Seen) : Type 0 where
+  pub seen : all_seen reads ≡ reads_for library key
+  pub own : All IsOwn reads
+  pub kept : texts ≡ all_seen reads
+
+-- the same under the names of earlier reads, each of which mentions what it mentioned
+pub record AreReadAgain (library : Texts) (before : List Seen) (reads : List Read) (texts : List Seen) : Type 0 where
+  pub seen : all_seen reads ≡ reads_under library (read_names before)
+  pub own : All IsOwn reads
+  pub kept : texts ≡ all_seen reads
+  pub mentions : AllZip MentionsTheSame before (all_seen reads)
