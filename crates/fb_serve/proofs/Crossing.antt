@@ -3,6 +3,7 @@ use denote.Param.Send.{IsSend, IsSync, sendable}
 use Rattle.std.proofs.Crossing.{crosses}
 use Rattle.fb_shared.proofs.Crossing.{seat_send, receipt_send}
 use Rattle.crossbeam_channel.specs.contracts.channel.Sender as Sender
+use Rattle.std.specs.contracts.net.tcp.TcpListener as TcpListener
 use Rattle.std.specs.contracts.net.tcp.TcpStream as TcpStream
 use Rattle.std.specs.contracts.alloc.Global as Heap
 use Rattle.std.specs.contracts.impls.GlobalAllocator.TheImpl.{ghosts}
@@ -58,6 +59,9 @@ sender_sync = search (session_fault_send, crosses, sendable) depth 60 fits 20000
 
 pub sender_send : IsSend (Sender.the_row SessionFault.the_row Heap.the_row ghosts)
 sender_send = search (session_fault_send, crosses, sendable) depth 60 fits 20000
+
+pub listener_sync : IsSync TcpListener.the_row
+listener_sync = search (crosses, sendable) depth 60 fits 20000
 
 pub stream_send : IsSend TcpStream.the_row
 stream_send = search (crosses, sendable) depth 60 fits 20000
