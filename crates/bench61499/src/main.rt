@@ -4,7 +4,7 @@
 use fb_host::{PATIENCE, Terms, host};
 use fb_program::wire::{FromRead, IntoWrite};
 use fb_program::{Outcome, refuse_secret, refuse_words, secret_in};
-use fb_serve::{Numbers, serve};
+use fb_serve::{ServerConfig, serve};
 use std::alloc::{AllocError, Global};
 use std::process::ExitCode;
 use std::sync::Mutex;
@@ -71,7 +71,7 @@ fn main(rt: HostRuntime) -> ExitCode {
             sessions,
             limits,
         } => {
-            let numbers = Numbers {
+            let numbers = ServerConfig {
                 workers,
                 sessions,
                 limits,

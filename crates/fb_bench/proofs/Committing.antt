@@ -12,7 +12,7 @@ use Rattle.fb_history.specs.declared.answers.Delivered.TheVariants.{Accepted, No
 use Rattle.fb_history.specs.declared.answers.GivenBack.{GivenBack}
 use Rattle.fb_history.specs.declared.answers.GivenBack.TheVariants.{Returned, NothingOut}
 use Rattle.fb_history.specs.Machine.{after_give_back, give_back_answer, State, Call, ToCommit, ToTake, ToDeliver, ToGiveBack, ToAsk, OfCommit, reply, after, commit_answer, after_commit, after_take, after_deliver, deliver_answer, next, after_done, refusal, or_else, or_some, repeated_refusal, first_repeated, first_misfit, misfit, misfit_at}
-use Rattle.fb_history.specs.Story.{Story, opened, replay, calls_of, state_of}
+use Rattle.fb_history.specs.BenchView.{BenchView, opened, replay, calls_of, state_of}
 use Rattle.fb_bench.specs.Kept.{Agrees}
 use Rattle.fb_entries.specs.declared.renewal.Renewal.{Renewal}
 use Rattle.fb_bench.specs.Outcomes.{answer_at}
@@ -101,7 +101,7 @@ unfolding replay
 replay_most s [] = refl
 replay_most s (c ∷ cs) = replay_most (after s c) cs ∙ after_most s c
 
-pub most_units_of : (story : Story) → (state_of story).most_units ≡ story.origin.most_units
+pub most_units_of : (story : BenchView) → (state_of story).most_units ≡ story.origin.most_units
 most_units_of story = replay_most (opened story.origin) (calls_of story.log)
 
 -- ---- the answer
@@ -126,7 +126,7 @@ done_at most number T U edits none is few =
     sym (ap (λ b. cond b TooManyUnits (Done number)) test) ∙ (λ i. or_else (none i) (cond (nat_lt most (length (all_edited number edits T))) TooManyUnits (Done number)))
 
 -- what changes of the kept texts come to is the machine's answer
-pub answer_kept : (story : Story) (T : Texts) (n : ℕ) (edits : List Edit) → T ≡ (state_of story).units → n ≡ (state_of story).commits → answer_at story.origin.most_units (n + 1) T edits ≡ commit_answer (state_of story) edits
+pub answer_kept : (story : BenchView) (T : Texts) (n : ℕ) (edits : List Edit) → T ≡ (state_of story).units → n ≡ (state_of story).commits → answer_at story.origin.most_units (n + 1) T edits ≡ commit_answer (state_of story) edits
 answer_kept story T n edits same number = λ i. answer_at (sym (most_units_of story) i) (number i + 1) (same i) edits
 
 pub commits_is : (s : State) (made edits : List Edit) (answer : Committed) → made ≡ edits → answer ≡ commit_answer s edits → OfCommit answer ≡ reply s (ToCommit made)

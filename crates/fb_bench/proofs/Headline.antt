@@ -3,7 +3,7 @@ use Rattle.std.proofs.Common.{◌≡◌, ℕ, Bool, true, false, ◌&&◌, not, 
 use Rattle.fb_entries.specs.Jobs.declared.key.Key.{Key}
 use Rattle.fb_entries.specs.Jobs.Keys.{Finding, has_key, scratch}
 use Rattle.fb_history.specs.Machine.{Call, ToCommit, ToTake, ToDeliver, ToGiveBack, ToAsk, Reply, OfCommit, OfTake, OfDeliver, OfGiveBack, OfAsk, Shown, Finds, Waits, Unknown, shown, reply}
-use Rattle.fb_history.specs.Story.{Story, IsOrigin, opened, calls_of, recorded, reply_at, state_of}
+use Rattle.fb_history.specs.BenchView.{BenchView, IsOrigin, opened, calls_of, recorded, reply_at, state_of}
 use Rattle.fb_history.specs.Due.{due_from, is_due}
 use Rattle.fb_history.specs.Laws.{is_refusal}
 use Rattle.fb_history.proofs.AfterCalls.{entry_is, refused_stays}
@@ -22,18 +22,18 @@ waiting_bits Waits true false d f is e = cc
 waiting_bits (Finds v) true true d f is e = cc
 waiting_bits (Finds v) true false d f is e = is
 
-asked_is : (r : Shown) (story : Story) (k : Key) → OfAsk r ≡ reply_at story (ToAsk k) → r ≡ shown (state_of story) k
+asked_is : (r : Shown) (story : BenchView) (k : Key) → OfAsk r ≡ reply_at story (ToAsk k) → r ≡ shown (state_of story) k
 asked_is r story k e = cc (e ∙ reply_ask (state_of story) k)
 
 -- what is answered to an ask
-pub shows_asked : (r : Shown) (story : Story) (k : Key) → IsOrigin story.origin → OfAsk r ≡ reply_at story (ToAsk k) → ShowsEntry story (ToAsk k) (OfAsk r)
+pub shows_asked : (r : Shown) (story : BenchView) (k : Key) → IsOrigin story.origin → OfAsk r ≡ reply_at story (ToAsk k) → ShowsEntry story (ToAsk k) (OfAsk r)
 shows_asked r story k begins e =
     let is = asked_is r story k e in (
       is ∙ entry_is story.origin (calls_of story.log) k begins,
       waiting_bits r (has_key (state_of story).units k) ((state_of story).pending k) (due_from (opened story.origin) (calls_of story.log) k) (scratch (state_of story).units k) (pending_is_due story k begins) is,
     )
 
-pub shows_entry : (story : Story) (call : Call) (answer : Reply) → IsOrigin story.origin → answer ≡ reply_at story call → ShowsEntry story call answer
+pub shows_entry : (story : BenchView) (call : Call) (answer : Reply) → IsOrigin story.origin → answer ≡ reply_at story call → ShowsEntry story call answer
 shows_entry story (ToAsk k) (OfAsk r) begins e = shows_asked r story k begins e
 shows_entry story (ToAsk k) (OfCommit r) begins e = tt
 shows_entry story (ToAsk k) (OfTake r) begins e = tt
@@ -45,6 +45,6 @@ shows_entry story (ToDeliver order) r begins e = tt
 shows_entry story (ToGiveBack k) r begins e = tt
 
 -- a refusal leaves the state
-pub leaves_state : (old new : Story) (caller : ℕ) (call : Call) (answer : Reply) → new ≡ recorded old caller call → answer ≡ reply_at old call → LeavesState old answer new
+pub leaves_state : (old new : BenchView) (caller : ℕ) (call : Call) (answer : Reply) → new ≡ recorded old caller call → answer ≡ reply_at old call → LeavesState old answer new
 leaves_state old new caller call answer step is refuses =
     ap state_of step ∙ state_recorded old caller call ∙ refused_stays (state_of old) call (ap is_refusal (sym is) ∙ refuses)

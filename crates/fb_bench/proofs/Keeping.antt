@@ -3,16 +3,16 @@ use Rattle.std.proofs.Common.{◌≡◌, ℕ, ◌≤◌, ◌+◌, sym, subst, ar
 use Rattle.fb_entries.specs.Keyed.{Keyed}
 use Rattle.fb_entries.specs.Library.Texts.{Texts}
 use Rattle.fb_history.specs.Machine.{Call, Reply, after, reply}
-use Rattle.fb_history.specs.Story.{Story, IsOrigin, last_number, state_of, logged, IsReplay}
-use Rattle.fb_bench.specs.Kept.{Agrees, IsKept}
+use Rattle.fb_history.specs.BenchView.{BenchView, IsOrigin, last_number, state_of, logged, IsReplay}
+use Rattle.fb_bench.specs.Kept.{Agrees, IsConsistent}
 use Rattle.fb_entries.specs.Index.Indexed.{Indexed}
 use Rattle.fb_entries.specs.Indexed.{IsIndexOf}
 use Rattle.fb_history.proofs.Steps.{state_recorded, replayed_recorded}
 
 -- what is kept after one more recorded call
-pub kept_recorded : (units : Texts) (commits : ℕ) (entries : Keyed) (index : Indexed) (story : Story) (caller : ℕ) (call : Call) (answer : Reply) → IsOrigin story.origin → answer ≡ reply (state_of story) call → Agrees units commits entries (after (state_of story) call) → IsReplay story → IsIndexOf units index → commits ≤ last_number story + 1 → IsKept units commits entries index (logged story caller call answer)
+pub kept_recorded : (units : Texts) (commits : ℕ) (entries : Keyed) (index : Indexed) (story : BenchView) (caller : ℕ) (call : Call) (answer : Reply) → IsOrigin story.origin → answer ≡ reply (state_of story) call → Agrees units commits entries (after (state_of story) call) → IsReplay story → IsIndexOf units index → commits ≤ last_number story + 1 → IsConsistent units commits entries index (logged story caller call answer)
 kept_recorded units commits entries index story caller call answer begins same agrees so_far indexed few =
-    subst (λ a. IsKept units commits entries index (logged story caller call a)) (sym same)
+    subst (λ a. IsConsistent units commits entries index (logged story caller call a)) (sym same)
     (record {
       begins = begins;
       agrees = subst (λ s. Agrees units commits entries s) (sym (state_recorded story caller call)) agrees;
@@ -22,6 +22,6 @@ kept_recorded units commits entries index story caller call answer begins same a
     })
 
 -- the same, where the story is known by an equation
-pub kept_pushed : (units : Texts) (commits : ℕ) (entries : Keyed) (index : Indexed) (story next_story : Story) (caller : ℕ) (call : Call) (answer : Reply) → IsOrigin story.origin → next_story ≡ logged story caller call answer → answer ≡ reply (state_of story) call → Agrees units commits entries (after (state_of story) call) → IsReplay story → IsIndexOf units index → commits ≤ last_number story + 1 → IsKept units commits entries index next_story
+pub kept_pushed : (units : Texts) (commits : ℕ) (entries : Keyed) (index : Indexed) (story next_story : BenchView) (caller : ℕ) (call : Call) (answer : Reply) → IsOrigin story.origin → next_story ≡ logged story caller call answer → answer ≡ reply (state_of story) call → Agrees units commits entries (after (state_of story) call) → IsReplay story → IsIndexOf units index → commits ≤ last_number story + 1 → IsConsistent units commits entries index next_story
 kept_pushed units commits entries index story next_story caller call answer begins is same agrees so_far indexed few =
-    subst (λ st. IsKept units commits entries index st) (sym is) (kept_recorded units commits entries index story caller call answer begins same agrees so_far indexed few)
+    subst (λ st. IsConsistent units commits entries index st) (sym is) (kept_recorded units commits entries index story caller call answer begins same agrees so_far indexed few)

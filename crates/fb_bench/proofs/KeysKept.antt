@@ -21,7 +21,7 @@ use Rattle.fb_entries.specs.Jobs.Keys.{has_key}
 use Rattle.fb_entries.specs.Jobs.KeyOrder.{key_cmp, key_cmp_total}
 use Rattle.fb_entries.specs.declared.entry.Entry.{Entry}
 use Rattle.fb_history.specs.Machine.{State, keys_of}
-use Rattle.fb_history.specs.Story.{Story, IsOrigin, state_of}
+use Rattle.fb_history.specs.BenchView.{BenchView, IsOrigin, state_of}
 use Rattle.fb_bench.specs.Kept.{EntryFits, Agrees}
 use Rattle.fb_entries.specs.Marking.{is_handed_out, is_of, is_unkept, keys_with}
 use Rattle.fb_entries.proofs.Jobs.Order.{exact_key}
@@ -66,7 +66,7 @@ has_entry : (s : State) (q : Key) (o : Option Entry) → EntryFits s q o → is_
 has_entry s q None fits = sym fits.0
 has_entry s q (Some it) fits = sym fits.0
 
-module _ (story : Story) (begins : IsOrigin story.origin) (T : Texts) (commits : ℕ) (entries : Keyed) (agrees : Agrees T commits entries (state_of story)) (rise : IsStrictlySortedBy key_cmp (keys_in entries.entries)) where
+module _ (story : BenchView) (begins : IsOrigin story.origin) (T : Texts) (commits : ℕ) (entries : Keyed) (agrees : Agrees T commits entries (state_of story)) (rise : IsStrictlySortedBy key_cmp (keys_in entries.entries)) where
   -- they are those of the texts, in order
   pub keys_are : keys_in entries.entries ≡ keys_of (state_of story).units
   keys_are =

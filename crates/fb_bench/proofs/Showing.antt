@@ -4,7 +4,7 @@ use Rattle.fb_entries.specs.Jobs.declared.key.Key.{Key}
 use Rattle.fb_entries.specs.Jobs.Keys.{Finding, has_key, scratch}
 use Rattle.fb_history.specs.Machine as machine
 use Rattle.fb_history.specs.Machine.{Finds, Waits, Unknown}
-use Rattle.fb_history.specs.Story.{Story, IsOrigin, opened, calls_of, state_of}
+use Rattle.fb_history.specs.BenchView.{BenchView, IsOrigin, opened, calls_of, state_of}
 use Rattle.fb_history.specs.Due.{due_from, is_due}
 use Rattle.fb_bench.specs.declared.peek.Shown.{Shown}
 use Rattle.fb_bench.specs.declared.peek.Shown.TheVariants.{NoSuchKey, Pending, Value}
@@ -23,5 +23,5 @@ shown_bits (Value v) true true d f is e = cc
 shown_bits (Value v) true false d f is e = is
 
 -- what is shown as pending is due
-pub due_shown : (r : Shown) (story : Story) (k : Key) → IsOrigin story.origin → shown_by r ≡ machine.shown (state_of story) k → is_pending r ≡ is_due story k
+pub due_shown : (r : Shown) (story : BenchView) (k : Key) → IsOrigin story.origin → shown_by r ≡ machine.shown (state_of story) k → is_pending r ≡ is_due story k
 due_shown r story k begins e = shown_bits r (has_key (state_of story).units k) ((state_of story).pending k) (due_from (opened story.origin) (calls_of story.log) k) (scratch (state_of story).units k) (pending_is_due story k begins) e

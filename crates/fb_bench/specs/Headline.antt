@@ -1,7 +1,7 @@
 -- What an answer says by the texts and the calls alone, and what a refusal leaves.
 use Rattle.std.specs.Prelude.{◌≡◌, Bool, true, false}
 use Rattle.fb_history.specs.Machine.{Call, ToAsk, Reply, OfAsk, Shown, Finds, Waits, Unknown}
-use Rattle.fb_history.specs.Story.{Story, calls_of, state_of}
+use Rattle.fb_history.specs.BenchView.{BenchView, calls_of, state_of}
 use Rattle.fb_history.specs.Due.{is_due}
 use Rattle.fb_history.specs.Laws.{entry_after, is_refusal}
 
@@ -12,10 +12,10 @@ is_waiting (Finds finding) = false
 
 -- An ask shows what the present texts give from scratch, or that the key is pending: if and only if no current result has come since the last commit that
 -- made or reached it.
-abbrev pub ShowsEntry : Story → Call → Reply → Type 0
+abbrev pub ShowsEntry : BenchView → Call → Reply → Type 0
 ShowsEntry story (ToAsk key) (OfAsk found) = (found ≡ entry_after story.origin (calls_of story.log) key) × (is_waiting found ≡ is_due story key)
 ShowsEntry story _ _ = Unit {0}
 
 -- an answer that refuses its call changes no text, no entry and no handed-out mark
-abbrev pub LeavesState : Story → Reply → Story → Type 0
+abbrev pub LeavesState : BenchView → Reply → BenchView → Type 0
 LeavesState old answer new = is_refusal answer ≡ true → state_of new ≡ state_of old

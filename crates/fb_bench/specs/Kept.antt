@@ -9,7 +9,7 @@ use Rattle.fb_entries.specs.Jobs.declared.value.Value.{Value}
 use Rattle.fb_entries.specs.Jobs.Keys.{has_key, scratch}
 use Rattle.fb_entries.specs.Jobs.Values.{finding_of}
 use Rattle.fb_history.specs.Machine.{State, is_ready}
-use Rattle.fb_history.specs.Story.{Story, IsOrigin, last_number, state_of, IsReplay}
+use Rattle.fb_history.specs.BenchView.{BenchView, IsOrigin, last_number, state_of, IsReplay}
 use Rattle.fb_entries.specs.declared.entry.Entry.{Entry}
 use Rattle.fb_entries.specs.Index.Indexed.{Indexed}
 use Rattle.fb_entries.specs.Indexed.{IsIndexOf}
@@ -33,7 +33,7 @@ pub record Agrees (units : Texts) (commits : ℕ) (entries : Keyed) (state : Sta
   pub ready_are : (key : Key) → can_take entries key ≡ is_ready state key
 
 -- and so does the history: each stored answer is the machine's. The index is that of the texts
-pub record IsKept (units : Texts) (commits : ℕ) (entries : Keyed) (index : Indexed) (story : Story) : Type 0 where
+pub record IsConsistent (units : Texts) (commits : ℕ) (entries : Keyed) (index : Indexed) (story : BenchView) : Type 0 where
   pub begins : IsOrigin story.origin
   pub agrees : Agrees units commits entries (state_of story)
   pub replayed : IsReplay story

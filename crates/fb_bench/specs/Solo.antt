@@ -3,7 +3,7 @@ use Rattle.std.specs.Prelude.{◌≡◌, ℕ, ◌≤◌, ◌<◌, length, Result
 use Rattle.fb_history.specs.Checkpoints.{KeptUpTo, checking, story_checked}
 use Rattle.fb_history.specs.Limits.{Bounds}
 use Rattle.fb_history.specs.Machine.{Call, reply}
-use Rattle.fb_history.specs.Story.{Story, state_of, recorded}
+use Rattle.fb_history.specs.BenchView.{BenchView, state_of, recorded}
 use Rattle.fb_bench.specs.Calls.{Answer, Replied, FullHistory, BehindHistory, CheckpointAnswer, Checked, SharedHistory, Exchange, Exchanges}
 use Rattle.fb_bench.specs.declared.desk.DeskRefused.{DeskRefused}
 use Rattle.fb_bench.specs.declared.desk.DeskRefused.TheVariants as refused
@@ -12,26 +12,26 @@ use Rattle.fb_bench.specs.declared.desk.DeskCheckpointRefused.TheVariants as unm
 use Rattle.fb_bench.specs.declared.desk.Solo.{Solo}
 
 -- The machine's reply, recorded, where the history has room. Where it has none, nothing changes. A workbench is never behind.
-abbrev pub IsCallStep : ℕ → Story → Call → Answer → Story → Type 0
+abbrev pub IsCallStep : ℕ → BenchView → Call → Answer → BenchView → Type 0
 IsCallStep caller old call (Replied answer) new = (length old.log.records < old.log.limit) × (answer ≡ reply (state_of old) call) × (new ≡ recorded old caller call)
 IsCallStep caller old call FullHistory new = (old.log.limit ≤ length old.log.records) × (new ≡ old)
 IsCallStep caller old call BehindHistory new = ⊥
 
 -- A checkpoint as the workbench has to answer it, and what it leaves. The caller is alone at the workbench.
-abbrev pub IsCheckpointStep : Story → Bounds → CheckpointAnswer → Story → Type 0
+abbrev pub IsCheckpointStep : BenchView → Bounds → CheckpointAnswer → BenchView → Type 0
 IsCheckpointStep old limits (Checked it) new = (it ≡ checking limits old) × (new ≡ story_checked it limits old)
 IsCheckpointStep old limits SharedHistory new = ⊥
 
-abbrev pub IsStep : ℕ → Story → Exchange → Story → Type 0
+abbrev pub IsStep : ℕ → BenchView → Exchange → BenchView → Type 0
 IsStep caller = Exchanges (IsCallStep caller) IsCheckpointStep
 
 -- memory is wanted for a call only where the history has room for it
-abbrev pub IsOpenCall : {R : Type 0} → Story → Result R DeskRefused → Type 0
+abbrev pub IsOpenCall : {R : Type 0} → BenchView → Result R DeskRefused → Type 0
 IsOpenCall story (Err refused.Memory) = length story.log.records < story.log.limit
 IsOpenCall story _ = Unit {0}
 
 -- memory is wanted for a checkpoint only where it would be made
-abbrev pub IsOpenCheckpoint : Story → Bounds → Result ℕ DeskCheckpointRefused → Type 0
+abbrev pub IsOpenCheckpoint : BenchView → Bounds → Result ℕ DeskCheckpointRefused → Type 0
 IsOpenCheckpoint story limits (Err unmade.Memory) = (before : ℕ) × (checking limits story ≡ KeptUpTo before)
 IsOpenCheckpoint story limits _ = Unit {0}
 

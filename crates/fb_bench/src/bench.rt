@@ -47,15 +47,15 @@ impl Drop for Bench {
 }
 
 impl Model for Bench {
-    ghost use Rattle.fb_history.specs.Story.{Story};
+    ghost use Rattle.fb_history.specs.BenchView.{BenchView};
 
-    ghost Value = { Story };
+    ghost Value = { BenchView };
 
-    ghost use Rattle.fb_bench.specs.Kept.{IsKept};
+    ghost use Rattle.fb_bench.specs.Kept.{IsConsistent};
 
     ghost view = { λ it. it.history };
 
-    ghost invariant = { λ it. IsKept it.library it.commits it.entries it.index it.history };
+    ghost invariant = { λ it. IsConsistent it.library it.commits it.entries it.index it.history };
 }
 
 impl Bench {
@@ -68,7 +68,7 @@ impl Bench {
     ghost use Rattle.fb_entries.specs.Jobs.Reads.{read_texts};
     ghost use Rattle.fb_entries.specs.Jobs.Values.{all_seen};
     ghost use Rattle.fb_history.specs.declared.answers.Delivered.TheVariants.{Accepted};
-    ghost use Rattle.fb_history.specs.Story.{IsOrigin, IsFull, new_story, state_of, reply_at, recorded, record_of, record_numbered, all_turns, last_number, pages_after, calls_of, IsReplay, AreTurns};
+    ghost use Rattle.fb_history.specs.BenchView.{IsOrigin, IsFull, new_story, state_of, reply_at, recorded, record_of, record_numbered, all_turns, last_number, pages_after, calls_of, IsReplay, AreTurns};
     ghost use Rattle.fb_bench.specs.Records.{call_of, reply_of, shown_in, job_in, commit_of};
     ghost use Rattle.fb_history.specs.Records.{records_in};
     ghost use Rattle.fb_bench.specs.Founds.{HasNetsOf};

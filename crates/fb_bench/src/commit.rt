@@ -8,7 +8,7 @@ ghost use Rattle.fb_entries.specs.Indexed.{IsIndexOf};
 ghost use Rattle.fb_bench.specs.Outcomes.{IsOutcome};
 ghost use Rattle.fb_entries.specs.Renew.{HasRoom, IsTakenBack};
 ghost use Rattle.fb_bench.specs.Records.{call_of, reply_of};
-ghost use Rattle.fb_history.specs.Story.{logged, record_after};
+ghost use Rattle.fb_history.specs.BenchView.{logged, record_after};
 
 use fb_entries::index::Index;
 use fb_entries::library::{Change, Library};

@@ -29,6 +29,6 @@ pub(crate) fn keep_all(entries: &mut Entries, found: Vec<Hint>)
             kind: Kind::Net,
             unit: it.unit,
         };
-        entries.keep_found(&key, it.value);
+        entries.store_precomputed(&key, it.value);
     }
 }

@@ -33,6 +33,6 @@ pub fn plan_at_is_local()
 {}
 
 /// Texts that leave the net of a system as it was leave its plan so.
-pub fn plan_is_left()
+pub fn plan_is_unchanged()
     ensures { PlanIsLeft }
 {}

@@ -8,7 +8,7 @@ pub use fb_mapping::is_system;
 pub use fb_mapping::placing::{Command, Plan, ResourcePlan};
 pub use laws::{
     has_plan_by_text, one_plan, plan_at_is_local, plan_at_is_plan, plan_at_of_systems,
-    plan_is_left, plan_is_local,
+    plan_is_local, plan_is_unchanged,
 };
 pub use planning::{Deploy, plan, plan_by_net, plan_with};
 
@@ -41,6 +41,6 @@ pub mod placing {
 pub mod flatten {
     pub use fb_mapping::flatten::{
         Computed, Hints, Inner, Known, Net, NetsAlone, NoHints, all_far, compute, has_net,
-        is_alike, is_subapplication, net_with,
+        has_same_interface, is_subapplication, net_with,
     };
 }

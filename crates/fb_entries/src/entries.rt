@@ -11,7 +11,7 @@ ghost use Rattle.fb_entries.specs.Found.{units_of};
 ghost use Rattle.fb_entries.specs.Keyed.{can_take, entry_at, IsFirstReady};
 ghost use Rattle.fb_entries.specs.Renew.{HasRoom, IsCarriedOut, IsRenewal, IsTakenBack};
 
-use crate::entry::{Entry, join, keep, keep_found, leave, mark_out};
+use crate::entry::{Entry, join, keep, leave, mark_out, store_precomputed};
 use crate::keys::only_present;
 use crate::reach::{reached_keys, reindexed};
 use crate::renewal::{
@@ -269,11 +269,11 @@ impl Entries {
     }
 
     /// Keeps for a pending key the value that a job for another key computed on its way. The key stays pending.
-    pub fn keep_found(&mut self, key: &Key, found: Arc<Value>)
+    pub fn store_precomputed(&mut self, key: &Key, found: Arc<Value>)
         ensures entries { ChangesEntry key.now (with_found found) (entry_at self.old) (entry_at self.new) }
         ensures ready { self.new.ready ≡ self.old.ready }
     {
-        keep_found(&mut self.by_key, key, found);
+        store_precomputed(&mut self.by_key, key, found);
     }
 }
 

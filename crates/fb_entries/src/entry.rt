@@ -94,7 +94,7 @@ fn unless_kept(value: &Option<Arc<Value>>, found: Arc<Value>) -> Option<Arc<Valu
 }
 
 /// Keeps for a pending key that has an entry the value that a job for another key computed on its way. The key stays pending.
-pub(crate) fn keep_found(entries: &mut BTreeMap<Key, Entry>, key: &Key, found: Arc<Value>)
+pub(crate) fn store_precomputed(entries: &mut BTreeMap<Key, Entry>, key: &Key, found: Arc<Value>)
     ensures { ChangesEntry key.now (with_found found) (tree.get key_cmp entries.old) (tree.get key_cmp entries.new) }
 {
     if let Some(entry) = entries.get_mut(key) {

@@ -47,6 +47,6 @@ pub fn net_at_is_local()
 
 /// Texts that say the same to networks as those before, and mention the same, leave a net as it was to which nothing was in the way, where
 /// all that its unit rests on is without faults.
-pub fn net_is_left()
+pub fn net_is_unchanged()
     ensures { NetIsLeft }
 {}

@@ -19,12 +19,13 @@ pub use clean_laws::{
 pub use computing::{Computed, compute};
 pub use far::all_far;
 pub use fb_wiring::{
-    Hints, Known, Net, NetsAlone, NoHints, has_net, is_alike, is_of_system, is_subapplication,
+    Hints, Known, Net, NetsAlone, NoHints, has_net, has_same_interface, is_of_system,
+    is_subapplication,
 };
 pub use inner::Inner;
 pub use laws::{
     far_is_all, far_of_is_local, flat_networks_are_local, has_net_by_text, net_at_is_local,
-    net_at_is_net, net_is_left, net_is_local, one_net,
+    net_at_is_net, net_is_local, net_is_unchanged, one_net,
 };
 pub use nets::{net, net_with};
 

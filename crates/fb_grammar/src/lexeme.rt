@@ -12,7 +12,7 @@ ghost use Rattle.fb_grammar.specs.Lexemes.{kind_of, lexeme_of, lexemes_of, name_
 use crate::keywords::{keyword, symbol};
 use crate::kind::Kind;
 use fb_tree::text::{
-    KeptName, Name, NameUse, Place, Span, Token, TokenFault, TokenKind, TypeClass, WideUse,
+    CompactName, Name, NameUse, Place, Span, Token, TokenFault, TokenKind, TypeClass, WideUse,
     same_word, tokens, type_class,
 };
 use std::alloc::{AllocError, Global};
@@ -34,7 +34,7 @@ impl Lexeme {
         ensures { IfOk result (λ used. used ≡ name_use self.now) }
     {
         Ok(NameUse {
-            name: KeptName::keep(alloc, &self.name)?,
+            name: CompactName::keep(alloc, &self.name)?,
             span: self.span,
         })
     }

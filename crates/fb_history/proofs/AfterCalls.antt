@@ -13,7 +13,7 @@ use Rattle.fb_history.specs.declared.answers.Delivered.TheVariants.{Accepted, No
 use Rattle.fb_history.specs.declared.answers.GivenBack.{GivenBack}
 use Rattle.fb_history.specs.declared.answers.GivenBack.TheVariants.{Returned, NothingOut}
 use Rattle.fb_history.specs.Machine.{State, Call, ToCommit, ToTake, ToDeliver, ToGiveBack, ToAsk, Finds, Waits, Unknown, shown, reply, after, reaches, commit_answer, after_commit, deliver_answer, after_deliver, give_back_answer, after_give_back}
-use Rattle.fb_history.specs.Story.{Origin, IsOrigin, opened, replay, empty_origin}
+use Rattle.fb_history.specs.BenchView.{Origin, IsOrigin, opened, replay, empty_origin}
 use Rattle.fb_history.specs.Due.{due_from}
 use Rattle.fb_history.specs.Laws.{is_refusal, refuses_commit, refuses_result, refuses_return, entry_after, AgreeApartFrom}
 use Rattle.fb_history.proofs.Dues.{waits_after, waits_at_origin}

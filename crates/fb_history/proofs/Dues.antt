@@ -12,7 +12,7 @@ use Rattle.fb_history.specs.declared.answers.Delivered.TheVariants.{NotPending}
 use Rattle.fb_history.specs.declared.answers.GivenBack.{GivenBack}
 use Rattle.fb_history.specs.declared.answers.GivenBack.TheVariants.{Returned, NothingOut}
 use Rattle.fb_history.specs.Machine.{State, Call, ToCommit, ToTake, ToDeliver, ToGiveBack, ToAsk, commit_answer, after_commit, after_deliver, unless_stale, after_take, next, reaches, after, give_back_answer, after_give_back}
-use Rattle.fb_history.specs.Story.{Story, Origin, IsOrigin, opened, replay, calls_of, state_of}
+use Rattle.fb_history.specs.BenchView.{BenchView, Origin, IsOrigin, opened, replay, calls_of, state_of}
 use Rattle.fb_history.specs.Due.{marks, marks_done, settles, settled, due, is_due}
 use Rattle.fb_jobs.proofs.Order.{keys_equal}
 
@@ -110,5 +110,5 @@ pub waits_at_origin : (origin : Origin) (k : Key) → IsOrigin origin → IsWait
 waits_at_origin origin k begins = own_pending (has_key origin.units k) ((opened origin).pending k) (begins.waiting k)
 
 -- pending are exactly the keys that are due
-pub pending_is_due : (story : Story) (k : Key) → IsOrigin story.origin → (state_of story).pending k ≡ is_due story k
+pub pending_is_due : (story : BenchView) (k : Key) → IsOrigin story.origin → (state_of story).pending k ≡ is_due story k
 pending_is_due story k begins = waits_after (opened story.origin) (calls_of story.log) k ((opened story.origin).pending k) (waits_at_origin story.origin k begins)

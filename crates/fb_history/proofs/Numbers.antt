@@ -7,7 +7,7 @@ use Rattle.std.proofs.lemmas.Option.{slice_get-map, slice_get_read, slice_get_pa
 use Rattle.std.proofs.lemmas.List.{map-append}
 use Rattle.std.proofs.lemmas.List.Sums.{sum_by_push}
 use Rattle.std.proofs.lemmas.Bool.Decides.{nat_tests}
-use Rattle.fb_history.specs.Story.{Record, on_page, record_at, turns_of}
+use Rattle.fb_history.specs.BenchView.{Record, on_page, record_at, turns_of}
 use Rattle.fb_history.specs.Records.{records_in}
 
 -- one more share is one more record

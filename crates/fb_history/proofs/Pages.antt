@@ -7,7 +7,7 @@ use Rattle.std.specs.List.{AllZip}
 use Rattle.std.specs.Map.{lookup}
 use Rattle.std.specs.Ordering.{nat_cmp, match_ordering}
 use Rattle.std.specs.declared.cmp.Ordering.TheVariants.{Less, Equal, Greater}
-use Rattle.fb_history.specs.Story.{Record, on_page, page_more, pages_after, turns_of}
+use Rattle.fb_history.specs.BenchView.{Record, on_page, page_more, pages_after, turns_of}
 
 found_after : (pages : List (ℕ × ℕ)) (k v q : ℕ) → lookup (is_at (nat_cmp q)) (insert_entry nat_cmp pages k v) ≡ cond (k == q) (Some v) (lookup (is_at (nat_cmp q)) pages)
 found_after [] k v q = grind (arith, nat_tests)

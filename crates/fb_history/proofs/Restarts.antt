@@ -16,7 +16,7 @@ use Rattle.fb_history.specs.declared.answers.GivenBack.{GivenBack}
 use Rattle.fb_history.specs.declared.answers.GivenBack.TheVariants.{Returned, NothingOut}
 use Rattle.fb_history.specs.Machine.{State, Call, ToCommit, ToTake, ToDeliver, ToGiveBack, ToAsk, commit_answer, after_commit, next, after_take, deliver_answer, after_deliver, give_back_answer, after_give_back, after, keys_of, reaches}
 use Rattle.fb_history.specs.Limits.{Bounds}
-use Rattle.fb_history.specs.Story.{Story, IsOrigin, opened, replay, calls_of, state_of, last_number, pages_after, record_at}
+use Rattle.fb_history.specs.BenchView.{BenchView, IsOrigin, opened, replay, calls_of, state_of, last_number, pages_after, record_at}
 use Rattle.fb_history.specs.Checkpoints.{checkpointed, IsUnseen, AreOne, NumbersGoOn}
 use Rattle.fb_history.proofs.Least.{next_passes, of_keys}
 use Rattle.fb_history.proofs.Pages.{on_all}
@@ -84,7 +84,7 @@ unfolding replay
 within_replay s [] within = within
 within_replay s (call ∷ calls) within = within_replay (after s call) calls (within_after s call within)
 
-within_story : (story : Story) → IsOrigin story.origin → IsWithin (state_of story)
+within_story : (story : BenchView) → IsOrigin story.origin → IsWithin (state_of story)
 within_story story begins = within_replay (opened story.origin) (calls_of story.log) (λ key none. (begins.waiting key none, begins.handed key none))
 
 -- ---- the state is as it was
@@ -98,7 +98,7 @@ listed_again : (s : State) (marks : Key → Bool) → ((key : Key) → has_key s
 listed_again s marks sound key =
     of_filtered marks key (keys_of s.units) ∙ ap (λ b. b && marks key) (of_keys s.units key) ∙ own (has_key s.units key) (marks key) (sound key)
 
-pub unseen : (limits : Bounds) (story : Story) → IsOrigin story.origin → IsUnseen limits story
+pub unseen : (limits : Bounds) (story : BenchView) → IsOrigin story.origin → IsUnseen limits story
 unfolding replay
 unseen limits story begins =
     let s : State = state_of story in
@@ -109,7 +109,7 @@ unseen limits story begins =
 
 -- ---- it is where a history may begin
 
-pub goes_on : (limits : Bounds) (story : Story) → IsOrigin story.origin → IsOrigin (checkpointed limits story).origin
+pub goes_on : (limits : Bounds) (story : BenchView) → IsOrigin story.origin → IsOrigin (checkpointed limits story).origin
 goes_on limits story begins =
     let s : State = state_of story in
     let within = within_story story begins in
@@ -125,7 +125,7 @@ no_record : (place : ℕ) → record_at [] place ≡ None
 no_record zero = refl
 no_record (suc place) = refl
 
-pub numbers_go_on : (limits : Bounds) (story : Story) → NumbersGoOn limits story
+pub numbers_go_on : (limits : Bounds) (story : BenchView) → NumbersGoOn limits story
 numbers_go_on limits story = record {
   last = (let n = last_number story in omega arith);
   turns = λ caller. (let all = on_all story.origin.pages story.log.records caller in omega (arith, all));
@@ -133,7 +133,7 @@ numbers_go_on limits story = record {
 }
 
 -- two in a row are the second
-pub are_one : (first second : Bounds) (story : Story) → IsOrigin story.origin → AreOne first second story
+pub are_one : (first second : Bounds) (story : BenchView) → IsOrigin story.origin → AreOne first second story
 are_one first second story begins =
     let same = unseen first story begins in
     let s : State = state_of story in

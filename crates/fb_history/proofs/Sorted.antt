@@ -22,7 +22,7 @@ use Rattle.fb_history.specs.declared.answers.GivenBack.TheVariants.{Returned, No
 use Rattle.fb_jobs.specs.Kinds.{all_keys}
 use Rattle.fb_history.specs.Machine.{State, Call, ToCommit, ToTake, ToDeliver, ToGiveBack, ToAsk, commit_answer, after_commit, next, after_take, deliver_answer, after_deliver, give_back_answer, after_give_back, after, keys_of}
 use Rattle.fb_jobs.proofs.KindLemmas.{all_keys_rise}
-use Rattle.fb_history.specs.Story.{Story, IsOrigin, opened, replay, calls_of, state_of}
+use Rattle.fb_history.specs.BenchView.{BenchView, IsOrigin, opened, replay, calls_of, state_of}
 
 abbrev Rise : Texts → Type 0
 Rise texts = IsStrictlySortedBy name_cmp (names_of texts)
@@ -123,9 +123,9 @@ rise_replay s (call ∷ calls) rise = rise_replay (after s call) calls (rise_aft
 keys_sorted : (texts : Texts) → Rise texts → IsStrictlySortedBy key_cmp (keys_of texts)
 keys_sorted texts rise = IsStrictlySortedBy-filter key_cmp (has_key texts) (all_keys (names_of texts)) (all_keys_rise (names_of texts) rise)
 
-pub rise_story : (story : Story) → IsOrigin story.origin → Rise (state_of story).units
+pub rise_story : (story : BenchView) → IsOrigin story.origin → Rise (state_of story).units
 rise_story story begins = rise_replay (opened story.origin) (calls_of story.log) begins.rise
 
 -- the keys of every workbench rise
-pub keys_rise : (story : Story) → IsOrigin story.origin → IsStrictlySortedBy key_cmp (keys_of (state_of story).units)
+pub keys_rise : (story : BenchView) → IsOrigin story.origin → IsStrictlySortedBy key_cmp (keys_of (state_of story).units)
 keys_rise story begins = keys_sorted (state_of story).units (rise_story story begins)

@@ -7,7 +7,7 @@ use Rattle.fb_jobs.specs.Library.Texts.{Texts, Edit}
 use Rattle.fb_jobs.specs.declared.key.Key.{Key}
 use Rattle.fb_jobs.specs.Reads.{PlainJob, Seen}
 use Rattle.fb_history.specs.Machine.{State, Call, Reply, after, reply, ToAsk, OfAsk, shown, ToTake, OfTake, taken, next, after_take, plain_job_for, ToDeliver, OfDeliver, deliver_answer, after_deliver, ToGiveBack, OfGiveBack, give_back_answer, after_give_back, removed, ToCommit, OfCommit, commit_answer, after_commit}
-use Rattle.fb_history.specs.Story.{Record, Story, opened, replay, replies, calls_of, state_of, recorded, logged, record_after, record_of, IsReplay}
+use Rattle.fb_history.specs.BenchView.{Record, BenchView, opened, replay, replies, calls_of, state_of, recorded, logged, record_after, record_of, IsReplay}
 
 pub replay_more : (s : State) (calls : List Call) (call : Call) → replay s (calls ++ call ∷ []) ≡ after (replay s calls) call
 unfolding replay
@@ -27,18 +27,18 @@ replies_pushed : (es : List Record) (e : Record) → map (λ (x : Record). x.rep
 replies_pushed [] e = refl
 replies_pushed (x ∷ xs) e = ap (λ rs. x.reply ∷ rs) (replies_pushed xs e)
 
-pub state_recorded : (story : Story) (caller : ℕ) (call : Call) → state_of (recorded story caller call) ≡ after (state_of story) call
+pub state_recorded : (story : BenchView) (caller : ℕ) (call : Call) → state_of (recorded story caller call) ≡ after (state_of story) call
 state_recorded story caller call =
     ap (λ calls. replay (opened story.origin) calls) (calls_more story.log.records _) ∙ replay_more (opened story.origin) (calls_of story.log) call
 
-pub replayed_recorded : (story : Story) (caller : ℕ) (call : Call) → IsReplay story → IsReplay (recorded story caller call)
+pub replayed_recorded : (story : BenchView) (caller : ℕ) (call : Call) → IsReplay story → IsReplay (recorded story caller call)
 replayed_recorded story caller call so_far =
     ap (λ calls. replies (opened story.origin) calls) (calls_more story.log.records _)
     ∙ replies_more (opened story.origin) (calls_of story.log) call
     ∙ ap (λ rs. rs ++ reply (state_of story) call ∷ []) so_far
     ∙ sym (replies_pushed story.log.records _)
 
-pub story_pushed : (story now next_story : Story) (caller : ℕ) (call : Call) (answer : Reply) → story ≡ now → next_story ≡ logged story caller call answer → answer ≡ reply (state_of story) call → next_story ≡ recorded now caller call
+pub story_pushed : (story now next_story : BenchView) (caller : ℕ) (call : Call) (answer : Reply) → story ≡ now → next_story ≡ logged story caller call answer → answer ≡ reply (state_of story) call → next_story ≡ recorded now caller call
 story_pushed story now next_story caller call answer known is same =
     is ∙ ap (λ a. logged story caller call a) same ∙ ap (λ st. recorded st caller call) known
 
@@ -121,5 +121,5 @@ delivered_is s order now key answer same at is =
     ∙ (λ i. after_deliver (sym is i) (sym at i) s)
 
 -- the share of a record shows the event that the call adds
-pub share_pushed : (story now : Story) (e : Record) (caller : ℕ) (call : Call) (answer : Reply) → story ≡ now → e ≡ record_after story caller call answer → answer ≡ reply (state_of story) call → e ≡ record_of now caller call
+pub share_pushed : (story now : BenchView) (e : Record) (caller : ℕ) (call : Call) (answer : Reply) → story ≡ now → e ≡ record_after story caller call answer → answer ≡ reply (state_of story) call → e ≡ record_of now caller call
 share_pushed story now e caller call answer known is same = is ∙ ap (λ a. record_after story caller call a) same ∙ ap (λ st. record_of st caller call) known

@@ -4,12 +4,12 @@ use Rattle.fb_jobs.specs.Library.Texts.{Texts}
 use Rattle.fb_jobs.specs.declared.key.Key.{Key}
 use Rattle.fb_history.specs.Limits.{Bounds}
 use Rattle.fb_history.specs.Machine.{keys_of}
-use Rattle.fb_history.specs.Story.{Story, all_turns, last_number, pages_after, record_numbered, state_of}
+use Rattle.fb_history.specs.BenchView.{BenchView, all_turns, last_number, pages_after, record_numbered, state_of}
 use Rattle.fb_history.specs.declared.answers.CheckpointRefused.{CheckpointRefused}
 use Rattle.fb_history.specs.declared.answers.CheckpointRefused.TheVariants.{UnitsOver, NumbersOver, Memory}
 
 -- the story that begins from these texts, commits and marks, after the calls of another
-abbrev pub restarted : Bounds → Texts → ℕ → List Key → List Key → Story → Story
+abbrev pub restarted : Bounds → Texts → ℕ → List Key → List Key → BenchView → BenchView
 restarted limits units commits pending out story =
     record {
       origin =
@@ -26,7 +26,7 @@ restarted limits units commits pending out story =
     }
 
 -- the story that begins where this one has led to
-abbrev pub checkpointed : Bounds → Story → Story
+abbrev pub checkpointed : Bounds → BenchView → BenchView
 checkpointed limits story =
     let state = state_of story in
     restarted limits state.units state.commits (filter state.pending (keys_of state.units)) (filter state.out (keys_of state.units)) story
@@ -38,13 +38,13 @@ pub data Checking : Type 0 where
   OverNumbers : Checking
 
 -- more units than the new limit, a last number beyond 64 bits, or the number of all calls so far
-abbrev pub checking : Bounds → Story → Checking
+abbrev pub checking : Bounds → BenchView → Checking
 checking limits story =
     if nat_lt limits.units (length (state_of story).units) then OverUnits (length (state_of story).units)
     else (if nat_lt (last_number story + limits.history) (2 ^ 64) then KeptUpTo (last_number story) else OverNumbers)
 
 -- the story after a checkpoint that comes to this
-abbrev pub story_checked : Checking → Bounds → Story → Story
+abbrev pub story_checked : Checking → Bounds → BenchView → BenchView
 story_checked (KeptUpTo before) limits story = checkpointed limits story
 story_checked (OverUnits count) limits story = story
 story_checked OverNumbers limits story = story
@@ -59,15 +59,15 @@ ChecksAs OverNumbers result = result ≡ Err NumbersOver
 -- ---- laws
 
 -- no later call sees it: where the history begins is the state as it was, but for the most units
-abbrev pub IsUnseen : Bounds → Story → Type 0
+abbrev pub IsUnseen : Bounds → BenchView → Type 0
 IsUnseen limits story = state_of (checkpointed limits story) ≡ record (state_of story) { most_units = limits.units }
 
 -- two in a row are the second alone
-abbrev pub AreOne : Bounds → Bounds → Story → Type 0
+abbrev pub AreOne : Bounds → Bounds → BenchView → Type 0
 AreOne first second story = checkpointed second (checkpointed first story) ≡ checkpointed second story
 
 -- numbers and the calls of each caller are counted on, and there is no record of an earlier number
-pub record NumbersGoOn (limits : Bounds) (story : Story) : Type 0 where
+pub record NumbersGoOn (limits : Bounds) (story : BenchView) : Type 0 where
   pub last : last_number (checkpointed limits story) ≡ last_number story
   pub turns : (caller : ℕ) → all_turns (checkpointed limits story) caller ≡ all_turns story caller
   pub none : (number : ℕ) → record_numbered (checkpointed limits story) number ≡ None

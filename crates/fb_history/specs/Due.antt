@@ -8,7 +8,7 @@ use Rattle.fb_jobs.specs.Reads.{stale}
 use Rattle.fb_history.specs.declared.answers.Committed.{Committed}
 use Rattle.fb_history.specs.declared.answers.Committed.TheVariants.{Done}
 use Rattle.fb_history.specs.Machine.{State, Call, ToCommit, ToDeliver, commit_answer, reaches, after}
-use Rattle.fb_history.specs.Story.{Story, opened, state_of, calls_of}
+use Rattle.fb_history.specs.BenchView.{BenchView, opened, state_of, calls_of}
 
 abbrev pub marks_done : Committed → State → List Edit → Key → Bool
 marks_done (Done commit) state edits key =
@@ -40,5 +40,5 @@ abbrev pub due_from : State → List Call → Key → Bool
 due_from state calls key = (state.pending key && not (settled state calls key)) || due state calls key
 
 -- a key of the present texts for which no current result has come since the last commit that made or reached it
-abbrev pub is_due : Story → Key → Bool
+abbrev pub is_due : BenchView → Key → Bool
 is_due story key = has_key (state_of story).units key && due_from (opened story.origin) (calls_of story.log) key

@@ -11,7 +11,7 @@ use Rattle.fb_history.specs.declared.answers.GivenBack.{GivenBack}
 use Rattle.fb_history.specs.declared.answers.GivenBack.TheVariants.{Returned, NothingOut}
 use Rattle.fb_history.specs.Machine.{State, Call, Reply, OfCommit, OfTake, OfDeliver, OfGiveBack, OfAsk, Shown, Finds, Waits, Unknown, shown, reply, after, reaches}
 pub use Rattle.fb_jobs.specs.Reach.{AgreeApartFrom}
-use Rattle.fb_history.specs.Story.{Origin, opened, replay}
+use Rattle.fb_history.specs.BenchView.{Origin, opened, replay}
 use Rattle.fb_history.specs.Due.{due_from}
 
 abbrev pub refuses_commit : Committed → Bool

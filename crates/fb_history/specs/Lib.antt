@@ -1,5 +1,5 @@
 pub mod Machine
-pub mod Story
+pub mod BenchView
 pub mod Records
 pub mod Logs
 pub mod Limits

@@ -7,7 +7,7 @@ use Rattle.fb_jobs.specs.Reads.{PlainJob}
 use Rattle.fb_jobs.specs.Values.{finding_of}
 use Rattle.fb_history.specs.Machine as machine
 use Rattle.fb_history.specs.Machine.{most_changes, ToCommit, ToTake, ToDeliver, ToGiveBack, ToAsk, Shown, Finds, Waits, Unknown, OfCommit, OfTake, OfDeliver, OfGiveBack, OfAsk}
-use Rattle.fb_history.specs.Story.{Record}
+use Rattle.fb_history.specs.BenchView.{Record}
 use Rattle.fb_history.specs.declared.answers.Asked.{Asked}
 use Rattle.fb_history.specs.declared.answers.Asked.TheVariants.{Value, Pending, NoSuchKey}
 use Rattle.fb_history.specs.declared.answers.Delivered.{Delivered}

@@ -1,7 +1,7 @@
 //! Laws of a workbench: its entries follow its texts, whatever the calls are.
 ghost use Rattle.std.specs.Prelude.{ℕ, List};
 ghost use Rattle.fb_history.specs.Machine.{State};
-ghost use Rattle.fb_history.specs.Story.{Origin, Story, IsOrigin, empty_origin};
+ghost use Rattle.fb_history.specs.BenchView.{Origin, BenchView, IsOrigin, empty_origin};
 ghost use Rattle.fb_history.specs.Limits.{Bounds};
 ghost use Rattle.fb_history.specs.Checkpoints.{checkpointed, IsUnseen, AreOne, NumbersGoOn};
 ghost use Rattle.fb_history.specs.Laws.{EntriesFollow, RefusalsStay, ReachAnywhere};
@@ -12,7 +12,7 @@ ghost use Rattle.fb_history.specs.Laws.{EntriesFollow, RefusalsStay, ReachAnywhe
 pub fn entries_follow_the_texts()
     ensures entries { (origin : Origin) → IsOrigin origin → EntriesFollow origin }
     ensures begins { (most_units : ℕ) → IsOrigin (empty_origin most_units) }
-    ensures goes_on { (limits : Bounds) (story : Story) → IsOrigin story.origin → IsOrigin (checkpointed limits story).origin }
+    ensures goes_on { (limits : Bounds) (story : BenchView) → IsOrigin story.origin → IsOrigin (checkpointed limits story).origin }
     ensures refused { (state : State) → RefusalsStay state }
 {}
 
@@ -23,7 +23,7 @@ pub fn reach_before_and_after()
 
 /// A checkpoint is not seen by later calls, but for its limits; two in a row are the second alone; numbers and turns go on.
 pub fn checkpoints_are_unseen()
-    ensures unseen { (limits : Bounds) (story : Story) → IsOrigin story.origin → IsUnseen limits story }
-    ensures one { (first second : Bounds) (story : Story) → IsOrigin story.origin → AreOne first second story }
-    ensures numbers { (limits : Bounds) (story : Story) → NumbersGoOn limits story }
+    ensures unseen { (limits : Bounds) (story : BenchView) → IsOrigin story.origin → IsUnseen limits story }
+    ensures one { (first second : Bounds) (story : BenchView) → IsOrigin story.origin → AreOne first second story }
+    ensures numbers { (limits : Bounds) (story : BenchView) → NumbersGoOn limits story }
 {}

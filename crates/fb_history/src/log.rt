@@ -34,9 +34,9 @@ impl Drop for History {
 }
 
 impl Model for History {
-    ghost use Rattle.fb_history.specs.Story.{Story};
+    ghost use Rattle.fb_history.specs.BenchView.{BenchView};
 
-    ghost Value = { Story };
+    ghost Value = { BenchView };
 
     ghost use Rattle.fb_history.specs.Records.{records_in};
     ghost use Rattle.fb_history.specs.Logs.{IsCounted};
@@ -50,7 +50,7 @@ impl History {
     ghost use Rattle.std.specs.Prelude.{◌≡◌, ◌+◌, ◌^◌, ◌<◌, ◌≤◌, ◌↔◌, IsTrue, OnOk, OnErr, IfOk, length};
     ghost use Rattle.std.specs.Option.{option_map};
     ghost use Rattle.fb_history.specs.Checkpoints.{restarted};
-    ghost use Rattle.fb_history.specs.Story.{all_turns, last_number, logged, new_story, pages_after, record_after, record_numbered, AreTurns, IsFull};
+    ghost use Rattle.fb_history.specs.BenchView.{all_turns, last_number, logged, new_story, pages_after, record_after, record_numbered, AreTurns, IsFull};
     ghost use Rattle.fb_history.specs.Records.{call_of, records_in, reply_of};
 
     /// A history of no calls.

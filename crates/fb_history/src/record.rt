@@ -168,7 +168,7 @@ impl Drop for Record {
 }
 
 impl Model for Record {
-    ghost use Rattle.fb_history.specs.Story as story;
+    ghost use Rattle.fb_history.specs.BenchView as story;
 
     ghost Value = { story.Record };
 

@@ -36,7 +36,7 @@ impl Drop for Start {
 }
 
 impl Model for Start {
-    ghost use Rattle.fb_history.specs.Story.{Origin};
+    ghost use Rattle.fb_history.specs.BenchView.{Origin};
 
     ghost Value = { Origin };
 
@@ -45,7 +45,7 @@ impl Model for Start {
 
 impl Start {
     ghost use Rattle.std.specs.Prelude.{◌≡◌};
-    ghost use Rattle.fb_history.specs.Story.{empty_origin, on_page, opened};
+    ghost use Rattle.fb_history.specs.BenchView.{empty_origin, on_page, opened};
 
     /// No texts, and no calls before.
     pub(crate) fn empty(alloc: Global, most_units: u64) -> Start

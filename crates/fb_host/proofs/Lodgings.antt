@@ -1,10 +1,10 @@
 -- What the steps of a lodger's desk leave in its receipts.
 use Rattle.std.proofs.Common.{◌≡◌, List, [], ◌∷◌, ◌++◌, map, refl, sym, subst}
-use Rattle.fb_wire.specs.Talk.{Runs}
+use Rattle.fb_wire.specs.Conversations.{Runs}
 use Rattle.fb_locked.specs.Bench.Calls.{Replied, FullHistory, BehindHistory, Exchange, AskedCall, AskedCheckpoint}
 use Rattle.fb_locked.specs.Runs.{IsRun}
-use Rattle.fb_locked.specs.Seats.{SeatState, Claim}
-use Rattle.fb_shared.specs.Sitting.{Sitter, SitterStep}
+use Rattle.fb_locked.specs.Seats.{SeatView, ReceiptView}
+use Rattle.fb_shared.specs.Sitting.{SeatedView, SitterStep}
 use Rattle.fb_serve.specs.Places.{AddsRun}
 use Rattle.fb_serve.specs.Sessions.{answered_in, call_shown}
 use Rattle.fb_serve.proofs.Places.{run_append}
@@ -12,37 +12,37 @@ use Rattle.fb_serve.proofs.Sessions.{session_shown}
 use Rattle.fb_host.specs.Lodging.{LeadsTo, LodgerStep}
 
 -- each is a step of a desk with a seat
-sits : (old : Sitter) (exchange : Exchange) (new : Sitter) → LodgerStep old exchange new → SitterStep old exchange new
+sits : (old : SeatedView) (exchange : Exchange) (new : SeatedView) → LodgerStep old exchange new → SitterStep old exchange new
 sits old (AskedCall call (Replied reply)) new step = step
 sits old (AskedCall call FullHistory) new step = absurd step
 sits old (AskedCall call BehindHistory) new step = step
 sits old (AskedCheckpoint limits answer) new step = step
 
-all_sit : (pairs : List Exchange) (old new : Sitter) → Runs LodgerStep old pairs new → Runs SitterStep old pairs new
+all_sit : (pairs : List Exchange) (old new : SeatedView) → Runs LodgerStep old pairs new → Runs SitterStep old pairs new
 all_sit [] old new runs = runs
 all_sit (p ∷ ps) old new runs = (runs.0, sits old p runs.0 runs.1, all_sit ps runs.0 new runs.2)
 
 -- from a desk with no receipts, whose seat and receipts are then taken out
-pub lodger_runs : (pairs : List Exchange) (seat : SeatState) (old new : Sitter) (left : SeatState) (receipts : List Claim) → old ≡ record { seat = seat; receipts = [] } → Runs LodgerStep old pairs new → record { seat = left; receipts = receipts } ≡ new
+pub lodger_runs : (pairs : List Exchange) (seat : SeatView) (old new : SeatedView) (left : SeatView) (receipts : List ReceiptView) → old ≡ record { seat = seat; receipts = [] } → Runs LodgerStep old pairs new → record { seat = left; receipts = receipts } ≡ new
     → Runs LodgerStep (record { seat = seat; receipts = [] }) pairs (record { seat = left; receipts = receipts })
 lodger_runs pairs seat old new left receipts begun runs is =
-    subst (λ (s : Sitter). Runs LodgerStep (record { seat = seat; receipts = [] }) pairs s) (sym is) (subst (λ (s : Sitter). Runs LodgerStep s pairs new) begun runs)
+    subst (λ (s : SeatedView). Runs LodgerStep (record { seat = seat; receipts = [] }) pairs s) (sym is) (subst (λ (s : SeatedView). Runs LodgerStep s pairs new) begun runs)
 
-pub lodger_shown : (pairs : List Exchange) (seat left : SeatState) (receipts : List Claim) → Runs LodgerStep (record { seat = seat; receipts = [] }) pairs (record { seat = left; receipts = receipts }) → (answered_in pairs ≡ map call_shown receipts) × IsRun seat receipts left
+pub lodger_shown : (pairs : List Exchange) (seat left : SeatView) (receipts : List ReceiptView) → Runs LodgerStep (record { seat = seat; receipts = [] }) pairs (record { seat = left; receipts = receipts }) → (answered_in pairs ≡ map call_shown receipts) × IsRun seat receipts left
 lodger_shown pairs seat left receipts runs = session_shown pairs seat left receipts (all_sit pairs (record { seat = seat; receipts = [] }) (record { seat = left; receipts = receipts }) runs)
 
 -- ---- where calls lead
 
-pub leads_nowhere : (seat : SeatState) → LeadsTo seat seat
+pub leads_nowhere : (seat : SeatView) → LeadsTo seat seat
 leads_nowhere seat = ([], refl)
 
-pub leads_on : (seat middle after : SeatState) → LeadsTo seat middle → LeadsTo middle after → LeadsTo seat after
+pub leads_on : (seat middle after : SeatView) → LeadsTo seat middle → LeadsTo middle after → LeadsTo seat after
 leads_on seat middle after one two = (one.0 ++ two.0, run_append seat one.0 two.0 middle after one.1 two.1)
 
-pub leads_adds : (seat : SeatState) (old : List Claim) (after : SeatState) (new : List Claim) → AddsRun seat old after new → LeadsTo seat after
+pub leads_adds : (seat : SeatView) (old : List ReceiptView) (after : SeatView) (new : List ReceiptView) → AddsRun seat old after new → LeadsTo seat after
 leads_adds seat old after new adds = (adds.0, adds.2)
 
-pub leads_run : (seat after : SeatState) (claims : List Claim) → IsRun seat claims after → LeadsTo seat after
+pub leads_run : (seat after : SeatView) (claims : List ReceiptView) → IsRun seat claims after → LeadsTo seat after
 leads_run seat after claims run = (claims, run)
 
 pub ruleset leads = (leads_nowhere, leads_on, leads_adds, leads_run)

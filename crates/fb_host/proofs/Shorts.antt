@@ -10,14 +10,14 @@ use Rattle.std.proofs.lemmas.List.{map-append}
 use Rattle.std.proofs.lemmas.List.Folds.{list_any-append}
 use Rattle.fb_locked.specs.Book.{has_called}
 use Rattle.fb_locked.specs.Closing.{AgreesWith, IsLeast, receipts_of}
-use Rattle.fb_locked.specs.History.Story.{Story, all_turns, on_page, pages_after, turns_of}
-use Rattle.fb_locked.specs.Seats.{SeatState, Claim}
+use Rattle.fb_locked.specs.History.BenchView.{BenchView, all_turns, on_page, pages_after, turns_of}
+use Rattle.fb_locked.specs.Seats.{SeatView, ReceiptView}
 use Rattle.fb_locked.proofs.EachCaller.{called_all}
 use Rattle.fb_serve.specs.Shown.{ShowsAll}
 use Rattle.fb_host.specs.Short.{is_short}
 
 -- one of those that were seen, and short
-abbrev pub short_seen : List ℕ → Story → List Claim → ℕ → Bool
+abbrev pub short_seen : List ℕ → BenchView → List ReceiptView → ℕ → Bool
 short_seen seen story receipts q = list_any (λ n. n == q) seen && is_short story receipts q
 
 or_false : (b : Bool) → (b || false) ≡ b
@@ -38,7 +38,7 @@ either_short true false false s' same = refl
 either_short false true s s' same = same refl
 either_short false false s s' same = refl
 
-pub short_more : (story : Story) (receipts : List Claim) (seen : List (Bor ℕ)) (k : Bor ℕ) (q : ℕ)
+pub short_more : (story : BenchView) (receipts : List ReceiptView) (seen : List (Bor ℕ)) (k : Bor ℕ) (q : ℕ)
     → short_seen (map deref (seen ++ k ∷ [])) story receipts q ≡ (short_seen (map deref seen) story receipts q || (k.now == q && is_short story receipts k.now))
 short_more story receipts seen k q =
     ap (λ b. b && is_short story receipts q) (seen_more seen k q)
@@ -50,7 +50,7 @@ seen_short false true c called few = sym (called ∙ few refl)
 seen_short false false c called few = refl
 
 -- who is short has made a call, and is among the pages of all calls
-pub short_all : (story : Story) (receipts : List Claim) (seen : List ℕ) (q : ℕ) → seen ≡ keys_of (pages_after story.origin.pages story.log.records) → is_short story receipts q ≡ short_seen seen story receipts q
+pub short_all : (story : BenchView) (receipts : List ReceiptView) (seen : List ℕ) (q : ℕ) → seen ≡ keys_of (pages_after story.origin.pages story.log.records) → is_short story receipts q ≡ short_seen seen story receipts q
 short_all story receipts seen q is =
     let called : has_called seen story q ≡ nat_lt 0 (all_turns story q) = called_all story seen q is in
     seen_short (list_any (λ (n : ℕ). n == q) seen) (is_short story receipts q) (nat_lt 0 (all_turns story q)) called (
@@ -68,5 +68,5 @@ enough : (few most : ℕ) → nat_lt few most ≡ false → most ≤ few
 enough few most none = grind (arith, nat_tests)
 
 -- where nobody is short, the receipts show all records
-pub all_there : (callers : ℕ) (story : Story) (seats : List SeatState) (receipts : List Claim) → AgreesWith callers story seats receipts → IsLeast (is_short story receipts) None → ShowsAll story receipts
+pub all_there : (callers : ℕ) (story : BenchView) (seats : List SeatView) (receipts : List ReceiptView) → AgreesWith callers story seats receipts → IsLeast (is_short story receipts) None → ShowsAll story receipts
 all_there callers story seats receipts agrees none = (agrees.shown, λ q. enough (receipts_of q receipts) (turns_of q story.log.records) (none q))

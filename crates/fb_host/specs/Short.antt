@@ -1,9 +1,9 @@
 -- Receipts that are not all there.
 use Rattle.std.specs.Prelude.{ℕ, List, Bool, nat_lt}
-use Rattle.fb_locked.specs.History.Story.{Story, turns_of}
+use Rattle.fb_locked.specs.History.BenchView.{BenchView, turns_of}
 use Rattle.fb_locked.specs.Closing.{receipts_of}
-use Rattle.fb_locked.specs.Seats.{Claim}
+use Rattle.fb_locked.specs.Seats.{ReceiptView}
 
 -- a caller with fewer receipts than records since the start
-abbrev pub is_short : Story → List Claim → ℕ → Bool
+abbrev pub is_short : BenchView → List ReceiptView → ℕ → Bool
 is_short story receipts caller = nat_lt (receipts_of caller receipts) (turns_of caller story.log.records)

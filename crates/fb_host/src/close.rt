@@ -2,12 +2,12 @@
 ghost use Rattle.std.specs.Prelude.{◌≡◌, IfOk, true, nat_lt};
 ghost use Rattle.fb_locked.specs.Book.{IsBookOf};
 ghost use Rattle.fb_locked.specs.Closing.{IsLeast, lesser_of, receipts_of};
-ghost use Rattle.fb_locked.specs.History.Story.{turns_of};
+ghost use Rattle.fb_locked.specs.History.BenchView.{turns_of};
 ghost use Rattle.fb_serve.specs.Shown.{ShowsAll};
 ghost use Rattle.fb_host.specs.Short.{is_short};
 
 use crate::drawer::Drawer;
-use crate::threads::Gathered;
+use crate::threads::Results;
 use fb_serve::{NotServed, Served};
 use fb_shared::bench::Bench;
 use fb_shared::{Receipt, Shared};
@@ -20,7 +20,7 @@ pub(crate) fn close<R: Wait>(
     alloc: Global,
     shared: Shared,
     drawer: Drawer,
-    gathered: Gathered,
+    gathered: Results,
 ) -> Result<Served, NotServed>
     ensures all { IfOk result
         (λ served. ShowsAll served.closed.bench served.receipts.items) }
@@ -28,7 +28,7 @@ pub(crate) fn close<R: Wait>(
         (λ served. IsBookOf served.closed.counts shared.callers
         served.closed.bench) }
 {
-    let Gathered { seats, is_whole } = gathered;
+    let Results { seats, is_whole } = gathered;
     if !is_whole {
         return Err(NotServed);
     }

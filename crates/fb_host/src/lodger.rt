@@ -25,9 +25,9 @@ pub struct Lodger<'a, R: Wait> {
 }
 
 impl<'a, R: Wait> Model for Lodger<'a, R> {
-    ghost use Rattle.fb_shared.specs.Sitting.{Sitter};
+    ghost use Rattle.fb_shared.specs.Sitting.{SeatedView};
 
-    ghost Value = { Sitter };
+    ghost Value = { SeatedView };
 
     ghost view = { λ it. record { seat = it.seated.seat; receipts = it.told.claims } };
 }

@@ -43,12 +43,12 @@ pub(crate) struct House {
 
 /// The seats that the threads left, and whether each thread was started and each receipt kept.
 #[derive(Drop)]
-pub(crate) struct Gathered {
+pub(crate) struct Results {
     pub(crate) seats: Vec<Seat>,
     pub(crate) is_whole: bool,
 }
 
-impl Gathered {
+impl Results {
     fn add<R: Wait>(&mut self, rt: &R, drawer: &Drawer, place: Place) {
         let Place {
             seat,
@@ -85,7 +85,7 @@ pub(crate) fn run_house<R: Threads + Wait + Clock + Sync, E: Write + Send>(
     errors: &Mutex<E>,
     sessions: Vec<Seat>,
     workers: Vec<Seat>,
-) -> Gathered {
+) -> Results {
     thread::scope(thread::scope_env(), rt, |scope| {
         let working = start_workers(scope, rt, alloc, house, workers);
         let seated = start_seats(scope, rt, alloc, house, errors, sessions);
@@ -99,7 +99,7 @@ pub(crate) fn run_house<R: Threads + Wait + Clock + Sync, E: Write + Send>(
             thread.join(rt);
         }
         house.seats.close(rt);
-        let mut gathered = Gathered {
+        let mut gathered = Results {
             seats: Vec::new(alloc),
             is_whole,
         };

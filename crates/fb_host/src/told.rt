@@ -1,6 +1,6 @@
 //! The receipts of a session, which exist only in proofs.
 ghost use Rattle.std.specs.Prelude.{◌≡◌, ◌∷◌, [], ◌++◌, List};
-ghost use Rattle.fb_locked.specs.Seats.{Claim};
+ghost use Rattle.fb_locked.specs.Seats.{ReceiptView};
 ghost use base.Fml.{ftrue};
 
 use fb_shared::Receipt;
@@ -9,7 +9,7 @@ use std::marker::Model;
 /// The receipts of all calls of a session, in order. It takes no bytes itself.
 #[derive(Drop)]
 pub struct Told {
-    ghost claims: { List Claim },
+    ghost claims: { List ReceiptView },
 }
 
 impl Model for Told {

@@ -12,7 +12,7 @@ use Rattle.fb_iface.proofs.TableLemmas.{is_it, none}
 use Rattle.fb_iface.specs.Kept.{kept_of, kept_ports, with_type}
 use Rattle.fb_iface.specs.Names.{has_name, is_same}
 use Rattle.fb_iface.specs.Scope.{usable}
-use Rattle.fb_iface.specs.declared.scope.KeptType.{KeptType}
+use Rattle.fb_iface.specs.declared.scope.TypePorts.{TypePorts}
 
 or-false : (b : Bool) → b || false ≡ b
 or-false true = refl
@@ -21,7 +21,7 @@ or-false false = refl
 has_name-more : (names : List NameUse) (x : NameUse) (q : List ℕ) → has_name (names ++ x ∷ []) q ≡ has_name names q || is_same x.name q
 has_name-more names x q = list_any-append (λ (n : NameUse). is_same n.name q) names (x ∷ []) ∙ ap (λ b. has_name names q || b) (or-false (is_same x.name q))
 
-twice : (o : Option KeptType) → option_or o o ≡ o
+twice : (o : Option TypePorts) → option_or o o ≡ o
 twice None = refl
 twice (Some kept) = refl
 
@@ -31,14 +31,14 @@ merged false true own other same = ap (option_map kept_of) (sym (same refl))
 merged true false own other same = refl
 merged false false own other same = refl
 
-pub with_type-more : (type : List ℕ → Option DeclTree) (names : List NameUse) (x : NameUse) (old : List ℕ → Option KeptType) (q : List ℕ) → old q ≡ option_map kept_of (cond (has_name names q) (type q) None) → with_type x.name (type x.name) old q ≡ option_map kept_of (cond (has_name (names ++ x ∷ []) q) (type q) None)
+pub with_type-more : (type : List ℕ → Option DeclTree) (names : List NameUse) (x : NameUse) (old : List ℕ → Option TypePorts) (q : List ℕ) → old q ≡ option_map kept_of (cond (has_name names q) (type q) None) → with_type x.name (type x.name) old q ≡ option_map kept_of (cond (has_name (names ++ x ∷ []) q) (type q) None)
 with_type-more type names x old q known =
     (λ i. cond (same_name x.name q i) (option_or (known i) (option_map kept_of (type x.name))) (known i))
     ∙ merged (has_name names q) (is_same x.name q) (type q) (type x.name) (λ e. ap type (is_it x.name q e))
     ∙ ap (λ b. option_map kept_of (cond b (type q) None)) (sym (has_name-more names x q))
 
 -- a type that wasn't there yet
-pub with_type-new : (name q : List ℕ) (decl : DeclTree) (tree : Option DeclTree) (kept : KeptType) (old : List ℕ → Option KeptType) (new : Option KeptType) → tree ≡ Some decl → kept ≡ kept_of decl → is_some (old name) ≡ false → new ≡ cond (pointwise nat_eq name q) (Some kept) (old q) → new ≡ with_type name tree old q
+pub with_type-new : (name q : List ℕ) (decl : DeclTree) (tree : Option DeclTree) (kept : TypePorts) (old : List ℕ → Option TypePorts) (new : Option TypePorts) → tree ≡ Some decl → kept ≡ kept_of decl → is_some (old name) ≡ false → new ≡ cond (pointwise nat_eq name q) (Some kept) (old q) → new ≡ with_type name tree old q
 with_type-new name q decl tree kept old new there is absent put =
     put
     ∙ (λ i. cond (pointwise nat_eq name q) (Some (is i)) (old q))

@@ -19,7 +19,7 @@ use std::collections::HashMap;
 
 /// A type that is present and not broken, with its ports.
 #[derive(Drop)]
-struct KeptType {
+struct TypePorts {
     kind: UnitKind,
     ports: Ports,
 }
@@ -27,7 +27,7 @@ struct KeptType {
 /// What names stand for in a network. The ports of each type are read once, however many instances have it.
 pub struct Scope {
     own: Ports,
-    types: HashMap<Name, KeptType>,
+    types: HashMap<Name, TypePorts>,
 }
 
 impl Drop for Scope {
@@ -125,7 +125,7 @@ fn types_of<V: View>(
     alloc: Global,
     view: &V,
     instances: &[Instance],
-) -> Result<HashMap<Name, KeptType>, AllocError>
+) -> Result<HashMap<Name, TypePorts>, AllocError>
     ensures { IfOk result (λ types. (name : List ℕ) → get (pointwise nat_eq) types name
         ≡ option_map kept_of
         (mentioned_type (V.sources view.now) (map instance_tree instances.now) name)) }
@@ -142,7 +142,7 @@ fn add_type<V: View>(
     alloc: Global,
     view: &V,
     name: &Name,
-    types: &mut HashMap<Name, KeptType>,
+    types: &mut HashMap<Name, TypePorts>,
 ) -> Result<(), AllocError>
     ensures { OnOk result ((q : List ℕ) → get (pointwise nat_eq) types.new q
         ≡ with_type name.now (tree_at (V.sources view.now) name.now)
@@ -152,7 +152,7 @@ fn add_type<V: View>(
         return Ok(());
     }
     if let Some(decl) = tree_by_name(view, name) {
-        let kept = KeptType {
+        let kept = TypePorts {
             kind: kind(decl),
             ports: interfaces::ports_of(alloc, decl)?,
         };

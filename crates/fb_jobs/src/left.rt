@@ -12,7 +12,7 @@ use crate::read::Read;
 use crate::same::are_equal;
 use crate::value::Value;
 use fb_deploy::Deploy;
-use fb_deploy::flatten::{Net, is_alike};
+use fb_deploy::flatten::{Net, has_same_interface};
 use fb_deploy::parse::Source;
 use fb_text::{Name, same_name};
 use std::alloc::{AllocError, Global};
@@ -56,7 +56,7 @@ fn is_still_text(
     if same_name(name, unit) {
         return Ok(false);
     }
-    is_alike(alloc, before, now)
+    has_same_interface(alloc, before, now)
 }
 
 /// Whether what is read under a name says what was read before, where it is told whether its unit is known to be without faults.

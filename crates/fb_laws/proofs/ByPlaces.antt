@@ -4,7 +4,7 @@ use Rattle.std.proofs.lemmas.Bool.{false≢true}
 use Rattle.fb_jobs.specs.declared.key.Key.{Key}
 use Rattle.fb_history.specs.Limits.{Bounds}
 use Rattle.fb_history.specs.Machine.{State, Call, after}
-use Rattle.fb_history.specs.Story.{Story, IsOrigin, replay}
+use Rattle.fb_history.specs.BenchView.{BenchView, IsOrigin, replay}
 use Rattle.fb_history.specs.Due.{marks, settles, settled, due, due_from}
 use Rattle.fb_history.specs.Checkpoints.{checkpointed}
 use Rattle.fb_laws.specs.DueByPlaces.{IsMarkedAt, IsSettledAt, IsMarkedLast, IsLeftPending, IsDueByPlaces, DueGoesOn}
@@ -173,7 +173,7 @@ due_by_places s cs k = (forth (due s cs k) refl, back) where
   back (inr it) =
       or_left _ (due s cs k) (and_both (s.pending k) (settled s cs k) it.pending (open_if s cs k (settled s cs k) refl it.unsettled))
 
-pub due_goes_on : (limits : Bounds) (story : Story) → IsOrigin story.origin → DueGoesOn limits story
+pub due_goes_on : (limits : Bounds) (story : BenchView) → IsOrigin story.origin → DueGoesOn limits story
 due_goes_on limits story begins key =
     sym (pending_is_due (checkpointed limits story) key (goes_on limits story begins))
     ∙ ap (λ s. s.pending key) (unseen limits story begins)

@@ -3,7 +3,7 @@ use Rattle.std.specs.Prelude.{◌≡◌, ℕ, ◌<◌, true, ◌⊎◌, ◌↔�
 use Rattle.fb_jobs.specs.declared.key.Key.{Key}
 use Rattle.fb_history.specs.Limits.{Bounds}
 use Rattle.fb_history.specs.Machine.{State, Call}
-use Rattle.fb_history.specs.Story.{Story, replay}
+use Rattle.fb_history.specs.BenchView.{BenchView, replay}
 use Rattle.fb_history.specs.Due.{marks, settles, due_from, is_due}
 use Rattle.fb_history.specs.Checkpoints.{checkpointed}
 
@@ -34,5 +34,5 @@ abbrev pub IsDueByPlaces : State → List Call → Key → Type 0
 IsDueByPlaces state calls key = (due_from state calls key ≡ true) ↔ (IsMarkedLast state calls key ⊎ IsLeftPending state calls key)
 
 -- a key waits after a checkpoint exactly where it waits before
-abbrev pub DueGoesOn : Bounds → Story → Type 0
+abbrev pub DueGoesOn : Bounds → BenchView → Type 0
 DueGoesOn limits story = (key : Key) → is_due (checkpointed limits story) key ≡ is_due story key

@@ -6,8 +6,8 @@ use Rattle.std.proofs.lemmas.Bool.Decides.{nat_tests}
 use Rattle.std.proofs.lemmas.List.Elements.{All-more}
 use Rattle.std.proofs.lemmas.List.Sums.{sum_by_more, sum_by-cons}
 use Rattle.std.proofs.lemmas.List.Folds.{list_any_more}
-use Rattle.fb_bench.specs.History.Story.{Record, Story, all_turns, record_at}
-use Rattle.fb_locked.specs.Seats.{SeatState, Claim}
+use Rattle.fb_bench.specs.History.BenchView.{Record, BenchView, all_turns, record_at}
+use Rattle.fb_locked.specs.Seats.{SeatView, ReceiptView}
 use Rattle.fb_locked.specs.declared.close.CloseFault.{CloseFault}
 use Rattle.fb_locked.specs.declared.close.CloseFault.TheVariants.{SeatMissing, SeatDiffers, ReceiptDiffers, ReceiptTwice, Memory}
 use Rattle.fb_locked.specs.Closing.{IsLeast, lesser_of, has_wrong_seat, has_number, times, AreReceiptsRight, IsReceiptRight, AreSeated, AreSeatsRight, IsReceiptFault, IsFirstFault}
@@ -35,14 +35,14 @@ pub placed : (es : List Record) (n : ℕ) (e : Record) → record_at es n ≡ So
 placed es zero e is = absurd (let no : ⊥ = cc in no)
 placed es (suc p) e is = (omega arith, (let here : suc p - 1 ≡ p = omega arith in rw here (slice_get_within es p e is)))
 
-pub times_more : (n : ℕ) (rs : List Claim) (i : ℕ) (d : Claim) → i < length rs → times n (take (i + 1) rs) ≡ times n (take i rs) + cond ((get_or rs i d).number == n) 1 0
-times_more n rs i d lt = sum_by_more (λ (c : Claim). cond (c.number == n) 1 0) rs i d lt
+pub times_more : (n : ℕ) (rs : List ReceiptView) (i : ℕ) (d : ReceiptView) → i < length rs → times n (take (i + 1) rs) ≡ times n (take i rs) + cond ((get_or rs i d).number == n) 1 0
+times_more n rs i d lt = sum_by_more (λ (c : ReceiptView). cond (c.number == n) 1 0) rs i d lt
 
 once_at : (n number t : ℕ) (b : Bool) → number == n ≡ b → (number ≡ n → t ≡ 0) → t ≤ 1 → t + cond b 1 0 ≤ 1
 once_at n number t true is new few = let e : t ≡ 0 = new (eqb-true number n is) in omega arith
 once_at n number t false is new few = omega arith
 
-pub right_more : (story : Story) (rs : List Claim) (i : ℕ) (r : Claim) → i < length rs → r ≡ get_or rs i r → AreReceiptsRight story (take i rs) → IsReceiptRight story r → times r.number (take i rs) ≡ 0 → AreReceiptsRight story (take (i + 1) rs)
+pub right_more : (story : BenchView) (rs : List ReceiptView) (i : ℕ) (r : ReceiptView) → i < length rs → r ≡ get_or rs i r → AreReceiptsRight story (take i rs) → IsReceiptRight story r → times r.number (take i rs) ≡ 0 → AreReceiptsRight story (take (i + 1) rs)
 right_more story rs i r lt is right here new = record {
   right = All-more (IsReceiptRight story) rs i r lt right.right (subst (IsReceiptRight story) is here);
   once =
@@ -63,7 +63,7 @@ mark_at before m n t number marks false is at one within new marked =
     let apart : n ≢ m = λ same. let e : number ≡ before + n + 1 = omega arith in let bad : true ≡ false = sym (eq-eqb number (before + n + 1) e) ∙ is in let no : ⊥ = cc in no in
     rw (get_or-set_other, marked) (sym (add-zero t))
 
-pub marks_more : (before : ℕ) (rs : List Claim) (i : ℕ) (r : Claim) (marks : List Bool) → i < length rs → r ≡ get_or rs i r → 1 ≤ r.number - before → r.number - before - 1 < length marks
+pub marks_more : (before : ℕ) (rs : List ReceiptView) (i : ℕ) (r : ReceiptView) (marks : List Bool) → i < length rs → r ≡ get_or rs i r → 1 ≤ r.number - before → r.number - before - 1 < length marks
     → times r.number (take i rs) ≡ 0
     → (n : ℕ) → cond (get_or marks n false) 1 0 ≡ times (before + n + 1) (take i rs) → cond (get_or (set marks (r.number - before - 1) true) n false) 1 0 ≡ times (before + n + 1) (take (i + 1) rs)
 marks_more before rs i r marks lt is one within new n marked =
@@ -73,42 +73,42 @@ marks_more before rs i r marks lt is one within new n marked =
 
 -- ---- one more seat
 
-wrong_same : (story : Story) (caller q turns : ℕ) (b : Bool) → caller == q ≡ b → (b && not (all_turns story q == turns)) ≡ (b && not (all_turns story caller == turns))
+wrong_same : (story : BenchView) (caller q turns : ℕ) (b : Bool) → caller == q ≡ b → (b && not (all_turns story q == turns)) ≡ (b && not (all_turns story caller == turns))
 wrong_same story caller q turns true is = ap (λ n. not (all_turns story n == turns)) (sym (eqb-true caller q is))
 wrong_same story caller q turns false is = refl
 
-pub wrong_more : (story : Story) (seats : List SeatState) (i : ℕ) (s : SeatState) (q : ℕ) → i < length seats → s ≡ get_or seats i s
+pub wrong_more : (story : BenchView) (seats : List SeatView) (i : ℕ) (s : SeatView) (q : ℕ) → i < length seats → s ≡ get_or seats i s
     → has_wrong_seat story (take (i + 1) seats) q ≡ (has_wrong_seat story (take i seats) q || (s.caller == q && not (all_turns story s.caller == s.turns)))
 wrong_more story seats i s q lt is =
-    list_any_more (λ (s : SeatState). s.caller == q && not (all_turns story q == s.turns)) seats i s lt
+    list_any_more (λ (s : SeatView). s.caller == q && not (all_turns story q == s.turns)) seats i s lt
     ∙ (
     rw (← is) (ap (λ b. has_wrong_seat story (take i seats) q || b) (wrong_same story s.caller q s.turns (s.caller == q) refl))
     )
 
 -- ---- a number among receipts
 
-times_cons : (n : ℕ) (c : Claim) (cs : List Claim) → times n (c ∷ cs) ≡ cond (c.number == n) 1 0 + times n cs
-times_cons n c cs = sum_by-cons (λ (x : Claim). cond (x.number == n) 1 0) c cs
+times_cons : (n : ℕ) (c : ReceiptView) (cs : List ReceiptView) → times n (c ∷ cs) ≡ cond (c.number == n) 1 0 + times n cs
+times_cons n c cs = sum_by-cons (λ (x : ReceiptView). cond (x.number == n) 1 0) c cs
 
-none_at : (n : ℕ) (c : Claim) (cs : List Claim) (b : Bool) → c.number == n ≡ b → (b || has_number cs n) ≡ false → (has_number cs n ≡ false → times n cs ≡ 0) → times n (c ∷ cs) ≡ 0
+none_at : (n : ℕ) (c : ReceiptView) (cs : List ReceiptView) (b : Bool) → c.number == n ≡ b → (b || has_number cs n) ≡ false → (has_number cs n ≡ false → times n cs ≡ 0) → times n (c ∷ cs) ≡ 0
 none_at n c cs true is none rest = let bad : true ≡ false = none in cc
 none_at n c cs false is none rest =
     let here : ◌≡◌ {A = ℕ} (cond (c.number == n) 1 0) 0 = ap (λ (b : Bool). cond b 1 0) is in omega (arith, times_cons n c cs, here, rest none)
 
-pub none_times : (n : ℕ) (rs : List Claim) → has_number rs n ≡ false → times n rs ≡ 0
+pub none_times : (n : ℕ) (rs : List ReceiptView) → has_number rs n ≡ false → times n rs ≡ 0
 none_times n [] none = refl
 none_times n (c ∷ cs) none = none_at n c cs (c.number == n) refl none (none_times n cs)
 
-some_at : (n : ℕ) (c : Claim) (cs : List Claim) (b : Bool) → c.number == n ≡ b → (b || has_number cs n) ≡ true → (has_number cs n ≡ true → 1 ≤ times n cs) → 1 ≤ times n (c ∷ cs)
+some_at : (n : ℕ) (c : ReceiptView) (cs : List ReceiptView) (b : Bool) → c.number == n ≡ b → (b || has_number cs n) ≡ true → (has_number cs n ≡ true → 1 ≤ times n cs) → 1 ≤ times n (c ∷ cs)
 some_at n c cs true is some rest = let here : ◌≡◌ {A = ℕ} (cond (c.number == n) 1 0) 1 = ap (λ (b : Bool). cond b 1 0) is in omega (arith, times_cons n c cs, here)
 some_at n c cs false is some rest = omega (arith, times_cons n c cs, rest some)
 
-pub some_times : (n : ℕ) (rs : List Claim) → has_number rs n ≡ true → 1 ≤ times n rs
+pub some_times : (n : ℕ) (rs : List ReceiptView) → has_number rs n ≡ true → 1 ≤ times n rs
 some_times n [] some = let bad : false ≡ true = some in cc
 some_times n (c ∷ cs) some = some_at n c cs (c.number == n) refl some (some_times n cs)
 
 -- a fault of the receipts is the first one, where the seats are right
-pub receipt_fault : (callers : ℕ) (story : Story) (seats : List SeatState) (rs : List Claim) (fault : CloseFault) → AreSeated callers story seats → AreSeatsRight story seats → IsReceiptFault story rs fault → IsFirstFault callers story seats rs fault
+pub receipt_fault : (callers : ℕ) (story : BenchView) (seats : List SeatView) (rs : List ReceiptView) (fault : CloseFault) → AreSeated callers story seats → AreSeatsRight story seats → IsReceiptFault story rs fault → IsFirstFault callers story seats rs fault
 receipt_fault callers story seats rs (SeatMissing q) seated right never = absurd never
 receipt_fault callers story seats rs (SeatDiffers q) seated right never = absurd never
 receipt_fault callers story seats rs (ReceiptDiffers n) seated right first = (seated, right, first)

@@ -9,12 +9,12 @@ use Rattle.std.proofs.lemmas.Bool.{eqb-true}
 use Rattle.std.proofs.lemmas.Bool.Decides.{nat_tests}
 use Rattle.std.proofs.lemmas.List.{map-append}
 use Rattle.std.proofs.lemmas.List.Folds.{list_any-append}
-use Rattle.fb_bench.specs.History.Story.{Story, all_turns, on_page, pages_after}
+use Rattle.fb_bench.specs.History.BenchView.{BenchView, all_turns, on_page, pages_after}
 use Rattle.fb_history.proofs.Pages.{on_all}
 use Rattle.fb_locked.specs.Book.{is_first, is_caller, has_called}
 use Rattle.fb_locked.specs.Closing.{has_seat, is_missing}
 use Rattle.fb_locked.specs.Resuming.{is_left_out}
-use Rattle.fb_locked.specs.Seats.{SeatState}
+use Rattle.fb_locked.specs.Seats.{SeatView}
 
 -- ---- one caller more is seen
 
@@ -39,7 +39,7 @@ seen_more seen k q =
     ap (list_any is_it) (map-append deref seen (k ∷ []))
     ∙ (list_any-append is_it (map deref seen) (k.now ∷ []) ∙ ap (λ b. list_any is_it (map deref seen) || b) (or_false (k.now == q)))
 
-pub called_more : (story : Story) (seen : List (Bor ℕ)) (k : Bor ℕ) (q : ℕ) → has_called (map deref (seen ++ k ∷ [])) story q ≡ (has_called (map deref seen) story q || (k.now == q && nat_lt 0 (all_turns story k.now)))
+pub called_more : (story : BenchView) (seen : List (Bor ℕ)) (k : Bor ℕ) (q : ℕ) → has_called (map deref (seen ++ k ∷ [])) story q ≡ (has_called (map deref seen) story q || (k.now == q && nat_lt 0 (all_turns story k.now)))
 called_more story seen k q =
     let m : Bool = list_any (λ (n : ℕ). n == q) (map deref seen) in
     let t : Bool = nat_lt 0 (all_turns story q) in
@@ -62,7 +62,7 @@ all_called true n none = refl
 all_called false n none = sym (ap (nat_lt 0) (none refl))
 
 -- who has made a call is among the pages of all calls
-pub called_all : (story : Story) (seen : List ℕ) (q : ℕ) → seen ≡ keys_of (pages_after story.origin.pages story.log.records) → has_called seen story q ≡ nat_lt 0 (all_turns story q)
+pub called_all : (story : BenchView) (seen : List ℕ) (q : ℕ) → seen ≡ keys_of (pages_after story.origin.pages story.log.records) → has_called seen story q ≡ nat_lt 0 (all_turns story q)
 called_all story seen q is =
     all_called (list_any (λ (n : ℕ). n == q) seen) (all_turns story q) (
     λ none.
@@ -91,13 +91,13 @@ either_assoc true b c = refl
 either_assoc false b c = refl
 
 -- a caller whose seat is missing: one of the first, or one of those that were seen
-abbrev pub is_unseated : ℕ → List ℕ → Story → List SeatState → ℕ → Bool
+abbrev pub is_unseated : ℕ → List ℕ → BenchView → List SeatView → ℕ → Bool
 is_unseated callers seen story seats q = (is_first callers q || has_called seen story q) && not (has_seat seats q)
 
-pub unseated_none : (callers : ℕ) (story : Story) (seats : List SeatState) (q : ℕ) → is_unseated callers [] story seats q ≡ (is_first callers q && not (has_seat seats q))
+pub unseated_none : (callers : ℕ) (story : BenchView) (seats : List SeatView) (q : ℕ) → is_unseated callers [] story seats q ≡ (is_first callers q && not (has_seat seats q))
 unseated_none callers story seats q = ap (λ b. b && not (has_seat seats q)) (or_false (is_first callers q))
 
-pub unseated_more : (callers : ℕ) (story : Story) (seats : List SeatState) (seen : List (Bor ℕ)) (k : Bor ℕ) (q : ℕ)
+pub unseated_more : (callers : ℕ) (story : BenchView) (seats : List SeatView) (seen : List (Bor ℕ)) (k : Bor ℕ) (q : ℕ)
     → is_unseated callers (map deref (seen ++ k ∷ [])) story seats q
     ≡ (is_unseated callers (map deref seen) story seats q || (k.now == q && (nat_lt 0 (all_turns story k.now) && not (has_seat seats k.now))))
 unseated_more callers story seats seen k q =
@@ -107,20 +107,20 @@ unseated_more callers story seats seen k q =
     (ap (λ b. is_first callers q || b) (called_more story seen k q) ∙ either_assoc (is_first callers q) before more)
     (λ same. ap (has_seat seats) (sym (eqb-true k.now q same)))
 
-pub unseated_all : (callers : ℕ) (story : Story) (seats : List SeatState) (seen : List ℕ) (q : ℕ) → seen ≡ keys_of (pages_after story.origin.pages story.log.records) → is_missing callers story seats q ≡ is_unseated callers seen story seats q
+pub unseated_all : (callers : ℕ) (story : BenchView) (seats : List SeatView) (seen : List ℕ) (q : ℕ) → seen ≡ keys_of (pages_after story.origin.pages story.log.records) → is_missing callers story seats q ≡ is_unseated callers seen story seats q
 unseated_all callers story seats seen q is = ap (λ b. (is_first callers q || b) && not (has_seat seats q)) (sym (called_all story seen q is))
 
 -- a caller that gets no seat, of those that were seen
-abbrev pub is_beyond : List ℕ → Story → ℕ → ℕ → Bool
+abbrev pub is_beyond : List ℕ → BenchView → ℕ → ℕ → Bool
 is_beyond seen story callers q = has_called seen story q && not (is_first callers q)
 
-pub beyond_more : (callers : ℕ) (story : Story) (seen : List (Bor ℕ)) (k : Bor ℕ) (q : ℕ) → is_beyond (map deref (seen ++ k ∷ [])) story callers q ≡ (is_beyond (map deref seen) story callers q || (k.now == q && is_left_out story callers k.now))
+pub beyond_more : (callers : ℕ) (story : BenchView) (seen : List (Bor ℕ)) (k : Bor ℕ) (q : ℕ) → is_beyond (map deref (seen ++ k ∷ [])) story callers q ≡ (is_beyond (map deref seen) story callers q || (k.now == q && is_left_out story callers k.now))
 beyond_more callers story seen k q =
     lacking_more (has_called (map deref (seen ++ k ∷ [])) story q) (has_called (map deref seen) story q) (k.now == q) (nat_lt 0 (all_turns story k.now)) (is_first callers q) (is_first callers k.now)
     (called_more story seen k q)
     (λ same. ap (is_first callers) (sym (eqb-true k.now q same)))
 
-pub beyond_all : (callers : ℕ) (story : Story) (seen : List ℕ) (q : ℕ) → seen ≡ keys_of (pages_after story.origin.pages story.log.records) → is_left_out story callers q ≡ is_beyond seen story callers q
+pub beyond_all : (callers : ℕ) (story : BenchView) (seen : List ℕ) (q : ℕ) → seen ≡ keys_of (pages_after story.origin.pages story.log.records) → is_left_out story callers q ≡ is_beyond seen story callers q
 beyond_all callers story seen q is = ap (λ b. b && not (is_first callers q)) (sym (called_all story seen q is))
 
 -- ---- how many calls each has made
@@ -135,7 +135,7 @@ counted_at a' false true t t' old new is same was now = now ∙ (ap Some (same r
 counted_at a' true false t t' old new is same was now = now ∙ (was ∙ ap (λ (x : Bool). cond x (Some t) None) (sym is))
 counted_at a' false false t t' old new is same was now = now ∙ (was ∙ ap (λ (x : Bool). cond x (Some t) None) (sym is))
 
-pub counted_more : (callers : ℕ) (story : Story) (seen : List (Bor ℕ)) (k : Bor ℕ) (q : ℕ) (old new : Option ℕ)
+pub counted_more : (callers : ℕ) (story : BenchView) (seen : List (Bor ℕ)) (k : Bor ℕ) (q : ℕ) (old new : Option ℕ)
     → old ≡ cond (is_first callers q || has_called (map deref seen) story q) (Some (all_turns story q)) None
     → new ≡ cond (k.now == q && nat_lt 0 (all_turns story k.now)) (Some (all_turns story k.now)) old
     → new ≡ cond (is_first callers q || has_called (map deref (seen ++ k ∷ [])) story q) (Some (all_turns story q)) None
@@ -147,6 +147,6 @@ counted_more callers story seen k q old new was now =
     (λ both. ap (all_turns story) (eqb-true k.now q (first_true (k.now == q) (nat_lt 0 (all_turns story k.now)) both)))
     was now
 
-pub counted_all : (callers : ℕ) (story : Story) (seen : List ℕ) (q : ℕ) → seen ≡ keys_of (pages_after story.origin.pages story.log.records)
+pub counted_all : (callers : ℕ) (story : BenchView) (seen : List ℕ) (q : ℕ) → seen ≡ keys_of (pages_after story.origin.pages story.log.records)
     → ◌≡◌ {A = Option ℕ} (cond (is_first callers q || has_called seen story q) (Some (all_turns story q)) None) (cond (is_caller callers story q) (Some (all_turns story q)) None)
 counted_all callers story seen q is = ap (λ (b : Bool). cond (is_first callers q || b) (Some (all_turns story q)) None) (called_all story seen q is)

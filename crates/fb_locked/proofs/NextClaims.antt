@@ -1,9 +1,9 @@
 -- The receipt of the next record is one of the seat that fits.
 use Rattle.std.proofs.Common.{◌≡◌, ◌+◌, ◌≤◌, refl, ap, sym, subst, arith}
 use Rattle.fb_bench.specs.History.Machine.{State, Call, ToCommit, ToTake, ToDeliver, ToGiveBack, ToAsk, reply}
-use Rattle.fb_bench.specs.History.Story.{all_turns, last_number, state_of}
+use Rattle.fb_bench.specs.History.BenchView.{all_turns, last_number, state_of}
 use Rattle.fb_bench.specs.Calls.{Fits}
-use Rattle.fb_locked.specs.Seats.{Hall, SeatState, Claim, next_claim, IsReceiptOf}
+use Rattle.fb_locked.specs.Seats.{LockedView, SeatView, ReceiptView, next_claim, IsReceiptOf}
 
 -- the machine's reply is of the call's kind
 pub fits_reply : (state : State) (call : Call) → Fits call (reply state call)
@@ -14,7 +14,7 @@ fits_reply state (ToDeliver order) = tt
 fits_reply state (ToGiveBack key) = tt
 fits_reply state (ToAsk key) = tt
 
-pub answered : (hall : Hall) (seat : SeatState) (call : Call) (claim : Claim) → claim ≡ next_claim hall seat.caller call → all_turns hall.bench seat.caller ≡ seat.turns → seat.seen ≤ last_number hall.bench → IsReceiptOf seat call claim
+pub answered : (hall : LockedView) (seat : SeatView) (call : Call) (claim : ReceiptView) → claim ≡ next_claim hall seat.caller call → all_turns hall.bench seat.caller ≡ seat.turns → seat.seen ≤ last_number hall.bench → IsReceiptOf seat call claim
 answered hall seat call claim is turns seen =
     let fits : IsReceiptOf seat call (next_claim hall seat.caller call) =
     record { caller_is = refl; call_is = refl; turn_is = ap (λ n. n + 1) turns; reply_fits = fits_reply (state_of hall.bench) call; later = omega arith } in

@@ -4,15 +4,15 @@ use Rattle.std.proofs.lemmas.Bool.Decides.{nat_tests}
 use Rattle.fb_bench.proofs.Committing.{most_units_of}
 use Rattle.fb_bench.specs.History.Checkpoints.{checkpointed}
 use Rattle.fb_bench.specs.History.Limits.{Bounds}
-use Rattle.fb_bench.specs.History.Story.{Story, IsOrigin, all_turns, last_number, state_of}
+use Rattle.fb_bench.specs.History.BenchView.{BenchView, IsOrigin, all_turns, last_number, state_of}
 use Rattle.fb_history.proofs.Restarts.{numbers_go_on, unseen}
 use Rattle.fb_locked.specs.Refusals.{refusal_of}
 use Rattle.fb_locked.specs.Rolling.{hall_rolled, IsRollUnseen}
-use Rattle.fb_locked.specs.Seats.{Hall, SeatState}
+use Rattle.fb_locked.specs.Seats.{LockedView, SeatView}
 use Rattle.fb_locked.specs.declared.locked.SharedRefused.{SharedRefused}
 use Rattle.fb_locked.specs.declared.locked.SharedRefused.TheVariants.{SeatDiffers, Behind, HistoryFull}
 
-same_state : (limits : Bounds) (story : Story) → IsOrigin story.origin → limits.units ≡ story.origin.most_units → state_of (checkpointed limits story) ≡ state_of story
+same_state : (limits : Bounds) (story : BenchView) → IsOrigin story.origin → limits.units ≡ story.origin.most_units → state_of (checkpointed limits story) ≡ state_of story
 same_state limits story begins same =
     let most : limits.units ≡ (state_of story).most_units = same ∙ sym (most_units_of story) in
     unseen limits story begins ∙ (λ i. record (state_of story) { most_units = most i })
@@ -32,7 +32,7 @@ no_cause turns seat_turns last seen limit len more false s room full = absurd (l
 roomy : (limit : ℕ) → 1 ≤ limit → nat_le limit 0 ≡ false
 roomy limit some = grind (arith, nat_tests)
 
-no_refusal : (limits : Bounds) (hall : Hall) (seat : SeatState) → 1 ≤ limits.history → refusal_of hall seat ≡ Some HistoryFull → refusal_of (hall_rolled limits hall) seat ≡ None
+no_refusal : (limits : Bounds) (hall : LockedView) (seat : SeatView) → 1 ≤ limits.history → refusal_of hall seat ≡ Some HistoryFull → refusal_of (hall_rolled limits hall) seat ≡ None
 no_refusal limits hall seat some full =
     let on = numbers_go_on limits hall.bench in
     let turns : all_turns (checkpointed limits hall.bench) seat.caller ≡ all_turns hall.bench seat.caller = on.turns seat.caller in
@@ -40,7 +40,7 @@ no_refusal limits hall seat some full =
     no_cause (all_turns hall.bench seat.caller) seat.turns (last_number hall.bench) seat.seen hall.bench.log.limit (length hall.bench.log.records) limits.history (all_turns hall.bench seat.caller == seat.turns) (nat_lt (last_number hall.bench) seat.seen) (roomy limits.history some) full in
     (λ i. cause_at (turns i) seat.turns (on.last i) seat.seen limits.history 0) ∙ before
 
-pub roll_unseen : (limits : Bounds) (hall : Hall) → IsOrigin hall.bench.origin → limits.units ≡ hall.bench.origin.most_units → 1 ≤ limits.history → IsRollUnseen limits hall
+pub roll_unseen : (limits : Bounds) (hall : LockedView) → IsOrigin hall.bench.origin → limits.units ≡ hall.bench.origin.most_units → 1 ≤ limits.history → IsRollUnseen limits hall
 roll_unseen limits hall begins same some =
     let on = numbers_go_on limits hall.bench in
     record {

@@ -3,43 +3,43 @@ use Rattle.std.specs.Prelude.{◌≡◌, ℕ, ◌≤◌, ◌&&◌, ◌||◌, ◌
 use Rattle.std.specs.List.{list_any}
 use Rattle.std.specs.Ordering.{nat_cmp}
 use Rattle.std.specs.BTreeMap.{BTreeMap, get}
-use Rattle.fb_bench.specs.History.Story.{Story, all_turns, last_number}
-use Rattle.fb_locked.specs.Seats.{Hall, SeatState}
+use Rattle.fb_bench.specs.History.BenchView.{BenchView, all_turns, last_number}
+use Rattle.fb_locked.specs.Seats.{LockedView, SeatView}
 
 -- the first callers, for whom seats are made
 abbrev pub is_first : ℕ → ℕ → Bool
 is_first callers q = nat_lt 0 q && nat_le q callers
 
 -- the callers: the first ones, and each other one that has made a call
-abbrev pub is_caller : ℕ → Story → ℕ → Bool
+abbrev pub is_caller : ℕ → BenchView → ℕ → Bool
 is_caller callers story q = is_first callers q || nat_lt 0 (all_turns story q)
 
 -- what stands on a caller's page: the number of its calls
-abbrev pub page_of : ℕ → Story → ℕ → Option ℕ
+abbrev pub page_of : ℕ → BenchView → ℕ → Option ℕ
 page_of callers story q = if is_caller callers story q then Some (all_turns story q) else None
 
 -- each caller has its page, and nobody else has one
-pub record IsBookOf (book : BTreeMap ℕ ℕ) (callers : ℕ) (story : Story) : Type 0 where
+pub record IsBookOf (book : BTreeMap ℕ ℕ) (callers : ℕ) (story : BenchView) : Type 0 where
   pub pages : (q : ℕ) → get nat_cmp book q ≡ page_of callers story q
 
 -- the number of the caller's calls is noted, and no other page is changed
-abbrev pub CountsOne : ℕ → Story → BTreeMap ℕ ℕ → BTreeMap ℕ ℕ → Type 0
+abbrev pub CountsOne : ℕ → BenchView → BTreeMap ℕ ℕ → BTreeMap ℕ ℕ → Type 0
 CountsOne caller story old new = (q : ℕ) → get nat_cmp new q ≡ (if caller == q then Some (all_turns story caller) else get nat_cmp old q)
 
 -- the same, where the caller has made a call. Otherwise no page is changed
-abbrev pub CountsCalls : ℕ → Story → BTreeMap ℕ ℕ → BTreeMap ℕ ℕ → Type 0
+abbrev pub CountsCalls : ℕ → BenchView → BTreeMap ℕ ℕ → BTreeMap ℕ ℕ → Type 0
 CountsCalls caller story old new =
     (q : ℕ) → get nat_cmp new q ≡ (if caller == q && nat_lt 0 (all_turns story caller) then Some (all_turns story caller) else get nat_cmp old q)
 
 -- it is one of those that were seen, and has made a call
-abbrev pub has_called : List ℕ → Story → ℕ → Bool
+abbrev pub has_called : List ℕ → BenchView → ℕ → Bool
 has_called seen story q = list_any (λ k. k == q) seen && nat_lt 0 (all_turns story q)
 
 -- the number of its calls is noted of each first caller, and of each other one that was seen and has made a call
-abbrev pub HasCounts : BTreeMap ℕ ℕ → ℕ → List ℕ → Story → Type 0
+abbrev pub HasCounts : BTreeMap ℕ ℕ → ℕ → List ℕ → BenchView → Type 0
 HasCounts book callers seen story =
     (q : ℕ) → get nat_cmp book q ≡ (if is_first callers q || has_called seen story q then Some (all_turns story q) else None)
 
 -- as many calls are recorded of the seat's caller as with the seat, and it has seen no more than there are
-abbrev pub SeatFits : Hall → SeatState → Type 0
+abbrev pub SeatFits : LockedView → SeatView → Type 0
 SeatFits hall seat = (all_turns hall.bench seat.caller ≡ seat.turns) × (seat.seen ≤ last_number hall.bench)

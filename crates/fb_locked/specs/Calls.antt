@@ -1,16 +1,16 @@
 -- What a call with a seat says: of what lies under the lock, and of its seat and its receipt alone.
 use Rattle.std.specs.Prelude.{◌≡◌, ◌++◌, ◌∷◌, [], List, Result, Ok, Err, None}
 use Rattle.fb_bench.specs.History.Machine.{Call}
-use Rattle.fb_bench.specs.History.Story.{reply_at}
+use Rattle.fb_bench.specs.History.BenchView.{reply_at}
 use Rattle.fb_bench.specs.Requests.{reply_in}
 use Rattle.fb_bench.specs.declared.answers.Answered.{Answered}
 use Rattle.fb_locked.specs.declared.locked.SharedRefused.{SharedRefused}
-use Rattle.fb_locked.specs.Seats.{Hall, SeatState, Claim, hall_after, next_claim, seat_after, IsReceiptOf}
+use Rattle.fb_locked.specs.Seats.{LockedView, SeatView, ReceiptView, hall_after, next_claim, seat_after, IsReceiptOf}
 use Rattle.fb_locked.specs.Refusals.{refusal_of, RefusedAs, IsRefusalOf}
 
 -- The call is the machine's next step, recorded, and its receipt is that record with its number. Or the first cause refuses it, want
 -- of memory where there is none, and nothing changes.
-abbrev pub Performs : {R : Type 0} → Hall → SeatState → Call → (R → Claim) → Result R SharedRefused → Hall → SeatState → Type 0
+abbrev pub Performs : {R : Type 0} → LockedView → SeatView → Call → (R → ReceiptView) → Result R SharedRefused → LockedView → SeatView → Type 0
 Performs hall seat call claim_of (Ok made) hall' seat' =
     (refusal_of hall seat ≡ None)
     × (claim_of made ≡ next_claim hall seat.caller call)
@@ -20,14 +20,14 @@ Performs hall seat call claim_of (Err refused) hall' seat' =
     RefusedAs (refusal_of hall seat) refused × (hall' ≡ hall) × (seat' ≡ seat)
 
 -- a receipt of the call, which the seat has then seen; or a refusal, and the seat as it was
-abbrev pub Answers : {R : Type 0} → SeatState → Call → (R → Claim) → Result R SharedRefused → SeatState → Type 0
+abbrev pub Answers : {R : Type 0} → SeatView → Call → (R → ReceiptView) → Result R SharedRefused → SeatView → Type 0
 Answers seat call claim_of (Ok made) seat' = IsReceiptOf seat call (claim_of made) × (seat' ≡ seat_after seat (claim_of made))
 Answers seat call claim_of (Err refused) seat' = IsRefusalOf seat refused × (seat' ≡ seat)
 
 -- ---- with the receipt kept behind others
 
 -- the call is the machine's next step, recorded, and its receipt comes behind those that there were
-abbrev pub Keeps : Hall → SeatState → Call → List Claim → Hall → SeatState → List Claim → Type 0
+abbrev pub Keeps : LockedView → SeatView → Call → List ReceiptView → LockedView → SeatView → List ReceiptView → Type 0
 Keeps hall seat call old hall' seat' new =
     (refusal_of hall seat ≡ None)
     × (new ≡ old ++ next_claim hall seat.caller call ∷ [])
@@ -35,17 +35,17 @@ Keeps hall seat call old hall' seat' new =
     × (seat' ≡ seat_after seat (next_claim hall seat.caller call))
 
 -- nothing changes
-abbrev pub Stays : Hall → SeatState → List Claim → Hall → SeatState → List Claim → Type 0
+abbrev pub Stays : LockedView → SeatView → List ReceiptView → LockedView → SeatView → List ReceiptView → Type 0
 Stays hall seat old hall' seat' new = (hall' ≡ hall) × (seat' ≡ seat) × (new ≡ old)
 
 -- The call is made and its receipt kept, and the answer is the machine's. Or the first cause refuses it, want of memory where there is none,
 -- and nothing changes.
-abbrev pub PerformsKept : Hall → SeatState → Call → Result Answered SharedRefused → List Claim → Hall → SeatState → List Claim → Type 0
+abbrev pub PerformsKept : LockedView → SeatView → Call → Result Answered SharedRefused → List ReceiptView → LockedView → SeatView → List ReceiptView → Type 0
 PerformsKept hall seat call (Ok answer) old hall' seat' new = (reply_in answer ≡ reply_at hall.bench call) × Keeps hall seat call old hall' seat' new
 PerformsKept hall seat call (Err refused) old hall' seat' new = RefusedAs (refusal_of hall seat) refused × Stays hall seat old hall' seat' new
 
 -- one receipt more, which is of the call, with its answer, and which the seat has then seen; or a refusal, and all as it was
-abbrev pub AnswersKept : SeatState → Call → Result Answered SharedRefused → List Claim → SeatState → List Claim → Type 0
+abbrev pub AnswersKept : SeatView → Call → Result Answered SharedRefused → List ReceiptView → SeatView → List ReceiptView → Type 0
 AnswersKept seat call (Ok answer) old seat' new =
-    (claim : Claim) × (new ≡ old ++ claim ∷ []) × IsReceiptOf seat call claim × (claim.entry.reply ≡ reply_in answer) × (seat' ≡ seat_after seat claim)
+    (claim : ReceiptView) × (new ≡ old ++ claim ∷ []) × IsReceiptOf seat call claim × (claim.entry.reply ≡ reply_in answer) × (seat' ≡ seat_after seat claim)
 AnswersKept seat call (Err refused) old seat' new = IsRefusalOf seat refused × (new ≡ old) × (seat' ≡ seat)

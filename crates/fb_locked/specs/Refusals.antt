@@ -2,11 +2,11 @@
 use Rattle.std.specs.Prelude.{◌≡◌, ◌≢◌, ◌==◌, ◌<◌, Option, Some, None, length, nat_lt, nat_le, if◌then◌else◌}
 use Rattle.fb_locked.specs.declared.locked.SharedRefused.{SharedRefused}
 use Rattle.fb_locked.specs.declared.locked.SharedRefused.TheVariants.{SeatDiffers, Behind, HistoryFull, Memory}
-use Rattle.fb_bench.specs.History.Story.{all_turns, last_number}
-use Rattle.fb_locked.specs.Seats.{Hall, SeatState}
+use Rattle.fb_bench.specs.History.BenchView.{all_turns, last_number}
+use Rattle.fb_locked.specs.Seats.{LockedView, SeatView}
 
 -- the first cause, want of memory apart
-abbrev pub refusal_of : Hall → SeatState → Option SharedRefused
+abbrev pub refusal_of : LockedView → SeatView → Option SharedRefused
 refusal_of hall seat =
     if all_turns hall.bench seat.caller == seat.turns then (
     if nat_lt (last_number hall.bench) seat.seen then Some (Behind seat.seen (last_number hall.bench))
@@ -19,7 +19,7 @@ RefusedAs None refused = refused ≡ Memory
 RefusedAs (Some cause) refused = refused ≡ cause
 
 -- what a refusal says of the seat
-abbrev pub IsRefusalOf : SeatState → SharedRefused → Type 0
+abbrev pub IsRefusalOf : SeatView → SharedRefused → Type 0
 IsRefusalOf seat (SeatDiffers turns book) = (turns ≡ seat.turns) × (book ≢ turns)
 IsRefusalOf seat (Behind seen len) = (seen ≡ seat.seen) × (len < seen)
 IsRefusalOf seat HistoryFull = Unit {0}

@@ -1,24 +1,24 @@
 -- A workbench that comes under a lock with the calls that it has.
 use Rattle.std.specs.Prelude.{◌≡◌, ◌↔◌, ◌⊎◌, ◌&&◌, ℕ, Bool, Some, None, not, nat_lt}
-use Rattle.fb_bench.specs.History.Story.{Story, all_turns, IsFull}
+use Rattle.fb_bench.specs.History.BenchView.{BenchView, all_turns, IsFull}
 use Rattle.fb_locked.specs.Book.{is_first}
 use Rattle.fb_locked.specs.Closing.{IsLeast}
 use Rattle.fb_locked.specs.Refusals.{refusal_of}
-use Rattle.fb_locked.specs.Seats.{Hall, SeatState}
+use Rattle.fb_locked.specs.Seats.{LockedView, SeatView}
 use Rattle.fb_locked.specs.declared.locked.SharedRefused.TheVariants.{HistoryFull}
 use Rattle.fb_locked.specs.declared.resume.ResumeFault.{ResumeFault}
 use Rattle.fb_locked.specs.declared.resume.ResumeFault.TheVariants.{CallersFew, Memory}
 
 -- a caller with calls, for whom no seat is made
-abbrev pub is_left_out : Story → ℕ → ℕ → Bool
+abbrev pub is_left_out : BenchView → ℕ → ℕ → Bool
 is_left_out story callers q = nat_lt 0 (all_turns story q) && not (is_first callers q)
 
 -- why a workbench does not come under a lock: the least such caller, or want of memory where there is none
-abbrev pub IsResumeFault : Story → ℕ → ResumeFault → Type 0
+abbrev pub IsResumeFault : BenchView → ℕ → ResumeFault → Type 0
 IsResumeFault story callers (CallersFew q) = IsLeast (is_left_out story callers) (Some q)
 IsResumeFault story callers Memory = IsLeast (is_left_out story callers) None
 
 -- nothing but a full history, or want of memory, is against the next call with the seat
-abbrev pub IsUpToDate : Hall → SeatState → Type 0
+abbrev pub IsUpToDate : LockedView → SeatView → Type 0
 IsUpToDate hall seat =
     ((refusal_of hall seat ≡ None) ⊎ (refusal_of hall seat ≡ Some HistoryFull)) × ((refusal_of hall seat ≡ Some HistoryFull) ↔ IsFull hall.bench.log)

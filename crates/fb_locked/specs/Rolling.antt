@@ -6,21 +6,21 @@ use Rattle.fb_bench.specs.Jobs.Reads.{PlainJob}
 use Rattle.fb_bench.specs.History.Checkpoints.{checking, checkpointed, ChecksAs}
 use Rattle.fb_bench.specs.History.Limits.{Bounds}
 use Rattle.fb_bench.specs.History.Machine.{ToGiveBack}
-use Rattle.fb_bench.specs.History.Story.{Record, Story, IsFull, all_turns, last_number, record_numbered, state_of}
+use Rattle.fb_bench.specs.History.BenchView.{Record, BenchView, IsFull, all_turns, last_number, record_numbered, state_of}
 use Rattle.fb_bench.specs.History.declared.answers.CheckpointRefused.{CheckpointRefused}
 use Rattle.fb_bench.specs.Requests.{job_of}
 use Rattle.fb_locked.specs.Calls.{Keeps, Stays}
 use Rattle.fb_locked.specs.Refusals.{refusal_of, RefusedAs, IsRefusalOf}
-use Rattle.fb_locked.specs.Seats.{Hall, SeatState, Claim, IsReceiptOf, seat_after}
+use Rattle.fb_locked.specs.Seats.{LockedView, SeatView, ReceiptView, IsReceiptOf, seat_after}
 use Rattle.fb_locked.specs.declared.locked.SharedRefused.{SharedRefused}
 use Rattle.fb_locked.specs.declared.locked.SharedRefused.TheVariants.{HistoryFull}
 
 -- the same, with a history that begins where it has led to
-abbrev pub hall_rolled : Bounds → Hall → Hall
+abbrev pub hall_rolled : Bounds → LockedView → LockedView
 hall_rolled limits hall = record hall { bench = checkpointed limits hall.bench }
 
 -- A full history begins anew, and any other one stays as it is. A full one stays where the checkpoint is refused.
-abbrev pub MakesRoom : {T : Type 0} → Bounds → Hall → Result T CheckpointRefused → Hall → Type 0
+abbrev pub MakesRoom : {T : Type 0} → Bounds → LockedView → Result T CheckpointRefused → LockedView → Type 0
 MakesRoom limits old (Ok done) new = (IsFull old.bench.log × (new ≡ hall_rolled limits old)) ⊎ ((IsFull old.bench.log → ⊥) × (new ≡ old))
 MakesRoom limits old (Err refused) new = IsFull old.bench.log × ChecksAs (checking limits old.bench) (Err refused) × (new ≡ old)
 
@@ -39,36 +39,36 @@ takes_in key None = false
 takes_in key (Some it) = takes key it
 
 -- the record of this number hands the key out
-abbrev pub takes_at : Story → Key → ℕ → Bool
+abbrev pub takes_at : BenchView → Key → ℕ → Bool
 takes_at story key number = takes_in key (record_numbered story number)
 
 -- a record behind that of this number hands the key out
-abbrev pub IsTakenAfter : Story → Key → ℕ → Type 0
+abbrev pub IsTakenAfter : BenchView → Key → ℕ → Type 0
 IsTakenAfter story key since = (number : ℕ) × (since < number) × (takes_at story key number ≡ true)
 
 -- it is handed out, and nobody has taken it after that number
-abbrev pub IsOutSince : Story → Key → ℕ → Type 0
+abbrev pub IsOutSince : BenchView → Key → ℕ → Type 0
 IsOutSince story key since = ((state_of story).out key ≡ true) × (IsTakenAfter story key since → ⊥)
 
 -- Where it is out since then it is given back, by a recorded call whose receipt is kept, or that is refused as any call. Otherwise nothing changes.
-abbrev pub Returns : {T : Type 0} → ℕ → Hall → SeatState → Key → Result T SharedRefused → List Claim → Hall → SeatState → List Claim → Type 0
+abbrev pub Returns : {T : Type 0} → ℕ → LockedView → SeatView → Key → Result T SharedRefused → List ReceiptView → LockedView → SeatView → List ReceiptView → Type 0
 Returns since hall seat key (Ok done) old hall' seat' new =
     (IsOutSince hall.bench key since × Keeps hall seat (ToGiveBack key) old hall' seat' new) ⊎ ((IsOutSince hall.bench key since → ⊥) × Stays hall seat old hall' seat' new)
 Returns since hall seat key (Err refused) old hall' seat' new = IsOutSince hall.bench key since × RefusedAs (refusal_of hall seat) refused × Stays hall seat old hall' seat' new
 
 -- what is said of the seat and its receipts alone: one receipt more, of the key given back; or nothing changes
-abbrev pub MayReturn : {T : Type 0} → SeatState → Key → Result T SharedRefused → List Claim → SeatState → List Claim → Type 0
+abbrev pub MayReturn : {T : Type 0} → SeatView → Key → Result T SharedRefused → List ReceiptView → SeatView → List ReceiptView → Type 0
 MayReturn seat key (Ok done) old seat' new =
-    ((claim : Claim) × (new ≡ old ++ claim ∷ []) × IsReceiptOf seat (ToGiveBack key) claim × (seat' ≡ seat_after seat claim)) ⊎ ((new ≡ old) × (seat' ≡ seat))
+    ((claim : ReceiptView) × (new ≡ old ++ claim ∷ []) × IsReceiptOf seat (ToGiveBack key) claim × (seat' ≡ seat_after seat claim)) ⊎ ((new ≡ old) × (seat' ≡ seat))
 MayReturn seat key (Err refused) old seat' new = IsRefusalOf seat refused × (new ≡ old) × (seat' ≡ seat)
 
 -- ---- laws
 
 -- Behind a roll the state is the one before it, as are numbers and books; there is no record; and a seat against which nothing but a full history
 -- was is one against which nothing is.
-pub record IsRollUnseen (limits : Bounds) (hall : Hall) : Type 0 where
+pub record IsRollUnseen (limits : Bounds) (hall : LockedView) : Type 0 where
   pub state : state_of (hall_rolled limits hall).bench ≡ state_of hall.bench
   pub last : last_number (hall_rolled limits hall).bench ≡ last_number hall.bench
   pub turns : (caller : ℕ) → all_turns (hall_rolled limits hall).bench caller ≡ all_turns hall.bench caller
   pub none : (number : ℕ) → record_numbered (hall_rolled limits hall).bench number ≡ None
-  pub seats : (seat : SeatState) → refusal_of hall seat ≡ Some HistoryFull → refusal_of (hall_rolled limits hall) seat ≡ None
+  pub seats : (seat : SeatView) → refusal_of hall seat ≡ Some HistoryFull → refusal_of (hall_rolled limits hall) seat ≡ None

@@ -7,10 +7,10 @@ use Rattle.fb_locked.specs.declared.look.Look.{Look}
 use Rattle.fb_locked.specs.declared.look.Look.TheVariants.{Ended, Nothing, Taken}
 use Rattle.fb_locked.specs.declared.look.WorkEnd.{WorkEnd}
 use Rattle.fb_locked.specs.declared.look.WorkEnd.TheVariants.{TurnsOver, Stopped, SeatDiffers, Behind, HistoryFull, Memory}
-use Rattle.fb_locked.specs.Seats.{SeatState, Claim, IsReceiptOf, seat_after}
+use Rattle.fb_locked.specs.Seats.{SeatView, ReceiptView, IsReceiptOf, seat_after}
 
 -- the receipts are of calls with the seat, one after another
-abbrev pub IsRun : SeatState → List Claim → SeatState → Type 0
+abbrev pub IsRun : SeatView → List ReceiptView → SeatView → Type 0
 IsRun seat [] after = after ≡ seat
 IsRun seat (claim ∷ claims) after = IsReceiptOf seat claim.entry.call claim × IsRun (seat_after seat claim) claims after
 
@@ -49,13 +49,13 @@ Follows (Holds order) call = Settles order call
 Follows Gave call = ⊥
 
 -- the receipts are of a worker's calls, which lead from what it had in hand to what it has now
-abbrev pub IsWork : Hand → List Claim → Hand → Type 0
+abbrev pub IsWork : Hand → List ReceiptView → Hand → Type 0
 IsWork hand [] now = now ≡ hand
 IsWork hand (claim ∷ claims) now = Follows hand claim.entry.call × IsWork (hand_after claim.entry.call claim.entry.reply) claims now
 
 -- Receipts of calls with the seat, as a worker makes them, are added at the end, at most so many.
-pub record AddsWork (hand : Hand) (most : ℕ) (seat : SeatState) (old new : List Claim) (after : SeatState) (now : Hand) : Type 0 where
-  pub added : List Claim
+pub record AddsWork (hand : Hand) (most : ℕ) (seat : SeatView) (old new : List ReceiptView) (after : SeatView) (now : Hand) : Type 0 where
+  pub added : List ReceiptView
   pub behind : new ≡ old ++ added
   pub run : IsRun seat added after
   pub work : IsWork hand added now
@@ -82,11 +82,11 @@ GoesOnWith hand None = hand ≡ Empty
 GoesOnWith hand (Some end) = EndsWith hand end
 
 -- a worker's calls up to where it ends, or goes on
-abbrev pub Works : Hand → ℕ → SeatState → List Claim → List Claim → SeatState → Option WorkEnd → Type 0
+abbrev pub Works : Hand → ℕ → SeatView → List ReceiptView → List ReceiptView → SeatView → Option WorkEnd → Type 0
 Works hand most seat old new after end = (now : Hand) × AddsWork hand most seat old new after now × GoesOnWith now end
 
 -- What a look for a job adds: the receipt of the take where it takes one, and otherwise nothing.
-abbrev pub AddsLook : Look → SeatState → List Claim → List Claim → SeatState → Type 0
+abbrev pub AddsLook : Look → SeatView → List ReceiptView → List ReceiptView → SeatView → Type 0
 AddsLook (Taken job) seat old new after = AddsWork Empty 1 seat old new after (Holds job)
 AddsLook Nothing seat old new after = (new ≡ old) × (after ≡ seat)
 AddsLook (Ended end) seat old new after = (new ≡ old) × (after ≡ seat)

@@ -1,6 +1,6 @@
 //! The callers of a workbench: whose seats are missing or differ, and how many calls each has made.
 ghost use Rattle.std.specs.Prelude.{◌≡◌, ◌&&◌, [], IfOk, OnOk, nat_lt, not};
-ghost use Rattle.fb_bench.specs.History.Story.{all_turns};
+ghost use Rattle.fb_bench.specs.History.BenchView.{all_turns};
 ghost use Rattle.fb_locked.specs.Book.{CountsCalls, CountsOne, HasCounts, IsBookOf, is_first};
 ghost use Rattle.fb_locked.specs.Closing.{has_seat, has_wrong_seat, is_missing, IsLeast, lesser_of};
 ghost use Rattle.fb_locked.specs.Resuming.{is_left_out};

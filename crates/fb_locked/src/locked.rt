@@ -3,7 +3,7 @@ ghost use Rattle.std.specs.Prelude.{◌≡◌, ◌≤◌, ◌+◌, true, false, 
 ghost use Rattle.fb_bench.specs.History.Machine.{ToCommit, ToTake, ToDeliver, ToGiveBack, ToAsk};
 ghost use Rattle.fb_bench.specs.Records.{listed};
 ghost use Rattle.fb_bench.specs.Requests.{call_for, reply_in, job_of};
-ghost use Rattle.fb_bench.specs.History.Story.{all_turns, new_story};
+ghost use Rattle.fb_bench.specs.History.BenchView.{all_turns, new_story};
 ghost use Rattle.fb_locked.specs.Book.{SeatFits};
 ghost use Rattle.fb_locked.specs.Calls.{Answers, AnswersKept, Performs, PerformsKept};
 ghost use Rattle.fb_locked.specs.Refusals.{refusal_of, IsRefusalOf};
@@ -42,9 +42,9 @@ pub struct Locked {
 }
 
 impl Model for Locked {
-    ghost use Rattle.fb_locked.specs.Seats.{Hall};
+    ghost use Rattle.fb_locked.specs.Seats.{LockedView};
 
-    ghost Value = { Hall };
+    ghost Value = { LockedView };
 
     ghost view = { λ it. record { bench = it.bench; callers = it.callers; stopped = it.stopped } };
 }
@@ -172,7 +172,7 @@ impl Locked {
     }
 
     /// As `perform`, with its receipt behind those that are kept. Want of room for it refuses the call where nothing else does.
-    pub fn perform_kept(
+    pub fn perform_into(
         &mut self,
         seat: &mut Seat,
         receipts: &mut Vec<Receipt>,

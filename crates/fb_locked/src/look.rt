@@ -82,7 +82,7 @@ impl Locked {
         if receipts.reserve(2).is_err() {
             return Look::Ended(WorkEnd::Memory);
         }
-        match self.perform_kept(seat, receipts, &Request::Take) {
+        match self.perform_into(seat, receipts, &Request::Take) {
             Err(refused) => Look::Ended(WorkEnd::of(refused)),
             Ok(answer) => match job_from(answer) {
                 Some(job) => Look::Taken(job),
@@ -110,7 +110,7 @@ impl Locked {
         let _changes: &[Change] = &[];
         match finished {
             None => Some(self.give_up(seat, receipts, job)),
-            Some(finished) => match self.perform_kept(seat, receipts, &Request::Deliver(finished)) {
+            Some(finished) => match self.perform_into(seat, receipts, &Request::Deliver(finished)) {
                 Ok(answer) => {
                     drop(answer);
                     None
@@ -131,7 +131,7 @@ impl Locked {
     {
         let _changes: &[Change] = &[];
         let _finished: Option<&Finished> = None;
-        let _answer = self.perform_kept(seat, receipts, &Request::GiveBack(job.key()));
+        let _answer = self.perform_into(seat, receipts, &Request::GiveBack(job.key()));
         WorkEnd::Memory
     }
 

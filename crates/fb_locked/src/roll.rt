@@ -2,9 +2,9 @@
 ghost use Rattle.std.specs.Prelude.{◌≡◌, ◌↔◌, ◌≤◌, IsTrue, OnOk, OnErr};
 ghost use Rattle.fb_bench.specs.History.Checkpoints.{checking, ChecksAs};
 ghost use Rattle.fb_bench.specs.History.Limits.{Bounds};
-ghost use Rattle.fb_bench.specs.History.Story.{IsOrigin};
+ghost use Rattle.fb_bench.specs.History.BenchView.{IsOrigin};
 ghost use Rattle.fb_locked.specs.Rolling.{hall_rolled, takes, takes_at, IsOutSince, IsRollUnseen, IsTakenAfter, MakesRoom, MayReturn, Returns};
-ghost use Rattle.fb_locked.specs.Seats.{Hall};
+ghost use Rattle.fb_locked.specs.Seats.{LockedView};
 
 use crate::locked::{Locked, SharedRefused};
 use crate::seat::{Receipt, Seat};
@@ -99,7 +99,7 @@ impl Locked {
         if !self.is_out_since(&key, since) {
             return Ok(());
         }
-        match self.perform_kept(seat, receipts, &Request::GiveBack(key)) {
+        match self.perform_into(seat, receipts, &Request::GiveBack(key)) {
             Ok(_answer) => Ok(()),
             Err(refused) => Err(refused),
         }
@@ -119,7 +119,7 @@ fn takes(it: &Record, key: &Key) -> bool
 /// Behind a roll with its own limits a workbench under a lock is as it was, but for its records, and a seat against which nothing but a full history was
 /// is one against which nothing is.
 pub fn rolls_are_unseen()
-    ensures { (limits : Bounds) (hall : Hall) → IsOrigin hall.bench.origin
+    ensures { (limits : Bounds) (hall : LockedView) → IsOrigin hall.bench.origin
         → limits.units ≡ hall.bench.origin.most_units → 1 ≤ limits.history
         → IsRollUnseen limits hall }
 {}

@@ -25,9 +25,9 @@ impl Drop for Seat {
 }
 
 impl Model for Seat {
-    ghost use Rattle.fb_locked.specs.Seats.{SeatState};
+    ghost use Rattle.fb_locked.specs.Seats.{SeatView};
 
-    ghost Value = { SeatState };
+    ghost Value = { SeatView };
 
     ghost view = { λ it. record { caller = it.caller; turns = it.turns; seen = it.seen } };
 }
@@ -70,9 +70,9 @@ pub struct Receipt {
 }
 
 impl Model for Receipt {
-    ghost use Rattle.fb_locked.specs.Seats.{Claim};
+    ghost use Rattle.fb_locked.specs.Seats.{ReceiptView};
 
-    ghost Value = { Claim };
+    ghost Value = { ReceiptView };
 
     ghost view = { λ it. record { number = it.number; entry = it.record.value } };
 }

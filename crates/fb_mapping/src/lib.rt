@@ -49,6 +49,6 @@ pub mod placing {
 pub mod flatten {
     pub use fb_flatten::{
         Computed, Hints, Inner, Known, Net, NetsAlone, NoHints, all_far, compute, has_net,
-        is_alike, is_subapplication, net_with,
+        has_same_interface, is_subapplication, net_with,
     };
 }

@@ -1,6 +1,6 @@
 -- What a run of the program has said.
 use Rattle.std.specs.Prelude.{◌≡◌, ◌≤◌, ◌⊎◌, ℕ, List, []}
-use Rattle.fb_wire.specs.History.Story.{new_story}
+use Rattle.fb_wire.specs.History.BenchView.{new_story}
 use Rattle.fb_wire.specs.Script.{IsFrontOf, script}
 use Rattle.fb_wire.specs.declared.end.RunEnd.{RunEnd}
 use Rattle.fb_wire.specs.declared.end.RunEnd.TheVariants.{End}

@@ -5,53 +5,53 @@ use Rattle.std.proofs.lemmas.Bool.Decides.{nat_tests}
 use Rattle.std.proofs.lemmas.List.Elements.{All-weaker, All-push, recursion_from_All}
 use Rattle.std.proofs.lemmas.List.Sums.{sum_by-append, sum_by-cons}
 use Rattle.std.specs.List.{list_any, AllByRecursion}
-use Rattle.fb_wire.specs.History.Story.{Story, all_turns, turns_of}
+use Rattle.fb_wire.specs.History.BenchView.{BenchView, all_turns, turns_of}
 use Rattle.fb_shared.specs.Locked.Book.{is_caller}
 use Rattle.fb_shared.specs.Locked.Closing.{AgreesWith, has_seat, receipts_of}
 use Rattle.fb_shared.specs.Locked.Runs.{IsRun}
-use Rattle.fb_shared.specs.Locked.Seats.{SeatState, Claim, seat_after}
+use Rattle.fb_shared.specs.Locked.Seats.{SeatView, ReceiptView, seat_after}
 use Rattle.fb_serve.specs.Places.{AddsRun}
 use Rattle.fb_serve.specs.Shown.{IsNew, IsShown, AreShown, ShowsAll}
 
 -- 1 for a receipt of this caller
-abbrev own : ℕ → Claim → ℕ
+abbrev own : ℕ → ReceiptView → ℕ
 own caller c = cond (c.entry.caller == caller) 1 0
 
-receipts_cons : (caller : ℕ) (c : Claim) (cs : List Claim) → receipts_of caller (c ∷ cs) ≡ own caller c + receipts_of caller cs
+receipts_cons : (caller : ℕ) (c : ReceiptView) (cs : List ReceiptView) → receipts_of caller (c ∷ cs) ≡ own caller c + receipts_of caller cs
 receipts_cons caller c cs = sum_by-cons (own caller) c cs
 
-receipts_append : (caller : ℕ) (xs ys : List Claim) → receipts_of caller (xs ++ ys) ≡ receipts_of caller xs + receipts_of caller ys
+receipts_append : (caller : ℕ) (xs ys : List ReceiptView) → receipts_of caller (xs ++ ys) ≡ receipts_of caller xs + receipts_of caller ys
 receipts_append caller xs ys = sum_by-append (own caller) xs ys
 
 -- ---- calls with one seat
 
-run_counts : (seat : SeatState) (claims : List Claim) (after : SeatState) → IsRun seat claims after → (after.caller ≡ seat.caller) × (after.turns ≡ seat.turns + receipts_of seat.caller claims)
+run_counts : (seat : SeatView) (claims : List ReceiptView) (after : SeatView) → IsRun seat claims after → (after.caller ≡ seat.caller) × (after.turns ≡ seat.turns + receipts_of seat.caller claims)
 run_counts seat [] after run =
     let none : receipts_of seat.caller [] ≡ 0 = refl in
-    let same : after.turns ≡ seat.turns = ap (λ (s : SeatState). s.turns) run in
-    (ap (λ (s : SeatState). s.caller) run, omega (arith, same, none))
+    let same : after.turns ≡ seat.turns = ap (λ (s : SeatView). s.turns) run in
+    (ap (λ (s : SeatView). s.caller) run, omega (arith, same, none))
 run_counts seat (c ∷ cs) after run =
     let rest = run_counts (seat_after seat c) cs after run.1 in
     let here : own seat.caller c ≡ 1 = ap (λ b. cond b 1 0) (eq-eqb c.entry.caller seat.caller run.0.caller_is) in
     (rest.0, omega (arith, rest.1, run.0.turn_is, receipts_cons seat.caller c cs, here))
 
 -- all calls with a new seat
-pub run_shown : (seat : SeatState) (claims : List Claim) (after : SeatState) → IsNew seat → IsRun seat claims after → IsShown claims after
+pub run_shown : (seat : SeatView) (claims : List ReceiptView) (after : SeatView) → IsNew seat → IsRun seat claims after → IsShown claims after
 run_shown seat claims after new run =
     let counts = run_counts seat claims after run in
     let same : receipts_of after.caller claims ≡ receipts_of seat.caller claims = ap (λ q. receipts_of q claims) counts.0 in
     omega (arith, new, counts.1, same)
 
-pub adds_shown : (seat after : SeatState) (old claims : List Claim) → IsNew seat → old ≡ [] → AddsRun seat old after claims → IsShown claims after
+pub adds_shown : (seat after : SeatView) (old claims : List ReceiptView) → IsNew seat → old ≡ [] → AddsRun seat old after claims → IsShown claims after
 adds_shown seat after old claims new none adds =
-    run_shown seat claims after new (subst (λ (l : List Claim). IsRun seat l after) (sym (adds.1 ∙ ap (λ (l : List Claim). l ++ adds.0) none)) adds.2)
+    run_shown seat claims after new (subst (λ (l : List ReceiptView). IsRun seat l after) (sym (adds.1 ∙ ap (λ (l : List ReceiptView). l ++ adds.0) none)) adds.2)
 
 -- ---- all seats
 
-pub more_shown : (old more : List Claim) (seats : List SeatState) → AreShown old seats → AreShown (old ++ more) seats
+pub more_shown : (old more : List ReceiptView) (seats : List SeatView) → AreShown old seats → AreShown (old ++ more) seats
 more_shown old more seats shown = All-weaker (IsShown old) (IsShown (old ++ more)) (λ seat s. omega (arith, s, receipts_append seat.caller old more)) seats shown
 
-pub shown_with : (old more : List Claim) (seats : List SeatState) (seat : SeatState) → AreShown old seats → IsShown more seat → AreShown (old ++ more) (seats ++ seat ∷ [])
+pub shown_with : (old more : List ReceiptView) (seats : List SeatView) (seat : SeatView) → AreShown old seats → IsShown more seat → AreShown (old ++ more) (seats ++ seat ∷ [])
 shown_with old more seats seat shown last =
     All-push (IsShown (old ++ more)) seats seat (more_shown old more seats shown) (omega (arith, last, receipts_append seat.caller old more))
 
@@ -69,7 +69,7 @@ or_true true b is = refl
 or_true false b is = is
 
 -- the seats have the calls of a caller, and the receipts show them
-caller_shown : (t q : ℕ) (rs : List Claim) (seats : List SeatState) → list_any (λ s. s.caller == q) seats ≡ true → list_any (λ s. s.caller == q && not (t == s.turns)) seats ≡ false → AllByRecursion (IsShown rs) seats → t ≤ receipts_of q rs
+caller_shown : (t q : ℕ) (rs : List ReceiptView) (seats : List SeatView) → list_any (λ s. s.caller == q) seats ≡ true → list_any (λ s. s.caller == q && not (t == s.turns)) seats ≡ false → AllByRecursion (IsShown rs) seats → t ≤ receipts_of q rs
 caller_shown t q rs [] any none shown = let bad : false ≡ true = any in cc
 caller_shown t q rs (s ∷ ss) any none shown =
     elim (s.caller == q) as (λ b. s.caller == q ≡ b → b || list_any (λ x. x.caller == q) ss ≡ true → (b && not (t == s.turns)) || list_any (λ x. x.caller == q && not (t == x.turns)) ss ≡ false → t ≤ receipts_of q rs) [
@@ -89,7 +89,7 @@ seated true false none caller = let bad : true ≡ false = none in cc
 seated false false none caller = cc
 
 -- a caller's records are among its calls of all time, which the receipts show
-pub all_shown : (callers : ℕ) (story : Story) (seats : List SeatState) (receipts : List Claim) → AgreesWith callers story seats receipts → AreShown receipts seats → ShowsAll story receipts
+pub all_shown : (callers : ℕ) (story : BenchView) (seats : List SeatView) (receipts : List ReceiptView) → AgreesWith callers story seats receipts → AreShown receipts seats → ShowsAll story receipts
 all_shown callers story seats receipts agrees shown = (
   agrees.shown,
   λ q.

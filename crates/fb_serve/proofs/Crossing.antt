@@ -8,8 +8,8 @@ use Rattle.std.specs.contracts.net.tcp.TcpStream as TcpStream
 use Rattle.std.specs.contracts.alloc.Global as Heap
 use Rattle.std.specs.contracts.impls.GlobalAllocator.TheImpl.{ghosts}
 use Rattle.fb_serve.specs.contracts.callers.NewSeat as NewSeat
-use Rattle.fb_serve.specs.contracts.callers.Left as Left
-use Rattle.fb_serve.specs.contracts.callers.Gathered as Gathered
+use Rattle.fb_serve.specs.contracts.callers.ThreadResult as ThreadResult
+use Rattle.fb_serve.specs.contracts.callers.Results as Results
 use Rattle.fb_serve.specs.contracts.callers.SessionFault as SessionFault
 use Rattle.fb_serve.specs.contracts.place.Held as Held
 use Rattle.fb_serve.specs.contracts.place.Place as Place
@@ -21,16 +21,16 @@ new_seat_field_send = search (seat_send, crosses, sendable) depth 60 fits 20000
 pub new_seat_send : IsSend NewSeat.the_row
 new_seat_send = search (new_seat_field_send, crosses, sendable) depth 60 fits 20000
 
-pub left_field_send : IsSend (Left.the_field).row
+pub left_field_send : IsSend (ThreadResult.the_field).row
 left_field_send = search (seat_send, receipt_send, crosses, sendable) depth 60 fits 20000
 
-pub left_send : IsSend Left.the_row
+pub left_send : IsSend ThreadResult.the_row
 left_send = search (left_field_send, crosses, sendable) depth 60 fits 20000
 
-gathered_field_send : IsSend (Gathered.the_field).row
+gathered_field_send : IsSend (Results.the_field).row
 gathered_field_send = search (seat_send, receipt_send, crosses, sendable) depth 60 fits 20000
 
-pub gathered_send : IsSend Gathered.the_row
+pub gathered_send : IsSend Results.the_row
 gathered_send = search (gathered_field_send, crosses, sendable) depth 60 fits 20000
 
 held_field_send : IsSend (Held.the_field).row

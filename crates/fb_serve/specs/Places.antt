@@ -1,8 +1,8 @@
 -- The receipts of a caller's calls.
 use Rattle.std.specs.Prelude.{◌≡◌, List, ◌++◌}
 use Rattle.fb_shared.specs.Locked.Runs.{IsRun}
-use Rattle.fb_shared.specs.Locked.Seats.{SeatState, Claim}
+use Rattle.fb_shared.specs.Locked.Seats.{SeatView, ReceiptView}
 
 -- Receipts of calls with the seat, one after another, were added at the end, and the seat goes on where they lead.
-abbrev pub AddsRun : SeatState → List Claim → SeatState → List Claim → Type 0
-AddsRun seat old after new = (added : List Claim) × (new ≡ old ++ added) × IsRun seat added after
+abbrev pub AddsRun : SeatView → List ReceiptView → SeatView → List ReceiptView → Type 0
+AddsRun seat old after new = (added : List ReceiptView) × (new ≡ old ++ added) × IsRun seat added after

@@ -2,7 +2,7 @@
 use Rattle.std.specs.Prelude.{List, [], ◌∷◌}
 use Rattle.fb_wire.specs.History.Machine.{Call, Reply}
 use Rattle.fb_wire.specs.Bench.Calls.{Replied, FullHistory, BehindHistory, Exchange, AskedCall, AskedCheckpoint}
-use Rattle.fb_shared.specs.Locked.Seats.{Claim}
+use Rattle.fb_shared.specs.Locked.Seats.{ReceiptView}
 
 -- a call with its reply stands in front; one that was refused does not, and no checkpoint
 abbrev pub answered_before : Exchange → List (Call × Reply) → List (Call × Reply)
@@ -17,5 +17,5 @@ answered_in [] = []
 answered_in (exchange ∷ exchanges) = answered_before exchange (answered_in exchanges)
 
 -- the call of a receipt, and its reply
-abbrev pub call_shown : Claim → Call × Reply
+abbrev pub call_shown : ReceiptView → Call × Reply
 call_shown claim = (claim.entry.call, claim.entry.reply)

@@ -1,21 +1,21 @@
 -- Receipts that show all calls of their callers.
 use Rattle.std.specs.Prelude.{◌≡◌, ◌≤◌, ℕ, List, All}
-use Rattle.fb_wire.specs.History.Story.{Story, turns_of}
+use Rattle.fb_wire.specs.History.BenchView.{BenchView, turns_of}
 use Rattle.fb_shared.specs.Locked.Closing.{AreReceiptsRight, receipts_of}
-use Rattle.fb_shared.specs.Locked.Seats.{SeatState, Claim}
+use Rattle.fb_shared.specs.Locked.Seats.{SeatView, ReceiptView}
 
 -- no call was made with the seat
-abbrev pub IsNew : SeatState → Type 0
+abbrev pub IsNew : SeatView → Type 0
 IsNew seat = seat.turns ≡ 0
 
 -- there are as many receipts of the seat's caller as calls that were made with it
-abbrev pub IsShown : List Claim → SeatState → Type 0
+abbrev pub IsShown : List ReceiptView → SeatView → Type 0
 IsShown receipts seat = seat.turns ≤ receipts_of seat.caller receipts
 
-abbrev pub AreShown : List Claim → List SeatState → Type 0
+abbrev pub AreShown : List ReceiptView → List SeatView → Type 0
 AreShown receipts seats = All (IsShown receipts) seats
 
 -- Each receipt is the record at its number, none comes twice, and no caller has fewer of them than records: so the receipts are those of all
 -- records, each once.
-abbrev pub ShowsAll : Story → List Claim → Type 0
+abbrev pub ShowsAll : BenchView → List ReceiptView → Type 0
 ShowsAll story receipts = AreReceiptsRight story receipts × ((caller : ℕ) → turns_of caller story.log.records ≤ receipts_of caller receipts)

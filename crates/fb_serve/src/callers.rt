@@ -44,41 +44,41 @@ impl NewSeat {
 
 /// What a thread leaves: its seat, and the receipts of all calls with it.
 #[derive(Drop)]
-struct Left {
+struct ThreadResult {
     seat: Seat,
     receipts: Vec<Receipt>,
     ghost shown: { IsShown receipts.items seat },
 }
 
-impl Left {
-    fn of(seat: Seat, receipts: Vec<Receipt>) -> Left
+impl ThreadResult {
+    fn of(seat: Seat, receipts: Vec<Receipt>) -> ThreadResult
         requires { IsShown receipts.items seat }
     {
-        Left { seat, receipts }
+        ThreadResult { seat, receipts }
     }
 }
 
 /// What the threads left: their seats, and the receipts of all calls with these. It is whole where each
 /// thread was started and what it left was kept.
 #[derive(Drop)]
-pub(crate) struct Gathered {
+pub(crate) struct Results {
     pub(crate) seats: Vec<Seat>,
     pub(crate) receipts: Vec<Receipt>,
     pub(crate) is_whole: bool,
     ghost shown: { AreShown receipts.items seats.items },
 }
 
-impl Gathered {
-    fn new(alloc: Global, is_whole: bool) -> Gathered {
-        Gathered {
+impl Results {
+    fn new(alloc: Global, is_whole: bool) -> Results {
+        Results {
             seats: Vec::new(alloc),
             receipts: Vec::new(alloc),
             is_whole,
         }
     }
 
-    fn add(&mut self, left: Left) {
-        let Left { seat, mut receipts } = left;
+    fn add(&mut self, left: ThreadResult) {
+        let ThreadResult { seat, mut receipts } = left;
         if self.seats.reserve(1).is_err() {
             self.is_whole = false;
             return;
@@ -101,7 +101,7 @@ impl Gathered {
 /// Threads that were started, and whether all of them were.
 #[derive(Drop)]
 struct Started {
-    threads: Vec<JoinHandle<Left>>,
+    threads: Vec<JoinHandle<ThreadResult>>,
     is_whole: bool,
 }
 
@@ -117,7 +117,7 @@ pub(crate) fn run_callers<R: Threads + Wait + Clock + Sync, E: Write>(
     faults: Sender<SessionFault>,
     told: &Receiver<SessionFault>,
     errors: &mut E,
-) -> Gathered {
+) -> Results {
     thread::scope(thread::scope_env(), rt, |scope| {
         let working = start_workers(scope, rt, alloc, shared, workers);
         let sessions = seats_beside(&working, sessions);
@@ -157,17 +157,17 @@ fn start_door<'s, E, R: Threads + Wait + Sync>(
     shared: &'s Shared,
     seats: Vec<NewSeat>,
     faults: Sender<SessionFault>,
-) -> Option<JoinHandle<Gathered>> {
+) -> Option<JoinHandle<Results>> {
     scope
         .spawn(move || run_sessions(rt, alloc, listener, shared, seats, faults))
         .ok()
 }
 
 /// What the sessions left; nothing whole where no connection could be let in.
-fn join_door<R: Threads>(rt: &R, alloc: Global, talking: Option<JoinHandle<Gathered>>) -> Gathered {
+fn join_door<R: Threads>(rt: &R, alloc: Global, talking: Option<JoinHandle<Results>>) -> Results {
     match talking {
         Some(thread) => thread.join(rt),
-        None => Gathered::new(alloc, false),
+        None => Results::new(alloc, false),
     }
 }
 
@@ -179,17 +179,17 @@ fn run_sessions<R: Threads + Wait + Sync>(
     shared: &Shared,
     seats: Vec<NewSeat>,
     faults: Sender<SessionFault>,
-) -> Gathered {
+) -> Results {
     let faults = &faults;
     thread::scope(thread::scope_env(), rt, |scope| {
         let talking = start_sessions(scope, rt, alloc, listener, shared, seats, faults);
-        let mut gathered = Gathered::new(alloc, true);
+        let mut gathered = Results::new(alloc, true);
         gathered.add_all(rt, talking);
         gathered
     })
 }
 
-fn join_workers<R: Threads>(rt: &R, gathered: Gathered, working: Started) -> Gathered {
+fn join_workers<R: Threads>(rt: &R, gathered: Results, working: Started) -> Results {
     let mut gathered = gathered;
     gathered.add_all(rt, working);
     gathered
@@ -253,7 +253,7 @@ fn start_sessions<'s, E, R: Threads + Wait + Sync>(
 }
 
 /// A worker's thread.
-fn work<R: Wait + Clock>(rt: &R, alloc: Global, shared: &Shared, seat: NewSeat) -> Left {
+fn work<R: Wait + Clock>(rt: &R, alloc: Global, shared: &Shared, seat: NewSeat) -> ThreadResult {
     let NewSeat { seat } = seat;
     let mut place = Place::new(alloc, seat);
     let _end = keep_working(rt, alloc, shared, &mut place, TURNS);
@@ -262,7 +262,7 @@ fn work<R: Wait + Clock>(rt: &R, alloc: Global, shared: &Shared, seat: NewSeat) 
         held: _,
         receipts,
     } = place;
-    Left::of(seat, receipts)
+    ThreadResult::of(seat, receipts)
 }
 
 /// A session's thread, which owns its stream. It tells a fault before it ends.
@@ -273,7 +273,7 @@ fn talk<R: Wait>(
     seat: NewSeat,
     stream: TcpStream,
     faults: &Sender<SessionFault>,
-) -> Left {
+) -> ThreadResult {
     let NewSeat { seat } = seat;
     let caller = seat.caller();
     let mut reader = FromRead::new(&stream);
@@ -286,5 +286,5 @@ fn talk<R: Wait>(
     if let Some(fault) = fault_of(end) {
         let _ = faults.send(rt, SessionFault { caller, fault });
     }
-    Left::of(seat, receipts)
+    ThreadResult::of(seat, receipts)
 }

@@ -10,6 +10,6 @@ mod worker;
 
 pub use place::{Held, Place, forget, give_back_held, hold};
 pub use say::{greet, say_fault};
-pub use server::{Ended, NotServed, Numbers, Served, serve, serve_on, serve_sessions};
+pub use server::{Ended, NotServed, Served, ServerConfig, serve, serve_on, serve_sessions};
 pub use session::{Session, run_session};
 pub use worker::{keep_working, pause};

@@ -4,7 +4,7 @@ ghost use Rattle.fb_shared.specs.Locked.Book.{IsBookOf};
 ghost use Rattle.fb_serve.specs.Lines.{SaysLines};
 ghost use Rattle.fb_serve.specs.Shown.{IsNew, ShowsAll};
 
-use crate::callers::{Gathered, NewSeat, run_callers};
+use crate::callers::{NewSeat, Results, run_callers};
 use crate::say::greet;
 use crossbeam_channel::bounded;
 use fb_shared::{Closed, Receipt, Seat, Shared};
@@ -19,7 +19,7 @@ use std::time::Clock;
 
 /// How many callers of each sort a server has, and the limits of its workbench. Callers 1 to `sessions` are sessions, those behind them workers.
 #[derive(Clone, Copy)]
-pub struct Numbers {
+pub struct ServerConfig {
     pub workers: u8,
     pub sessions: u8,
     pub limits: Limits,
@@ -82,7 +82,7 @@ pub fn serve_sessions<R: Threads + Wait + Clock + Sync, E: Write>(
     rt: &R,
     alloc: Global,
     listener: &TcpListener,
-    numbers: Numbers,
+    numbers: ServerConfig,
     errors: &mut E,
 ) -> Result<Served, NotServed>
     // The receipts are those of all records of the workbench, each once; each caller is counted with its calls.
@@ -116,14 +116,14 @@ fn new_seats(alloc: Global, seats: Vec<Seat>) -> Result<Vec<NewSeat>, AllocError
 }
 
 /// Closes with all that the threads left.
-fn close(alloc: Global, shared: Shared, gathered: Gathered) -> Result<Served, NotServed>
+fn close(alloc: Global, shared: Shared, gathered: Results) -> Result<Served, NotServed>
     ensures all { IfOk result
         (λ served. ShowsAll served.closed.bench served.receipts.items) }
     ensures counts { IfOk result
         (λ served. IsBookOf served.closed.counts shared.callers
         served.closed.bench) }
 {
-    let Gathered {
+    let Results {
         seats,
         receipts,
         is_whole,
@@ -142,7 +142,7 @@ fn serve_and_close<R: Threads + Wait + Clock + Sync, S: Sink, E: Write>(
     rt: &R,
     alloc: Global,
     listener: &TcpListener,
-    numbers: Numbers,
+    numbers: ServerConfig,
     out: &mut S,
     errors: &mut E,
 ) -> Result<Served, NotServed>
@@ -173,7 +173,7 @@ pub fn serve_on<R: Threads + Wait + Clock + Sync, S: Sink, E: Write>(
     rt: &R,
     alloc: Global,
     listener: &TcpListener,
-    numbers: Numbers,
+    numbers: ServerConfig,
     out: &mut S,
     errors: &mut E,
 ) -> Ended
@@ -195,7 +195,7 @@ pub fn serve<
     R: Net<Listener = TcpListener, Stream = TcpStream> + Threads + Wait + Clock + Sync,
     S: Sink,
     E: Write,
->(rt: &R, alloc: Global, port: u16, numbers: Numbers, out: &mut S, errors: &mut E) -> Ended
+>(rt: &R, alloc: Global, port: u16, numbers: ServerConfig, out: &mut S, errors: &mut E) -> Ended
     requires { S.has_failed out.old ≡ false }
     ensures all { IfOk result.served
         (λ served. ShowsAll served.closed.bench served.receipts.items) }

@@ -1,7 +1,7 @@
 //! One session.
 ghost use Rattle.std.specs.Prelude.{◌≡◌, [], map, false};
-ghost use Rattle.fb_wire.specs.Ends.{IsTalk, streams};
-ghost use Rattle.fb_wire.specs.Talk.{Runs};
+ghost use Rattle.fb_wire.specs.Ends.{IsConversation, streams};
+ghost use Rattle.fb_wire.specs.Conversations.{Runs};
 ghost use Rattle.fb_shared.specs.Locked.Runs.{IsRun};
 ghost use Rattle.fb_shared.specs.Sitting.{SitterStep};
 ghost use Rattle.fb_serve.specs.Sessions.{answered_in, call_shown};
@@ -33,7 +33,7 @@ pub fn run_session<R: Wait, F: Feed, S: Sink>(
     requires open { F.has_ended reader.old ≡ false }
     requires writer { S.has_failed writer.old ≡ false }
     // The calls and their answers are those of the seat's desk, from no receipts on. The calls that were answered, with their replies, are those of the receipts.
-    ensures talk { (talk : IsTalk result.end turns
+    ensures talk { (talk : IsConversation result.end turns
         (streams F.given F.left F.reads F.has_failed S.held S.is_flushed S.has_failed reader.old
         writer.old)
         (streams F.given F.left F.reads F.has_failed S.held S.is_flushed S.has_failed reader.new

@@ -9,10 +9,10 @@ use Rattle.std.proofs.lemmas.List.Elements.{recursion_from_All, Contains-append_
 use Rattle.std.proofs.lemmas.List.Sums.{sum_by-cons, sum_by-take-le}
 use Rattle.std.proofs.lemmas.Option.{slice_get_within}
 use Rattle.std.specs.List.{sum_by, AllByRecursion, Contains}
-use Rattle.fb_locked.specs.History.Story.{Record, Story, all_turns, last_number, on_page, record_at, record_numbered, turns_of, AreTurns}
+use Rattle.fb_locked.specs.History.BenchView.{Record, BenchView, all_turns, last_number, on_page, record_at, record_numbered, turns_of, AreTurns}
 use Rattle.fb_locked.specs.declared.locked.SharedRefused.{SharedRefused}
 use Rattle.fb_locked.specs.declared.locked.SharedRefused.TheVariants.{SeatDiffers, Behind, HistoryFull}
-use Rattle.fb_locked.specs.Seats.{AreSeatsAt, Claim, Hall, SeatState, seat_at}
+use Rattle.fb_locked.specs.Seats.{AreSeatsAt, ReceiptView, LockedView, SeatView, seat_at}
 use Rattle.fb_locked.specs.Refusals.{refusal_of}
 use Rattle.fb_locked.specs.Resuming.{IsUpToDate}
 use Rattle.fb_locked.specs.Closing.{IsReceiptRight, AreReceiptsRight, times, receipts_of}
@@ -31,7 +31,7 @@ turns_up : (caller : ℕ) (es : List Record) (m n : ℕ) → m ≤ n → turns_o
 turns_up caller es m n le =
     subst (λ (l : List Record). turns_of caller l ≤ turns_of caller (take n es)) (take-take m n es le) (sum_by-take-le (λ (x : Record). cond (x.caller == caller) 1 0) (take n es) m)
 
-pub numbers_rise : (story : Story) (m n : ℕ) (earlier later : Record) → AreTurns story → record_numbered story m ≡ Some earlier → record_numbered story n ≡ Some later → earlier.caller ≡ later.caller → earlier.turn < later.turn → m < n
+pub numbers_rise : (story : BenchView) (m n : ℕ) (earlier later : Record) → AreTurns story → record_numbered story m ≡ Some earlier → record_numbered story n ≡ Some later → earlier.caller ≡ later.caller → earlier.turn < later.turn → m < n
 numbers_rise story m n earlier later turns at_m at_n same rising =
     let es = story.log.records in
     let before : ℕ = story.origin.before in
@@ -69,17 +69,17 @@ next_number before bound =
     ] refl
 
 -- how many records the caller has up to a number
-abbrev turns_to : Story → ℕ → ℕ → ℕ
+abbrev turns_to : BenchView → ℕ → ℕ → ℕ
 turns_to story caller bound = turns_of caller (take (bound - story.origin.before) story.log.records)
 
-turns_numbered : (story : Story) (caller bound : ℕ) → turns_to story caller (suc bound) ≡ turns_to story caller bound + cond (is_own caller (record_numbered story (suc bound))) 1 0
+turns_numbered : (story : BenchView) (caller bound : ℕ) → turns_to story caller (suc bound) ≡ turns_to story caller bound + cond (is_own caller (record_numbered story (suc bound))) 1 0
 turns_numbered story caller bound = turns_at caller story.log.records (suc bound - story.origin.before) (bound - story.origin.before) (next_number story.origin.before bound)
 
 -- a receipt of the caller with a number up to a bound
-abbrev up_to : ℕ → ℕ → Claim → ℕ
+abbrev up_to : ℕ → ℕ → ReceiptView → ℕ
 up_to caller bound c = cond (c.entry.caller == caller) (cond (nat_le c.number bound) 1 0) 0
 
-abbrev at_number : ℕ → ℕ → Claim → ℕ
+abbrev at_number : ℕ → ℕ → ReceiptView → ℕ
 at_number number weight c = cond (c.number == number) weight 0
 
 one_bits : (own : Bool) (n bound weight : ℕ) (here : Bool) → n == suc bound ≡ here → (here ≡ true → weight ≡ cond own 1 0) → cond own (cond (nat_le n (suc bound)) 1 0) 0 ≤ cond own (cond (nat_le n bound) 1 0) 0 + cond here weight 0
@@ -87,13 +87,13 @@ one_bits false n bound weight here is weighs = omega arith
 one_bits true n bound weight true is weighs = let w : weight ≡ 1 = weighs refl in grind (arith, nat_tests)
 one_bits true n bound weight false is weighs = grind (arith, nat_tests)
 
-one_step : (story : Story) (caller bound : ℕ) (c : Claim) → IsReceiptRight story c → up_to caller (suc bound) c ≤ up_to caller bound c + at_number (suc bound) (cond (is_own caller (record_numbered story (suc bound))) 1 0) c
+one_step : (story : BenchView) (caller bound : ℕ) (c : ReceiptView) → IsReceiptRight story c → up_to caller (suc bound) c ≤ up_to caller bound c + at_number (suc bound) (cond (is_own caller (record_numbered story (suc bound))) 1 0) c
 one_step story caller bound c right =
     one_bits (c.entry.caller == caller) c.number bound (cond (is_own caller (record_numbered story (suc bound))) 1 0) (c.number == suc bound) refl (
     λ here. let at : record_numbered story (suc bound) ≡ Some c.entry = ap (record_numbered story) (sym (eqb-true c.number (suc bound) here)) ∙ right in ap (λ o. cond (is_own caller o) 1 0) at
     )
 
-all_steps : (story : Story) (caller bound : ℕ) (rs : List Claim) → AllByRecursion (IsReceiptRight story) rs → sum_by (up_to caller (suc bound)) rs ≤ sum_by (up_to caller bound) rs + sum_by (at_number (suc bound) (cond (is_own caller (record_numbered story (suc bound))) 1 0)) rs
+all_steps : (story : BenchView) (caller bound : ℕ) (rs : List ReceiptView) → AllByRecursion (IsReceiptRight story) rs → sum_by (up_to caller (suc bound)) rs ≤ sum_by (up_to caller bound) rs + sum_by (at_number (suc bound) (cond (is_own caller (record_numbered story (suc bound))) 1 0)) rs
 all_steps story caller bound [] right = omega arith
 all_steps story caller bound (c ∷ cs) right =
     let weight : ℕ = cond (is_own caller (record_numbered story (suc bound))) 1 0 in
@@ -106,7 +106,7 @@ all_steps story caller bound (c ∷ cs) right =
       all_steps story caller bound cs right.1,
     )
 
-nothing_at : (number : ℕ) (rs : List Claim) → sum_by (at_number number 0) rs ≡ 0
+nothing_at : (number : ℕ) (rs : List ReceiptView) → sum_by (at_number number 0) rs ≡ 0
 nothing_at number [] = refl
 nothing_at number (c ∷ cs) =
     sum_by-cons (at_number number 0) c cs ∙ (let none : ◌≡◌ {A = ℕ} (at_number number 0 c) 0 = no_weight (c.number == number) in omega (arith, none, nothing_at number cs))
@@ -115,15 +115,15 @@ nothing_at number (c ∷ cs) =
     no_weight true = refl
     no_weight false = refl
 
-weighed : (number : ℕ) (b : Bool) (rs : List Claim) → times number rs ≤ 1 → sum_by (at_number number (cond b 1 0)) rs ≤ cond b 1 0
+weighed : (number : ℕ) (b : Bool) (rs : List ReceiptView) → times number rs ≤ 1 → sum_by (at_number number (cond b 1 0)) rs ≤ cond b 1 0
 weighed number true rs few = few
 weighed number false rs few = omega (arith, nothing_at number rs)
 
-none_weighed : (number : ℕ) (b : Bool) (rs : List Claim) → times number rs ≡ 0 → sum_by (at_number number (cond b 1 0)) rs ≡ 0
+none_weighed : (number : ℕ) (b : Bool) (rs : List ReceiptView) → times number rs ≡ 0 → sum_by (at_number number (cond b 1 0)) rs ≡ 0
 none_weighed number true rs none = none
 none_weighed number false rs none = nothing_at number rs
 
-none_first : (story : Story) (caller : ℕ) (rs : List Claim) → AllByRecursion (IsReceiptRight story) rs → sum_by (up_to caller 0) rs ≡ 0
+none_first : (story : BenchView) (caller : ℕ) (rs : List ReceiptView) → AllByRecursion (IsReceiptRight story) rs → sum_by (up_to caller 0) rs ≡ 0
 none_first story caller [] right = refl
 none_first story caller (c ∷ cs) right =
     let there = placed story.log.records (c.number - story.origin.before) c.entry right.0 in
@@ -131,16 +131,16 @@ none_first story caller (c ∷ cs) right =
     let here : up_to caller 0 c ≡ 0 = grind (arith, nat_tests) in
     omega (arith, sum_by-cons (up_to caller 0) c cs, here, none_first story caller cs right.1)
 
-all_at_end : (story : Story) (caller : ℕ) (rs : List Claim) → AllByRecursion (IsReceiptRight story) rs → sum_by (up_to caller (last_number story)) rs ≡ receipts_of caller rs
+all_at_end : (story : BenchView) (caller : ℕ) (rs : List ReceiptView) → AllByRecursion (IsReceiptRight story) rs → sum_by (up_to caller (last_number story)) rs ≡ receipts_of caller rs
 all_at_end story caller [] right = refl
 all_at_end story caller (c ∷ cs) right =
-    let f : Claim → ℕ = λ x. cond (x.entry.caller == caller) 1 0 in
+    let f : ReceiptView → ℕ = λ x. cond (x.entry.caller == caller) 1 0 in
     let there = placed story.log.records (c.number - story.origin.before) c.entry right.0 in
     let within : c.number ≤ last_number story = omega (arith, there.0, there.1) in
     let here : up_to caller (last_number story) c ≡ f c = let le : nat_le c.number (last_number story) ≡ true = grind (arith, nat_tests) in ap (λ b. cond (c.entry.caller == caller) (cond b 1 0) 0) le in
     sum_by-cons (up_to caller (last_number story)) c cs ∙ ((λ i. here i + all_at_end story caller cs right.1 i) ∙ sym (sum_by-cons f c cs))
 
-module _ (story : Story) (caller : ℕ) (rs : List Claim) (right : AllByRecursion (IsReceiptRight story) rs) (once : (number : ℕ) → times number rs ≤ 1) where
+module _ (story : BenchView) (caller : ℕ) (rs : List ReceiptView) (right : AllByRecursion (IsReceiptRight story) rs) (once : (number : ℕ) → times number rs ≤ 1) where
   -- receipts up to a number are at most as many as records up to it
   fewer : (bound : ℕ) → sum_by (up_to caller bound) rs ≤ turns_to story caller bound
   fewer zero = omega (arith, none_first story caller rs right)
@@ -188,10 +188,10 @@ module _ (story : Story) (caller : ℕ) (rs : List Claim) (right : AllByRecursio
             )
       ]
 
-times_cons : (n : ℕ) (c : Claim) (cs : List Claim) → times n (c ∷ cs) ≡ cond (c.number == n) 1 0 + times n cs
-times_cons n c cs = sum_by-cons (λ (x : Claim). cond (x.number == n) 1 0) c cs
+times_cons : (n : ℕ) (c : ReceiptView) (cs : List ReceiptView) → times n (c ∷ cs) ≡ cond (c.number == n) 1 0 + times n cs
+times_cons n c cs = sum_by-cons (λ (x : ReceiptView). cond (x.number == n) 1 0) c cs
 
-found_at : (story : Story) (c : Claim) (cs : List Claim) (n : ℕ) (e : Record) (b : Bool) → c.number == n ≡ b → IsReceiptRight story c → record_numbered story n ≡ Some e → (times n (c ∷ cs) ≡ 0 → ⊥) → ((times n cs ≡ 0 → ⊥) → Contains cs (record { number = n; entry = e })) → Contains (c ∷ cs) (record { number = n; entry = e })
+found_at : (story : BenchView) (c : ReceiptView) (cs : List ReceiptView) (n : ℕ) (e : Record) (b : Bool) → c.number == n ≡ b → IsReceiptRight story c → record_numbered story n ≡ Some e → (times n (c ∷ cs) ≡ 0 → ⊥) → ((times n cs ≡ 0 → ⊥) → Contains cs (record { number = n; entry = e })) → Contains (c ∷ cs) (record { number = n; entry = e })
 found_at story c cs n e true is right there some rest =
     let at : c.number ≡ n = eqb-true c.number n is in
     let both : Some c.entry ≡ Some e = sym right ∙ (ap (record_numbered story) at ∙ there) in
@@ -201,12 +201,12 @@ found_at story c cs n e true is right there some rest =
 found_at story c cs n e false is right there some rest =
     Contains-append_right (c ∷ []) cs (record { number = n; entry = e }) (rest (λ none. some (times_cons n c cs ∙ ((λ i. cond (is i) 1 0 + none i)))))
 
-found : (story : Story) (rs : List Claim) (n : ℕ) (e : Record) → AllByRecursion (IsReceiptRight story) rs → record_numbered story n ≡ Some e → (times n rs ≡ 0 → ⊥) → Contains rs (record { number = n; entry = e })
+found : (story : BenchView) (rs : List ReceiptView) (n : ℕ) (e : Record) → AllByRecursion (IsReceiptRight story) rs → record_numbered story n ≡ Some e → (times n rs ≡ 0 → ⊥) → Contains rs (record { number = n; entry = e })
 found story [] n e right there some = absurd (some refl)
 found story (c ∷ cs) n e right there some = found_at story c cs n e (c.number == n) refl right.0 there some (found story cs n e right.1 there)
 
 -- a receipt for each record of the caller
-pub all_shown : (story : Story) (receipts : List Claim) (caller number : ℕ) (it : Record) → AreReceiptsRight story receipts → receipts_of caller receipts ≡ turns_of caller story.log.records → record_numbered story number ≡ Some it → it.caller ≡ caller → Contains receipts (record { number = number; entry = it })
+pub all_shown : (story : BenchView) (receipts : List ReceiptView) (caller number : ℕ) (it : Record) → AreReceiptsRight story receipts → receipts_of caller receipts ≡ turns_of caller story.log.records → record_numbered story number ≡ Some it → it.caller ≡ caller → Contains receipts (record { number = number; entry = it })
 all_shown story receipts caller number it are count there mine =
     let right = recursion_from_All (IsReceiptRight story) receipts are.right in
     let own : is_own caller (record_numbered story number) ≡ true = ap (is_own caller) there ∙ eq-eqb it.caller caller mine in
@@ -240,7 +240,7 @@ full_or_none limit len cause is =
     ] refl is
 
 -- nothing but a full history is against a call with the seat of a caller as the history leaves it
-pub up_to_date : (hall : Hall) (n : ℕ) (seats : List SeatState) (k : ℕ) (seat : SeatState) → AreSeatsAt hall.bench n seats → slice_get seats k ≡ Some seat → IsUpToDate hall seat
+pub up_to_date : (hall : LockedView) (n : ℕ) (seats : List SeatView) (k : ℕ) (seat : SeatView) → AreSeatsAt hall.bench n seats → slice_get seats k ≡ Some seat → IsUpToDate hall seat
 up_to_date hall n seats k seat are at =
     let below : k < n = omega (arith, are.0, slice_get_within seats k seat at) in
     let here : Some seat ≡ Some (seat_at hall.bench (k + 1)) = sym at ∙ are.1 k below in

@@ -3,28 +3,28 @@ use Rattle.std.specs.Prelude.{◌≡◌, ◌++◌, ◌∷◌, [], List, ℕ}
 use Rattle.fb_locked.specs.History.Machine.{Call}
 use Rattle.fb_locked.specs.History.Limits.{Bounds}
 use Rattle.fb_locked.specs.Bench.Calls.{Answer, Replied, FullHistory, BehindHistory, CheckpointAnswer, Checked, SharedHistory, Exchange, Exchanges}
-use Rattle.fb_locked.specs.Seats.{SeatState, Claim, IsReceiptOf, seat_after}
+use Rattle.fb_locked.specs.Seats.{SeatView, ReceiptView, IsReceiptOf, seat_after}
 
 -- a workbench behind its lock: for how many callers seats were made. What lies there is known to nobody without the lock
-pub record Sharing : Type 0 where
+pub record SharedView : Type 0 where
   pub callers : ℕ
 
 -- a seat with the receipts of its calls
-pub record Sitter : Type 0 where
-  pub seat : SeatState
-  pub receipts : List Claim
+pub record SeatedView : Type 0 where
+  pub seat : SeatView
+  pub receipts : List ReceiptView
 
 -- An answered call adds one receipt, which is of the call, with the reply, and which the seat has then seen. A refused one changes neither.
-abbrev pub IsCallSitting : Sitter → Call → Answer → Sitter → Type 0
-IsCallSitting old call (Replied reply) new =
-    (claim : Claim) × (new.receipts ≡ old.receipts ++ claim ∷ []) × IsReceiptOf old.seat call claim × (claim.entry.reply ≡ reply) × (new.seat ≡ seat_after old.seat claim)
-IsCallSitting old call FullHistory new = new ≡ old
-IsCallSitting old call BehindHistory new = new ≡ old
+abbrev pub IsCallSeated : SeatedView → Call → Answer → SeatedView → Type 0
+IsCallSeated old call (Replied reply) new =
+    (claim : ReceiptView) × (new.receipts ≡ old.receipts ++ claim ∷ []) × IsReceiptOf old.seat call claim × (claim.entry.reply ≡ reply) × (new.seat ≡ seat_after old.seat claim)
+IsCallSeated old call FullHistory new = new ≡ old
+IsCallSeated old call BehindHistory new = new ≡ old
 
 -- a checkpoint is refused, since others may share the workbench, and changes neither
-abbrev pub IsCheckpointSitting : Sitter → Bounds → CheckpointAnswer → Sitter → Type 0
+abbrev pub IsCheckpointSitting : SeatedView → Bounds → CheckpointAnswer → SeatedView → Type 0
 IsCheckpointSitting old limits SharedHistory new = new ≡ old
 IsCheckpointSitting old limits (Checked checking) new = ⊥
 
-abbrev pub SitterStep : Sitter → Exchange → Sitter → Type 0
-SitterStep = Exchanges IsCallSitting IsCheckpointSitting
+abbrev pub SitterStep : SeatedView → Exchange → SeatedView → Type 0
+SitterStep = Exchanges IsCallSeated IsCheckpointSitting

@@ -1,23 +1,23 @@
 //! Laws of histories, of the receipts of their calls, and of seats.
 ghost use Rattle.std.specs.Prelude.{◌≡◌, ℕ, List, Some, slice_get};
-ghost use Rattle.fb_locked.specs.History.Story.{Story, AreTurns};
+ghost use Rattle.fb_locked.specs.History.BenchView.{BenchView, AreTurns};
 ghost use Rattle.fb_locked.specs.Closing.{AreReceiptsRight, NumbersRise, EnoughShowAll};
 ghost use Rattle.fb_locked.specs.Resuming.{IsUpToDate};
-ghost use Rattle.fb_locked.specs.Seats.{AreSeatsAt, Claim, Hall, SeatState};
+ghost use Rattle.fb_locked.specs.Seats.{AreSeatsAt, ReceiptView, LockedView, SeatView};
 
 /// In a history, whose turns count their callers' calls, numbers rise with the turns of a caller.
 pub fn numbers_rise_with_turns()
-    ensures { (story : Story) → AreTurns story → NumbersRise story }
+    ensures { (story : BenchView) → AreTurns story → NumbersRise story }
 {}
 
 /// A caller whose receipts are as many as its records since the start has shown them all: of each of these records there is a receipt.
 pub fn all_calls_are_shown()
-    ensures { (story : Story) (receipts : List Claim) → AreReceiptsRight story receipts
+    ensures { (story : BenchView) (receipts : List ReceiptView) → AreReceiptsRight story receipts
         → EnoughShowAll story receipts }
 {}
 
 /// The seats that a workbench is resumed with fit it: nothing is against the next call with one of them but a full history, or want of memory.
 pub fn resumed_seats_fit()
-    ensures { (hall : Hall) (n : ℕ) (seats : List SeatState) → AreSeatsAt hall.bench n seats
-        → (k : ℕ) (seat : SeatState) → slice_get seats k ≡ Some seat → IsUpToDate hall seat }
+    ensures { (hall : LockedView) (n : ℕ) (seats : List SeatView) → AreSeatsAt hall.bench n seats
+        → (k : ℕ) (seat : SeatView) → slice_get seats k ≡ Some seat → IsUpToDate hall seat }
 {}

@@ -15,9 +15,9 @@ pub struct Seated<'a, R: Wait> {
 }
 
 impl<'a, R: Wait> Model for Seated<'a, R> {
-    ghost use Rattle.fb_shared.specs.Sitting.{Sitter};
+    ghost use Rattle.fb_shared.specs.Sitting.{SeatedView};
 
-    ghost Value = { Sitter };
+    ghost Value = { SeatedView };
 
     ghost view = { λ it. record { seat = it.seat; receipts = it.receipts.items } };
 }
@@ -25,15 +25,15 @@ impl<'a, R: Wait> Model for Seated<'a, R> {
 impl<R: Wait> Desk for Seated<'_, R> {
     ghost use Rattle.std.specs.Prelude.{◌≡◌, Err};
     ghost use Rattle.fb_locked.specs.Bench.Calls.{ServesCheckpoint};
-    ghost use Rattle.fb_shared.specs.Sitting.{IsCallSitting, IsCheckpointSitting};
+    ghost use Rattle.fb_shared.specs.Sitting.{IsCallSeated, IsCheckpointSitting};
 
-    ghost step = { IsCallSitting };
+    ghost step = { IsCallSeated };
 
     ghost checkpoint_step = { IsCheckpointSitting };
 
     fn perform(&mut self, request: &Request<'_>) -> Result<Answered, DeskRefused> {
         let shared = self.shared;
-        match shared.perform_kept(self.rt, &mut self.seat, &mut self.receipts, request) {
+        match shared.perform_into(self.rt, &mut self.seat, &mut self.receipts, request) {
             Ok(answer) => Ok(answer),
             Err(SharedRefused::SeatDiffers { .. }) => Err(DeskRefused::Behind),
             Err(SharedRefused::Behind { .. }) => Err(DeskRefused::Behind),

@@ -38,9 +38,9 @@ impl Drop for Shared {
 }
 
 impl Model for Shared {
-    ghost use Rattle.fb_shared.specs.Sitting.{Sharing};
+    ghost use Rattle.fb_shared.specs.Sitting.{SharedView};
 
-    ghost Value = { Sharing };
+    ghost Value = { SharedView };
 
     ghost view = { λ it. record { callers = it.callers } };
 }
@@ -203,7 +203,7 @@ impl Shared {
     }
 
     /// Makes a call, and keeps its receipt behind the others.
-    pub(crate) fn perform_kept<R: Wait>(
+    pub(crate) fn perform_into<R: Wait>(
         &self,
         rt: &R,
         seat: &mut Seat,
@@ -215,7 +215,7 @@ impl Shared {
     {
         let mut state = self.state.lock(rt);
         self.make_room(&mut *state);
-        let answer = state.perform_kept(seat, receipts, request);
+        let answer = state.perform_into(seat, receipts, request);
         self.wake(&state);
         answer
     }

@@ -2,8 +2,8 @@
 #![tactic(auto)]
 
 mod bytes;
+mod compact_name;
 mod elementary;
-mod kept_name;
 mod lexer;
 mod name;
 mod order;
@@ -14,8 +14,8 @@ mod short_name;
 mod token;
 mod wide_use;
 
+pub use compact_name::CompactName;
 pub use elementary::{TypeClass, is_elementary, type_class};
-pub use kept_name::KeptName;
 pub use lexer::{longest_token, one_reading, tokens};
 pub use name::{Name, NameFault, NameUse};
 pub use order::{names_once_and_in_order, once_and_in_order, same_name, sorted_names, sorted_once};

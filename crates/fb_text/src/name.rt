@@ -10,7 +10,7 @@ ghost use Rattle.std.proofs.Common.{rules};
 ghost use Rattle.fb_text.specs.Words.{is_word};
 
 use crate::bytes::word_len;
-use crate::kept_name::KeptName;
+use crate::compact_name::CompactName;
 use crate::place::Place;
 use std::alloc::AllocError;
 use std::cmp::Ordering;
@@ -40,7 +40,7 @@ pub struct Name {
 /// A name where it stands.
 #[derive(Debug)]
 pub struct NameUse {
-    pub name: KeptName,
+    pub name: CompactName,
     pub span: Place,
 }
 

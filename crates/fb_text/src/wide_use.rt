@@ -1,7 +1,7 @@
 //! Copies of uses of names.
 ghost use Rattle.std.specs.Prelude.{◌≡◌, IfOk};
 
-use crate::kept_name::KeptName;
+use crate::compact_name::CompactName;
 use crate::name::{Name, NameUse};
 use crate::place::Place;
 use std::alloc::{AllocError, Global};
@@ -61,7 +61,7 @@ impl WideUse {
         ensures { IfOk result (λ used. used ≡ self.now) }
     {
         Ok(NameUse {
-            name: KeptName::keep(alloc, &self.name)?,
+            name: CompactName::keep(alloc, &self.name)?,
             span: self.span,
         })
     }

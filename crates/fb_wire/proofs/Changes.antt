@@ -3,7 +3,7 @@ use Rattle.std.proofs.Common.{◌≡◌, ◌<◌, ◌+◌, ℕ, List, [], ◌∷
 use Rattle.std.proofs.lemmas.List.{take_more, take-append-drop, map-append}
 use Rattle.fb_library.specs.Texts.{Edit}
 use Rattle.fb_messages.specs.Requests.{Change}
-use Rattle.fb_wire.specs.Talk.{edit_in, edits_in, edits_from}
+use Rattle.fb_wire.specs.Conversations.{edit_in, edits_in, edits_from}
 
 -- some edits and those behind them
 abbrev pub edits_then : Result (List Edit) (List ℕ) → Result (List Edit) (List ℕ) → Result (List Edit) (List ℕ)

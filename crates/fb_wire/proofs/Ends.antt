@@ -1,7 +1,7 @@
 -- Which ends may come where.
 use Rattle.std.proofs.Common.{◌≡◌, Bool, true, false, IsTrue, ◌↔◌, Result, Ok, Err, refl}
 use Rattle.std.specs.Prelude.{⊤}
-use Rattle.fb_wire.specs.Served.{StopsInside}
+use Rattle.fb_wire.specs.Progress.{StopsInside}
 use Rattle.fb_wire.specs.Turns.{StopsAtEnd}
 use Rattle.fb_wire.specs.declared.end.RunEnd.{RunEnd}
 use Rattle.fb_wire.specs.declared.end.RunEnd.TheVariants as end

@@ -1,7 +1,7 @@
 -- The jobs that are held, by their numbers.
 use Rattle.std.proofs.Common.{◌≡◌, ◌<◌, ◌-◌, ℕ, zero, suc, refl, arith}
 use Rattle.std.specs.List.{slice_get}
-use Rattle.fb_wire.specs.Talk.{Jobs, job_at}
+use Rattle.fb_wire.specs.Conversations.{Jobs, job_at}
 
 pub job_at-by : (held : Jobs) (number : ℕ) → 0 < number → job_at held number ≡ slice_get held (number - 1)
 job_at-by held zero some = absurd (omega arith)

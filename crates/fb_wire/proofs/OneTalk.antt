@@ -5,12 +5,12 @@ use Rattle.fb_bench.specs.History.Limits.{Bounds}
 use Rattle.fb_bench.specs.History.Machine.{Call}
 use Rattle.fb_bench.specs.Calls.{Answer, CheckpointAnswer, Exchange, AskedCall, AskedCheckpoint}
 use Rattle.fb_bench.specs.Solo.{IsCallStep, IsCheckpointStep, IsStep}
-use Rattle.fb_bench.specs.History.Story.{Story}
+use Rattle.fb_bench.specs.History.BenchView.{BenchView}
 use Rattle.fb_wire.specs.Lines.{Fits, IsTooLong, is_blank, lines_of}
 use Rattle.fb_messages.specs.Requests.{request_of}
 use Rattle.fb_messages.specs.Replies.{reply_line}
-use Rattle.fb_wire.specs.Ends.{AnsweredAll, AnsweredEnded, IsBetweenLines, Stands}
-use Rattle.fb_wire.specs.Talk.{Jobs, Plan, says, asks, checks, Leads, Talk, Runs, answers_of, plan_of}
+use Rattle.fb_wire.specs.Ends.{AnsweredAll, AnsweredEnded, IsBetweenLines, OutputAt}
+use Rattle.fb_wire.specs.Conversations.{Jobs, Plan, says, asks, checks, Leads, AnswersLines, Runs, answers_of, plan_of}
 use Rattle.fb_wire.specs.declared.end.RunEnd.{RunEnd}
 use Rattle.fb_wire.specs.declared.end.RunEnd.TheVariants as end
 use Rattle.fb_wire.proofs.Scripts.{call_is, checkpoint_is}
@@ -60,13 +60,13 @@ module _ (Agrees : List Exchange → List Exchange → Type 0)
       (same.0, t.2 ∙ ap reply_line same.1 ∙ sym u.2, same.2, same.3)
 
   same_talk : (lines : List (List ℕ)) (held : Jobs) (ps qs : List Exchange) (out written : List ℕ) (after last : Jobs)
-      → Talk lines held ps out after → Talk lines held qs written last → Agrees ps qs → (ps ≡ qs) × (out ≡ written) × (after ≡ last)
+      → AnswersLines lines held ps out after → AnswersLines lines held qs written last → Agrees ps qs → (ps ≡ qs) × (out ≡ written) × (after ≡ last)
   same_talk [] held ps qs out written after last t u e = (t.0 ∙ sym u.0, t.1 ∙ sym u.1, t.2 ∙ sym u.2)
   same_talk (line ∷ lines) held ps qs out written after last t u e =
       let P : List Exchange → Type 0 = λ xs. Agrees xs qs in
       let Q : List Exchange → Type 0 = λ xs. Agrees (t.0 ++ t.1) xs in
       let line_same = same_line_by (is_blank line) (plan_of held (request_of line)) held t.0 u.0 t.1 u.1 t.2 u.2 t.4 u.4 t.8 u.8 (subst Q u.5 (subst P t.5 e)) in
-      let R : Jobs → Type 0 = λ jobs. Talk lines jobs u.1 u.3 last in
+      let R : Jobs → Type 0 = λ jobs. AnswersLines lines jobs u.1 u.3 last in
       let rest = same_talk lines t.4 t.1 u.1 t.3 u.3 after last t.9 (subst R (sym line_same.2) u.9) line_same.3 in
       (t.5 ∙ ap₂ (λ xs ys. xs ++ ys) line_same.0 rest.0 ∙ sym u.5, t.6 ∙ ap₂ (λ xs ys. xs ++ ys) line_same.1 rest.1 ∙ sym u.6, rest.2)
 
@@ -83,7 +83,7 @@ first_checkpoint_answers : (limits : Bounds) (a b : CheckpointAnswer) (ps qs : L
 unfolding AnswersAgree
 first_checkpoint_answers limits a b ps qs e = let both : inr a ∷ answers_of ps ≡ inr b ∷ answers_of qs = e in (cc, cc)
 
-one_by_lines : (lines : List (List ℕ)) (pairs others : List Exchange) (out written : List ℕ) (after last : Jobs) → Talk lines [] pairs out after → Talk lines [] others written last
+one_by_lines : (lines : List (List ℕ)) (pairs others : List Exchange) (out written : List ℕ) (after last : Jobs) → AnswersLines lines [] pairs out after → AnswersLines lines [] others written last
     → answers_of pairs ≡ answers_of others → (pairs ≡ others) × (out ≡ written)
 unfolding AnswersAgree
 one_by_lines lines pairs others out written after last t u e =
@@ -108,7 +108,7 @@ AllFit : List (List ℕ) → Type 0
 AllFit [] = Unit {0}
 AllFit (line ∷ lines) = Fits line × AllFit lines
 
-all_fit : (lines : List (List ℕ)) (held after : Jobs) (pairs : List Exchange) (out : List ℕ) → Talk lines held pairs out after → AllFit lines
+all_fit : (lines : List (List ℕ)) (held after : Jobs) (pairs : List Exchange) (out : List ℕ) → AnswersLines lines held pairs out after → AllFit lines
 unfolding AllFit
 all_fit [] held after pairs out t = tt
 all_fit (line ∷ lines) held after pairs out t = (t.7, all_fit lines t.4 after t.1 t.3 t.9)
@@ -133,17 +133,17 @@ lines_before_long (x ∷ xs) (y ∷ ys) ps qs a b f g h k e =
 ended_is_one : (bytes : List ℕ) (pairs others : List Exchange) (out written : List ℕ) → AnsweredEnded bytes pairs out → AnsweredEnded bytes others written
     → answers_of pairs ≡ answers_of others → (pairs ≡ others) × (out ≡ written)
 ended_is_one bytes pairs others out written t u e =
-    let P : List (List ℕ) → Type 0 = λ ls. Talk ls [] pairs out t.2 in
+    let P : List (List ℕ) → Type 0 = λ ls. AnswersLines ls [] pairs out t.2 in
     let same = lines_before t.0 u.0 t.1 u.1 (sym t.3 ∙ u.3) in
     one_by_lines u.0 pairs others out written t.2 u.2 (subst P same t.5) u.5 e
 
-pub one_by_answers : (stop : RunEnd) (bytes : List ℕ) (pairs others : List Exchange) (out written : List ℕ) → IsBetweenLines stop → Stands stop bytes pairs out → Stands stop bytes others written
+pub one_by_answers : (stop : RunEnd) (bytes : List ℕ) (pairs others : List Exchange) (out written : List ℕ) → IsBetweenLines stop → OutputAt stop bytes pairs out → OutputAt stop bytes others written
     → answers_of pairs ≡ answers_of others → (pairs ≡ others) × (out ≡ written)
 one_by_answers end.End bytes pairs others out written between t u e = one_by_lines (lines_of bytes) pairs others out written t.0 u.0 t.1 u.1 e
 one_by_answers end.ReadFailed bytes pairs others out written between t u e = ended_is_one bytes pairs others out written t u e
 one_by_answers end.TurnsOver bytes pairs others out written between t u e = ended_is_one bytes pairs others out written t u e
 one_by_answers end.LineTooLong bytes pairs others out written between t u e =
-    let P : List (List ℕ) → Type 0 = λ ls. Talk ls [] pairs out t.3 in
+    let P : List (List ℕ) → Type 0 = λ ls. AnswersLines ls [] pairs out t.3 in
     let same = lines_before_long t.0 u.0 t.1 u.1 t.2 u.2 (all_fit t.0 [] t.3 pairs out t.6) (all_fit u.0 [] u.3 others written u.6) t.5 u.5 (sym t.4 ∙ u.4) in
     one_by_lines u.0 pairs others out written t.3 u.3 (subst P same t.6) u.6 e
 one_by_answers end.WriteFailed bytes pairs others out written between t u e = absurd between
@@ -152,49 +152,49 @@ one_by_answers end.Memory bytes pairs others out written between t u e = absurd 
 -- ---- by a workbench
 
 -- a call or a checkpoint on a workbench has one answer, and leads to one workbench
-one_call : (caller : ℕ) (old : Story) (call : Call) (a b : Answer) (left right : Story) → IsCallStep caller old call a left → IsCallStep caller old call b right → (a ≡ b) × (left ≡ right)
+one_call : (caller : ℕ) (old : BenchView) (call : Call) (a b : Answer) (left right : BenchView) → IsCallStep caller old call a left → IsCallStep caller old call b right → (a ≡ b) × (left ≡ right)
 one_call caller old call a b left right s t =
     let first = call_is caller old call a left s in
     let second = call_is caller old call b right t in
     (first.0 ∙ sym second.0, first.1 ∙ sym second.1)
 
-one_checkpoint : (old : Story) (limits : Bounds) (a b : CheckpointAnswer) (left right : Story) → IsCheckpointStep old limits a left → IsCheckpointStep old limits b right → (a ≡ b) × (left ≡ right)
+one_checkpoint : (old : BenchView) (limits : Bounds) (a b : CheckpointAnswer) (left right : BenchView) → IsCheckpointStep old limits a left → IsCheckpointStep old limits b right → (a ≡ b) × (left ≡ right)
 one_checkpoint old limits a b left right s t =
     let first = checkpoint_is old limits a left s in
     let second = checkpoint_is old limits b right t in
     (first.0 ∙ sym second.0, first.1 ∙ sym second.1)
 
-one_state : (caller : ℕ) (old : Story) (exchange : Exchange) (left right : Story) → IsStep caller old exchange left → IsStep caller old exchange right → left ≡ right
+one_state : (caller : ℕ) (old : BenchView) (exchange : Exchange) (left right : BenchView) → IsStep caller old exchange left → IsStep caller old exchange right → left ≡ right
 one_state caller old (AskedCall call answer) left right s t = (one_call caller old call answer answer left right s t).1
 one_state caller old (AskedCheckpoint limits answer) left right s t = (one_checkpoint old limits answer answer left right s t).1
 
-one_run : (caller : ℕ) (start left right : Story) (pairs : List Exchange) → Runs (IsStep caller) start pairs left → Runs (IsStep caller) start pairs right → left ≡ right
+one_run : (caller : ℕ) (start left right : BenchView) (pairs : List Exchange) → Runs (IsStep caller) start pairs left → Runs (IsStep caller) start pairs right → left ≡ right
 one_run caller start left right [] r s = r ∙ sym s
 one_run caller start left right (p ∷ ps) r s =
     let step = one_state caller start p r.0 s.0 r.1 s.1 in
-    let P : Story → Type 0 = λ mid. Runs (IsStep caller) mid ps right in
+    let P : BenchView → Type 0 = λ mid. Runs (IsStep caller) mid ps right in
     one_run caller r.0 left right ps r.2 (subst P (sym step) s.2)
 
-module _ (caller : ℕ) (left right : Story) where
+module _ (caller : ℕ) (left right : BenchView) where
   -- both are runs from one workbench
   RunsAgree : List Exchange → List Exchange → Type 0
-  RunsAgree ps qs = (start : Story) × Runs (IsStep caller) start ps left × Runs (IsStep caller) start qs right
+  RunsAgree ps qs = (start : BenchView) × Runs (IsStep caller) start ps left × Runs (IsStep caller) start qs right
 
   first_call_runs : (call : Call) (a b : Answer) (ps qs : List Exchange) → RunsAgree (AskedCall call a ∷ ps) (AskedCall call b ∷ qs) → (a ≡ b) × RunsAgree ps qs
   unfolding RunsAgree
   first_call_runs call a b ps qs e =
       let step = one_call caller e.0 call a b e.1.0 e.2.0 e.1.1 e.2.1 in
-      let Q : Story → Type 0 = λ mid. Runs (IsStep caller) mid qs right in
+      let Q : BenchView → Type 0 = λ mid. Runs (IsStep caller) mid qs right in
       (step.0, (e.1.0, e.1.2, subst Q (sym step.1) e.2.2))
 
   first_checkpoint_runs : (limits : Bounds) (a b : CheckpointAnswer) (ps qs : List Exchange) → RunsAgree (AskedCheckpoint limits a ∷ ps) (AskedCheckpoint limits b ∷ qs) → (a ≡ b) × RunsAgree ps qs
   unfolding RunsAgree
   first_checkpoint_runs limits a b ps qs e =
       let step = one_checkpoint e.0 limits a b e.1.0 e.2.0 e.1.1 e.2.1 in
-      let Q : Story → Type 0 = λ mid. Runs (IsStep caller) mid qs right in
+      let Q : BenchView → Type 0 = λ mid. Runs (IsStep caller) mid qs right in
       (step.0, (e.1.0, e.1.2, subst Q (sym step.1) e.2.2))
 
-pub one_by_steps : (caller : ℕ) (bytes : List ℕ) (pairs others : List Exchange) (out written : List ℕ) (start left right : Story)
+pub one_by_steps : (caller : ℕ) (bytes : List ℕ) (pairs others : List Exchange) (out written : List ℕ) (start left right : BenchView)
     → AnsweredAll bytes pairs out → Runs (IsStep caller) start pairs left → AnsweredAll bytes others written → Runs (IsStep caller) start others right
     → (pairs ≡ others) × (out ≡ written) × (left ≡ right)
 unfolding RunsAgree

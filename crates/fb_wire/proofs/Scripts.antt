@@ -8,13 +8,13 @@ use Rattle.fb_bench.specs.History.Machine.{Call, reply}
 use Rattle.fb_bench.specs.History.Limits.{Bounds}
 use Rattle.fb_bench.specs.Calls.{Answer, Replied, FullHistory, BehindHistory, CheckpointAnswer, Checked, SharedHistory, Exchange, AskedCall, AskedCheckpoint}
 use Rattle.fb_bench.specs.Solo.{IsCallStep, IsCheckpointStep, IsStep}
-use Rattle.fb_bench.specs.History.Story.{Story}
-use Rattle.fb_wire.specs.Ends.{IsFrontOfReply, IsNothing, Stands}
+use Rattle.fb_bench.specs.History.BenchView.{BenchView}
+use Rattle.fb_wire.specs.Ends.{IsFrontOfReply, IsNothing, OutputAt}
 use Rattle.fb_wire.specs.Lines.{is_blank, lines_of}
 use Rattle.fb_messages.specs.Replies.{reply_line}
 use Rattle.fb_messages.specs.Requests.{request_of}
 use Rattle.fb_wire.specs.Script.{answer_from, story_after, checkpoint_from, story_anew, told, Script, script_from, reply_before, script, IsFrontOf, SaysBy}
-use Rattle.fb_wire.specs.Talk.{Jobs, Plan, says, asks, checks, Leads, plan_of, Talk, Runs}
+use Rattle.fb_wire.specs.Conversations.{Jobs, Plan, says, asks, checks, Leads, plan_of, AnswersLines, Runs}
 use Rattle.fb_wire.specs.declared.end.RunEnd.{RunEnd}
 use Rattle.fb_wire.specs.declared.end.RunEnd.TheVariants as end
 
@@ -25,7 +25,7 @@ has_none : (n limit : ℕ) → limit ≤ n → nat_lt n limit ≡ false
 has_none n limit full = grind (arith, nat_tests)
 
 -- a call on the workbench gives its answer, and leaves it as it is after the call
-pub call_is : (caller : ℕ) (story : Story) (call : Call) (answer : Answer) (new : Story) → IsCallStep caller story call answer new → (answer ≡ answer_from story call) × (new ≡ story_after caller story call)
+pub call_is : (caller : ℕ) (story : BenchView) (call : Call) (answer : Answer) (new : BenchView) → IsCallStep caller story call answer new → (answer ≡ answer_from story call) × (new ≡ story_after caller story call)
 call_is caller story call (Replied answer) new step =
     let room : nat_lt (length story.log.records) story.log.limit ≡ true = has_room _ _ step.0 in
     rw room (ap Replied step.1, step.2)
@@ -35,12 +35,12 @@ call_is caller story call FullHistory new step =
 call_is caller story call BehindHistory new step = absurd step
 
 -- a checkpoint gives its answer, and leaves the workbench as it is after it
-pub checkpoint_is : (story : Story) (limits : Bounds) (answer : CheckpointAnswer) (new : Story) → IsCheckpointStep story limits answer new → (answer ≡ checkpoint_from story limits) × (new ≡ story_anew story limits)
+pub checkpoint_is : (story : BenchView) (limits : Bounds) (answer : CheckpointAnswer) (new : BenchView) → IsCheckpointStep story limits answer new → (answer ≡ checkpoint_from story limits) × (new ≡ story_anew story limits)
 checkpoint_is story limits (Checked checking) new step = (ap Checked step.0, step.1 ∙ ap (λ c. story_checked c limits story) step.0)
 checkpoint_is story limits SharedHistory new step = absurd step
 
 -- what a plan asks leads to what it is told
-told_is : (caller : ℕ) (plan : Plan) (pairs : List Exchange) (reply : Data) (held : Jobs) (story new : Story) → Leads plan pairs (says reply held) → Runs (IsStep caller) story pairs new
+told_is : (caller : ℕ) (plan : Plan) (pairs : List Exchange) (reply : Data) (held : Jobs) (story new : BenchView) → Leads plan pairs (says reply held) → Runs (IsStep caller) story pairs new
     → told caller plan story ≡ record { reply = reply; held = held; story = new }
 unfolding told
 told_is caller (says d jobs) [] reply held story new l r =
@@ -65,7 +65,7 @@ told_is caller (checks limits next) (AskedCheckpoint made answer ∷ ps) reply h
     subst P l.0 (rw (← step.0, ← step.1) rest)
 
 -- the pairs of some lines, and those behind them
-Runs-split : (caller : ℕ) (story new : Story) (ps qs : List Exchange) → Runs (IsStep caller) story (ps ++ qs) new → (mid : Story) × Runs (IsStep caller) story ps mid × Runs (IsStep caller) mid qs new
+Runs-split : (caller : ℕ) (story new : BenchView) (ps qs : List Exchange) → Runs (IsStep caller) story (ps ++ qs) new → (mid : BenchView) × Runs (IsStep caller) story ps mid × Runs (IsStep caller) mid qs new
 Runs-split caller story new [] qs r = (story, refl, r)
 Runs-split caller story new (p ∷ ps) qs r =
     let rest = Runs-split caller r.0 new ps qs r.2 in
@@ -75,7 +75,7 @@ Runs-split caller story new (p ∷ ps) qs r =
 abbrev pub said_before : List ℕ → Script → Script
 said_before out script = record { out = out ++ script.out; story = script.story }
 
-one_line : (caller : ℕ) (blank : Bool) (plan : Plan) (held after : Jobs) (ps : List Exchange) (out : List ℕ) (story new : Story) (more : Jobs → Story → Script)
+one_line : (caller : ℕ) (blank : Bool) (plan : Plan) (held after : Jobs) (ps : List Exchange) (out : List ℕ) (story new : BenchView) (more : Jobs → BenchView → Script)
     → MatchBool blank ((ps ≡ []) × (out ≡ []) × (after ≡ held)) ((reply : Data) × Leads plan ps (says reply after) × (out ≡ reply_line reply)) → Runs (IsStep caller) story ps new
     → cond blank (more held story) (reply_before (told caller plan story) more) ≡ said_before out (more after new)
 one_line caller true plan held after ps out story new more t r =
@@ -89,7 +89,7 @@ said-said : (a b : List ℕ) (s : Script) → said_before a (said_before b s) �
 said-said a b s = λ i. record { out = (sym (append_assoc a b s.out)) i; story = s.story }
 
 -- some lines, and those behind them
-pub lines_said : (caller : ℕ) (lines more : List (List ℕ)) (held after : Jobs) (ps : List Exchange) (out : List ℕ) (story new : Story) → Talk lines held ps out after → Runs (IsStep caller) story ps new
+pub lines_said : (caller : ℕ) (lines more : List (List ℕ)) (held after : Jobs) (ps : List Exchange) (out : List ℕ) (story new : BenchView) → AnswersLines lines held ps out after → Runs (IsStep caller) story ps new
     → script_from caller (lines ++ more) held story ≡ said_before out (script_from caller more after new)
 lines_said caller [] more held after ps out story new t r =
     let P : List Exchange → Type 0 = λ xs. Runs (IsStep caller) story xs new in
@@ -103,7 +103,7 @@ lines_said caller (line ∷ lines) more held after ps out story new t r =
     here ∙ ap (said_before t.2) rest ∙ said-said t.2 t.3 (script_from caller more after new) ∙ ap (λ xs. said_before xs (script_from caller more after new)) (sym t.6)
 
 -- a front of what is said to a line
-line_front : (caller : ℕ) (blank : Bool) (plan : Plan) (held : Jobs) (begun : List Exchange) (part : List ℕ) (story new : Story) (more : Jobs → Story → Script)
+line_front : (caller : ℕ) (blank : Bool) (plan : Plan) (held : Jobs) (begun : List Exchange) (part : List ℕ) (story new : BenchView) (more : Jobs → BenchView → Script)
     → MatchBool blank ((begun ≡ []) × (part ≡ [])) ((rest : Plan) × Leads plan begun rest × IsFrontOfReply rest part) → Runs (IsStep caller) story begun new
     → IsFrontOf part (cond blank (more held story) (reply_before (told caller plan story) more)).out
 line_front caller true plan held begun part story new more t r = ((more held story).out, rw t.1 refl)
@@ -121,14 +121,14 @@ nothing_more true plan begun part t = t.1
 nothing_more false plan begun part t = t.2
 
 -- the lines that were answered, of all lines
-front_said : (caller : ℕ) (story new : Story) (bytes : List ℕ) (lines more : List (List ℕ)) (after : Jobs) (pairs : List Exchange) (out : List ℕ) → lines_of bytes ≡ lines ++ more
-    → Talk lines [] pairs out after → Runs (IsStep caller) story pairs new → script caller story bytes ≡ said_before out (script_from caller more after new)
+front_said : (caller : ℕ) (story new : BenchView) (bytes : List ℕ) (lines more : List (List ℕ)) (after : Jobs) (pairs : List Exchange) (out : List ℕ) → lines_of bytes ≡ lines ++ more
+    → AnswersLines lines [] pairs out after → Runs (IsStep caller) story pairs new → script caller story bytes ≡ said_before out (script_from caller more after new)
 unfolding script
 front_said caller story new bytes lines more after pairs out is t r =
     ap (λ ls. script_from caller ls [] story) is ∙ lines_said caller lines more [] after pairs out story new t r
 
 -- what stands at each end is a front of what the script says
-says_front : (stop : RunEnd) (caller : ℕ) (story new : Story) (bytes : List ℕ) (pairs : List Exchange) (out : List ℕ) → Stands stop bytes pairs out → Runs (IsStep caller) story pairs new
+says_front : (stop : RunEnd) (caller : ℕ) (story new : BenchView) (bytes : List ℕ) (pairs : List Exchange) (out : List ℕ) → OutputAt stop bytes pairs out → Runs (IsStep caller) story pairs new
     → IsFrontOf out (script caller story bytes).out
 says_front end.End caller story new bytes pairs out t r =
     let is = front_said caller story new bytes (lines_of bytes) [] t.0 pairs out (sym (append-nil (lines_of bytes))) t.1 r in
@@ -158,17 +158,17 @@ says_front end.Memory caller story new bytes pairs out t r =
     (rest, ap (λ s. s.out) is ∙ ap (λ xs. xs ++ rest) (sym same))
 
 -- at the end of the input it is all of it
-says_all : (caller : ℕ) (story new : Story) (bytes : List ℕ) (pairs : List Exchange) (out : List ℕ) → Stands end.End bytes pairs out → Runs (IsStep caller) story pairs new
+says_all : (caller : ℕ) (story new : BenchView) (bytes : List ℕ) (pairs : List Exchange) (out : List ℕ) → OutputAt end.End bytes pairs out → Runs (IsStep caller) story pairs new
     → (out ≡ (script caller story bytes).out) × (new ≡ (script caller story bytes).story)
 says_all caller story new bytes pairs out t r =
     let is = front_said caller story new bytes (lines_of bytes) [] t.0 pairs out (sym (append-nil (lines_of bytes))) t.1 r in
     (sym (ap (λ s. s.out) is ∙ append-nil out), sym (ap (λ s. s.story) is))
 
-pub says_by : (stop : RunEnd) (caller : ℕ) (story new : Story) (bytes : List ℕ) (pairs : List Exchange) (out : List ℕ) → Stands stop bytes pairs out → Runs (IsStep caller) story pairs new
+pub says_by : (stop : RunEnd) (caller : ℕ) (story new : BenchView) (bytes : List ℕ) (pairs : List Exchange) (out : List ℕ) → OutputAt stop bytes pairs out → Runs (IsStep caller) story pairs new
     → SaysBy stop caller story bytes out new
 says_by stop caller story new bytes pairs out t r = (
   says_front stop caller story new bytes pairs out t r,
   λ is.
-      let P : RunEnd → Type 0 = λ e. Stands e bytes pairs out in
+      let P : RunEnd → Type 0 = λ e. OutputAt e bytes pairs out in
       says_all caller story new bytes pairs out (subst P is t) r,
 )

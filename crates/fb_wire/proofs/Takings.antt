@@ -5,9 +5,9 @@ use Rattle.std.proofs.Common.{Bool, true, false, MatchBool, take, drop, ◌-◌,
 use Rattle.fb_bench.specs.Calls.{Exchange}
 use Rattle.fb_wire.specs.Lines.{Fits, lines_of, is_blank, IsLine}
 use Rattle.fb_messages.specs.Requests.{request_of}
-use Rattle.fb_wire.specs.Ends.{Stands, AnsweredEnded, IsNothing}
-use Rattle.fb_wire.specs.Served.{LineSaid, Standing, PieceTaken, Extends}
-use Rattle.fb_wire.specs.Talk.{Jobs, Plan, plan_of, Leads, LineTalk, Talk, Runs}
+use Rattle.fb_wire.specs.Ends.{OutputAt, AnsweredEnded, IsNothing}
+use Rattle.fb_wire.specs.Progress.{LineSaid, ConversationAt, PieceTaken, Extends}
+use Rattle.fb_wire.specs.Conversations.{Jobs, Plan, plan_of, Leads, AnswersLine, AnswersLines, Runs}
 use Rattle.fb_wire.specs.declared.end.RunEnd.{RunEnd}
 use Rattle.fb_wire.specs.declared.end.RunEnd.TheVariants as end
 use Rattle.fb_wire.proofs.Cuts.{after_line, after_part}
@@ -16,12 +16,12 @@ use Rattle.fb_wire.proofs.Talks.{Runs-append}
 pub none_fits : Fits []
 none_fits = omega arith
 
-pub Talk-snoc : (lines : List (List ℕ)) (line : List ℕ) (held mid after : Jobs) (ps qs : List Exchange) (out more : List ℕ)
-    → Talk lines held ps out mid → Fits line → LineTalk line mid qs more after → Talk (lines ++ line ∷ []) held (ps ++ qs) (out ++ more) after
-Talk-snoc [] line held mid after ps qs out more t fits last =
-    let P : Jobs → Type 0 = λ j. LineTalk line j qs more after in
+pub AnswersLines-snoc : (lines : List (List ℕ)) (line : List ℕ) (held mid after : Jobs) (ps qs : List Exchange) (out more : List ℕ)
+    → AnswersLines lines held ps out mid → Fits line → AnswersLine line mid qs more after → AnswersLines (lines ++ line ∷ []) held (ps ++ qs) (out ++ more) after
+AnswersLines-snoc [] line held mid after ps qs out more t fits last =
+    let P : Jobs → Type 0 = λ j. AnswersLine line j qs more after in
     (qs, [], more, [], after, ap (λ xs. xs ++ qs) t.0 ∙ sym (append-nil qs), ap (λ xs. xs ++ more) t.1 ∙ sym (append-nil more), fits, subst P t.2 last, (refl, refl, refl))
-Talk-snoc (l ∷ ls) line held mid after ps qs out more t fits last = (
+AnswersLines-snoc (l ∷ ls) line held mid after ps qs out more t fits last = (
   t.0,
   t.1 ++ qs,
   t.2,
@@ -31,7 +31,7 @@ Talk-snoc (l ∷ ls) line held mid after ps qs out more t fits last = (
   ap (λ xs. xs ++ more) t.6 ∙ append_assoc t.2 t.3 more,
   t.7,
   t.8,
-  Talk-snoc ls line t.4 mid after t.1 qs t.3 more t.9 fits last,
+  AnswersLines-snoc ls line t.4 mid after t.1 qs t.3 more t.9 fits last,
 )
 
 -- of a line that was not looked at nothing was asked or said
@@ -47,9 +47,9 @@ line_at given partial front behind lines is whole =
 
 module _ {S : Type 0} (Step : S → Exchange → S → Type 0) where
   -- The run stops at a line of which nothing was asked or said: it is too long, or memory ran out for it.
-  stops_at : (start old : S) (given bytes line new_line front : List ℕ) (others : List (List ℕ)) (jobs : Jobs) (held out : List ℕ) (stop : RunEnd) (st : Standing Step start given line jobs out old)
+  stops_at : (start old : S) (given bytes line new_line front : List ℕ) (others : List (List ℕ)) (jobs : Jobs) (held out : List ℕ) (stop : RunEnd) (st : ConversationAt Step start given line jobs out old)
       → lines_of (given ++ bytes) ≡ st.0 ++ (line ++ front) ∷ others → Extends line front (Err stop) new_line
-      → (more : List ℕ) × (pairs : List Exchange) × (held ≡ held ++ more) × Runs Step start pairs old × Stands stop (given ++ bytes) pairs (out ++ more)
+      → (more : List ℕ) × (pairs : List Exchange) × (held ≡ held ++ more) × Runs Step start pairs old × OutputAt stop (given ++ bytes) pairs (out ++ more)
   stops_at start old given bytes line new_line front others jobs held out end.LineTooLong st split long =
       ([], st.1, sym (append-nil held), st.5, (st.0, others, line ++ front, jobs, split, long, rw (append-nil out) st.4))
   stops_at start old given bytes line new_line front others jobs held out end.Memory st split fits =
@@ -83,7 +83,7 @@ module _ {S : Type 0} (Step : S → Exchange → S → Type 0) where
           st.1 ++ said.0,
           split ∙ sym (append_assoc st.0 ((line ++ front) ∷ []) ([] ∷ [])),
           none_fits,
-          Talk-snoc st.0 (line ++ front) [] old_jobs jobs st.1 said.0 out said.1 st.4 fits said.2,
+          AnswersLines-snoc st.0 (line ++ front) [] old_jobs jobs st.1 said.0 out said.1 st.4 fits said.2,
           Runs-append Step start old new st.1 said.0 st.5 said.3,
         ),
       )
@@ -147,7 +147,7 @@ module _ {S : Type 0} (Step : S → Exchange → S → Type 0) where
 
   -- ---- a run, from its first byte
 
-  starts : (old : S) → Standing Step old [] [] [] [] old
+  starts : (old : S) → ConversationAt Step old [] [] [] [] old
   starts old = ([], [], refl, none_fits, (refl, refl, refl), refl)
 
   -- the run ends between two reads
@@ -159,10 +159,10 @@ module _ {S : Type 0} (Step : S → Exchange → S → Type 0) where
 
   -- the run stops inside the bytes
   pub run_stops : (old new : S) (line : List ℕ) (jobs : Jobs) (old_held held bytes : List ℕ) (stop : RunEnd) → PieceTaken Step old [] [] old_held bytes [] (Err stop) new line jobs held
-      → (pairs : List Exchange) × (out : List ℕ) × Runs Step old pairs new × (held ≡ old_held ++ out) × Stands stop bytes pairs out
+      → (pairs : List Exchange) × (out : List ℕ) × Runs Step old pairs new × (held ≡ old_held ++ out) × OutputAt stop bytes pairs out
   run_stops old new line jobs old_held held bytes stop a =
       let x = a old [] [] (starts old) in
-      let P : List ℕ → Type 0 = λ xs. Stands stop xs x.1 x.0 in
+      let P : List ℕ → Type 0 = λ xs. OutputAt stop xs x.1 x.0 in
       (x.1, x.0, x.3, x.2, subst P (append-nil bytes) x.4)
 
   -- nothing was read
@@ -179,8 +179,8 @@ module _ {S : Type 0} (Step : S → Exchange → S → Type 0) where
   pub last_ends : (old new : S) (line new_line : List ℕ) (old_jobs jobs : Jobs) (old_held held : List ℕ) → LineSaid Step line old_jobs old old_held (Ok tt) jobs new held
       → PieceTaken Step old line old_jobs old_held [] [] (Err end.End) new new_line jobs held
   last_ends old new line new_line old_jobs jobs old_held held said = λ start given out st.
-      let talk = Talk-snoc st.0 line [] old_jobs jobs st.1 said.0 out said.1 st.4 st.3 said.2 in
-      let P : List (List ℕ) → Type 0 = λ ls. Talk ls [] (st.1 ++ said.0) (out ++ said.1) jobs in
+      let talk = AnswersLines-snoc st.0 line [] old_jobs jobs st.1 said.0 out said.1 st.4 st.3 said.2 in
+      let P : List (List ℕ) → Type 0 = λ ls. AnswersLines ls [] (st.1 ++ said.0) (out ++ said.1) jobs in
       let all : st.0 ++ line ∷ [] ≡ lines_of (given ++ []) = sym (ap lines_of (append-nil given) ∙ st.2) in
       (said.1, st.1 ++ said.0, said.4, Runs-append Step start old new st.1 said.0 st.5 said.3, (jobs, subst P all talk))
 

@@ -21,8 +21,8 @@ use Rattle.fb_wire.specs.Lines.{is_blank}
 use Rattle.fb_messages.specs.Replies.{refused, work_done, work_refused}
 use Rattle.fb_wire.specs.Said.{said_to, checkpoint_said}
 use Rattle.fb_messages.specs.ReplyView.{data_of, refusal_text}
-use Rattle.fb_wire.specs.Served.{Reaches, LineSaid, Served, RoundServed, KeepsTaken, left_after, unrecorded, answer_in, checked_in, refusal_for, data_in}
-use Rattle.fb_wire.specs.Talk.{Jobs, Plan, says, asks, checks, Leads, Runs, call_once, checkpoint_once, take_plan, held_after, after_take, after_deliver, work_plan}
+use Rattle.fb_wire.specs.Progress.{ProgressTo, LineSaid, Progress, RoundProgress, KeepsTaken, left_after, unrecorded, answer_in, checked_in, refusal_for, data_in}
+use Rattle.fb_wire.specs.Conversations.{Jobs, Plan, says, asks, checks, Leads, Runs, call_once, checkpoint_once, take_plan, held_after, after_take, after_deliver, work_plan}
 use Rattle.fb_messages.specs.declared.reply.Refusal.{Refusal}
 use Rattle.fb_messages.specs.declared.reply.Reply.{Reply}
 
@@ -72,38 +72,38 @@ module _ {S : Type 0} (Step : S → Exchange → S → Type 0) where
   Runs-append old mid new (p ∷ ps) qs first more = (first.0, first.1, Runs-append first.0 mid new ps qs first.2 more)
 
   -- no call yet
-  pub reaches_itself : (plan : Plan) (old : S) → Reaches Step plan old plan old
+  pub reaches_itself : (plan : Plan) (old : S) → ProgressTo Step plan old plan old
   reaches_itself plan old = ([], refl, refl)
 
-  pub reaches_on : (plan mid rest : Plan) (old between new : S) → Reaches Step plan old mid between → Reaches Step mid between rest new → Reaches Step plan old rest new
+  pub reaches_on : (plan mid rest : Plan) (old between new : S) → ProgressTo Step plan old mid between → ProgressTo Step mid between rest new → ProgressTo Step plan old rest new
   reaches_on plan mid rest old between new first more =
       (first.0 ++ more.0, Leads-append plan mid rest first.0 more.0 first.1 more.1, Runs-append old between new first.0 more.0 first.2 more.2)
 
   -- memory ran out before any call
-  pub none_served : (plan : Plan) (old : S) (e : AllocError) (held : Jobs) → Served Step plan old (Err e) held old
+  pub none_served : (plan : Plan) (old : S) (e : AllocError) (held : Jobs) → Progress Step plan old (Err e) held old
   none_served plan old e held = (plan, reaches_itself plan old)
 
   -- one more round of a work
-  pub work_goes_on : (plan : Plan) (old mid new : S) (held : Jobs) (turns i count : ℕ) (round : Round) → i < turns → Reaches Step plan old (work_plan held (turns - i) count) mid
-      → RoundServed Step held count (work_plan held (turns - (i + 1))) mid (Ok round) new → Reaches Step plan old (left_after held count (work_plan held (turns - (i + 1))) round) new
+  pub work_goes_on : (plan : Plan) (old mid new : S) (held : Jobs) (turns i count : ℕ) (round : Round) → i < turns → ProgressTo Step plan old (work_plan held (turns - i) count) mid
+      → RoundProgress Step held count (work_plan held (turns - (i + 1))) mid (Ok round) new → ProgressTo Step plan old (left_after held count (work_plan held (turns - (i + 1))) round) new
   unfolding work_plan
   work_goes_on plan old mid new held turns i count round within far served =
       let width : turns - i ≡ suc (turns - (i + 1)) = omega arith in
-      let Q : ℕ → Type 0 = λ n. Reaches Step plan old (work_plan held n count) mid in
+      let Q : ℕ → Type 0 = λ n. ProgressTo Step plan old (work_plan held n count) mid in
       reaches_on plan (work_plan held (suc (turns - (i + 1))) count) _ old mid new (subst Q width far) served
 
-  pub work_stops : (plan : Plan) (old mid new : S) (held : Jobs) (turns i count : ℕ) (e : AllocError) → i < turns → Reaches Step plan old (work_plan held (turns - i) count) mid
-      → RoundServed Step held count (work_plan held (turns - (i + 1))) mid (Err e) new → (rest : Plan) × Reaches Step plan old rest new
+  pub work_stops : (plan : Plan) (old mid new : S) (held : Jobs) (turns i count : ℕ) (e : AllocError) → i < turns → ProgressTo Step plan old (work_plan held (turns - i) count) mid
+      → RoundProgress Step held count (work_plan held (turns - (i + 1))) mid (Err e) new → (rest : Plan) × ProgressTo Step plan old rest new
   unfolding work_plan
   work_stops plan old mid new held turns i count e within far served =
       let width : turns - i ≡ suc (turns - (i + 1)) = omega arith in
-      let Q : ℕ → Type 0 = λ n. Reaches Step plan old (work_plan held n count) mid in
+      let Q : ℕ → Type 0 = λ n. ProgressTo Step plan old (work_plan held n count) mid in
       (served.0, reaches_on plan (work_plan held (suc (turns - (i + 1))) count) served.0 old mid new (subst Q width far) served.1)
 
-  pub work_ends : (plan : Plan) (old new : S) (held : Jobs) (left count : ℕ) → left ≡ 0 → Reaches Step plan old (work_plan held left count) new → Reaches Step plan old (says (work_done count) held) new
+  pub work_ends : (plan : Plan) (old new : S) (held : Jobs) (left count : ℕ) → left ≡ 0 → ProgressTo Step plan old (work_plan held left count) new → ProgressTo Step plan old (says (work_done count) held) new
   unfolding work_plan
   work_ends plan old new held left count none far =
-      let Q : ℕ → Type 0 = λ n. Reaches Step plan old (work_plan held n count) new in subst Q none far
+      let Q : ℕ → Type 0 = λ n. ProgressTo Step plan old (work_plan held n count) new in subst Q none far
 
   -- ---- lines
 
@@ -117,7 +117,7 @@ module _ {S : Type 0} (CallStep : S → Call → Answer → S → Type 0) (Check
   Step = Exchanges CallStep CheckpointStep
 
   -- one call, and its answer
-  reaches_by : (old new : S) (call : Call) (next : Answer → Plan) (answer : Answer) → CallStep old call answer new → Reaches Step (asks call next) old (next answer) new
+  reaches_by : (old new : S) (call : Call) (next : Answer → Plan) (answer : Answer) → CallStep old call answer new → ProgressTo Step (asks call next) old (next answer) new
   reaches_by old new call next answer step = (AskedCall call answer ∷ [], (refl, refl), (new, step, refl))
 
   by_some : (old new : S) (call : Call) (a b : Answer) → CallStep old call a new → Some a ≡ Some b → CallStep old call b new
@@ -127,13 +127,13 @@ module _ {S : Type 0} (CallStep : S → Call → Answer → S → Type 0) (Check
       subst P same step
 
   call_replied : (old new : S) (call : Call) (answer : Answer) (reply : Reply) (held : Jobs) → CallStep old call answer new → Some (said_to 0 answer) ≡ Some (data_of reply)
-      → Reaches Step (call_once held call) old (says (data_of reply) held) new
+      → ProgressTo Step (call_once held call) old (says (data_of reply) held) new
   call_replied old new call answer reply held step is =
       let same : said_to 0 answer ≡ data_of reply = cc in
       (AskedCall call answer ∷ [], (refl, ap (λ d. says d held) (sym same)), (new, step, refl))
 
   checkpoint_replied : (old new : S) (limits : Bounds) (answer : CheckpointAnswer) (reply : Reply) (held : Jobs) → CheckpointStep old limits answer new → Some (checkpoint_said answer) ≡ Some (data_of reply)
-      → Reaches Step (checkpoint_once held limits) old (says (data_of reply) held) new
+      → ProgressTo Step (checkpoint_once held limits) old (says (data_of reply) held) new
   checkpoint_replied old new limits answer reply held step is =
       let same : checkpoint_said answer ≡ data_of reply = cc in
       (AskedCheckpoint limits answer ∷ [], (refl, ap (λ d. says d held) (sym same)), (new, step, refl))
@@ -148,7 +148,7 @@ module _ {S : Type 0} (CallStep : S → Call → Answer → S → Type 0) (Check
 
   -- a call whose answer alone is the reply
   pub call_served : {R : Type 0} (old new : S) (call : Call) (reply_of : R → MachineReply) (r : Result R DeskRefused) (reply : Result Reply AllocError) (held : Jobs)
-      → Serves CallStep old call reply_of r new → option_map (said_to 0) (answer_in reply_of r) ≡ data_in reply → Served Step (call_once held call) old reply held new
+      → Serves CallStep old call reply_of r new → option_map (said_to 0) (answer_in reply_of r) ≡ data_in reply → Progress Step (call_once held call) old reply held new
   call_served old new call reply_of (Ok r) (Ok reply) held step is = call_replied old new call (Replied (reply_of r)) reply held step is
   call_served old new call reply_of (Err HistoryFull) (Ok reply) held step is = call_replied old new call FullHistory reply held step is
   call_served old new call reply_of (Err Behind) (Ok reply) held step is = call_replied old new call BehindHistory reply held step is
@@ -160,7 +160,7 @@ module _ {S : Type 0} (CallStep : S → Call → Answer → S → Type 0) (Check
 
   -- a checkpoint, whose answer is the reply
   pub checkpoint_served : (old new : S) (limits : Bounds) (r : Result ℕ DeskCheckpointRefused) (reply : Result Reply AllocError) (held : Jobs)
-      → ServesCheckpoint CheckpointStep old limits r new → option_map checkpoint_said (checked_in r) ≡ data_in reply → Served Step (checkpoint_once held limits) old reply held new
+      → ServesCheckpoint CheckpointStep old limits r new → option_map checkpoint_said (checked_in r) ≡ data_in reply → Progress Step (checkpoint_once held limits) old reply held new
   checkpoint_served old new limits (Ok before) (Ok reply) held step is = checkpoint_replied old new limits (Checked (KeptUpTo before)) reply held step is
   checkpoint_served old new limits (Err (checkpoint.UnitsOver units)) (Ok reply) held step is = checkpoint_replied old new limits (Checked (OverUnits units)) reply held step is
   checkpoint_served old new limits (Err checkpoint.NumbersOver) (Ok reply) held step is = checkpoint_replied old new limits (Checked OverNumbers) reply held step is
@@ -172,15 +172,15 @@ module _ {S : Type 0} (CallStep : S → Call → Answer → S → Type 0) (Check
   checkpoint_served old new limits (Err checkpoint.NotAlone) (Err e) held step is = absurd cc
   checkpoint_served old new limits (Err checkpoint.Memory) (Err e) held same is = (checkpoint_once held limits, ([], refl, same))
 
-  by_plan : (old new : S) (call : Call) (next : Answer → Plan) (answer : Answer) (rest : Plan) → CallStep old call answer new → Some (next answer) ≡ Some rest → Reaches Step (asks call next) old rest new
+  by_plan : (old new : S) (call : Call) (next : Answer → Plan) (answer : Answer) (rest : Plan) → CallStep old call answer new → Some (next answer) ≡ Some rest → ProgressTo Step (asks call next) old rest new
   by_plan old new call next answer rest step is =
       let same : next answer ≡ rest = cc in
-      let P : Plan → Type 0 = λ p. Reaches Step (asks call next) old p new in
+      let P : Plan → Type 0 = λ p. ProgressTo Step (asks call next) old p new in
       subst P same (reaches_by old new call next answer step)
 
   -- a served call leads to what its answer leaves of the plan
   pub by_answer : {R : Type 0} (old new : S) (call : Call) (next : Answer → Plan) (reply_of : R → MachineReply) (r : Result R DeskRefused) (rest : Plan)
-      → Serves CallStep old call reply_of r new → option_map next (answer_in reply_of r) ≡ Some rest → Reaches Step (asks call next) old rest new
+      → Serves CallStep old call reply_of r new → option_map next (answer_in reply_of r) ≡ Some rest → ProgressTo Step (asks call next) old rest new
   by_answer old new call next reply_of (Ok r) rest step is = by_plan old new call next (Replied (reply_of r)) rest step is
   by_answer old new call next reply_of (Err HistoryFull) rest step is = by_plan old new call next FullHistory rest step is
   by_answer old new call next reply_of (Err Behind) rest step is = by_plan old new call next BehindHistory rest step is
@@ -188,27 +188,27 @@ module _ {S : Type 0} (CallStep : S → Call → Answer → S → Type 0) (Check
 
   -- a served call leads somewhere, also where memory ran out
   pub by_any : {R : Type 0} (old new : S) (call : Call) (next : Answer → Plan) (reply_of : R → MachineReply) (r : Result R DeskRefused)
-      → Serves CallStep old call reply_of r new → (rest : Plan) × Reaches Step (asks call next) old rest new
+      → Serves CallStep old call reply_of r new → (rest : Plan) × ProgressTo Step (asks call next) old rest new
   by_any old new call next reply_of (Ok r) step = (next (Replied (reply_of r)), reaches_by old new call next (Replied (reply_of r)) step)
   by_any old new call next reply_of (Err HistoryFull) step = (next FullHistory, reaches_by old new call next FullHistory step)
   by_any old new call next reply_of (Err Behind) step = (next BehindHistory, reaches_by old new call next BehindHistory step)
   by_any old new call next reply_of (Err Memory) same = (asks call next, ([], refl, same))
 
   taken_by : (old new : S) (answer : Answer) (reply : Data) (held after : Jobs) → nat_le 64 (length held) ≡ false → CallStep old ToTake answer new
-      → reply ≡ said_to (length held + 1) answer → after ≡ held_after held answer → Reaches Step (take_plan held) old (says reply after) new
+      → reply ≡ said_to (length held + 1) answer → after ≡ held_after held answer → ProgressTo Step (take_plan held) old (says reply after) new
   taken_by old new answer reply held after room step said left =
       (AskedCall ToTake answer ∷ [], rw room (refl, ap₂ says said left), (new, step, refl))
 
   -- a take where there is room for another job
   pub take_served : (old new : S) (r : Result Taken DeskRefused) (reply : Result Reply AllocError) (held after : Jobs) → nat_le 64 (length held) ≡ false
-      → Serves CallStep old ToTake take_reply r new → KeepsTaken held (answer_in take_reply r) (data_in reply) after → Served Step (take_plan held) old reply after new
+      → Serves CallStep old ToTake take_reply r new → KeepsTaken held (answer_in take_reply r) (data_in reply) after → Progress Step (take_plan held) old reply after new
   take_served old new (Ok r) (Ok reply) held after room step kept = taken_by old new (Replied (take_reply r)) (data_of reply) held after room step kept.0 kept.1
   take_served old new (Err HistoryFull) (Ok reply) held after room step kept = taken_by old new FullHistory (data_of reply) held after room step kept.0 kept.1
   take_served old new (Err Behind) (Ok reply) held after room step kept = taken_by old new BehindHistory (data_of reply) held after room step kept.0 kept.1
   take_served old new (Err Memory) (Ok reply) held after room step kept = absurd kept
   take_served old new r (Err e) held after room step kept =
       let next : Answer → Plan = λ answer. says (said_to (length held + 1) answer) (held_after held answer) in
-      let P : Plan → Type 0 = λ p. (rest : Plan) × Reaches Step p old rest new in
+      let P : Plan → Type 0 = λ p. (rest : Plan) × ProgressTo Step p old rest new in
       let open_plan : asks ToTake next ≡ take_plan held = rw room refl in
       subst P open_plan (by_any old new ToTake next take_reply r step)
 
@@ -217,7 +217,7 @@ module _ {S : Type 0} (CallStep : S → Call → Answer → S → Type 0) (Check
       → Serves CallStep old ToTake take_reply taken mid → answer_in take_reply taken ≡ Some (Replied (OfTake (Some order)))
       → Serves CallStep mid (ToDeliver order) OfDeliver r new
       → option_map (after_deliver held count more) (answer_in OfDeliver r) ≡ option_map (left_after held count more) (result_ok round)
-      → RoundServed Step held count more old round new
+      → RoundProgress Step held count more old round new
   round_served old mid new held count more order taken r (Ok round) first is second ends =
       reaches_on Step (asks ToTake (after_take held count more)) (asks (ToDeliver order) (after_deliver held count more)) (left_after held count more round) old mid new
       (reaches_by old mid ToTake (after_take held count more) (Replied (OfTake (Some order))) (serves_some old mid ToTake take_reply taken (Replied (OfTake (Some order))) first is))

@@ -6,31 +6,31 @@ use Rattle.serde_json.specs.Data.{Data}
 use Rattle.fb_bench.specs.Calls.{Exchange}
 use Rattle.fb_wire.specs.Lines.{Fits, IsTooLong, lines_of}
 use Rattle.fb_messages.specs.Replies.{reply_line}
-use Rattle.fb_wire.specs.Talk.{Jobs, LinePart, Plan, says, Talk}
+use Rattle.fb_wire.specs.Conversations.{Jobs, LinePart, Plan, says, AnswersLines}
 use Rattle.fb_wire.specs.declared.end.RunEnd.{RunEnd}
 use Rattle.fb_wire.specs.declared.end.RunEnd.TheVariants.{End, LineTooLong, ReadFailed, WriteFailed, TurnsOver, Memory}
 
 -- every line was answered, the last one too; so none is too long
 abbrev pub AnsweredAll : List ℕ → List Exchange → List ℕ → Type 0
-AnsweredAll bytes pairs out = (after : Jobs) × Talk (lines_of bytes) [] pairs out after
+AnsweredAll bytes pairs out = (after : Jobs) × AnswersLines (lines_of bytes) [] pairs out after
 
 -- every line that has its line feed was answered, and what has come of the next one is not too long
 abbrev pub AnsweredEnded : List ℕ → List Exchange → List ℕ → Type 0
 AnsweredEnded bytes pairs out =
-    (lines : List (List ℕ)) × (rest : List ℕ) × (after : Jobs) × (lines_of bytes ≡ lines ++ rest ∷ []) × Fits rest × Talk lines [] pairs out after
+    (lines : List (List ℕ)) × (rest : List ℕ) × (after : Jobs) × (lines_of bytes ≡ lines ++ rest ∷ []) × Fits rest × AnswersLines lines [] pairs out after
 
 -- every line before the first one that is too long was answered
 abbrev pub AnsweredBefore : List ℕ → List Exchange → List ℕ → Type 0
 AnsweredBefore bytes pairs out =
     (lines more : List (List ℕ)) × (long : List ℕ) × (after : Jobs)
-    × (lines_of bytes ≡ lines ++ long ∷ more) × IsTooLong long × Talk lines [] pairs out after
+    × (lines_of bytes ≡ lines ++ long ∷ more) × IsTooLong long × AnswersLines lines [] pairs out after
 
 -- Some lines were answered whole. Of the next one, which is not too long, some calls or its checkpoint were made, and `part` was written.
 abbrev pub AnsweredPart : (Plan → List ℕ → Type 0) → List ℕ → List Exchange → List ℕ → Type 0
 AnsweredPart IsPart bytes pairs out =
     (lines more : List (List ℕ)) × (line : List ℕ) × (first begun : List Exchange) × (said part : List ℕ) × (held : Jobs)
     × (lines_of bytes ≡ lines ++ line ∷ more) × Fits line × (pairs ≡ first ++ begun) × (out ≡ said ++ part)
-    × Talk lines [] first said held × LinePart IsPart line held begun part
+    × AnswersLines lines [] first said held × LinePart IsPart line held begun part
 
 -- a front of the reply's line
 abbrev pub IsFrontOfReply : Plan → List ℕ → Type 0
@@ -40,13 +40,13 @@ abbrev pub IsNothing : Plan → List ℕ → Type 0
 IsNothing rest part = part ≡ []
 
 -- what stands at each end, by the bytes that were read, the calls and checkpoints with their answers, and what was written
-abbrev pub Stands : RunEnd → List ℕ → List Exchange → List ℕ → Type 0
-Stands End bytes pairs out = AnsweredAll bytes pairs out
-Stands ReadFailed bytes pairs out = AnsweredEnded bytes pairs out
-Stands TurnsOver bytes pairs out = AnsweredEnded bytes pairs out
-Stands LineTooLong bytes pairs out = AnsweredBefore bytes pairs out
-Stands WriteFailed bytes pairs out = AnsweredPart IsFrontOfReply bytes pairs out
-Stands Memory bytes pairs out = AnsweredPart IsNothing bytes pairs out
+abbrev pub OutputAt : RunEnd → List ℕ → List Exchange → List ℕ → Type 0
+OutputAt End bytes pairs out = AnsweredAll bytes pairs out
+OutputAt ReadFailed bytes pairs out = AnsweredEnded bytes pairs out
+OutputAt TurnsOver bytes pairs out = AnsweredEnded bytes pairs out
+OutputAt LineTooLong bytes pairs out = AnsweredBefore bytes pairs out
+OutputAt WriteFailed bytes pairs out = AnsweredPart IsFrontOfReply bytes pairs out
+OutputAt Memory bytes pairs out = AnsweredPart IsNothing bytes pairs out
 
 -- the ends that come between two lines: each line that was begun was answered whole
 abbrev pub IsBetweenLines : RunEnd → Type 0
@@ -92,12 +92,12 @@ pub record ShowsEnd (end : RunEnd) (turns : ℕ) (old new : Streams) : Type 0 wh
   pub write_failed : IsTrue new.write_has_failed ↔ (end ≡ WriteFailed)
 
 -- what was read, asked and written is what stands at this end, which the reader and the writer show
-pub record IsTalk (end : RunEnd) (turns : ℕ) (old new : Streams) : Type 0 where
+pub record IsConversation (end : RunEnd) (turns : ℕ) (old new : Streams) : Type 0 where
   pub bytes : List ℕ
   pub pairs : List Exchange
   pub out : List ℕ
   pub given : new.given ≡ old.given ++ bytes
   pub consumed : Consumes old.left new.left bytes
   pub written : new.held ≡ old.held ++ out
-  pub stands : Stands end bytes pairs out
+  pub stands : OutputAt end bytes pairs out
   pub shown : ShowsEnd end turns old new

@@ -1,7 +1,7 @@
 -- For private clauses: what one read comes to.
 use Rattle.std.specs.Prelude.{⊤, List, ℕ, Result}
 use Rattle.fb_bench.specs.Calls.{Exchange}
-use Rattle.fb_wire.specs.Served.{PieceTaken}
+use Rattle.fb_wire.specs.Progress.{PieceTaken}
 use Rattle.fb_wire.specs.declared.end.RunEnd.{RunEnd}
 use Rattle.fb_wire.specs.declared.end.RunEnd.TheVariants as end
 use Rattle.fb_wire.specs.declared.line.Conversation.{Conversation}

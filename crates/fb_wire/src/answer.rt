@@ -10,8 +10,8 @@ ghost use Rattle.fb_bench.specs.Records.{listed};
 ghost use Rattle.fb_messages.specs.ReplyView.{data_of};
 ghost use Rattle.fb_wire.specs.Said.{commit_said, deliver_said, reply_said, said_to, checkpoint_said};
 ghost use Rattle.fb_messages.specs.RequestView.{change_view, request_view};
-ghost use Rattle.fb_wire.specs.Served.{Served, RoundServed, KeepsTaken, Takes, left_after, unrecorded, answer_in, checked_in, refusal_for, data_in};
-ghost use Rattle.fb_wire.specs.Talk.{plan_of, with_name, commit_plan, edits_in, Jobs, Plan, after_deliver, call_once, checkpoint_once, job_at, take_plan, deliver_plan, work_plan};
+ghost use Rattle.fb_wire.specs.Progress.{Progress, RoundProgress, KeepsTaken, Takes, left_after, unrecorded, answer_in, checked_in, refusal_for, data_in};
+ghost use Rattle.fb_wire.specs.Conversations.{plan_of, with_name, commit_plan, edits_in, Jobs, Plan, after_deliver, call_once, checkpoint_once, job_at, take_plan, deliver_plan, work_plan};
 
 use crate::change::{ChangeFault, changes_of};
 use fb_bench::{
@@ -119,7 +119,7 @@ fn checkpoint_reply(checked: Result<u64, DeskCheckpointRefused>) -> Result<Reply
 // Works around the borrow checker: both types that a `fb_bench::Request` can borrow must occur in a function that makes one.
 fn answer_call<D: Desk>(desk: &mut D, call: &fb_bench::Request<'_>) -> Result<Reply, AllocError>
     ensures { (held : Jobs)
-        → Served (Exchanges D.step D.checkpoint_step)
+        → Progress (Exchanges D.step D.checkpoint_step)
         (call_once held (call_for call.now)) desk.old result held desk.new }
 {
     let performed = desk.perform(call);
@@ -129,7 +129,7 @@ fn answer_call<D: Desk>(desk: &mut D, call: &fb_bench::Request<'_>) -> Result<Re
 /// Asks for a commit of changes that were read.
 fn answer_changes<D: Desk>(desk: &mut D, changes: &[Change]) -> Result<Reply, AllocError>
     ensures { (held : Jobs)
-        → Served (Exchanges D.step D.checkpoint_step)
+        → Progress (Exchanges D.step D.checkpoint_step)
         (call_once held (ToCommit (listed changes.now))) desk.old result held desk.new }
 {
     let _finished: Option<&Finished> = None;
@@ -142,7 +142,7 @@ fn answer_commit<D: Desk>(
     asked: &[AskedChange<'_>],
 ) -> Result<Reply, AllocError>
     ensures { (held : Jobs)
-        → Served (Exchanges D.step D.checkpoint_step)
+        → Progress (Exchanges D.step D.checkpoint_step)
         (commit_plan held (edits_in (map change_view asked.now))) desk.old result held desk.new }
 {
     match changes_of(alloc, asked) {
@@ -154,7 +154,7 @@ fn answer_commit<D: Desk>(
 
 fn answer_checkpoint<D: Desk>(desk: &mut D, limits: Limits) -> Result<Reply, AllocError>
     ensures { (held : Jobs)
-        → Served (Exchanges D.step D.checkpoint_step) (checkpoint_once held limits) desk.old result held desk.new }
+        → Progress (Exchanges D.step D.checkpoint_step) (checkpoint_once held limits) desk.old result held desk.new }
 {
     let checked = desk.checkpoint(limits);
     checkpoint_reply(checked)
@@ -162,7 +162,7 @@ fn answer_checkpoint<D: Desk>(desk: &mut D, limits: Limits) -> Result<Reply, All
 
 fn answer_deliver<D: Desk>(desk: &mut D, finished: &Finished) -> Result<Reply, AllocError>
     ensures { (held : Jobs)
-        → Served (Exchanges D.step D.checkpoint_step)
+        → Progress (Exchanges D.step D.checkpoint_step)
         (call_once held (ToDeliver finished.now)) desk.old result held desk.new }
 {
     let _changes: &[Change] = &[];
@@ -189,7 +189,7 @@ fn keep_taken(held: &mut Vec<Job>, taken: Result<Taken, DeskRefused>) -> Result<
 }
 
 fn answer_take<D: Desk>(desk: &mut D, held: &mut Vec<Job>) -> Result<Reply, AllocError>
-    ensures { Served (Exchanges D.step D.checkpoint_step) (take_plan held.old.items) desk.old result held.new.items desk.new }
+    ensures { Progress (Exchanges D.step D.checkpoint_step) (take_plan held.old.items) desk.old result held.new.items desk.new }
 {
     if held.len() >= MOST_HELD {
         return Ok(Reply::Refused(Refusal::TooManyJobs));
@@ -212,7 +212,7 @@ fn held_job(held: &[Job], number: u64) -> Option<&Job>
 /// Runs a job, and delivers its result.
 fn answer_job<D: Desk>(alloc: Global, desk: &mut D, job: &Job) -> Result<Reply, AllocError>
     ensures { (held : Jobs)
-        → Served (Exchanges D.step D.checkpoint_step) (call_once held (ToDeliver job.now)) desk.old result held desk.new }
+        → Progress (Exchanges D.step D.checkpoint_step) (call_once held (ToDeliver job.now)) desk.old result held desk.new }
 {
     match job.run(alloc) {
         Ok(finished) => answer_deliver(desk, &finished),
@@ -226,7 +226,7 @@ fn answer_number<D: Desk>(
     held: &[Job],
     number: u64,
 ) -> Result<Reply, AllocError>
-    ensures { Served (Exchanges D.step D.checkpoint_step) (deliver_plan held.now number) desk.old result held.now desk.new }
+    ensures { Progress (Exchanges D.step D.checkpoint_step) (deliver_plan held.now number) desk.old result held.now desk.new }
 {
     match held_job(held, number) {
         None => Ok(Reply::Refused(Refusal::NoSuchJob)),
@@ -284,7 +284,7 @@ fn round_by(delivered: Result<Delivered, DeskRefused>) -> Result<Round, AllocErr
 /// Takes a job, runs it and delivers its result.
 fn work_once<D: Desk>(alloc: Global, desk: &mut D) -> Result<Round, AllocError>
     ensures { (held : Jobs) (count : ℕ) (more : ℕ → Plan)
-        → RoundServed (Exchanges D.step D.checkpoint_step) held count more desk.old result desk.new }
+        → RoundProgress (Exchanges D.step D.checkpoint_step) held count more desk.old result desk.new }
 {
     let taken = desk.take();
     let job = match job_or_round(taken) {
@@ -300,7 +300,7 @@ fn work_once<D: Desk>(alloc: Global, desk: &mut D) -> Result<Round, AllocError>
 }
 
 fn answer_work<D: Desk>(alloc: Global, desk: &mut D, turns: u64) -> Result<Reply, AllocError>
-    ensures { (held : Jobs) → Served (Exchanges D.step D.checkpoint_step) (work_plan held turns 0) desk.old result held desk.new }
+    ensures { (held : Jobs) → Progress (Exchanges D.step D.checkpoint_step) (work_plan held turns 0) desk.old result held desk.new }
 {
     let mut accepted = 0;
     for _round in 0..turns {
@@ -321,7 +321,7 @@ fn answer_work<D: Desk>(alloc: Global, desk: &mut D, turns: u64) -> Result<Reply
 /// Asks for the key of a kind and a name.
 fn answer_ask_named<D: Desk>(desk: &mut D, kind: Kind, unit: &str) -> Result<Reply, AllocError>
     ensures { (held : Jobs)
-        → Served (Exchanges D.step D.checkpoint_step)
+        → Progress (Exchanges D.step D.checkpoint_step)
         (with_name held (name_of unit.now)
         (λ name. call_once held
         (ToAsk (record { kind = kind; unit = name })))) desk.old result held desk.new }
@@ -337,7 +337,7 @@ fn answer_ask_named<D: Desk>(desk: &mut D, kind: Kind, unit: &str) -> Result<Rep
 /// Gives back the key of a kind and a name.
 fn answer_back_named<D: Desk>(desk: &mut D, kind: Kind, unit: &str) -> Result<Reply, AllocError>
     ensures { (held : Jobs)
-        → Served (Exchanges D.step D.checkpoint_step)
+        → Progress (Exchanges D.step D.checkpoint_step)
         (with_name held (name_of unit.now)
         (λ name. call_once held
         (ToGiveBack (record { kind = kind; unit = name })))) desk.old result held desk.new }
@@ -356,7 +356,7 @@ fn answer_request<D: Desk>(
     held: &mut Vec<Job>,
     request: &Request<'_>,
 ) -> Result<Reply, AllocError>
-    ensures { Served (Exchanges D.step D.checkpoint_step)
+    ensures { Progress (Exchanges D.step D.checkpoint_step)
         (plan_of held.old.items
         (Some (request_view request.now))) desk.old result held.new.items desk.new }
 {
@@ -378,7 +378,7 @@ pub(crate) fn answer<D: Desk>(
     held: &mut Vec<Job>,
     request: &Option<Request<'_>>,
 ) -> Result<Reply, AllocError>
-    ensures { Served (Exchanges D.step D.checkpoint_step)
+    ensures { Progress (Exchanges D.step D.checkpoint_step)
         (plan_of held.old.items
         (option_map request_view request.now)) desk.old result held.new.items desk.new }
 {

@@ -2,21 +2,21 @@
 ghost use Rattle.std.specs.Prelude.{◌≡◌, ℕ, List};
 ghost use Rattle.fb_bench.specs.Calls.{Exchange};
 ghost use Rattle.fb_bench.specs.Solo.{IsStep};
-ghost use Rattle.fb_bench.specs.History.Story.{Story};
-ghost use Rattle.fb_wire.specs.Ends.{AnsweredAll, IsBetweenLines, Stands};
-ghost use Rattle.fb_wire.specs.Talk.{Runs, answers_of};
+ghost use Rattle.fb_bench.specs.History.BenchView.{BenchView};
+ghost use Rattle.fb_wire.specs.Ends.{AnsweredAll, IsBetweenLines, OutputAt};
+ghost use Rattle.fb_wire.specs.Conversations.{Runs, answers_of};
 ghost use Rattle.fb_wire.specs.declared.end.RunEnd.{RunEnd};
 
 /// The bytes and the answers decide which calls and checkpoints are made and what is written, at each end that comes between two lines.
 pub fn one_talk()
     ensures { (stop : RunEnd) (bytes : List ℕ) (pairs others : List Exchange) (out written : List ℕ)
-        → IsBetweenLines stop → Stands stop bytes pairs out → Stands stop bytes others written
+        → IsBetweenLines stop → OutputAt stop bytes pairs out → OutputAt stop bytes others written
         → answers_of pairs ≡ answers_of others → (pairs ≡ others) × (out ≡ written) }
 {}
 
 /// The bytes and the workbench decide which calls and checkpoints are made, what is written and how the workbench is then.
 pub fn one_script()
-    ensures { (caller : ℕ) (bytes : List ℕ) (pairs others : List Exchange) (out written : List ℕ) (start left right : Story)
+    ensures { (caller : ℕ) (bytes : List ℕ) (pairs others : List Exchange) (out written : List ℕ) (start left right : BenchView)
         → AnsweredAll bytes pairs out → Runs (IsStep caller) start pairs left
         → AnsweredAll bytes others written → Runs (IsStep caller) start others right
         → (pairs ≡ others) × (out ≡ written) × (left ≡ right) }

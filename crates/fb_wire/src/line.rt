@@ -4,9 +4,9 @@ ghost use Rattle.fb_bench.specs.Calls.{Exchanges};
 ghost use Rattle.fb_wire.specs.Lines.{is_blank};
 ghost use Rattle.serde_json.specs.View.{view};
 ghost use Rattle.fb_messages.specs.Requests.{request_in, request_of};
-ghost use Rattle.fb_wire.specs.Served.{Served, LineServed, LineSaid, StopsInside};
+ghost use Rattle.fb_wire.specs.Progress.{Progress, LineProgress, LineSaid, StopsInside};
 ghost use Rattle.fb_streams.specs.Streams.{WritesAll, StaysFlushed};
-ghost use Rattle.fb_wire.specs.Talk.{plan_of};
+ghost use Rattle.fb_wire.specs.Conversations.{plan_of};
 
 use crate::answer::answer;
 use crate::end::RunEnd;
@@ -31,7 +31,7 @@ fn answer_value<D: Desk>(
     held: &mut Vec<Job>,
     value: &Value,
 ) -> Result<Reply, AllocError>
-    ensures { Served (Exchanges D.step D.checkpoint_step)
+    ensures { Progress (Exchanges D.step D.checkpoint_step)
         (plan_of held.old.items
         (request_in (view value.now))) desk.old result held.new.items desk.new }
 {
@@ -47,7 +47,7 @@ fn answer_bytes<D: Desk>(
     held: &mut Vec<Job>,
     line: &[u8],
 ) -> Result<Reply, AllocError>
-    ensures { Served (Exchanges D.step D.checkpoint_step)
+    ensures { Progress (Exchanges D.step D.checkpoint_step)
         (plan_of held.old.items (request_of line.now)) desk.old result held.new.items desk.new }
 {
     match Value::from_slice(alloc, line) {
@@ -70,7 +70,7 @@ fn answer_line<D: Desk>(
     room: Vec<u8>,
     line: &[u8],
 ) -> Result<Option<Vec<u8>>, AllocError>
-    ensures { LineServed (Exchanges D.step D.checkpoint_step) line.now held.old.items desk.old result held.new.items desk.new }
+    ensures { LineProgress (Exchanges D.step D.checkpoint_step) line.now held.old.items desk.old result held.new.items desk.new }
 {
     if is_blank(line) {
         return Ok(None);

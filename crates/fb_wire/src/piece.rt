@@ -3,7 +3,7 @@ ghost use Rattle.std.specs.Prelude.{◌≡◌, ◌↔◌, ◌≤◌, ◌<◌, �
 ghost use Rattle.fb_bench.specs.Calls.{Exchanges};
 ghost use Rattle.fb_streams.specs.Streams.{StaysFlushed};
 ghost use Rattle.fb_wire.specs.Lines.{IsLine};
-ghost use Rattle.fb_wire.specs.Served.{Extends, StopsInside};
+ghost use Rattle.fb_wire.specs.Progress.{Extends, StopsInside};
 ghost use Rattle.fb_wire.specs.Turns.{TakesPiece};
 
 use crate::end::RunEnd;

@@ -4,10 +4,10 @@ ghost use Rattle.std.specs.Io.KnownBytes.{Consumes, IsAtEnd};
 ghost use Rattle.fb_bench.specs.Calls.{Exchanges};
 ghost use Rattle.fb_bench.specs.Solo.{IsStep};
 ghost use Rattle.fb_streams.specs.Streams.{StaysFlushed};
-ghost use Rattle.fb_wire.specs.Ends.{IsTalk, streams};
+ghost use Rattle.fb_wire.specs.Ends.{IsConversation, streams};
 ghost use Rattle.fb_wire.specs.Script.{SaysBy};
 ghost use Rattle.fb_wire.specs.Turns.{StopsAtEnd, StopsRead, TakesPiece};
-ghost use Rattle.fb_wire.specs.Talk.{Runs};
+ghost use Rattle.fb_wire.specs.Conversations.{Runs};
 
 use crate::end::RunEnd;
 use crate::line::{Conversation, say_line};
@@ -92,7 +92,7 @@ pub fn run_lines<F: Feed, S: Sink, D: Desk>(
     requires reader { F.has_failed reader.old ≡ false }
     requires open { F.has_ended reader.old ≡ false }
     requires writer { S.has_failed writer.old ≡ false }
-    ensures talk { (talk : IsTalk result turns
+    ensures talk { (talk : IsConversation result turns
         (streams F.given F.left F.reads F.has_failed S.held S.is_flushed S.has_failed reader.old
         writer.old)
         (streams F.given F.left F.reads F.has_failed S.held S.is_flushed S.has_failed reader.new
@@ -121,7 +121,7 @@ fn run_solo<F: Feed, S: Sink>(
     requires reader { F.has_failed reader.old ≡ false }
     requires open { F.has_ended reader.old ≡ false }
     requires writer { S.has_failed writer.old ≡ false }
-    ensures run { (talk : IsTalk result turns
+    ensures run { (talk : IsConversation result turns
         (streams F.given F.left F.reads F.has_failed S.held S.is_flushed S.has_failed reader.old
         writer.old)
         (streams F.given F.left F.reads F.has_failed S.held S.is_flushed S.has_failed reader.new
@@ -146,7 +146,7 @@ pub fn run_script<F: Feed, S: Sink>(
     requires open { F.has_ended reader.old ≡ false }
     requires writer { S.has_failed writer.old ≡ false }
     // Each answer is the machine's, from the state before on: what is written is the script's output, or a front of it.
-    ensures { (talk : IsTalk result turns
+    ensures { (talk : IsConversation result turns
         (streams F.given F.left F.reads F.has_failed S.held S.is_flushed S.has_failed reader.old
         writer.old)
         (streams F.given F.left F.reads F.has_failed S.held S.is_flushed S.has_failed reader.new

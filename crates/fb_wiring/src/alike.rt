@@ -90,7 +90,7 @@ fn mention_the_same(a: &Mentions, b: &Mentions) -> bool
 
 /// Whether both texts declare a block type, with the same ports and the same mentions. Then no net of what rests on one of them tells which
 /// of them it is. Of other units it is not looked at.
-pub fn is_alike(alloc: Global, a: &Source, b: &Source) -> Result<bool, AllocError>
+pub fn has_same_interface(alloc: Global, a: &Source, b: &Source) -> Result<bool, AllocError>
     ensures { IfOk result (λ is. is ≡ true
         → AreAlikeBlocks (tree_of a.now.text) (tree_of b.now.text)) }
 {

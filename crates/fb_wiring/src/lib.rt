@@ -22,7 +22,7 @@ mod search;
 mod systems;
 mod tables;
 
-pub use alike::is_alike;
+pub use alike::has_same_interface;
 pub use composed::flat_of_applications;
 pub use counts::{Counts, add_count, count_of_unit};
 pub use flats::{add_flat, flat_of_type, is_missing};

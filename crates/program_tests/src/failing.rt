@@ -3,7 +3,7 @@ use crate::peers::{COMMIT, connect};
 use crate::servers::{long_line, talk};
 use fb_program::bench::Limits;
 use fb_program::wire::MemorySink;
-use fb_serve::{Numbers, serve_on};
+use fb_serve::{ServerConfig, serve_on};
 use std::alloc::Global;
 use std::io::{Read, Write};
 use std::net::{Net, OpenListener, TcpListener, TcpStream};
@@ -85,7 +85,7 @@ fn served<R: Threads + Wait + Clock + Sync>(
 ) -> (u8, bool) {
     let mut out = MemorySink::new(alloc, 8192, u64::MAX);
     let mut errors = Vec::new(alloc);
-    let numbers = Numbers {
+    let numbers = ServerConfig {
         workers: 1,
         sessions: 3,
         limits,
@@ -170,7 +170,7 @@ fn served_beside<R: Threads + Wait + Clock + Sync>(
 ) -> u8 {
     let mut out = MemorySink::new(alloc, 8192, u64::MAX);
     let mut errors = Errors { rt, said };
-    let numbers = Numbers {
+    let numbers = ServerConfig {
         workers: 1,
         sessions: 2,
         limits,

@@ -3,7 +3,7 @@ ghost use Rattle.std.specs.Thread.{IsSync};
 
 use fb_program::bench::Limits;
 use fb_program::wire::MemorySink;
-use fb_serve::{Numbers, serve, serve_on};
+use fb_serve::{ServerConfig, serve, serve_on};
 use std::alloc::{AllocError, Global};
 use std::io;
 use std::io::{Read, Write};
@@ -79,7 +79,7 @@ fn serve_in_memory<R: Threads + Wait + Clock + Sync>(
     rt: &R,
     alloc: Global,
     listener: &TcpListener,
-    numbers: Numbers,
+    numbers: ServerConfig,
     good_writes: u64,
 ) -> Result<Served, AllocError> {
     let mut out = MemorySink::new(alloc, 8192, good_writes);
@@ -162,7 +162,7 @@ fn serve_texts<R: Net<Listener = TcpListener, Stream = TcpStream> + Threads + Wa
 ) -> Result<Ended, Fail> {
     let listener = TcpListener::bind(rt, "127.0.0.1:0")?;
     let port = listener.local_addr()?.port();
-    let numbers = Numbers {
+    let numbers = ServerConfig {
         workers,
         sessions,
         limits,
@@ -340,7 +340,7 @@ fn serve_none<R: Net<Listener = TcpListener, Stream = TcpStream> + Threads + Wai
     port: u16,
     limits: Limits,
 ) -> (bool, bool) {
-    let numbers = Numbers {
+    let numbers = ServerConfig {
         workers: 1,
         sessions: 0,
         limits,

@@ -16,4 +16,4 @@ loop-it-preserved c units commits state agrees rights =
     let gives = c.into_iter-it-iterator.ensures.into_iter_gives in
     let turn = YieldsList-turn (YieldsList-from_vec found gives.0 (gives.1 ∙ c.args.found.ok.0)) c.loop-it.yielded c.loop-it.it-iterator c.loop-it.yielded_by c.next.result c.next.new.self it c.in-Some.is c.next.ensures.steps in
     let among : Contains found it = subst (λ (h : Hint). Contains found h) (sym turn.1) (Contains-get_or found (length c.loop-it.yielded) it turn.0) in
-    agrees_found units commits c.loop-it.entries c.keep_found.new.self state (net_key it.unit) it.value (c.loop-it.invariant units commits state agrees rights) (All-contains (IsNetOf state.units) found it rights among) c.keep_found.ensures.entries c.keep_found.ensures.ready
+    agrees_found units commits c.loop-it.entries c.store_precomputed.new.self state (net_key it.unit) it.value (c.loop-it.invariant units commits state agrees rights) (All-contains (IsNetOf state.units) found it rights among) c.store_precomputed.ensures.entries c.store_precomputed.ensures.ready

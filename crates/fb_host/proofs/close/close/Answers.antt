@@ -1,6 +1,6 @@
 use Rattle.std.proofs.Common.{List, None, sym, ◌∙◌, subst}
 use Rattle.fb_locked.specs.Closing.{AgreesWith, IsLeast}
-use Rattle.fb_locked.specs.Seats.{Claim}
+use Rattle.fb_locked.specs.Seats.{ReceiptView}
 use Rattle.fb_host.specs.Short.{is_short}
 use Rattle.fb_host.proofs.Shorts.{all_there, nobody}
 use Rattle.fb_host.proofs.close.close.Goals as goal
@@ -11,6 +11,6 @@ returns-clause-all c c' =
     let seats = c'.args.gathered.seats.items in
     let receipts = c'.into_receipts-receipts.result.items in
     let story = c'.in-Ok.closed.bench in
-    let agrees = subst (λ (l : List Claim). AgreesWith c'.args.shared.callers story seats l) c'.deref.ensures.value closed.0 in
+    let agrees = subst (λ (l : List ReceiptView). AgreesWith c'.args.shared.callers story seats l) c'.deref.ensures.value closed.0 in
     let none = nobody (is_short story c'.deref-2.result.now) c'.first_short.result (sym c'.is_some.ensures ∙ c'.if-is_some.false) c'.first_short.ensures in
-    all_there c'.args.shared.callers story seats receipts agrees (subst (λ (l : List Claim). IsLeast (is_short story l) None) c'.deref-2.ensures.value none)
+    all_there c'.args.shared.callers story seats receipts agrees (subst (λ (l : List ReceiptView). IsLeast (is_short story l) None) c'.deref-2.ensures.value none)

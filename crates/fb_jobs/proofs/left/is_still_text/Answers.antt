@@ -9,4 +9,4 @@ use Rattle.fb_jobs.proofs.left.is_still_text.Goals as goal
 pub returns : goal.returns
 returns c =
     let other = λ (e : c.args.name.now ≡ c.args.unit.now). true≢false (sym (at_itself c.args.unit.now) ∙ ap (λ (n : List ℕ). is_at (name_cmp n) c.args.unit.now) (sym e) ∙ sym c.same_name.ensures ∙ c.if-same_name.false) in
-    IfOk-weaker c.is_alike.result _ _ (λ is alike told. inr (other, alike told)) c.is_alike.ensures
+    IfOk-weaker c.has_same_interface.result _ _ (λ is alike told. inr (other, alike told)) c.has_same_interface.ensures

@@ -1,6 +1,6 @@
 use Rattle.std.proofs.Common.{◌≡◌, ap, ◌∙◌, arith, length, take, List, ℕ, subst}
 use Rattle.std.proofs.Math.Seq.{take-length}
-use Rattle.fb_locked.specs.Seats.{SeatState}
+use Rattle.fb_locked.specs.Seats.{SeatView}
 use Rattle.fb_locked.specs.Closing.{IsLeast, has_wrong_seat}
 use Rattle.fb_locked.proofs.Closings.{least_more, wrong_more}
 use Rattle.fb_locked.proofs.callers.wrong_seat.Goals as goal
@@ -18,4 +18,4 @@ pub returns : goal.returns
 returns c =
     let end : c.loop-seat.seat-index ≡ length c.args.seats.now = omega arith in
     let all : take c.loop-seat.seat-index c.args.seats.now ≡ c.args.seats.now = ap (λ (n : ℕ). take n c.args.seats.now) end ∙ take-length c.args.seats.now in
-    subst (λ (l : List SeatState). IsLeast (has_wrong_seat c.args.bench.now l) c.loop-seat.least) all c.loop-seat.invariant
+    subst (λ (l : List SeatView). IsLeast (has_wrong_seat c.args.bench.now l) c.loop-seat.least) all c.loop-seat.invariant

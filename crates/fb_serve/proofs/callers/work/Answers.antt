@@ -1,8 +1,8 @@
 use Rattle.std.proofs.Common.{ap, ◌∙◌}
-use Rattle.fb_shared.specs.Locked.Seats.{SeatState}
+use Rattle.fb_shared.specs.Locked.Seats.{SeatView}
 use Rattle.fb_serve.proofs.Counts.{adds_shown}
 use Rattle.fb_serve.proofs.callers.work.Goals as goal
 
 pub of-requires : goal.of-requires
 of-requires g c =
-    adds_shown _ _ _ _ (ap (λ (s : SeatState). s.turns) c.new-place.ensures.seat ∙ c.args.seat.is_new) c.new-place.ensures.none c.keep_working-end.ensures
+    adds_shown _ _ _ _ (ap (λ (s : SeatView). s.turns) c.new-place.ensures.seat ∙ c.args.seat.is_new) c.new-place.ensures.none c.keep_working-end.ensures

@@ -1,6 +1,6 @@
 use Rattle.std.proofs.Common.{List, subst}
 use Rattle.fb_shared.specs.Locked.Closing.{AgreesWith}
-use Rattle.fb_shared.specs.Locked.Seats.{Claim}
+use Rattle.fb_shared.specs.Locked.Seats.{ReceiptView}
 use Rattle.fb_serve.proofs.Counts.{all_shown}
 use Rattle.fb_serve.proofs.server.close.Goals as goal
 
@@ -10,5 +10,5 @@ returns-in-Ok-clause-all c =
     let seats = c.args.gathered.seats.items in
     let receipts = c.args.gathered.receipts.items in
     let story = c.in-Ok.closed.bench in
-    let agrees = subst (λ (l : List Claim). AgreesWith c.args.shared.callers story seats l) c.deref.ensures.value closed.0 in
+    let agrees = subst (λ (l : List ReceiptView). AgreesWith c.args.shared.callers story seats l) c.deref.ensures.value closed.0 in
     all_shown c.args.shared.callers story seats receipts agrees c.args.gathered.shown

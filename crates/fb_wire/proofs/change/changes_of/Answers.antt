@@ -7,8 +7,8 @@ use Rattle.fb_wire.specs.declared.change.ChangeFault.TheVariants as fault
 use Rattle.fb_messages.specs.declared.request.AskedChange.{AskedChange}
 use Rattle.fb_messages.specs.ReplyView.{refusal_text}
 use Rattle.fb_messages.specs.RequestView.{change_view}
-use Rattle.fb_wire.specs.Served.{ChangeMade, ChangesMade}
-use Rattle.fb_wire.specs.Talk.{edit_in, edits_in}
+use Rattle.fb_wire.specs.Progress.{ChangeMade, ChangesMade}
+use Rattle.fb_wire.specs.Conversations.{edit_in, edits_in}
 use Rattle.fb_wire.proofs.Changes.{one_more_edit, one_refused}
 use Rattle.fb_wire.proofs.change.changes_of.Goals as goal
 

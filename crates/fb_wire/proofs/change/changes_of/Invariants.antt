@@ -1,7 +1,7 @@
 use Rattle.std.proofs.Common.{◌≡◌, map, take, Ok}
 use Rattle.fb_library.specs.Changes.{edits_of}
 use Rattle.fb_messages.specs.RequestView.{change_view}
-use Rattle.fb_wire.specs.Talk.{edits_in}
+use Rattle.fb_wire.specs.Conversations.{edits_in}
 use Rattle.fb_wire.proofs.change.changes_of.Given as goal
 
 abbrev pub invariant-loop-one : goal.invariant-loop-one

@@ -1,6 +1,6 @@
 use Rattle.std.proofs.Common.{◌≡◌, ◌≤◌, ◌-◌, [], true, false, length, take, Ok}
 use Rattle.fb_bench.specs.Calls.{Exchanges}
-use Rattle.fb_wire.specs.Served.{PieceTaken}
+use Rattle.fb_wire.specs.Progress.{PieceTaken}
 use Rattle.fb_wire.proofs.piece.take_piece.Given as goal
 
 abbrev pub invariant-loop-at : goal.invariant-loop-at

@@ -1,7 +1,7 @@
 use Rattle.std.proofs.Common.{◌≡◌, ◌≤◌, length, ◌+◌, ◌++◌, [], List, ℕ, true, false, Ok}
 use Rattle.std.specs.Io.KnownBytes.{Consumes}
 use Rattle.fb_bench.specs.Calls.{Exchanges}
-use Rattle.fb_wire.specs.Served.{PieceTaken}
+use Rattle.fb_wire.specs.Progress.{PieceTaken}
 use Rattle.fb_wire.proofs.run.run_lines.Given as goal
 
 abbrev pub invariant-loop-turn : goal.invariant-loop-turn

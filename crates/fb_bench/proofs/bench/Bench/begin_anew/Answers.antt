@@ -1,15 +1,15 @@
 -- The history begins from the present state.
 use Rattle.std.proofs.Common.{◌≡◌, ◌∙◌, sym, ap, subst}
 use Rattle.fb_history.specs.Checkpoints.{checkpointed}
-use Rattle.fb_history.specs.Story.{Story}
-use Rattle.fb_bench.specs.Kept.{IsKept}
+use Rattle.fb_history.specs.BenchView.{BenchView}
+use Rattle.fb_bench.specs.Kept.{IsConsistent}
 use Rattle.fb_bench.proofs.Checkpointing.{kept_checkpointed, restarted_is}
 use Rattle.fb_bench.proofs.KeysKept.{out_listed, pending_listed}
 use Rattle.fb_bench.proofs.bench.Bench.begin_anew.Goals as goal
 
 pub invariant_of-self-2 : goal.invariant_of-self-2
 invariant_of-self-2 c =
-    let story : Story = c.self.inside.history in
+    let story : BenchView = c.self.inside.history in
     let kept = c.self.inside in
     let agrees = c.self.invariant.agrees in
     let begins = c.self.invariant.begins in
@@ -18,12 +18,12 @@ invariant_of-self-2 c =
     let out = c.in_ok-pending.ensures.out ∙ out_listed story begins kept.library kept.commits kept.entries agrees ordered in
     let is : c.restart.new.self ≡ checkpointed c.args.limits story =
     c.in_ok-restarted.ensures.ok ∙ restarted_is c.args.limits story _ _ _ _ (c.in_ok-library.ensures ∙ agrees.units_are) agrees.commits_are pending out in
-    subst (λ st. IsKept kept.library kept.commits kept.entries kept.index st) (sym is)
+    subst (λ st. IsConsistent kept.library kept.commits kept.entries kept.index st) (sym is)
     (kept_checkpointed kept.library kept.commits kept.entries kept.index c.args.limits story c.self.invariant)
 
 pub returns-clause-kept : goal.returns-clause-kept
 returns-clause-kept c =
-    let story : Story = c.self.inside.history in
+    let story : BenchView = c.self.inside.history in
     let kept = c.self.inside in
     let agrees = c.self.invariant.agrees in
     let begins = c.self.invariant.begins in
@@ -34,4 +34,4 @@ returns-clause-kept c =
     ∙ ap (checkpointed c.args.limits) c.self.view_is
 
 pub returns-clause-records : goal.returns-clause-records
-returns-clause-records c = c.in_ok-restarted.ensures.records ∙ ap (λ (st : Story). st.log.records) c.self.view_is
+returns-clause-records c = c.in_ok-restarted.ensures.records ∙ ap (λ (st : BenchView). st.log.records) c.self.view_is

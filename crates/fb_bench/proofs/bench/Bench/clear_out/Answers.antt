@@ -2,7 +2,7 @@
 use Rattle.std.proofs.Common.{◌≡◌, true, false, sym, ap, subst, ◌∙◌, arith}
 use Rattle.fb_history.specs.Machine.{State, ToGiveBack, OfGiveBack}
 use Rattle.fb_history.specs.declared.answers.GivenBack.TheVariants.{Returned}
-use Rattle.fb_history.specs.Story.{Story, logged, record_after, state_of}
+use Rattle.fb_history.specs.BenchView.{BenchView, logged, record_after, state_of}
 use Rattle.fb_bench.specs.Kept.{Agrees}
 use Rattle.fb_bench.proofs.Marks.{agrees_return_kept}
 use Rattle.fb_bench.proofs.Keeping.{kept_pushed}
@@ -11,7 +11,7 @@ use Rattle.fb_bench.proofs.bench.Bench.clear_out.Goals as goal
 
 pub invariant_of-self-2 : goal.invariant_of-self-2
 invariant_of-self-2 c =
-    let story : Story = c.self.inside.history in
+    let story : BenchView = c.self.inside.history in
     let s : State = state_of story in
     let key = c.args.key.now in
     let out : s.out key ≡ true = ap (λ st. (state_of st).out key) c.self.view_is ∙ c.requires.out in
@@ -23,7 +23,7 @@ invariant_of-self-2 c =
 
 pub returns : goal.returns
 returns c =
-    let story : Story = c.self.inside.history in
+    let story : BenchView = c.self.inside.history in
     let s : State = state_of story in
     let key = c.args.key.now in
     let out : s.out key ≡ true = ap (λ st. (state_of st).out key) c.self.view_is ∙ c.requires.out in

@@ -4,9 +4,9 @@ use Rattle.fb_entries.specs.Library.Texts.{Edit, unit_of}
 use Rattle.fb_entries.specs.Library.Changes.{edits_of}
 use Rattle.fb_history.specs.declared.answers.Committed.TheVariants.{Done}
 use Rattle.fb_history.specs.Machine.{State, ToCommit, commit_answer, reply}
-use Rattle.fb_history.specs.Story.{Story, logged, record_after, state_of, recorded, record_of}
+use Rattle.fb_history.specs.BenchView.{BenchView, logged, record_after, state_of, recorded, record_of}
 use Rattle.fb_bench.specs.Records.{listed, reply_of}
-use Rattle.fb_bench.specs.Kept.{Agrees, IsKept}
+use Rattle.fb_bench.specs.Kept.{Agrees, IsConsistent}
 use Rattle.fb_bench.specs.Outcomes.{answer_at}
 use Rattle.fb_entries.specs.Indexed.{IsIndexOf}
 use Rattle.fb_bench.proofs.Keeping.{kept_pushed}
@@ -22,7 +22,7 @@ overflow_add-number c =
 
 pub invariant_of-self-in-Refused : goal.invariant_of-self-in-Refused
 invariant_of-self-in-Refused c =
-    let story : Story = c.self.inside.history in
+    let story : BenchView = c.self.inside.history in
     let s : State = state_of story in
     let edits : List Edit = edits_of c.first_changes-changes.result.now in
     let refused = rw c.in-Refused.is at c.in_ok-outcome.ensures in
@@ -33,7 +33,7 @@ invariant_of-self-in-Refused c =
 
 pub returns-in_ok-share-in-Refused : goal.returns-in_ok-share-in-Refused
 returns-in_ok-share-in-Refused c =
-    let story : Story = c.self.inside.history in
+    let story : BenchView = c.self.inside.history in
     let s : State = state_of story in
     let edits : List Edit = edits_of c.first_changes-changes.result.now in
     let front : edits ≡ listed c.args.changes.now = ap edits_of c.first_changes-changes.ensures in
@@ -49,11 +49,11 @@ returns-in_ok-share-in-Refused c =
 
 pub invariant_of-self-in_err-share-in-Done : goal.invariant_of-self-in_err-share-in-Done
 invariant_of-self-in_err-share-in-Done c =
-    let story : Story = c.self.inside.history in
+    let story : BenchView = c.self.inside.history in
     let kept = c.self.invariant in
     let done = rw c.in-Done.is at c.in_ok-outcome.ensures in
     let new = c.record_with_room.new.entries in
-    subst (λ l. IsKept c.self.inside.library c.self.inside.commits new c.self.inside.index l) (sym c.in_err-share-in-Done.ensures.unlogged)
+    subst (λ l. IsConsistent c.self.inside.library c.self.inside.commits new c.self.inside.index l) (sym c.in_err-share-in-Done.ensures.unlogged)
     (record {
       begins = kept.begins;
       agrees = agrees_back c.self.inside.library c.in-Done.library c.self.inside.commits (map unit_of (edits_of c.first_changes-changes.result.now)) c.self.inside.entries new (state_of story) c.in-Done.found.renewal kept.agrees done.3 c.in_err-share-in-Done.ensures.back;
@@ -64,7 +64,7 @@ invariant_of-self-in_err-share-in-Done c =
 
 pub invariant_of-self-in-Done : goal.invariant_of-self-in-Done
 invariant_of-self-in-Done c =
-    let story : Story = c.self.inside.history in
+    let story : BenchView = c.self.inside.history in
     let s : State = state_of story in
     let edits : List Edit = edits_of c.first_changes-changes.result.now in
     let number : ℕ = c.self.inside.commits + 1 in
@@ -83,7 +83,7 @@ invariant_of-self-in-Done c =
 
 pub returns-in_ok-share-in-Done : goal.returns-in_ok-share-in-Done
 returns-in_ok-share-in-Done c =
-    let story : Story = c.self.inside.history in
+    let story : BenchView = c.self.inside.history in
     let s : State = state_of story in
     let edits : List Edit = edits_of c.first_changes-changes.result.now in
     let front : edits ≡ listed c.args.changes.now = ap edits_of c.first_changes-changes.ensures in

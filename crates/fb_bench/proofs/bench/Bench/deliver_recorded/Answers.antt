@@ -4,7 +4,7 @@ use Rattle.fb_entries.specs.Jobs.Reads.{PlainJob}
 use Rattle.fb_entries.specs.Jobs.Values.{all_seen}
 use Rattle.fb_history.specs.declared.answers.Delivered.TheVariants.{Accepted}
 use Rattle.fb_history.specs.Machine.{State, ToDeliver, deliver_answer}
-use Rattle.fb_history.specs.Story.{Story, state_of, logged, record_after}
+use Rattle.fb_history.specs.BenchView.{BenchView, state_of, logged, record_after}
 use Rattle.fb_bench.specs.Kept.{Agrees}
 use Rattle.fb_bench.proofs.Marks.{accepted_fresh, deliver_stays}
 use Rattle.fb_bench.proofs.Keeping.{kept_pushed}
@@ -32,7 +32,7 @@ returns-in_ok-share-in-Accepted-clause-answer c =
 
 pub invariant_of-self-in_default : goal.invariant_of-self-in_default
 invariant_of-self-in_default c =
-    let story : Story = c.self.inside.history in
+    let story : BenchView = c.self.inside.history in
     let s : State = state_of story in
     let now : PlainJob = c.args.finished.now in
     let judged : ◌≡◌ {A = PlainJob} (record { key = c.key.result; reads = all_seen c.reads.result.now }) now = λ i. record { key = c.key.ensures i; reads = c.reads.ensures.same i } in
@@ -45,7 +45,7 @@ invariant_of-self-in_default c =
 
 pub returns-in_ok-share-in_default : goal.returns-in_ok-share-in_default
 returns-in_ok-share-in_default c =
-    let story : Story = c.self.inside.history in
+    let story : BenchView = c.self.inside.history in
     let s : State = state_of story in
     let now : PlainJob = c.args.finished.now in
     let judged : ◌≡◌ {A = PlainJob} (record { key = c.key.result; reads = all_seen c.reads.result.now }) now = λ i. record { key = c.key.ensures i; reads = c.reads.ensures.same i } in

@@ -2,7 +2,7 @@
 use Rattle.std.proofs.Common.{◌≡◌, sym, ap, subst, ◌∙◌, arith, Some}
 use Rattle.fb_history.specs.Machine.{State, ToTake, reply, next}
 use Rattle.fb_bench.specs.Records.{reply_of}
-use Rattle.fb_history.specs.Story.{Story, state_of}
+use Rattle.fb_history.specs.BenchView.{BenchView, state_of}
 use Rattle.fb_bench.specs.Kept.{Agrees}
 use Rattle.fb_history.proofs.Least.{next_passes}
 use Rattle.fb_bench.proofs.Marks.{agrees_take}
@@ -12,7 +12,7 @@ use Rattle.fb_bench.proofs.bench.Bench.hand_out.Goals as goal
 
 pub invariant_of-self-2 : goal.invariant_of-self-2
 invariant_of-self-2 c =
-    let story : Story = c.self.inside.history in
+    let story : BenchView = c.self.inside.history in
     let s : State = state_of story in
     let key = c.args.key.now in
     let some : Some key ≡ next s = c.requires.next ∙ ap (λ st. next (state_of st)) (sym c.self.view_is) in
@@ -24,7 +24,7 @@ invariant_of-self-2 c =
 
 pub returns : goal.returns
 returns c =
-    let story : Story = c.self.inside.history in
+    let story : BenchView = c.self.inside.history in
     let s : State = state_of story in
     let answer : reply_of c.args.answer ≡ reply s ToTake = c.requires.answer ∙ ap (λ st. reply (state_of st) ToTake) (sym c.self.view_is) in
     record {

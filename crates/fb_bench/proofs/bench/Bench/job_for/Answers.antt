@@ -2,7 +2,7 @@
 use Rattle.std.proofs.Common.{◌≡◌, true, sym, ap, subst, refl, ◌∙◌, Some}
 use Rattle.fb_entries.specs.Jobs.Keys.{has_key}
 use Rattle.fb_history.specs.Machine.{State, ToTake, reply, next}
-use Rattle.fb_history.specs.Story.{Story, state_of}
+use Rattle.fb_history.specs.BenchView.{BenchView, state_of}
 use Rattle.fb_history.proofs.Least.{next_passes}
 use Rattle.fb_bench.proofs.Marks.{ready_has, all_found, all_kept}
 use Rattle.fb_history.proofs.Steps.{take_some}
@@ -10,7 +10,7 @@ use Rattle.fb_bench.proofs.bench.Bench.job_for.Goals as goal
 
 pub for_kept-requires-clause-has : goal.for_kept-requires-clause-has
 for_kept-requires-clause-has c =
-    let story : Story = c.self.inside.history in
+    let story : BenchView = c.self.inside.history in
     let s : State = state_of story in
     let key = c.args.key in
     let some : Some key ≡ next s = c.requires ∙ ap (λ st. next (state_of st)) (sym c.self.view_is) in
@@ -25,7 +25,7 @@ for_kept-requires-clause-found c = all_found (c.self.invariant.agrees)
 
 pub returns-clause-job : goal.returns-clause-job
 returns-clause-job c =
-    let story : Story = c.self.inside.history in
+    let story : BenchView = c.self.inside.history in
     let s : State = state_of story in
     let key = c.args.key in
     let some : Some key ≡ next s = c.requires ∙ ap (λ st. next (state_of st)) (sym c.self.view_is) in
@@ -34,7 +34,7 @@ returns-clause-job c =
 
 pub returns-clause-answer : goal.returns-clause-answer
 returns-clause-answer c =
-    let story : Story = c.self.inside.history in
+    let story : BenchView = c.self.inside.history in
     let s : State = state_of story in
     let key = c.args.key in
     let some : Some key ≡ next s = c.requires ∙ ap (λ st. next (state_of st)) (sym c.self.view_is) in

@@ -2,13 +2,13 @@
 use Rattle.std.proofs.Common.{length, sym, ap, ◌∙◌}
 use Rattle.std.proofs.lemmas.Map.Entries.{length-keys_of}
 use Rattle.fb_history.specs.Machine.{keys_of}
-use Rattle.fb_history.specs.Story.{Story, state_of}
+use Rattle.fb_history.specs.BenchView.{BenchView, state_of}
 use Rattle.fb_bench.proofs.KeysKept.{keys_are}
 use Rattle.fb_bench.proofs.bench.Bench.key_count.Goals as goal
 
 pub returns : goal.returns
 returns c =
-    let story : Story = c.self.inside.history in
+    let story : BenchView = c.self.inside.history in
     let kept = c.self.inside in
     c.len.ensures.len ∙ sym (length-keys_of kept.entries.entries)
     ∙ ap length (keys_are story c.self.invariant.begins kept.library kept.commits kept.entries c.self.invariant.agrees c.len.ensures.ordered)

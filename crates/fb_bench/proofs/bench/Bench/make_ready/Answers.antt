@@ -2,8 +2,8 @@
 use Rattle.std.proofs.Common.{◌≡◌, true, sym, ap, subst, ◌∙◌, arith}
 use Rattle.fb_history.specs.Machine.{State, ToGiveBack, OfGiveBack}
 use Rattle.fb_history.specs.declared.answers.GivenBack.TheVariants.{Returned}
-use Rattle.fb_history.specs.Story.{Story, logged, record_after, state_of}
-use Rattle.fb_bench.specs.Kept.{Agrees, IsKept}
+use Rattle.fb_history.specs.BenchView.{BenchView, logged, record_after, state_of}
+use Rattle.fb_bench.specs.Kept.{Agrees, IsConsistent}
 use Rattle.fb_bench.proofs.Marks.{agrees_return, agrees_same, agrees_unready}
 use Rattle.fb_bench.proofs.Keeping.{kept_pushed}
 use Rattle.fb_history.proofs.Steps.{story_pushed, share_pushed, out_returned, after_returned}
@@ -22,7 +22,7 @@ invariant_of-self c =
 
 pub invariant_of-self-in-Ok : goal.invariant_of-self-in-Ok
 invariant_of-self-in-Ok c =
-    let story : Story = c.self.inside.history in
+    let story : BenchView = c.self.inside.history in
     let s : State = state_of story in
     let key = c.args.key.now in
     let out : s.out key ≡ true = ap (λ st. (state_of st).out key) c.self.view_is ∙ c.requires.out in
@@ -34,7 +34,7 @@ invariant_of-self-in-Ok c =
 
 pub returns-in-Ok : goal.returns-in-Ok
 returns-in-Ok c =
-    let story : Story = c.self.inside.history in
+    let story : BenchView = c.self.inside.history in
     let s : State = state_of story in
     let key = c.args.key.now in
     let out : s.out key ≡ true = ap (λ st. (state_of st).out key) c.self.view_is ∙ c.requires.out in
@@ -46,12 +46,12 @@ returns-in-Ok c =
 
 pub invariant_of-self-in-Err : goal.invariant_of-self-in-Err
 invariant_of-self-in-Err c =
-    let story : Story = c.self.inside.history in
+    let story : BenchView = c.self.inside.history in
     let s : State = state_of story in
     let key = c.args.key.now in
     let out : s.out key ≡ true = ap (λ st. (state_of st).out key) c.self.view_is ∙ c.requires.out in
     let kept = c.self.invariant in
-    subst (λ l. IsKept c.self.inside.library c.self.inside.commits c.unmake_ready.new.self c.self.inside.index l) (sym c.in-Err.ensures.err)
+    subst (λ l. IsConsistent c.self.inside.library c.self.inside.commits c.unmake_ready.new.self c.self.inside.index l) (sym c.in-Err.ensures.err)
     (record {
       begins = kept.begins;
       agrees = agrees_unready _ _ c.self.inside.entries c.make_ready.new.self c.unmake_ready.new.self s key kept.agrees out c.make_ready.ensures.entries c.in_ok-make_ready.ensures.ok c.unmake_ready.ensures.entries c.unmake_ready.ensures.ready;

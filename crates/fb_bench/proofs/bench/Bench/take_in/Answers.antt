@@ -5,7 +5,7 @@ use Rattle.fb_entries.specs.Jobs.Reads.{PlainJob}
 use Rattle.fb_entries.specs.Jobs.Values.{finding_of}
 use Rattle.fb_history.specs.declared.answers.Delivered.TheVariants.{Accepted}
 use Rattle.fb_history.specs.Machine.{State, ToDeliver, OfDeliver, deliver_answer}
-use Rattle.fb_history.specs.Story.{Story, state_of, logged, record_after}
+use Rattle.fb_history.specs.BenchView.{BenchView, state_of, logged, record_after}
 use Rattle.fb_bench.specs.Kept.{Agrees}
 use Rattle.fb_bench.proofs.Marks.{agrees_deliver}
 use Rattle.fb_bench.specs.Founds.{HasNetsOf}
@@ -16,7 +16,7 @@ use Rattle.fb_bench.proofs.bench.Bench.take_in.Goals as goal
 
 pub invariant_of-self-2 : goal.invariant_of-self-2
 invariant_of-self-2 c =
-    let story : Story = c.self.inside.history in
+    let story : BenchView = c.self.inside.history in
     let s : State = state_of story in
     let now : PlainJob = c.args.finished.now in
     let accepted : Accepted ≡ deliver_answer s now = c.requires.accepted ∙ ap (λ st. deliver_answer (state_of st) now) (sym c.self.view_is) in
@@ -32,7 +32,7 @@ invariant_of-self-2 c =
 
 pub returns : goal.returns
 returns c =
-    let story : Story = c.self.inside.history in
+    let story : BenchView = c.self.inside.history in
     let s : State = state_of story in
     let now : PlainJob = c.args.finished.now in
     let accepted : Accepted ≡ deliver_answer s now = c.requires.accepted ∙ ap (λ st. deliver_answer (state_of st) now) (sym c.self.view_is) in

@@ -1,7 +1,7 @@
 -- Where nothing is next, that is recorded, and nothing else changes.
 use Rattle.std.proofs.Common.{◌≡◌, sym, ap, subst, ◌∙◌, arith, rules, None}
 use Rattle.fb_history.specs.Machine.{ToTake, next}
-use Rattle.fb_history.specs.Story.{Story, state_of}
+use Rattle.fb_history.specs.BenchView.{BenchView, state_of}
 use Rattle.fb_bench.specs.Kept.{Agrees}
 use Rattle.fb_bench.proofs.Keeping.{kept_pushed}
 use Rattle.fb_history.proofs.Steps.{story_pushed, share_pushed, take_none, stays_none}
@@ -9,7 +9,7 @@ use Rattle.fb_bench.proofs.bench.Bench.take_recorded.Goals as goal
 
 pub invariant_of-self-in-None : goal.invariant_of-self-in-None
 invariant_of-self-in-None c =
-    let story : Story = c.self.inside.history in
+    let story : BenchView = c.self.inside.history in
     let none : None ≡ next (state_of story) = c.in-None.ensures ∙ ap (λ st. next (state_of st)) (sym c.self.view_is) in
     kept_pushed _ _ _ _ story _ c.args.caller ToTake _ c.self.invariant.begins c.in_ok-share-in-None.ensures.ok (take_none (state_of story) none)
     (subst (λ s. Agrees c.self.inside.library c.self.inside.commits c.self.inside.entries s) (sym (stays_none (state_of story) none)) c.self.invariant.agrees)
@@ -17,7 +17,7 @@ invariant_of-self-in-None c =
 
 pub returns-in_ok-share-in-None : goal.returns-in_ok-share-in-None
 returns-in_ok-share-in-None c =
-    let story : Story = c.self.inside.history in
+    let story : BenchView = c.self.inside.history in
     let none : None ≡ next (state_of story) = c.in-None.ensures ∙ ap (λ st. next (state_of st)) (sym c.self.view_is) in
     record {
       step = story_pushed story _ _ c.args.caller ToTake _ c.self.view_is c.in_ok-share-in-None.ensures.ok (take_none (state_of story) none);

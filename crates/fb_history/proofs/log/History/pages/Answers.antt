@@ -1,6 +1,6 @@
 -- The kept pages.
 use Rattle.std.proofs.Common.{◌∙◌, ap}
-use Rattle.fb_history.specs.Story.{pages_after}
+use Rattle.fb_history.specs.BenchView.{pages_after}
 use Rattle.fb_history.proofs.log.History.pages.Goals as goal
 
 pub returns : goal.returns

@@ -17,41 +17,41 @@ enum Stored {
 }
 
 /// A name that is kept. A contract sees it as the list of its bytes.
-pub struct KeptName {
+pub struct CompactName {
     stored: Stored,
 }
 
-impl Drop for KeptName {
+impl Drop for CompactName {
     fn drop(self) {
         let Self { stored: _ } = self;
     }
 }
 
-impl Model for KeptName {
+impl Model for CompactName {
     ghost use Rattle.std.specs.Prelude.{List, ℕ};
 
     ghost Value = { List ℕ };
 
-    ghost use Rattle.fb_text.specs.Kept.{kept_name};
+    ghost use Rattle.fb_text.specs.Kept.{compact_name};
 
-    ghost view = { λ n. kept_name n.stored };
+    ghost view = { λ n. compact_name n.stored };
 }
 
 // Each name of a declaration takes so many bytes.
-const _: () = prove!(size_of::<KeptName>() == 24);
+const _: () = prove!(size_of::<CompactName>() == 24);
 
-impl KeptName {
+impl CompactName {
     ghost use Rattle.fb_text.specs.Spelling.{IsName};
 
     /// Keeps a name.
-    pub fn keep(alloc: Global, name: &Name) -> Result<KeptName, AllocError>
+    pub fn keep(alloc: Global, name: &Name) -> Result<CompactName, AllocError>
         ensures { IfOk result (λ kept. kept ≡ name.now) }
     {
         let stored = match name.shortened() {
             Some(short) => Stored::Short(short),
             None => Stored::Long(Box::new(alloc, *name)?),
         };
-        Ok(KeptName { stored })
+        Ok(CompactName { stored })
     }
 
     /// The name.
@@ -92,19 +92,19 @@ impl KeptName {
     }
 }
 
-impl Clone for KeptName {
+impl Clone for CompactName {
     ghost is_clone = { λ name copy. copy ≡ name };
 
-    fn clone(&self) -> Result<KeptName, AllocError> {
+    fn clone(&self) -> Result<CompactName, AllocError> {
         let stored = match &self.stored {
             Stored::Short(name) => Stored::Short(*name),
             Stored::Long(name) => Stored::Long(name.clone()?),
         };
-        Ok(KeptName { stored })
+        Ok(CompactName { stored })
     }
 }
 
-impl fmt::Debug for KeptName {
+impl fmt::Debug for CompactName {
     fn fmt<W: fmt::Write>(&self, f: &mut fmt::Formatter<W>) -> fmt::Result {
         fmt::Debug::fmt(self.as_str(), f)
     }

@@ -73,7 +73,7 @@ abbrev pub empty_origin : ℕ → Origin
 empty_origin most_units = record { most_units = most_units; units = []; commits = 0; pending = []; out = []; before = 0; pages = [] }
 
 -- a workbench: all else follows from what it begins from and its history
-pub record Story : Type 0 where
+pub record BenchView : Type 0 where
   pub origin : Origin
   pub log : Log
 
@@ -102,29 +102,29 @@ record_at records zero = None
 record_at records (suc place) = slice_get records place
 
 -- the number of the last call
-abbrev pub last_number : Story → ℕ
+abbrev pub last_number : BenchView → ℕ
 last_number story = story.origin.before + length story.log.records
 
 -- the record of this number: none up to the calls before the history begins
-abbrev pub record_numbered : Story → ℕ → Option Record
+abbrev pub record_numbered : BenchView → ℕ → Option Record
 record_numbered story number = record_at story.log.records (number - story.origin.before)
 
 -- how many calls of the caller were recorded, those before included
-abbrev pub all_turns : Story → ℕ → ℕ
+abbrev pub all_turns : BenchView → ℕ → ℕ
 all_turns story caller = on_page story.origin.pages caller + turns_of caller story.log.records
 
 -- each turn counts its caller's calls up to there
-abbrev pub AreTurns : Story → Type 0
+abbrev pub AreTurns : BenchView → Type 0
 AreTurns story =
     (place : ℕ) (it : Record) → record_at story.log.records place ≡ Some it
     → it.turn ≡ on_page story.origin.pages it.caller + turns_of it.caller (take place story.log.records)
 
 -- one more call and its answer, after those of the story
-abbrev pub record_after : Story → ℕ → Call → Reply → Record
+abbrev pub record_after : BenchView → ℕ → Call → Reply → Record
 record_after story caller call answer = record { caller = caller; turn = all_turns story caller + 1; call = call; reply = answer }
 
 -- the story with one more call and its answer
-abbrev pub logged : Story → ℕ → Call → Reply → Story
+abbrev pub logged : BenchView → ℕ → Call → Reply → BenchView
 logged story caller call answer =
     record {
       origin = story.origin;
@@ -132,7 +132,7 @@ logged story caller call answer =
     }
 
 -- an empty workbench with these limits
-abbrev pub new_story : ℕ → ℕ → Story
+abbrev pub new_story : ℕ → ℕ → BenchView
 new_story most_units limit = record { origin = empty_origin most_units; log = record { limit = limit; records = [] } }
 
 -- as many calls are recorded as may be
@@ -140,21 +140,21 @@ abbrev pub IsFull : Log → Type 0
 IsFull log = log.limit ≤ length log.records
 
 -- where the history has led to
-abbrev pub state_of : Story → State
+abbrev pub state_of : BenchView → State
 state_of story = replay (opened story.origin) (calls_of story.log)
 
 -- what the machine answers to a call there
-abbrev pub reply_at : Story → Call → Reply
+abbrev pub reply_at : BenchView → Call → Reply
 reply_at story call = reply (state_of story) call
 
 -- the story with one more call, and the answer that the machine gives to it
-abbrev pub recorded : Story → ℕ → Call → Story
+abbrev pub recorded : BenchView → ℕ → Call → BenchView
 recorded story caller call = logged story caller call (reply_at story call)
 
 -- the record that a call adds to the story
-abbrev pub record_of : Story → ℕ → Call → Record
+abbrev pub record_of : BenchView → ℕ → Call → Record
 record_of story caller call = record_after story caller call (reply_at story call)
 
 -- each stored answer is the machine's at its place
-abbrev pub IsReplay : Story → Type 0
+abbrev pub IsReplay : BenchView → Type 0
 IsReplay story = replies (opened story.origin) (calls_of story.log) ≡ replies_of story.log

@@ -4,7 +4,7 @@ use Rattle.fb_jobs.specs.KeyOrder.{same_key}
 use Rattle.fb_entries.specs.declared.entry.Entry.{Entry}
 use Rattle.fb_entries.specs.Marking.{with_found}
 use Rattle.fb_entries.proofs.Writes.{written, unwritten}
-use Rattle.fb_entries.proofs.entry.keep_found.Goals as goal
+use Rattle.fb_entries.proofs.entry.store_precomputed.Goals as goal
 
 pub returns-in-Some : goal.returns-in-Some
 returns-in-Some c =

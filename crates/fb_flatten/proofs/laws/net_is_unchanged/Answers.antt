@@ -1,6 +1,6 @@
 -- The law is the lemma on texts that say the same.
 use Rattle.fb_flatten.proofs.NetLeft.{net_left}
-use Rattle.fb_flatten.proofs.laws.net_is_left.Goals as goal
+use Rattle.fb_flatten.proofs.laws.net_is_unchanged.Goals as goal
 
 pub returns : goal.returns
 returns c = net_left

@@ -1,6 +1,6 @@
 -- The law is the lemma on texts that leave a net as it was.
 use Rattle.fb_deploy.proofs.PlanLeft.{plan_left}
-use Rattle.fb_deploy.proofs.laws.plan_is_left.Goals as goal
+use Rattle.fb_deploy.proofs.laws.plan_is_unchanged.Goals as goal
 
 pub returns : goal.returns
 returns c = plan_left

@@ -146,8 +146,8 @@ plan_of held (Some (asked.checkpoint limits)) = checkpoint_once held limits
 -- ---- lines
 
 -- what one line asks and is told, with the jobs that are held before it and after it
-abbrev pub LineTalk : List ℕ → Jobs → List Exchange → List ℕ → Jobs → Type 0
-LineTalk line held pairs out after =
+abbrev pub AnswersLine : List ℕ → Jobs → List Exchange → List ℕ → Jobs → Type 0
+AnswersLine line held pairs out after =
     MatchBool (is_blank line) ((pairs ≡ []) × (out ≡ []) × (after ≡ held))
     ((reply : Data) × Leads (plan_of held (request_of line)) pairs (says reply after) × (out ≡ reply_line reply))
 
@@ -158,11 +158,11 @@ LinePart IsPart line held begun part =
     ((rest : Plan) × Leads (plan_of held (request_of line)) begun rest × IsPart rest part)
 
 -- the lines, one after another; none of them is too long
-abbrev pub Talk : List (List ℕ) → Jobs → List Exchange → List ℕ → Jobs → Type 0
-Talk [] held pairs out after = (pairs ≡ []) × (out ≡ []) × (after ≡ held)
-Talk (line ∷ lines) held pairs out after =
+abbrev pub AnswersLines : List (List ℕ) → Jobs → List Exchange → List ℕ → Jobs → Type 0
+AnswersLines [] held pairs out after = (pairs ≡ []) × (out ≡ []) × (after ≡ held)
+AnswersLines (line ∷ lines) held pairs out after =
     (first rest : List Exchange) × (said more : List ℕ) × (mid : Jobs) × (pairs ≡ first ++ rest) × (out ≡ said ++ more)
-    × Fits line × LineTalk line held first said mid × Talk lines mid rest more after
+    × Fits line × AnswersLine line held first said mid × AnswersLines lines mid rest more after
 
 -- from the first state to the second by these calls and checkpoints with these answers
 abbrev pub Runs : {S : Type 0} → (S → Exchange → S → Type 0) → S → List Exchange → S → Type 0

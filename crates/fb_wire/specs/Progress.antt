@@ -17,10 +17,10 @@ use Rattle.fb_wire.specs.declared.change.ChangeFault.{ChangeFault}
 use Rattle.fb_wire.specs.declared.change.ChangeFault.TheVariants as fault
 use Rattle.fb_wire.specs.Lines.{Fits, IsTooLong, lines_of, is_blank}
 use Rattle.fb_messages.specs.Requests.{request_of}
-use Rattle.fb_wire.specs.Ends.{IsFrontOfReply, IsNothing, Stands}
+use Rattle.fb_wire.specs.Ends.{IsFrontOfReply, IsNothing, OutputAt}
 use Rattle.fb_wire.specs.declared.end.RunEnd.{RunEnd}
 use Rattle.fb_wire.specs.declared.end.RunEnd.TheVariants as end
-use Rattle.fb_wire.specs.Talk.{plan_of, LineTalk, Talk, Jobs, Plan, says, asks, Leads, Runs, after_take, held_after}
+use Rattle.fb_wire.specs.Conversations.{plan_of, AnswersLine, AnswersLines, Jobs, Plan, says, asks, Leads, Runs, after_take, held_after}
 use Rattle.fb_messages.specs.Replies.{work_done, work_refused, reply_line}
 use Rattle.fb_wire.specs.Said.{said_to}
 use Rattle.fb_messages.specs.ReplyView.{data_of, refusal_text}
@@ -33,13 +33,13 @@ use Rattle.fb_wire.specs.declared.answer.Taking.{Taking}
 use Rattle.fb_wire.specs.declared.answer.Taking.TheVariants.{Job, Ended}
 
 -- some calls and checkpoints of the plan lead the desk from old to new, and this is left of it
-abbrev pub Reaches : {S : Type 0} → (S → Exchange → S → Type 0) → Plan → S → Plan → S → Type 0
-Reaches Step plan old rest new = (pairs : List Exchange) × Leads plan pairs rest × Runs Step old pairs new
+abbrev pub ProgressTo : {S : Type 0} → (S → Exchange → S → Type 0) → Plan → S → Plan → S → Type 0
+ProgressTo Step plan old rest new = (pairs : List Exchange) × Leads plan pairs rest × Runs Step old pairs new
 
 -- the plan came to its reply, or memory ran out on the way
-abbrev pub Served : {S : Type 0} → (S → Exchange → S → Type 0) → Plan → S → Result Reply AllocError → Jobs → S → Type 0
-Served Step plan old (Ok reply) held new = Reaches Step plan old (says (data_of reply) held) new
-Served Step plan old (Err e) held new = (rest : Plan) × Reaches Step plan old rest new
+abbrev pub Progress : {S : Type 0} → (S → Exchange → S → Type 0) → Plan → S → Result Reply AllocError → Jobs → S → Type 0
+Progress Step plan old (Ok reply) held new = ProgressTo Step plan old (says (data_of reply) held) new
+Progress Step plan old (Err e) held new = (rest : Plan) × ProgressTo Step plan old rest new
 
 -- the answer of a desk that does not record a call, or none for want of memory
 abbrev pub unrecorded : DeskRefused → Option Answer
@@ -78,9 +78,9 @@ left_after held count more rounds.Refused = more count
 left_after held count more rounds.Nothing = says (work_done count) held
 left_after held count more (rounds.Stopped refusal) = says (work_refused count (refusal_text refusal)) held
 
-abbrev pub RoundServed : {S : Type 0} → (S → Exchange → S → Type 0) → Jobs → ℕ → (ℕ → Plan) → S → Result Round AllocError → S → Type 0
-RoundServed Step held count more old (Ok round) new = Reaches Step (asks ToTake (after_take held count more)) old (left_after held count more round) new
-RoundServed Step held count more old (Err e) new = (rest : Plan) × Reaches Step (asks ToTake (after_take held count more)) old rest new
+abbrev pub RoundProgress : {S : Type 0} → (S → Exchange → S → Type 0) → Jobs → ℕ → (ℕ → Plan) → S → Result Round AllocError → S → Type 0
+RoundProgress Step held count more old (Ok round) new = ProgressTo Step (asks ToTake (after_take held count more)) old (left_after held count more round) new
+RoundProgress Step held count more old (Err e) new = (rest : Plan) × ProgressTo Step (asks ToTake (after_take held count more)) old rest new
 
 -- the job is the one that was taken, or the round says how the answer ends the work
 abbrev pub Takes : Option Answer → Result Taking AllocError → Type 0
@@ -97,12 +97,12 @@ KeepsTaken old (Some answer) (Some reply) new = (reply ≡ said_to (length old +
 -- ---- lines
 
 -- what was said to a line: nothing to a blank one
-abbrev pub LineServed : {S : Type 0} → (S → Exchange → S → Type 0) → List ℕ → Jobs → S → Result (Option (Vec ℕ Global)) AllocError → Jobs → S → Type 0
-LineServed Step line old_jobs old (Ok None) jobs new = (is_blank line ≡ true) × (jobs ≡ old_jobs) × (new ≡ old)
-LineServed Step line old_jobs old (Ok (Some out)) jobs new =
-    (is_blank line ≡ false) × (reply : Data) × Reaches Step (plan_of old_jobs (request_of line)) old (says reply jobs) new × (out.items ≡ reply_line reply)
-LineServed Step line old_jobs old (Err e) jobs new =
-    (is_blank line ≡ false) × (rest : Plan) × Reaches Step (plan_of old_jobs (request_of line)) old rest new
+abbrev pub LineProgress : {S : Type 0} → (S → Exchange → S → Type 0) → List ℕ → Jobs → S → Result (Option (Vec ℕ Global)) AllocError → Jobs → S → Type 0
+LineProgress Step line old_jobs old (Ok None) jobs new = (is_blank line ≡ true) × (jobs ≡ old_jobs) × (new ≡ old)
+LineProgress Step line old_jobs old (Ok (Some out)) jobs new =
+    (is_blank line ≡ false) × (reply : Data) × ProgressTo Step (plan_of old_jobs (request_of line)) old (says reply jobs) new × (out.items ≡ reply_line reply)
+LineProgress Step line old_jobs old (Err e) jobs new =
+    (is_blank line ≡ false) × (rest : Plan) × ProgressTo Step (plan_of old_jobs (request_of line)) old rest new
 
 -- what of a reply's line was written where the run stops
 abbrev pub IsPartAt : RunEnd → Plan → List ℕ → Type 0
@@ -112,7 +112,7 @@ IsPartAt _ rest part = ⊥
 
 abbrev pub LineSaid : {S : Type 0} → (S → Exchange → S → Type 0) → List ℕ → Jobs → S → List ℕ → Result ⊤ RunEnd → Jobs → S → List ℕ → Type 0
 LineSaid Step line old_jobs old old_held (Ok u) jobs new held =
-    (pairs : List Exchange) × (out : List ℕ) × LineTalk line old_jobs pairs out jobs × Runs Step old pairs new × (held ≡ old_held ++ out)
+    (pairs : List Exchange) × (out : List ℕ) × AnswersLine line old_jobs pairs out jobs × Runs Step old pairs new × (held ≡ old_held ++ out)
 LineSaid Step line old_jobs old old_held (Err stop) jobs new held =
     (pairs : List Exchange) × (part : List ℕ) × (rest : Plan) × (is_blank line ≡ false) × Leads (plan_of old_jobs (request_of line)) pairs rest
     × Runs Step old pairs new × (held ≡ old_held ++ part) × IsPartAt stop rest part
@@ -120,17 +120,17 @@ LineSaid Step line old_jobs old old_held (Err stop) jobs new held =
 -- ---- bytes
 
 -- all lines that have their line feed were answered, and this has come of the next one
-abbrev pub Standing : {S : Type 0} → (S → Exchange → S → Type 0) → S → List ℕ → List ℕ → Jobs → List ℕ → S → Type 0
-Standing Step start given partial jobs out new =
-    (lines : List (List ℕ)) × (pairs : List Exchange) × (lines_of given ≡ lines ++ partial ∷ []) × Fits partial × Talk lines [] pairs out jobs × Runs Step start pairs new
+abbrev pub ConversationAt : {S : Type 0} → (S → Exchange → S → Type 0) → S → List ℕ → List ℕ → Jobs → List ℕ → S → Type 0
+ConversationAt Step start given partial jobs out new =
+    (lines : List (List ℕ)) × (pairs : List Exchange) × (lines_of given ≡ lines ++ partial ∷ []) × Fits partial × AnswersLines lines [] pairs out jobs × Runs Step start pairs new
 
 -- A piece of the bytes was taken, whatever came before it; or the run stops in it, with these bytes behind it.
 abbrev pub PieceTaken : {S : Type 0} → (S → Exchange → S → Type 0) → S → List ℕ → Jobs → List ℕ → List ℕ → List ℕ → Result ⊤ RunEnd → S → List ℕ → Jobs → List ℕ → Type 0
 PieceTaken {S} Step old old_line old_jobs old_held piece behind result new line jobs held =
-    (start : S) (given out : List ℕ) → Standing Step start given old_line old_jobs out old →
+    (start : S) (given out : List ℕ) → ConversationAt Step start given old_line old_jobs out old →
     MatchResult result
-    (λ _. (more : List ℕ) × (held ≡ old_held ++ more) × Standing Step start (given ++ piece) line jobs (out ++ more) new)
-    (λ stop. (more : List ℕ) × (pairs : List Exchange) × (held ≡ old_held ++ more) × Runs Step start pairs new × Stands stop (given ++ (piece ++ behind)) pairs (out ++ more))
+    (λ _. (more : List ℕ) × (held ≡ old_held ++ more) × ConversationAt Step start (given ++ piece) line jobs (out ++ more) new)
+    (λ stop. (more : List ℕ) × (pairs : List Exchange) × (held ≡ old_held ++ more) × Runs Step start pairs new × OutputAt stop (given ++ (piece ++ behind)) pairs (out ++ more))
 
 -- the line has the bytes at its end, unless it would be too long or memory ran out
 abbrev pub Extends : List ℕ → List ℕ → Result ⊤ RunEnd → List ℕ → Type 0
