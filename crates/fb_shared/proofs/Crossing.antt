@@ -38,6 +38,7 @@ use Rattle.fb_locked.specs.Placing.contracts.command.Command as Command
 use Rattle.fb_locked.specs.Placing.contracts.resources.ResourcePlan as ResourcePlan
 use Rattle.fb_locked.specs.Deploy.contracts.planning.Deploy as Deploy
 use Rattle.fb_locked.specs.Jobs.contracts.value.Value as Value
+use Rattle.fb_locked.specs.Jobs.contracts.read.Read as Read
 use Rattle.fb_locked.specs.Jobs.contracts.made.Made as Made
 use Rattle.fb_locked.specs.History.contracts.record.Call as Call
 use Rattle.fb_locked.specs.History.contracts.answers.Asked as Asked
@@ -373,8 +374,20 @@ value_field_sync = search (fault_sync, net_field_sync, deploy_field_sync, crosse
 pub value_sync : IsSync Value.the_row
 value_sync = search (value_field_sync, crosses, maps.crosses, sendable) depth 60 fits 20000
 
+pub read_field_send : IsSend (Read.the_field).row
+read_field_send = search (source_field_send, source_field_sync, crosses, maps.crosses, sendable) depth 60 fits 20000
+
+pub read_send : IsSend Read.the_row
+read_send = search (read_field_send, crosses, maps.crosses, sendable) depth 60 fits 20000
+
+pub read_field_sync : IsSync (Read.the_field).row
+read_field_sync = search (source_field_send, source_field_sync, crosses, maps.crosses, sendable) depth 60 fits 20000
+
+pub read_sync : IsSync Read.the_row
+read_sync = search (read_field_sync, crosses, maps.crosses, sendable) depth 60 fits 20000
+
 pub made_field_send : IsSend (Made.the_field).row
-made_field_send = search (value_send, value_sync, wanted_send, wanted_sync, crosses, maps.crosses, sendable) depth 60 fits 20000
+made_field_send = search (value_send, value_sync, read_send, read_sync, crosses, maps.crosses, sendable) depth 60 fits 20000
 
 pub call_field_send : IsSend (Call.the_field).row
 call_field_send = search (wanted_send, crosses, maps.crosses, sendable) depth 60 fits 20000
