@@ -1,12 +1,16 @@
 """Words and phrases that hand-written documents do without, each with a plainer one.
 
 tools/plain_words.py FILE..     prints what it finds in these files; the status is 1 if it finds anything
+tools/plain_words.py --crates   the same of the `//!` and `///` lines of all crates
 
-tools/check-docs asks for the pages of PAGES, and those of wrong bodies. Code, quoted output, the targets of links and what tools make are not read, nor are
-the `///` lines of crates: a change there has them proved again. A page is added to PAGES once it has none of these words."""
+tools/check-docs asks for the pages of PAGES and those of wrong bodies, and for the lines of crates if READS_CRATES is set. Code, quoted output, the targets
+of links and what tools make are not read. A page is added to PAGES once it has none of these words."""
+import glob
+import os
 import re
 import sys
 
+READS_CRATES = False
 PAGES = {
     "README.md",
     "benchmarks/plain/README.md",
@@ -100,8 +104,24 @@ def faults(page, text):
     return [words for _, words in sorted(found_in(page, text))] if page in PAGES or page.endswith("/must-fail/README.md") else []
 
 
+def lines_of_crates():
+    """The `//!` and `///` lines of the code of each crate, by file, with blanks in the place of all other lines."""
+    top = os.path.dirname(os.path.dirname(os.path.abspath(__file__)))
+    for path in sorted(glob.glob(f"{top}/crates/*/src/**/*.rt", recursive=True)):
+        with open(path, encoding="utf-8") as it:
+            yield os.path.relpath(path, top), "\n".join((re.findall(r"^\s*//[/!] ?(.*)$", line) or [""])[0] for line in it.read().split("\n"))
+
+
+def faults_of_crates():
+    """What check-docs prints of the lines of crates."""
+    return [words for path, text in lines_of_crates() for _, words in sorted(found_in(path, text))]
+
+
 def main(paths):
     count = 0
+    if paths == ["--crates"]:
+        print(*faults_of_crates(), sep="\n")
+        return 1 if faults_of_crates() else 0
     for path in paths:
         with open(path, encoding="utf-8") as it:
             found = sorted(found_in(path, it.read()))
