@@ -1,10 +1,11 @@
 """Makes docs/HEADLINE.md: all definitions on which a promise rests, each after those that it uses.
 
-A definition is an item of a file of specs/, with the comment above it; a type of the program that definitions name is listed with its Rust text. What the
-kit defines (numbers, lists, options) is not listed. `tools/check-docs` compares the page with what would be made now, and `tools/check-docs --mend` makes it."""
+A definition is an item of a file of specs/, with the comment above it; a type or constant of the program that definitions name is listed with its Rust text,
+and a trait that a call is generic in with what its methods ensure. What the kit defines (numbers, lists, options) is not listed. `tools/check-docs` compares the page with what would be made now, and `tools/check-docs --mend` makes it."""
 import functools
 import os
 import re
+import textwrap
 from dataclasses import dataclass, field
 
 import code_parts as parts
@@ -31,6 +32,7 @@ SECTIONS = (
 ITEM = re.compile(r"(?:abbrev |unfoldable )?(?:pub )?(record |data )?([^\s:(){}]+)(?= ?[:({]| :)")
 WORD = re.compile(r"(?<![\w'.])((?:[A-Za-z_][\w'-]*\.)*[A-Za-z_][\w'-]*|◌[^\s◌]+◌)")
 USE = re.compile(r"(?:pub )?use ([\w.]+?)(?:\.\{(.*)\}| as (\w+))?$")
+MUTUAL = re.compile(r"(?:abbrev |unfoldable )?mutual$")
 WORDS = {"abbrev", "pub", "record", "data", "where", "let", "in", "if", "then", "else", "Type", "use", "unfoldable", "module", "λ"}
 
 
@@ -41,6 +43,7 @@ class Definition:
     name: str
     text: str
     members: set = field(default_factory=set)
+    cites: list = field(default_factory=list)
 
     @property
     def title(self):
@@ -69,11 +72,19 @@ def imports(lines):
     return names, modules
 
 
-def members_of(head, lines):
+def members_of(head, lines, indent):
     """The constructors and fields of a type."""
     if not head:
         return set()
-    return {found[1] for line in lines if (found := re.match(r"  (?:pub )?([\w'-]+) :", line))}
+    return {found[1] for line in lines if (found := re.match(rf"{indent}  (?:pub )?([\w'-]+) :", line))}
+
+
+def indents(lines):
+    """By how many blanks the definitions of each line of a file are set in: those of a module and of a `mutual` block by two."""
+    whole, inside = any(it.startswith("module _") for it in lines), False
+    for line in lines:
+        inside = bool(MUTUAL.match(line)) or inside and (not line.strip() or line.startswith("  "))
+        yield "  " if whole or inside else ""
 
 
 def begins(lines, at, indent, current):
@@ -93,10 +104,10 @@ def read(path):
     lines = parts.text_of(path).split("\n")
     names, modules = imports(lines)
     found, heads, current = {}, [], None
-    indent = "  " if any(it.startswith("module _") for it in lines) else ""
+    ahead = list(indents(lines))
     for at in range(len(lines)):
-        for ahead in {indent, ""}:
-            if head := begins(lines, at, ahead, current):
+        for indent in {ahead[at], ""}:
+            if head := begins(lines, at, indent, current):
                 current = head[2]
                 heads.append((at, head))
                 break
@@ -104,18 +115,18 @@ def read(path):
         above, behind = at, end
         while above > 0 and lines[above - 1].strip().startswith("-- ") and "----" not in lines[above - 1]:
             above -= 1
-        while behind > at + 1 and (not lines[behind - 1].strip() or lines[behind - 1].strip().startswith("--")):
+        while behind > at + 1 and (not lines[behind - 1].strip() or lines[behind - 1].strip().startswith("--") or MUTUAL.match(lines[behind - 1])):
             behind -= 1
-        members = members_of(head[1], lines[at + 1 : behind])
-        found[head[2]] = Definition(path, at + 1, head[2], "\n".join(lines[above:behind]), members)
+        members = members_of(head[1], lines[at + 1 : behind], ahead[at])
+        found[head[2]] = Definition(path, at + 1, head[2], textwrap.dedent("\n".join(lines[above:behind])), members)
     return File(found, names, modules)
 
 
-def rust_type(crate, name):
-    """A type of the program, as a definition."""
+def rust_item(crate, name):
+    """A type or a constant of the program, as a definition."""
     for path in parts.files(f"crates/{crate}/src/**/*.rt"):
         text = parts.text_of(path)
-        if found := re.search(rf"(?:^///[^\n]*\n|^#\[[^\n]*\n)*^pub(?:\(crate\))? (?:enum|struct) {name}\b[^\n;]*(?:;|\{{\n.*?^\}})", text, re.M | re.S):
+        if found := re.search(rf"(?:^///[^\n]*\n|^#\[[^\n]*\n)*^pub(?:\(crate\))? (?:const {name}\b[^;]*;|(?:enum|struct) {name}\b[^\n;]*(?:;|\{{\n.*?^\}}))", text, re.M | re.S):
             line = text[: found.end() - len(found[0])].count("\n") + 1
             return Definition(path, line, name, found[0])
     return None
@@ -129,7 +140,7 @@ def module(path):
         return None
     crate, rest = words[1], words[3:]
     if rest[:1] == ["declared"]:
-        return (crate, next(it for it in reversed(rest) if it not in ("TheVariants",)))
+        return (crate, next(it for it in reversed(rest) if it not in ("TheVariants", "TheOpen", "TheFolds")))
     if rest and os.path.exists(f"{parts.TOP}/crates/{crate}/specs/{rest[0]}.antt"):
         return f"crates/{crate}/specs/{rest[0]}.antt"
     if rest:
@@ -144,7 +155,7 @@ def defined(path, name):
     """The definition of a name in a module, or None if it is the kit's."""
     place = module(path)
     if isinstance(place, tuple):
-        return rust_type(*place)
+        return rust_item(place[0], name if place[1] == "TheConstants" else place[1])
     return in_file(place, name) if place else None
 
 
@@ -162,10 +173,30 @@ def in_file(path, name):
     return defined(file.modules[first], last) if first in file.modules else None
 
 
+@functools.cache
+def rust_trait(name):
+    """A trait of the program with what its required methods ensure, as a definition that cites theirs; None if it is the kit's."""
+    for path in parts.files("crates/*/src/**/*.rt"):
+        found = re.search(rf"(?:^//[^\n]*\n)*^pub trait {name}\b[^\n]*\{{\n(.*?)^\}}", parts.text_of(path), re.M | re.S)
+        if not found:
+            continue
+        text = parts.text_of(path)
+        methods = [it for it in parts.functions(path.split("/")[1]) if it.owner == name and it.file == path]
+        inside = found[0]
+        for it in methods:
+            if it.body.strip():
+                inside = inside.replace("\n".join([it.signature, it.contract, it.body]), "")
+        inside = re.sub(r"\n(?: *///[^\n]*\n)+(?=\n*(?:\n *///|\}))", "\n", re.sub(r"^ *ghost use [^\n]*\n", "", inside, flags=re.M))
+        uses = methods[0].uses if methods else {}
+        cites = [its for word in WORD.findall(inside) if (to := uses.get(word)) and (its := defined(to, word))]
+        return Definition(path, text[: found.end() - len(found[0])].count("\n") + 1, name, re.sub(r"\n{2,}(?=\}|\n)|(?<=\{)\n+", "\n", inside), cites=cites)
+    return None
+
+
 def uses_of(it):
     """The definitions that one uses."""
     if it.path.endswith(".rt"):
-        return []
+        return it.cites
     code = "\n".join(line for line in it.text.split("\n") if not line.strip().startswith("--"))
     found = [in_file(it.path, word) or in_file(it.path, word.split(".")[0]) for word in WORD.findall(code)]
     return [its for its in found if its and its is not it]
@@ -178,7 +209,8 @@ def cited(crate, name):
         raise SystemExit(f"headline: {crate} has no {name}")
     clauses = "\n".join(line for line in call.contract.split("\n"))
     found = [(call.uses.get(word), word) for word in WORD.findall(clauses)]
-    return [its for path, word in found if path and (its := defined(path, word))]
+    traits = [it for bound, trait in re.findall(r"\b([A-Z]): (\w+)", call.signature) if re.search(rf"\b{bound}\.", clauses) and (it := rust_trait(trait))]
+    return [*traits, *(its for path, word in found if path and (its := defined(path, word)))]
 
 
 def ordered(roots):
@@ -195,6 +227,23 @@ def ordered(roots):
             stack.append((it, True))
             stack.extend((its, False) for its in reversed(uses_of(it)) if (its.path, its.name) not in done)
     return order
+
+
+def is_ours(path):
+    return path.startswith("Rattle.") and path.split(".")[1] in parts.crates()
+
+
+def missing():
+    """What a contract or a definition of the page takes from a crate and the page does not find."""
+    for _, _, calls in SECTIONS:
+        for crate, name in calls:
+            call = parts.function(crate, name)
+            lost = {word for word in WORD.findall(call.contract) if is_ours(call.uses.get(word, "")) and not defined(call.uses[word], word)}
+            yield from (f"{PAGE}: {crate}: {name} cites {word}, which is not found" for word in sorted(lost))
+    for it in {(it.path, it.name): it for _, _, _, whole, _ in sections() for it in whole if it.path.endswith(".antt")}.values():
+        names = read(it.path).names
+        lost = {word for word in WORD.findall(it.text) if is_ours(names.get(word, ("",))[0]) and not in_file(it.path, word)}
+        yield from (f"{PAGE}: {it.title} uses {word}, which is not found" for word in sorted(lost))
 
 
 def lines_of(definitions):
