@@ -13,7 +13,7 @@ import code_parts as parts
 PAGE = "docs/HEADLINE.md"
 TITLE = """# What the promises rest on
 
-A contract says no more than the definitions that it cites. This page has all of them, each after those that it uses, with the comment above it, and the types of the program that they name. What the
+A contract says no more than the definitions that it cites. This page has the contracts, and then all definitions, each after those that it uses, with the comment above it, and the types of the program that they name. What the
 kit defines (numbers, lists, options, maps) is left out. To believe a promise, read its definitions, and trust what [TRUST.md](TRUST.md) lists. [PROVED.md](PROVED.md) follows one promise through them.
 `tools/check-docs --mend` makes this page from the crates (`tools/headline.py`).
 """
@@ -275,11 +275,21 @@ def how_much():
     return "\n".join(["| To believe | Definitions | Lines | Of these in no row above | Lines |", "|---|---|---|---|---|", *rows, ""])
 
 
+def contract(crate, name):
+    """A call with its contract, as the page shows it."""
+    call = parts.function(crate, name)
+    text = parts.text_of(call.file)
+    at = text.index(f"{call.signature}\n{call.contract}")
+    shown_text = textwrap.dedent(f"{call.signature}\n{call.contract}").removesuffix("{").rstrip()
+    return f"[`{crate}`: `{name}`](../{call.file}#L{text.count(chr(10), 0, at) + 1})\n\n```rust\n{shown_text}\n```\n"
+
+
 def made():
     """The text of the page."""
     rows, texts = [], []
     for title, sentence, named, whole, new in sections():
         rows.append(f"| [{title}](#{title.lower().replace(' ', '-')}) | {named} | {counts(whole, new)} |")
-        texts.append("\n".join([f"## {title}\n", f"{sentence} Cited by the contracts of {named}.\n", *map(shown, new)]))
+        contracts = [contract(*call) for call in next(calls for its, _, calls in SECTIONS if its == title)]
+        texts.append("\n".join([f"## {title}\n", f"{sentence} The contracts:\n", *contracts, "The definitions that they cite, and that no section above has:\n", *map(shown, new)]))
     head = "| Promise | Calls | Definitions | Lines | Of these in no row above | Lines |\n|---|---|---|---|---|---|"
     return "\n".join([TITLE, head, *rows, "", *texts]).rstrip("\n") + "\n"
