@@ -1,5 +1,5 @@
 -- Two lists with the same items are the same in order.
-use Rattle.std.proofs.Common.{◌↔◌, length, nat_eq, arith, ◌≡◌, ℕ, Bool, true, false, cond, ◌||◌, List, [], ◌∷◌, ◌++◌, map, is_some, Some, None, refl, sym, true≢false, ap, ◌∙◌}
+use Rattle.std.proofs.Common.{◌↔◌, nat_eq, ◌≡◌, ℕ, Bool, true, false, cond, ◌||◌, List, [], ◌∷◌, ◌++◌, map, is_some, Some, None, refl, sym, true≢false, ap, ◌∙◌}
 use Rattle.std.specs.declared.cmp.Ordering.{Ordering}
 use Rattle.std.specs.declared.cmp.Ordering.TheVariants.{Less, Equal, Greater}
 use Rattle.std.specs.List.{list_any}
@@ -9,6 +9,7 @@ use Rattle.std.specs.List.Sorted.{IsStrictlySortedBy}
 use Rattle.std.specs.BTreeMap.{is_at}
 use Rattle.std.specs.Cmp.Lexicographic.{pointwise, texts_ties}
 use Rattle.std.proofs.lemmas.Cmp.{eq_by_cmp_equiv}
+use Rattle.std.proofs.lemmas.List.{nil_from_length}
 use Rattle.std.proofs.lemmas.List.Elements.{All-from_recursion, recursion_from_All}
 use Rattle.std.proofs.lemmas.Map.Views.{All-insert_key, Contains-from_any, list_any-from_Contains}
 use Rattle.std.specs.Cmp.{IsTotalOrder}
@@ -35,10 +36,6 @@ same_name a b = texts_ties a b
 -- each item as a key
 abbrev pairs : {K : Type 0} → List K → List (K × Unit {0})
 pairs xs = map (λ x. (x, tt)) xs
-
-no_items : {A : Type 0} (xs : List A) → length xs ≡ 0 → xs ≡ []
-no_items [] e = refl
-no_items (x ∷ xs) e = absurd (omega arith)
 
 or_swap : (a b c : Bool) → (a || (b || c)) ≡ (b || (a || c))
 or_swap true true c = refl
@@ -82,7 +79,7 @@ module _ {K : Type 0} (R : K → K → Ordering) where
   module _ (o : IsTotalOrder R) where
     -- the items in order are the keys of a finite map
     in_order-is : (xs : List K) → in_order R xs ≡ map (λ e. e.0) (entries (from_entries {R = R} (pairs xs)))
-    in_order-is [] = sym (ap (map (λ e. e.0)) (no_items _ (sym (len-entries _) ∙ len-empty R (Unit {0}))))
+    in_order-is [] = sym (ap (map (λ e. e.0)) (nil_from_length _ (sym (len-entries _) ∙ len-empty R (Unit {0}))))
     in_order-is (x ∷ xs) =
         ap (λ l. insert_key R l x) (in_order-is xs)
         ∙ sym (keys-put x _)

@@ -1,10 +1,11 @@
 //! Names that are kept. Most are short, and take little memory.
-ghost use Rattle.std.specs.Prelude.{◌≡◌, IfOk};
+ghost use Rattle.std.specs.Prelude.{◌≡◌, IfOk, codes};
 ghost use Rattle.std.specs.BTreeMap.{is_at};
+ghost use Rattle.fb_text.specs.Name.{name_of};
 ghost use Rattle.fb_text.specs.Order.{name_cmp};
 
-use crate::name::Name;
-use crate::short_name::ShortName;
+use crate::name::{Name, NameFault};
+use crate::short_name::{SHORT_ROOM, ShortName};
 use std::alloc::{AllocError, Global};
 use std::marker::Model;
 use std::{fmt, str};
@@ -43,6 +44,33 @@ const _: () = prove!(size_of::<CompactName>() == 24);
 impl CompactName {
     ghost use Rattle.fb_text.specs.Spelling.{IsName};
 
+    /// The name that a text spells in any case.
+    pub fn read(alloc: Global, text: &str) -> Result<Result<CompactName, NameFault>, AllocError>
+        ensures { IfOk result (λ read. read ≡ name_of text.now) }
+    {
+        if text.len() > SHORT_ROOM {
+            return match Name::read(text) {
+                Ok(name) => Ok(Ok(CompactName::keep(alloc, &name)?)),
+                Err(fault) => Ok(Err(fault)),
+            };
+        }
+        match ShortName::read(text.as_bytes()) {
+            Ok(short) => Ok(Ok(CompactName {
+                stored: Stored::Short(short),
+            })),
+            Err(fault) => Ok(Err(fault)),
+        }
+    }
+
+    /// The name `_`.
+    pub fn underscore() -> CompactName
+        ensures { result ≡ codes "_" }
+    {
+        CompactName {
+            stored: Stored::Short(ShortName::of_word(b"_")),
+        }
+    }
+
     /// Keeps a name.
     pub fn keep(alloc: Global, name: &Name) -> Result<CompactName, AllocError>
         ensures { IfOk result (λ kept. kept ≡ name.now) }
@@ -80,6 +108,7 @@ impl CompactName {
         ensures text { result.now ≡ self.now }
         ensures name { IsName self.now }
     {
+        // SAFETY: the bytes of a name are letters, digits and `_`, which are ASCII.
         unsafe { str::from_utf8_unchecked(self.as_bytes()) }
     }
 

@@ -148,6 +148,7 @@ impl Name {
         ensures text { result.now ≡ self.now }
         ensures name { IsName self.now }
     {
+        // SAFETY: the bytes of a name are letters, digits and `_`, which are ASCII.
         unsafe { str::from_utf8_unchecked(self.as_bytes()) }
     }
 }

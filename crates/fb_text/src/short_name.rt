@@ -1,13 +1,17 @@
 //! Short names, which take less memory.
-ghost use Rattle.std.specs.Prelude.{◌≡◌};
+ghost use Rattle.std.specs.Prelude.{◌≡◌, ◌≤◌, true, length};
+ghost use Rattle.std.specs.Str.{str_to_ascii_uppercase};
+ghost use Rattle.fb_text.specs.Name.{name_of};
 ghost use Rattle.fb_text.specs.ShortName.{shortened};
+ghost use Rattle.fb_text.specs.Words.{is_word};
 
-use crate::name::Name;
+use crate::bytes::word_len;
+use crate::name::{Name, NameFault};
 use std::fmt;
 use std::marker::Model;
 
 /// How many bytes a short name has at most.
-const SHORT_ROOM: usize = 22;
+pub const SHORT_ROOM: usize = 22;
 
 /// A name of at most 22 bytes. A contract sees it as the list of these bytes.
 #[derive(Clone, Copy)]
@@ -34,6 +38,37 @@ impl Model for ShortName {
 
 impl ShortName {
     ghost use Rattle.fb_text.specs.Spelling.{IsName};
+
+    /// The name that a short text spells in any case.
+    #[tactic(auto, unfolding(crate::specs::Name::name_of))]
+    pub(crate) fn read(bytes: &[u8]) -> Result<ShortName, NameFault>
+        requires { length bytes.now ≤ 22 }
+        ensures { result ≡ name_of bytes.now }
+    {
+        if bytes.is_empty() {
+            return Err(NameFault::Empty);
+        }
+        let len = word_len(bytes);
+        if len < bytes.len() {
+            return Err(NameFault::BadByte(len));
+        }
+        Ok(ShortName::of_word(bytes))
+    }
+
+    pub(crate) fn of_word(word: &[u8]) -> ShortName
+        requires word { is_word word.now ≡ true }
+        requires short { length word.now ≤ 22 }
+        ensures { result ≡ str_to_ascii_uppercase word.now }
+    {
+        let mut bytes = [0; SHORT_ROOM];
+        for (i, b) in word.iter().enumerate() {
+            bytes[i] = b.to_ascii_uppercase();
+        }
+        ShortName {
+            bytes,
+            len: word.len() as u8,
+        }
+    }
 
     /// The name.
     pub fn name(&self) -> Name

@@ -1,0 +1,34 @@
+use Rattle.std.proofs.Common.{◌≡◌, arith, sym, ap, ◌∙◌, length, take, drop, replicate, ◌-◌}
+use Rattle.std.specs.Str.{str_to_ascii_uppercase}
+use Rattle.std.proofs.lemmas.List.{length-set, take_all}
+use Rattle.fb_text.proofs.NameLemmas.{front_more, rest_more, IsName-upper}
+use Rattle.fb_text.proofs.short_name.ShortName.of_word.Goals as goal
+use Rattle.fb_text.proofs.short_name.ShortName.of_word.Goals.{After-loop-i}
+
+pub loop-i-preserved : goal.loop-i-preserved
+loop-i-preserved c =
+    let before = c.loop-i.invariant in
+    record {
+      room = length-set _ _ _ ∙ before.room;
+      front = front_more c.loop-i.bytes c.args.word.now c.loop-i.i _ (omega arith) (omega arith) c.to_ascii_uppercase.ensures.value before.front;
+      rest = rest_more 22 c.loop-i.bytes c.loop-i.i _ (omega arith) before.room before.rest;
+    }
+
+-- all of the word is written
+written : (c : After-loop-i) → take (length c.args.word.now) c.loop-i.bytes ≡ str_to_ascii_uppercase c.args.word.now
+written c =
+    let whole : length c.args.word.now ≡ c.loop-i.i = omega arith in
+    ap (λ n. take n c.loop-i.bytes) whole ∙ c.loop-i.invariant.front ∙ ap str_to_ascii_uppercase (take_all c.loop-i.i c.args.word.now (omega arith))
+
+pub invariant_of-result : goal.invariant_of-result
+invariant_of-result c =
+    let whole : c.loop-i.i ≡ length c.args.word.now = omega arith in
+    record {
+      room = c.loop-i.invariant.room;
+      name = rw (written c) (IsName-upper c.args.word.now c.requires.word (omega (arith, c.requires.short)));
+      within = c.requires.short;
+      rest = ap (λ n. drop n c.loop-i.bytes) (sym whole) ∙ c.loop-i.invariant.rest ∙ ap (λ n. replicate (22 - n) 0) whole;
+    }
+
+pub returns : goal.returns
+returns c = written c
