@@ -1,8 +1,7 @@
 //! The check of the expressions and statements of a unit (IEC 61499-1, 5.2.1 and 5.2.2: execution control charts and algorithms).
 ghost use Rattle.std.specs.Prelude.{◌≡◌, ◌++◌, IfOk, OnOk};
 ghost use Rattle.std.specs.List.{flat_map};
-ghost use Rattle.fb_tree.specs.Tree.{algorithm_tree, chart_tree, condition_tree, decl_tree, transition_tree};
-ghost use Rattle.fb_iface.specs.Library.View.{tree_at};
+ghost use Rattle.fb_tree.specs.Tree.{algorithm_tree, chart_tree, condition_tree, transition_tree};
 ghost use Rattle.fb_iface.specs.Fault.{faults_in_order};
 ghost use Rattle.fb_expr.specs.Charts.{algorithm_faults, expr_faults_of, expression_faults, guard_faults, transition_faults};
 ghost use Rattle.fb_expr.specs.Names.{names_in};
@@ -23,25 +22,19 @@ pub fn expr_faults<V: View>(alloc: Global, view: &V, unit: &Name) -> Result<Vec<
     ensures { IfOk result
         (λ faults. faults.items ≡ faults_in_order (expr_faults_of (V.sources view.now) unit.now)) }
 {
-    let found = reported(alloc, view, unit)?;
-    sorted_faults(alloc, found.as_slice())
-}
-
-/// The faults as they are found.
-fn reported<V: View>(alloc: Global, view: &V, unit: &Name) -> Result<Vec<Fault>, AllocError>
-    ensures { IfOk result (λ faults. faults.items ≡ expr_faults_of (V.sources view.now) unit.now) }
-{
     let mut found = Vec::new(alloc);
-    if let Some(Decl::Block(declared)) = tree_by_name(view, unit) {
-        let scope = Scope::of_type(alloc, view, declared)?;
-        let structures = Structures::near(alloc, view, unit)?;
-        let names = Names {
-            scope: &scope,
-            structures: &structures,
-        };
-        report_expressions(names, &declared.chart, &mut found)?;
-    }
-    Ok(found)
+    let declared = match tree_by_name(view, unit) {
+        Some(Decl::Block(declared)) => declared,
+        _ => return Ok(found),
+    };
+    let scope = Scope::of_type(alloc, view, declared)?;
+    let structures = Structures::near(alloc, view, unit)?;
+    let names = Names {
+        scope: &scope,
+        structures: &structures,
+    };
+    report_expressions(names, &declared.chart, &mut found)?;
+    sorted_faults(alloc, found.as_slice())
 }
 
 /// Reports the faults of the expressions of guards and of the statements of algorithms, as they are found.

@@ -1,7 +1,6 @@
 //! The check of what a unit declares.
 ghost use Rattle.std.specs.Prelude.{◌≡◌, ◌++◌, IfOk, OnOk, Some};
 ghost use Rattle.fb_tree.specs.Tree.{decl_tree};
-ghost use Rattle.fb_library.specs.View.{tree_at};
 ghost use Rattle.fb_iface.specs.Declarations.{declaration_faults, declared_name, iface_faults_of, mixed_faults, name_faults};
 ghost use Rattle.fb_iface.specs.Fault.{faults_in_order};
 ghost use Rattle.fb_iface.specs.Ports.{meanings_in};
@@ -25,20 +24,14 @@ pub fn iface_faults<V: View>(alloc: Global, view: &V, unit: &Name) -> Result<Vec
     ensures { IfOk result
         (λ faults. faults.items ≡ faults_in_order (iface_faults_of (V.sources view.now) unit.now)) }
 {
-    let found = reported(alloc, view, unit)?;
-    sorted_faults(alloc, found.as_slice())
-}
-
-/// The faults as they are found.
-fn reported<V: View>(alloc: Global, view: &V, unit: &Name) -> Result<Vec<Fault>, AllocError>
-    ensures { IfOk result (λ faults. faults.items ≡ iface_faults_of (V.sources view.now) unit.now) }
-{
     let mut found = Vec::new(alloc);
-    if let Some(decl) = tree_by_name(view, unit) {
-        let own = ports_of(alloc, decl)?;
-        report_declarations(alloc, view, unit, decl, &own, &mut found)?;
-    }
-    Ok(found)
+    let decl = match tree_by_name(view, unit) {
+        Some(decl) => decl,
+        None => return Ok(found),
+    };
+    let own = ports_of(alloc, decl)?;
+    report_declarations(alloc, view, unit, decl, &own, &mut found)?;
+    sorted_faults(alloc, found.as_slice())
 }
 
 /// Reports the faults of what a unit declares, as they are found. The unit has these ports.

@@ -1,6 +1,5 @@
 //! Names behind `WITH` (IEC 61499-1, 5.2: the data that go along with an event).
 ghost use Rattle.std.specs.Prelude.{◌≡◌, ◌++◌, OnOk};
-ghost use Rattle.std.specs.List.{flat_map};
 ghost use Rattle.fb_tree.specs.Tree.{decl_tree, event_tree, interface_tree};
 ghost use Rattle.fb_iface.specs.Declarations.{with_faults_of};
 ghost use Rattle.fb_iface.specs.Names.{first_ones, stands_for};
@@ -38,15 +37,7 @@ fn report_in_interface(
     ensures { OnOk result
         (found.new.items ≡ found.old.items ++ with_faults (interface_tree interface.now)) }
 {
-    report_events(own, interface.events.as_slice(), found)
-}
-
-/// Reports those of each event.
-fn report_events(own: &Ports, events: &[Event], found: &mut Vec<Fault>) -> Result<(), AllocError>
-    ensures { OnOk result (found.new.items ≡ found.old.items
-        ++ flat_map (λ e. event_withs (stands_for own.now.variables) (event_tree e)) events.now) }
-{
-    for event in events {
+    for event in &interface.events {
         report_event(own, event, found)?;
     }
     Ok(())

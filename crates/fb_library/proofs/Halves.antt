@@ -1,6 +1,7 @@
 -- The lower half of some shelves and the upper one, and entries that are two lists joined.
 use Rattle.std.proofs.Common.{◌≡◌, ℕ, zero, suc, ◌-◌, List, [], ◌∷◌, ◌++◌, length, take, drop, get_or, refl, sym, ap, subst, ◌∙◌, arith, append_assoc, Some}
 use Rattle.std.specs.List.{AllByRecursion, slice_get}
+use Rattle.std.proofs.Math.Seq.{take-append_seam, drop-append_seam}
 use Rattle.std.specs.declared.cmp.Ordering.TheVariants.{Less}
 use Rattle.fb_parse.specs.Text.Order.{name_cmp}
 use Rattle.fb_library.specs.Shelves.{names_of, lasts_of, all_on, AreShelves}
@@ -43,16 +44,10 @@ module _ {V : Type 0} where
   -- ---- entries that are two lists joined, of which the lower has k + 1
 
   pub joined_lower : (low high : List (List ℕ × V)) (k : ℕ) → suc k ≡ length low → low ≡ take (suc k) (low ++ high)
-  joined_lower [] high k e = absurd (omega (arith, e))
-  joined_lower (x ∷ []) high zero e = refl
-  joined_lower (x ∷ y ∷ low) high zero e = absurd (omega (arith, e))
-  joined_lower (x ∷ low) high (suc k) e = ap (λ l. x ∷ l) (joined_lower low high k (omega (arith, e)))
+  joined_lower low high k e = sym (take-append_seam low high) ∙ (λ i. take (sym e i) (low ++ high))
 
   pub joined_upper : (low high : List (List ℕ × V)) (k : ℕ) → suc k ≡ length low → high ≡ drop (suc k) (low ++ high)
-  joined_upper [] high k e = absurd (omega (arith, e))
-  joined_upper (x ∷ []) high zero e = refl
-  joined_upper (x ∷ y ∷ low) high zero e = absurd (omega (arith, e))
-  joined_upper (x ∷ low) high (suc k) e = joined_upper low high k (omega (arith, e))
+  joined_upper low high k e = sym (drop-append_seam low high) ∙ (λ i. drop (sym e i) (low ++ high))
 
   pub joined_last : (low high : List (List ℕ × V)) (k : ℕ) (n : List ℕ) → Some n ≡ slice_get (names_of low) k → n ≡ get_or (names_of (low ++ high)) k []
   joined_last [] high k n is = absurd (cc)

@@ -1,15 +1,15 @@
--- Items that are kept, each of which reads as a shelf: shelves themselves, and rooms.
+-- Items that are kept, each of which reads as a shelf.
 use Rattle.std.proofs.Common.{◌≡◌, ℕ, zero, suc, ◌<◌, ◌≤◌, true, List, [], ◌∷◌, ◌++◌, length, map, take, drop, get_or, set, refl, sym, ap, subst, ◌∙◌, arith, Result, Ok, Err, OnOk}
 use Rattle.std.specs.List.{AllByRecursion, insert}
 use Rattle.std.specs.List.Sorted.{IsStrictlySortedBy, IsBinarySearchResult}
 use Rattle.std.specs.Map.{remove_entry}
 use Rattle.std.specs.BTreeMap.{is_at, insert_entry}
 use Rattle.std.specs.declared.cmp.Ordering.TheVariants.{Less}
-use Rattle.std.proofs.lemmas.List.{map-set, get_or-map, map_push}
+use Rattle.std.proofs.lemmas.List.{map-set, get_or-map, map_push, length-map}
 use Rattle.fb_parse.specs.Text.Order.{name_cmp}
 use Rattle.fb_library.specs.Shelves.{names_of, lasts_of, all_on, AreShelves, IsShelfFor, reaches}
-use Rattle.fb_library.proofs.Entries.{map_insert}
-use Rattle.fb_library.proofs.OnShelves.{Row, last_at, entries_at, with_entries, for_at, for_gap, for_reached, reached_for, passed, lasts_sorted, sorted_at, put_on, remove_on, shelves_put, shelves_removed}
+use Rattle.fb_library.proofs.EntryLemmas.{map_insert}
+use Rattle.fb_library.proofs.OnShelves.{Row, last_at, entries_at, with_entries, for_at, for_gap, for_reached, reached_for, passed, lasts_sorted, put_on, remove_on, shelves_put, shelves_removed}
 use Rattle.fb_library.proofs.Wider.{ended_at, all_ended, reaches_ended, shelves_ended, one_more, all_more, reaches_more, shelves_more, IsWider, in_two, all_in_two, reaches_in_two, shelves_in_two}
 use Rattle.fb_library.proofs.Searches.{searched}
 
@@ -38,13 +38,8 @@ module _ {A V : Type 0} (row : A → Row V) where
       let gap = (searched last xs n (Err i) (sorted_by_last xs are) le is).absent in
       subst (λ (names : List (List ℕ)). IsShelfFor names n i) (sym (lasts_named xs)) (for_gap (map last xs) n i gap)
 
-  pub counted : (xs : List A) → length (map row xs) ≡ length xs
-  counted [] = refl
-  counted (x ∷ xs) = ap (λ n. suc n) (counted xs)
-
   counted_lasts : (xs : List A) → length (lasts_of (map row xs)) ≡ length xs
-  counted_lasts [] = refl
-  counted_lasts (x ∷ xs) = ap (λ n. suc n) (counted_lasts xs)
+  counted_lasts xs = length-map (map row xs) (λ r. r.0) ∙ length-map xs row
 
   pub at_reached : (xs : List A) (n : List ℕ) (i : ℕ) → IsShelfFor (lasts_of (map row xs)) n i → reaches (lasts_of (map row xs)) n ≡ true → i < length xs
   at_reached xs n i is e = omega (arith, for_reached (lasts_of (map row xs)) n i is e, counted_lasts xs)
@@ -55,9 +50,6 @@ module _ {A V : Type 0} (row : A → Row V) where
   -- the item that stands at an index, as a row
   pub row_there : (xs : List A) (i : ℕ) (x : A) → i < length xs → x ≡ get_or xs i x → get_or (map row xs) i ([], []) ≡ row x
   row_there xs i x lt is = get_or-map row xs i x ([], []) lt ∙ ap row (sym is)
-
-  pub sorted_shelf : (xs : List A) (i : ℕ) (x : A) → AreShelves (map row xs) → i < length xs → x ≡ get_or xs i x → IsStrictlySortedBy name_cmp (names_of (row x).1)
-  sorted_shelf xs i x are lt is = subst (λ (r : Row V). IsStrictlySortedBy name_cmp (names_of r.1)) (row_there xs i x lt is) (sorted_at (map row xs) i are)
 
   -- one item with other entries
   changed : (xs : List A) (i : ℕ) (x : A) (news : List (List ℕ × V)) → (row x).0 ≡ last_at (map row xs) i → (row x).1 ≡ news → map row (set xs i x) ≡ with_entries (map row xs) i news
@@ -73,19 +65,19 @@ module _ {A V : Type 0} (row : A → Row V) where
     rows_put v put = changed xs i now _ same_last (put ∙ (λ k. insert_entry name_cmp (sym (row_there xs i old lt stood) k).1 n v))
 
     pub shelf_put : (v : V) → (row now).1 ≡ insert_entry name_cmp (row old).1 n v → AreShelves (map row (set xs i now))
-    shelf_put v put = subst AreShelves (sym (rows_put v put)) (shelves_put (map row xs) n v i (omega (arith, lt, counted xs)) are is)
+    shelf_put v put = subst AreShelves (sym (rows_put v put)) (shelves_put (map row xs) n v i (omega (arith, lt, length-map xs row)) are is)
 
     pub entries_put : (v : V) → (row now).1 ≡ insert_entry name_cmp (row old).1 n v → all_on (map row (set xs i now)) ≡ insert_entry name_cmp (all_on (map row xs)) n v
-    entries_put v put = ap all_on (rows_put v put) ∙ put_on (map row xs) n v i (omega (arith, lt, counted xs)) are is
+    entries_put v put = ap all_on (rows_put v put) ∙ put_on (map row xs) n v i (omega (arith, lt, length-map xs row)) are is
 
     rows_removed : (row now).1 ≡ remove_entry (is_at (name_cmp n)) (row old).1 → map row (set xs i now) ≡ with_entries (map row xs) i (remove_entry (is_at (name_cmp n)) (entries_at (map row xs) i))
     rows_removed gone = changed xs i now _ same_last (gone ∙ (λ k. remove_entry (is_at (name_cmp n)) (sym (row_there xs i old lt stood) k).1))
 
     pub shelf_removed : (row now).1 ≡ remove_entry (is_at (name_cmp n)) (row old).1 → AreShelves (map row (set xs i now))
-    shelf_removed gone = subst AreShelves (sym (rows_removed gone)) (shelves_removed (map row xs) n i (omega (arith, lt, counted xs)) are is)
+    shelf_removed gone = subst AreShelves (sym (rows_removed gone)) (shelves_removed (map row xs) n i (omega (arith, lt, length-map xs row)) are is)
 
     pub entries_removed : (row now).1 ≡ remove_entry (is_at (name_cmp n)) (row old).1 → all_on (map row (set xs i now)) ≡ remove_entry (is_at (name_cmp n)) (all_on (map row xs))
-    entries_removed gone = ap all_on (rows_removed gone) ∙ remove_on (map row xs) n i (omega (arith, lt, counted xs)) are is
+    entries_removed gone = ap all_on (rows_removed gone) ∙ remove_on (map row xs) n i (omega (arith, lt, length-map xs row)) are is
 
   -- ---- room for a name
 
@@ -101,13 +93,13 @@ module _ {A V : Type 0} (row : A → Row V) where
           map-set row xs i now ∙ (λ j. set (map row xs) i (last j, (same ∙ sym (λ k. (there k).1)) j))
 
       pub ended_kept : AreShelves (map row (set xs i now))
-      ended_kept = subst AreShelves (sym rows_ended) (shelves_ended (map row xs) i n (omega (arith, end, counted xs)) are all_past)
+      ended_kept = subst AreShelves (sym rows_ended) (shelves_ended (map row xs) i n (omega (arith, end, length-map xs row)) are all_past)
 
       pub ended_same : all_on (map row (set xs i now)) ≡ all_on (map row xs)
       ended_same = ap all_on rows_ended ∙ all_ended (map row xs) i n
 
       pub ended_room : reaches (lasts_of (map row (set xs i now))) n ≡ true
-      ended_room = (λ j. reaches (lasts_of (rows_ended j)) n) ∙ reaches_ended (map row xs) i n (omega (arith, end, counted xs))
+      ended_room = (λ j. reaches (lasts_of (rows_ended j)) n) ∙ reaches_ended (map row xs) i n (omega (arith, end, length-map xs row))
 
     -- an empty item more, which ends at the name
     module _ (more : List A) (x : A) (pushed : more ≡ xs ++ x ∷ []) (last : (row x).0 ≡ n) (empty : (row x).1 ≡ []) where
@@ -149,7 +141,7 @@ module _ {A V : Type 0} (row : A → Row V) where
 
     pub split_wider : AreShelves (map row xs) → IsWider (map row xs) (map row (set more j high))
     split_wider are =
-        let here : i < length (map row xs) = omega (arith, lt, counted xs) in
+        let here : i < length (map row xs) = omega (arith, lt, length-map xs row) in
         let long = subst (λ (r : Row V). suc k < length r.1) (sym old_row) some in
         record {
           order = subst AreShelves (sym rows_split) (shelves_in_two (map row xs) i k here long are);

@@ -1,7 +1,7 @@
 pub mod Appended
 pub mod CarriedLemmas
 pub mod Counts
-pub mod Entries
+pub mod EntryLemmas
 pub mod Halves
 pub mod Kept
 pub mod Mentioned

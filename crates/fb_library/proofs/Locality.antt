@@ -43,16 +43,6 @@ module _ (sources : Sources) (unit : List ℕ) where
   pub near_part : (name : List ℕ) → Contains (parts_at sources unit) name → Contains (near_of sources unit) name
   near_part name m = is_near (part m)
 
-  pub near_value : (name : List ℕ) → Contains (values_at sources unit) name → Contains (near_of sources unit) name
-  near_value name m = is_near (carried (directly m))
-
-  by_sort : (name : List ℕ) → Contains (parts_at sources unit) name ⊎ Contains (values_at sources unit) name → Contains (near_of sources unit) name
-  by_sort name (inl p) = near_part name p
-  by_sort name (inr v) = near_value name v
-
-  pub near_mention : (name : List ℕ) → Contains (mentions_at sources unit) name → Contains (near_of sources unit) name
-  near_mention name m = by_sort name (Contains-append_cases (parts_at sources unit) (values_at sources unit) name m)
-
   -- the unit and its parts, and what they carry
   pub near_base : (name : List ℕ) → Contains (bases_at sources unit) name → Contains (near_of sources unit) name
   near_base name b = by_base (Contains-append_cases (parts_at sources unit) (unit ∷ []) name b)

@@ -120,21 +120,7 @@ module _ {V : Type 0} where
   all_right P [] ys a = a
   all_right P (x ∷ xs) ys a = all_right P xs ys a.1
 
-  joined : (xs ys : List (List ℕ × V)) (last : List ℕ) → IsStrictlySortedBy name_cmp (names_of xs) → IsStrictlySortedBy name_cmp (names_of ys) → AllByRecursion (λ n. is_le (name_cmp n last) ≡ true) (names_of xs) → AllByRecursion (λ n. name_cmp last n ≡ Less) (names_of ys) → IsStrictlySortedBy name_cmp (names_of (xs ++ ys))
-  unfolding IsStrictlySortedBy
-  joined [] ys last a b within before = b
-  joined (x ∷ xs) ys last a b within before = (
-    all_append (λ n. name_cmp x.0 n ≡ Less) xs ys a.0 (each (λ n. name_cmp last n ≡ Less) (λ n. name_cmp x.0 n ≡ Less) (λ n lt. le_lt x.0 last n within.0 lt) (names_of ys) before),
-    joined xs ys last a.1 b within.1 before,
-  )
-
-  -- so all names rise
-  pub all_sorted : (ss : List (Row V)) → AreShelves ss → IsStrictlySortedBy name_cmp (names_of (all_on ss))
-  unfolding IsStrictlySortedBy
-  all_sorted [] are = tt
-  all_sorted (s ∷ ss) are = joined s.1 (all_on ss) s.0 are.0.sorted (all_sorted ss are.1) are.0.within are.0.before
-
-  pub sorted_at : (ss : List (Row V)) (i : ℕ) → AreShelves ss → IsStrictlySortedBy name_cmp (names_of (entries_at ss i))
+  sorted_at : (ss : List (Row V)) (i : ℕ) → AreShelves ss → IsStrictlySortedBy name_cmp (names_of (entries_at ss i))
   unfolding IsStrictlySortedBy
   sorted_at [] i are = tt
   sorted_at (s ∷ ss) zero are = are.0.sorted

@@ -43,6 +43,10 @@ gap_behind x xs n gap = record {
   above = λ j le lt. gap.above (suc j) (omega arith) (omega arith);
 }
 
+pub none_sorted : IsStrictlySortedBy name_cmp []
+unfolding IsStrictlySortedBy
+none_sorted = tt
+
 -- a list in strict order is its own ordering
 pub already_in_order : (xs : List (List ℕ)) → IsStrictlySortedBy name_cmp xs → in_order name_cmp xs ≡ xs
 unfolding IsStrictlySortedBy

@@ -1,11 +1,11 @@
 -- A search among items that stand by rising name.
-use Rattle.std.proofs.Common.{◌≡◌, ℕ, suc, ◌<◌, ◌≤◌, List, [], ◌∷◌, length, map, get_or, inl, inr, refl, sym, ap, ◌∙◌, arith, Result, Ok, Err, IfOk, IfErr}
+use Rattle.std.proofs.Common.{◌≡◌, ℕ, ◌<◌, ◌≤◌, List, [], ◌∷◌, length, map, get_or, inl, inr, refl, sym, ap, ◌∙◌, arith, Result, Ok, Err, IfOk, IfErr}
 use Rattle.std.specs.List.Sorted.{IsStrictlySortedBy, IsNonDecreasingBy, IsSearchInRange, IsBinarySearchResult}
 use Rattle.std.specs.Ordering.{ordering_index, ordering_reverse}
 use Rattle.std.specs.declared.cmp.Ordering.{Ordering}
 use Rattle.std.specs.declared.cmp.Ordering.TheVariants.{Less, Equal, Greater}
 use Rattle.std.proofs.lemmas.Bool.{cases_lt}
-use Rattle.std.proofs.lemmas.List.{get_or-map}
+use Rattle.std.proofs.lemmas.List.{get_or-map, length-map}
 use Rattle.std.proofs.lemmas.Map.Keys.{Less-from_sorted}
 use Rattle.fb_parse.specs.Text.Order.{name_cmp}
 use Rattle.fb_library.specs.Place.{IsAt, IsGapFor}
@@ -27,10 +27,6 @@ pub record Searched (names : List (List ℕ)) (n : List ℕ) (r : Result ℕ ℕ
   pub absent : IfErr r (IsGapFor names n)
 
 module _ {A : Type 0} (name : A → List ℕ) where
-  count : (xs : List A) → length (map name xs) ≡ length xs
-  count [] = refl
-  count (x ∷ xs) = ap (λ n. suc n) (count xs)
-
   there : (xs : List A) (i : ℕ) (d : A) → i < length xs → get_or (map name xs) i [] ≡ name (get_or xs i d)
   there xs i d lt = get_or-map name xs i d [] lt
 
@@ -39,7 +35,7 @@ module _ {A : Type 0} (name : A → List ℕ) where
     | inl before ↦
         let first = there xs i d (omega (arith, before, lt)) in
         let second = there xs j d lt in
-        let below = Less-from_sorted name_cmp (map name xs) i j [] sorted before (omega (arith, lt, count xs)) in
+        let below = Less-from_sorted name_cmp (map name xs) i j [] sorted before (omega (arith, lt, length-map xs name)) in
         index_rises (name (get_or xs i d)) (name (get_or xs j d)) n (sym (λ k. name_cmp (first k) (second k)) ∙ below) _ refl
     | inr behind ↦
         let same : i ≡ j = omega arith in
@@ -51,7 +47,7 @@ module _ {A : Type 0} (name : A → List ℕ) where
   searched [] n (Ok at) sorted within is = absurd (omega (arith, within))
   searched (x ∷ xs) n (Ok at) sorted within is = record {
     found = record {
-      in_range = omega (arith, within, count (x ∷ xs));
+      in_range = omega (arith, within, length-map (x ∷ xs) name);
       named = there (x ∷ xs) at x within ∙ exact_name _ n (is x);
     };
     absent = tt;
@@ -63,10 +59,10 @@ module _ {A : Type 0} (name : A → List ℕ) where
   searched (x ∷ xs) n (Err at) sorted within is = record {
     found = tt;
     absent = record {
-      in_range = omega (arith, within, count (x ∷ xs));
+      in_range = omega (arith, within, length-map (x ∷ xs) name);
       below = λ j lt. ap (λ m. name_cmp m n) (there (x ∷ xs) j x (omega (arith, within, lt))) ∙ (is (rises (x ∷ xs) n sorted)).0 j x (omega arith) lt;
       above = λ j le lt.
-          let here : j < length (x ∷ xs) = omega (arith, lt, count (x ∷ xs)) in
+          let here : j < length (x ∷ xs) = omega (arith, lt, length-map (x ∷ xs) name) in
           ap (name_cmp n) (there (x ∷ xs) j x here) ∙ less _ n ((is (rises (x ∷ xs) n sorted)).1 j x le here);
     };
   }

@@ -8,18 +8,13 @@ use Rattle.std.specs.Ordering.{is_le}
 use Rattle.std.specs.declared.cmp.Ordering.{Ordering}
 use Rattle.std.specs.declared.cmp.Ordering.TheVariants.{Less, Equal, Greater}
 use Rattle.std.proofs.lemmas.Bool.{false≢true, or_left, or_right}
+use Rattle.std.proofs.lemmas.List.{append-nil, length-map}
 use Rattle.fb_parse.specs.Text.Order.{name_cmp}
 use Rattle.fb_library.specs.Shelves.{names_of, lasts_of, all_on, AreShelves, IsShelfFor, reaches}
 use Rattle.fb_library.proofs.Appended.{lookup_behind}
-use Rattle.fb_library.proofs.Kept.{row_there, counted}
+use Rattle.fb_library.proofs.Kept.{row_there}
 use Rattle.fb_library.proofs.OnShelves.{Row, entries_at, below_shelf, lookup_on}
 use Rattle.fb_library.proofs.Places.{less}
-
-pub all_taken : {A : Type 0} (xs : List A) (i : ℕ) → length xs ≤ i → take i xs ≡ xs
-all_taken [] zero le = refl
-all_taken [] (suc i) le = refl
-all_taken (x ∷ xs) zero le = absurd (omega (arith, le))
-all_taken (x ∷ xs) (suc i) le = ap (λ l. x ∷ l) (all_taken xs i (omega (arith, le)))
 
 module _ {A B : Type 0} (f : A → B) where
   pub some_found : (o : Option A) (l : Option B) → option_map f o ≡ l → true ≡ is_some o → (v : B) × (l ≡ Some v)
@@ -63,17 +58,13 @@ module _ {V : Type 0} where
   name_later (x ∷ xs) ys zero j e = absurd (omega (arith, e))
   name_later (x ∷ xs) ys (suc i) j e = name_later xs ys i j (omega (arith, e))
 
-  no_more : (xs : List (List ℕ × V)) → xs ++ [] ≡ xs
-  no_more [] = refl
-  no_more (x ∷ xs) = ap (λ l. x ∷ l) (no_more xs)
-
 module _ {A V : Type 0} (row : A → Row V) where
   pub found_on : (xs : List A) (n : List ℕ) (i : ℕ) (x : A) → AreShelves (map row xs) → IsShelfFor (lasts_of (map row xs)) n i → i < length xs → x ≡ get_or xs i x → lookup (is_at (name_cmp n)) (row x).1 ≡ lookup (is_at (name_cmp n)) (all_on (map row xs))
   found_on xs n i x are is lt stood = (λ k. lookup (is_at (name_cmp n)) (sym (row_there row xs i x lt stood) k).1) ∙ sym (lookup_on (map row xs) n i are is)
 
   pub none_on : (xs : List A) (n : List ℕ) (i : ℕ) → AreShelves (map row xs) → IsShelfFor (lasts_of (map row xs)) n i → length xs ≤ i → None ≡ lookup (is_at (name_cmp n)) (all_on (map row xs))
   none_on xs n i are is past =
-      ap (lookup (is_at (name_cmp n))) (sym (past_row (map row xs) i (omega (arith, past, counted row xs)))) ∙ sym (lookup_on (map row xs) n i are is)
+      ap (lookup (is_at (name_cmp n))) (sym (past_row (map row xs) i (omega (arith, past, length-map xs row)))) ∙ sym (lookup_on (map row xs) n i are is)
 
   left_by : (xs : List A) (i : ℕ) (x : A) → i < length xs → x ≡ get_or xs i x → all_on (map row (drop i xs)) ≡ (row x).1 ++ all_on (map row (drop (suc i) xs))
   left_by [] i x lt is = absurd (omega (arith, lt))
@@ -87,7 +78,7 @@ module _ {A V : Type 0} (row : A → Row V) where
 
   more_by : (xs : List A) (i : ℕ) (x : A) → i < length xs → x ≡ get_or xs i x → all_on (map row (take (suc i) xs)) ≡ all_on (map row (take i xs)) ++ (row x).1
   more_by [] i x lt is = absurd (omega (arith, lt))
-  more_by (y ∷ xs) zero x lt is = no_more (row y).1 ∙ ap (λ (z : A). (row z).1) (sym is)
+  more_by (y ∷ xs) zero x lt is = append-nil (row y).1 ∙ ap (λ (z : A). (row z).1) (sym is)
   more_by (y ∷ xs) (suc i) x lt is =
       ap (λ l. (row y).1 ++ l) (more_by xs i x (omega (arith, lt)) is) ∙ sym (append_assoc (row y).1 (all_on (map row (take i xs))) (row x).1)
 

@@ -5,6 +5,7 @@ use Rattle.std.specs.List.Sorted.{IsStrictlySortedBy}
 use Rattle.std.specs.Ordering.{is_le}
 use Rattle.std.specs.declared.cmp.Ordering.TheVariants.{Less}
 use Rattle.std.proofs.lemmas.Bool.{or_left, or_right}
+use Rattle.std.proofs.lemmas.List.{take-append-drop}
 use Rattle.fb_parse.specs.Text.Order.{name_cmp}
 use Rattle.fb_library.specs.Shelves.{names_of, lasts_of, all_on, AreShelves, reaches}
 use Rattle.fb_library.proofs.Names.{name_total}
@@ -88,31 +89,25 @@ module _ {V : Type 0} where
   abbrev name_at : List (List ℕ × V) → ℕ → List ℕ
   name_at es k = get_or (names_of es) k []
 
-  joins : (es : List (List ℕ × V)) (k : ℕ) → take k es ++ drop k es ≡ es
-  joins [] zero = refl
-  joins [] (suc k) = refl
-  joins (e ∷ es) zero = refl
-  joins (e ∷ es) (suc k) = ap (λ l. e ∷ l) (joins es k)
-
   taken : (P : List ℕ → Type 0) (es : List (List ℕ × V)) (k : ℕ) → AllByRecursion P (names_of es) → AllByRecursion P (names_of (take k es))
-  taken P es k all = all_left P (take k es) (drop k es) (subst (λ (l : List (List ℕ × V)). AllByRecursion P (names_of l)) (sym (joins es k)) all)
+  taken P es k all = all_left P (take k es) (drop k es) (subst (λ (l : List (List ℕ × V)). AllByRecursion P (names_of l)) (sym (take-append-drop k es)) all)
 
   dropped : (P : List ℕ → Type 0) (es : List (List ℕ × V)) (k : ℕ) → AllByRecursion P (names_of es) → AllByRecursion P (names_of (drop k es))
-  dropped P es k all = all_right P (take k es) (drop k es) (subst (λ (l : List (List ℕ × V)). AllByRecursion P (names_of l)) (sym (joins es k)) all)
+  dropped P es k all = all_right P (take k es) (drop k es) (subst (λ (l : List (List ℕ × V)). AllByRecursion P (names_of l)) (sym (take-append-drop k es)) all)
 
   named : (P : List ℕ → Type 0) (es : List (List ℕ × V)) (k : ℕ) → k < length es → AllByRecursion P (names_of es) → P (name_at es k)
   named P [] k lt all = absurd (omega (arith, lt))
   named P (e ∷ es) zero lt all = all.0
   named P (e ∷ es) (suc k) lt all = named P es k (omega (arith, lt)) all.1
 
-  sorted_low : (es : List (List ℕ × V)) (k : ℕ) → IsStrictlySortedBy name_cmp (names_of es) → IsStrictlySortedBy name_cmp (names_of (take k es))
+  pub sorted_low : (es : List (List ℕ × V)) (k : ℕ) → IsStrictlySortedBy name_cmp (names_of es) → IsStrictlySortedBy name_cmp (names_of (take k es))
   unfolding IsStrictlySortedBy
   sorted_low [] zero s = tt
   sorted_low [] (suc k) s = tt
   sorted_low (e ∷ es) zero s = tt
   sorted_low (e ∷ es) (suc k) s = (taken (λ m. name_cmp e.0 m ≡ Less) es k s.0, sorted_low es k s.1)
 
-  sorted_high : (es : List (List ℕ × V)) (k : ℕ) → IsStrictlySortedBy name_cmp (names_of es) → IsStrictlySortedBy name_cmp (names_of (drop k es))
+  pub sorted_high : (es : List (List ℕ × V)) (k : ℕ) → IsStrictlySortedBy name_cmp (names_of es) → IsStrictlySortedBy name_cmp (names_of (drop k es))
   unfolding IsStrictlySortedBy
   sorted_high [] zero s = s
   sorted_high [] (suc k) s = s
@@ -154,7 +149,7 @@ module _ {V : Type 0} where
 
   pub all_in_two : (ss : List (Row V)) (i k : ℕ) → i < length ss → all_on (in_two ss i k) ≡ all_on ss
   all_in_two [] i k lt = absurd (omega (arith, lt))
-  all_in_two (s ∷ ss) zero k lt = sym (append_assoc (take (suc k) s.1) (drop (suc k) s.1) (all_on ss)) ∙ ap (λ l. l ++ all_on ss) (joins s.1 (suc k))
+  all_in_two (s ∷ ss) zero k lt = sym (append_assoc (take (suc k) s.1) (drop (suc k) s.1) (all_on ss)) ∙ ap (λ l. l ++ all_on ss) (take-append-drop (suc k) s.1)
   all_in_two (s ∷ ss) (suc i) k lt = ap (λ l. s.1 ++ l) (all_in_two ss i k (omega (arith, lt)))
 
   pub reaches_in_two : (ss : List (Row V)) (i k : ℕ) (n : List ℕ) → i < length ss → reaches (lasts_of ss) n ≡ true → reaches (lasts_of (in_two ss i k)) n ≡ true

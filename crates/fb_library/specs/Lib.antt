@@ -1,7 +1,6 @@
 -- What the contracts of this crate cite.
 pub mod Entries
 pub mod Place
-pub mod Rooms
 pub mod Seen
 pub mod Shelves
 pub mod Parts

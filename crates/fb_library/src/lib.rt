@@ -2,16 +2,15 @@
 #![tactic(auto)]
 
 mod change;
+mod entries;
 mod filed;
 mod laws;
 mod library;
 mod look_up;
 mod mentions;
 mod parts;
-mod room;
-mod rooms;
+mod placed;
 mod seen;
-mod shelf;
 mod shelves;
 mod table;
 mod walk;

@@ -1,125 +1,104 @@
-//! The shelves of a room. A function leaves the entries as they were where there was no memory.
-ghost use Rattle.std.specs.Prelude.{◌≡◌, ℕ, ◌<◌, ◌-◌, ◌++◌, List, [], true, IfOk, OnOk, OnErr, length, slice_get, map};
-ghost use Rattle.std.specs.Option.{option_map};
-ghost use Rattle.std.specs.Map.{lookup, remove_entry};
+//! Shelves of entries, which are entries themselves.
+ghost use Rattle.std.specs.Prelude.{◌≡◌, ℕ, ◌<◌, List, true, IfOk, OnOk, OnErr, length};
+ghost use Rattle.std.specs.Map.{remove_entry};
 ghost use Rattle.std.specs.BTreeMap.{insert_entry, is_at};
 ghost use Rattle.fb_parse.specs.Text.Order.{name_cmp};
-ghost use Rattle.fb_library.specs.Entries.{shelves_of, entries_in, lasts_in};
+ghost use Rattle.fb_library.specs.Entries.{shelves_of, entries_on, lasts_on};
 ghost use Rattle.fb_library.specs.Shelves.{AreShelves, IsShelfFor, reaches};
 
-use crate::shelf::{Shelf, copied, push_names};
+use crate::entries::Entries;
 use fb_parse::text::Name;
 use std::alloc::{AllocError, Global};
-use std::marker::Model;
+use std::marker::{Model, PhantomData};
 use std::sync::Arc;
 
-// A full shelf becomes two halves, so it has some 24 names. A change makes one shelf anew, with a
-// count for each of its names: each lies in memory of its own, which is seldom in the cache.
+// Full shelves become two halves. A change makes one shelf anew, and a copy costs a count for each.
 const FULL: usize = 32;
 
-/// Shelves by rising name, and how many entries are on them. A copy shares all that is not changed
-/// after it.
+/// Entries of which no name is greater than the last one, which need not stand there.
 #[derive(Drop)]
-pub(crate) struct Shelves<V> {
-    shelves: Vec<Shelf<V>>,
-    len: usize,
+pub(crate) struct Shelf<E> {
+    last: Name,
+    entries: Arc<E>,
 }
 
-impl<V> Model for Shelves<V> {
+/// Shelves by rising name, and how many entries are on them.
+#[derive(Drop)]
+pub(crate) struct Shelves<V, E: Entries<V>> {
+    shelves: Vec<Shelf<E>>,
+    len: usize,
+    of: PhantomData<V>,
+}
+
+impl<V, E: Entries<V>> Model for Shelves<V, E> {
     ghost use Rattle.std.specs.Prelude.{ℕ, List};
 
     ghost Value = { List (List ℕ × V) };
 
-    ghost use Rattle.fb_library.specs.Entries.{shelves_of, entries_in};
+    ghost use Rattle.fb_library.specs.Entries.{shelves_of, entries_on};
     ghost use Rattle.fb_library.specs.Shelves.{AreCounted};
 
-    ghost view = { λ it. entries_in it.shelves.items };
+    ghost view = { λ it. entries_on E.entries it.shelves.items };
 
-    ghost invariant = { λ it. AreCounted (shelves_of it.shelves.items) it.len };
+    ghost invariant = { λ it. AreCounted (shelves_of E.entries it.shelves.items) it.len };
 }
 
-impl<V: Drop> Shelves<V> {
-    /// No shelves.
-    pub(crate) fn new(alloc: Global) -> Shelves<V>
-        ensures { result ≡ [] }
-    {
+impl<V: Drop, E: Entries<V>> Entries<V> for Shelves<V, E> {
+    ghost entries = { λ it. it };
+
+    fn new(alloc: Global) -> Shelves<V, E> {
         Shelves {
             shelves: Vec::new(alloc),
             len: 0,
+            of: PhantomData,
         }
     }
 
-    /// How many entries there are.
-    pub(crate) fn len(&self) -> usize
-        ensures { result ≡ length self.now }
-    {
+    fn len(&self) -> usize {
         self.len
     }
 
-    /// How many shelves there are.
-    pub(crate) fn count(&self) -> usize {
-        self.shelves.len()
+    fn is_full(&self) -> bool {
+        self.shelves.len() >= FULL
     }
 
-    /// The value under a name.
-    pub(crate) fn get(&self, name: &Name) -> Option<&Arc<V>>
-        ensures { option_map (λ it. it.now.value) result
-            ≡ lookup (is_at (name_cmp name.now)) self.now }
-    {
+    fn get(&self, name: &Name) -> Option<&Arc<V>> {
         let shelves = self.shelves.as_slice();
         match shelves.get(shelf_for(shelves, name)) {
-            Some(shelf) => shelf.get(name),
+            Some(shelf) => shelf.entries.get(name),
             None => None,
         }
     }
 
-    /// The name at an index, in the order of the names.
-    pub(crate) fn name_at(&self, index: usize) -> Option<Name>
-        ensures { result ≡ slice_get (map (λ e. e.0) self.now) index }
-    {
+    fn name_at(&self, index: usize) -> Option<Name> {
         let mut index = index;
         for shelf in &self.shelves {
-            match shelf.places.get(index) {
-                Some(placed) => return Some(placed.name),
-                None => index -= shelf.places.len(),
+            let here = shelf.entries.len();
+            if index < here {
+                return shelf.entries.name_at(index);
             }
+            index -= here;
         }
         None
     }
 
-    /// The last name.
-    pub(crate) fn last(&self) -> Option<Name>
-        ensures { result ≡ slice_get (map (λ e. e.0) self.now) (length self.now - 1) }
-    {
-        self.name_at(self.len.saturating_sub(1))
-    }
-
-    /// Pushes the names, in order.
-    pub(crate) fn push_names(&self, names: &mut Vec<Name>) -> Result<(), AllocError>
-        ensures { OnOk result (names.new.items ≡ names.old.items ++ map (λ e. e.0) self.now) }
-    {
+    fn push_names(&self, names: &mut Vec<Name>) -> Result<(), AllocError> {
         for shelf in &self.shelves {
-            push_names(names, shelf.places.as_slice())?;
+            shelf.entries.push_names(names)?;
         }
         Ok(())
     }
 
-    /// The same shelves, shared.
-    pub(crate) fn copy(&self) -> Result<Shelves<V>, AllocError>
-        ensures { IfOk result (λ copy. copy ≡ self.now) }
-    {
-        let alloc = *self.shelves.allocator();
-        let shelves = copies(alloc, self.shelves.as_slice())?;
+    fn copy(&self) -> Result<Shelves<V, E>, AllocError> {
+        let shelves = copies(*self.shelves.allocator(), self.shelves.as_slice())?;
         Ok(Shelves {
             shelves,
             len: self.len,
+            of: PhantomData,
         })
     }
 
-    /// The lower half of the shelves, and the upper one.
-    pub(crate) fn halves(&self) -> Result<(Shelves<V>, Shelves<V>), AllocError>
-        ensures { IfOk result (λ halves. halves.0 ++ halves.1 ≡ self.now) }
-    {
+    fn halves(&self) -> Result<(Shelves<V, E>, Shelves<V, E>), AllocError> {
         let alloc = *self.shelves.allocator();
         let shelves = self.shelves.as_slice();
         let half = shelves.len() / 2;
@@ -128,8 +107,7 @@ impl<V: Drop> Shelves<V> {
         Ok((low, high))
     }
 
-    /// Puts a value under a name, in place of what was there.
-    pub(crate) fn put(&mut self, name: Name, value: Arc<V>) -> Result<(), AllocError>
+    fn put(&mut self, name: Name, value: Arc<V>) -> Result<(), AllocError>
         ensures ok { OnOk result (self.new ≡ insert_entry name_cmp self.old name value.value) }
         ensures err { OnErr result (self.new ≡ self.old) }
     {
@@ -137,11 +115,7 @@ impl<V: Drop> Shelves<V> {
         Ok(())
     }
 
-    /// Removes what is under a name.
-    pub(crate) fn remove(&mut self, name: &Name) -> Result<(), AllocError>
-        ensures ok { OnOk result (self.new ≡ remove_entry (is_at (name_cmp name.now)) self.old) }
-        ensures err { OnErr result (self.new ≡ self.old) }
-    {
+    fn remove(&mut self, name: &Name) -> Result<(), AllocError> {
         if self.get(name).is_some() {
             remove(&mut self.shelves, name)?;
             self.len -= 1;
@@ -151,33 +125,48 @@ impl<V: Drop> Shelves<V> {
 }
 
 /// Some shelves, shared, with a count of their entries.
-fn counted<V: Drop>(alloc: Global, shelves: &[Shelf<V>]) -> Result<Shelves<V>, AllocError>
-    requires { AreShelves (shelves_of shelves.now) }
-    ensures { IfOk result (λ copy. copy ≡ entries_in shelves.now) }
+fn counted<V: Drop, E: Entries<V>>(
+    alloc: Global,
+    shelves: &[Shelf<E>],
+) -> Result<Shelves<V, E>, AllocError>
+    requires { AreShelves (shelves_of E.entries shelves.now) }
+    ensures { IfOk result (λ copy. copy ≡ entries_on E.entries shelves.now) }
 {
     let mut len: usize = 0;
     for shelf in shelves {
-        len = len.checked_add(shelf.places.len()).ok_or(AllocError)?;
+        len = len.checked_add(shelf.entries.len()).ok_or(AllocError)?;
     }
     let shelves = copies(alloc, shelves)?;
-    Ok(Shelves { shelves, len })
+    Ok(Shelves {
+        shelves,
+        len,
+        of: PhantomData,
+    })
 }
 
 /// The same shelves, shared.
-fn copies<V: Drop>(alloc: Global, shelves: &[Shelf<V>]) -> Result<Vec<Shelf<V>>, AllocError>
-    ensures { IfOk result (λ copies. shelves_of copies.items ≡ shelves_of shelves.now) }
+fn copies<V, E: Entries<V>>(
+    alloc: Global,
+    shelves: &[Shelf<E>],
+) -> Result<Vec<Shelf<E>>, AllocError>
+    ensures { IfOk result (λ copies. shelves_of E.entries copies.items
+        ≡ shelves_of E.entries shelves.now) }
 {
     let mut copies = Vec::with_capacity(alloc, shelves.len())?;
     for shelf in shelves {
-        copies.push(shelf.copy()?)?;
+        let entries = shelf.entries.clone()?;
+        copies.push(Shelf {
+            last: shelf.last,
+            entries,
+        })?;
     }
     Ok(copies)
 }
 
 /// The index of the shelf where a name is if it is anywhere: the first that does not end below it.
-fn shelf_for<V>(shelves: &[Shelf<V>], name: &Name) -> usize
-    requires { AreShelves (shelves_of shelves.now) }
-    ensures { IsShelfFor (lasts_in shelves.now) name.now result }
+fn shelf_for<V, E: Entries<V>>(shelves: &[Shelf<E>], name: &Name) -> usize
+    requires { AreShelves (shelves_of E.entries shelves.now) }
+    ensures { IsShelfFor (lasts_on E.entries shelves.now) name.now result }
 {
     match shelves.binary_search_by_key(name, |shelf| shelf.last) {
         Ok(at) => at,
@@ -186,115 +175,140 @@ fn shelf_for<V>(shelves: &[Shelf<V>], name: &Name) -> usize
 }
 
 /// Puts a value under a name, in place of what was there. There are `len` entries, and the answer says how many there are then.
-fn put<V: Drop>(
-    shelves: &mut Vec<Shelf<V>>,
+fn put<V: Drop, E: Entries<V>>(
+    shelves: &mut Vec<Shelf<E>>,
     len: usize,
     name: Name,
     value: Arc<V>,
 ) -> Result<usize, AllocError>
-    requires order { AreShelves (shelves_of shelves.old.items) }
-    requires counted { len ≡ length (entries_in shelves.old.items) }
-    ensures order { AreShelves (shelves_of shelves.new.items) }
-    ensures counted { IfOk result (λ len. len ≡ length (entries_in shelves.new.items)) }
-    ensures ok { OnOk result (entries_in shelves.new.items
-        ≡ insert_entry name_cmp (entries_in shelves.old.items) name value.value) }
-    ensures err { OnErr result (entries_in shelves.new.items ≡ entries_in shelves.old.items) }
+    requires order { AreShelves (shelves_of E.entries shelves.old.items) }
+    requires counted { len ≡ length (entries_on E.entries shelves.old.items) }
+    ensures order { AreShelves (shelves_of E.entries shelves.new.items) }
+    ensures counted { IfOk result (λ len. len ≡ length (entries_on E.entries shelves.new.items)) }
+    ensures ok { OnOk result (entries_on E.entries shelves.new.items
+        ≡ insert_entry name_cmp (entries_on E.entries shelves.old.items) name value.value) }
+    ensures err { OnErr result (entries_on E.entries shelves.new.items
+        ≡ entries_on E.entries shelves.old.items) }
 {
+    let alloc = *shelves.allocator();
     let at = make_room(shelves, &name)?;
-    let others = len - shelves[at].places.len();
-    let places = shelves[at].with(name, value)?;
-    let len = others.checked_add(places.len()).ok_or(AllocError)?;
-    shelves[at].places = places;
+    let mut entries = shelves[at].entries.copy()?;
+    let others = len - entries.len();
+    entries.put(name, value)?;
+    let len = others.checked_add(entries.len()).ok_or(AllocError)?;
+    let entries = Arc::new(alloc, entries)?;
+    shelves[at].entries = entries;
     Ok(len)
 }
 
 /// Removes a name that is there.
-fn remove<V: Drop>(shelves: &mut Vec<Shelf<V>>, name: &Name) -> Result<(), AllocError>
-    requires order { AreShelves (shelves_of shelves.old.items) }
-    requires there { reaches (lasts_in shelves.old.items) name.now ≡ true }
-    ensures order { AreShelves (shelves_of shelves.new.items) }
-    ensures ok { OnOk result (entries_in shelves.new.items
-        ≡ remove_entry (is_at (name_cmp name.now)) (entries_in shelves.old.items)) }
-    ensures err { OnErr result (entries_in shelves.new.items ≡ entries_in shelves.old.items) }
+fn remove<V: Drop, E: Entries<V>>(
+    shelves: &mut Vec<Shelf<E>>,
+    name: &Name,
+) -> Result<(), AllocError>
+    requires order { AreShelves (shelves_of E.entries shelves.old.items) }
+    requires there { reaches (lasts_on E.entries shelves.old.items) name.now ≡ true }
+    ensures order { AreShelves (shelves_of E.entries shelves.new.items) }
+    ensures ok { OnOk result (entries_on E.entries shelves.new.items
+        ≡ remove_entry (is_at (name_cmp name.now)) (entries_on E.entries shelves.old.items)) }
+    ensures err { OnErr result (entries_on E.entries shelves.new.items
+        ≡ entries_on E.entries shelves.old.items) }
 {
+    let alloc = *shelves.allocator();
     let at = shelf_for(shelves.as_slice(), name);
-    let places = shelves[at].without(name)?;
-    shelves[at].places = places;
+    let mut entries = shelves[at].entries.copy()?;
+    entries.remove(name)?;
+    let entries = Arc::new(alloc, entries)?;
+    shelves[at].entries = entries;
     Ok(())
 }
 
-/// Has a shelf for the name, with room, and gives its index.
-fn make_room<V: Drop>(shelves: &mut Vec<Shelf<V>>, name: &Name) -> Result<usize, AllocError>
-    requires { AreShelves (shelves_of shelves.old.items) }
-    ensures order { AreShelves (shelves_of shelves.new.items) }
-    ensures same { entries_in shelves.new.items ≡ entries_in shelves.old.items }
-    ensures at { IfOk result (IsShelfFor (lasts_in shelves.new.items) name.now) }
+/// Has a shelf for the name, which is not full, and gives its index.
+fn make_room<V: Drop, E: Entries<V>>(
+    shelves: &mut Vec<Shelf<E>>,
+    name: &Name,
+) -> Result<usize, AllocError>
+    requires { AreShelves (shelves_of E.entries shelves.old.items) }
+    ensures order { AreShelves (shelves_of E.entries shelves.new.items) }
+    ensures same { entries_on E.entries shelves.new.items
+        ≡ entries_on E.entries shelves.old.items }
+    ensures at { IfOk result (IsShelfFor (lasts_on E.entries shelves.new.items) name.now) }
     ensures room { IfOk result (λ at. at < length shelves.new.items) }
 {
     let at = shelf_for(shelves.as_slice(), name);
-    if at < shelves.len() && shelves[at].places.len() < FULL {
+    if at < shelves.len() && !shelves[at].entries.is_full() {
         return Ok(at);
     }
     widen(shelves, at, name)?;
     Ok(shelf_for(shelves.as_slice(), name))
 }
 
-/// Has a shelf for the name, with room, where `at` is the index of the one for it, or no shelf is.
-fn widen<V: Drop>(shelves: &mut Vec<Shelf<V>>, at: usize, name: &Name) -> Result<(), AllocError>
-    requires order { AreShelves (shelves_of shelves.old.items) }
-    requires at { IsShelfFor (lasts_in shelves.old.items) name.now at }
-    ensures order { AreShelves (shelves_of shelves.new.items) }
-    ensures same { entries_in shelves.new.items ≡ entries_in shelves.old.items }
-    ensures room { OnOk result (reaches (lasts_in shelves.new.items) name.now ≡ true) }
+/// Has a shelf for the name, where `at` is the index of the one for it, or no shelf is.
+fn widen<V: Drop, E: Entries<V>>(
+    shelves: &mut Vec<Shelf<E>>,
+    at: usize,
+    name: &Name,
+) -> Result<(), AllocError>
+    requires order { AreShelves (shelves_of E.entries shelves.old.items) }
+    requires at { IsShelfFor (lasts_on E.entries shelves.old.items) name.now at }
+    ensures order { AreShelves (shelves_of E.entries shelves.new.items) }
+    ensures same { entries_on E.entries shelves.new.items
+        ≡ entries_on E.entries shelves.old.items }
+    ensures room { OnOk result (reaches (lasts_on E.entries shelves.new.items) name.now ≡ true) }
 {
     if at < shelves.len() {
-        halve_full(shelves, at)
+        halve(shelves, at)
     } else {
         reach(shelves, *name)
     }
 }
 
-/// Makes two shelves of a full one.
-fn halve_full<V: Drop>(shelves: &mut Vec<Shelf<V>>, at: usize) -> Result<(), AllocError>
+/// Makes two shelves of one, where both halves have entries.
+fn halve<V: Drop, E: Entries<V>>(shelves: &mut Vec<Shelf<E>>, at: usize) -> Result<(), AllocError>
     requires at { at < length shelves.old.items }
-    requires order { AreShelves (shelves_of shelves.old.items) }
-    ensures order { AreShelves (shelves_of shelves.new.items) }
-    ensures same { entries_in shelves.new.items ≡ entries_in shelves.old.items }
-    ensures room { (name : List ℕ) → reaches (lasts_in shelves.old.items) name ≡ true
-        → reaches (lasts_in shelves.new.items) name ≡ true }
+    requires order { AreShelves (shelves_of E.entries shelves.old.items) }
+    ensures order { AreShelves (shelves_of E.entries shelves.new.items) }
+    ensures same { entries_on E.entries shelves.new.items
+        ≡ entries_on E.entries shelves.old.items }
+    ensures room { (name : List ℕ) → reaches (lasts_on E.entries shelves.old.items) name ≡ true
+        → reaches (lasts_on E.entries shelves.new.items) name ≡ true }
 {
-    let places = shelves[at].places.as_slice();
-    if places.len() < FULL {
+    let (low, high) = shelves[at].entries.halves()?;
+    if high.len() == 0 {
         return Ok(());
     }
+    let last = match low.name_at(low.len().saturating_sub(1)) {
+        Some(last) => last,
+        None => return Ok(()),
+    };
     let alloc = *shelves.allocator();
-    let half = places.len() / 2;
-    let low = copied(alloc, &places[..half])?;
-    let high = copied(alloc, &places[half..])?;
-    let last = places[half - 1].name;
     let low = Arc::new(alloc, low)?;
     let high = Arc::new(alloc, high)?;
-    shelves.insert(at, Shelf { last, places: low })?;
-    shelves[at + 1].places = high;
+    shelves.insert(at, Shelf { last, entries: low })?;
+    shelves[at + 1].entries = high;
     Ok(())
 }
 
 /// Has the shelves reach a name that all of them end below: the last one, or a new one where that is
 /// full.
-fn reach<V: Drop>(shelves: &mut Vec<Shelf<V>>, name: Name) -> Result<(), AllocError>
-    requires order { AreShelves (shelves_of shelves.old.items) }
-    requires past { IsShelfFor (lasts_in shelves.old.items) name (length shelves.old.items) }
-    ensures order { AreShelves (shelves_of shelves.new.items) }
-    ensures same { entries_in shelves.new.items ≡ entries_in shelves.old.items }
-    ensures room { OnOk result (reaches (lasts_in shelves.new.items) name ≡ true) }
+fn reach<V: Drop, E: Entries<V>>(shelves: &mut Vec<Shelf<E>>, name: Name) -> Result<(), AllocError>
+    requires order { AreShelves (shelves_of E.entries shelves.old.items) }
+    requires past { IsShelfFor (lasts_on E.entries shelves.old.items) name (length shelves.old.items) }
+    ensures order { AreShelves (shelves_of E.entries shelves.new.items) }
+    ensures same { entries_on E.entries shelves.new.items
+        ≡ entries_on E.entries shelves.old.items }
+    ensures room { OnOk result (reaches (lasts_on E.entries shelves.new.items) name ≡ true) }
 {
     let count = shelves.len();
-    if count > 0 && shelves[count - 1].places.len() < FULL {
+    if count > 0 && !shelves[count - 1].entries.is_full() {
         shelves[count - 1].last = name;
         return Ok(());
     }
     let alloc = *shelves.allocator();
-    let places = Arc::new(alloc, Vec::new(alloc))?;
+    let entries = Arc::new(alloc, E::new(alloc))?;
     shelves.reserve_exact(1)?;
-    Ok(shelves.push(Shelf { last: name, places })?)
+    Ok(shelves.push(Shelf {
+        last: name,
+        entries,
+    })?)
 }

@@ -6,36 +6,38 @@ ghost use Rattle.std.specs.Map.{lookup, remove_entry};
 ghost use Rattle.std.specs.BTreeMap.{insert_entry, is_at};
 ghost use Rattle.fb_parse.specs.Text.Order.{name_cmp};
 
-use crate::room::Room;
-use crate::rooms;
+use crate::entries::Entries;
+use crate::placed::Places;
+use crate::shelves::Shelves;
 use fb_parse::text::Name;
 use std::alloc::{AllocError, Global};
 use std::marker::Model;
 use std::sync::Arc;
 
 /// Values by name, in the order of the names. A copy shares all that is not changed after it.
-pub struct Table<V> {
-    rooms: Vec<Room<V>>,
-    len: usize,
+pub struct Table<V: Drop> {
+    // A copy of n names costs a count for some n / 600 rooms of shelves.
+    rooms: Shelves<V, Shelves<V, Places<V>>>,
 }
 
 impl<V: Drop> Drop for Table<V> {
     fn drop(self) {
-        let Self { rooms: _, len: _ } = self;
+        let Self { rooms: _ } = self;
     }
 }
 
-impl<V> Model for Table<V> {
+impl<V: Drop> Model for Table<V> {
     ghost use Rattle.std.specs.Prelude.{ℕ, List};
 
     ghost Value = { List (List ℕ × V) };
 
-    ghost use Rattle.fb_library.specs.Rooms.{rooms_of, entries_within};
-    ghost use Rattle.fb_library.specs.Shelves.{AreCounted};
+    ghost use Rattle.std.specs.List.Sorted.{IsStrictlySortedBy};
+    ghost use Rattle.fb_parse.specs.Text.Order.{name_cmp};
+    ghost use Rattle.fb_library.specs.Shelves.{names_of};
 
-    ghost view = { λ it. entries_within it.rooms.items };
+    ghost view = { λ it. it.rooms };
 
-    ghost invariant = { λ it. AreCounted (rooms_of it.rooms.items) it.len };
+    ghost invariant = { λ it. IsStrictlySortedBy name_cmp (names_of it.rooms) };
 }
 
 impl<V: Drop> Table<V> {
@@ -44,8 +46,7 @@ impl<V: Drop> Table<V> {
         ensures { result ≡ [] }
     {
         Table {
-            rooms: Vec::new(alloc),
-            len: 0,
+            rooms: Entries::new(alloc),
         }
     }
 
@@ -53,7 +54,7 @@ impl<V: Drop> Table<V> {
     pub fn len(&self) -> usize
         ensures { result ≡ length self.now }
     {
-        self.len
+        self.rooms.len()
     }
 
     /// The value under a name, to be shared.
@@ -61,11 +62,7 @@ impl<V: Drop> Table<V> {
         ensures { option_map (λ it. it.now.value) result
             ≡ lookup (is_at (name_cmp name.now)) self.now }
     {
-        let rooms = self.rooms.as_slice();
-        match rooms.get(rooms::room_for(rooms, name)) {
-            Some(room) => room.shelves.get(name),
-            None => None,
-        }
+        self.rooms.get(name)
     }
 
     /// The name at an index, in the order of the names.
@@ -73,15 +70,7 @@ impl<V: Drop> Table<V> {
         ensures name { result ≡ slice_get (map (λ e. e.0) self.now) index }
         ensures sorted { IsStrictlySortedBy name_cmp (map (λ e. e.0) self.now) }
     {
-        let mut index = index;
-        for room in &self.rooms {
-            let here = room.shelves.len();
-            if index < here {
-                return room.shelves.name_at(index);
-            }
-            index -= here;
-        }
-        None
+        self.rooms.name_at(index)
     }
 
     /// The names, in order.
@@ -89,10 +78,8 @@ impl<V: Drop> Table<V> {
         ensures names { IfOk result (λ names. names.items ≡ map (λ e. e.0) self.now) }
         ensures sorted { IsStrictlySortedBy name_cmp (map (λ e. e.0) self.now) }
     {
-        let mut names = Vec::with_capacity(alloc, self.len)?;
-        for room in &self.rooms {
-            room.shelves.push_names(&mut names)?;
-        }
+        let mut names = Vec::with_capacity(alloc, self.rooms.len())?;
+        self.rooms.push_names(&mut names)?;
         Ok(names)
     }
 
@@ -100,12 +87,8 @@ impl<V: Drop> Table<V> {
     pub fn copy(&self) -> Result<Table<V>, AllocError>
         ensures { IfOk result (λ copy. copy ≡ self.now) }
     {
-        let alloc = *self.rooms.allocator();
-        let rooms = rooms::copies(alloc, self.rooms.as_slice())?;
-        Ok(Table {
-            rooms,
-            len: self.len,
-        })
+        let rooms = self.rooms.copy()?;
+        Ok(Table { rooms })
     }
 
     /// Puts a value under a name, in place of what was there. Where there was no memory the table
@@ -114,8 +97,7 @@ impl<V: Drop> Table<V> {
         ensures ok { OnOk result (self.new ≡ insert_entry name_cmp self.old name value.value) }
         ensures err { OnErr result (self.new ≡ self.old) }
     {
-        self.len = rooms::put(&mut self.rooms, self.len, name, value)?;
-        Ok(())
+        self.rooms.put(name, value)
     }
 
     /// Removes what is under a name. Where there was no memory the table stays as it was.
@@ -123,10 +105,6 @@ impl<V: Drop> Table<V> {
         ensures ok { OnOk result (self.new ≡ remove_entry (is_at (name_cmp name.now)) self.old) }
         ensures err { OnErr result (self.new ≡ self.old) }
     {
-        if self.get(name).is_some() {
-            rooms::remove(&mut self.rooms, name)?;
-            self.len -= 1;
-        }
-        Ok(())
+        self.rooms.remove(name)
     }
 }

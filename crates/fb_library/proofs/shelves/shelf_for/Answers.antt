@@ -7,8 +7,8 @@ use Rattle.fb_library.proofs.shelves.shelf_for.Goals as goal
 
 pub returns-in-Ok : goal.returns-in-Ok
 returns-in-Ok g c =
-    shelf_found shelf_of c.args.shelves.now c.args.name.now c.in-Ok.at c.requires c.in-Ok.ensures.bound (c.in-Ok.ensures.position (λ shelf. shelf.last) (answers_always _ _ _ (λ f a r s called. search rules)))
+    shelf_found (shelf_of g.E.Entries.entries) c.args.shelves.now c.args.name.now c.in-Ok.at c.requires c.in-Ok.ensures.bound (c.in-Ok.ensures.position (λ shelf. shelf.last) (answers_always _ _ _ (λ f a r s called. search rules)))
 
 pub returns-in-Err : goal.returns-in-Err
 returns-in-Err g c =
-    shelf_missed shelf_of c.args.shelves.now c.args.name.now c.in-Err.at c.requires c.in-Err.ensures.bound (c.in-Err.ensures.position (λ shelf. shelf.last) (answers_always _ _ _ (λ f a r s called. search rules)))
+    shelf_missed (shelf_of g.E.Entries.entries) c.args.shelves.now c.args.name.now c.in-Err.at c.requires c.in-Err.ensures.bound (c.in-Err.ensures.position (λ shelf. shelf.last) (answers_always _ _ _ (λ f a r s called. search rules)))

@@ -6,4 +6,4 @@ use Rattle.fb_library.proofs.shelves.widen.Goals as goal
 
 pub returns-then-at-len-clause-room : goal.returns-then-at-len-clause-room
 returns-then-at-len-clause-room g c =
-    always c.halve_full.result (c.halve_full.ensures.room c.args.name.now (reached_at shelf_of c.args.shelves.now.items c.args.name.now c.args.at c.requires.at (omega arith)))
+    always c.halve.result (c.halve.ensures.room c.args.name.now (reached_at (shelf_of g.E.Entries.entries) c.args.shelves.now.items c.args.name.now c.args.at c.requires.at (omega arith)))

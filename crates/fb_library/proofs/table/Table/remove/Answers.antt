@@ -1,26 +1,15 @@
--- What is there is in a room, and is one entry less without it.
-use Rattle.std.proofs.Common.{ap, sym, ◌∙◌, length, arith}
-use Rattle.std.specs.Map.{lookup}
+-- The names stay in order.
+use Rattle.std.specs.List.Sorted.{IsStrictlySortedBy}
+use Rattle.std.specs.Map.{remove_entry}
 use Rattle.std.specs.BTreeMap.{is_at}
 use Rattle.fb_parse.specs.Text.Order.{name_cmp}
-use Rattle.fb_library.specs.Rooms.{rooms_of, entries_within}
-use Rattle.fb_library.proofs.Counts.{length_removed, nothing_removed}
-use Rattle.fb_library.proofs.Tables.{some_found, none_found, reaches_found}
+use Rattle.fb_library.specs.Shelves.{names_of}
+use Rattle.fb_library.proofs.Places.{sorted_removed}
+use Rattle.fb_library.proofs.Units.{kept}
 use Rattle.fb_library.proofs.table.Table.remove.Goals as goal
 
-pub remove-requires-clause-there : goal.remove-requires-clause-there
-remove-requires-clause-there g c =
-    let found = some_found (λ it. it.now.value) c.get.result _ c.get.ensures c.if-is_some.ensures in
-    reaches_found (rooms_of c.self.inside.rooms.items) c.args.name.now found.0 c.self.invariant.order (ap (lookup (is_at (name_cmp c.args.name.now))) c.self.view_is ∙ found.1)
-
-pub invariant_of-self-then-is_some : goal.invariant_of-self-then-is_some
-invariant_of-self-then-is_some g c =
-    let found = some_found (λ it. it.now.value) c.get.result _ c.get.ensures c.if-is_some.ensures in
-    let before = entries_within c.self.inside.rooms.items in
-    let fewer = length_removed before (is_at (name_cmp c.args.name.now)) found.0 (ap (lookup (is_at (name_cmp c.args.name.now))) c.self.view_is ∙ found.1) in
-    record { order = c.in_ok-remove.ensures.order; counted = omega (arith, fewer, c.self.invariant.counted, ap length c.in_ok-remove.ensures.ok) }
-
-pub returns-else-is_some-clause-ok : goal.returns-else-is_some-clause-ok
-returns-else-is_some-clause-ok g c =
-    let none = none_found (λ it. it.now.value) c.get.result _ c.get.ensures c.if-is_some.ensures in
-    sym (nothing_removed c.args.self.now (is_at (name_cmp c.args.name.now)) none)
+pub invariant_of-self : goal.invariant_of-self
+invariant_of-self g c =
+    let rooms = c.self.inside.rooms in
+    let is_name = is_at (name_cmp c.args.name.now) in
+    kept (λ es. IsStrictlySortedBy name_cmp (names_of es)) c.remove.result rooms c.remove.new.self (remove_entry is_name rooms) c.remove.ensures.ok c.remove.ensures.err c.self.invariant (sorted_removed is_name rooms c.self.invariant)
