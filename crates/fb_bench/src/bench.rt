@@ -496,12 +496,12 @@ impl Bench {
         ensures err { OnErr result (self.new ≡ self.old) }
     {
         let value = finished.value().clone()?;
-        let made = finished.made()?;
+        let derivation = finished.derivation()?;
         let found = shares_of(self.alloc, finished.found())?;
         let answer = Reply::Delivering(None);
         let share = self.history.push(caller, call, answer)?;
         let key = finished.key();
-        self.entries.keep(&key, value, made);
+        self.entries.keep(&key, value, derivation);
         keep_all(&mut self.entries, found);
         Ok(share)
     }

@@ -18,7 +18,7 @@ is_of key keys = list_any (same_key key) keys
 
 -- an entry that waits for a result
 abbrev pub blank : Arc Key Global → Entry
-blank key = record { key = key; value = None; out = false; found = None; former = None }
+blank key = record { key = key; value = None; out = false; found = None; previous = None }
 
 -- an entry that has no value
 abbrev pub is_unkept : Entry → Bool
@@ -38,7 +38,7 @@ with_out out it = record it { out = out }
 
 -- an entry that is not handed out, with this value, and with what made it
 abbrev pub with_value : Arc Value Global → PlainJob → Entry → Entry
-with_value value made it = record it { value = Some value; out = false; found = None; former = Some made }
+with_value value made it = record it { value = Some value; out = false; found = None; previous = Some made }
 
 -- what was found for an entry that has no value
 abbrev pub unless_kept : Option (Arc Value Global) → Arc Value Global → Option (Arc Value Global)

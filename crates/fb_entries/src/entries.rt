@@ -20,7 +20,7 @@ use crate::renewal::{
 };
 use fb_index::Index;
 use fb_index::library::{Change, Library};
-use fb_jobs::{Kept, Key, Made, Value, keys_by_name};
+use fb_jobs::{Cache, Derivation, Key, Value, keys_by_name};
 use fb_text::Name;
 use std::alloc::{AllocError, Global};
 use std::collections::{BTreeMap, BTreeSet};
@@ -260,11 +260,11 @@ impl Entries {
     }
 
     /// Gives a key its value, with what made it; it is not handed out then, and can't be taken.
-    pub fn keep(&mut self, key: &Key, value: Arc<Value>, made: Made)
-        ensures entries { ChangesEntry key.now (with_value value made) (entry_at self.old) (entry_at self.new) }
+    pub fn keep(&mut self, key: &Key, value: Arc<Value>, derivation: Derivation)
+        ensures entries { ChangesEntry key.now (with_value value derivation) (entry_at self.old) (entry_at self.new) }
         ensures ready { MarksKey key.now false (can_take self.old) (can_take self.new) }
     {
-        keep(&mut self.by_key, key, value, made);
+        keep(&mut self.by_key, key, value, derivation);
         leave(&mut self.ready, key);
     }
 
@@ -277,7 +277,7 @@ impl Entries {
     }
 }
 
-impl Kept for Entries {
+impl Cache for Entries {
     ghost use Rattle.fb_entries.specs.Found.{found_in, kept_in};
     ghost use Rattle.fb_entries.specs.Keyed.{entry_at};
 
@@ -293,7 +293,7 @@ impl Kept for Entries {
         self.by_key.get(key)?.found.as_ref()
     }
 
-    fn former(&self, key: &Key) -> Option<&Made> {
-        self.by_key.get(key)?.former.as_ref()
+    fn previous(&self, key: &Key) -> Option<&Derivation> {
+        self.by_key.get(key)?.previous.as_ref()
     }
 }

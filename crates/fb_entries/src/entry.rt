@@ -5,7 +5,7 @@ ghost use Rattle.std.specs.BTreeSet as set;
 ghost use Rattle.fb_jobs.specs.KeyOrder.{key_cmp};
 ghost use Rattle.fb_entries.specs.Marking.{blank, unless_kept, with_found, with_out, with_value, ChangesEntry, RenewsEntry, MarksKey, SameKeys};
 
-use fb_jobs::{Key, Made, Value};
+use fb_jobs::{Derivation, Key, Value};
 use std::alloc::{AllocError, Global};
 use std::collections::{BTreeMap, BTreeSet};
 use std::sync::Arc;
@@ -21,7 +21,7 @@ pub struct Entry {
     /// Of a pending key its value, where a job for another key computed it on the way.
     pub found: Option<Arc<Value>>,
     /// The value that it had last, with the texts that gave it: it is shared where it comes out again.
-    pub former: Option<Made>,
+    pub previous: Option<Derivation>,
 }
 
 impl Drop for Entry {
@@ -31,7 +31,7 @@ impl Drop for Entry {
             value: _,
             out: _,
             found: _,
-            former: _,
+            previous: _,
         } = self;
     }
 }
@@ -46,7 +46,7 @@ impl Entry {
             value: None,
             out: false,
             found: None,
-            former: None,
+            previous: None,
         }
     }
 
@@ -72,14 +72,19 @@ pub(crate) fn mark_out(entries: &mut BTreeMap<Key, Entry>, key: &Key, out: bool)
 }
 
 /// Gives a key that has an entry its value, with what made it; the key is not handed out then.
-pub(crate) fn keep(entries: &mut BTreeMap<Key, Entry>, key: &Key, value: Arc<Value>, made: Made)
-    ensures { ChangesEntry key.now (with_value value made) (tree.get key_cmp entries.old) (tree.get key_cmp entries.new) }
+pub(crate) fn keep(
+    entries: &mut BTreeMap<Key, Entry>,
+    key: &Key,
+    value: Arc<Value>,
+    derivation: Derivation,
+)
+    ensures { ChangesEntry key.now (with_value value derivation) (tree.get key_cmp entries.old) (tree.get key_cmp entries.new) }
 {
     if let Some(entry) = entries.get_mut(key) {
         entry.value = Some(value);
         entry.out = false;
         entry.found = None;
-        entry.former = Some(made);
+        entry.previous = Some(derivation);
     }
 }
 

@@ -19,9 +19,9 @@ use Rattle.fb_jobs.specs.declared.key.Kind.{Kind}
 use Rattle.fb_jobs.specs.declared.key.Kind.TheVariants as kind
 use Rattle.fb_jobs.specs.declared.key.Key.{Key}
 use Rattle.fb_jobs.specs.Keys.{needs, needs_of}
-use Rattle.fb_jobs.specs.Left.{MentionsTheSame, seen_text}
+use Rattle.fb_jobs.specs.Reuse.{MentionsTheSame, seen_text}
 use Rattle.fb_jobs.specs.Reads.{IsRight, Seen, read_names, read_texts, reads_under}
-use Rattle.fb_jobs.proofs.LeftLemmas.{count_names, under}
+use Rattle.fb_jobs.proofs.ReuseLemmas.{count_names, under}
 use Rattle.fb_jobs.proofs.Sources.{get_source}
 
 -- both mention the same under a name

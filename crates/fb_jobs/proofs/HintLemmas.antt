@@ -25,9 +25,9 @@ use Rattle.fb_jobs.specs.declared.key.Kind.{Kind}
 use Rattle.fb_jobs.specs.declared.key.Kind.TheVariants as kind
 use Rattle.fb_jobs.specs.declared.key.Key.{Key}
 use Rattle.fb_jobs.specs.Keys.{Finding, needs, needs_of, scratch}
-use Rattle.fb_jobs.specs.Kept.{AreKept}
+use Rattle.fb_jobs.specs.Cache.{AreKept}
 use Rattle.fb_jobs.specs.Kinds.{needs_all}
-use Rattle.fb_jobs.specs.Left.{seen_text}
+use Rattle.fb_jobs.specs.Reuse.{seen_text}
 use Rattle.fb_jobs.specs.Reads.{IsOf, Seen, is_among, read_names, read_texts, reads_for}
 use Rattle.fb_jobs.specs.Values.{finding_of, all_seen, seen_of}
 use Rattle.fb_jobs.specs.Hints.{AddsChosen, AreChosen, AreHints, IsHint, IsKeptHint, is_chosen, is_other_subapplication, net_key, units_of}

@@ -6,11 +6,11 @@ pub mod SameNeeds
 pub mod Sources
 pub mod Currents
 pub mod HintLemmas
-pub mod KnownLemmas
+pub mod CachedLemmas
 pub mod WorkLemmas
 pub mod Searches
 pub mod TextLemmas
-pub mod LeftLemmas
+pub mod ReuseLemmas
 pub mod Again
 -- Of the crates below, for the crates above.
 pub use Rattle.fb_deploy.proofs.Library as Library

@@ -4,7 +4,7 @@ use Rattle.std.specs.List.{AllZip}
 use Rattle.fb_deploy.specs.Library.Texts.{Texts}
 use Rattle.fb_jobs.specs.declared.key.Key.{Key}
 use Rattle.fb_jobs.specs.declared.read.Read.{Read}
-use Rattle.fb_jobs.specs.Left.{MentionsTheSame}
+use Rattle.fb_jobs.specs.Reuse.{MentionsTheSame}
 use Rattle.fb_jobs.specs.Reads.{Seen, read_names, reads_for, reads_under}
 use Rattle.fb_jobs.specs.Values.{all_seen, IsOwn}
 

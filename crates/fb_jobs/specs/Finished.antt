@@ -5,10 +5,10 @@ use Rattle.std.specs.declared.alloc.Global.{Global}
 use Rattle.fb_jobs.specs.Keys.{scratch}
 use Rattle.fb_jobs.specs.Reads.{PlainJob, Seen, IsRight, read_texts}
 use Rattle.fb_jobs.specs.Values.{finding_of, all_seen, IsOwn}
-use Rattle.fb_jobs.specs.Known.{IsKnowledge}
+use Rattle.fb_jobs.specs.Cached.{IsCached}
 use Rattle.fb_jobs.specs.Work.{IsFoundFor}
 use Rattle.fb_jobs.specs.declared.hints.Hint.{Hint}
-use Rattle.fb_jobs.specs.declared.known.Knowledge.{Knowledge}
+use Rattle.fb_jobs.specs.declared.cached.Cached.{Cached}
 use Rattle.fb_jobs.specs.declared.key.Key.{Key}
 use Rattle.fb_jobs.specs.declared.read.Read.{Read}
 use Rattle.fb_jobs.specs.declared.value.Value.{Value}
@@ -23,9 +23,9 @@ pub record IsJob (key : Key) (reads : List Read) (texts : List Seen) : Type 0 wh
   pub texts_are : texts ≡ all_seen reads
 
 -- and what is known beside them is what the reads give
-pub record IsGiven (key : Key) (reads : List Read) (texts : List Seen) (knowledge : Knowledge) : Type 0 where
+pub record IsGiven (key : Key) (reads : List Read) (texts : List Seen) (cached : Cached) : Type 0 where
   pub job : IsJob key reads texts
-  pub known : IsKnowledge (all_seen reads) key knowledge
+  pub known : IsCached (all_seen reads) key cached
 
 -- the value is that of the reads, from scratch, and so are the nets that were found on the way
 pub record IsFinished (key : Key) (reads : List Read) (texts : List Seen) (value : Arc Value Global) (found : List Hint) : Type 0 where

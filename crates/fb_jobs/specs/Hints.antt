@@ -10,7 +10,7 @@ use Rattle.fb_jobs.specs.declared.key.Kind.TheVariants as kind
 use Rattle.fb_jobs.specs.declared.key.Key.{Key}
 use Rattle.fb_jobs.specs.declared.hints.Hint.{Hint}
 use Rattle.fb_jobs.specs.Keys.{Finding, needs, scratch}
-pub use Rattle.fb_jobs.specs.Kept.{AreKept}
+pub use Rattle.fb_jobs.specs.Cache.{AreKept}
 use Rattle.fb_jobs.specs.Kinds.{needs_all}
 use Rattle.fb_jobs.specs.Reads.{Seen, read_names, is_among}
 use Rattle.fb_jobs.specs.Values.{finding_of}

@@ -5,12 +5,12 @@ pub mod Kinds
 pub mod Reads
 pub mod Values
 pub mod Texts
-pub mod Kept
+pub mod Cache
 pub mod Reach
 pub mod Hints
-pub mod Known
+pub mod Cached
 pub mod Work
-pub mod Left
+pub mod Reuse
 pub mod Again
 pub mod Finished
 -- Of the crates below, for the crates above.

@@ -11,7 +11,7 @@ use Rattle.fb_deploy.specs.Library.View.{Sources}
 use Rattle.fb_deploy.specs.Flatten.Net.{PlainNet}
 use Rattle.fb_deploy.specs.Flatten.Nets.{net_at}
 use Rattle.fb_jobs.specs.declared.hints.Hint.{Hint}
-use Rattle.fb_jobs.specs.declared.known.KnownNets.{KnownNets}
+use Rattle.fb_jobs.specs.declared.cached.CachedNets.{CachedNets}
 use Rattle.fb_jobs.specs.declared.computed.Worked.{Worked}
 use Rattle.fb_jobs.specs.declared.key.Key.{Key}
 use Rattle.fb_jobs.specs.declared.key.Kind.{Kind}
@@ -19,15 +19,15 @@ use Rattle.fb_jobs.specs.declared.value.Value.{Value}
 use Rattle.fb_jobs.specs.Hints.{IsNetOf}
 use Rattle.fb_jobs.specs.Keys.{needs, net_finding, scratch_of}
 use Rattle.fb_jobs.specs.Kinds.{needs_all}
-use Rattle.fb_jobs.specs.Known.{hint_in}
+use Rattle.fb_jobs.specs.Cached.{hint_in}
 use Rattle.fb_jobs.specs.Reads.{is_among}
 use Rattle.fb_jobs.specs.Values.{finding_of}
 
 -- what is known of nets, and of units without faults
-abbrev pub known_hints : KnownNets → List ℕ → Option PlainNet
+abbrev pub known_hints : CachedNets → List ℕ → Option PlainNet
 known_hints it name = hint_in (tree.get name_cmp it.nets.now name)
 
-abbrev pub known_faultless : KnownNets → List ℕ → Bool
+abbrev pub known_faultless : CachedNets → List ℕ → Bool
 known_faultless it name = set.contains name_cmp it.faultless.now name
 
 -- a value that is known is the net of the unit

@@ -12,10 +12,10 @@ ghost use Rattle.fb_jobs.specs.Values.{finding_of};
 ghost use Rattle.fb_jobs.specs.Work.{IsFoundIn, IsOwnIn, IsWork, known_faultless, known_hints};
 ghost use Rattle.fb_jobs.specs.declared.key.Kind.TheVariants as kind;
 
+use crate::cached::{CachedNets, own_net_in};
+use crate::derivation::Derivation;
 use crate::hints::Hint;
 use crate::key::{Key, Kind};
-use crate::known::{KnownNets, own_net_in};
-use crate::made::Made;
 use crate::same::is_same_value;
 use crate::value::Value;
 use fb_deploy::faults::faults;
@@ -33,22 +33,29 @@ pub(crate) struct Worked {
     pub(crate) found: Vec<Hint>,
 }
 
-/// The former value where the new one says the same, or else the new one.
-fn former_or(alloc: Global, former: &Option<Made>, value: Value) -> Result<Arc<Value>, AllocError>
+/// The previous value where the new one says the same, or else the new one.
+fn previous_or(
+    alloc: Global,
+    previous: &Option<Derivation>,
+    value: Value,
+) -> Result<Arc<Value>, AllocError>
     ensures { IfOk result (λ shared. finding_of shared.value ≡ finding_of value) }
 {
-    match former {
-        Some(made) if is_same_value(made.value(), &value) => Ok(made.value().clone()?),
+    match previous {
+        Some(it) if is_same_value(it.value(), &value) => Ok(it.value().clone()?),
         _ => Ok(Arc::new(alloc, value)?),
     }
 }
 
 /// The same of a net that is known already.
-fn former_or_own(former: &Option<Made>, own: &Arc<Value>) -> Result<Arc<Value>, AllocError>
+fn previous_or_own(
+    previous: &Option<Derivation>,
+    own: &Arc<Value>,
+) -> Result<Arc<Value>, AllocError>
     ensures { IfOk result (λ shared. finding_of shared.value ≡ finding_of own.now.value) }
 {
-    match former {
-        Some(made) if is_same_value(made.value(), own) => Ok(made.value().clone()?),
+    match previous {
+        Some(it) if is_same_value(it.value(), own) => Ok(it.value().clone()?),
         _ => Ok(own.clone()?),
     }
 }
@@ -73,13 +80,13 @@ fn faults_work<V: View>(
     alloc: Global,
     view: &V,
     unit: &Name,
-    former: &Option<Made>,
+    previous: &Option<Derivation>,
 ) -> Result<Worked, AllocError>
     ensures { IfOk result (IsWork kind.Faults (V.sources view.now) unit.now) }
 {
     let found = faults(alloc, view, unit)?;
     Ok(Worked {
-        value: former_or(alloc, former, Value::Faults(found))?,
+        value: previous_or(alloc, previous, Value::Faults(found))?,
         found: Vec::new(alloc),
     })
 }
@@ -89,9 +96,9 @@ fn net_work<V: View>(
     alloc: Global,
     view: &V,
     unit: Name,
-    known: &KnownNets<'_>,
+    known: &CachedNets<'_>,
     own: &Option<Arc<Value>>,
-    former: &Option<Made>,
+    previous: &Option<Derivation>,
 ) -> Result<Worked, AllocError>
     requires has { has_net_in (tree_at (V.sources view.now) unit) ≡ true }
     requires right { AreRightHints (V.sources view.now) (known_hints known.now) }
@@ -101,13 +108,13 @@ fn net_work<V: View>(
 {
     if let Some(own) = own {
         return Ok(Worked {
-            value: former_or_own(former, own)?,
+            value: previous_or_own(previous, own)?,
             found: Vec::new(alloc),
         });
     }
     let Computed { net, inner } = compute(alloc, view, unit, known)?;
     Ok(Worked {
-        value: former_or(alloc, former, Value::Net(net))?,
+        value: previous_or(alloc, previous, Value::Net(net))?,
         found: found_nets(alloc, inner)?,
     })
 }
@@ -118,7 +125,7 @@ fn plan_value<V: View>(
     view: &V,
     system: Name,
     net: &Net,
-    former: &Option<Made>,
+    previous: &Option<Derivation>,
 ) -> Result<Arc<Value>, AllocError>
     requires has { has_plan_in (tree_at (V.sources view.now) system) ≡ true }
     requires net { net_at (V.sources view.now) system ≡ Some (plain_net net.now) }
@@ -126,7 +133,7 @@ fn plan_value<V: View>(
         (λ value. finding_of value.value ≡ scratch_of kind.Deploy (V.sources view.now) system) }
 {
     let deploy = plan_by_net(alloc, view, system, net)?;
-    former_or(alloc, former, Value::Deploy(deploy))
+    previous_or(alloc, previous, Value::Deploy(deploy))
 }
 
 /// The plan of a system.
@@ -134,9 +141,9 @@ fn plan_work<V: View>(
     alloc: Global,
     view: &V,
     system: Name,
-    known: &KnownNets<'_>,
+    known: &CachedNets<'_>,
     own: &Option<Arc<Value>>,
-    former: &Option<Made>,
+    previous: &Option<Derivation>,
 ) -> Result<Worked, AllocError>
     requires has { has_plan_in (tree_at (V.sources view.now) system) ≡ true }
     requires right { AreRightHints (V.sources view.now) (known_hints known.now) }
@@ -146,13 +153,13 @@ fn plan_work<V: View>(
 {
     if let Some(net) = own_net_in(own) {
         return Ok(Worked {
-            value: plan_value(alloc, view, system, net, former)?,
+            value: plan_value(alloc, view, system, net, previous)?,
             found: Vec::new(alloc),
         });
     }
     let Computed { net, inner } = compute(alloc, view, system, known)?;
     Ok(Worked {
-        value: plan_value(alloc, view, system, &net, former)?,
+        value: plan_value(alloc, view, system, &net, previous)?,
         found: found_nets(alloc, inner)?,
     })
 }
@@ -162,9 +169,9 @@ pub(crate) fn work_of<V: View>(
     alloc: Global,
     view: &V,
     key: Key,
-    known: &KnownNets<'_>,
+    known: &CachedNets<'_>,
     own: &Option<Arc<Value>>,
-    former: &Option<Made>,
+    previous: &Option<Derivation>,
 ) -> Result<Worked, AllocError>
     requires has { has_kind_at key.kind (map.get (V.sources view.now) key.unit) ≡ true }
     requires right { AreRightHints (V.sources view.now) (known_hints known.now) }
@@ -173,8 +180,8 @@ pub(crate) fn work_of<V: View>(
     ensures { IfOk result (IsWork key.kind (V.sources view.now) key.unit) }
 {
     match key.kind {
-        Kind::Faults => faults_work(alloc, view, &key.unit, former),
-        Kind::Net => net_work(alloc, view, key.unit, known, own, former),
-        Kind::Deploy => plan_work(alloc, view, key.unit, known, own, former),
+        Kind::Faults => faults_work(alloc, view, &key.unit, previous),
+        Kind::Net => net_work(alloc, view, key.unit, known, own, previous),
+        Kind::Deploy => plan_work(alloc, view, key.unit, known, own, previous),
     }
 }

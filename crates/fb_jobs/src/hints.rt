@@ -7,11 +7,11 @@ ghost use Rattle.fb_deploy.specs.Library.View.{tree_in, tree_of};
 ghost use Rattle.fb_parse.specs.Body.{body_tree};
 ghost use Rattle.fb_tree.specs.Tree.{decl_tree};
 ghost use Rattle.fb_jobs.specs.Hints.{AddsChosen, AreChosen, net_key};
-ghost use Rattle.fb_jobs.specs.Left.{seen_text};
+ghost use Rattle.fb_jobs.specs.Reuse.{seen_text};
 ghost use Rattle.fb_jobs.specs.Reads.{IsOf};
 ghost use Rattle.fb_jobs.specs.Values.{all_seen, seen_of};
 
-use crate::kept::Kept;
+use crate::cache::Cache;
 use crate::key::{Key, Kind};
 use crate::read::Read;
 use crate::value::Value;
@@ -60,7 +60,7 @@ fn is_subapplication(read: &Read) -> bool
 }
 
 /// Adds the net that is kept of what was read, where that is another subapplication.
-fn add_hint<K: Kept>(
+fn add_hint<K: Cache>(
     kept: &K,
     unit: &Name,
     hints: &mut Vec<Hint>,
@@ -82,7 +82,7 @@ fn add_hint<K: Kept>(
 }
 
 /// The nets that are kept of other subapplications among the reads.
-pub(crate) fn hints_among<K: Kept>(
+pub(crate) fn hints_among<K: Cache>(
     alloc: Global,
     kept: &K,
     unit: &Name,

@@ -8,23 +8,23 @@ ghost use Rattle.fb_deploy.specs.Library.Texts.{text_at, sources_of};
 ghost use Rattle.fb_deploy.specs.Library.Place.{IsAt, IsGapFor};
 ghost use Rattle.fb_jobs.specs.Finished.{plain_job};
 ghost use Rattle.fb_jobs.specs.Hints.{AreHints};
-ghost use Rattle.fb_jobs.specs.Kept.{AreKept};
+ghost use Rattle.fb_jobs.specs.Cache.{AreKept};
 ghost use Rattle.fb_jobs.specs.Keys.{has_key, scratch};
-ghost use Rattle.fb_jobs.specs.Known.{IsKnowledge};
+ghost use Rattle.fb_jobs.specs.Cached.{IsCached};
 ghost use Rattle.fb_jobs.specs.Reads.{IsRight, read_names, read_texts, reads_for};
 ghost use Rattle.fb_jobs.specs.Values.{all_seen, finding_of, IsOwn};
 ghost use Rattle.fb_jobs.specs.Work.{IsWork};
 
+use crate::cache::Cache;
+use crate::cached::{Cached, CachedNets, flagged_names, nets_of, unless};
 use crate::computed::{Worked, work_of};
+use crate::derivation::Derivation;
 use crate::hints::Hint;
-use crate::kept::Kept;
 use crate::key::Key;
-use crate::known::{Knowledge, KnownNets, flagged_names, nets_of};
-use crate::left::{are_still_read, is_whole_value};
-use crate::made::Made;
 use crate::read::Read;
 use crate::reads::{reads_anew, reads_of};
 use crate::result::Finished;
+use crate::reuse::{are_still_read, is_whole_value};
 use crate::texts::TextReads;
 use crate::value::Value;
 use fb_deploy::library::{Library, View};
@@ -40,9 +40,9 @@ pub struct Job {
     key: Key,
     reads: Arc<Vec<Read>>,
     texts: Arc<TextReads>,
-    knowledge: Knowledge,
+    cached: Cached,
     // a value that the key had once, with the reads that gave it, to be shared where it comes out again
-    former: Option<Made>,
+    previous: Option<Derivation>,
 }
 
 impl Drop for Job {
@@ -51,8 +51,8 @@ impl Drop for Job {
             key: _,
             reads: _,
             texts: _,
-            knowledge: _,
-            former: _,
+            cached: _,
+            previous: _,
         } = self;
     }
 }
@@ -66,7 +66,7 @@ impl Model for Job {
 
     ghost view = { λ it. plain_job it.key it.reads.value.items };
 
-    ghost invariant = { λ it. IsGiven it.key it.reads.value.items it.texts.value it.knowledge };
+    ghost invariant = { λ it. IsGiven it.key it.reads.value.items it.texts.value it.cached };
 }
 
 impl Job {
@@ -85,13 +85,14 @@ impl Job {
     {
         let wanted = key;
         let (reads, texts) = reads_anew(alloc, library, wanted)?;
-        let knowledge = Knowledge::of_hints(alloc, hints);
-        Job::of_reads(alloc, key, reads, texts, knowledge, None)
+        let cached = Cached::of_hints(alloc, hints);
+        Job::of_reads(alloc, key, reads, texts, cached, None)
     }
 
-    /// The same with all that is kept: as hints the nets of other subapplications among the reads; the net of the unit itself, where it
-    /// is kept or was found by a job for another key; which of the reads are without faults; and the value that the key had before.
-    pub fn for_kept<K: Kept>(
+    /// The same with all that is kept: as hints the nets of other subapplications among the reads; the net of the unit itself, if it is
+    /// kept, was found by a job for another key or is blocked by units whose faults are kept; which of the reads are without faults; and
+    /// the value that the key had before.
+    pub fn for_kept<K: Cache>(
         alloc: Global,
         library: &Library,
         key: Key,
@@ -104,13 +105,13 @@ impl Job {
             (λ job. job ≡ record { key = key; reads = reads_for library.now key }) }
     {
         let wanted = key;
-        let former = match kept.former(&key) {
-            Some(made) => Some(made.share()?),
+        let previous = match kept.previous(&key) {
+            Some(derivation) => Some(derivation.share()?),
             None => None,
         };
-        let (reads, texts) = reads_of(alloc, library, wanted, &former)?;
-        let knowledge = Knowledge::of_kept(alloc, kept, &key, &reads)?;
-        Job::of_reads(alloc, key, reads, texts, knowledge, former)
+        let (reads, texts) = reads_of(alloc, library, wanted, &previous)?;
+        let cached = Cached::of_kept(alloc, kept, &key, &reads, previous.is_none())?;
+        Job::of_reads(alloc, key, reads, texts, cached, previous)
     }
 
     fn of_reads(
@@ -118,13 +119,13 @@ impl Job {
         key: Key,
         reads: Vec<Read>,
         texts: TextReads,
-        knowledge: Knowledge,
-        former: Option<Made>,
+        cached: Cached,
+        previous: Option<Derivation>,
     ) -> Result<Job, AllocError>
         requires right { IsRight (plain_job key reads.items) }
         requires own { All IsOwn reads.items }
         requires texts { texts ≡ all_seen reads.items }
-        requires known { IsKnowledge (all_seen reads.items) key knowledge }
+        requires known { IsCached (all_seen reads.items) key cached }
         ensures { IfOk result (λ job. job ≡ plain_job key reads.items) }
     {
         let texts = Arc::new(alloc, texts)?;
@@ -133,8 +134,8 @@ impl Job {
             key,
             reads,
             texts,
-            knowledge,
-            former,
+            cached,
+            previous,
         })
     }
 
@@ -163,24 +164,25 @@ impl Job {
     pub fn hints(&self) -> &[Hint]
         ensures { AreHints (read_texts self.now.reads) self.now.key result.now }
     {
-        &self.knowledge.hints
+        &self.cached.hints
     }
 
     /// The value that the key had before, where what is read leaves it as it was: a net to which nothing was in the way, or a plan by one, of a
     /// unit whose own text is the same, and which rests on units without faults that say to networks what they said.
-    fn left(&self, alloc: Global) -> Result<Option<&Arc<Value>>, AllocError>
+    fn reusable(&self, alloc: Global) -> Result<Option<&Arc<Value>>, AllocError>
         ensures { IfOk result (λ left. IfSome left
             (λ value. finding_of value.now.value ≡ scratch (read_texts self.now.reads) self.now.key)) }
     {
-        let Some(made) = &self.former else {
+        let Some(derivation) = &self.previous else {
             return Ok(None);
         };
-        let value = made.value();
-        if made.key() != self.key || !is_whole_value(value) {
+        let value = derivation.value();
+        if derivation.key() != self.key || !is_whole_value(value) {
             return Ok(None);
         }
-        let faultless = &self.knowledge.faultless;
-        if are_still_read(alloc, &self.key.unit, faultless, made.reads(), &self.reads)? {
+        let before = derivation.reads();
+        let faultless = &self.cached.faultless;
+        if are_still_read(alloc, &self.key.unit, faultless, before, &self.reads)? {
             return Ok(Some(value));
         }
         Ok(None)
@@ -191,21 +193,23 @@ impl Job {
         ensures { IfOk result
             (IsWork self.now.key.kind (sources_of (read_texts self.now.reads)) self.now.key.unit) }
     {
-        let nets = nets_of(alloc, &self.knowledge.hints)?;
-        let faultless = flagged_names(alloc, &self.reads, &self.knowledge.faultless)?;
-        let known = KnownNets {
+        let own = &self.cached.own;
+        let hints = unless(own.is_some(), &self.cached.hints);
+        let flags = unless(own.is_some(), &self.cached.faultless);
+        let nets = nets_of(alloc, hints)?;
+        let faultless = flagged_names(alloc, &self.reads, flags)?;
+        let known = CachedNets {
             nets: &nets,
             faultless: &faultless,
         };
-        let own = &self.knowledge.own;
-        work_of(alloc, self, self.key, &known, own, &self.former)
+        work_of(alloc, self, self.key, &known, own, &self.previous)
     }
 
     fn worked(&self, alloc: Global) -> Result<Worked, AllocError>
         ensures { IfOk result
             (IsWork self.now.key.kind (sources_of (read_texts self.now.reads)) self.now.key.unit) }
     {
-        match self.left(alloc)? {
+        match self.reusable(alloc)? {
             Some(value) => Ok(Worked {
                 value: value.clone()?,
                 found: Vec::new(alloc),

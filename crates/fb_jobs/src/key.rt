@@ -80,7 +80,9 @@ impl Ord for Key {
     ghost matches_eq = { λ a b. refl };
 
     fn cmp(&self, other: &Key) -> Ordering {
-        let kinds = self.kind.number().cmp(&other.kind.number());
-        kinds.then(self.unit.cmp(&other.unit))
+        match self.kind.number().cmp(&other.kind.number()) {
+            Ordering::Equal => self.unit.cmp(&other.unit),
+            unequal => unequal,
+        }
     }
 }

@@ -1,32 +1,32 @@
 //! Keys and values of entries, what is read for a key, and jobs that work on shared sources, with their results.
 #![tactic(auto)]
 
+mod cache;
+mod cached;
 mod computed;
+mod derivation;
 mod hints;
 mod job;
-mod kept;
 mod key;
 mod kinds;
-mod known;
 mod laws;
-mod left;
-mod made;
 mod read;
 mod reads;
 mod result;
+mod reuse;
 mod same;
 mod texts;
 mod value;
 
+pub use cache::Cache;
+pub use derivation::Derivation;
 pub use hints::Hint;
 pub use job::Job;
-pub use kept::Kept;
 pub use key::{Key, Kind};
 pub use kinds::{all_kinds, keys_by_name, keys_near_and_far};
 pub use laws::{
     current_nets, current_reads, kinds_in_order, least_stale, locality, needs_in_order,
 };
-pub use made::Made;
 pub use read::{Read, has_key};
 pub use reads::needed;
 pub use result::Finished;

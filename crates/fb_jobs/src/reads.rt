@@ -6,10 +6,10 @@ ghost use Rattle.fb_jobs.specs.Again.{AreReadAgain, AreReads};
 ghost use Rattle.fb_jobs.specs.Texts.{seen_under, text_of};
 ghost use Rattle.fb_jobs.specs.Values.{all_seen, seen_of, IsOwn};
 
+use crate::derivation::Derivation;
 use crate::key::{Key, Kind};
-use crate::left::mentions_the_same;
-use crate::made::Made;
 use crate::read::Read;
+use crate::reuse::mentions_the_same;
 use crate::texts::TextReads;
 use fb_deploy::flatten::all_far;
 use fb_deploy::library::{Library, Version, near};
@@ -99,18 +99,18 @@ fn reads_as_before(
     alloc: Global,
     library: &Library,
     key: Key,
-    former: &Option<Made>,
+    previous: &Option<Derivation>,
 ) -> Result<Option<(Vec<Read>, TextReads)>, AllocError>
     ensures { IfOk result
         (λ again. IfSome again (λ made. AreReads library.now key made.0.items made.1)) }
 {
-    let Some(made) = former else {
+    let Some(derivation) = previous else {
         return Ok(None);
     };
-    if made.key() != key {
+    if derivation.key() != key {
         return Ok(None);
     }
-    read_again(alloc, library, made.reads())
+    read_again(alloc, library, derivation.reads())
 }
 
 /// What a job for the key reads, and what is kept of that. What was read for it before spares the walk where its mentions are as they were.
@@ -118,12 +118,12 @@ pub(crate) fn reads_of(
     alloc: Global,
     library: &Library,
     key: Key,
-    former: &Option<Made>,
+    previous: &Option<Derivation>,
 ) -> Result<(Vec<Read>, TextReads), AllocError>
     ensures { IfOk result (λ made. AreReads library.now key made.0.items made.1) }
 {
     let wanted = key;
-    match reads_as_before(alloc, library, wanted, former)? {
+    match reads_as_before(alloc, library, wanted, previous)? {
         Some(made) => Ok(made),
         None => reads_anew(alloc, library, key),
     }

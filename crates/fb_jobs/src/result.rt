@@ -7,9 +7,9 @@ ghost use Rattle.fb_jobs.specs.Values.{all_seen, finding_of, IsOwn};
 ghost use Rattle.fb_jobs.specs.Work.{IsFoundFor};
 
 use crate::computed::Worked;
+use crate::derivation::Derivation;
 use crate::hints::Hint;
 use crate::key::Key;
-use crate::made::Made;
 use crate::read::Read;
 use crate::texts::TextReads;
 use crate::value::Value;
@@ -95,12 +95,12 @@ impl Finished {
     }
 
     /// The value with the reads that give it.
-    pub fn made(&self) -> Result<Made, AllocError>
+    pub fn derivation(&self) -> Result<Derivation, AllocError>
         ensures { IfOk result (λ made. made ≡ self.now) }
     {
         let reads = self.reads.clone()?;
         let value = self.work.value.clone()?;
-        Ok(Made::new(self.key, reads, value))
+        Ok(Derivation::new(self.key, reads, value))
     }
 
     /// The nets of other units that were computed on the way, from scratch by the same reads.

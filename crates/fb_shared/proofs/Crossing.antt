@@ -39,7 +39,7 @@ use Rattle.fb_locked.specs.Placing.contracts.resources.ResourcePlan as ResourceP
 use Rattle.fb_locked.specs.Deploy.contracts.planning.Deploy as Deploy
 use Rattle.fb_locked.specs.Jobs.contracts.value.Value as Value
 use Rattle.fb_locked.specs.Jobs.contracts.read.Read as Read
-use Rattle.fb_locked.specs.Jobs.contracts.made.Made as Made
+use Rattle.fb_locked.specs.Jobs.contracts.derivation.Derivation as Derivation
 use Rattle.fb_locked.specs.History.contracts.record.Call as Call
 use Rattle.fb_locked.specs.History.contracts.answers.Asked as Asked
 use Rattle.fb_locked.specs.History.contracts.record.Reply as Reply
@@ -386,8 +386,8 @@ read_field_sync = search (source_field_send, source_field_sync, crosses, maps.cr
 pub read_sync : IsSync Read.the_row
 read_sync = search (read_field_sync, crosses, maps.crosses, sendable) depth 60 fits 20000
 
-pub made_field_send : IsSend (Made.the_field).row
-made_field_send = search (value_send, value_sync, read_send, read_sync, crosses, maps.crosses, sendable) depth 60 fits 20000
+pub derivation_field_send : IsSend (Derivation.the_field).row
+derivation_field_send = search (value_send, value_sync, read_send, read_sync, crosses, maps.crosses, sendable) depth 60 fits 20000
 
 pub call_field_send : IsSend (Call.the_field).row
 call_field_send = search (wanted_send, crosses, maps.crosses, sendable) depth 60 fits 20000
@@ -447,7 +447,7 @@ pub start_field_send : IsSend (Start.the_field).row
 start_field_send = search (library_field_send, crosses, maps.crosses, sendable) depth 60 fits 20000
 
 pub bench_field_send : IsSend (Bench.the_field).row
-bench_field_send = search (start_field_send, index_field_send, library_field_send, record_field_send, record_field_sync, value_send, value_sync, made_field_send, crosses, maps.crosses, sendable) depth 60 fits 20000
+bench_field_send = search (start_field_send, index_field_send, library_field_send, record_field_send, record_field_sync, value_send, value_sync, derivation_field_send, crosses, maps.crosses, sendable) depth 60 fits 20000
 
 pub locked_field_send : IsSend (Locked.the_field).row
 locked_field_send = search (bench_field_send, record_field_send, record_field_sync, crosses, maps.crosses, sendable) depth 60 fits 20000

@@ -5,7 +5,7 @@ use Rattle.fb_jobs.proofs.computed.net_work.Goals as goal
 
 pub returns : goal.returns
 returns g c = record {
-  value_is = c.in_ok-former_or.ensures ∙ ap net_finding (sym c.in_ok-net.ensures.net);
+  value_is = c.in_ok-previous_or.ensures ∙ ap net_finding (sym c.in_ok-net.ensures.net);
   none = λ e. cc;
   found_are = c.in_ok-found_nets.ensures (g.V.View.sources c.args.view.now) c.args.unit c.in_ok-net.ensures.inner;
 }

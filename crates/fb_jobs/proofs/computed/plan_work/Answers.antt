@@ -3,7 +3,7 @@ use Rattle.std.proofs.Common.{sym, ap, ◌∙◌}
 use Rattle.std.specs.Prelude.{option_copied}
 use Rattle.std.specs.Option.{option_map}
 use Rattle.fb_deploy.specs.Flatten.Net.{plain_net}
-use Rattle.fb_jobs.proofs.KnownLemmas.{own_right}
+use Rattle.fb_jobs.proofs.CachedLemmas.{own_right}
 use Rattle.fb_jobs.proofs.computed.plan_work.Goals as goal
 
 pub plan_value-requires-clause-net : goal.plan_value-requires-clause-net

@@ -14,7 +14,7 @@ use Rattle.fb_jobs.proofs.hints.add_hint.Goals.{then-same_name-via-then-same_nam
 
 pub returns-then-same_name : goal.returns-then-same_name
 returns-then-same_name g c texts of =
-    let kept = g.K.Kept.kept c.args.kept.now in
+    let kept = g.K.Cache.kept c.args.kept.now in
     let unit = c.args.unit.now in
     let name = c.args.read.now.name in
     let some = is_some (kept (net_key name)) in
@@ -29,7 +29,7 @@ returns-then-same_name g c texts of =
 
 pub returns-in_ok-push : goal.returns-in_ok-push
 returns-in_ok-push g c texts of =
-    let kept = g.K.Kept.kept c.args.kept.now in
+    let kept = g.K.Cache.kept c.args.kept.now in
     let unit = c.args.unit.now in
     let name = c.args.read.now.name in
     let some = is_some (kept (net_key name)) in

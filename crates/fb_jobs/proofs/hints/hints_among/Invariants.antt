@@ -6,4 +6,4 @@ use Rattle.fb_jobs.specs.Values.{all_seen}
 use Rattle.fb_jobs.proofs.hints.hints_among.Given as goal
 
 abbrev pub invariant-loop-read : goal.invariant-loop-read
-invariant-loop-read g l = (texts : Texts) → All (IsOf texts) (all_seen l.reads) → AreChosen texts (g.K.Kept.kept l.kept) l.unit (all_seen (take l.read-index l.reads)) l.hints.items
+invariant-loop-read g l = (texts : Texts) → All (IsOf texts) (all_seen l.reads) → AreChosen texts (g.K.Cache.kept l.kept) l.unit (all_seen (take l.read-index l.reads)) l.hints.items

@@ -6,7 +6,7 @@ use Rattle.std.proofs.lemmas.List.Elements.{All-push}
 use Rattle.std.proofs.lemmas.Slice.Zip.{all_zipped_more}
 use Rattle.std.specs.List.{AllZip}
 use Rattle.fb_deploy.specs.Library.Texts.{held}
-use Rattle.fb_jobs.specs.Left.{MentionsTheSame}
+use Rattle.fb_jobs.specs.Reuse.{MentionsTheSame}
 use Rattle.fb_jobs.specs.Reads.{Seen, read_names, reads_under}
 use Rattle.fb_jobs.specs.Values.{seen_of, all_seen, IsOwn}
 use Rattle.fb_jobs.specs.declared.read.Read.{Read}

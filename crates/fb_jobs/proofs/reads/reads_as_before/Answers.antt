@@ -7,7 +7,7 @@ use Rattle.fb_deploy.specs.Library.Texts.{Texts}
 use Rattle.fb_jobs.specs.declared.key.Key.{Key}
 use Rattle.fb_jobs.specs.declared.read.Read.{Read}
 use Rattle.fb_jobs.specs.Again.{AreReadAgain, AreReads}
-use Rattle.fb_jobs.specs.Left.{MentionsTheSame}
+use Rattle.fb_jobs.specs.Reuse.{MentionsTheSame}
 use Rattle.fb_jobs.specs.Reads.{IsRight, Seen, reads_under}
 use Rattle.fb_jobs.specs.Values.{all_seen}
 use Rattle.fb_jobs.proofs.Again.{needs_again}

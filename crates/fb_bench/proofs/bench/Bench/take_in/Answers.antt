@@ -27,7 +27,7 @@ invariant_of-self-2 c =
     let value : finding_of c.in_ok-value.value.value ≡ scratch s.units c.key-key.result = ap finding_of cloned ∙ c.value.ensures ∙ sym law ∙ ap (λ k. scratch s.units k) (sym c.key-key.ensures) in
     kept_pushed _ _ _ _ story _ c.args.caller (ToDeliver now) _ c.self.invariant.begins (c.in_ok-share.ensures.ok ∙ ap (λ call. logged c.self.inside.history c.args.caller call (OfDeliver Accepted)) c.requires.call) (delivers_is s now now Accepted refl accepted)
     (subst (λ t. Agrees c.self.inside.library c.self.inside.commits c.keep_all.new.entries t) (sym (delivered_is s now now c.key-key.result Accepted refl c.key-key.ensures accepted))
-    (c.keep_all.ensures _ _ _ (agrees_deliver _ _ c.self.inside.entries c.keep.new.self s c.key-key.result c.in_ok-value.value c.in_ok-made.made c.self.invariant.agrees value c.keep.ensures.entries c.keep.ensures.ready) rights))
+    (c.keep_all.ensures _ _ _ (agrees_deliver _ _ c.self.inside.entries c.keep.new.self s c.key-key.result c.in_ok-value.value c.in_ok-derivation.derivation c.self.invariant.agrees value c.keep.ensures.entries c.keep.ensures.ready) rights))
     c.self.invariant.replayed c.self.invariant.indexed (omega (arith, c.self.invariant.few))
 
 pub returns : goal.returns

@@ -2,9 +2,9 @@
 use Rattle.std.proofs.Common.{sym, ap, subst, Vec}
 use Rattle.std.specs.declared.alloc.Global.{Global}
 use Rattle.fb_jobs.specs.declared.hints.Hint.{Hint}
-use Rattle.fb_jobs.specs.Known.{IsKnowledge}
+use Rattle.fb_jobs.specs.Cached.{IsCached}
 use Rattle.fb_jobs.specs.Reads.{IsRight}
-use Rattle.fb_jobs.proofs.KnownLemmas.{hints_alone}
+use Rattle.fb_jobs.proofs.CachedLemmas.{hints_alone}
 use Rattle.fb_jobs.proofs.Currents.{right_for}
 use Rattle.fb_jobs.proofs.job.Job.make.Goals as goal
 
@@ -14,5 +14,5 @@ of_reads-requires-clause-right c =
 
 pub of_reads-requires-clause-known : goal.of_reads-requires-clause-known
 of_reads-requires-clause-known c =
-    subst (λ reads. IsKnowledge reads c.args.key c.of_hints-knowledge.result) (sym c.in_ok-reads.ensures.seen)
-    (hints_alone c.args.library.now c.args.key c.args.hints.items c.of_hints-knowledge.result c.requires.hints (ap (λ (v : Vec Hint Global). v.items) c.of_hints-knowledge.ensures.hints) c.of_hints-knowledge.ensures.own c.of_hints-knowledge.ensures.faultless)
+    subst (λ reads. IsCached reads c.args.key c.of_hints-cached.result) (sym c.in_ok-reads.ensures.seen)
+    (hints_alone c.args.library.now c.args.key c.args.hints.items c.of_hints-cached.result c.requires.hints (ap (λ (v : Vec Hint Global). v.items) c.of_hints-cached.ensures.hints) c.of_hints-cached.ensures.own c.of_hints-cached.ensures.faultless)

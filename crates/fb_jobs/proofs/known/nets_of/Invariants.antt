@@ -1,6 +1,0 @@
-use Rattle.std.proofs.Common.{take}
-use Rattle.fb_jobs.specs.Known.{AreNetsOf}
-use Rattle.fb_jobs.proofs.known.nets_of.Given as goal
-
-abbrev pub invariant-loop-hint : goal.invariant-loop-hint
-invariant-loop-hint l = AreNetsOf (take l.hint-index l.hints) l.nets

@@ -1,0 +1,16 @@
+-- The reads are shared, and so is the value.
+use Rattle.std.proofs.Common.{sym, ap, subst, ◌∙◌}
+use Rattle.fb_jobs.specs.Keys.{scratch}
+use Rattle.fb_jobs.specs.Reads.{IsRight, Seen, read_texts}
+use Rattle.fb_jobs.specs.Values.{all_seen, finding_of}
+use Rattle.std.specs.Prelude.{List}
+use Rattle.fb_jobs.proofs.result.Finished.derivation.Goals as goal
+
+pub new-requires : goal.new-requires
+new-requires c =
+    let inv = c.self.invariant in
+    let reads = ap (λ it. all_seen it.items) c.in_ok-reads.ensures.cases in
+    record {
+      right = subst (λ (seen : List Seen). IsRight (record { key = c.self.inside.key; reads = seen })) (sym reads) inv.job.right;
+      value_is = ap finding_of c.in_ok-value.ensures.cases ∙ inv.value_is ∙ ap (λ (seen : List Seen). scratch (read_texts seen) c.self.inside.key) (sym reads);
+    }

@@ -1,0 +1,30 @@
+//! Values that are kept.
+ghost use Rattle.std.specs.Prelude.{◌≡◌, Option, option_map, option_copied};
+ghost use Rattle.fb_jobs.specs.declared.key.Key.{Key};
+ghost use Rattle.fb_jobs.specs.Keys.{Finding};
+ghost use Rattle.fb_jobs.specs.Values.{finding_of};
+
+use crate::derivation::Derivation;
+use crate::key::Key;
+use crate::value::Value;
+use std::sync::Arc;
+
+/// Values that are kept from before, by their keys.
+pub trait Cache {
+    ghost kept: { Self → (Key → Option Finding) };
+
+    ghost found: { Self → (Key → Option Finding) };
+
+    /// The value that is kept of a key.
+    fn value(&self, key: &Key) -> Option<&Arc<Value>>
+        ensures { option_map (λ it. finding_of it.value) (option_copied result)
+            ≡ kept self.now key.now };
+
+    /// The value of a pending key that a job for another key computed on its way.
+    fn found(&self, key: &Key) -> Option<&Arc<Value>>
+        ensures { option_map (λ it. finding_of it.value) (option_copied result)
+            ≡ found self.now key.now };
+
+    /// A value that the key had once, with the reads that gave it: it is shared where it comes out again.
+    fn previous(&self, key: &Key) -> Option<&Derivation>;
+}

@@ -1,0 +1,328 @@
+//! What a job knows beside its reads: the nets of its hints, its unit's own net, and units without faults.
+ghost use Rattle.std.specs.Prelude.{◌≡◌, ◌⊎◌, ℕ, List, true, false, [], None, Some, option_map, option_copied, get_or, IfOk, IfSome, OnOk};
+ghost use Rattle.std.specs.List.{AllZip};
+ghost use Rattle.std.specs.BTreeMap as tree;
+ghost use Rattle.std.specs.BTreeSet as set;
+ghost use Rattle.std.specs.declared.alloc.Global.{Global};
+ghost use Rattle.std.specs.declared.sync.Arc.{Arc};
+ghost use Rattle.fb_text.specs.Order.{name_cmp};
+ghost use Rattle.fb_deploy.specs.Flatten.Net.{plain_net};
+ghost use Rattle.fb_jobs.specs.Cache.{AreKept};
+ghost use Rattle.fb_deploy.specs.Library.Texts.{Texts};
+ghost use Rattle.fb_jobs.specs.Keys.{has_key};
+ghost use Rattle.fb_jobs.specs.declared.value.Value.{Value};
+ghost use Rattle.fb_jobs.specs.Cached.{AddsBlocking, AddsNet, AreBlocking, AreNetsOf, IsBlockedNet, IsFlag, IsCached, IsOwnNet, faults_key, hint_in, is_flagged, judged, net_in, some_faults};
+ghost use Rattle.fb_jobs.specs.Reads.{reads_for};
+ghost use Rattle.fb_jobs.specs.Values.{all_seen, seen_of};
+
+use crate::cache::Cache;
+use crate::hints::{Hint, hints_among, net_key};
+use crate::key::{Key, Kind};
+use crate::read::Read;
+use crate::value::Value;
+use fb_deploy::flatten::{Hints, Known, Net};
+use fb_text::Name;
+use std::alloc::{AllocError, Global};
+use std::collections::{BTreeMap, BTreeSet};
+use std::sync::Arc;
+
+/// What a job knows beside its reads: nets of other subapplications, its unit's own net, and units that are there without faults.
+#[derive(Drop)]
+pub(crate) struct Cached {
+    pub(crate) hints: Vec<Hint>,
+    pub(crate) own: Option<Arc<Value>>,
+    /// Of each read, by its place, whether its unit is known to be there without faults. Past the end of the list nothing is known.
+    pub(crate) faultless: Vec<bool>,
+}
+
+impl Cached {
+    /// Hints alone.
+    pub(crate) fn of_hints(alloc: Global, hints: Vec<Hint>) -> Cached
+        ensures hints { result.hints ≡ hints }
+        ensures own { result.own ≡ None }
+        ensures faultless { result.faultless.items ≡ [] }
+    {
+        Cached {
+            hints,
+            own: None,
+            faultless: Vec::new(alloc),
+        }
+    }
+
+    /// What is kept of what was read for the key. For the faults of a unit that is nothing. A new key has had no value.
+    pub(crate) fn of_kept<K: Cache>(
+        alloc: Global,
+        kept: &K,
+        key: &Key,
+        reads: &[Read],
+        is_new: bool,
+    ) -> Result<Cached, AllocError>
+        ensures { IfOk result (λ it. (texts : Texts) → AreKept texts (K.kept kept.now)
+            → AreKept texts (K.found kept.now) → has_key texts key.now ≡ true
+            → all_seen reads.now ≡ reads_for texts key.now
+            → IsCached (all_seen reads.now) key.now it) }
+    {
+        if !key.kind.needs_all() {
+            return Ok(Cached::of_hints(alloc, Vec::new(alloc)));
+        }
+        let own = own_net(kept, key)?;
+        let faultless = faultless_unless(alloc, kept, reads, own.is_some() && is_new)?;
+        Ok(Cached {
+            hints: hints_among(alloc, kept, &key.unit, reads)?,
+            own: own_or_blocked(alloc, kept, own, reads, &faultless)?,
+            faultless,
+        })
+    }
+}
+
+/// Nets by the names of their units, and the units that are there without faults.
+#[derive(Clone, Copy)]
+pub(crate) struct CachedNets<'a> {
+    pub(crate) nets: &'a BTreeMap<Name, Arc<Value>>,
+    pub(crate) faultless: &'a BTreeSet<Name>,
+}
+
+impl Hints for CachedNets<'_> {
+    ghost hints = { λ it name. hint_in (tree.get name_cmp it.nets.now name) };
+
+    fn net_of(&self, name: &Name) -> Option<&Net> {
+        match self.nets.get(name) {
+            Some(value) => net_in(value),
+            None => None,
+        }
+    }
+}
+
+impl Known for CachedNets<'_> {
+    ghost faultless = { λ it name. set.contains name_cmp it.faultless.now name };
+
+    fn is_faultless(&self, name: &Name) -> bool {
+        self.faultless.contains(name)
+    }
+}
+
+/// The net that a value is.
+fn net_in(value: &Value) -> Option<&Net>
+    ensures { option_map plain_net (option_copied result) ≡ net_in value.now }
+{
+    match value {
+        Value::Net(net) => Some(net),
+        Value::Faults(_) | Value::Deploy(_) => None,
+    }
+}
+
+/// The net that an own value is, if there is one.
+pub(crate) fn own_net_in(own: &Option<Arc<Value>>) -> Option<&Net>
+    ensures { option_map plain_net (option_copied result) ≡ hint_in own.now }
+{
+    match own {
+        Some(value) => net_in(value),
+        None => None,
+    }
+}
+
+fn add_net(nets: &mut BTreeMap<Name, Arc<Value>>, hint: &Hint) -> Result<(), AllocError>
+    ensures { OnOk result (AddsNet hint.now nets.old nets.new) }
+{
+    nets.insert(hint.unit, hint.value.clone()?)?;
+    Ok(())
+}
+
+/// The nets of hints by the names of their units.
+pub(crate) fn nets_of(
+    alloc: Global,
+    hints: &[Hint],
+) -> Result<BTreeMap<Name, Arc<Value>>, AllocError>
+    ensures { IfOk result (λ nets. AreNetsOf hints.now nets) }
+{
+    let mut nets = BTreeMap::new(alloc);
+    for hint in hints {
+        add_net(&mut nets, hint)?;
+    }
+    Ok(nets)
+}
+
+/// The net of a key's own unit, where it is kept or was computed by a job for another key.
+pub(crate) fn own_net<K: Cache>(kept: &K, key: &Key) -> Result<Option<Arc<Value>>, AllocError>
+    ensures { IfOk result (IsOwnNet (K.kept kept.now) (K.found kept.now) key.now.unit) }
+{
+    let wanted = net_key(key.unit);
+    if let Some(value) = kept.value(&wanted) {
+        return Ok(Some(value.clone()?));
+    }
+    match kept.found(&wanted) {
+        Some(value) => Ok(Some(value.clone()?)),
+        None => Ok(None),
+    }
+}
+
+/// Whether a unit has faults, if that is kept.
+fn has_kept_faults<K: Cache>(kept: &K, unit: &Name) -> Option<bool>
+    ensures { result ≡ some_faults (K.kept kept.now (faults_key unit.now)) }
+{
+    let key = Key {
+        kind: Kind::Faults,
+        unit: *unit,
+    };
+    match kept.value(&key) {
+        Some(value) => match &**value {
+            Value::Faults(found) => Some(!found.is_empty()),
+            Value::Net(_) | Value::Deploy(_) => None,
+        },
+        None => None,
+    }
+}
+
+/// Whether a unit that was read and is there has faults, if that is kept.
+fn has_faults<K: Cache>(kept: &K, read: &Read) -> Option<bool>
+    ensures { result ≡ judged (K.kept kept.now) (seen_of read.now) }
+{
+    if read.source.is_none() {
+        return None;
+    }
+    has_kept_faults(kept, &read.name)
+}
+
+/// Whether what was read is there, and kept without faults.
+fn is_faultless<K: Cache>(kept: &K, read: &Read) -> bool
+    ensures { IsFlag (K.kept kept.now) (seen_of read.now) result }
+{
+    match has_faults(kept, read) {
+        Some(has) => !has,
+        None => false,
+    }
+}
+
+/// Adds the name that was read if its unit has faults, and tells whether that is known.
+fn add_blocking<K: Cache>(kept: &K, names: &mut Vec<Name>, read: &Read) -> Result<bool, AllocError>
+    ensures { IfOk result (λ is. is ≡ true
+        → AddsBlocking (K.kept kept.now) (seen_of read.now) names.old.items names.new.items) }
+{
+    match has_faults(kept, read) {
+        Some(true) => {
+            names.push(read.name)?;
+            Ok(true)
+        }
+        Some(false) => Ok(true),
+        None => Ok(false),
+    }
+}
+
+/// The names of the reads whose units have faults, if of each unit that was read it is known whether it has.
+fn blocking_names<K: Cache>(
+    alloc: Global,
+    kept: &K,
+    reads: &[Read],
+) -> Result<Option<Vec<Name>>, AllocError>
+    ensures { IfOk result (λ found. IfSome found
+        (λ names. AreBlocking (K.kept kept.now) (all_seen reads.now) names.items)) }
+{
+    let mut names = Vec::new(alloc);
+    for read in reads {
+        if !add_blocking(kept, &mut names, read)? {
+            return Ok(None);
+        }
+    }
+    Ok(Some(names))
+}
+
+/// The net of a unit that rests on what was read, if units with faults are known to block it.
+fn blocked_net<K: Cache>(
+    alloc: Global,
+    kept: &K,
+    reads: &[Read],
+) -> Result<Option<Arc<Value>>, AllocError>
+    ensures { IfOk result (λ found. IfSome found
+        (λ net. IsBlockedNet (K.kept kept.now) (all_seen reads.now) net.value)) }
+{
+    match blocking_names(alloc, kept, reads)? {
+        Some(names) if !names.is_empty() => {
+            Ok(Some(Arc::new(alloc, Value::Net(Net::Blocked(names)))?))
+        }
+        _ => Ok(None),
+    }
+}
+
+/// Of each read, by its place, whether it is known that its unit is there without faults.
+pub(crate) fn faultless_of<K: Cache>(
+    alloc: Global,
+    kept: &K,
+    reads: &[Read],
+) -> Result<Vec<bool>, AllocError>
+    ensures { IfOk result
+        (λ flags. AllZip (IsFlag (K.kept kept.now)) (all_seen reads.now) flags.items) }
+{
+    let mut flags = Vec::with_capacity(alloc, reads.len())?;
+    for read in reads {
+        flags.push(is_faultless(kept, read))?;
+    }
+    Ok(flags)
+}
+
+/// The same, but for a new key whose own net is known, which has no use for it.
+fn faultless_unless<K: Cache>(
+    alloc: Global,
+    kept: &K,
+    reads: &[Read],
+    is_useless: bool,
+) -> Result<Vec<bool>, AllocError>
+    ensures { IfOk result (λ flags. (flags.items ≡ [])
+        ⊎ AllZip (IsFlag (K.kept kept.now)) (all_seen reads.now) flags.items) }
+{
+    if is_useless {
+        return Ok(Vec::new(alloc));
+    }
+    faultless_of(alloc, kept, reads)
+}
+
+/// The net of the own unit if it is known, or else if it is known to be blocked.
+fn own_or_blocked<K: Cache>(
+    alloc: Global,
+    kept: &K,
+    own: Option<Arc<Value>>,
+    reads: &[Read],
+    faultless: &[bool],
+) -> Result<Option<Arc<Value>>, AllocError>
+    ensures { IfOk result (λ known. (value : Arc Value Global) → known ≡ Some value
+        → (own ≡ Some value) ⊎ IsBlockedNet (K.kept kept.now) (all_seen reads.now) value.value) }
+{
+    if own.is_some() || !faultless.contains(&false) {
+        return Ok(own);
+    }
+    blocked_net(alloc, kept, reads)
+}
+
+/// The list, or nothing of it.
+pub(crate) fn unless<T>(is_useless: bool, list: &[T]) -> &[T]
+    ensures { (result.now ≡ list.now) ⊎ (result.now ≡ []) }
+{
+    if is_useless { &list[..0] } else { list }
+}
+
+/// Whether the read at a place is flagged.
+pub(crate) fn flag_at(flags: &[bool], place: usize) -> bool
+    ensures { result ≡ get_or flags.now place false }
+{
+    match flags.get(place) {
+        Some(flag) => *flag,
+        None => false,
+    }
+}
+
+/// The names of the reads that are flagged.
+pub(crate) fn flagged_names(
+    alloc: Global,
+    reads: &[Read],
+    flags: &[bool],
+) -> Result<BTreeSet<Name>, AllocError>
+    ensures { IfOk result (λ names. (name : List ℕ) → set.contains name_cmp names name ≡ true
+        → is_flagged (all_seen reads.now) flags.now name ≡ true) }
+{
+    let mut names = BTreeSet::new(alloc);
+    for place in 0..reads.len() {
+        if flag_at(flags, place) {
+            names.insert(reads[place].name)?;
+        }
+    }
+    Ok(names)
+}

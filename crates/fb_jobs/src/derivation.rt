@@ -1,0 +1,87 @@
+//! Values with what gives them.
+ghost use Rattle.std.specs.Prelude.{◌≡◌, IfOk};
+ghost use Rattle.fb_jobs.specs.Finished.{plain_job};
+ghost use Rattle.fb_jobs.specs.Keys.{scratch};
+ghost use Rattle.fb_jobs.specs.Reuse.{IsDerived};
+ghost use Rattle.fb_jobs.specs.Reads.{IsRight, read_texts};
+ghost use Rattle.fb_jobs.specs.Values.{all_seen, finding_of};
+
+use crate::key::Key;
+use crate::read::Read;
+use crate::value::Value;
+use std::alloc::AllocError;
+use std::marker::Model;
+use std::sync::Arc;
+
+/// A value of a key, with the reads that give it. Both are shared with whoever else keeps them.
+pub struct Derivation {
+    key: Key,
+    reads: Arc<Vec<Read>>,
+    value: Arc<Value>,
+}
+
+impl Drop for Derivation {
+    fn drop(self) {
+        let Self {
+            key: _,
+            reads: _,
+            value: _,
+        } = self;
+    }
+}
+
+impl Model for Derivation {
+    ghost use Rattle.fb_jobs.specs.Reads.{PlainJob};
+
+    ghost Value = { PlainJob };
+
+    ghost use Rattle.fb_jobs.specs.Finished.{plain_job};
+    ghost use Rattle.fb_jobs.specs.Reuse.{IsDerived};
+    ghost use Rattle.fb_jobs.specs.Values.{all_seen};
+
+    ghost view = { λ it. plain_job it.key it.reads.value.items };
+
+    ghost invariant = { λ it. IsDerived it.key (all_seen it.reads.value.items) it.value.value };
+}
+
+impl Derivation {
+    pub(crate) fn new(key: Key, reads: Arc<Vec<Read>>, value: Arc<Value>) -> Derivation
+        requires { IsDerived key (all_seen reads.value.items) value.value }
+        ensures { result ≡ plain_job key reads.value.items }
+    {
+        Derivation { key, reads, value }
+    }
+
+    /// The same value of the same reads.
+    pub fn share(&self) -> Result<Derivation, AllocError>
+        ensures { IfOk result (λ made. made ≡ self.now) }
+    {
+        let reads = self.reads.clone()?;
+        let value = self.value.clone()?;
+        Ok(Derivation {
+            key: self.key,
+            reads,
+            value,
+        })
+    }
+
+    pub(crate) fn key(&self) -> Key
+        ensures { result ≡ self.now.key }
+    {
+        self.key
+    }
+
+    pub(crate) fn reads(&self) -> &[Read]
+        ensures same { all_seen result.now ≡ self.now.reads }
+        ensures right { IsRight self.now }
+    {
+        &self.reads
+    }
+
+    /// The value that the reads give from scratch.
+    pub fn value(&self) -> &Arc<Value>
+        ensures { finding_of result.now.value ≡ scratch (read_texts self.now.reads) self.now.key }
+    {
+        &self.value
+    }
+}
