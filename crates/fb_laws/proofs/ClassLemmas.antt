@@ -33,9 +33,8 @@ sized_differs : Sized ≢ Array
 sized_differs e = let no : ⊥ = cc in no
 
 no_array : (used : TypeUse) (form : TypeForm) → form ≢ Array → class_of_element form used.name.name ≡ O
-no_array used Plain other = refl
-no_array used Sized other = refl
 no_array used Array other = absurd (other refl)
+no_array used o other = refl
 
 module _ (sources : Sources) (unit : List ℕ) (d : TypeTree) (declared : tree_at sources unit ≡ Some (block_type d)) where
   abbrev names : Names
@@ -43,12 +42,8 @@ module _ (sources : Sources) (unit : List ℕ) (d : TypeTree) (declared : tree_a
 
   of_type : (r : ReferenceTree) (subscripts : Expressions) (used : TypeUse) (subscripted : Bool) → NamesType sources d r used subscripted → HasClass sources d (reference_expression r subscripts) (class_with used subscripted)
   of_type r subscripts used false n = of_variable used n
-  of_type r subscripts used true n = by_form used.form refl
-    where
-      by_form : (form : TypeForm) → used.form ≡ form → HasClass sources d (reference_expression r subscripts) (class_of_element form used.name.name)
-      by_form Plain is = of_no_array used n (λ array. plain_differs (sym is ∙ array))
-      by_form Sized is = of_no_array used n (λ array. sized_differs (sym is ∙ array))
-      by_form Array is = of_element used n is
+  of_type r subscripts used true n =
+      (elim used.form as (λ form. used.form ≡ form → HasClass sources d (reference_expression r subscripts) (class_of_element form used.name.name)) [ Plain ↦ λ is. of_no_array used n (λ array. plain_differs (sym is ∙ array)) | Sized ↦ λ is. of_no_array used n (λ array. sized_differs (sym is ∙ array)) | Array ↦ λ is. of_element used n is ]) refl
 
   names_nothing : (r : ReferenceTree) (t : Referent) → referent_of names r ≡ t → is_variable t ≡ false → (used : TypeUse) (subscripted : Bool) → ¬ NamesType sources d r used subscripted
   names_nothing r t is other used subscripted n = true≢false (ap is_variable (sym (told_type_of sources unit d declared r used subscripted n) ∙ is) ∙ other)
@@ -86,13 +81,8 @@ module _ (sources : Sources) (unit : List ℕ) (d : TypeTree) (declared : tree_a
   -- and no other
 
   free_of : (r : ReferenceTree) → ((used : TypeUse) (subscripted : Bool) → ¬ NamesType sources d r used subscripted) → class_of_referent (referent_of names r) ≡ Free
-  free_of r none = by_referent (referent_of names r) refl
-    where
-      by_referent : (t : Referent) → referent_of names r ≡ t → class_of_referent t ≡ Free
-      by_referent (Variable used subscripted) is = absurd (none used subscripted (names_type sources unit d declared r used subscripted is))
-      by_referent Unjudged is = refl
-      by_referent Unknown is = refl
-      by_referent (NoMember at) is = refl
+  free_of r none =
+      (elim (referent_of names r) as (λ t. referent_of names r ≡ t → class_of_referent t ≡ Free) [ Variable used subscripted ↦ λ is. absurd (none used subscripted (names_type sources unit d declared r used subscripted is)) | o ↦ λ is. refl ]) refl
 
   named_class : (r : ReferenceTree) (used : TypeUse) (subscripted : Bool) → NamesType sources d r used subscripted → class_of_referent (referent_of names r) ≡ class_with used subscripted
   named_class r used subscripted n = ap class_of_referent (told_type_of sources unit d declared r used subscripted n)

@@ -85,9 +85,6 @@ module _ (sources : Sources) (unit : List ℕ) (d : TypeTree) (declared : tree_a
 
   -- a demand on classes that is not met
   broken : (demand : Demand) → DemandOf names d demand → code_of_demand demand ≡ Class → is_met names demand ≡ false → BreaksRule sources d (place_of demand)
-  broken demand (reference r subscripts w) class fails = absurd (true≢false (sym (ap is_class_code class)))
-  broken demand (field r subscripts before m others w parted) class fails = absurd (true≢false (sym (ap is_class_code class)))
-  broken demand (behind_for name a b step body runs) class fails = absurd (true≢false (sym (ap is_class_code class)))
   broken demand (operator used x w) class fails =
       at_operator used x (class_in names x) w (class_of sources unit d declared x) (none_change used.operator (class_in names x) (none_there (change used.operator (class_in names x)) fails))
   broken demand (pair first row used before x w is) class fails =
@@ -103,6 +100,7 @@ module _ (sources : Sources) (unit : List ℕ) (d : TypeTree) (declared : tree_a
   broken demand (of_assignment r subscripts place e runs) class fails =
       let variable = reference_expression r subscripts in
       at_assignment r subscripts place e (class_in names variable) (class_in names e) runs (class_of sources unit d declared variable) (class_of sources unit d declared e) (none_join (class_in names variable) (class_in names e) (none_there (join (class_in names variable) (class_in names e)) fails))
+  broken demand o class fails = absurd (true≢false (sym (ap is_class_code class)))
 
   -- the demand that a broken rule leaves unmet
   record Broken (span : Span) : Type 0 where
@@ -161,7 +159,7 @@ module _ (sources : Sources) (unit : List ℕ) (d : TypeTree) (declared : tree_a
       }
 
 pub right : ClassesAreRight
-right sources unit span = (to, back)
+right sources unit span = (to, λ h. let b = unmet_by sources unit h.block h.declared span h.breaks in reported sources unit it (record { block = h.block; declared = h.declared; demand = b.demand; of_block = b.of_type; fails = b.fails; is = λ i. record { code = sym b.class i; span = b.place i } }))
   where
     it : Fault
     it = record { code = Class; span = span }
@@ -174,19 +172,6 @@ right sources unit span = (to, back)
           declared = u.declared;
           breaks = subst (BreaksRule sources u.block) (sym (ap (λ (f : Fault). f.span) u.is)) (broken sources unit u.block u.declared u.demand u.of_block (sym (ap (λ (f : Fault). f.code) u.is)) u.fails);
         }
-
-    back : HasBrokenRule sources unit span → Contains (expr_faults_of sources unit) it
-    back h =
-        let b = unmet_by sources unit h.block h.declared span h.breaks in
-        reported sources unit it
-        (record {
-          block = h.block;
-          declared = h.declared;
-          demand = b.demand;
-          of_block = b.of_type;
-          fails = b.fails;
-          is = λ i. record { code = sym b.class i; span = b.place i };
-        })
 
 pub one_class : ExpressionsHaveOneClass
 one_class sources unit d declared e =

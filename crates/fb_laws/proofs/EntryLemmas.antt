@@ -36,11 +36,8 @@ use Rattle.fb_laws.specs.Plans.{HomesHaveCommands}
 -- ---- a system with a flat network has no faults
 
 no_faults : (sources : Sources) (system : List ℕ) (flat : PlainFlat) → HasFlat sources system flat → faults_of sources system ≡ []
-no_faults sources system flat is = by (faults_of sources system) refl
-  where
-    by : (found : List Fault) → faults_of sources system ≡ found → faults_of sources system ≡ []
-    by [] e = e
-    by (f ∷ fs) e = absurd (contains_nothing system ((is.0.whole.members system).1 (itself, inl (λ none. let both : f ∷ fs ≡ [] = sym e ∙ none in cc))))
+no_faults sources system flat is =
+    (elim (faults_of sources system) as (λ found. faults_of sources system ≡ found → faults_of sources system ≡ []) [ [] ↦ λ e. e | f ∷ fs ↦ λ e. absurd (contains_nothing system ((is.0.whole.members system).1 (itself, inl (λ none. let both : f ∷ fs ≡ [] = sym e ∙ none in cc)))) ]) refl
 
 no_mapping_fault : (sources : Sources) (system : List ℕ) (flat : PlainFlat) → HasFlat sources system flat → (f : Fault) → Contains (mapping_faults_of sources system) f → ⊥
 no_mapping_fault sources system flat is f c =

@@ -151,11 +151,8 @@ module _ (sources : Sources) (unit : List ℕ) where
       subst (λ (n : List ℕ). IsMadeOf sources unit n) v.typed (type_of_value decl v.variables made is v.declared plain)
 
   mention_made : (holder name : List ℕ) → IsMadeOf sources unit holder → Contains (mentions_at sources holder) name → IsMadeOf sources unit name
-  mention_made holder name made m = by (Contains-append_cases (parts_at sources holder) (values_at sources holder) name m)
-    where
-      by : Contains (parts_at sources holder) name ⊎ Contains (values_at sources holder) name → IsMadeOf sources unit name
-      by (inl c) = part_made holder name made (tree_at sources holder) refl c
-      by (inr c) = value_made holder name made (tree_at sources holder) refl c
+  mention_made holder name made m =
+      elim (Contains-append_cases (parts_at sources holder) (values_at sources holder) name m) [ inl c ↦ part_made holder name made (tree_at sources holder) refl c | inr c ↦ value_made holder name made (tree_at sources holder) refl c ]
 
   made_on : {holder name : List ℕ} → IsMadeOf sources unit holder → Rests sources holder name → IsMadeOf sources unit name
   made_on made itself = made
@@ -210,13 +207,8 @@ module _ (sources : Sources) (unit : List ℕ) where
   -- ---- whole units
 
   none_below : IsWhole sources unit → HasNoFaultsBelow sources unit
-  none_below whole name made = by (faults_of sources name) refl
-    where
-      by : (found : List Fault) → faults_of sources name ≡ found → faults_of sources name ≡ []
-      by [] is = is
-      by (f ∷ fs) is =
-          let faulty : faults_of sources name ≢ [] = λ none. contains_nothing f (subst (λ (l : List Fault). Contains l f) (sym is ∙ none) (contains_here f fs)) in
-          absurd (contains_nothing name ((whole.members name).1 (made_rests made, inl faulty)))
+  none_below whole name made =
+      (elim (faults_of sources name) as (λ found. faults_of sources name ≡ found → faults_of sources name ≡ []) [ [] ↦ λ is. is | f ∷ fs ↦ λ is. let faulty : faults_of sources name ≢ [] = λ none. contains_nothing f (subst (λ (l : List Fault). Contains l f) (sym is ∙ none) (contains_here f fs)) in absurd (contains_nothing name ((whole.members name).1 (made_rests made, inl faulty))) ]) refl
 
   whole_of_none : HasNoFaultsBelow sources unit → IsWhole sources unit
   whole_of_none none =

@@ -140,15 +140,9 @@ module _ (sources : Sources) (here : NetworkPlace) (n : NetworkTree) where
       other : (p : ParameterTree) → Contains (fault_at ParameterUnknown p.name ∷ []) f → Contains (part f.code) f
       other p h = moved f ParameterUnknown (code_of _ f (contains_single (fault_at ParameterUnknown p.name) f h)) c
 
-      of_value : (section : Section) (used : TypeUse) (p : ParameterTree) → Contains (value_faults section used p) f → Contains (part f.code) f
-      of_value sections.Input used p h = moved f Literal (sym (misfit_origin used p.value f h).0) c
-      of_value sections.Output used p h = other p h
-      of_value sections.Internal used p h = other p h
-      of_value sections.Field used p h = other p h
-
       by : (v : Option DeclaredVariable) (p : ParameterTree) → Contains (parameter_faults v p) f → Contains (part f.code) f
       by None p h = other p h
-      by (Some v) p h = of_value v.section v.type_use p h
+      by (Some v) p h = (elim v.section as (λ section. (used : TypeUse) → (p : ParameterTree) → Contains (value_faults section used p) f → Contains (part f.code) f) [ sections.Input ↦ λ used p h. moved f Literal (sym (misfit_origin used p.value f h).0) c | o ↦ λ used p h. other p h ]) v.type_use p h
 
   in_part : (f : Fault) → Contains (network_faults sources here n) f → Contains (part f.code) f
   in_part = of_either _ _ (of_either _ _ (of_either _ _ (of_either _ _ connections_part types_part) sources_part) adapters_part) parameters_part
@@ -168,12 +162,10 @@ network_origin sources unit f c = by (tree_at sources unit) refl c
     found here n stands h = record { here = here; network = n; stands = stands; has = in_part sources (place_at sources here n) n f h }
 
     by : (o : Option DeclTree) → tree_at sources unit ≡ o → Contains (tree_faults sources unit o) f → NetworkOrigin sources unit f
-    by None e h = absurd (contains_nothing f h)
     by (Some (block_type d)) e h = found _ d.network (of_block d e) h
-    by (Some (adapter_type d)) e h = absurd (contains_nothing f h)
     by (Some (subapplication_type d)) e h = found _ d.network (of_subapplication d e) h
     by (Some (system_configuration s)) e h = let a = origin_in_flat_map (application_network sources unit) s.applications f h in found _ a.origin.network (of_application s a.origin e a.among) a.has
-    by (Some (structure_type s)) e h = absurd (contains_nothing f h)
+    by o e h = absurd (contains_nothing f h)
 
 module _ (sources : Sources) (unit : List ℕ) (here : Site) (n : NetworkTree) (stands : IsNetworkOf sources unit here n) where
   network_reported : (f : Fault) → Contains (network_faults sources (place_at sources here n) n) f → Contains (net_faults_of sources unit) f
@@ -205,11 +197,8 @@ own_instances sources unit here n is = refl
 -- where ends stand
 
 pub end_place : (e : End) → end_span e ≡ place_of e
-end_place e = by e.port
-  where
-    by : (port : Option NameUse) → end_span (record { name = e.name; port = port }) ≡ place_of (record { name = e.name; port = port })
-    by None = refl
-    by (Some p) = refl
+end_place e =
+    elim e.port as (λ port. end_span (record { name = e.name; port = port }) ≡ place_of (record { name = e.name; port = port })) [ None ↦ refl | Some p ↦ refl ]
 
 abbrev pub fault_at_end : Code → End → Fault
 fault_at_end code e = record { code = code; span = place_of e }

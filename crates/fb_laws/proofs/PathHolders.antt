@@ -114,10 +114,8 @@ module _ (sources : Sources) (unit : List ℕ) (sound : IsSound sources unit) wh
           absurd (contains_nothing fault (subst (λ (l : List Fault). Contains l fault) (no_report h.name h.below).declarations has))
 
   subapplication_role : (role : Role) → suits role kinds.Subapplication ≡ true → role ≡ roles.Subapplication
-  subapplication_role roles.Plug e = absurd (true≢false (sym e))
-  subapplication_role roles.Socket e = absurd (true≢false (sym e))
-  subapplication_role roles.Block e = absurd (true≢false (sym e))
   subapplication_role roles.Subapplication e = refl
+  subapplication_role o e = absurd (true≢false (sym e))
 
   pub is_subapplication : (i : InstanceTree) → Holder sources unit i → (d : TypeTree) → tree_at sources i.type_name.name ≡ Some (subapplication_type d) → i.role ≡ roles.Subapplication
   is_subapplication i h d there = subapplication_role i.role (fits i h (subapplication_type d) there)

@@ -29,11 +29,8 @@ Path = List (List ℕ)
 -- where a member stands
 split_of : {X : Type 0} (xs : List X) (x : X) → Contains xs x → (before : List X) × (after : List X) × (xs ≡ before ++ x ∷ after)
 split_of [] x c = absurd (contains_nothing x c)
-split_of {X = X} (z ∷ zs) x c = by (contains_cases z zs x c) (λ d. split_of zs x d)
-  where
-    by : (z ≡ x) ⊎ Contains zs x → (Contains zs x → (before : List X) × (after : List X) × (zs ≡ before ++ x ∷ after)) → (before : List X) × (after : List X) × (z ∷ zs ≡ before ++ x ∷ after)
-    by (inl same) more = ([], zs, ap (λ (w : X). w ∷ zs) same)
-    by (inr d) more = let o = more d in (z ∷ o.0, o.1, ap (λ (l : List X). z ∷ l) o.2)
+split_of {X = X} (z ∷ zs) x c =
+    elim (contains_cases z zs x c) [ inl same ↦ ([], zs, ap (λ (w : X). w ∷ zs) same) | inr d ↦ let o = (split_of zs x d) in (z ∷ o.0, o.1, ap (λ (l : List X). z ∷ l) o.2) ]
 
 module _ (sources : Sources) (unit : List ℕ) (s : SystemTree) (is : IsSystemAt sources unit s) (sound : IsSound sources unit) where
   -- ---- each mapping has its own path

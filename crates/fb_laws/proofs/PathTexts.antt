@@ -31,11 +31,8 @@ same_print (x ∷ (y ∷ others)) = ap (λ (rest : List ℕ). x ++ 46 ∷ rest) 
 -- names from a place on that is no point
 names_on : (b : ℕ) (bs : List ℕ) → b ≢ 46 → path_names (b ∷ bs) ≡ on_first b (path_names bs)
 unfolding path_names
-names_on b bs other = by (b == 46) refl
-  where
-    by : (t : Bool) → (b == 46) ≡ t → cond t ([] ∷ path_names bs) (on_first b (path_names bs)) ≡ on_first b (path_names bs)
-    by true e = absurd (other (eqb-true b 46 e))
-    by false e = refl
+names_on b bs other =
+    (elim (b == 46) as (λ t. (b == 46) ≡ t → cond t ([] ∷ path_names bs) (on_first b (path_names bs)) ≡ on_first b (path_names bs)) [ true ↦ λ e. absurd (other (eqb-true b 46 e)) | false ↦ λ e. refl ]) refl
 
 names_behind : (bs : List ℕ) → path_names (46 ∷ bs) ≡ [] ∷ path_names bs
 unfolding path_names

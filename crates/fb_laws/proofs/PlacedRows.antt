@@ -59,12 +59,8 @@ module _ (sources : Sources) (system : List ℕ) (flat : PlainFlat) where
       let k = known sources system flat h.cuts h.resources h.is_planned in
       record {
         homes = λ block c. let own = k.homes block c in (own.on_resource, of_nearest (mapped sources system) block.path own.on_resource own.home);
-        mappings = λ m c. by m c k.placed (nowhere m) refl;
+        mappings = λ m c. ((elim (nowhere m) as (λ t. nowhere m ≡ t → nowhere m ≡ false) [ true ↦ λ e. absurd (is_astray m c e k.placed) | false ↦ λ e. e ]) refl);
       }
-    where
-      by : (m : MappingTree) → Contains mappings m → misplaced sources system (tree_at sources system) flat.blocks ≡ [] → (t : Bool) → nowhere m ≡ t → nowhere m ≡ false
-      by m c nothing true e = absurd (is_astray m c e nothing)
-      by m c nothing false e = e
 
   none_homeless : IsPlacedWhole sources system flat → homeless (mapped sources system) flat.blocks ≡ []
   none_homeless w = no_members (homeless (mapped sources system) flat.blocks) absent
@@ -78,13 +74,7 @@ module _ (sources : Sources) (system : List ℕ) (flat : PlainFlat) where
           false≢true (sym (ap (λ (h : Option (List ℕ)). is_none h) (nearest_of (mapped sources system) o.origin.path home.0 home.1)) ∙ kept.passes)
 
   none_lost : IsPlacedWhole sources system flat → lost ≡ []
-  none_lost w = no_members lost absent
-    where
-      absent : (path : List ℕ) → Contains lost path → ⊥
-      absent path c =
-          let o = origin_in_map mapping_path (filter nowhere mappings) path c in
-          let kept = passes_in_filter nowhere mappings o.origin o.among in
-          false≢true (sym (w.mappings o.origin kept.among) ∙ kept.passes)
+  none_lost w = no_members lost (λ path c. let o = origin_in_map mapping_path (filter nowhere mappings) path c in let kept = passes_in_filter nowhere mappings o.origin o.among in false≢true (sym (w.mappings o.origin kept.among) ∙ kept.passes))
 
   pub commands_of : IsSystem sources system → HasFlat sources system flat → IsPlacedWhole sources system flat → HasCommands sources system flat
   commands_of is net w =

@@ -75,12 +75,9 @@ name_in_text text tree is name among =
 
 -- the same of the tree of a unit
 pub name_in_unit : (sources : Sources) (unit : List ℕ) (tree : DeclTree) → tree_at sources unit ≡ Some tree → (name : NameUse) → Contains (tree_parts tree) (name_part name) → IsPlain name.name
-name_in_unit sources unit tree is name among = by_text (get sources unit) is
+name_in_unit sources unit tree is name among =
+    (elim (get sources unit) as (λ text. option_and_then tree_of text ≡ Some tree → IsPlain name.name) [ None ↦ λ e. absurd (let no : ⊥ = cc in no) | Some text ↦ λ e. by_body text (body_of text) refl e ]) is
   where
     by_body : (text : List ℕ) (body : BodyTree) → body_of text ≡ body → tree_in body ≡ Some tree → IsPlain name.name
     by_body text (Whole other) e g = let same : other ≡ tree = cc in name_in_text text tree (e ∙ ap (λ (t : DeclTree). Whole t) same) name among
     by_body text (BrokenAt span) e g = absurd (let no : ⊥ = cc in no)
-
-    by_text : (text : Option (List ℕ)) → option_and_then tree_of text ≡ Some tree → IsPlain name.name
-    by_text None e = absurd (let no : ⊥ = cc in no)
-    by_text (Some text) e = by_body text (body_of text) refl e

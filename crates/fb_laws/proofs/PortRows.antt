@@ -44,12 +44,8 @@ not_before i name p q v w h = w.first p v.row v.spelled h v.there v.named
 
 -- a name is declared first in one row
 one_row : (i : InterfaceTree) (name : List ℕ) (p q : Cell) → IsFirstVariable i name p → IsFirstVariable i name q → p.row ≡ q.row
-one_row i name p q v w = by (cases_order p.row q.row)
-  where
-    by : (p.row ≡ q.row) ⊎ ((p.row < q.row) ⊎ (q.row < p.row)) → p.row ≡ q.row
-    by (inl e) = e
-    by (inr (inl h)) = absurd (not_before i name p q v w (in_earlier_row h))
-    by (inr (inr h)) = absurd (not_before i name q p w v (in_earlier_row h))
+one_row i name p q v w =
+    elim (cases_order p.row q.row) [ inl e ↦ e | inr (inl h) ↦ absurd (not_before i name p q v w (in_earlier_row h)) | inr (inr h) ↦ absurd (not_before i name q p w v (in_earlier_row h)) ]
 
 -- and stands in one section
 one_section : (i : InterfaceTree) (name : List ℕ) (a b : Section) (t u : TypeUse) → IsVariableIn i a name t → IsVariableIn i b name u → a ≡ b

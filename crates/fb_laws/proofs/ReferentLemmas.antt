@@ -1,7 +1,7 @@
 -- What references stand for by the check: what they begin at, and what their further names lead to.
 use Rattle.std.proofs.Common.{◌≡◌, ℕ, Bool, true, false, true≢false, cond, not, ◌&&◌, ◌||◌, List, [], ◌∷◌, ◌++◌, Option, Some, None, ◌⊎◌, inl, inr, refl, sym, ap, subst, ◌∙◌, append-nil, arith}
 use Rattle.std.specs.Option.{option_and_then}
-use Rattle.std.proofs.lemmas.Bool.{ltb-false}
+use Rattle.std.proofs.lemmas.Bool.{ltb-false, or_parts}
 use Rattle.fb_text.specs.Elementary.{has_own_class, is_elementary, type_class_of}
 use Rattle.fb_text.specs.declared.elementary.TypeClass.{TypeClass}
 use Rattle.fb_text.specs.declared.elementary.TypeClass.TheVariants as types
@@ -38,19 +38,12 @@ use Rattle.fb_laws.proofs.UsableTypes.{known_type, own_type}
 -- a type that has to be declared is none of class Free
 
 own_class : (c : TypeClass) → has_own_class c ≡ false → is_free (named_class c) ≡ false
-own_class types.Truth e = refl
-own_class types.Integer e = refl
-own_class types.Bits e = refl
 own_class types.Free e = absurd (true≢false e)
-own_class types.Other e = refl
-
-left_false : (a b : Bool) → (a || b) ≡ false → a ≡ false
-left_false true b e = absurd (true≢false e)
-left_false false b e = refl
+own_class o e = refl
 
 not_free : (name : List ℕ) → is_elementary name ≡ false → is_free (class_of_name name) ≡ false
 unfolding is_elementary
-not_free name e = own_class (type_class_of name) (left_false (has_own_class (type_class_of name)) _ e)
+not_free name e = own_class (type_class_of name) (or_parts (has_own_class (type_class_of name)) _ e).0
 
 -- whether a subscript stands on a plain type
 abbrev shown : Bool → Fields → Fields
@@ -70,9 +63,8 @@ found_known None m = refl
 found_known (Some v) m = refl
 
 among_known : (fields : Fields) (m : Member) → is_known (member_among fields m) ≡ true
-among_known NotJudged m = refl
-among_known NoFields m = refl
 among_known (HasFields found) m = found_known (stands_for found m.name.name) m
+among_known o m = refl
 
 data_section : (s : Section) → IsData s → is_data s ≡ true
 data_section s (inl input) = ap is_data input
@@ -83,13 +75,8 @@ has_role i (inl r) = ap is_adapter r
 has_role i (inr r) = ap is_adapter r
 
 of_role : (i : DeclaredInstance) → is_adapter i.role ≡ true → IsAdapter i
-of_role i e = by i.role refl e
-  where
-    by : (role : Role) → i.role ≡ role → is_adapter role ≡ true → IsAdapter i
-    by Plug is e = inl is
-    by Socket is e = inr is
-    by Block is e = absurd (true≢false (sym e))
-    by Subapplication is e = absurd (true≢false (sym e))
+of_role i e =
+    (elim i.role as (λ role. i.role ≡ role → is_adapter role ≡ true → IsAdapter i) [ Plug ↦ λ is e. inl is | Socket ↦ λ is e. inr is | Block ↦ λ is e. absurd (true≢false (sym e)) | Subapplication ↦ λ is e. absurd (true≢false (sym e)) ]) refl e
 
 -- an adapter type with these ports
 record HasAdapter (sources : Sources) (name : List ℕ) (ports : Meanings) : Type 0 where
@@ -105,10 +92,8 @@ module _ (sources : Sources) where
   adapter_found : (name : List ℕ) (role : Role) (ports : Meanings) → role ≡ Plug ⊎ role ≡ Socket → IsUsable sources name role ports → HasAdapter sources name ports
   adapter_found name role ports adapter (as_plug a e) = record { type = a; is = e; has = refl }
   adapter_found name role ports adapter (as_socket a e) = record { type = a; is = e; has = refl }
-  adapter_found name role ports (inl r) (as_block a e) = absurd (let no : ⊥ = cc in no)
-  adapter_found name role ports (inr r) (as_block a e) = absurd (let no : ⊥ = cc in no)
-  adapter_found name role ports (inl r) (as_subapplication a e) = absurd (let no : ⊥ = cc in no)
-  adapter_found name role ports (inr r) (as_subapplication a e) = absurd (let no : ⊥ = cc in no)
+  adapter_found name role ports (inl r) used = absurd (let no : ⊥ = cc in no)
+  adapter_found name role ports (inr r) used = absurd (let no : ⊥ = cc in no)
 
 module _ (sources : Sources) (unit : List ℕ) (d : TypeTree) (declared : tree_at sources unit ≡ Some (block_type d)) where
   abbrev names : Names
@@ -252,10 +237,7 @@ module _ (sources : Sources) (unit : List ℕ) (d : TypeTree) (declared : tree_a
       by (step names (Variable used s) m) (looks used m known s) e
       (λ v has. goes v.type_use (is_some_count m.subscripts) ms last t (next_known used s m v known has))
     where
-      More : DeclaredVariable → Type 0
-      More v = walk names (Variable v.type_use (is_some_count m.subscripts)) ms ≡ Variable last t → GoesOn sources v.type_use (is_some_count m.subscripts) ms last t
-
-      by : (r : Referent) → Looks used s m r → walk names r ms ≡ Variable last t → ((v : DeclaredVariable) → HasField sources used s m.name.name v → More v) → GoesOn sources used s (m ∷ ms) last t
+      by : (r : Referent) → Looks used s m r → walk names r ms ≡ Variable last t → ((v : DeclaredVariable) → HasField sources used s m.name.name v → (walk names (Variable v.type_use (is_some_count m.subscripts)) ms ≡ Variable last t → GoesOn sources v.type_use (is_some_count m.subscripts) ms last t)) → GoesOn sources used s (m ∷ ms) last t
       by Unknown none e more = elim none [ ]
       by Unjudged (is_open o) e more = let both : Unjudged ≡ Variable last t = sym (open_stays ms) ∙ e in absurd (let no : ⊥ = cc in no)
       by (NoMember at) is_none e more = let both : NoMember at ≡ Variable last t = sym (wrong_stays at ms) ∙ e in absurd (let no : ⊥ = cc in no)
@@ -324,11 +306,8 @@ module _ (sources : Sources) (unit : List ℕ) (d : TypeTree) (declared : tree_a
   -- behind what it begins at a reference is walked through
   pub walked : (r : ReferenceTree) (base : Referent) (skipped behind : List Member) → Starts r base skipped behind → (before others : List Member) → behind ≡ before ++ others → referent_through names r (skipped ++ before) ≡ walk names base before
   walked r base [] behind (at_first none) [] others parted = refl
-  walked r base [] behind (at_first none) (m ∷ ms) others parted = by (is_before_port names.scope r.name.name r.subscripts) refl
-    where
-      by : (b : Bool) → is_before_port names.scope r.name.name r.subscripts ≡ b → cond b (walk names (port_named names.scope r.name.name m) ms) (walk names base (m ∷ ms)) ≡ walk names base (m ∷ ms)
-      by true e = let at = port_found r m (ms ++ others) parted e in absurd (none at.instance m (ms ++ others) at.at_port)
-      by false e = refl
+  walked r base [] behind (at_first none) (m ∷ ms) others parted =
+      (elim (is_before_port names.scope r.name.name r.subscripts) as (λ b. is_before_port names.scope r.name.name r.subscripts ≡ b → cond b (walk names (port_named names.scope r.name.name m) ms) (walk names base (m ∷ ms)) ≡ walk names base (m ∷ ms)) [ true ↦ λ e. let at = port_found r m (ms ++ others) parted e in absurd (none at.instance m (ms ++ others) at.at_port) | false ↦ λ e. refl ]) refl
   walked r base (n ∷ []) behind (at_second i m rest at) before others parted =
       ap (λ b. cond b (walk names (port_named names.scope r.name.name m) before) (walk names (variable_named names.scope r.name.name (is_some_count r.subscripts)) (m ∷ before))) (port_told r i m rest at)
   walked r base (n ∷ (q ∷ qs)) behind none before others parted = elim none [ ]
@@ -355,8 +334,7 @@ module _ (sources : Sources) (unit : List ℕ) (d : TypeTree) (declared : tree_a
     by_section : (a : TypeTree) → tree_at sources i.type_name.name ≡ Some (adapter_type a) → (v : DeclaredVariable) → stands_for (meanings_in_type a).variables m.name.name ≡ Some v → (s : Section) → v.section ≡ s → Base r behind (cond (is_data s) (Variable v.type_use on) Unknown)
     by_section a is v e Input s = variable (of_adapter i m a v at is e (inl s))
     by_section a is v e Output s = variable (of_adapter i m a v at is e (inr s))
-    by_section a is v e Internal s = nothing
-    by_section a is v e Field s = nothing
+    by_section a is v e o s = nothing
 
     by_data : (a : TypeTree) → tree_at sources i.type_name.name ≡ Some (adapter_type a) → (o : Option DeclaredVariable) → stands_for (meanings_in_type a).variables m.name.name ≡ o → Base r behind (data_referent o on)
     by_data a is None e = nothing
@@ -378,11 +356,8 @@ module _ (sources : Sources) (unit : List ℕ) (d : TypeTree) (declared : tree_a
     base_at_port = subst (λ (o : Option Meanings). Base r behind (port_referent o m.name.name on)) (sym (port_ports r i m behind at)) (by_ports (usable i.role (tree_at sources i.type_name.name)) refl)
 
   pub base_of : (r : ReferenceTree) (base : Referent) (skipped behind : List Member) → Starts r base skipped behind → Base r behind base
-  base_of r base [] behind (at_first none) = by (stands_for names.scope.own.variables r.name.name) refl
-    where
-      by : (o : Option DeclaredVariable) → stands_for names.scope.own.variables r.name.name ≡ o → Base r r.members (own_referent o (is_some_count r.subscripts))
-      by None e = nothing
-      by (Some v) e = variable (own v e none)
+  base_of r base [] behind (at_first none) =
+      (elim (stands_for names.scope.own.variables r.name.name) as (λ o. stands_for names.scope.own.variables r.name.name ≡ o → Base r r.members (own_referent o (is_some_count r.subscripts))) [ None ↦ λ e. nothing | Some v ↦ λ e. variable (own v e none) ]) refl
   base_of r base (n ∷ []) behind (at_second i m others at) = base_at_port r i m behind at
   base_of r base (n ∷ (q ∷ qs)) behind none = elim none [ ]
 

@@ -36,11 +36,8 @@ parts_count p ps =
 
 -- what is so of an expression that is a reference
 abbrev Counts : Expression → Type 0
-Counts (literal_expression l) = Unit {0}
 Counts (reference_expression r subscripts) = counted_by r ≡ number_of subscripts
-Counts (unary_expression operator e) = Unit {0}
-Counts (row_expression e _) = Unit {0}
-Counts (parentheses e span) = Unit {0}
+Counts o = Unit {0}
 
 record Counted (x : Form Expression) : Type 0 where
   counts : (us : List Lexeme) (e : Expression) → Spells x us e → Counts e

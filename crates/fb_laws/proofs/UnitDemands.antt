@@ -57,17 +57,13 @@ module _ (names : Names) (d : TypeTree) where
   of_statement s demand runs (assigned r subscripts place e is) = of_assignment r subscripts place e (run s (assignment r subscripts place e) is runs)
 
   of_test : (x : Expression) (demand : Demand) → IsTestedIn d x → Contains (demands_at Condition names x) demand → DemandOf names d demand
-  of_test x demand tested c = by_case (Contains-append_cases (demands_in names x) (suits_place Condition x ∷ []) demand c)
-    where
-      by_case : Contains (demands_in names x) demand ⊎ Contains (suits_place Condition x ∷ []) demand → DemandOf names d demand
-      by_case (inl h) = in_expression x demand (λ z o. in_guard x tested o) (asked_in names x demand h)
-      by_case (inr h) = subst (DemandOf names d) (contains_single (suits_place Condition x) demand h) (test x tested)
+  of_test x demand tested c =
+      elim (Contains-append_cases (demands_in names x) (suits_place Condition x ∷ []) demand c) [ inl h ↦ in_expression x demand (λ z o. in_guard x tested o) (asked_in names x demand h) | inr h ↦ subst (DemandOf names d) (contains_single (suits_place Condition x) demand h) (test x tested) ]
 
   of_condition : (condition : ConditionTree) (demand : Demand) → ((x : Expression) → IsGuardOf x condition → IsTestedIn d x) → Contains (guard_demands names condition) demand → DemandOf names d demand
-  of_condition (always span) demand tested c = absurd (contains_nothing demand c)
-  of_condition (on_event event) demand tested c = absurd (contains_nothing demand c)
   of_condition (guarded event x) demand tested c = of_test x demand (tested x with_event) c
   of_condition (guard x) demand tested c = of_test x demand (tested x alone) c
+  of_condition o demand tested c = absurd (contains_nothing demand c)
 
   pub demand_of : (demand : Demand) → Contains (chart_demands names d.chart) demand → DemandOf names d demand
   demand_of demand c = by_case (Contains-append_cases (flat_map (transition_demands names) d.chart.transitions) (flat_map (algorithm_demands names) d.chart.algorithms) demand c)
@@ -84,10 +80,9 @@ module _ (names : Names) (d : TypeTree) where
   -- and the other way
 
   guard_demanded : (x : Expression) (condition : ConditionTree) (demand : Demand) → IsGuardOf x condition → Contains (demands_at Condition names x) demand → Contains (guard_demands names condition) demand
-  guard_demanded x (always span) demand none c = elim none [ ]
-  guard_demanded x (on_event event) demand none c = elim none [ ]
   guard_demanded x (guarded event y) demand with_event c = c
   guard_demanded x (guard y) demand alone c = c
+  guard_demanded x o demand none c = elim none [ ]
 
   tested_demands : (x : Expression) (demand : Demand) → IsTestedIn d x → Contains (demands_at Condition names x) demand → Contains (chart_demands names d.chart) demand
   tested_demands x demand t c =

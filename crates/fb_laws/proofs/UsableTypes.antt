@@ -35,11 +35,8 @@ module _ (sources : Sources) (name : List ℕ) where
   no_type role e ports is = let both : Some ports ≡ None = sym (told_type role ports is) ∙ e in let fails : ⊥ = cc in fails
 
   pub type_missing : (role : Role) → ((ports : Meanings) → ¬ IsUsable sources name role ports) → usable role (tree_at sources name) ≡ None
-  type_missing role none = by (usable role (tree_at sources name)) refl
-    where
-      by : (o : Option Meanings) → usable role (tree_at sources name) ≡ o → o ≡ None
-      by None e = refl
-      by (Some ports) e = absurd (none ports (known_type role ports e))
+  type_missing role none =
+      (elim (usable role (tree_at sources name)) as (λ o. usable role (tree_at sources name) ≡ o → o ≡ None) [ None ↦ λ e. refl | Some ports ↦ λ e. absurd (none ports (known_type role ports e)) ]) refl
 
 -- the types of the instances of a network are known to its check
 
