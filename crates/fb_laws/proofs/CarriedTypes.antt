@@ -5,25 +5,8 @@ use Rattle.std.specs.FinMap.{slice_cmp-IsAntisymmetric, nat_cmp-IsAntisymmetric}
 use Rattle.std.specs.List.{Contains, flat_map}
 use Rattle.std.proofs.lemmas.List.Elements.{Contains-append_left, Contains-append_right}
 use Rattle.std.proofs.lemmas.Bool.{not-true}
-use Rattle.fb_text.specs.Elementary.{is_elementary}
-use Rattle.fb_text.specs.Order.{name_cmp}
-use Rattle.fb_text.specs.declared.name.NameUse.{NameUse}
-use Rattle.fb_text.proofs.Members.{contains_filter, contains_here, contains_later, contains_map, contains_nothing, origin_in_flat_map, origin_in_map, passes_in_filter}
-use Rattle.fb_text.proofs.OrderLemmas.{in_order-members}
-use Rattle.fb_tree.specs.Mentions.{types_in, value_types, variable_types}
-use Rattle.fb_tree.specs.Tree.{DeclTree, InstanceTree, NetworkTree, StructureTree, TypeTree, VariablesTree, adapter_type, block_type, structure_type}
-use Rattle.fb_deploy.specs.Library.Near.{Carries, directly, onward, bases_at, carried_of}
+use Rattle.fb_laws.proofs.Common.{is_elementary, name_cmp, NameUse, contains_filter, contains_here, contains_later, contains_map, contains_nothing, origin_in_flat_map, origin_in_map, passes_in_filter, in_order-members, types_in, value_types, variable_types, DeclTree, InstanceTree, NetworkTree, StructureTree, TypeTree, VariablesTree, adapter_type, block_type, structure_type, Carries, directly, onward, bases_at, carried_of, Sources, mentions_of_tree, parts_at, parts_in, tree_at, values_at, values_in, NoFields, fields_in, fields_near, fields_of_tree, is_same, stands_for, instances_in, meanings_in_type, variables_in, variables_together, DeclaredInstance, DeclaredVariable, in_order_has, stands_for-first_ones, carried_is_all, Contains-has, has-Contains}
 use Rattle.fb_deploy.specs.Library.Seen.{has_name}
-use Rattle.fb_deploy.specs.Library.View.{Sources, mentions_of_tree, parts_at, parts_in, tree_at, values_at, values_in}
-use Rattle.fb_deploy.specs.Iface.Fields.{NoFields, fields_in, fields_near, fields_of_tree}
-use Rattle.fb_deploy.specs.Iface.Names.{is_same, stands_for}
-use Rattle.fb_deploy.specs.Iface.Ports.{instances_in, meanings_in_type, variables_in, variables_together}
-use Rattle.fb_deploy.specs.Iface.declared.ports.DeclaredInstance.{DeclaredInstance}
-use Rattle.fb_deploy.specs.Iface.declared.ports.DeclaredVariable.{DeclaredVariable}
-use Rattle.fb_deploy.proofs.Iface.ScopeLocal.{in_order_has}
-use Rattle.fb_deploy.proofs.Iface.TableLemmas.{stands_for-first_ones}
-use Rattle.fb_deploy.proofs.Library.CarriedLemmas.{carried_is_all}
-use Rattle.fb_deploy.proofs.Library.SeenLemmas.{Contains-has, has-Contains}
 
 -- what a name stands for is declared, under some name
 record IsDeclared {D : Type 0} (all : List (List ℕ × D)) (d : D) : Type 0 where

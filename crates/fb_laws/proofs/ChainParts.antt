@@ -1,15 +1,12 @@
 -- A chain of a clean network, by the connections that it passes.
 use Rattle.std.proofs.Common.{ℕ, ◌≡◌, List, [], ◌∷◌, ◌++◌, map, filter, Some, ◌⊎◌, inl, inr, refl, sym, ◌∙◌, ap, subst}
-use Rattle.fb_tree.specs.declared.network.Sort.{Sort}
-use Rattle.fb_tree.specs.declared.interface.Side.TheVariants.{Input}
+use Rattle.fb_laws.proofs.Common.{Sort, Input, PlainNetwork, View, Place, IsInner, IsConnected, Step, Within, IsBorderPlace, IsLeafPlace, Chain, One, More, side_at, IsCleanThroughout, Passed, passed_at, passed_by, StaysInside, nothing_before, border_before, IsAfter, nothing_after, border_after, CrossesOnce, LinksAreComposed, CrossesFrom, BordersAreComposed, LeavesInner, EntersInner}
 use Rattle.fb_wiring.specs.Network.declared.network.End.{End}
 use Rattle.fb_wiring.specs.Network.declared.network.End.TheVariants.{Own, Of}
-use Rattle.fb_wiring.specs.Network.Plain.{PlainNetwork}
-use Rattle.fb_wiring.specs.Network.Network.{View, Place, place_of, IsInner, IsConnected, Step, Holds, Within, IsBorderPlace, IsLeafPlace, Chain, One, More}
-use Rattle.fb_wiring.specs.Network.Clean.{side_at, IsCleanThroughout}
+use Rattle.fb_wiring.specs.Network.Network.{place_of, Holds}
 use Rattle.fb_wiring.proofs.Network.Chains.{no_step_from_nothing, no_step_to_nothing, same_inner, here, input_step, border_inside, no_chain_from_output, inner_at_border}
 use Rattle.fb_wiring.proofs.Network.LinkLemmas.{leaf_inside}
-use Rattle.fb_laws.specs.Chains.{Passed, own, inside, is_own, passed_at, passed_by, StaysInside, IsBefore, nothing_before, border_before, IsAfter, nothing_after, border_after, CrossesOnce, LinksAreComposed, CrossesFrom, BordersAreComposed, LeavesInner, EntersInner}
+use Rattle.fb_laws.specs.Chains.{own, inside, is_own, IsBefore}
 
 -- ---- steps and chains of equal networks and places
 

@@ -1,16 +1,8 @@
 -- The codes that each part of the check gives.
 use Rattle.std.proofs.Common.{ℕ, List, sym, subst}
 use Rattle.std.specs.List.{Contains}
-use Rattle.fb_text.specs.declared.token.Span.{Span}
-use Rattle.fb_deploy.specs.Library.View.{Sources}
-use Rattle.fb_deploy.specs.Iface.declared.code.Code.{Code}
-use Rattle.fb_deploy.specs.Iface.declared.code.Code.TheVariants.{AlgorithmUnknown, DataType, Duplicate, EventUnknown, Literal, MappedTwice, MixedKind, NameDiffers, NoSuchResource, ParameterUnknown, PassThrough, PortSide, PortUnknown, SecondAdapter, SecondSource, StateUnknown, StructRecursive, UnknownType, WithUnknown, WrongKind}
-use Rattle.fb_deploy.specs.Iface.declared.fault.Fault.{Fault}
-use Rattle.fb_tree.specs.Tree.{NetworkTree}
-use Rattle.fb_expr.specs.Demands.{Demand, code_of_demand, names_field, names_variable}
-use Rattle.fb_netcheck.specs.Settings.{NetworkPlace}
-use Rattle.fb_text.proofs.Members.{contains_nothing}
-use Rattle.fb_laws.specs.UnitParts.{IsCodeOf, Declarations, Expressions, Charts, Networks, Mappings, PartsHaveOwnCodes, other_name, duplicate, mixed_kind, unknown_type, wrong_kind, unknown_with, initial_value, recursive_structure, unknown_variable, unknown_member, class, unknown_state, unknown_event, unknown_algorithm, unknown_port, wrong_side, other_type, second_source, second_adapter, passage, unknown_parameter, parameter_value, second_mapping, lost_mapping}
+use Rattle.fb_laws.proofs.Common.{Span, Sources, Code, AlgorithmUnknown, DataType, Duplicate, EventUnknown, Literal, MappedTwice, MixedKind, NameDiffers, NoSuchResource, ParameterUnknown, PassThrough, PortSide, PortUnknown, SecondAdapter, SecondSource, StateUnknown, StructRecursive, UnknownType, WithUnknown, WrongKind, Fault, NetworkTree, Demand, code_of_demand, names_field, names_variable, NetworkPlace, contains_nothing, IsCodeOf, Declarations, Charts, Networks, Mappings, PartsHaveOwnCodes, other_name, duplicate, mixed_kind, unknown_type, wrong_kind, unknown_with, initial_value, recursive_structure, unknown_variable, unknown_member, class, unknown_state, unknown_event, unknown_algorithm, unknown_port, wrong_side, other_type, second_source, second_adapter, passage, unknown_parameter, parameter_value, second_mapping, lost_mapping}
+use Rattle.fb_laws.specs.UnitParts.{Expressions}
 use Rattle.fb_laws.proofs.ChartRows as charts
 use Rattle.fb_laws.proofs.DeclarationRows as declarations
 use Rattle.fb_laws.proofs.MappingRows as mappings

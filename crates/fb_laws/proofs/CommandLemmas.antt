@@ -5,14 +5,7 @@ use Rattle.std.specs.List.{cons_option, filter_map}
 use Rattle.std.specs.Str.{bytes_eq}
 use Rattle.std.proofs.lemmas.List.{map-append}
 use Rattle.std.proofs.lemmas.List.Elements.{filter-append}
-use Rattle.fb_text.proofs.Members.{contains_cases, contains_here, contains_later, contains_nothing}
-use Rattle.fb_wiring.specs.Network.declared.flat.Link.{Link}
-use Rattle.fb_placing.specs.Cuts.{same_home}
-use Rattle.fb_wiring.specs.Network.Fronts.{nearest}
-use Rattle.fb_placing.specs.Orders.{connection_orders, connection_text, line_order, link_resource, start_order, start_text}
-use Rattle.fb_placing.specs.Resources.{commands_for}
-use Rattle.fb_placing.specs.declared.lines.Line.{Line}
-use Rattle.fb_placing.specs.Order.{Order}
+use Rattle.fb_laws.proofs.Common.{contains_cases, contains_here, contains_later, contains_nothing, Link, same_home, nearest, connection_orders, connection_text, line_order, link_resource, start_order, start_text, commands_for, Line, Order}
 use Rattle.fb_laws.proofs.HomeLemmas.{bytes_same, same_bytes}
 
 -- ---- what a list gives

@@ -5,35 +5,13 @@ use Rattle.std.specs.List.{filter_map, flat_map}
 use Rattle.std.specs.Str.{bytes_eq}
 use Rattle.std.proofs.lemmas.List.Kept.{IsStrictlySortedBy-filter}
 use Rattle.std.proofs.lemmas.Bool.{eqb-false, not-true, or_cases}
-use Rattle.fb_text.proofs.OrderLemmas.{in_order-members, in_order-sorted}
-use Rattle.fb_text.proofs.Members.{contains_cases, contains_filter, contains_flat_map, contains_here, contains_later, contains_map, contains_nothing, origin_in_flat_map, origin_in_map, passes_in_filter}
+use Rattle.fb_laws.proofs.Common.{in_order-members, in_order-sorted, contains_cases, contains_filter, contains_flat_map, contains_here, contains_later, contains_map, contains_nothing, origin_in_flat_map, origin_in_map, passes_in_filter, ApplicationTree, DeclTree, ParameterTree, Sources, text_or_empty, tree_at, link_cmp, FlatBlock, Link, PlainFlat, home_at, nearest, block_home, PlainStanding, path_names, standing_at, applications_in, devices_in, Home, create_line, create_lines, create_text, home_lines, line_cmp, line_cmp_total, lines_at, write_line, write_lines, write_text, connection_orders, line_order, link_resource, orders_of, start_order, start_text, dotted, PlainResource, commands_for, resource_plan, resource_plans, resources_of, Line, Order, IsPlanned, AllBegin, BeginsWith, BlocksAreMadeAtHome, CommandsAreInOrder, IsInOrder, IsWithin, LinksAreMadeAtHome, MakesBlock, MakesItsBlocks, MakesItsLinks, NoneBegins, ParametersAreSetAtHome, ResourcesHaveTheirCommands, SetsItsParameters, SetsParameter, StandsOnce}
 use Rattle.fb_placing.proofs.LineLemmas.{line_cmp-IsAntisymmetric}
-use Rattle.fb_tree.specs.Tree.{ApplicationTree, DeclTree, ParameterTree}
-use Rattle.fb_deploy.specs.Library.View.{Sources, text_or_empty, tree_at}
-use Rattle.fb_wiring.specs.Network.LinkOrder.{link_cmp}
-use Rattle.fb_wiring.specs.Network.declared.flat.FlatBlock.{FlatBlock}
-use Rattle.fb_wiring.specs.Network.declared.flat.Link.{Link}
-use Rattle.fb_wiring.specs.Network.PlainFlat.{PlainFlat}
-use Rattle.fb_placing.specs.Cuts.{home_at}
-use Rattle.fb_wiring.specs.Network.Fronts.{nearest}
-use Rattle.fb_placing.specs.Homes.{block_home}
-use Rattle.fb_placing.specs.Standing.{PlainStanding, path_names, standing_at}
-use Rattle.fb_placing.specs.Systems.{applications_in, devices_in}
-use Rattle.fb_placing.specs.declared.homes.Home.{Home}
-use Rattle.fb_placing.specs.Lines.{create_line, create_lines, create_text, home_lines, line_cmp, line_cmp_total, lines_at, write_line, write_lines, write_text}
-use Rattle.fb_placing.specs.Orders.{connection_orders, line_order, link_resource, orders_of, start_order, start_text}
-use Rattle.fb_wiring.specs.Network.Places.{dotted}
 use Rattle.fb_placing.specs.Written.{written}
-use Rattle.fb_placing.specs.PlainResource.{PlainResource}
-use Rattle.fb_placing.specs.Resources.{commands_for, resource_plan, resource_plans, resources_of}
-use Rattle.fb_placing.specs.declared.lines.Line.{Line}
-use Rattle.fb_placing.specs.Order.{Order}
 use Rattle.fb_laws.proofs.Joined.{of_either}
 use Rattle.fb_laws.proofs.HomeLemmas.{bytes_same, home_listed, nearest_of, of_nearest, same_bytes}
 use Rattle.fb_laws.proofs.PlannedLemmas.{Known, home_there, homes_in, known, links_sorted, mapped, names_in, stands}
 use Rattle.fb_laws.proofs.CommandLemmas.{commands_append, for_lines, for_links, for_starts, given, gives_member, is_of, is_resource, link_command, link_on, lines_on, links_on, of_is, on_link}
-use Rattle.fb_laws.specs.Planned.{IsPlanned}
-use Rattle.fb_laws.specs.Plans.{AllBegin, BeginsWith, BlocksAreMadeAtHome, CommandsAreInOrder, IsInOrder, IsWithin, LinksAreMadeAtHome, MakesBlock, MakesItsBlocks, MakesItsLinks, NoneBegins, ParametersAreSetAtHome, ResourcesHaveTheirCommands, SetsItsParameters, SetsParameter, StandsOnce}
 
 -- ---- what commands begin with
 

@@ -5,39 +5,12 @@ use Rattle.std.specs.List.{Contains}
 use Rattle.std.proofs.lemmas.List.Elements.{Contains-append_right}
 use Rattle.std.proofs.lemmas.Bool.{false_from_ne_true, and_from, and_parts, or_from, or_parts}
 use Rattle.fb_laws.proofs.RuleLemmas.{judged, not_free}
-use Rattle.fb_text.proofs.Tests.{not_true}
-use Rattle.fb_text.specs.declared.token.Span.{Span}
-use Rattle.fb_tree.specs.Tree.{NetworkTree}
-use Rattle.fb_tree.specs.declared.interface.TypeForm.{TypeForm}
+use Rattle.fb_laws.proofs.Common.{not_true, Span, NetworkTree, TypeForm, TypeUse, UnitKind, Connection, Sources, class_of_type, is_free, first_ones, is_same, instances_in, Class, Free, DataType, PassThrough, Fault, contains_flat_map, contains_nothing, origin_in_flat_map, same_exact, same_itself, Own, Source, Destination, Target, connection_faults, is_right, target, net_faults_of, NetworkPlace, connection_span, fault_of, is_own_port, pass_through_faults, flows_agree, joined_types, same_at_ends, targets_agree, IsNetworkOf, NamesRight, Site, DifferInType, IsSameType, of_names, of_sizes, of_arrays, HasOtherType, HasPassThrough, NothingPassesThrough, TypesAgree, data_types, adapter_types}
 use Rattle.fb_tree.specs.declared.interface.TypeForm.TheVariants as forms
-use Rattle.fb_tree.specs.declared.interface.TypeUse.{TypeUse}
-use Rattle.fb_tree.specs.declared.kinds.UnitKind.{UnitKind}
 use Rattle.fb_tree.specs.declared.kinds.UnitKind.TheVariants as kinds
-use Rattle.fb_tree.specs.declared.network.Connection.{Connection}
-use Rattle.fb_deploy.specs.Library.View.{Sources}
-use Rattle.fb_deploy.specs.Iface.Class.{class_of_type, is_free}
-use Rattle.fb_deploy.specs.Iface.Names.{first_ones, is_same}
-use Rattle.fb_deploy.specs.Iface.Ports.{instances_in}
-use Rattle.fb_deploy.specs.Iface.declared.classes.Class.{Class}
-use Rattle.fb_deploy.specs.Iface.declared.classes.Class.TheVariants.{Free}
-use Rattle.fb_deploy.specs.Iface.declared.code.Code.TheVariants.{DataType, PassThrough}
-use Rattle.fb_deploy.specs.Iface.declared.fault.Fault.{Fault}
-use Rattle.fb_text.proofs.Members.{contains_flat_map, contains_nothing, origin_in_flat_map}
-use Rattle.fb_deploy.proofs.Iface.NameLemmas.{same_exact, same_itself}
 use Rattle.fb_netcheck.specs.declared.ends.Flow.{Flow}
 use Rattle.fb_netcheck.specs.declared.ends.Flow.TheVariants as flows
-use Rattle.fb_netcheck.specs.declared.ends.Holder.TheVariants.{Own}
-use Rattle.fb_netcheck.specs.declared.ends.Position.TheVariants.{Source, Destination}
-use Rattle.fb_netcheck.specs.declared.ends.Target.{Target}
-use Rattle.fb_netcheck.specs.Connections.{connection_faults}
-use Rattle.fb_netcheck.specs.Ends.{is_right, target}
-use Rattle.fb_netcheck.specs.Networks.{net_faults_of}
-use Rattle.fb_netcheck.specs.Settings.{NetworkPlace}
-use Rattle.fb_netcheck.specs.Sides.{connection_span, fault_of, is_own_port, pass_through_faults}
 use Rattle.fb_netcheck.specs.Spellings.{same_by_form, same_type, same_words, words_at}
-use Rattle.fb_netcheck.specs.Types.{flows_agree, joined_types, same_at_ends, targets_agree}
-use Rattle.fb_laws.specs.Ends.{IsNetworkOf, NamesRight, Site}
-use Rattle.fb_laws.specs.Networks.{DifferInType, IsSameType, of_names, of_sizes, of_arrays, HasOtherType, HasPassThrough, NothingPassesThrough, TypesAgree, data_types, adapter_types}
 use Rattle.fb_laws.proofs.NetworkEnds.{end_target, known_end, known_own, told_end, told_home, told_own}
 use Rattle.fb_laws.proofs.Joined.{iff, in_where, where_passes}
 use Rattle.fb_laws.proofs.NetworkLemmas.{at_both, at_destination, at_source, end_place, network_origin, own_instances, place_at, reported}

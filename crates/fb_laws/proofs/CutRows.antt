@@ -5,18 +5,10 @@ use Rattle.std.specs.List.Sorted.{IsStrictlySortedBy}
 use Rattle.std.specs.Str.{bytes_eq}
 use Rattle.std.proofs.lemmas.Bool.{false≢true, false_from_ne_true}
 use Rattle.std.proofs.lemmas.List.Kept.{IsStrictlySortedBy-filter}
-use Rattle.fb_text.proofs.Members.{contains_filter, passes_in_filter}
-use Rattle.fb_deploy.specs.Library.View.{Sources}
-use Rattle.fb_wiring.specs.Network.LinkOrder.{link_cmp}
-use Rattle.fb_wiring.specs.Network.declared.flat.Link.{Link}
-use Rattle.fb_wiring.specs.Network.PlainFlat.{PlainFlat}
-use Rattle.fb_placing.specs.Cuts.{home_at, is_cut, same_home}
-use Rattle.fb_placing.specs.PlainResource.{PlainResource}
+use Rattle.fb_laws.proofs.Common.{contains_filter, passes_in_filter, Sources, link_cmp, Link, PlainFlat, home_at, is_cut, same_home, PlainResource, IsPlanned, CutsJoinResources, JoinsResources}
 use Rattle.fb_laws.proofs.HomeLemmas.{bytes_same, same_bytes, some_home}
 use Rattle.fb_laws.proofs.PlannedLemmas.{Known, home_there, homes_in, known, links_sorted, mapped, stands}
 use Rattle.fb_laws.proofs.PlanEnds.{net_fronts}
-use Rattle.fb_laws.specs.Planned.{IsPlanned}
-use Rattle.fb_laws.specs.Plans.{CutsJoinResources, JoinsResources}
 
 module _ (sources : Sources) (system : List ℕ) (flat : PlainFlat) (cuts : List Link) (resources : List PlainResource) (p : IsPlanned sources system flat cuts resources) where
   abbrev it : Known sources system flat cuts resources

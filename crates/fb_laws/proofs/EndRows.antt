@@ -3,28 +3,7 @@ use Rattle.std.proofs.Common.{◌≡◌, ℕ, List, [], ◌++◌, refl, sym, ◌
 use Rattle.std.specs.List.{Contains}
 use Rattle.std.proofs.lemmas.List.Elements.{Contains-append_left, Contains-append_right}
 use Rattle.std.proofs.lemmas.Bool.{false_from_ne_true}
-use Rattle.fb_text.specs.declared.token.Span.{Span}
-use Rattle.fb_tree.specs.Tree.{NetworkTree}
-use Rattle.fb_tree.specs.declared.network.Connection.{Connection}
-use Rattle.fb_tree.specs.declared.network.End.{End}
-use Rattle.fb_deploy.specs.Library.View.{Sources}
-use Rattle.fb_deploy.specs.Iface.Names.{first_ones}
-use Rattle.fb_deploy.specs.Iface.Ports.{instances_in, same_side}
-use Rattle.fb_deploy.specs.Iface.declared.code.Code.{Code}
-use Rattle.fb_deploy.specs.Iface.declared.code.Code.TheVariants.{PortSide, PortUnknown}
-use Rattle.fb_deploy.specs.Iface.declared.fault.Fault.{Fault}
-use Rattle.fb_text.proofs.Members.{contains_flat_map, contains_here, contains_nothing, contains_single, in_unless, origin_in_flat_map, unless}
-use Rattle.fb_netcheck.specs.declared.ends.Position.{Position}
-use Rattle.fb_netcheck.specs.declared.ends.Position.TheVariants.{Source, Destination}
-use Rattle.fb_netcheck.specs.declared.ends.Target.{Target}
-use Rattle.fb_netcheck.specs.declared.ends.Target.TheVariants.{Unknown, NotJudged, Found}
-use Rattle.fb_netcheck.specs.Connections.{connection_faults}
-use Rattle.fb_netcheck.specs.Ends.{right_side, target}
-use Rattle.fb_netcheck.specs.Networks.{net_faults_of}
-use Rattle.fb_netcheck.specs.Settings.{NetworkPlace}
-use Rattle.fb_netcheck.specs.Sides.{end_faults, fault_of}
-use Rattle.fb_laws.specs.Ends.{IsEndOf, IsNetworkOf, Site, place_of, source, destination}
-use Rattle.fb_laws.specs.Networks.{HasUnknownPort, HasWrongSide, PortsAreKnown, PortsAreOfRightSides}
+use Rattle.fb_laws.proofs.Common.{Span, NetworkTree, Connection, End, Sources, first_ones, instances_in, same_side, Code, PortSide, PortUnknown, Fault, contains_flat_map, contains_here, contains_nothing, contains_single, in_unless, origin_in_flat_map, unless, Position, Source, Destination, Target, Unknown, NotJudged, Found, connection_faults, right_side, target, net_faults_of, NetworkPlace, end_faults, fault_of, IsEndOf, IsNetworkOf, Site, place_of, source, destination, HasUnknownPort, HasWrongSide, PortsAreKnown, PortsAreOfRightSides}
 use Rattle.fb_laws.proofs.NetworkEnds.{known_names, known_right, known_unknown, told_names, told_right, unknown_judged, unknown_names}
 use Rattle.fb_laws.proofs.Joined.{iff, of_either}
 use Rattle.fb_laws.proofs.NetworkLemmas.{at_both, at_destination, at_source, end_place, network_origin, own_instances, part, place_at, reported}

@@ -2,18 +2,8 @@
 use Rattle.std.proofs.Common.{◌≡◌, List, [], ◌∷◌, ◌++◌, ◌⊎◌, inl, inr, refl, sym, subst, append-nil, append_assoc}
 use Rattle.std.specs.List.{Contains}
 use Rattle.std.proofs.lemmas.List.Elements.{Contains-append_cases, Contains-append_left, Contains-append_right}
-use Rattle.fb_tree.specs.Expression.{ReferenceTree, Expression, literal_expression, reference_expression, unary_expression, row_expression, parentheses, Expressions, no_expressions, expression_then, Operands, no_operands, operand_then}
-use Rattle.fb_tree.specs.declared.expression.BinaryUse.{BinaryUse}
-use Rattle.fb_tree.specs.declared.expression.UnaryUse.{UnaryUse}
-use Rattle.fb_tree.specs.declared.reference.Member.{Member}
-use Rattle.fb_deploy.specs.Iface.declared.classes.Class.{Class as ValueClass}
-use Rattle.fb_text.proofs.Members.{contains_cases, contains_here, contains_later, contains_nothing, contains_single}
-use Rattle.fb_expr.specs.Classes.{pair_class}
-use Rattle.fb_expr.specs.Demands.{Demand, names_variable, names_field, suits_operand, suits_operands, suits_place, field_demands, reference_demands, demands_in, row_demands, subscript_demands}
-use Rattle.fb_expr.specs.Expressions.{class_in}
-use Rattle.fb_expr.specs.Names.{Names}
-use Rattle.fb_expr.specs.declared.rules.ClassPlace.TheVariants.{Count}
-use Rattle.fb_laws.specs.Occurrences.{IsOneOf, first_one, later_one, IsOperandOf, first_operand, later_operand, OccursIn, itself, in_subscript, behind_operator, in_first, in_operand, in_parentheses}
+use Rattle.fb_laws.proofs.Common.{ReferenceTree, Expression, literal_expression, reference_expression, unary_expression, row_expression, parentheses, Expressions, no_expressions, expression_then, Operands, no_operands, operand_then, BinaryUse, UnaryUse, Member, Class as ValueClass, contains_cases, contains_here, contains_later, contains_nothing, contains_single, pair_class, Demand, names_variable, names_field, suits_operand, suits_operands, suits_place, field_demands, reference_demands, demands_in, row_demands, subscript_demands, class_in, Names, Count, IsOneOf, first_one, later_one, IsOperandOf, first_operand, later_operand, OccursIn, in_subscript, behind_operator, in_first, in_operand}
+use Rattle.fb_laws.specs.Occurrences.{itself, in_parentheses}
 
 -- an operator of a row, the class of what stands before it, and the operand behind it
 pub data IsPairOf (names : Names) (used : BinaryUse) (before : ValueClass) (x : Expression) : ValueClass → Operands → Type 0 where

@@ -6,10 +6,7 @@ use Rattle.std.proofs.lemmas.Bool.{cases_order}
 use Rattle.std.proofs.lemmas.List.{take_all}
 use Rattle.std.proofs.lemmas.Map.Entries.{place_from_lookup}
 use Rattle.std.proofs.lemmas.Option.{slice_get_read}
-use Rattle.fb_deploy.specs.Iface.Names.{first_ones, is_same, stands_for}
-use Rattle.fb_deploy.proofs.Iface.NameLemmas.{same_exact, same_itself}
-use Rattle.fb_deploy.proofs.Iface.EarlierLemmas.{at_place}
-use Rattle.fb_text.proofs.Members.{contains_filter, contains_map}
+use Rattle.fb_laws.proofs.Common.{first_ones, is_same, stands_for, same_exact, same_itself, at_place, contains_filter, contains_map}
 use Rattle.fb_laws.proofs.PickLemmas.{IsPicked, picked, picked_in_turn}
 
 pub at_contained : {X : Type 0} (xs : List X) (x : X) (c : Contains xs x) → slice_get xs c.0 ≡ Some x

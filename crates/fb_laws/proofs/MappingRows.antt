@@ -3,19 +3,7 @@ use Rattle.std.proofs.Common.{◌≡◌, ℕ, true, List, ◌∷◌, ◌++◌, m
 use Rattle.std.proofs.lemmas.List.Elements.{Contains-append_left, Contains-append_right}
 use Rattle.std.specs.List.{Contains, flat_map, slice_get}
 use Rattle.std.specs.Option.{option_map_or}
-use Rattle.fb_text.specs.declared.name.NameUse.{NameUse}
-use Rattle.fb_text.specs.declared.token.Span.{Span}
-use Rattle.fb_tree.specs.Tree.{DeclTree, DeviceTree, MappingTree, ResourceTree, SystemTree, system_configuration}
-use Rattle.fb_deploy.specs.Faults.Mappings.{declared_mapping_faults, has_resource, home_faults, home_span, mapping_faults_of, resource_faults, resources_in, second_mappings, system_mapping_faults}
-use Rattle.fb_deploy.specs.Iface.Names.{has_name, is_same, stands_for}
-use Rattle.fb_deploy.specs.Iface.declared.code.Code.{Code}
-use Rattle.fb_deploy.specs.Iface.declared.code.Code.TheVariants.{MappedTwice, NoSuchResource}
-use Rattle.fb_deploy.specs.Iface.declared.fault.Fault.{Fault}
-use Rattle.fb_deploy.specs.Library.View.{Sources, tree_at}
-use Rattle.fb_netcheck.specs.Paths.{PathUse, path_of_names}
-use Rattle.fb_text.proofs.Members.{contains_cases, contains_flat_map, contains_here, contains_later, contains_map, contains_nothing, contains_single, origin_in_flat_map, origin_in_map}
-use Rattle.fb_deploy.proofs.Iface.NameLemmas.{none_named, not_named, same_exact, same_itself}
-use Rattle.fb_laws.specs.Mappings.{HasLostMapping, HasSecondMapping, IsFirstDevice, IsLost, IsSystemAt, MappingsHaveHomes, MappingsHaveOwnPaths, no_device, no_resource, last_of, place_of_path}
+use Rattle.fb_laws.proofs.Common.{NameUse, Span, DeclTree, DeviceTree, MappingTree, ResourceTree, SystemTree, system_configuration, declared_mapping_faults, has_resource, home_faults, home_span, mapping_faults_of, resource_faults, resources_in, second_mappings, system_mapping_faults, has_name, is_same, stands_for, Code, MappedTwice, NoSuchResource, Fault, Sources, tree_at, PathUse, path_of_names, contains_cases, contains_flat_map, contains_here, contains_later, contains_map, contains_nothing, contains_single, origin_in_flat_map, origin_in_map, none_named, not_named, same_exact, same_itself, HasLostMapping, HasSecondMapping, IsFirstDevice, IsLost, IsSystemAt, MappingsHaveHomes, MappingsHaveOwnPaths, no_device, no_resource, last_of, place_of_path}
 use Rattle.fb_laws.proofs.Joined.{iff, of_either}
 use Rattle.fb_laws.proofs.RepeatedPaths.{repeat_origin, repeat_reported}
 

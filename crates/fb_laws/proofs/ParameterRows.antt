@@ -1,28 +1,9 @@
 -- Parameters that stand for no data input, and values that don't fit, by what the list of faults has.
 use Rattle.std.proofs.Common.{◌≡◌, ◌≢◌, ℕ, Bool, true, false, List, [], ◌∷◌, Option, Some, None, refl, sym, ap, ◌∙◌, subst, true≢false}
 use Rattle.std.specs.List.{Contains}
-use Rattle.fb_text.specs.declared.token.Span.{Span}
-use Rattle.fb_tree.specs.Tree.{InstanceTree, NetworkTree, ParameterTree}
-use Rattle.fb_tree.specs.declared.interface.Section.{Section}
+use Rattle.fb_laws.proofs.Common.{Span, InstanceTree, NetworkTree, ParameterTree, Section, Sources, fault_at, literal_fault, stands_for, Meanings, IsMisfit, Code, Literal, ParameterUnknown, Fault, DeclaredVariable, contains_here, contains_single, net_faults_of, all_parameters, parameter_faults, value_faults, NetworkPlace, IsNetworkOf, Site, IsUsable, HasMisfit, HasUnknownParameter, ParametersAreKnown, ParametersFit}
 use Rattle.fb_tree.specs.declared.interface.Section.TheVariants as sections
 use Rattle.fb_tree.specs.declared.network.Role.TheVariants as roles
-use Rattle.fb_deploy.specs.Library.View.{Sources}
-use Rattle.fb_deploy.specs.Iface.Fault.{fault_at}
-use Rattle.fb_deploy.specs.Iface.Literals.{literal_fault}
-use Rattle.fb_deploy.specs.Iface.Names.{stands_for}
-use Rattle.fb_deploy.specs.Iface.Ports.{Meanings}
-use Rattle.fb_laws.specs.Declarations.{IsMisfit}
-use Rattle.fb_deploy.specs.Iface.declared.code.Code.{Code}
-use Rattle.fb_deploy.specs.Iface.declared.code.Code.TheVariants.{Literal, ParameterUnknown}
-use Rattle.fb_deploy.specs.Iface.declared.fault.Fault.{Fault}
-use Rattle.fb_deploy.specs.Iface.declared.ports.DeclaredVariable.{DeclaredVariable}
-use Rattle.fb_text.proofs.Members.{contains_here, contains_single}
-use Rattle.fb_netcheck.specs.Networks.{net_faults_of}
-use Rattle.fb_netcheck.specs.Parameters.{all_parameters, parameter_faults, value_faults}
-use Rattle.fb_netcheck.specs.Settings.{NetworkPlace}
-use Rattle.fb_laws.specs.Ends.{IsNetworkOf, Site}
-use Rattle.fb_laws.specs.Usable.{IsUsable}
-use Rattle.fb_laws.specs.Networks.{HasMisfit, HasUnknownParameter, ParametersAreKnown, ParametersFit}
 use Rattle.fb_laws.proofs.DeclarationRows.{misfit_origin, misfit_reported}
 use Rattle.fb_laws.proofs.NetworkLemmas.{ParameterOrigin, network_origin, parameter_origin, parameter_reported, place_at, reported}
 use Rattle.fb_laws.proofs.UsableTypes.{known_type, listed_type, told_type}

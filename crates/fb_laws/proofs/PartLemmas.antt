@@ -3,22 +3,9 @@ use Rattle.std.proofs.Common.{◌≡◌, ◌≢◌, ℕ, Bool, true, false, List
 use Rattle.std.specs.List.{Contains, slice_get}
 use Rattle.std.specs.FinMap.{get}
 use Rattle.std.specs.Option.{option_and_then}
-use Rattle.fb_text.specs.declared.token.Span.{Span}
-use Rattle.fb_deploy.specs.Parse.Body.{BodyTree, BrokenAt, Whole, body_of}
-use Rattle.fb_deploy.specs.Library.View.{Sources, tree_at, tree_in, tree_of}
-use Rattle.fb_deploy.specs.Iface.Declarations.{iface_faults_of}
-use Rattle.fb_deploy.specs.Iface.declared.code.Code.{Code}
-use Rattle.fb_deploy.specs.Iface.declared.code.Code.TheVariants.{Syntax, NameDiffers, Duplicate, MixedKind, UnknownType, WrongKind, WithUnknown, StateUnknown, EventUnknown, AlgorithmUnknown, VariableUnknown, Class, PortUnknown, PortSide, DataType, SecondSource, SecondAdapter, PassThrough, ParameterUnknown, Literal, MappedTwice, NoSuchResource, MemberUnknown, StructRecursive}
-use Rattle.fb_deploy.specs.Iface.declared.fault.Fault.{Fault}
-use Rattle.fb_expr.specs.Charts.{expr_faults_of}
-use Rattle.fb_ecc.specs.Charts.{ecc_faults_of}
-use Rattle.fb_netcheck.specs.Networks.{net_faults_of}
-use Rattle.fb_deploy.specs.Faults.Mappings.{mapping_faults_of}
-use Rattle.fb_deploy.specs.Faults.Faults.{body_faults, faults_of, reported_of, syntax_faults_of, text_faults}
-use Rattle.fb_text.proofs.Members.{contains_nothing, contains_single, in_written}
-use Rattle.fb_deploy.proofs.Faults.OrderLemmas.{those_reported}
-use Rattle.fb_laws.specs.UnitParts.{CodesAreOfTheirParts, ConstantsAreOfTwoParts, HasPart, IsCodeOf, IsOfConstants, IsOfPart, Part, Declarations, Expressions, Charts, Networks, Mappings, PartsHaveAllOtherCodes, PartsShareOneCode, WholeUnitsHaveFaultsOfParts, faults_by, of_constant, other_name, duplicate, mixed_kind, unknown_type, wrong_kind, unknown_with, initial_value, recursive_structure, unknown_variable, unknown_member, class, unknown_state, unknown_event, unknown_algorithm, unknown_port, wrong_side, other_type, second_source, second_adapter, passage, unknown_parameter, parameter_value, second_mapping, lost_mapping}
-use Rattle.fb_laws.specs.Texts.{broken_at}
+use Rattle.fb_laws.proofs.Common.{Span, BodyTree, BrokenAt, Whole, body_of, Sources, tree_at, tree_in, tree_of, iface_faults_of, Code, Syntax, NameDiffers, Duplicate, MixedKind, UnknownType, WrongKind, WithUnknown, StateUnknown, EventUnknown, AlgorithmUnknown, VariableUnknown, PortUnknown, PortSide, DataType, SecondSource, SecondAdapter, PassThrough, ParameterUnknown, Literal, MappedTwice, NoSuchResource, MemberUnknown, StructRecursive, Fault, expr_faults_of, ecc_faults_of, net_faults_of, mapping_faults_of, body_faults, faults_of, reported_of, syntax_faults_of, text_faults, contains_nothing, contains_single, in_written, those_reported, CodesAreOfTheirParts, ConstantsAreOfTwoParts, HasPart, IsCodeOf, IsOfConstants, IsOfPart, Declarations, Charts, Networks, Mappings, PartsHaveAllOtherCodes, PartsShareOneCode, WholeUnitsHaveFaultsOfParts, faults_by, of_constant, other_name, duplicate, mixed_kind, unknown_type, wrong_kind, unknown_with, initial_value, recursive_structure, unknown_variable, unknown_member, class, unknown_state, unknown_event, unknown_algorithm, unknown_port, wrong_side, other_type, second_source, second_adapter, passage, unknown_parameter, parameter_value, second_mapping, lost_mapping, broken_at}
+use Rattle.fb_deploy.specs.Iface.declared.code.Code.TheVariants.{Class}
+use Rattle.fb_laws.specs.UnitParts.{Part, Expressions}
 use Rattle.fb_laws.proofs.CodeLemmas.{own_codes, codes}
 use Rattle.fb_laws.proofs.Joined.{in_joined, of_either}
 

@@ -3,33 +3,9 @@ use Rattle.std.proofs.Common.{◌≡◌, ℕ, List, [], ◌∷◌, ◌++◌, Opt
 use Rattle.std.specs.Prelude.{Contains, map, option_map}
 use Rattle.std.specs.List.{filter_map, flat_map}
 use Rattle.std.proofs.lemmas.List.Elements.{Contains-append_cases, Contains-append_left, Contains-append_right}
-use Rattle.fb_text.proofs.Members.{contains_cases, contains_flat_map, contains_here, contains_later, contains_map, contains_nothing, origin_in_flat_map, origin_in_map}
-use Rattle.fb_tree.specs.Tree.{ApplicationTree, DeclTree, InstanceTree, SystemTree, block_type, adapter_type, subapplication_type, system_configuration, structure_type}
-use Rattle.fb_tree.specs.Mentions.{unit_kind_of}
-use Rattle.fb_tree.specs.declared.network.Role.{Role}
+use Rattle.fb_laws.proofs.Common.{contains_cases, contains_flat_map, contains_here, contains_later, contains_map, contains_nothing, origin_in_flat_map, origin_in_map, ApplicationTree, DeclTree, InstanceTree, SystemTree, block_type, adapter_type, subapplication_type, system_configuration, structure_type, unit_kind_of, Role, Sources, tree_at, HasFlat, applications_of, plain_application, declared, instance_in_role, network_of, plain_instance, AreFlatApplications, IsFlatApplication, IsUnitFlat, NoApplication, OfSubapplication, OfSystem, ThenApplication, Application, block_within, AreInstances, Held, NoInstance, ThenBlock, ThenSubapplication, held_as, held_within, leaf_first, leaves_of, View, PlainNetwork, PlainFlat, printed, dotted, IsSystemFlat, application_blocks, FlatApplication, FlatBlock, Instance, InstanceKind, IsSystemAt, IsAtPath, in_application, inside, with_points}
 use Rattle.fb_tree.specs.declared.network.Role.TheVariants as roles
-use Rattle.fb_deploy.specs.Library.View.{Sources, tree_at}
-use Rattle.fb_deploy.specs.Flatten.Net.{HasFlat}
-use Rattle.fb_wiring.specs.Applications.{applications_of, plain_application}
-use Rattle.fb_wiring.specs.ByName.{declared}
-use Rattle.fb_wiring.specs.Networks.{instance_in_role, network_of, plain_instance}
-use Rattle.fb_wiring.specs.Units.{AreFlatApplications, IsFlatApplication, IsUnitFlat, NoApplication, OfSubapplication, OfSystem, ThenApplication}
-use Rattle.fb_wiring.specs.declared.systems.Application.{Application}
-use Rattle.fb_wiring.specs.Network.Composed.{block_within}
-use Rattle.fb_wiring.specs.Network.Instances.{AreInstances, Held, NoInstance, ThenBlock, ThenSubapplication, held_as, held_within, leaf_first, leaves_of}
-use Rattle.fb_wiring.specs.Network.Network.{View}
-use Rattle.fb_wiring.specs.Network.Plain.{PlainNetwork}
-use Rattle.fb_wiring.specs.Network.PlainFlat.{PlainFlat}
-use Rattle.fb_wiring.specs.Network.Printed.{printed}
-use Rattle.fb_wiring.specs.Network.Places.{dotted}
-use Rattle.fb_wiring.specs.Network.SystemFlat.{IsSystemFlat, application_blocks}
-use Rattle.fb_wiring.specs.Network.declared.application.FlatApplication.{FlatApplication}
-use Rattle.fb_wiring.specs.Network.declared.flat.FlatBlock.{FlatBlock}
-use Rattle.fb_wiring.specs.Network.declared.network.Instance.{Instance}
-use Rattle.fb_wiring.specs.Network.declared.network.InstanceKind.{InstanceKind}
 use Rattle.fb_wiring.specs.Network.declared.network.InstanceKind.TheVariants.{Block, Subapplication}
-use Rattle.fb_laws.specs.Mappings.{IsSystemAt}
-use Rattle.fb_laws.specs.Paths.{IsAtPath, in_application, inside, with_points}
 use Rattle.fb_laws.proofs.CommandLemmas.{given, gives_member}
 use Rattle.fb_laws.proofs.PlanEnds.{instance_held, leaf_listed}
 use Rattle.fb_laws.proofs.PathTexts.{same_print}

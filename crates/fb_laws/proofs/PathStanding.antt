@@ -4,17 +4,10 @@ use Rattle.std.specs.Prelude.{Contains, find, is_none, option_and_then, option_m
 use Rattle.std.specs.Option.{option_map_or}
 use Rattle.std.specs.Str.{bytes_eq}
 use Rattle.std.proofs.lemmas.Bool.{not-false}
-use Rattle.fb_text.proofs.Members.{contains_nothing, passes_in_find}
-use Rattle.fb_tree.specs.Tree.{ApplicationTree, DeclTree, InstanceTree, SystemTree, block_type, adapter_type, subapplication_type, system_configuration, structure_type}
-use Rattle.fb_tree.specs.declared.network.Role.{Role}
+use Rattle.fb_laws.proofs.Common.{contains_nothing, passes_in_find, ApplicationTree, DeclTree, InstanceTree, SystemTree, block_type, adapter_type, subapplication_type, system_configuration, structure_type, Role, Sources, tree_at, IsSound, first_at, PlainStanding, application_called, inner_instances, is_placed, leads_nowhere, standing_among, standing_at, standing_beyond, standing_inside, IsSystemAt, IsAtPath, IsOfSomething, in_application, inside, of_application}
 use Rattle.fb_tree.specs.declared.network.Role.TheVariants as roles
-use Rattle.fb_deploy.specs.Library.View.{Sources, tree_at}
-use Rattle.fb_deploy.specs.Flatten.Net.{IsSound}
-use Rattle.fb_placing.specs.Firsts.{first_at}
-use Rattle.fb_placing.specs.Standing.{PlainStanding, application_called, inner_instances, is_placed, leads_nowhere, standing_among, standing_at, standing_beyond, standing_inside}
 use Rattle.fb_placing.proofs.StandingLemmas.{beyond_nothing}
-use Rattle.fb_laws.specs.Mappings.{IsSystemAt}
-use Rattle.fb_laws.specs.Paths.{IsAtPath, IsOfSomething, in_application, inside, of_application, of_block, of_subapplication}
+use Rattle.fb_laws.specs.Paths.{of_block, of_subapplication}
 use Rattle.fb_laws.proofs.HomeLemmas.{same_bytes}
 use Rattle.fb_laws.proofs.PathHolders.{applications_apart, first_own, holder_of, instances_apart, is_subapplication, type_apart, type_below}
 

@@ -2,10 +2,7 @@
 use Rattle.std.proofs.Common.{◌≡◌, ◌≢◌, ℕ, ◌<◌, ◌≤◌, ◌==◌, Bool, true, false, cond, length, List, [], ◌∷◌, ◌++◌, inl, inr, refl, sym, ap, ◌∙◌, append_assoc, append-nil, length-append, arith}
 use Rattle.std.specs.List.{flat_map}
 use Rattle.std.proofs.lemmas.Bool.{eqb-true}
-use Rattle.fb_wiring.specs.Network.Printed.{printed}
-use Rattle.fb_wiring.specs.Network.Fronts.{IsFront}
-use Rattle.fb_placing.specs.Standing.{on_first, path_names}
-use Rattle.fb_laws.specs.Paths.{with_points}
+use Rattle.fb_laws.proofs.Common.{printed, IsFront, on_first, path_names, with_points}
 use Rattle.fb_laws.proofs.PlainNames.{AllPlain, IsPlain}
 
 abbrev Path : Type 0

@@ -5,31 +5,9 @@ use Rattle.std.specs.Cmp.Lexicographic.{nat_list_cmp_total}
 use Rattle.std.specs.FinMap.{nat_cmp-IsAntisymmetric, slice_cmp-IsAntisymmetric}
 use Rattle.std.proofs.lemmas.Bool.{false≢true}
 use Rattle.std.proofs.lemmas.List.Elements.{Contains-append_right}
-use Rattle.fb_text.specs.Order.{name_cmp, names_in_order}
-use Rattle.fb_text.proofs.OrderLemmas.{in_order-members}
-use Rattle.fb_text.proofs.Members.{contains_filter, contains_here, contains_map, contains_nothing, origin_in_map, passes_in_filter}
-use Rattle.fb_deploy.proofs.ComputedPlans.{plan_at_is}
-use Rattle.fb_tree.specs.Tree.{MappingTree}
-use Rattle.fb_deploy.specs.Library.View.{Sources, tree_at}
-use Rattle.fb_wiring.specs.Network.declared.flat.FlatBlock.{FlatBlock}
-use Rattle.fb_wiring.specs.Network.PlainFlat.{PlainFlat}
-use Rattle.fb_deploy.specs.Flatten.Net.{HasFlat, flat_net}
-use Rattle.fb_placing.specs.Cuts.{cuts_of, home_at}
-use Rattle.fb_wiring.specs.Network.Fronts.{nearest}
-use Rattle.fb_placing.specs.Homes.{astray, homeless, misplaced, unless_faulty}
-use Rattle.fb_placing.specs.Mappings.{mapping_path, names_used}
-use Rattle.fb_deploy.specs.Mapping.Placed.{IsSystem}
-use Rattle.fb_placing.specs.Standing.{leads_nowhere}
-use Rattle.fb_placing.specs.Systems.{applications_in, mappings_in}
-use Rattle.fb_placing.specs.declared.homes.Misplaced.{Misplaced}
-use Rattle.fb_placing.specs.declared.homes.Misplaced.TheVariants.{NoSuchBlock, Unmapped}
-use Rattle.fb_deploy.specs.Deploy.{planned, with_homes}
-use Rattle.fb_placing.specs.Orders.{orders_of}
-use Rattle.fb_placing.specs.Resources.{resource_plans}
+use Rattle.fb_laws.proofs.Common.{name_cmp, names_in_order, in_order-members, contains_filter, contains_here, contains_map, contains_nothing, origin_in_map, passes_in_filter, plan_at_is, MappingTree, Sources, tree_at, FlatBlock, PlainFlat, HasFlat, flat_net, cuts_of, home_at, nearest, astray, homeless, misplaced, unless_faulty, mapping_path, names_used, IsSystem, leads_nowhere, applications_in, mappings_in, Misplaced, NoSuchBlock, Unmapped, planned, with_homes, orders_of, resource_plans, HasCommands, IsPlacedWhole, PlacedSystemsHaveCommands}
 use Rattle.fb_laws.proofs.HomeLemmas.{nearest_of, of_nearest}
 use Rattle.fb_laws.proofs.PlannedLemmas.{homes_in, known, mapped, names_in}
-use Rattle.fb_laws.specs.Planned.{HasCommands, IsPlacedWhole}
-use Rattle.fb_laws.specs.Plans.{PlacedSystemsHaveCommands}
 
 no_members : {X : Type 0} (xs : List X) → ((x : X) → Contains xs x → ⊥) → xs ≡ []
 no_members [] h = refl

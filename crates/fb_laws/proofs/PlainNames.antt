@@ -6,19 +6,9 @@ use Rattle.std.specs.FinMap.{get}
 use Rattle.std.specs.Option.{option_and_then}
 use Rattle.std.proofs.lemmas.Bool.Decides.{nat_tests}
 use Rattle.std.proofs.lemmas.List.Elements.{All-contains}
-use Rattle.fb_text.specs.Bytes.{is_word_start, is_word_byte}
-use Rattle.fb_text.specs.Name.{name_of}
+use Rattle.fb_laws.proofs.Common.{is_word_start, is_word_byte, name_of, is_word, NameFault, NameUse, IsName-upper, is_word-all, name_of-ok, lexeme_of, name_or, name_use, spelled_name, DeclTree, Sources, tree_at, tree_in, tree_of, BodyTree, BrokenAt, Whole, body_of, name_part, tree_parts, IsWritten}
 use Rattle.fb_text.specs.Spelling.{IsName}
-use Rattle.fb_text.specs.Words.{is_word}
-use Rattle.fb_text.specs.declared.name.NameFault.{NameFault}
-use Rattle.fb_text.specs.declared.name.NameUse.{NameUse}
-use Rattle.fb_text.proofs.NameLemmas.{IsName-upper, both, is_word-all, name_of-ok}
-use Rattle.fb_structured_text.specs.Forms.Lexemes.{lexeme_of, name_or, name_use, spelled_name}
-use Rattle.fb_tree.specs.Tree.{DeclTree}
-use Rattle.fb_deploy.specs.Library.View.{Sources, tree_at, tree_in, tree_of}
-use Rattle.fb_deploy.specs.Parse.Body.{BodyTree, BrokenAt, Whole, body_of}
-use Rattle.fb_laws.specs.SpanParts.{name_part, tree_parts}
-use Rattle.fb_laws.specs.Written.{IsWritten}
+use Rattle.fb_text.proofs.NameLemmas.{both}
 use Rattle.fb_laws.proofs.Standing.{name_in, of_token, spelled_word, tree_stands}
 
 -- no byte is a point or a blank

@@ -2,14 +2,8 @@
 use Rattle.std.proofs.Common.{◌≡◌, ℕ, ◌<◌, List, Some, sym, ap, ◌∙◌, subst, ◌⊎◌, inl, inr}
 use Rattle.std.specs.List.{slice_get}
 use Rattle.std.proofs.lemmas.Bool.{cases_order}
-use Rattle.fb_tree.specs.Tree.{InterfaceTree, TypeTree, VariablesTree, adapter_type, block_type, structure_type, subapplication_type, system_configuration}
-use Rattle.fb_tree.specs.declared.interface.Section.{Section}
+use Rattle.fb_laws.proofs.Common.{InterfaceTree, TypeTree, VariablesTree, adapter_type, block_type, structure_type, subapplication_type, system_configuration, Section, Side, TypeUse, meanings_in_type, Cell, IsBefore, IsDataOn, IsFirstVariable, IsVariableIn, data_input, data_output, in_earlier_row, of_adapter, of_block, of_subapplication, ComeAsDeclaredEach, HaveOwnNamesEach, InternalVariablesAreNoPorts, NamesStandForFirst, PortsComeAsDeclared, PortsHaveOwnNames, StandForFirst}
 use Rattle.fb_tree.specs.declared.interface.Section.TheVariants as sections
-use Rattle.fb_tree.specs.declared.interface.Side.{Side}
-use Rattle.fb_tree.specs.declared.interface.TypeUse.{TypeUse}
-use Rattle.fb_deploy.specs.Iface.Ports.{meanings_in_type}
-use Rattle.fb_laws.specs.Declared.{Cell, IsBefore, IsDataOn, IsFirstVariable, IsVariableIn, data_input, data_output, in_earlier_row, of_adapter, of_block, of_subapplication}
-use Rattle.fb_laws.specs.Ports.{ComeAsDeclaredEach, HaveOwnNamesEach, InternalVariablesAreNoPorts, NamesStandForFirst, PortsComeAsDeclared, PortsHaveOwnNames, StandForFirst}
 use Rattle.fb_laws.proofs.DataRows.{data_declared, data_in_turn, data_once, variables_stand}
 use Rattle.fb_laws.proofs.ItemRows.{adapters_in_turn, adapters_once, events_in_turn, events_once, events_stand, instances_stand}
 

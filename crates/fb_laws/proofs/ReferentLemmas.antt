@@ -2,36 +2,14 @@
 use Rattle.std.proofs.Common.{◌≡◌, ℕ, Bool, true, false, true≢false, cond, not, ◌&&◌, ◌||◌, List, [], ◌∷◌, ◌++◌, Option, Some, None, ◌⊎◌, inl, inr, refl, sym, ap, subst, ◌∙◌, append-nil, arith}
 use Rattle.std.specs.Option.{option_and_then}
 use Rattle.std.proofs.lemmas.Bool.{ltb-false, or_parts}
-use Rattle.fb_text.specs.Elementary.{has_own_class, is_elementary, type_class_of}
+use Rattle.fb_laws.proofs.Common.{has_own_class, is_elementary, type_class_of, Span, ReferenceTree, DeclTree, TypeTree, adapter_type, block_type, structure_type, Section, TypeForm, TypeUse, Role, Plug, Socket, Block, Subapplication, Member, Sources, tree_at, class_of_name, is_free, named_class, Fields, NoFields, HasFields, fields_in, fields_of_tree, first_ones, stands_for, Meanings, meanings_in_type, instance_ports, ports_of, usable, DeclaredInstance, DeclaredVariable, stands_for-first_ones, is_known, referent_through, Names, names_of_type, data_referent, field_referent, fields_behind, fields_named, is_adapter, is_at_adapter, is_before_port, is_data, is_some_count, member_among, own_referent, port_named, port_referent, referent_of, step, unless_judged, variable_named, walk, Referent, Variable, Unjudged, NoMember, IsAdapter, IsUsable, as_plug, as_socket, as_block, as_subapplication, IsData, IsAtPort, Begins, own, IsOfNoAdapter, Shows, plain, element, IsOpen, generic, unknown, HasField, GoesOn, at_end, through, NamesType}
 use Rattle.fb_text.specs.declared.elementary.TypeClass.{TypeClass}
 use Rattle.fb_text.specs.declared.elementary.TypeClass.TheVariants as types
-use Rattle.fb_text.specs.declared.token.Span.{Span}
-use Rattle.fb_tree.specs.Expression.{ReferenceTree}
-use Rattle.fb_tree.specs.Tree.{DeclTree, TypeTree, adapter_type, block_type, structure_type}
-use Rattle.fb_tree.specs.declared.interface.Section.{Section}
 use Rattle.fb_tree.specs.declared.interface.Section.TheVariants.{Input, Output, Internal, Field}
-use Rattle.fb_tree.specs.declared.interface.TypeForm.{TypeForm}
 use Rattle.fb_tree.specs.declared.interface.TypeForm.TheVariants as forms
-use Rattle.fb_tree.specs.declared.interface.TypeUse.{TypeUse}
-use Rattle.fb_tree.specs.declared.network.Role.{Role}
-use Rattle.fb_tree.specs.declared.network.Role.TheVariants.{Plug, Socket, Block, Subapplication}
-use Rattle.fb_tree.specs.declared.reference.Member.{Member}
-use Rattle.fb_deploy.specs.Library.View.{Sources, tree_at}
-use Rattle.fb_deploy.specs.Iface.Class.{class_of_name, is_free, named_class}
-use Rattle.fb_deploy.specs.Iface.Fields.{Fields, NotJudged, NoFields, HasFields, fields_in, fields_of_tree}
-use Rattle.fb_deploy.specs.Iface.Names.{first_ones, stands_for}
-use Rattle.fb_deploy.specs.Iface.Ports.{Meanings, meanings_in_type}
-use Rattle.fb_deploy.specs.Iface.Scope.{instance_ports, ports_of, usable}
-use Rattle.fb_deploy.specs.Iface.declared.ports.DeclaredInstance.{DeclaredInstance}
-use Rattle.fb_deploy.specs.Iface.declared.ports.DeclaredVariable.{DeclaredVariable}
-use Rattle.fb_deploy.proofs.Iface.TableLemmas.{stands_for-first_ones}
-use Rattle.fb_expr.specs.Demands.{is_known, referent_through}
-use Rattle.fb_expr.specs.Names.{Names, names_of_type}
-use Rattle.fb_expr.specs.References.{data_referent, field_referent, fields_behind, fields_named, is_adapter, is_at_adapter, is_before_port, is_data, is_some_count, member_among, own_referent, port_named, port_referent, referent_of, step, unless_judged, variable_named, walk}
-use Rattle.fb_expr.specs.declared.references.Referent.{Referent}
-use Rattle.fb_expr.specs.declared.references.Referent.TheVariants.{Variable, Unjudged, Unknown, NoMember}
-use Rattle.fb_laws.specs.Usable.{IsAdapter, IsUsable, as_plug, as_socket, as_block, as_subapplication}
-use Rattle.fb_laws.specs.Variables.{IsData, IsAtPort, Begins, own, of_adapter, IsOfNoAdapter, Shows, plain, element, IsOpen, generic, unknown, HasField, GoesOn, at_end, through, NamesType}
+use Rattle.fb_deploy.specs.Iface.Fields.{NotJudged}
+use Rattle.fb_expr.specs.declared.references.Referent.TheVariants.{Unknown}
+use Rattle.fb_laws.specs.Variables.{of_adapter}
 use Rattle.fb_laws.proofs.CarriedTypes.{IsKnown, data_known, field_known, known_fields, own_known}
 use Rattle.fb_laws.proofs.UsableTypes.{known_type, own_type}
 

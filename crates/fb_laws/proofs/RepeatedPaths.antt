@@ -7,11 +7,7 @@ use Rattle.std.proofs.Math.Bool.{or-true}
 use Rattle.std.proofs.Math.Seq.{take-append_seam}
 use Rattle.std.proofs.lemmas.Cmp.{lists_total, nat_list_cmp_total, tied_itself}
 use Rattle.std.proofs.lemmas.Map.Views.{tells_apart}
-use Rattle.fb_deploy.specs.Iface.declared.code.Code.{Code}
-use Rattle.fb_deploy.specs.Iface.declared.fault.Fault.{Fault}
-use Rattle.fb_deploy.proofs.Iface.EarlierLemmas.{at_place, in_places}
-use Rattle.fb_text.proofs.Members.{contains_cases, contains_filter, contains_here, contains_later, contains_map, contains_nothing, origin_in_map, passes_in_filter}
-use Rattle.fb_netcheck.specs.Paths.{Path, PathUse, fault_at_path, has_path, is_repeated, repeated, repeated_faults, same_path}
+use Rattle.fb_laws.proofs.Common.{Code, Fault, at_place, in_places, contains_cases, contains_filter, contains_here, contains_later, contains_map, contains_nothing, origin_in_map, passes_in_filter, Path, PathUse, fault_at_path, has_path, is_repeated, repeated, repeated_faults, same_path}
 use Rattle.fb_laws.proofs.SplitLemmas.{SplitImages, at_split, images_split, split_at, split_images}
 
 path_exact : (a b : Path) → same_path a b ≡ true → a ≡ b

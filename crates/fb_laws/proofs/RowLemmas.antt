@@ -3,7 +3,7 @@ use Rattle.std.proofs.Common.{◌≡◌, zero, suc, ℕ, ◌+◌, ◌<◌, List,
 use Rattle.std.specs.List.{flat_map, slice_get}
 use Rattle.std.proofs.lemmas.Bool.{cases_order}
 use Rattle.std.proofs.lemmas.Option.{slice_get_within}
-use Rattle.fb_laws.specs.Declared.{Cell, IsBefore, in_earlier_row, in_same_row}
+use Rattle.fb_laws.proofs.Common.{Cell, IsBefore, in_earlier_row, in_same_row}
 
 in_either : {Y : Type 0} (xs ys : List Y) (k : ℕ) (y : Y) → slice_get (xs ++ ys) k ≡ Some y → (slice_get xs k ≡ Some y) ⊎ ((j : ℕ) × (k ≡ length xs + j) × (slice_get ys j ≡ Some y))
 in_either [] ys k y e = inr (k, (let start : k ≡ 0 + k = omega arith in start), e)

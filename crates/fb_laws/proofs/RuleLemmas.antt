@@ -6,14 +6,7 @@ use Rattle.fb_tree.specs.declared.expression.BinaryOperator.{BinaryOperator}
 use Rattle.fb_tree.specs.declared.expression.BinaryOperator.TheVariants.{Or, Xor, And, Equal, NotEqual, Less, Greater, LessOrEqual, GreaterOrEqual, Add, Subtract, Multiply, Divide, Modulo, Power}
 use Rattle.fb_tree.specs.declared.expression.UnaryOperator.{UnaryOperator}
 use Rattle.fb_tree.specs.declared.expression.UnaryOperator.TheVariants.{Plus, Minus, Not}
-use Rattle.fb_deploy.specs.Iface.Class.{is_free, takes}
-use Rattle.fb_deploy.specs.Iface.declared.classes.Class.{Class}
-use Rattle.fb_deploy.specs.Iface.declared.classes.Class.TheVariants.{B, I, W, O, Free, Num, Any}
-use Rattle.fb_expr.specs.Classes.{arithmetical, change, class_of_broken, combined, join, logical, operation, pair_class, whole as whole_of}
-use Rattle.fb_expr.specs.Rules.{allows}
-use Rattle.fb_expr.specs.declared.rules.ClassPlace.{ClassPlace}
-use Rattle.fb_expr.specs.declared.rules.ClassPlace.TheVariants.{Condition, Count, Counter, Selector}
-use Rattle.fb_laws.specs.Classes.{Joins, Takes, IsLogical, Calculates, Divides, Changes, JoinsTruths, Compares, IsArithmetic, Makes, Combines, Spoils, Results, Fits}
+use Rattle.fb_laws.proofs.Common.{is_free, takes, Class, B, I, W, O, Free, Num, Any, arithmetical, change, class_of_broken, combined, join, logical, operation, pair_class, whole as whole_of, allows, ClassPlace, Condition, Count, Counter, Selector, Joins, Takes, IsLogical, Calculates, Divides, Changes, JoinsTruths, Compares, IsArithmetic, Makes, Combines, Spoils, Results, Fits}
 
 -- a class that comes of a rule, where the check has one
 pub data Known (P : Class → Type 0) : Option Class → Type 0 where

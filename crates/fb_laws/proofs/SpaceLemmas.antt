@@ -2,13 +2,7 @@
 use Rattle.std.proofs.Common.{◌≡◌, ℕ, false, List, [], ◌∷◌, ◌++◌, map, flat_map, if◌then◌else◌, Some, None, ◌⊎◌, inl, inr, refl, sym, ap, ◌∙◌, subst}
 use Rattle.std.specs.List.{Contains, slice_get}
 use Rattle.std.proofs.lemmas.List.Elements.{Contains-append_left, Contains-append_right, Contains-append_cases}
-use Rattle.fb_text.specs.declared.name.NameUse.{NameUse}
-use Rattle.fb_text.proofs.Members.{contains_cases, contains_flat_map, contains_here, contains_later, contains_map, contains_single, origin_in_flat_map, origin_in_map}
-use Rattle.fb_tree.specs.Tree.{ApplicationTree, DeclTree, DeviceTree, EventTree, InstanceTree, NetworkTree, ParameterTree, StateTree, AlgorithmTree, StructureTree, SystemTree, TypeTree, VariablesTree, adapter_type, block_type, structure_type, subapplication_type, system_configuration}
-use Rattle.fb_tree.specs.declared.network.Role.{Role}
-use Rattle.fb_tree.specs.declared.network.Role.TheVariants.{Block, Plug, Socket, Subapplication}
-use Rattle.fb_deploy.specs.Iface.Spaces.{chart_spaces, interface_spaces, is_block, network_spaces, parameter_names, resource_names, spaces_of, system_spaces, type_spaces}
-use Rattle.fb_laws.specs.Declared.{IsHeldIn, IsType, instance_of_application, instance_of_type, of_adapter, of_block, of_subapplication}
+use Rattle.fb_laws.proofs.Common.{NameUse, contains_cases, contains_flat_map, contains_here, contains_later, contains_map, contains_single, origin_in_flat_map, origin_in_map, ApplicationTree, DeclTree, DeviceTree, EventTree, InstanceTree, NetworkTree, ParameterTree, StateTree, AlgorithmTree, StructureTree, SystemTree, TypeTree, VariablesTree, adapter_type, block_type, structure_type, subapplication_type, system_configuration, Role, Block, Plug, Socket, Subapplication, chart_spaces, interface_spaces, is_block, network_spaces, parameter_names, resource_names, spaces_of, system_spaces, type_spaces, IsHeldIn, IsType, instance_of_application, instance_of_type, of_adapter, of_block, of_subapplication}
 use Rattle.fb_laws.specs.Spaces.{IsSpace, algorithms, applications, devices, events, fields, instances, instances_of_application, parameters, resources, states, variables}
 
 abbrev event_names : TypeTree → List NameUse

@@ -3,16 +3,8 @@ use Rattle.std.proofs.Common.{◌≡◌, List, [], ◌∷◌, ◌++◌, Option, 
 use Rattle.std.specs.List.{Contains}
 use Rattle.std.specs.Option.{option_map_or}
 use Rattle.std.proofs.lemmas.List.Elements.{Contains-append_cases, Contains-append_left, Contains-append_right}
-use Rattle.fb_text.specs.declared.name.NameUse.{NameUse}
-use Rattle.fb_text.specs.declared.token.Span.{Span}
-use Rattle.fb_tree.specs.Expression.{ReferenceTree, Expression, reference_expression, Expressions, no_expressions}
-use Rattle.fb_tree.specs.Statement.{Statement, empty, assignment, exit, return, choice, selection, count, while_loop, repeat_loop, Statements, no_statements, statement_then, Arms, no_arms, arm_then}
-use Rattle.fb_text.proofs.Members.{contains_cases, contains_here, contains_later, contains_nothing, contains_single}
-use Rattle.fb_expr.specs.Demands.{Demand, names_variable, suits_place, assigns, demands_in, demands_at, name_alone, counter_demands, range_demands, statement_demands, statements_demands, arms_demands}
-use Rattle.fb_expr.specs.Names.{Names}
-use Rattle.fb_expr.specs.declared.rules.ClassPlace.{ClassPlace}
-use Rattle.fb_expr.specs.declared.rules.ClassPlace.TheVariants.{Condition, Count, Counter, Selector}
-use Rattle.fb_laws.specs.Occurrences.{IsArmOf, first_arm, later_arm, Asks, arm, selector, from, to, by, while_condition, until_condition, HasExpression, in_place, destination, value, IsWithin, this, in_arm, behind_else, in_case, behind_cases, in_for, in_while, in_repeat, IsAmong, in_first_statement, in_later_statement}
+use Rattle.fb_laws.proofs.Common.{NameUse, Span, ReferenceTree, Expression, reference_expression, Expressions, no_expressions, Statement, empty, assignment, exit, return, choice, selection, count, while_loop, repeat_loop, Statements, no_statements, statement_then, Arms, no_arms, arm_then, contains_cases, contains_here, contains_later, contains_nothing, contains_single, Demand, names_variable, suits_place, assigns, demands_in, demands_at, name_alone, counter_demands, range_demands, statement_demands, statements_demands, arms_demands, Names, ClassPlace, Condition, Count, Counter, Selector, IsArmOf, first_arm, later_arm, Asks, selector, from, to, by, while_condition, until_condition, HasExpression, in_place, value, this, in_arm, behind_else, in_case, behind_cases, in_for, in_while, in_repeat, IsAmong, in_first_statement, in_later_statement}
+use Rattle.fb_laws.specs.Occurrences.{arm, destination, IsWithin}
 use Rattle.fb_laws.proofs.ExpressionLemmas.{Asked, asked_in, demanded_in}
 
 -- what a statement demands itself, without the statements in it

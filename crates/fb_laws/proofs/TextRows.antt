@@ -2,17 +2,8 @@
 use Rattle.std.proofs.Common.{◌≡◌, List, [], refl, sym, ap, subst}
 use Rattle.std.specs.List.{Contains}
 use Rattle.std.specs.Option.{option_and_then}
-use Rattle.fb_deploy.specs.Parse.Body.{BodyTree, BrokenAt, IsBody}
-use Rattle.fb_deploy.specs.Library.View.{tree_of}
-use Rattle.fb_deploy.specs.Iface.Fault.{faults_in_order}
-use Rattle.fb_deploy.specs.Iface.declared.code.Code.TheVariants.{Syntax}
-use Rattle.fb_deploy.specs.Iface.declared.fault.Fault.{Fault}
-use Rattle.fb_deploy.specs.Faults.Faults.{all_reported, faults_of, text_faults}
-use Rattle.fb_text.proofs.Members.{contains_here}
-use Rattle.fb_deploy.proofs.Faults.OrderLemmas.{broken_alone}
-use Rattle.fb_deploy.proofs.Parse.Bodies.{one, told}
-use Rattle.fb_laws.specs.UnitParts.{IsOfPart}
-use Rattle.fb_laws.specs.Texts.{AbsentUnitsHaveNoFaults, BrokenTextsAreReported, BrokenTextsAreReportedAlone, IsBroken, WholeTextsAreNotReported, broken_at}
+use Rattle.fb_laws.proofs.Common.{BodyTree, BrokenAt, IsBody, tree_of, faults_in_order, Syntax, Fault, all_reported, faults_of, text_faults, contains_here, broken_alone, told, IsOfPart, AbsentUnitsHaveNoFaults, BrokenTextsAreReported, BrokenTextsAreReportedAlone, IsBroken, WholeTextsAreNotReported, broken_at}
+use Rattle.fb_deploy.proofs.Parse.Bodies.{one}
 use Rattle.fb_laws.proofs.CodeLemmas.{own_codes}
 use Rattle.fb_laws.proofs.PartLemmas.{IsReported, is_found, no_text_code, of_part, of_text, whole_units}
 use Rattle.fb_laws.proofs.Joined.{iff}

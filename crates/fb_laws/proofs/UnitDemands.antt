@@ -2,26 +2,10 @@
 use Rattle.std.proofs.Common.{◌≡◌, ℕ, false, List, [], ◌∷◌, ◌++◌, Option, Some, None, ◌⊎◌, inl, inr, refl, subst}
 use Rattle.std.specs.List.{Contains, flat_map}
 use Rattle.std.proofs.lemmas.List.Elements.{Contains-append_cases, Contains-append_left, Contains-append_right}
-use Rattle.fb_text.specs.declared.name.NameUse.{NameUse}
-use Rattle.fb_text.specs.declared.token.Span.{Span}
-use Rattle.fb_tree.specs.Expression.{ReferenceTree, Expression, reference_expression, unary_expression, row_expression, Expressions, no_expressions, Operands}
-use Rattle.fb_tree.specs.Statement.{Statement, assignment, count, Statements, statements_of}
-use Rattle.fb_tree.specs.Tree.{ConditionTree, always, on_event, guarded, guard, DeclTree, TypeTree, block_type, adapter_type}
-use Rattle.fb_tree.specs.declared.expression.BinaryUse.{BinaryUse}
-use Rattle.fb_tree.specs.declared.expression.UnaryUse.{UnaryUse}
-use Rattle.fb_tree.specs.declared.reference.Member.{Member}
-use Rattle.fb_deploy.specs.Library.View.{Sources, tree_at}
-use Rattle.fb_deploy.specs.Iface.declared.classes.Class.{Class as ValueClass}
-use Rattle.fb_deploy.specs.Iface.declared.fault.Fault.{Fault}
-use Rattle.fb_text.proofs.Members.{contains_flat_map, contains_here, contains_nothing, contains_single, origin_in_flat_map}
-use Rattle.fb_expr.specs.Charts.{expr_faults_of, faults_in_unit}
-use Rattle.fb_expr.specs.Demands.{Demand, names_variable, names_field, suits_operand, suits_operands, suits_place, assigns, is_met, fault_of, demands_in, demands_at, name_alone, guard_demands, transition_demands, algorithm_demands, chart_demands}
-use Rattle.fb_expr.specs.Expressions.{class_in}
-use Rattle.fb_expr.specs.Names.{Names, names_of_type}
-use Rattle.fb_expr.specs.declared.rules.ClassPlace.{ClassPlace}
-use Rattle.fb_expr.specs.declared.rules.ClassPlace.TheVariants.{Condition, Count, Counter}
+use Rattle.fb_laws.proofs.Common.{NameUse, Span, ReferenceTree, Expression, reference_expression, unary_expression, row_expression, Expressions, no_expressions, Operands, Statement, assignment, count, Statements, statements_of, ConditionTree, always, on_event, guarded, guard, DeclTree, TypeTree, block_type, adapter_type, BinaryUse, UnaryUse, Member, Sources, tree_at, Class as ValueClass, Fault, contains_flat_map, contains_here, contains_nothing, contains_single, origin_in_flat_map, expr_faults_of, faults_in_unit, Demand, names_variable, names_field, suits_operand, suits_operands, suits_place, assigns, is_met, demands_in, demands_at, name_alone, guard_demands, transition_demands, algorithm_demands, chart_demands, class_in, Names, names_of_type, ClassPlace, Condition, Count, Counter, IsOneOf, OccursIn, Asks, IsGuardOf, with_event, IsRunIn, IsTestedIn, IsWrittenIn, in_guard, in_statement}
+use Rattle.fb_expr.specs.Demands.{fault_of}
 use Rattle.fb_expr.proofs.DemandLemmas.{faults_unmet}
-use Rattle.fb_laws.specs.Occurrences.{IsOneOf, OccursIn, Asks, IsGuardOf, with_event, alone, IsRunIn, IsTestedIn, IsWrittenIn, in_guard, in_statement}
+use Rattle.fb_laws.specs.Occurrences.{alone}
 use Rattle.fb_laws.proofs.ExpressionLemmas.{IsPairOf, Asked, of_reference, of_field, of_operator, of_pair, of_subscript, asked_in, demanded_in}
 use Rattle.fb_laws.proofs.StatementLemmas.{OwnDemand, inside, placed, counter, counter_class, assigned, asked_among, demanded_in_list}
 

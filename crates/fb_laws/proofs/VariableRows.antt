@@ -1,27 +1,12 @@
 -- References that begin at no variable, and further names that are no fields, by what the list of faults has.
 use Rattle.std.proofs.Common.{◌≡◌, ℕ, zero, suc, Bool, true, false, true≢false, not, ◌||◌, List, [], ◌∷◌, ◌++◌, Some, refl, sym, ap, subst, ◌∙◌, append_assoc}
 use Rattle.std.specs.List.{Contains}
-use Rattle.fb_text.specs.declared.token.Span.{Span}
-use Rattle.fb_tree.specs.Tree.{TypeTree, block_type}
-use Rattle.fb_tree.specs.Expression.{ReferenceTree}
-use Rattle.fb_tree.specs.declared.interface.TypeUse.{TypeUse}
-use Rattle.fb_tree.specs.declared.reference.Member.{Member}
-use Rattle.fb_deploy.specs.Library.View.{Sources, tree_at}
-use Rattle.fb_deploy.specs.Iface.declared.code.Code.{Code}
-use Rattle.fb_deploy.specs.Iface.declared.code.Code.TheVariants.{Class, MemberUnknown, VariableUnknown}
-use Rattle.fb_deploy.specs.Iface.declared.fault.Fault.{Fault}
-use Rattle.fb_deploy.specs.Iface.declared.ports.DeclaredVariable.{DeclaredVariable}
-use Rattle.fb_expr.specs.Charts.{expr_faults_of}
-use Rattle.fb_expr.specs.Demands.{Demand, names_field, names_variable, code_of_demand, fault_of, is_field, is_known, is_met, name_alone, referent_through}
-use Rattle.fb_expr.specs.Names.{Names, names_of_type}
-use Rattle.fb_expr.specs.References.{referent_of, step, walk}
-use Rattle.fb_expr.specs.Spans.{names_span, through_second}
-use Rattle.fb_expr.specs.declared.references.Referent.{Referent}
-use Rattle.fb_expr.specs.declared.references.Referent.TheVariants.{Variable, Unjudged, Unknown, NoMember}
+use Rattle.fb_laws.proofs.Common.{Span, TypeTree, block_type, ReferenceTree, TypeUse, Member, Sources, tree_at, Code, MemberUnknown, VariableUnknown, Fault, DeclaredVariable, expr_faults_of, Demand, names_field, names_variable, code_of_demand, is_field, is_known, is_met, name_alone, referent_through, Names, names_of_type, referent_of, step, walk, names_span, through_second, Referent, Variable, Unjudged, NoMember, HasUnknownMember, HasUnknownVariable, IsNamedIn, in_reference, behind_for, MembersAreKnown, VariablesAreKnown, alone, subscripted, with_second, Begins, GoesOn, HasField, IsOpen}
+use Rattle.fb_deploy.specs.Iface.declared.code.Code.TheVariants.{Class}
+use Rattle.fb_expr.specs.Demands.{fault_of}
+use Rattle.fb_expr.specs.declared.references.Referent.TheVariants.{Unknown}
 use Rattle.fb_expr.proofs.MemberLemmas.{walk-append}
-use Rattle.fb_laws.specs.Expressions.{HasUnknownMember, HasUnknownVariable, IsNamedIn, in_reference, behind_for, MembersAreKnown, VariablesAreKnown}
-use Rattle.fb_laws.specs.Places.{BeginsAt, alone, subscripted, with_second}
-use Rattle.fb_laws.specs.Variables.{Begins, GoesOn, HasField, IsOpen}
+use Rattle.fb_laws.specs.Places.{BeginsAt}
 use Rattle.fb_laws.proofs.ReferentLemmas.{Base, variable, not_judged_port, nothing, open_stays, unknown_stays, Looks, is_open, is_none, is_found, Starts, at_first, at_second, base_of, begins_known, begun, goes, is_judged, is_unknown, last_known, looks, none_begins, parts, start, told_field, told_goes, told_open, walked}
 use Rattle.fb_laws.proofs.UnitDemands.{DemandOf, reference, field, behind_for as behind_for_demanded, reported, unmet}
 use Rattle.fb_laws.proofs.Joined.{iff}

@@ -3,17 +3,13 @@
 use Rattle.std.specs.Prelude.{◌≡◌, ℕ, Bool, true, false, List, [], ◌∷◌, ◌++◌, Some, Contains, ◌⊎◌, filter, map}
 use mathlib.Core.Logic.{inl, inr}
 use Rattle.fb_tree.specs.declared.kinds.UnitKind.TheVariants.{Subapplication, System}
-use Rattle.fb_tree.specs.declared.network.Sort.{Sort}
-use Rattle.fb_deploy.specs.Library.View.{Sources}
-use Rattle.fb_deploy.specs.Flatten.Net.{flat_net}
-use Rattle.fb_deploy.specs.Flatten.Nets.{net_at}
+use Rattle.fb_laws.specs.Common.{Sort, Sources, flat_net, net_at, PlainFlat}
 use Rattle.fb_wiring.specs.Network.declared.network.End.{End}
 use Rattle.fb_wiring.specs.Network.declared.network.End.TheVariants.{Of}
 use Rattle.fb_wiring.specs.Network.Clean.{IsCleanThroughout}
 use Rattle.fb_wiring.specs.Network.FlatNet.{IsFlat}
 use Rattle.fb_wiring.specs.Network.Network.{View, Place, place_of, IsInner, IsConnected, Step, Holds, Within, Chain, One, More, IsLink, IsBorder}
 use Rattle.fb_wiring.specs.Network.Plain.{PlainNetwork}
-use Rattle.fb_wiring.specs.Network.PlainFlat.{PlainFlat}
 use Rattle.fb_wiring.specs.Network.Printed.{printed}
 use Rattle.fb_wiring.specs.ByName.{applications_at, declared, kind_at}
 use Rattle.fb_wiring.specs.declared.systems.Application.{Application}
