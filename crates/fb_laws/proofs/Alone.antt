@@ -3,14 +3,7 @@ use Rattle.std.proofs.Common.{◌≡◌, ℕ, ◌+◌, ◌-◌, ◌≤◌, List,
 use Rattle.std.specs.Prelude.{slice_range}
 use Rattle.std.proofs.lemmas.List.{drop-drop, drop-take, take-take}
 use Rattle.std.proofs.lemmas.List.Elements.{All-weaker}
-use Rattle.fb_text.specs.Tokens.{tokens_of}
-use Rattle.fb_text.specs.declared.token.Token.{Token}
-use Rattle.fb_structured_text.specs.Forms.Lexemes.{kind_of, lexeme_of, lexemes_in, lexemes_of, spelled_name}
-use Rattle.fb_structured_text.specs.Forms.declared.lexeme.Lexeme.{Lexeme}
-use Rattle.fb_laws.specs.SpanParts.{Part, tree_parts}
-use Rattle.fb_laws.specs.Written.{part_span, BeginsAt, EndsAt, IsWritten}
-use Rattle.fb_laws.specs.Alone.{nearer, ReadsAlone}
-use Rattle.fb_laws.specs.Spans.{PartsReadAlone}
+use Rattle.fb_laws.proofs.Common.{tokens_of, Token, kind_of, lexeme_of, lexemes_in, lexemes_of, spelled_name, Lexeme, Part, tree_parts, part_span, BeginsAt, EndsAt, IsWritten, nearer, ReadsAlone, PartsReadAlone}
 use Rattle.fb_laws.proofs.Cutting.{Rising, LastEnds, last_rises, nearer_token, rising_inside, tokens_alone}
 use Rattle.fb_laws.proofs.Reading.{tokens_are}
 use Rattle.fb_laws.proofs.Standing.{covers_lies, part_covers, tree_stands}

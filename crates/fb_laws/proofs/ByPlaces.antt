@@ -1,6 +1,8 @@
 -- That a key is due, said by places.
 use Rattle.std.proofs.Common.{◌≡◌, ℕ, zero, suc, ◌<◌, Bool, true, false, true≢false, ◌||◌, ◌&&◌, not, ◌⊎◌, inl, inr, List, [], ◌∷◌, Some, None, refl, sym, ap, ◌∙◌, subst, arith}
-use Rattle.std.proofs.lemmas.Bool.{false≢true}
+use Rattle.std.proofs.lemmas.Bool.{false≢true, or_left, or_right, and_from, and_parts, not-true, or_cases}
+use Rattle.std.proofs.lemmas.Option.{none-some, same_Some}
+use Rattle.std.specs.Prelude.{take, slice_get}
 use Rattle.fb_jobs.specs.declared.key.Key.{Key}
 use Rattle.fb_history.specs.Limits.{Bounds}
 use Rattle.fb_history.specs.Machine.{State, Call, after}
@@ -11,69 +13,44 @@ use Rattle.fb_laws.specs.DueByPlaces.{IsMarkedAt, IsSettledAt, IsMarkedLast, IsL
 use Rattle.fb_history.proofs.Dues.{pending_is_due}
 use Rattle.fb_history.proofs.Restarts.{goes_on, unseen}
 
-marked_here : (s : State) (c : Call) (cs : List Call) (k : Key) → marks s c k ≡ true → IsMarkedAt s (c ∷ cs) k 0
-unfolding replay
-marked_here s c cs k is = (c, refl, is)
+-- the call at a place passes a test, where the calls before it have led
+module _ (test : State → Call → Key → Bool) where
+  abbrev IsAt : State → List Call → Key → ℕ → Type 0
+  IsAt s cs k p = (c : Call) × (slice_get cs p ≡ Some c) × (test (replay s (take p cs)) c k ≡ true)
 
-settled_here : (s : State) (c : Call) (cs : List Call) (k : Key) → settles s c k ≡ true → IsSettledAt s (c ∷ cs) k 0
-unfolding replay
-settled_here s c cs k is = (c, refl, is)
+  at_here : (s : State) (c : Call) (cs : List Call) (k : Key) → test s c k ≡ true → IsAt s (c ∷ cs) k 0
+  unfolding replay
+  at_here s c cs k is = (c, refl, is)
 
-marked_on : (s : State) (c : Call) (cs : List Call) (k : Key) (p : ℕ) → IsMarkedAt (after s c) cs k p → IsMarkedAt s (c ∷ cs) k (suc p)
-unfolding replay
-marked_on s c cs k p at = at
+  at_later : (s : State) (c : Call) (cs : List Call) (k : Key) (p : ℕ) → IsAt (after s c) cs k p → IsAt s (c ∷ cs) k (suc p)
+  unfolding replay
+  at_later s c cs k p at = at
 
-settled_on : (s : State) (c : Call) (cs : List Call) (k : Key) (p : ℕ) → IsSettledAt (after s c) cs k p → IsSettledAt s (c ∷ cs) k (suc p)
-unfolding replay
-settled_on s c cs k p at = at
+  from_later : (s : State) (c : Call) (cs : List Call) (k : Key) (p : ℕ) → IsAt s (c ∷ cs) k (suc p) → IsAt (after s c) cs k p
+  unfolding replay
+  from_later s c cs k p at = at
 
-marked_off : (s : State) (c : Call) (cs : List Call) (k : Key) (p : ℕ) → IsMarkedAt s (c ∷ cs) k (suc p) → IsMarkedAt (after s c) cs k p
-unfolding replay
-marked_off s c cs k p at = at
+  at_first : (s : State) (c : Call) (cs : List Call) (k : Key) → IsAt s (c ∷ cs) k 0 → test s c k ≡ true
+  unfolding replay
+  at_first s c cs k (d, at, is) = subst (λ x. test s x k ≡ true) (sym (same_Some c d at)) is
 
-settled_off : (s : State) (c : Call) (cs : List Call) (k : Key) (p : ℕ) → IsSettledAt s (c ∷ cs) k (suc p) → IsSettledAt (after s c) cs k p
-unfolding replay
-settled_off s c cs k p at = at
-
-marks_first : (s : State) (c : Call) (cs : List Call) (k : Key) → IsMarkedAt s (c ∷ cs) k 0 → marks s c k ≡ true
-unfolding replay
-marks_first s c cs k (d, at, is) = subst (λ x. marks s x k ≡ true) (sym (same_call c d at)) is where
-  same_call : (x y : Call) → Some x ≡ Some y → x ≡ y
-  same_call x y e = cc
-
-settles_first : (s : State) (c : Call) (cs : List Call) (k : Key) → IsSettledAt s (c ∷ cs) k 0 → settles s c k ≡ true
-unfolding replay
-settles_first s c cs k (d, at, is) = subst (λ x. settles s x k ≡ true) (sym (same_call c d at)) is where
-  same_call : (x y : Call) → Some x ≡ Some y → x ≡ y
-  same_call x y e = cc
-
-nowhere : (s : State) (k : Key) (p : ℕ) → IsMarkedAt s [] k p → ⊥
-nowhere s k p (c, at, is) = let no : None ≡ Some c = at in cc
-
-never : (s : State) (k : Key) (p : ℕ) → IsSettledAt s [] k p → ⊥
-never s k p (c, at, is) = let no : None ≡ Some c = at in cc
-
-or_right : (a b : Bool) → b ≡ true → (a || b) ≡ true
-or_right true b is = refl
-or_right false b is = is
-
-or_left : (a b : Bool) → a ≡ true → (a || b) ≡ true
-or_left a b is = ap (λ x. x || b) is
+  nowhere : (s : State) (k : Key) (p : ℕ) → IsAt s [] k p → ⊥
+  nowhere s k p (c, at, is) = none-some c at
 
 -- some place settles the key exactly where it is settled
 settled_if : (s : State) (cs : List Call) (k : Key) (p : ℕ) → IsSettledAt s cs k p → settled s cs k ≡ true
 unfolding settled
-settled_if s [] k p at = absurd (never s k p at)
-settled_if s (c ∷ cs) k zero at = or_left _ (settled (after s c) cs k) (settles_first s c cs k at)
-settled_if s (c ∷ cs) k (suc p) at = or_right (settles s c k) _ (settled_if (after s c) cs k p (settled_off s c cs k p at))
+settled_if s [] k p at = absurd (nowhere settles s k p at)
+settled_if s (c ∷ cs) k zero at = or_left _ (settled (after s c) cs k) (at_first settles s c cs k at)
+settled_if s (c ∷ cs) k (suc p) at = or_right (settles s c k) _ (settled_if (after s c) cs k p (from_later settles s c cs k p at))
 
 settled_where : (s : State) (cs : List Call) (k : Key) → settled s cs k ≡ true → (p : ℕ) × IsSettledAt s cs k p
 unfolding settled
 settled_where s [] k is = absurd (false≢true is)
 settled_where s (c ∷ cs) k is = split (settles s c k) refl is (λ e. settled_where (after s c) cs k e) where
   split : (b : Bool) → settles s c k ≡ b → (b || settled (after s c) cs k) ≡ true → (settled (after s c) cs k ≡ true → (p : ℕ) × IsSettledAt (after s c) cs k p) → (p : ℕ) × IsSettledAt s (c ∷ cs) k p
-  split true here e on = (0, settled_here s c cs k here)
-  split false here e on = let found = on e in (suc found.0, settled_on s c cs k found.0 (found.1))
+  split true here e on = (0, at_here settles s c cs k here)
+  split false here e on = let found = on e in (suc found.0, at_later settles s c cs k found.0 (found.1))
 
 open_if : (s : State) (cs : List Call) (k : Key) (b : Bool) → settled s cs k ≡ b → ((p : ℕ) → IsSettledAt s cs k p → ⊥) → b ≡ false
 open_if s cs k true is none = let found = settled_where s cs k is in absurd (none found.0 found.1)
@@ -82,27 +59,23 @@ open_if s cs k false is none = refl
 not_settled : (s : State) (cs : List Call) (k : Key) (p : ℕ) → settled s cs k ≡ false → IsSettledAt s cs k p → ⊥
 not_settled s cs k p clear at = true≢false (sym (settled_if s cs k p at) ∙ clear)
 
-and_both : (a b : Bool) → a ≡ true → b ≡ false → (a && not b) ≡ true
-and_both true false is none = refl
-and_both true true is none = cc
-and_both false b is none = cc
-
 -- what is marked and not settled is due
 due_if_marked : (s : State) (cs : List Call) (k : Key) (p : ℕ) → IsMarkedAt s cs k p → ((later : ℕ) → p < later → IsSettledAt s cs k later → ⊥) → due s cs k ≡ true
 unfolding due
-due_if_marked s [] k p at clear = absurd (nowhere s k p at)
+due_if_marked s [] k p at clear = absurd (nowhere marks s k p at)
 due_if_marked s (c ∷ cs) k zero at clear =
     or_left _ (due (after s c) cs k)
-    (and_both (marks s c k) (settled (after s c) cs k) (marks_first s c cs k at)
-    (open_if (after s c) cs k (settled (after s c) cs k) refl (λ later found. clear (suc later) (omega arith) (settled_on s c cs k later found))))
+    (and_from (marks s c k) (not (settled (after s c) cs k)) (at_first marks s c cs k at)
+    (ap not (open_if (after s c) cs k (settled (after s c) cs k) refl (λ later found. clear (suc later) (omega arith) (at_later settles s c cs k later found)))))
 due_if_marked s (c ∷ cs) k (suc p) at clear =
     or_right (marks s c k && not (settled (after s c) cs k)) _
-    (due_if_marked (after s c) cs k p (marked_off s c cs k p at) (λ later beyond found. clear (suc later) (omega (arith, beyond)) (settled_on s c cs k later found)))
+    (due_if_marked (after s c) cs k p (from_later marks s c cs k p at) (λ later beyond found. clear (suc later) (omega (arith, beyond)) (at_later settles s c cs k later found)))
 
 and_one : (a b : Bool) → (a && not b) ≡ true → (a ≡ true) × (b ≡ false)
-and_one true true is = absurd (false≢true is)
-and_one true false is = (refl, refl)
-and_one false b is = absurd (false≢true is)
+and_one a b is = let parts = and_parts a (not b) is in (parts.0, not-true b parts.1)
+
+or_first : (a b : Bool) → b ≡ false → (a || b) ≡ true → a ≡ true
+or_first a b none e = elim (or_cases a b e) [ inl is ↦ is | inr is ↦ absurd (true≢false (sym is ∙ none)) ]
 
 marked_last : (s : State) (cs : List Call) (k : Key) → due s cs k ≡ true → IsMarkedLast s cs k
 unfolding due
@@ -112,42 +85,38 @@ marked_last s (c ∷ cs) k is = split (due (after s c) cs k) refl is (λ e. mark
   behind it =
       record {
         place = suc it.place;
-        marked = marked_on s c cs k it.place it.marked;
+        marked = at_later marks s c cs k it.place it.marked;
         last = last_one;
         unsettled = open_one;
       } where
         last_one : (later : ℕ) → suc it.place < later → IsMarkedAt s (c ∷ cs) k later → ⊥
         last_one zero beyond found = absurd (omega (arith, beyond))
-        last_one (suc later) beyond found = it.last later (omega (arith, beyond)) (marked_off s c cs k later found)
+        last_one (suc later) beyond found = it.last later (omega (arith, beyond)) (from_later marks s c cs k later found)
 
         open_one : (later : ℕ) → suc it.place < later → IsSettledAt s (c ∷ cs) k later → ⊥
         open_one zero beyond found = absurd (omega (arith, beyond))
-        open_one (suc later) beyond found = it.unsettled later (omega (arith, beyond)) (settled_off s c cs k later found)
+        open_one (suc later) beyond found = it.unsettled later (omega (arith, beyond)) (from_later settles s c cs k later found)
 
   here : due (after s c) cs k ≡ false → (marks s c k ≡ true) × (settled (after s c) cs k ≡ false) → IsMarkedLast s (c ∷ cs) k
   here none (marks_it, clear) =
       record {
         place = 0;
-        marked = marked_here s c cs k marks_it;
+        marked = at_here marks s c cs k marks_it;
         last = last_one;
         unsettled = open_one;
       } where
         last_one : (later : ℕ) → 0 < later → IsMarkedAt s (c ∷ cs) k later → ⊥
         last_one zero beyond found = absurd (omega (arith, beyond))
         last_one (suc later) beyond found =
-            true≢false (sym (due_if_marked (after s c) cs k later (marked_off s c cs k later found) (λ p past at. not_settled (after s c) cs k p clear at)) ∙ none)
+            true≢false (sym (due_if_marked (after s c) cs k later (from_later marks s c cs k later found) (λ p past at. not_settled (after s c) cs k p clear at)) ∙ none)
 
         open_one : (later : ℕ) → 0 < later → IsSettledAt s (c ∷ cs) k later → ⊥
         open_one zero beyond found = absurd (omega (arith, beyond))
-        open_one (suc later) beyond found = not_settled (after s c) cs k later clear (settled_off s c cs k later found)
-
-  or_false : (a b : Bool) → b ≡ false → (a || b) ≡ true → a ≡ true
-  or_false true b none e = refl
-  or_false false b none e = absurd (true≢false (sym e ∙ none))
+        open_one (suc later) beyond found = not_settled (after s c) cs k later clear (from_later settles s c cs k later found)
 
   split : (b : Bool) → due (after s c) cs k ≡ b → ((marks s c k && not (settled (after s c) cs k)) || due (after s c) cs k) ≡ true → (due (after s c) cs k ≡ true → IsMarkedLast (after s c) cs k) → IsMarkedLast s (c ∷ cs) k
   split true is_due e on = behind (on is_due)
-  split false none e on = here none (and_one (marks s c k) (settled (after s c) cs k) (or_false _ _ none e))
+  split false none e on = here none (and_one (marks s c k) (settled (after s c) cs k) (or_first _ _ none e))
 
 left_pending : (s : State) (cs : List Call) (k : Key) → due s cs k ≡ false → (s.pending k && not (settled s cs k)) ≡ true → IsLeftPending s cs k
 left_pending s cs k none is =
@@ -160,18 +129,14 @@ left_pending s cs k none is =
 
 pub due_by_places : (s : State) (cs : List Call) (k : Key) → IsDueByPlaces s cs k
 due_by_places s cs k = (forth (due s cs k) refl, back) where
-  first : (a b : Bool) → b ≡ false → (a || b) ≡ true → a ≡ true
-  first true b none whole = refl
-  first false b none whole = absurd (true≢false (sym whole ∙ none))
-
   forth : (b : Bool) → due s cs k ≡ b → due_from s cs k ≡ true → IsMarkedLast s cs k ⊎ IsLeftPending s cs k
   forth true is e = inl (marked_last s cs k is)
-  forth false none e = inr (left_pending s cs k none (first _ (due s cs k) none e))
+  forth false none e = inr (left_pending s cs k none (or_first _ (due s cs k) none e))
 
   back : IsMarkedLast s cs k ⊎ IsLeftPending s cs k → due_from s cs k ≡ true
   back (inl it) = or_right (s.pending k && not (settled s cs k)) _ (due_if_marked s cs k it.place it.marked it.unsettled)
   back (inr it) =
-      or_left _ (due s cs k) (and_both (s.pending k) (settled s cs k) it.pending (open_if s cs k (settled s cs k) refl it.unsettled))
+      or_left _ (due s cs k) (and_from (s.pending k) (not (settled s cs k)) it.pending (ap not (open_if s cs k (settled s cs k) refl it.unsettled)))
 
 pub due_goes_on : (limits : Bounds) (story : BenchView) → IsOrigin story.origin → DueGoesOn limits story
 due_goes_on limits story begins key =

@@ -4,25 +4,9 @@ use Rattle.std.specs.Cmp.Lexicographic.{nat_list_cmp_total}
 use Rattle.std.specs.FinMap.{slice_cmp-IsAntisymmetric, nat_cmp-IsAntisymmetric}
 use Rattle.std.specs.List.{Contains, flat_map}
 use Rattle.std.proofs.lemmas.List.Elements.{Contains-append_left, Contains-append_right}
-use Rattle.fb_text.specs.Elementary.{is_elementary}
-use Rattle.fb_text.specs.Order.{name_cmp}
-use Rattle.fb_text.specs.declared.name.NameUse.{NameUse}
-use Rattle.fb_text.proofs.Members.{contains_filter, contains_here, contains_later, contains_map, contains_nothing, origin_in_flat_map, origin_in_map, passes_in_filter}
-use Rattle.fb_text.proofs.OrderLemmas.{in_order-members}
-use Rattle.fb_tree.specs.Mentions.{types_in, value_types, variable_types}
-use Rattle.fb_tree.specs.Tree.{DeclTree, InstanceTree, NetworkTree, StructureTree, TypeTree, VariablesTree, adapter_type, block_type, structure_type}
-use Rattle.fb_deploy.specs.Library.Near.{Carries, directly, onward, bases_at, carried_of}
+use Rattle.std.proofs.lemmas.Bool.{not-true}
+use Rattle.fb_laws.proofs.Common.{is_elementary, name_cmp, NameUse, contains_filter, contains_here, contains_later, contains_map, contains_nothing, origin_in_flat_map, origin_in_map, passes_in_filter, in_order-members, types_in, value_types, variable_types, DeclTree, InstanceTree, NetworkTree, StructureTree, TypeTree, VariablesTree, adapter_type, block_type, structure_type, Carries, directly, onward, bases_at, carried_of, Sources, mentions_of_tree, parts_at, parts_in, tree_at, values_at, values_in, NoFields, fields_in, fields_near, fields_of_tree, is_same, stands_for, instances_in, meanings_in_type, variables_in, variables_together, DeclaredInstance, DeclaredVariable, in_order_has, stands_for-first_ones, carried_is_all, Contains-has, has-Contains}
 use Rattle.fb_deploy.specs.Library.Seen.{has_name}
-use Rattle.fb_deploy.specs.Library.View.{Sources, mentions_of_tree, parts_at, parts_in, tree_at, values_at, values_in}
-use Rattle.fb_deploy.specs.Iface.Fields.{NoFields, fields_in, fields_near, fields_of_tree}
-use Rattle.fb_deploy.specs.Iface.Names.{is_same, stands_for}
-use Rattle.fb_deploy.specs.Iface.Ports.{instances_in, meanings_in_type, variables_in, variables_together}
-use Rattle.fb_deploy.specs.Iface.declared.ports.DeclaredInstance.{DeclaredInstance}
-use Rattle.fb_deploy.specs.Iface.declared.ports.DeclaredVariable.{DeclaredVariable}
-use Rattle.fb_deploy.proofs.Iface.ScopeLocal.{in_order_has}
-use Rattle.fb_deploy.proofs.Iface.TableLemmas.{stands_for-first_ones}
-use Rattle.fb_deploy.proofs.Library.CarriedLemmas.{carried_is_all}
-use Rattle.fb_deploy.proofs.Library.SeenLemmas.{Contains-has, has-Contains}
 
 -- what a name stands for is declared, under some name
 record IsDeclared {D : Type 0} (all : List (List ℕ × D)) (d : D) : Type 0 where
@@ -71,11 +55,7 @@ module _ (sources : Sources) where
   no_elementary None t c = absurd (contains_nothing t c)
   no_elementary (Some decl) t c =
       let among = (in_order-members name_cmp nat_list_cmp_total (slice_cmp-IsAntisymmetric nat_cmp-IsAntisymmetric) (filter is_plain (value_types decl)) t).0 c in
-      plain (is_elementary t) (passes_in_filter is_plain (value_types decl) t among).passes
-    where
-      plain : (b : Bool) → not b ≡ true → b ≡ false
-      plain true e = absurd (true≢false (sym e))
-      plain false e = refl
+      not-true (is_elementary t) (passes_in_filter is_plain (value_types decl) t among).passes
 
   none_carried : {u t : List ℕ} → Carries sources u t → is_elementary t ≡ false
   none_carried {t = t} (directly {u = u} c) = no_elementary (tree_at sources u) t c
@@ -93,21 +73,13 @@ module _ (sources : Sources) where
     carried_by u t base c = ((carried_is_all sources (bases_at sources unit)).1 t).1 (u, base, c)
 
     none_listed : (name : List ℕ) → is_elementary name ≡ true → has_name carried name ≡ false
-    none_listed name elementary = by (has_name carried name) refl
-      where
-        by : (b : Bool) → has_name carried name ≡ b → b ≡ false
-        by true e =
-            let some = ((carried_is_all sources (bases_at sources unit)).1 name).0 (Contains-has name carried e) in
-            absurd (true≢false (sym elementary ∙ none_carried some.2))
-        by false e = refl
+    none_listed name elementary =
+        (elim (has_name carried name) as (λ b. has_name carried name ≡ b → b ≡ false) [ true ↦ λ e. let some = ((carried_is_all sources (bases_at sources unit)).1 name).0 (Contains-has name carried e) in absurd (true≢false (sym elementary ∙ none_carried some.2)) | false ↦ λ e. refl ]) refl
 
     -- what may be named behind it, by its declaration
     pub known_fields : (name : List ℕ) → IsKnown name → fields_near sources unit name ≡ cond (is_elementary name) NoFields (fields_of_tree (tree_at sources name))
-    known_fields name known = by (is_elementary name) refl
-      where
-        by : (b : Bool) → is_elementary name ≡ b → fields_near sources unit name ≡ cond b NoFields (fields_of_tree (tree_at sources name))
-        by true e = ap (λ has. cond has (fields_of_tree (tree_at sources name)) NoFields) (none_listed name e)
-        by false e = ap (λ has. cond has (fields_of_tree (tree_at sources name)) NoFields) (has-Contains name carried (known e))
+    known_fields name known =
+        (elim (is_elementary name) as (λ b. is_elementary name ≡ b → fields_near sources unit name ≡ cond b NoFields (fields_of_tree (tree_at sources name))) [ true ↦ λ e. ap (λ has. cond has (fields_of_tree (tree_at sources name)) NoFields) (none_listed name e) | false ↦ λ e. ap (λ has. cond has (fields_of_tree (tree_at sources name)) NoFields) (has-Contains name carried (known e)) ]) refl
 
     -- the type of a field of a structure that is known
     pub field_known : (name : List ℕ) (s : StructureTree) (q : List ℕ) (v : DeclaredVariable) → IsKnown name → is_elementary name ≡ false → tree_at sources name ≡ Some (structure_type s) → stands_for (fields_in s) q ≡ Some v → IsKnown v.type_use.name.name

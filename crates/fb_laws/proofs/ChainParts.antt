@@ -1,15 +1,12 @@
 -- A chain of a clean network, by the connections that it passes.
 use Rattle.std.proofs.Common.{ℕ, ◌≡◌, List, [], ◌∷◌, ◌++◌, map, filter, Some, ◌⊎◌, inl, inr, refl, sym, ◌∙◌, ap, subst}
-use Rattle.fb_tree.specs.declared.network.Sort.{Sort}
-use Rattle.fb_tree.specs.declared.interface.Side.TheVariants.{Input}
+use Rattle.fb_laws.proofs.Common.{Sort, Input, PlainNetwork, View, Place, IsInner, IsConnected, Step, Within, IsBorderPlace, IsLeafPlace, Chain, One, More, side_at, IsCleanThroughout, Passed, passed_at, passed_by, StaysInside, nothing_before, border_before, IsAfter, nothing_after, border_after, CrossesOnce, LinksAreComposed, CrossesFrom, BordersAreComposed, LeavesInner, EntersInner}
 use Rattle.fb_wiring.specs.Network.declared.network.End.{End}
 use Rattle.fb_wiring.specs.Network.declared.network.End.TheVariants.{Own, Of}
-use Rattle.fb_wiring.specs.Network.Plain.{PlainNetwork}
-use Rattle.fb_wiring.specs.Network.Network.{View, Place, place_of, IsInner, IsConnected, Step, Holds, Within, IsBorderPlace, IsLeafPlace, Chain, One, More}
-use Rattle.fb_wiring.specs.Network.Clean.{side_at, IsCleanThroughout}
+use Rattle.fb_wiring.specs.Network.Network.{place_of, Holds}
 use Rattle.fb_wiring.proofs.Network.Chains.{no_step_from_nothing, no_step_to_nothing, same_inner, here, input_step, border_inside, no_chain_from_output, inner_at_border}
 use Rattle.fb_wiring.proofs.Network.LinkLemmas.{leaf_inside}
-use Rattle.fb_laws.specs.Chains.{Passed, own, inside, is_own, passed_at, passed_by, StaysInside, IsBefore, nothing_before, border_before, IsAfter, nothing_after, border_after, CrossesOnce, LinksAreComposed, CrossesFrom, BordersAreComposed}
+use Rattle.fb_laws.specs.Chains.{own, inside, is_own, IsBefore}
 
 -- ---- steps and chains of equal networks and places
 
@@ -90,35 +87,13 @@ record Inside (view : View) (sort : Sort) (network : PlainNetwork) (a b : Place)
   chain : Chain view sort inner from to
   whole : list ≡ map (inside name) (passed_by chain)
 
-record Leaves (view : View) (sort : Sort) (network : PlainNetwork) (a : Place) (end : End) (list : List Passed) : Type 0 where
-  name : List ℕ
-  inner : PlainNetwork
-  is_inner : IsInner view network name inner
-  port : List ℕ
-  from : Place
-  end_is : end ≡ Of name port
-  from_is : a ≡ name ∷ from
-  chain : Chain view sort inner from (port ∷ [])
-  whole : list ≡ map (inside name) (passed_by chain)
-
-record Enters (view : View) (sort : Sort) (network : PlainNetwork) (end : End) (b : Place) (list : List Passed) : Type 0 where
-  name : List ℕ
-  inner : PlainNetwork
-  is_inner : IsInner view network name inner
-  port : List ℕ
-  to : Place
-  end_is : end ≡ Of name port
-  to_is : b ≡ name ∷ to
-  chain : Chain view sort inner (port ∷ []) to
-  whole : list ≡ map (inside name) (passed_by chain)
-
 data Before (view : View) (sort : Sort) (network : PlainNetwork) (a : Place) (source : End) : List Passed → Type 0 where
   at_source : a ≡ place_of source → Before view sort network a source []
-  leaves : {list : List Passed} → Leaves view sort network a source list → Before view sort network a source list
+  leaves : {list : List Passed} → LeavesInner view sort network a source list → Before view sort network a source list
 
 data After (view : View) (sort : Sort) (network : PlainNetwork) (destination : End) (b : Place) : List Passed → Type 0 where
   at_destination : b ≡ place_of destination → After view sort network destination b []
-  enters : {list : List Passed} → Enters view sort network destination b list → After view sort network destination b list
+  enters : {list : List Passed} → EntersInner view sort network destination b list → After view sort network destination b list
 
 -- it passes one connection of the network itself
 record Across (view : View) (sort : Sort) (network : PlainNetwork) (a b : Place) (list : List Passed) : Type 0 where
@@ -164,7 +139,7 @@ step_before {view = view} {sort = sort} {network = network} {b = b} inner name f
       is_after = x.is_after;
     })
   where
-    at_port : (end : End) → b ≡ place_of end → Leaves view sort network (name ∷ from) end (inside name (passed_at s) ∷ [])
+    at_port : (end : End) → b ≡ place_of end → LeavesInner view sort network (name ∷ from) end (inside name (passed_at s) ∷ [])
     at_port (Own p) e = absurd (no_step_to_nothing s (cc))
     at_port (Of j p) e =
         let same_name : j ≡ name = cc in
@@ -182,7 +157,7 @@ step_before {view = view} {sort = sort} {network = network} {b = b} inner name f
           whole = ap (λ (q : Passed). inside name q ∷ []) (sym t.passes);
         }
 
-    left_by : (end : End) (list : List Passed) → Before view sort network b end list → Leaves view sort network (name ∷ from) end (inside name (passed_at s) ∷ list)
+    left_by : (end : End) (list : List Passed) → Before view sort network b end list → LeavesInner view sort network (name ∷ from) end (inside name (passed_at s) ∷ list)
     left_by end list (at_source e) = at_port end e
     left_by end list (leaves l) =
         let same_name : l.name ≡ name = cc in
@@ -256,6 +231,19 @@ once x =
     ∙ own_before (own x.source x.destination ∷ x.after) x.is_before
     ∙ ap (λ (l : List Passed). own x.source x.destination ∷ l) (own_after x.is_after)
 
+crossed : {view : View} {sort : Sort} {network : PlainNetwork} {a b : Place} {list : List Passed} (x : Across view sort network a b list) → IsBefore view sort network a x.source x.before → IsAfter view sort network x.destination b x.after → CrossesOnce view sort network a b list
+crossed x before after = record {
+  source = x.source;
+  destination = x.destination;
+  connected = x.connected;
+  once = once x;
+  before = x.before;
+  after = x.after;
+  whole = x.whole;
+  is_before = before;
+  is_after = after;
+}
+
 -- ---- chains behind links and borders
 
 no_chain_from_nothing : {view : View} {sort : Sort} {network : PlainNetwork} {a b : Place} → Chain view sort network a b → a ≡ [] → ⊥
@@ -271,36 +259,12 @@ no_chain_to_nothing (More b s border rest) g = no_chain_to_nothing rest g
 from_leaf : {view : View} {sort : Sort} {network : PlainNetwork} {a : Place} {source : End} {list : List Passed} → IsLeafPlace view network a → Before view sort network a source list → IsBefore view sort network a source list
 from_leaf leaf (at_source e) = nothing_before e
 from_leaf leaf (leaves l) =
-    border_before (record {
-      name = l.name;
-      inner = l.inner;
-      is_inner = l.is_inner;
-      port = l.port;
-      from = l.from;
-      end_is = l.end_is;
-      from_is = l.from_is;
-      border = record { leaf = leaf_inside l.from l.is_inner leaf l.from_is; chain = inr l.chain };
-      chain = l.chain;
-      behind = refl;
-      whole = l.whole;
-    })
+    border_before (record { leaves = l; border = record { leaf = leaf_inside l.from l.is_inner leaf l.from_is; chain = inr l.chain }; behind = refl })
 
 to_leaf : {view : View} {sort : Sort} {network : PlainNetwork} {b : Place} {destination : End} {list : List Passed} → IsLeafPlace view network b → After view sort network destination b list → IsAfter view sort network destination b list
 to_leaf leaf (at_destination e) = nothing_after e
 to_leaf leaf (enters l) =
-    border_after (record {
-      name = l.name;
-      inner = l.inner;
-      is_inner = l.is_inner;
-      port = l.port;
-      to = l.to;
-      end_is = l.end_is;
-      to_is = l.to_is;
-      border = record { leaf = leaf_inside l.to l.is_inner leaf l.to_is; chain = inl l.chain };
-      chain = l.chain;
-      behind = refl;
-      whole = l.whole;
-    })
+    border_after (record { enters = l; border = record { leaf = leaf_inside l.to l.is_inner leaf l.to_is; chain = inl l.chain }; behind = refl })
 
 -- from and to own ports
 
@@ -328,52 +292,16 @@ links_composed {view = view} {network = network} clean sort a b link = by (passe
           link = record { from_leaf = leaf_inside l.from l.is_inner link.from_leaf l.from_is; to_leaf = leaf_inside l.to l.is_inner link.to_leaf l.to_is; chain = l.chain };
           whole = l.whole;
         })
-    by list (inr x) =
-        inr (record {
-          source = x.source;
-          destination = x.destination;
-          connected = x.connected;
-          once = once x;
-          before = x.before;
-          after = x.after;
-          whole = x.whole;
-          is_before = from_leaf link.from_leaf x.is_before;
-          is_after = to_leaf link.to_leaf x.is_after;
-        })
+    by list (inr x) = inr (crossed x (from_leaf link.from_leaf x.is_before) (to_leaf link.to_leaf x.is_after))
 
 pub borders_composed : {view : View} {network : PlainNetwork} → IsCleanThroughout view network → BordersAreComposed view network
-borders_composed {view = view} {network = network} clean sort port place border = by_chain border.chain
+borders_composed {view = view} {network = network} clean sort port place border =
+    elim border.chain as (λ chain. CrossesFrom view sort network (port ∷ []) place chain) [ inl chain ↦ inward (passed_by chain) (parts clean chain) | inr chain ↦ outward (passed_by chain) (parts clean chain) ]
   where
     inward : (list : List Passed) → Parts view sort network (port ∷ []) place list → CrossesOnce view sort network (port ∷ []) place list
     inward list (inl l) = absurd (no_chain_from_nothing l.chain (let k = l.from_is in cc))
-    inward list (inr x) =
-        record {
-          source = x.source;
-          destination = x.destination;
-          connected = x.connected;
-          once = once x;
-          before = x.before;
-          after = x.after;
-          whole = x.whole;
-          is_before = from_port port refl x.is_before;
-          is_after = to_leaf border.leaf x.is_after;
-        }
+    inward list (inr x) = crossed x (from_port port refl x.is_before) (to_leaf border.leaf x.is_after)
 
     outward : (list : List Passed) → Parts view sort network place (port ∷ []) list → CrossesOnce view sort network place (port ∷ []) list
     outward list (inl l) = absurd (no_chain_to_nothing l.chain (let k = l.to_is in cc))
-    outward list (inr x) =
-        record {
-          source = x.source;
-          destination = x.destination;
-          connected = x.connected;
-          once = once x;
-          before = x.before;
-          after = x.after;
-          whole = x.whole;
-          is_before = from_leaf border.leaf x.is_before;
-          is_after = to_port port refl x.is_after;
-        }
-
-    by_chain : (chain : Chain view sort network (port ∷ []) place ⊎ Chain view sort network place (port ∷ [])) → CrossesFrom view sort network (port ∷ []) place chain
-    by_chain (inl chain) = inward (passed_by chain) (parts clean chain)
-    by_chain (inr chain) = outward (passed_by chain) (parts clean chain)
+    outward list (inr x) = crossed x (from_leaf border.leaf x.is_before) (to_port port refl x.is_after)

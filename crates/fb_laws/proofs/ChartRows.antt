@@ -3,39 +3,18 @@ use Rattle.std.proofs.Common.{◌≡◌, ◌≢◌, ℕ, Bool, true, false, List
 use Rattle.std.specs.List.{Contains, flat_map, slice_get}
 use Rattle.std.specs.Option.{option_map_or}
 use Rattle.std.proofs.lemmas.List.Elements.{Contains-append_left, Contains-append_right}
-use Rattle.fb_text.specs.declared.name.NameUse.{NameUse}
-use Rattle.fb_text.specs.declared.token.Span.{Span}
-use Rattle.fb_tree.specs.Tree.{AlgorithmTree, ChartTree, DeclTree, StateTree, TransitionTree, TypeTree, block_type}
+use Rattle.fb_laws.proofs.Common.{NameUse, Span, AlgorithmTree, ChartTree, DeclTree, StateTree, TransitionTree, TypeTree, block_type, Side, Input, Output, End, Role, Plug, Socket, Block, Subapplication, Sources, tree_at, Code, AlgorithmUnknown, EventUnknown, StateUnknown, Fault, DeclaredEvent, DeclaredInstance, fault_at, has_name, stands_for, Meanings, meanings_in_type, same_side, Scope, instance_ports, scope_of_type, usable, contains_cases, contains_flat_map, contains_here, contains_later, contains_map, contains_nothing, contains_single, in_unless, in_written, origin_in_flat_map, origin_in_map, unless, written, chart_faults, chart_faults_in, ecc_faults_of, none_named, not_named, IsAdapter, IsNotJudged, of_unusable}
 use Rattle.fb_tree.specs.declared.chart.Action.{Action}
-use Rattle.fb_tree.specs.declared.interface.Side.{Side}
-use Rattle.fb_tree.specs.declared.interface.Side.TheVariants.{Input, Output}
-use Rattle.fb_tree.specs.declared.network.End.{End}
-use Rattle.fb_tree.specs.declared.network.Role.{Role}
-use Rattle.fb_tree.specs.declared.network.Role.TheVariants.{Plug, Socket, Block, Subapplication}
-use Rattle.fb_deploy.specs.Library.View.{Sources, tree_at}
-use Rattle.fb_deploy.specs.Iface.declared.code.Code.{Code}
-use Rattle.fb_deploy.specs.Iface.declared.code.Code.TheVariants.{AlgorithmUnknown, EventUnknown, StateUnknown}
-use Rattle.fb_deploy.specs.Iface.declared.fault.Fault.{Fault}
-use Rattle.fb_deploy.specs.Iface.declared.ports.DeclaredEvent.{DeclaredEvent}
-use Rattle.fb_deploy.specs.Iface.declared.ports.DeclaredInstance.{DeclaredInstance}
-use Rattle.fb_deploy.specs.Iface.Fault.{fault_at}
-use Rattle.fb_deploy.specs.Iface.Names.{has_name, stands_for}
-use Rattle.fb_deploy.specs.Iface.Ports.{Meanings, meanings_in_type, same_side}
-use Rattle.fb_deploy.specs.Iface.Scope.{Scope, instance_ports, scope_of_type, usable}
-use Rattle.fb_text.proofs.Members.{contains_cases, contains_flat_map, contains_here, contains_later, contains_map, contains_nothing, contains_single, in_unless, in_written, origin_in_flat_map, origin_in_map, unless, written}
 use Rattle.fb_ecc.specs.Algorithms.{algorithm_fault, algorithm_faults, algorithm_names, run_faults}
-use Rattle.fb_ecc.specs.Charts.{chart_faults, chart_faults_in, ecc_faults_of}
 use Rattle.fb_ecc.specs.declared.events.EventTarget.{EventTarget}
 use Rattle.fb_ecc.specs.declared.events.EventTarget.TheVariants.{Found, Unknown, NotJudged}
 use Rattle.fb_ecc.specs.Events.{end_event_faults, event_among, event_behind, event_faults, event_in, event_named, event_of_adapter, event_on, opposite, sent_faults, side_through, span_from, target_faults, trigger_faults, written_fault}
 use Rattle.fb_laws.specs.Charts.{AlgorithmsAreDeclared, EventsAreKnown, HasUnknownAlgorithm, HasUnknownEvent, HasUnknownState, IsEventOf, IsNoEventOf, StandsForEvent, StatesAreListed, own_event, of_plug, of_socket}
 use Rattle.fb_ecc.specs.States.{transition_faults, state_fault, state_faults, state_names}
-use Rattle.fb_deploy.proofs.Iface.NameLemmas.{none_named, not_named}
 use Rattle.fb_laws.specs.Declared.{IsBlockAt}
-use Rattle.fb_laws.specs.Usable.{IsAdapter, IsNotJudged, of_unusable}
 use Rattle.fb_laws.proofs.ItemRows.{same_sides, side_itself}
 use Rattle.fb_laws.proofs.UsableTypes.{known_type, no_type, own_type, told_type, type_missing}
-use Rattle.fb_laws.proofs.Joined.{of_either, in_joined}
+use Rattle.fb_laws.proofs.Joined.{iff, of_either, in_joined}
 
 -- what is so where a unit has a fault of this code
 abbrev pub Has : Code → Sources → List ℕ → Span → Type 0
@@ -80,24 +59,19 @@ action_reported f chart s a fault listed written has =
 
 abbrev is_found : EventTarget → Bool
 is_found Found = true
-is_found Unknown = false
-is_found NotJudged = false
+is_found o = false
 
 abbrev is_unknown : EventTarget → Bool
-is_unknown Found = false
 is_unknown Unknown = true
-is_unknown NotJudged = false
+is_unknown o = false
 
 stands_for_event : (side : Side) (ports : Meanings) (name : List ℕ) → event_among side ports name ≡ Found → StandsForEvent ports name side
-stands_for_event side ports name e = by (stands_for ports.events name) refl e
+stands_for_event side ports name e =
+    (elim (stands_for ports.events name) as (λ o. stands_for ports.events name ≡ o → event_on side o ≡ Found → StandsForEvent ports name side) [ None ↦ λ g h. absurd (true≢false (sym (ap is_found h))) | Some event ↦ λ g h. judged event g (same_side event.side side) refl h ]) refl e
   where
     judged : (event : DeclaredEvent) → stands_for ports.events name ≡ Some event → (same : Bool) → same_side event.side side ≡ same → (if same then Found else Unknown) ≡ Found → StandsForEvent ports name side
     judged event g true h e = record { event = event; first = g; on_side = same_sides event.side side h }
     judged event g false h e = absurd (true≢false (sym (ap is_found e)))
-
-    by : (o : Option DeclaredEvent) → stands_for ports.events name ≡ o → event_on side o ≡ Found → StandsForEvent ports name side
-    by None g h = absurd (true≢false (sym (ap is_found h)))
-    by (Some event) g h = judged event g (same_side event.side side) refl h
 
 event_stands : (side : Side) (ports : Meanings) (name : List ℕ) → StandsForEvent ports name side → event_among side ports name ≡ Found
 event_stands side ports name s =
@@ -138,7 +112,8 @@ module _ (sources : Sources) (d : TypeTree) (side : Side) where
       ∙ (λ k. option_map_or (event_of_adapter (g k) X.name) (side_through (r k) side) Unknown)
 
   found_behind : (p X : NameUse) → event_named scope side p (Some X) ≡ Found → IsEvent p (Some X)
-  found_behind p X e = by (stands_for own.instances p.name) refl e
+  found_behind p X e =
+      (elim (stands_for own.instances p.name) as (λ o. stands_for own.instances p.name ≡ o → event_behind scope side o X.name ≡ Found → IsEvent p (Some X)) [ None ↦ λ g h. absurd (true≢false (sym (ap is_found h))) | Some i ↦ λ g h. by_role i g i.role refl h ]) refl e
     where
       through_plug : (i : DeclaredInstance) → stands_for own.instances p.name ≡ Some i → i.role ≡ Plug → (ports : Option Meanings) → usable i.role (tree_at sources i.type_name.name) ≡ ports → event_of_adapter ports X.name side ≡ Found → IsEvent p (Some X)
       through_plug i is plug None g h = absurd (true≢false (sym (ap is_found h)))
@@ -151,15 +126,11 @@ module _ (sources : Sources) (d : TypeTree) (side : Side) where
       by_role : (i : DeclaredInstance) → stands_for own.instances p.name ≡ Some i → (role : Role) → i.role ≡ role → option_map_or (event_of_adapter (instance_ports scope i) X.name) (side_through role side) Unknown ≡ Found → IsEvent p (Some X)
       by_role i is Plug r h = through_plug i is r (instance_ports scope i) (sym (own_type sources d p.name i is)) h
       by_role i is Socket r h = through_socket i is r (instance_ports scope i) (sym (own_type sources d p.name i is)) h
-      by_role i is Block r h = absurd (true≢false (sym (ap is_found h)))
-      by_role i is Subapplication r h = absurd (true≢false (sym (ap is_found h)))
-
-      by : (o : Option DeclaredInstance) → stands_for own.instances p.name ≡ o → event_behind scope side o X.name ≡ Found → IsEvent p (Some X)
-      by None g h = absurd (true≢false (sym (ap is_found h)))
-      by (Some i) g h = by_role i g i.role refl h
+      by_role i is o r h = absurd (true≢false (sym (ap is_found h)))
 
   not_judged_behind : (p X : NameUse) → event_named scope side p (Some X) ≡ NotJudged → IsUnjudged p (Some X)
-  not_judged_behind p X e = by (stands_for own.instances p.name) refl e
+  not_judged_behind p X e =
+      (elim (stands_for own.instances p.name) as (λ o. stands_for own.instances p.name ≡ o → event_behind scope side o X.name ≡ NotJudged → IsUnjudged p (Some X)) [ None ↦ λ g h. absurd (true≢false (ap is_unknown h)) | Some i ↦ λ g h. by_role i g i.role refl h ]) refl e
     where
       at_adapter : (i : DeclaredInstance) → stands_for own.instances p.name ≡ Some i → IsAdapter i → (wanted : Side) (ports : Option Meanings) → usable i.role (tree_at sources i.type_name.name) ≡ ports → event_of_adapter ports X.name wanted ≡ NotJudged → IsUnjudged p (Some X)
       at_adapter i is adapter wanted None g h = of_unusable i is adapter (no_type sources i.type_name.name i.role g)
@@ -168,12 +139,7 @@ module _ (sources : Sources) (d : TypeTree) (side : Side) where
       by_role : (i : DeclaredInstance) → stands_for own.instances p.name ≡ Some i → (role : Role) → i.role ≡ role → option_map_or (event_of_adapter (instance_ports scope i) X.name) (side_through role side) Unknown ≡ NotJudged → IsUnjudged p (Some X)
       by_role i is Plug r h = at_adapter i is (inl r) side (instance_ports scope i) (sym (own_type sources d p.name i is)) h
       by_role i is Socket r h = at_adapter i is (inr r) (opposite side) (instance_ports scope i) (sym (own_type sources d p.name i is)) h
-      by_role i is Block r h = absurd (true≢false (ap is_unknown h))
-      by_role i is Subapplication r h = absurd (true≢false (ap is_unknown h))
-
-      by : (o : Option DeclaredInstance) → stands_for own.instances p.name ≡ o → event_behind scope side o X.name ≡ NotJudged → IsUnjudged p (Some X)
-      by None g h = absurd (true≢false (ap is_unknown h))
-      by (Some i) g h = by_role i g i.role refl h
+      by_role i is o r h = absurd (true≢false (ap is_unknown h))
 
   event_found : (name : NameUse) (port : Option NameUse) → event_named scope side name port ≡ Found → IsEvent name port
   event_found name None e = own_event (stands_for_event side own name.name e)
@@ -198,12 +164,8 @@ module _ (sources : Sources) (d : TypeTree) (side : Side) where
       (λ is. true≢false (sym (ap is_unknown (sym (told_found event.name event.port is) ∙ e))), λ is. true≢false (sym (ap is_unknown (sym (told_not_judged event.name event.port is) ∙ e))))
 
   no_event : (event : End) → IsNoEventOf sources own side event → event_named scope side event.name event.port ≡ Unknown
-  no_event event fails = by (event_named scope side event.name event.port) refl
-    where
-      by : (t : EventTarget) → event_named scope side event.name event.port ≡ t → t ≡ Unknown
-      by Found e = absurd (fails.0 (event_found event.name event.port e))
-      by Unknown e = refl
-      by NotJudged e = absurd (fails.1 (not_judged event.name event.port e))
+  no_event event fails =
+      (elim (event_named scope side event.name event.port) as (λ t. event_named scope side event.name event.port ≡ t → t ≡ Unknown) [ Found ↦ λ e. absurd (fails.0 (event_found event.name event.port e)) | Unknown ↦ λ e. refl | NotJudged ↦ λ e. absurd (fails.1 (not_judged event.name event.port e)) ]) refl
 
 abbrev event_fault_at : End → Fault
 event_fault_at e = record { code = EventUnknown; span = span_from e.name.span e.port }
@@ -215,9 +177,8 @@ record EventOrigin (sources : Sources) (d : TypeTree) (side : Side) (o : Option 
   is : event_fault_at event ≡ fault
 
 in_target : (target : EventTarget) (event : End) (fault : Fault) → Contains (target_faults target (span_from event.name.span event.port)) fault → (target ≡ Unknown) × (event_fault_at event ≡ fault)
-in_target Found event fault c = absurd (contains_nothing fault c)
 in_target Unknown event fault c = (refl, contains_single (event_fault_at event) fault c)
-in_target NotJudged event fault c = absurd (contains_nothing fault c)
+in_target o event fault c = absurd (contains_nothing fault c)
 
 event_origin : (sources : Sources) (d : TypeTree) (side : Side) (o : Option End) (fault : Fault) → Contains (written_fault (scope_of_type sources d) side o) fault → EventOrigin sources d side o fault
 event_origin sources d side o fault c =
@@ -308,11 +269,8 @@ module _ (sources : Sources) (unit : List ℕ) where
 
   -- a fault says what its code means
   pub found : (f : Fault) → Contains (ecc_faults_of sources unit) f → Finds f
-  found f c = by (tree_at sources unit) refl c
-    where
-      by : (o : Option DeclTree) → tree_at sources unit ≡ o → Contains (chart_faults_in sources o) f → Finds f
-      by (Some (block_type d)) e h = chart_found d e f h
-      by o e h = absurd (contains_nothing f h)
+  found f c =
+      (elim (tree_at sources unit) as (λ o. tree_at sources unit ≡ o → Contains (chart_faults_in sources o) f → Finds f) [ Some (block_type d) ↦ λ e h. chart_found d e f h | o ↦ λ e h. absurd (contains_nothing f h) ]) refl c
 
 pub states_listed : StatesAreListed
 states_listed sources unit span = (found sources unit _, from)
@@ -336,15 +294,13 @@ states_listed sources unit span = (found sources unit _, from)
         by (inr c) = Contains-append_right (state_fault names h.transition.source) (state_fault names h.transition.destination) _ (same h.transition.destination (contains_single h.transition.destination h.state c))
 
 pub algorithms_declared : AlgorithmsAreDeclared
-algorithms_declared sources unit span = (found sources unit _, from)
-  where
-    from : HasUnknownAlgorithm sources unit span → Contains (ecc_faults_of sources unit) (record { code = AlgorithmUnknown; span = span })
-    from h =
-        let declares = has_name (algorithm_names h.block.chart) in
-        let fault = fault_at AlgorithmUnknown h.algorithm in
-        let fails = none_listed (λ (a : AlgorithmTree). a.name) h.block.chart.algorithms h.algorithm.name h.undeclared in
-        let one = written (algorithm_fault declares) h.action.algorithm h.algorithm fault h.run (unless (declares h.algorithm.name) fault fails) in
-        reported sources unit h.block h.declared 2 (algorithm_faults h.block.chart) refl h.place (action_reported (run_faults declares) h.block.chart h.state h.action fault h.listed h.written one)
+algorithms_declared sources unit span =
+    iff (found sources unit _)
+    (λ h. let declares = has_name (algorithm_names h.block.chart) in
+    let fault = fault_at AlgorithmUnknown h.algorithm in
+    let fails = none_listed (λ (a : AlgorithmTree). a.name) h.block.chart.algorithms h.algorithm.name h.undeclared in
+    let one = written (algorithm_fault declares) h.action.algorithm h.algorithm fault h.run (unless (declares h.algorithm.name) fault fails) in
+    reported sources unit h.block h.declared 2 (algorithm_faults h.block.chart) refl h.place (action_reported (run_faults declares) h.block.chart h.state h.action fault h.listed h.written one))
 
 pub events_known : EventsAreKnown
 events_known sources unit span = (found sources unit _, from)

@@ -1,19 +1,8 @@
 -- The parts of transitions and algorithms.
 use Rattle.std.proofs.Common.{arith, ◌≡◌, true, List, [], ◌∷◌, ◌++◌, Option, Some, None}
 use Rattle.std.specs.List.{flat_map}
-use Rattle.fb_text.specs.declared.name.NameUse.{NameUse}
-use Rattle.fb_structured_text.specs.Forms.Words.{name}
+use Rattle.fb_laws.proofs.Common.{NameUse, name, is_among, name_kinds, Kind, Name, NameIn, NameOn, NameSt, end, Expression, Statement, End, levels, statement, Part, name_part, name_parts, option_parts, end_parts, expression_parts, statement_parts, condition_parts, transition_parts, algorithm_parts}
 use Rattle.fb_deploy.specs.Parse.Chart.{bracketed, joined_test, optional_test, on_event_with, event_condition, condition, transition, transitions, structured_text, other_language, algorithm_body, algorithm}
-use Rattle.fb_structured_text.specs.Forms.Kind.{is_among, name_kinds}
-use Rattle.fb_structured_text.specs.Forms.declared.kind.Kind.{Kind}
-use Rattle.fb_structured_text.specs.Forms.declared.kind.Kind.TheVariants.{Name, NameIn, NameOn, NameSt}
-use Rattle.fb_sections.specs.Network.{end}
-use Rattle.fb_tree.specs.Expression.{Expression}
-use Rattle.fb_tree.specs.Statement.{Statement}
-use Rattle.fb_tree.specs.declared.network.End.{End}
-use Rattle.fb_structured_text.specs.Expression.{levels}
-use Rattle.fb_structured_text.specs.Statement.{statement}
-use Rattle.fb_laws.specs.SpanParts.{Part, name_part, name_parts, option_parts, end_parts, expression_parts, statement_parts, condition_parts, transition_parts, algorithm_parts}
 use Rattle.fb_laws.proofs.Tokens.{Each, each_front}
 use Rattle.fb_laws.proofs.Sound.{Sound, sound_nothing, sound_both, sound_as, sound_either, sound_option, sound_many, sound_behind, sound_before, sound_section, sound_mark, among_more, among_right, sound_name, sound_name_of, sound_same}
 use Rattle.fb_laws.proofs.Sections.{sound_end}

@@ -1,23 +1,9 @@
 -- The class of each expression, by the function of the check.
 use Rattle.std.proofs.Common.{◌≡◌, ◌≢◌, ℕ, Bool, true, false, true≢false, List, Option, Some, None, unwrap_or, refl, sym, ap, ◌∙◌, subst}
-use Rattle.fb_tree.specs.Expression.{ReferenceTree, Expression, literal_expression, reference_expression, unary_expression, row_expression, parentheses, Expressions, Operands, no_operands, operand_then}
-use Rattle.fb_tree.specs.Tree.{TypeTree, block_type}
-use Rattle.fb_tree.specs.declared.expression.BinaryUse.{BinaryUse}
-use Rattle.fb_tree.specs.declared.expression.UnaryUse.{UnaryUse}
-use Rattle.fb_tree.specs.declared.interface.TypeForm.{TypeForm}
+use Rattle.fb_laws.proofs.Common.{ReferenceTree, Expression, literal_expression, reference_expression, unary_expression, row_expression, parentheses, Expressions, Operands, no_operands, operand_then, TypeTree, block_type, BinaryUse, UnaryUse, TypeForm, TypeUse, Sources, tree_at, Class, O, Free, change, pair_class, unary_class, class_in, row_class, Names, names_of_type, class_of_element, class_of_referent, class_with, referent_of, Referent, Variable, Unjudged, NoMember, Changes, HasClass, of_literal, of_variable, of_element, of_no_array, of_no_variable, of_operator, of_broken, of_row, of_parentheses, RowHasClass, IsPairIn, first_pair, later_pair, NamesType}
 use Rattle.fb_tree.specs.declared.interface.TypeForm.TheVariants.{Plain, Sized, Array}
-use Rattle.fb_tree.specs.declared.interface.TypeUse.{TypeUse}
-use Rattle.fb_deploy.specs.Library.View.{Sources, tree_at}
-use Rattle.fb_deploy.specs.Iface.declared.classes.Class.{Class}
-use Rattle.fb_deploy.specs.Iface.declared.classes.Class.TheVariants.{O, Free}
-use Rattle.fb_expr.specs.Classes.{change, pair_class, unary_class}
-use Rattle.fb_expr.specs.Expressions.{class_in, row_class}
-use Rattle.fb_expr.specs.Names.{Names, names_of_type}
-use Rattle.fb_expr.specs.References.{class_of_element, class_of_referent, class_with, referent_of}
-use Rattle.fb_expr.specs.declared.references.Referent.{Referent}
-use Rattle.fb_expr.specs.declared.references.Referent.TheVariants.{Variable, Unjudged, Unknown, NoMember}
-use Rattle.fb_laws.specs.Classes.{Changes, HasClass, of_literal, of_variable, of_element, of_no_array, of_no_variable, of_operator, of_broken, of_row, of_parentheses, RowHasClass, at_end, behind, IsPairIn, first_pair, later_pair}
-use Rattle.fb_laws.specs.Variables.{NamesType}
+use Rattle.fb_expr.specs.declared.references.Referent.TheVariants.{Unknown}
+use Rattle.fb_laws.specs.Classes.{at_end, behind}
 use Rattle.fb_laws.proofs.ExpressionLemmas.{IsPairOf, first_pair as first_of, later_pair as later_of}
 use Rattle.fb_laws.proofs.ReferentLemmas.{names_type, told_type_of}
 use Rattle.fb_laws.proofs.RuleLemmas.{Known, gives, fails, changes, no_change, none_change, results, told_change, told_results}
@@ -33,9 +19,8 @@ sized_differs : Sized ≢ Array
 sized_differs e = let no : ⊥ = cc in no
 
 no_array : (used : TypeUse) (form : TypeForm) → form ≢ Array → class_of_element form used.name.name ≡ O
-no_array used Plain other = refl
-no_array used Sized other = refl
 no_array used Array other = absurd (other refl)
+no_array used o other = refl
 
 module _ (sources : Sources) (unit : List ℕ) (d : TypeTree) (declared : tree_at sources unit ≡ Some (block_type d)) where
   abbrev names : Names
@@ -43,12 +28,8 @@ module _ (sources : Sources) (unit : List ℕ) (d : TypeTree) (declared : tree_a
 
   of_type : (r : ReferenceTree) (subscripts : Expressions) (used : TypeUse) (subscripted : Bool) → NamesType sources d r used subscripted → HasClass sources d (reference_expression r subscripts) (class_with used subscripted)
   of_type r subscripts used false n = of_variable used n
-  of_type r subscripts used true n = by_form used.form refl
-    where
-      by_form : (form : TypeForm) → used.form ≡ form → HasClass sources d (reference_expression r subscripts) (class_of_element form used.name.name)
-      by_form Plain is = of_no_array used n (λ array. plain_differs (sym is ∙ array))
-      by_form Sized is = of_no_array used n (λ array. sized_differs (sym is ∙ array))
-      by_form Array is = of_element used n is
+  of_type r subscripts used true n =
+      (elim used.form as (λ form. used.form ≡ form → HasClass sources d (reference_expression r subscripts) (class_of_element form used.name.name)) [ Plain ↦ λ is. of_no_array used n (λ array. plain_differs (sym is ∙ array)) | Sized ↦ λ is. of_no_array used n (λ array. sized_differs (sym is ∙ array)) | Array ↦ λ is. of_element used n is ]) refl
 
   names_nothing : (r : ReferenceTree) (t : Referent) → referent_of names r ≡ t → is_variable t ≡ false → (used : TypeUse) (subscripted : Bool) → ¬ NamesType sources d r used subscripted
   names_nothing r t is other used subscripted n = true≢false (ap is_variable (sym (told_type_of sources unit d declared r used subscripted n) ∙ is) ∙ other)
@@ -86,13 +67,8 @@ module _ (sources : Sources) (unit : List ℕ) (d : TypeTree) (declared : tree_a
   -- and no other
 
   free_of : (r : ReferenceTree) → ((used : TypeUse) (subscripted : Bool) → ¬ NamesType sources d r used subscripted) → class_of_referent (referent_of names r) ≡ Free
-  free_of r none = by_referent (referent_of names r) refl
-    where
-      by_referent : (t : Referent) → referent_of names r ≡ t → class_of_referent t ≡ Free
-      by_referent (Variable used subscripted) is = absurd (none used subscripted (names_type sources unit d declared r used subscripted is))
-      by_referent Unjudged is = refl
-      by_referent Unknown is = refl
-      by_referent (NoMember at) is = refl
+  free_of r none =
+      (elim (referent_of names r) as (λ t. referent_of names r ≡ t → class_of_referent t ≡ Free) [ Variable used subscripted ↦ λ is. absurd (none used subscripted (names_type sources unit d declared r used subscripted is)) | o ↦ λ is. refl ]) refl
 
   named_class : (r : ReferenceTree) (used : TypeUse) (subscripted : Bool) → NamesType sources d r used subscripted → class_of_referent (referent_of names r) ≡ class_with used subscripted
   named_class r used subscripted n = ap class_of_referent (told_type_of sources unit d declared r used subscripted n)

@@ -2,34 +2,11 @@
 use Rattle.std.proofs.Common.{◌≡◌, ℕ, Bool, true, false, List, [], ◌∷◌, Option, Some, None, refl, sym, ap, ◌∙◌, subst, true≢false}
 use Rattle.std.specs.Prelude.{is_some}
 use Rattle.std.specs.List.{Contains}
-use Rattle.fb_text.specs.declared.name.NameUse.{NameUse}
-use Rattle.fb_text.specs.declared.token.Span.{Span}
-use Rattle.fb_tree.specs.Expression.{Expression, reference_expression, no_expressions}
-use Rattle.fb_tree.specs.Statement.{Statements, count}
-use Rattle.fb_tree.specs.Tree.{TypeTree, block_type}
-use Rattle.fb_tree.specs.declared.interface.TypeUse.{TypeUse}
-use Rattle.fb_tree.specs.declared.reference.Member.{Member}
-use Rattle.fb_deploy.specs.Library.View.{Sources, tree_at}
-use Rattle.fb_deploy.specs.Iface.Class.{class_of_type}
-use Rattle.fb_deploy.specs.Iface.Names.{stands_for}
-use Rattle.fb_deploy.specs.Iface.Ports.{meanings_in_type}
-use Rattle.fb_deploy.specs.Iface.declared.classes.Class.{Class as ValueClass}
+use Rattle.fb_laws.proofs.Common.{NameUse, Span, Expression, reference_expression, no_expressions, Statements, count, TypeTree, block_type, TypeUse, Member, Sources, tree_at, class_of_type, stands_for, meanings_in_type, Class as ValueClass, Fault, DeclaredVariable, expr_faults_of, change, combined, join, Demand, suits_operand, suits_operands, suits_place, assigns, code_of_demand, is_met, name_alone, class_in, Names, names_of_type, allows, ClassPlace, Condition, Count, Counter, Fits, HasClass, of_variable, of_element, of_no_array, of_no_variable, IsRunIn, StandsAt, BreaksRule, at_operator, between_operands, at_subscript, at_guard, at_counter, at_assignment, ClassesAreRight, ExpressionsHaveOneClass, HasBrokenRule, Begins, own, GoesOn, at_end, NamesType}
 use Rattle.fb_deploy.specs.Iface.declared.code.Code.TheVariants.{Class}
-use Rattle.fb_deploy.specs.Iface.declared.fault.Fault.{Fault}
-use Rattle.fb_deploy.specs.Iface.declared.ports.DeclaredVariable.{DeclaredVariable}
-use Rattle.fb_expr.specs.Charts.{expr_faults_of}
-use Rattle.fb_expr.specs.Classes.{change, combined, join}
-use Rattle.fb_expr.specs.Demands.{Demand, suits_operand, suits_operands, suits_place, assigns, code_of_demand, is_met, name_alone, place_of}
-use Rattle.fb_expr.specs.Expressions.{class_in}
-use Rattle.fb_expr.specs.Names.{Names, names_of_type}
-use Rattle.fb_expr.specs.Rules.{allows}
-use Rattle.fb_expr.specs.declared.rules.ClassPlace.{ClassPlace}
-use Rattle.fb_expr.specs.declared.rules.ClassPlace.TheVariants.{Condition, Count, Counter}
-use Rattle.fb_laws.specs.Classes.{Fits, HasClass, of_variable, of_element, of_no_array, of_no_variable}
-use Rattle.fb_laws.specs.Occurrences.{IsRunIn}
-use Rattle.fb_laws.specs.Places.{StandsAt}
-use Rattle.fb_laws.specs.Expressions.{BreaksRule, at_operator, between_operands, at_subscript, at_guard, in_statement, at_counter, at_assignment, ClassesAreRight, ExpressionsHaveOneClass, HasBrokenRule}
-use Rattle.fb_laws.specs.Variables.{Begins, own, of_adapter, GoesOn, at_end, NamesType}
+use Rattle.fb_expr.specs.Demands.{place_of}
+use Rattle.fb_laws.specs.Expressions.{in_statement}
+use Rattle.fb_laws.specs.Variables.{of_adapter}
 use Rattle.fb_laws.proofs.ClassLemmas.{class_of, pair_in, pair_of, told_class}
 use Rattle.fb_laws.proofs.ExpressionLemmas.{IsPairOf}
 use Rattle.fb_laws.proofs.ExpressionPlaces.{stands, told_stands}
@@ -85,9 +62,6 @@ module _ (sources : Sources) (unit : List ℕ) (d : TypeTree) (declared : tree_a
 
   -- a demand on classes that is not met
   broken : (demand : Demand) → DemandOf names d demand → code_of_demand demand ≡ Class → is_met names demand ≡ false → BreaksRule sources d (place_of demand)
-  broken demand (reference r subscripts w) class fails = absurd (true≢false (sym (ap is_class_code class)))
-  broken demand (field r subscripts before m others w parted) class fails = absurd (true≢false (sym (ap is_class_code class)))
-  broken demand (behind_for name a b step body runs) class fails = absurd (true≢false (sym (ap is_class_code class)))
   broken demand (operator used x w) class fails =
       at_operator used x (class_in names x) w (class_of sources unit d declared x) (none_change used.operator (class_in names x) (none_there (change used.operator (class_in names x)) fails))
   broken demand (pair first row used before x w is) class fails =
@@ -103,6 +77,7 @@ module _ (sources : Sources) (unit : List ℕ) (d : TypeTree) (declared : tree_a
   broken demand (of_assignment r subscripts place e runs) class fails =
       let variable = reference_expression r subscripts in
       at_assignment r subscripts place e (class_in names variable) (class_in names e) runs (class_of sources unit d declared variable) (class_of sources unit d declared e) (none_join (class_in names variable) (class_in names e) (none_there (join (class_in names variable) (class_in names e)) fails))
+  broken demand o class fails = absurd (true≢false (sym (ap is_class_code class)))
 
   -- the demand that a broken rule leaves unmet
   record Broken (span : Span) : Type 0 where
@@ -161,7 +136,7 @@ module _ (sources : Sources) (unit : List ℕ) (d : TypeTree) (declared : tree_a
       }
 
 pub right : ClassesAreRight
-right sources unit span = (to, back)
+right sources unit span = (to, λ h. let b = unmet_by sources unit h.block h.declared span h.breaks in reported sources unit it (record { block = h.block; declared = h.declared; demand = b.demand; of_block = b.of_type; fails = b.fails; is = λ i. record { code = sym b.class i; span = b.place i } }))
   where
     it : Fault
     it = record { code = Class; span = span }
@@ -174,19 +149,6 @@ right sources unit span = (to, back)
           declared = u.declared;
           breaks = subst (BreaksRule sources u.block) (sym (ap (λ (f : Fault). f.span) u.is)) (broken sources unit u.block u.declared u.demand u.of_block (sym (ap (λ (f : Fault). f.code) u.is)) u.fails);
         }
-
-    back : HasBrokenRule sources unit span → Contains (expr_faults_of sources unit) it
-    back h =
-        let b = unmet_by sources unit h.block h.declared span h.breaks in
-        reported sources unit it
-        (record {
-          block = h.block;
-          declared = h.declared;
-          demand = b.demand;
-          of_block = b.of_type;
-          fails = b.fails;
-          is = λ i. record { code = sym b.class i; span = b.place i };
-        })
 
 pub one_class : ExpressionsHaveOneClass
 one_class sources unit d declared e =

@@ -1,44 +1,32 @@
 -- The codes that each part of the check gives.
 use Rattle.std.proofs.Common.{ℕ, List, sym, subst}
 use Rattle.std.specs.List.{Contains}
-use Rattle.fb_text.specs.declared.token.Span.{Span}
-use Rattle.fb_deploy.specs.Library.View.{Sources}
-use Rattle.fb_deploy.specs.Iface.declared.code.Code.{Code}
-use Rattle.fb_deploy.specs.Iface.declared.code.Code.TheVariants.{AlgorithmUnknown, DataType, Duplicate, EventUnknown, Literal, MappedTwice, MixedKind, NameDiffers, NoSuchResource, ParameterUnknown, PassThrough, PortSide, PortUnknown, SecondAdapter, SecondSource, StateUnknown, StructRecursive, UnknownType, WithUnknown, WrongKind}
-use Rattle.fb_deploy.specs.Iface.declared.fault.Fault.{Fault}
-use Rattle.fb_tree.specs.Tree.{NetworkTree}
-use Rattle.fb_expr.specs.Demands.{Demand, code_of_demand, names_field, names_variable}
-use Rattle.fb_netcheck.specs.Settings.{NetworkPlace}
-use Rattle.fb_text.proofs.Members.{contains_nothing}
-use Rattle.fb_laws.specs.UnitParts.{IsCodeOf, Declarations, Expressions, Charts, Networks, Mappings, PartsHaveOwnCodes, other_name, duplicate, mixed_kind, unknown_type, wrong_kind, unknown_with, initial_value, recursive_structure, unknown_variable, unknown_member, class, unknown_state, unknown_event, unknown_algorithm, unknown_port, wrong_side, other_type, second_source, second_adapter, passage, unknown_parameter, parameter_value, second_mapping, lost_mapping}
+use Rattle.fb_laws.proofs.Common.{Span, Sources, Code, AlgorithmUnknown, DataType, Duplicate, EventUnknown, Literal, MappedTwice, MixedKind, NameDiffers, NoSuchResource, ParameterUnknown, PassThrough, PortSide, PortUnknown, SecondAdapter, SecondSource, StateUnknown, StructRecursive, UnknownType, WithUnknown, WrongKind, Fault, NetworkTree, Demand, code_of_demand, names_field, names_variable, NetworkPlace, contains_nothing, IsCodeOf, Declarations, Charts, Networks, Mappings, PartsHaveOwnCodes, other_name, duplicate, mixed_kind, unknown_type, wrong_kind, unknown_with, initial_value, recursive_structure, unknown_variable, unknown_member, class, unknown_state, unknown_event, unknown_algorithm, unknown_port, wrong_side, other_type, second_source, second_adapter, passage, unknown_parameter, parameter_value, second_mapping, lost_mapping}
+use Rattle.fb_laws.specs.UnitParts.{Expressions}
 use Rattle.fb_laws.proofs.ChartRows as charts
 use Rattle.fb_laws.proofs.DeclarationRows as declarations
 use Rattle.fb_laws.proofs.MappingRows as mappings
 use Rattle.fb_laws.proofs.NetworkLemmas.{network_origin, part, place_at}
 use Rattle.fb_laws.proofs.UnitDemands.{unmet}
 
+nothing : {A : Type 0} → ⊥ → A
+nothing h = absurd h
+
+-- the part of each code
+pub ruleset codes = (other_name, duplicate, mixed_kind, unknown_type, wrong_kind, unknown_with, initial_value, recursive_structure, unknown_variable, unknown_member, class, unknown_state, unknown_event, unknown_algorithm, unknown_port, wrong_side, other_type, second_source, second_adapter, passage, unknown_parameter, parameter_value, second_mapping, lost_mapping)
+
 module _ (sources : Sources) (unit : List ℕ) (span : Span) where
   declared_code : (code : Code) → declarations.Has code sources unit span → IsCodeOf Declarations code
   declared_code NameDiffers h = other_name
-  declared_code Duplicate h = duplicate
-  declared_code MixedKind h = mixed_kind
-  declared_code UnknownType h = unknown_type
-  declared_code WrongKind h = wrong_kind
-  declared_code WithUnknown h = unknown_with
-  declared_code Literal h = initial_value
-  declared_code StructRecursive h = recursive_structure
-  declared_code code h = absurd h
+  declared_code code h = search (codes, nothing)
 
   chart_code : (code : Code) → charts.Has code sources unit span → IsCodeOf Charts code
   chart_code StateUnknown h = unknown_state
-  chart_code EventUnknown h = unknown_event
-  chart_code AlgorithmUnknown h = unknown_algorithm
-  chart_code code h = absurd h
+  chart_code code h = search (codes, nothing)
 
   mapping_code : (code : Code) → mappings.Has code sources unit span → IsCodeOf Mappings code
   mapping_code MappedTwice h = second_mapping
-  mapping_code NoSuchResource h = lost_mapping
-  mapping_code code h = absurd h
+  mapping_code code h = search (codes, nothing)
 
 demand_code : (demand : Demand) → IsCodeOf Expressions (code_of_demand demand)
 demand_code (names_variable r) = unknown_variable
@@ -47,14 +35,7 @@ demand_code demand = class
 
 network_code : (sources : Sources) (here : NetworkPlace) (n : NetworkTree) (f : Fault) (code : Code) → Contains (part sources here n code) f → IsCodeOf Networks code
 network_code sources here n f PortUnknown c = unknown_port
-network_code sources here n f PortSide c = wrong_side
-network_code sources here n f DataType c = other_type
-network_code sources here n f SecondSource c = second_source
-network_code sources here n f SecondAdapter c = second_adapter
-network_code sources here n f PassThrough c = passage
-network_code sources here n f ParameterUnknown c = unknown_parameter
-network_code sources here n f Literal c = parameter_value
-network_code sources here n f code c = absurd (contains_nothing f c)
+network_code sources here n f code c = search (codes, nothing, contains_nothing)
 
 pub own_codes : PartsHaveOwnCodes
 own_codes Declarations sources unit f c = declared_code sources unit f.span f.code (declarations.found sources unit f c)

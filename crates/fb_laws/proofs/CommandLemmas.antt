@@ -5,14 +5,7 @@ use Rattle.std.specs.List.{cons_option, filter_map}
 use Rattle.std.specs.Str.{bytes_eq}
 use Rattle.std.proofs.lemmas.List.{map-append}
 use Rattle.std.proofs.lemmas.List.Elements.{filter-append}
-use Rattle.fb_text.proofs.Members.{contains_cases, contains_here, contains_later, contains_nothing}
-use Rattle.fb_wiring.specs.Network.declared.flat.Link.{Link}
-use Rattle.fb_placing.specs.Cuts.{same_home}
-use Rattle.fb_wiring.specs.Network.Fronts.{nearest}
-use Rattle.fb_placing.specs.Orders.{connection_orders, connection_text, line_order, link_resource, start_order, start_text}
-use Rattle.fb_placing.specs.Resources.{commands_for}
-use Rattle.fb_placing.specs.declared.lines.Line.{Line}
-use Rattle.fb_placing.specs.Order.{Order}
+use Rattle.fb_laws.proofs.Common.{contains_cases, contains_here, contains_later, contains_nothing, Link, same_home, nearest, connection_orders, connection_text, line_order, link_resource, start_order, start_text, commands_for, Line, Order}
 use Rattle.fb_laws.proofs.HomeLemmas.{bytes_same, same_bytes}
 
 -- ---- what a list gives
@@ -30,29 +23,17 @@ given {X = X} {Y = Y} h (x ∷ xs) y c = by_given (h x) refl c (given h xs y)
     later : IsGiven h xs y → IsGiven h (x ∷ xs) y
     later o = record { origin = o.origin; among = contains_later x xs o.origin o.among; gives = o.gives }
 
-    by_case : (z : Y) → h x ≡ Some z → (z ≡ y) ⊎ Contains (filter_map h xs) y → (Contains (filter_map h xs) y → IsGiven h xs y) → IsGiven h (x ∷ xs) y
-    by_case z e (inl same) more = record { origin = x; among = contains_here x xs; gives = e ∙ ap (λ (w : Y). Some w) same }
-    by_case z e (inr d) more = later (more d)
-
     by_given : (o : Option Y) → h x ≡ o → Contains (cons_option o (filter_map h xs)) y → (Contains (filter_map h xs) y → IsGiven h xs y) → IsGiven h (x ∷ xs) y
     by_given None e d more = later (more d)
-    by_given (Some z) e d more = by_case z e (contains_cases z (filter_map h xs) y d) more
+    by_given (Some z) e d more = elim (contains_cases z (filter_map h xs) y d) [ inl same ↦ record { origin = x; among = contains_here x xs; gives = e ∙ ap (λ (w : Y). Some w) same } | inr d ↦ later (more d) ]
 
 pub gives_member : {X Y : Type 0} (h : X → Option Y) (xs : List X) (x : X) (y : Y) → Contains xs x → h x ≡ Some y → Contains (filter_map h xs) y
 gives_member h [] x y c e = absurd (contains_nothing x c)
 gives_member {X = X} {Y = Y} h (z ∷ zs) x y c e = by_case (contains_cases z zs x c) (λ d. gives_member h zs x y d e)
   where
-    here : (o : Option Y) → o ≡ Some y → Contains (cons_option o (filter_map h zs)) y
-    here None e = absurd (cc)
-    here (Some w) e = let same : w ≡ y = cc in subst (λ (v : Y). Contains (w ∷ filter_map h zs) v) same (contains_here w (filter_map h zs))
-
-    later : (o : Option Y) → Contains (filter_map h zs) y → Contains (cons_option o (filter_map h zs)) y
-    later None d = d
-    later (Some w) d = contains_later w (filter_map h zs) y d
-
     by_case : (z ≡ x) ⊎ Contains zs x → (Contains zs x → Contains (filter_map h zs) y) → Contains (filter_map h (z ∷ zs)) y
-    by_case (inl same) more = here (h z) (ap h same ∙ e)
-    by_case (inr d) more = later (h z) (more d)
+    by_case (inl same) more = (elim (h z) as (λ o. o ≡ Some y → Contains (cons_option o (filter_map h zs)) y) [ None ↦ λ e. absurd (cc) | Some w ↦ λ e. let same : w ≡ y = cc in subst (λ (v : Y). Contains (w ∷ filter_map h zs) v) same (contains_here w (filter_map h zs)) ]) (ap h same ∙ e)
+    by_case (inr d) more = (elim (h z) as (λ o. Contains (filter_map h zs) y → Contains (cons_option o (filter_map h zs)) y) [ None ↦ λ d. d | Some w ↦ λ d. contains_later w (filter_map h zs) y d ]) (more d)
 
 -- ---- the parts of the commands for a resource
 
@@ -114,15 +95,10 @@ for_starts (n ∷ ns) r = by_test (bytes_eq r n) (for_starts ns r)
 pub link_on : (homes : List ℕ → Option (List ℕ)) (l : Link) (r : List ℕ) → link_resource homes l ≡ Some r → (nearest homes l.from ≡ Some r) × (nearest homes l.to ≡ Some r)
 link_on homes l r e = by (nearest homes l.from) (nearest homes l.to) e
   where
-    some : (a b : List ℕ) (t : Bool) → bytes_eq a b ≡ t → cond t (Some a) None ≡ Some r → ((let o : Option (List ℕ) = Some a in o) ≡ Some r) × ((let o : Option (List ℕ) = Some b in o) ≡ Some r)
-    some a b true same g = (g, ap (λ (w : List ℕ). Some w) (sym (same_bytes a b same)) ∙ g)
-    some a b false same g = absurd (let no : ⊥ = cc in no)
-
     by : (a b : Option (List ℕ)) → cond (same_home a b) a None ≡ Some r → (a ≡ Some r) × (b ≡ Some r)
-    by None None g = absurd (let no : ⊥ = cc in no)
+    by (Some a) (Some b) g = (elim (bytes_eq a b) as (λ t. bytes_eq a b ≡ t → cond t (Some a) None ≡ Some r → ((let o : Option (List ℕ) = Some a in o) ≡ Some r) × ((let o : Option (List ℕ) = Some b in o) ≡ Some r)) [ true ↦ λ same g. (g, ap (λ (w : List ℕ). Some w) (sym (same_bytes a b same)) ∙ g) | false ↦ λ same g. absurd (let no : ⊥ = cc in no) ]) refl g
     by None (Some b) g = absurd (let no : ⊥ = cc in no)
-    by (Some a) None g = absurd (let no : ⊥ = cc in no)
-    by (Some a) (Some b) g = some a b (bytes_eq a b) refl g
+    by a b g = absurd (let no : ⊥ = cc in no)
 
 pub on_link : (homes : List ℕ → Option (List ℕ)) (l : Link) (r : List ℕ) → nearest homes l.from ≡ Some r → nearest homes l.to ≡ Some r → link_resource homes l ≡ Some r
 on_link homes l r from to =

@@ -1,70 +1,35 @@
 -- The commands of each resource, in words of their own.
-use Rattle.std.proofs.Common.{ℕ, ◌≡◌, Bool, true, false, cond, List, [], ◌∷◌, ◌++◌, Option, Some, None, ◌⊎◌, inl, inr, refl, sym, ◌∙◌, ap, subst, get_or, map, append_assoc, arith}
+use Rattle.std.proofs.Common.{ℕ, ◌≡◌, ◌≢◌, Bool, true, false, not, ◌||◌, cond, List, [], ◌∷◌, ◌++◌, Option, Some, None, ◌⊎◌, inl, inr, refl, sym, ◌∙◌, ap, subst, get_or, map, append_assoc, arith, ◌==◌, true≢false}
 use Rattle.std.specs.Prelude.{Contains, filter, option_map, codes}
 use Rattle.std.specs.List.{filter_map, flat_map}
 use Rattle.std.specs.Str.{bytes_eq}
 use Rattle.std.proofs.lemmas.List.Kept.{IsStrictlySortedBy-filter}
-use Rattle.fb_text.proofs.OrderLemmas.{in_order-members, in_order-sorted}
-use Rattle.fb_text.proofs.Members.{contains_cases, contains_filter, contains_flat_map, contains_here, contains_later, contains_map, contains_nothing, origin_in_flat_map, origin_in_map, passes_in_filter}
+use Rattle.std.proofs.lemmas.Bool.{eqb-false, not-true, or_cases}
+use Rattle.fb_laws.proofs.Common.{in_order-members, in_order-sorted, contains_cases, contains_filter, contains_flat_map, contains_here, contains_later, contains_map, contains_nothing, origin_in_flat_map, origin_in_map, passes_in_filter, ApplicationTree, DeclTree, ParameterTree, Sources, text_or_empty, tree_at, link_cmp, FlatBlock, Link, PlainFlat, home_at, nearest, block_home, PlainStanding, path_names, standing_at, applications_in, devices_in, Home, create_line, create_lines, create_text, home_lines, line_cmp, line_cmp_total, lines_at, write_line, write_lines, write_text, connection_orders, line_order, link_resource, orders_of, start_order, start_text, dotted, PlainResource, commands_for, resource_plan, resource_plans, resources_of, Line, Order, IsPlanned, AllBegin, BeginsWith, BlocksAreMadeAtHome, CommandsAreInOrder, IsInOrder, IsWithin, LinksAreMadeAtHome, MakesBlock, MakesItsBlocks, MakesItsLinks, NoneBegins, ParametersAreSetAtHome, ResourcesHaveTheirCommands, SetsItsParameters, SetsParameter, StandsOnce}
 use Rattle.fb_placing.proofs.LineLemmas.{line_cmp-IsAntisymmetric}
-use Rattle.fb_tree.specs.Tree.{ApplicationTree, DeclTree, ParameterTree}
-use Rattle.fb_deploy.specs.Library.View.{Sources, text_or_empty, tree_at}
-use Rattle.fb_wiring.specs.Network.LinkOrder.{link_cmp}
-use Rattle.fb_wiring.specs.Network.declared.flat.FlatBlock.{FlatBlock}
-use Rattle.fb_wiring.specs.Network.declared.flat.Link.{Link}
-use Rattle.fb_wiring.specs.Network.PlainFlat.{PlainFlat}
-use Rattle.fb_placing.specs.Cuts.{home_at}
-use Rattle.fb_wiring.specs.Network.Fronts.{nearest}
-use Rattle.fb_placing.specs.Homes.{block_home}
-use Rattle.fb_placing.specs.Standing.{PlainStanding, path_names, standing_at}
-use Rattle.fb_placing.specs.Systems.{applications_in, devices_in}
-use Rattle.fb_placing.specs.declared.homes.Home.{Home}
-use Rattle.fb_placing.specs.Lines.{create_line, create_lines, create_text, home_lines, line_cmp, line_cmp_total, lines_at, write_line, write_lines, write_text}
-use Rattle.fb_placing.specs.Orders.{connection_orders, line_order, link_resource, orders_of, start_order, start_text}
-use Rattle.fb_wiring.specs.Network.Places.{dotted}
 use Rattle.fb_placing.specs.Written.{written}
-use Rattle.fb_placing.specs.PlainResource.{PlainResource}
-use Rattle.fb_placing.specs.Resources.{commands_for, resource_plan, resource_plans, resources_of}
-use Rattle.fb_placing.specs.declared.lines.Line.{Line}
-use Rattle.fb_placing.specs.Order.{Order}
 use Rattle.fb_laws.proofs.Joined.{of_either}
 use Rattle.fb_laws.proofs.HomeLemmas.{bytes_same, home_listed, nearest_of, of_nearest, same_bytes}
 use Rattle.fb_laws.proofs.PlannedLemmas.{Known, home_there, homes_in, known, links_sorted, mapped, names_in, stands}
 use Rattle.fb_laws.proofs.CommandLemmas.{commands_append, for_lines, for_links, for_starts, given, gives_member, is_of, is_resource, link_command, link_on, lines_on, links_on, of_is, on_link}
-use Rattle.fb_laws.specs.Planned.{IsPlanned}
-use Rattle.fb_laws.specs.Plans.{AllBegin, BeginsWith, BlocksAreMadeAtHome, CommandsAreInOrder, IsInOrder, IsWithin, LinksAreMadeAtHome, MakesBlock, MakesItsBlocks, MakesItsLinks, NoneBegins, ParametersAreSetAtHome, ResourcesHaveTheirCommands, SetsItsParameters, SetsParameter, StandsOnce}
 
 -- ---- what commands begin with
 
+-- whether two words differ at a place that both have
+abbrev differ : List ℕ → List ℕ → Bool
+differ (x ∷ a) (y ∷ b) = not (x == y) || differ a b
+differ a b = false
+
+apart : (a b rest more : List ℕ) → differ a b ≡ true → a ++ rest ≢ b ++ more
+apart (x ∷ a) (y ∷ b) rest more d e = elim (or_cases (not (x == y)) (differ a b) d) [
+  | inl n ↦ eqb-false x y (not-true (x == y) n) (let same : x ≡ y = cc in same)
+  | inr s ↦ apart a b rest more s (let tails : a ++ rest ≡ b ++ more = cc in tails)
+]
+apart a b rest more d e = true≢false (sym d)
+
 -- commands that begin otherwise
-none_of : (start other : List ℕ) (commands : List (List ℕ)) → ((command : List ℕ) → BeginsWith other command → ¬ BeginsWith start command) → AllBegin other commands → NoneBegins start commands
-none_of start other commands differ all command c = differ command (all command c)
-
--- two words that differ at a place
-differ_at : (k : ℕ) (a b command : List ℕ) (x y : ℕ) → ((rest : List ℕ) → get_or (a ++ rest) k 0 ≡ x) → ((rest : List ℕ) → get_or (b ++ rest) k 0 ≡ y) → (x ≡ y → ⊥) → BeginsWith a command → ¬ BeginsWith b command
-differ_at k a b command x y is_x is_y other p q =
-    other (sym (is_x p.0) ∙ ap (λ (l : List ℕ). get_or l k 0) (sym p.1 ∙ q.1) ∙ is_y q.0)
-
-turned : (a b : List ℕ) → ((command : List ℕ) → BeginsWith a command → ¬ BeginsWith b command) → (command : List ℕ) → BeginsWith b command → ¬ BeginsWith a command
-turned a b differ command p q = differ command q p
-
-write_no_block : (command : List ℕ) → BeginsWith (codes "WRITE ") command → ¬ BeginsWith (codes "CREATE FB ") command
-write_no_block command p q = differ_at 0 (codes "WRITE ") (codes "CREATE FB ") command 87 67 (λ rest. refl) (λ rest. refl) (λ e. omega (arith, e)) p q
-
-link_no_block : (command : List ℕ) → BeginsWith (codes "CREATE CONNECTION ") command → ¬ BeginsWith (codes "CREATE FB ") command
-link_no_block command p q = differ_at 7 (codes "CREATE CONNECTION ") (codes "CREATE FB ") command 67 70 (λ rest. refl) (λ rest. refl) (λ e. omega (arith, e)) p q
-
-start_no_block : (command : List ℕ) → BeginsWith (codes "START ") command → ¬ BeginsWith (codes "CREATE FB ") command
-start_no_block command p q = differ_at 0 (codes "START ") (codes "CREATE FB ") command 83 67 (λ rest. refl) (λ rest. refl) (λ e. omega (arith, e)) p q
-
-link_no_write : (command : List ℕ) → BeginsWith (codes "CREATE CONNECTION ") command → ¬ BeginsWith (codes "WRITE ") command
-link_no_write command p q = differ_at 0 (codes "CREATE CONNECTION ") (codes "WRITE ") command 67 87 (λ rest. refl) (λ rest. refl) (λ e. omega (arith, e)) p q
-
-start_no_write : (command : List ℕ) → BeginsWith (codes "START ") command → ¬ BeginsWith (codes "WRITE ") command
-start_no_write command p q = differ_at 0 (codes "START ") (codes "WRITE ") command 83 87 (λ rest. refl) (λ rest. refl) (λ e. omega (arith, e)) p q
-
-start_no_link : (command : List ℕ) → BeginsWith (codes "START ") command → ¬ BeginsWith (codes "CREATE CONNECTION ") command
-start_no_link command p q = differ_at 0 (codes "START ") (codes "CREATE CONNECTION ") command 83 67 (λ rest. refl) (λ rest. refl) (λ e. omega (arith, e)) p q
+none_of : (start other : List ℕ) (commands : List (List ℕ)) → differ other start ≡ true → AllBegin other commands → NoneBegins start commands
+none_of start other commands d all command c p = let q = all command c in apart other start q.0 p.0 d (sym q.1 ∙ p.1)
 
 -- ---- the four parts
 
@@ -172,16 +137,12 @@ once_kept r (n ∷ ns) c once = by (bytes_eq r n) refl (λ d. once_kept r ns d l
     later : StandsOnce ns r
     later before after e = let o = once (n ∷ before) after (ap (λ (l : List (List ℕ)). n ∷ l) e) in ((λ d. o.0 (contains_later n before r d)), o.1)
 
-    by_case : bytes_eq r n ≡ false → (n ≡ r) ⊎ Contains ns r → Contains ns r
-    by_case e (inl same) = absurd (let yes = bytes_same r n (sym same) in cc)
-    by_case e (inr d) = d
-
     by : (t : Bool) → bytes_eq r n ≡ t → (Contains ns r → filter (λ (n : List ℕ). bytes_eq r n) ns ≡ r ∷ []) → cond t (n ∷ filter (λ (n : List ℕ). bytes_eq r n) ns) (filter (λ (n : List ℕ). bytes_eq r n) ns) ≡ r ∷ []
     by true e more =
         let same = same_bytes r n e in
         let o = once [] ns (ap (λ (w : List ℕ). w ∷ ns) (sym same)) in
         (λ i. sym same i ∷ none_kept r ns o.1 i)
-    by false e more = more (by_case e (contains_cases n ns r c))
+    by false e more = more (elim (contains_cases n ns r c) [ inl same ↦ absurd (let yes = bytes_same r n (sym same) in cc) | inr d ↦ d ])
 
 -- ---- the laws
 
@@ -200,6 +161,9 @@ module _ (sources : Sources) (system : List ℕ) (flat : PlainFlat) (cuts : List
       let orders = orders_of sources system (applications_in (tree_at sources system)) (names_in sources system) flat (homes_in sources system flat) in
       let o = origin_in_map (resource_plan orders) (names_in sources system) entry (subst (λ (l : List PlainResource). Contains l entry) it.resources_are c) in
       record { name = o.origin; listed = o.among; is = o.gives }
+
+  of_entry : (P : PlainResource → Type 0) → ((r : List ℕ) → Contains (names_in sources system) r → P (record { name = r; commands = commands sources system flat r })) → (entry : PlainResource) → Contains resources entry → P entry
+  of_entry P each entry c = let e = entry_of entry c in subst P e.is (each e.name e.listed)
 
   -- blocks
 
@@ -250,13 +214,10 @@ module _ (sources : Sources) (system : List ℕ) (flat : PlainFlat) (cuts : List
         no_others =
             of_either (b ++ c) d
             (of_either b c
-            (none_of (codes "CREATE FB ") (codes "WRITE ") b write_no_block (all_set sources system flat r))
-            (none_of (codes "CREATE FB ") (codes "CREATE CONNECTION ") c link_no_block (all_joined sources system flat r)))
-            (none_of (codes "CREATE FB ") (codes "START ") d start_no_block (all_started sources system flat r));
+            (none_of (codes "CREATE FB ") (codes "WRITE ") b refl (all_set sources system flat r))
+            (none_of (codes "CREATE FB ") (codes "CREATE CONNECTION ") c refl (all_joined sources system flat r)))
+            (none_of (codes "CREATE FB ") (codes "START ") d refl (all_started sources system flat r));
       }
-
-  pub made : (entry : PlainResource) → Contains resources entry → MakesItsBlocks sources system flat entry
-  made entry c = let e = entry_of entry c in subst (λ (w : PlainResource). MakesItsBlocks sources system flat w) e.is (made_at e.name)
 
   -- parameters
 
@@ -339,15 +300,12 @@ module _ (sources : Sources) (system : List ℕ) (flat : PlainFlat) (cuts : List
         commands = parts sources system flat r ∙ append_assoc (a ++ b) c d;
         members = λ line. (set_to r line, set_from r line);
         in_order = IsStrictlySortedBy-filter line_cmp (λ (l : Line). bytes_eq r l.resource) (write_lines sources system applications (homes_in sources system flat)) (in_order-sorted line_cmp line_cmp_total (flat_map (home_lines sources system applications) (homes_in sources system flat)));
-        none_before = none_of (codes "WRITE ") (codes "CREATE FB ") a (turned (codes "WRITE ") (codes "CREATE FB ") write_no_block) (all_made sources system flat r);
+        none_before = none_of (codes "WRITE ") (codes "CREATE FB ") a refl (all_made sources system flat r);
         none_behind =
             of_either c d
-            (none_of (codes "WRITE ") (codes "CREATE CONNECTION ") c link_no_write (all_joined sources system flat r))
-            (none_of (codes "WRITE ") (codes "START ") d start_no_write (all_started sources system flat r));
+            (none_of (codes "WRITE ") (codes "CREATE CONNECTION ") c refl (all_joined sources system flat r))
+            (none_of (codes "WRITE ") (codes "START ") d refl (all_started sources system flat r));
       }
-
-  pub set : (entry : PlainResource) → Contains resources entry → SetsItsParameters sources system flat entry
-  set entry c = let e = entry_of entry c in subst (λ (w : PlainResource). SetsItsParameters sources system flat w) e.is (set_at e.name)
 
   -- links
 
@@ -376,13 +334,10 @@ module _ (sources : Sources) (system : List ℕ) (flat : PlainFlat) (cuts : List
         in_order = IsStrictlySortedBy-filter link_cmp (λ (l : Link). is_resource r (link_resource (homes sources system flat) l)) flat.links (links_sorted sources system flat p.is_flat);
         none_before =
             of_either a b
-            (none_of (codes "CREATE CONNECTION ") (codes "CREATE FB ") a (turned (codes "CREATE CONNECTION ") (codes "CREATE FB ") link_no_block) (all_made sources system flat r))
-            (none_of (codes "CREATE CONNECTION ") (codes "WRITE ") b (turned (codes "CREATE CONNECTION ") (codes "WRITE ") link_no_write) (all_set sources system flat r));
-        none_behind = none_of (codes "CREATE CONNECTION ") (codes "START ") d start_no_link (all_started sources system flat r);
+            (none_of (codes "CREATE CONNECTION ") (codes "CREATE FB ") a refl (all_made sources system flat r))
+            (none_of (codes "CREATE CONNECTION ") (codes "WRITE ") b refl (all_set sources system flat r));
+        none_behind = none_of (codes "CREATE CONNECTION ") (codes "START ") d refl (all_started sources system flat r);
       }
-
-  pub joined : (entry : PlainResource) → Contains resources entry → MakesItsLinks sources system flat entry
-  joined entry c = let e = entry_of entry c in subst (λ (w : PlainResource). MakesItsLinks sources system flat w) e.is (joined_at e.name)
 
   -- names and order
 
@@ -410,20 +365,17 @@ module _ (sources : Sources) (system : List ℕ) (flat : PlainFlat) (cuts : List
     one_start = λ once. ap (map start_text) (once_kept r (names_in sources system) c (subst (λ (l : List (List ℕ)). StandsOnce l r) names_are once));
   }
 
-  pub ordered : (entry : PlainResource) → Contains resources entry → IsInOrder (map (λ (r : PlainResource). r.name) resources) entry
-  ordered entry c = let e = entry_of entry c in subst (λ (w : PlainResource). IsInOrder (map (λ (r : PlainResource). r.name) resources) w) e.is (ordered_at e.name e.listed)
-
 pub blocks_made : BlocksAreMadeAtHome
-blocks_made sources system flat cuts resources p entry c = made sources system flat cuts resources p entry c
+blocks_made sources system flat cuts resources p = of_entry sources system flat cuts resources p (MakesItsBlocks sources system flat) (λ r c. made_at sources system flat cuts resources p r)
 
 pub parameters_set : ParametersAreSetAtHome
-parameters_set sources system flat cuts resources p entry c = set sources system flat cuts resources p entry c
+parameters_set sources system flat cuts resources p = of_entry sources system flat cuts resources p (SetsItsParameters sources system flat) (λ r c. set_at sources system flat cuts resources p r)
 
 pub links_made : LinksAreMadeAtHome
-links_made sources system flat cuts resources p entry c = joined sources system flat cuts resources p entry c
+links_made sources system flat cuts resources p = of_entry sources system flat cuts resources p (MakesItsLinks sources system flat) (λ r c. joined_at sources system flat cuts resources p r)
 
 pub in_order_of : CommandsAreInOrder
-in_order_of sources system flat cuts resources p entry c = ordered sources system flat cuts resources p entry c
+in_order_of sources system flat cuts resources p = of_entry sources system flat cuts resources p (IsInOrder (map (λ (r : PlainResource). r.name) resources)) (ordered_at sources system flat cuts resources p)
 
 pub resources_have : ResourcesHaveTheirCommands
 resources_have sources system flat cuts resources p s e = names_are sources system flat cuts resources p ∙ ap (λ (o : Option DeclTree). resources_of (devices_in o)) e

@@ -3,65 +3,19 @@ use Rattle.std.proofs.Common.{◌≡◌, ◌≢◌, ℕ, Bool, true, false, not,
 use Rattle.std.specs.Cmp.Lexicographic.{bytes_decides, same_text}
 use Rattle.std.specs.List.{Contains}
 use Rattle.std.proofs.lemmas.List.Elements.{Contains-append_right}
-use Rattle.fb_text.proofs.Tests.{not_true}
-use Rattle.fb_text.specs.declared.token.Span.{Span}
-use Rattle.fb_tree.specs.Tree.{NetworkTree}
-use Rattle.fb_tree.specs.declared.interface.TypeForm.{TypeForm}
+use Rattle.std.proofs.lemmas.Bool.{false_from_ne_true, and_from, and_parts, or_from, or_parts}
+use Rattle.fb_laws.proofs.RuleLemmas.{judged, not_free}
+use Rattle.fb_laws.proofs.Common.{not_true, Span, NetworkTree, TypeForm, TypeUse, UnitKind, Connection, Sources, class_of_type, is_free, first_ones, is_same, instances_in, Class, Free, DataType, PassThrough, Fault, contains_flat_map, contains_nothing, origin_in_flat_map, same_exact, same_itself, Own, Source, Destination, Target, connection_faults, is_right, target, net_faults_of, NetworkPlace, connection_span, fault_of, is_own_port, pass_through_faults, flows_agree, joined_types, same_at_ends, targets_agree, IsNetworkOf, NamesRight, Site, DifferInType, IsSameType, of_names, of_sizes, of_arrays, HasOtherType, HasPassThrough, NothingPassesThrough, TypesAgree, data_types, adapter_types}
 use Rattle.fb_tree.specs.declared.interface.TypeForm.TheVariants as forms
-use Rattle.fb_tree.specs.declared.interface.TypeUse.{TypeUse}
-use Rattle.fb_tree.specs.declared.kinds.UnitKind.{UnitKind}
 use Rattle.fb_tree.specs.declared.kinds.UnitKind.TheVariants as kinds
-use Rattle.fb_tree.specs.declared.network.Connection.{Connection}
-use Rattle.fb_deploy.specs.Library.View.{Sources}
-use Rattle.fb_deploy.specs.Iface.Class.{class_of_type, is_free}
-use Rattle.fb_deploy.specs.Iface.Names.{first_ones, is_same}
-use Rattle.fb_deploy.specs.Iface.Ports.{instances_in}
-use Rattle.fb_deploy.specs.Iface.declared.classes.Class.{Class}
-use Rattle.fb_deploy.specs.Iface.declared.classes.Class.TheVariants.{Free}
-use Rattle.fb_deploy.specs.Iface.declared.code.Code.TheVariants.{DataType, PassThrough}
-use Rattle.fb_deploy.specs.Iface.declared.fault.Fault.{Fault}
-use Rattle.fb_text.proofs.Members.{contains_flat_map, contains_nothing, origin_in_flat_map}
-use Rattle.fb_deploy.proofs.Iface.NameLemmas.{same_exact, same_itself}
 use Rattle.fb_netcheck.specs.declared.ends.Flow.{Flow}
 use Rattle.fb_netcheck.specs.declared.ends.Flow.TheVariants as flows
-use Rattle.fb_netcheck.specs.declared.ends.Holder.TheVariants.{Own}
-use Rattle.fb_netcheck.specs.declared.ends.Position.TheVariants.{Source, Destination}
-use Rattle.fb_netcheck.specs.declared.ends.Target.{Target}
-use Rattle.fb_netcheck.specs.Connections.{connection_faults}
-use Rattle.fb_netcheck.specs.Ends.{is_right, target}
-use Rattle.fb_netcheck.specs.Networks.{net_faults_of}
-use Rattle.fb_netcheck.specs.Settings.{NetworkPlace}
-use Rattle.fb_netcheck.specs.Sides.{connection_span, fault_of, is_own_port, pass_through_faults}
 use Rattle.fb_netcheck.specs.Spellings.{same_by_form, same_type, same_words, words_at}
-use Rattle.fb_netcheck.specs.Types.{flows_agree, joined_types, same_at_ends, targets_agree}
-use Rattle.fb_laws.specs.Ends.{IsNetworkOf, NamesRight, Site}
-use Rattle.fb_laws.specs.Networks.{DifferInType, IsSameType, of_names, of_sizes, of_arrays, HasOtherType, HasPassThrough, NothingPassesThrough, TypesAgree, data_types, adapter_types}
-use Rattle.fb_laws.proofs.NetworkEnds.{and_left, and_right, both_true, end_target, known_end, known_own, told_end, told_home, told_own}
-use Rattle.fb_laws.proofs.Joined.{in_where, is_false, where_passes}
+use Rattle.fb_laws.proofs.NetworkEnds.{end_target, known_end, known_own, told_end, told_home, told_own}
+use Rattle.fb_laws.proofs.Joined.{iff, in_where, where_passes}
 use Rattle.fb_laws.proofs.NetworkLemmas.{at_both, at_destination, at_source, end_place, network_origin, own_instances, place_at, reported}
 
 -- types
-
-or_left : (a b : Bool) → (a || b) ≡ false → a ≡ false
-or_left true b e = absurd (true≢false e)
-or_left false b e = refl
-
-or_right : (a b : Bool) → (a || b) ≡ false → b ≡ false
-or_right true b e = absurd (true≢false e)
-or_right false b e = e
-
-neither : (a b : Bool) → a ≡ false → b ≡ false → (a || b) ≡ false
-neither a b p q = λ i. p i || q i
-
-not_free : (c : Class) → is_free c ≡ false → c ≢ Free
-not_free c e free = true≢false (sym (ap is_free free) ∙ e)
-
-free_is : (c : Class) → is_free c ≡ true → c ≡ Free
-free_is Free e = refl
-free_is c e = absurd (true≢false (sym e))
-
-is_not_free : (c : Class) → c ≢ Free → is_free c ≡ false
-is_not_free c other = is_false (is_free c) (λ e. other (free_is c e))
 
 module _ (sources : Sources) (unit other : List ℕ) where
   abbrev same : TypeUse → TypeUse → Bool
@@ -87,18 +41,18 @@ module _ (sources : Sources) (unit other : List ℕ) where
   known_differ : (f g : Flow) → flows_agree same f g ≡ false → DifferInType sources unit other f g
   known_differ (flows.Data a) (flows.Data b) e =
       let free = is_free (class_of_type a) || is_free (class_of_type b) in
-      let neither_free = or_left free (same a b) e in
-      let first = not_free (class_of_type a) (or_left (is_free (class_of_type a)) (is_free (class_of_type b)) neither_free) in
-      let second = not_free (class_of_type b) (or_right (is_free (class_of_type a)) (is_free (class_of_type b)) neither_free) in
-      data_types first second (λ alike. true≢false (sym (told_same a b alike) ∙ or_right free (same a b) e))
+      let neither_free = or_parts (is_free (class_of_type a)) (is_free (class_of_type b)) (or_parts free (same a b) e).0 in
+      let first = not_free (class_of_type a) neither_free.0 in
+      let second = not_free (class_of_type b) neither_free.1 in
+      data_types first second (λ alike. true≢false (sym (told_same a b alike) ∙ (or_parts free (same a b) e).1))
   known_differ (flows.Adapter a) (flows.Adapter b) e = adapter_types (λ alike. true≢false (sym (same_itself a.name b.name alike) ∙ e))
   known_differ f g e = absurd (true≢false e)
 
   told_differ : (f g : Flow) → DifferInType sources unit other f g → flows_agree same f g ≡ false
   told_differ f g (data_types {a = a} {b = b} first second apart) =
-      let neither_free = neither (is_free (class_of_type a)) (is_free (class_of_type b)) (is_not_free (class_of_type a) first) (is_not_free (class_of_type b) second) in
-      neither (is_free (class_of_type a) || is_free (class_of_type b)) (same a b) neither_free (is_false (same a b) (λ e. apart (known_same a b e)))
-  told_differ f g (adapter_types {a = a} {b = b} apart) = is_false (is_same a.name b.name) (λ e. apart (same_exact a.name b.name e))
+      let neither_free = or_from (is_free (class_of_type a)) (is_free (class_of_type b)) (judged (class_of_type a) first) (judged (class_of_type b) second) in
+      or_from (is_free (class_of_type a) || is_free (class_of_type b)) (same a b) neither_free (false_from_ne_true (same a b) (λ e. apart (known_same a b e)))
+  told_differ f g (adapter_types {a = a} {b = b} apart) = false_from_ne_true (is_same a.name b.name) (λ e. apart (same_exact a.name b.name e))
 
 -- the test of the types at both ends
 module _ (sources : Sources) (here : Site) (n : NetworkTree) (own : here.own.instances ≡ first_ones (instances_in n)) (c : Connection) (from : NamesRight sources here c.sort Source c.source) (to : NamesRight sources here c.sort Destination c.destination) where
@@ -142,10 +96,11 @@ module _ (sources : Sources) (unit : List ℕ) (here : Site) (n : NetworkTree) (
   type_found : (f : Fault) → Contains (joined_types sources at c) f → HasOtherType sources unit f.span
   type_found f h =
       let test = in_where (both_right && not agree) (fault_of DataType c.destination) f h in
-      let sides = and_left both_right (not agree) test.0 in
-      let from = known_end sources here n own c.sort Source c.source (and_left (is_right Source source) (is_right Destination destination) sides) in
-      let to = known_end sources here n own c.sort Destination c.destination (and_right (is_right Source source) (is_right Destination destination) sides) in
-      let apart = not_true agree (and_right both_right (not agree) test.0) in
+      let tests = and_parts both_right (not agree) test.0 in
+      let sides = and_parts (is_right Source source) (is_right Destination destination) tests.0 in
+      let from = known_end sources here n own c.sort Source c.source sides.0 in
+      let to = known_end sources here n own c.sort Destination c.destination sides.1 in
+      let apart = not_true agree tests.1 in
       subst (λ (g : Fault). HasOtherType sources unit g.span) test.1
       (record {
         here = here;
@@ -161,8 +116,8 @@ module _ (sources : Sources) (unit : List ℕ) (here : Site) (n : NetworkTree) (
 
   type_reported : (from : NamesRight sources here c.sort Source c.source) (to : NamesRight sources here c.sort Destination c.destination) → DifferInType sources from.unit to.unit from.port.flow to.port.flow → Contains (joined_types sources at c) (fault_of DataType c.destination)
   type_reported from to differ =
-      let sides = both_true (is_right Source source) (is_right Destination destination) (told_end sources here n own c.sort Source c.source from) (told_end sources here n own c.sort Destination c.destination to) in
-      where_passes (both_right && not agree) (fault_of DataType c.destination) (both_true both_right (not agree) sides (ap not (differ_found from to differ)))
+      let sides = and_from (is_right Source source) (is_right Destination destination) (told_end sources here n own c.sort Source c.source from) (told_end sources here n own c.sort Destination c.destination to) in
+      where_passes (both_right && not agree) (fault_of DataType c.destination) (and_from both_right (not agree) sides (ap not (differ_found from to differ)))
 
   abbrev own_source : Bool
   own_source = is_own_port Source source
@@ -176,8 +131,8 @@ module _ (sources : Sources) (unit : List ℕ) (here : Site) (n : NetworkTree) (
       by : (kind : UnitKind) → here.kind ≡ kind → Contains (pass_through_faults kind c source destination) f → HasPassThrough sources unit f.span
       by kinds.Subapplication k h =
           let test = in_where (own_source && own_destination) (fault_through c) f h in
-          let from = known_own sources here n own c.sort Source c.source (and_left own_source own_destination test.0) in
-          let to = known_own sources here n own c.sort Destination c.destination (and_right own_source own_destination test.0) in
+          let from = known_own sources here n own c.sort Source c.source (and_parts own_source own_destination test.0).0 in
+          let to = known_own sources here n own c.sort Destination c.destination (and_parts own_source own_destination test.0).1 in
           subst (λ (g : Fault). HasPassThrough sources unit g.span) test.1
           (record {
             here = here;
@@ -197,39 +152,23 @@ module _ (sources : Sources) (unit : List ℕ) (here : Site) (n : NetworkTree) (
 
   pass_reported : (from : NamesRight sources here c.sort Source c.source) (to : NamesRight sources here c.sort Destination c.destination) → here.kind ≡ kinds.Subapplication → from.holder ≡ Own → to.holder ≡ Own → Contains (connection_faults at c) (fault_through c)
   pass_reported from to kind from_own to_own =
-      let both = both_true own_source own_destination (told_own sources here n own c.sort Source c.source from from_own) (told_own sources here n own c.sort Destination c.destination to to_own) in
+      let both = and_from own_source own_destination (told_own sources here n own c.sort Source c.source from from_own) (told_own sources here n own c.sort Destination c.destination to to_own) in
       let one : Contains (pass_through_faults kinds.Subapplication c source destination) (fault_through c) = where_passes (own_source && own_destination) (fault_through c) both in
       Contains-append_right (at_source sources at n c ++ at_destination sources at n c) (at_both sources at n c) (fault_through c)
       (subst (λ (k : UnitKind). Contains (pass_through_faults k c source destination) (fault_through c)) (sym kind) one)
 
 pub of_one_type : TypesAgree
-of_one_type sources unit span = (to, from)
-  where
-    to : Contains (net_faults_of sources unit) (record { code = DataType; span = span }) → HasOtherType sources unit span
-    to h =
-        let o = network_origin sources unit _ h in
-        let c = origin_in_flat_map (joined_types sources (place_at sources o.here o.network)) o.network.connections _ o.has in
-        type_found sources unit o.here o.network o.stands c.origin c.among _ c.has
-
-    from : HasOtherType sources unit span → Contains (net_faults_of sources unit) (record { code = DataType; span = span })
-    from h =
-        let one = type_reported sources unit h.here h.network h.stands h.connection h.listed h.from h.to h.differ in
-        reported sources unit h.here h.network h.stands 1 _ refl (h.place ∙ sym (end_place h.connection.destination))
-        (contains_flat_map (joined_types sources (place_at sources h.here h.network)) h.network.connections h.connection (fault_of DataType h.connection.destination) h.listed one)
+of_one_type sources unit span =
+    iff (λ h. let o = network_origin sources unit _ h in let c = origin_in_flat_map (joined_types sources (place_at sources o.here o.network)) o.network.connections _ o.has in type_found sources unit o.here o.network o.stands c.origin c.among _ c.has)
+    (λ h. let one = type_reported sources unit h.here h.network h.stands h.connection h.listed h.from h.to h.differ in
+    reported sources unit h.here h.network h.stands 1 _ refl (h.place ∙ sym (end_place h.connection.destination))
+    (contains_flat_map (joined_types sources (place_at sources h.here h.network)) h.network.connections h.connection (fault_of DataType h.connection.destination) h.listed one))
 
 pub passes_nothing : NothingPassesThrough
-passes_nothing sources unit span = (to, from)
-  where
-    to : Contains (net_faults_of sources unit) (record { code = PassThrough; span = span }) → HasPassThrough sources unit span
-    to h =
-        let o = network_origin sources unit _ h in
-        let c = origin_in_flat_map (at_both sources (place_at sources o.here o.network) o.network) o.network.connections _ o.has in
-        pass_found sources unit o.here o.network o.stands c.origin c.among _ c.has
-
-    from : HasPassThrough sources unit span → Contains (net_faults_of sources unit) (record { code = PassThrough; span = span })
-    from h =
-        let starts = h.starts ∙ sym (ap (λ (s : Span). s.start) (end_place h.connection.source)) in
-        let ends = h.ends ∙ sym (ap (λ (s : Span). s.end) (end_place h.connection.destination)) in
-        let one = pass_reported sources unit h.here h.network h.stands h.connection h.listed h.from h.to h.in_subapplication h.own_source h.own_destination in
-        reported sources unit h.here h.network h.stands 0 _ refl (λ i. record { start = starts i; end = ends i })
-        (contains_flat_map (connection_faults (place_at sources h.here h.network)) h.network.connections h.connection (fault_through h.connection) h.listed one)
+passes_nothing sources unit span =
+    iff (λ h. let o = network_origin sources unit _ h in let c = origin_in_flat_map (at_both sources (place_at sources o.here o.network) o.network) o.network.connections _ o.has in pass_found sources unit o.here o.network o.stands c.origin c.among _ c.has)
+    (λ h. let starts = h.starts ∙ sym (ap (λ (s : Span). s.start) (end_place h.connection.source)) in
+    let ends = h.ends ∙ sym (ap (λ (s : Span). s.end) (end_place h.connection.destination)) in
+    let one = pass_reported sources unit h.here h.network h.stands h.connection h.listed h.from h.to h.in_subapplication h.own_source h.own_destination in
+    reported sources unit h.here h.network h.stands 0 _ refl (λ i. record { start = starts i; end = ends i })
+    (contains_flat_map (connection_faults (place_at sources h.here h.network)) h.network.connections h.connection (fault_through h.connection) h.listed one))

@@ -3,17 +3,8 @@ use Rattle.std.proofs.Common.{◌≡◌, ℕ, inl, inr, List, [], ◌∷◌, map
 use Rattle.std.specs.Prelude.{option_map}
 use Rattle.std.proofs.lemmas.List.{map-append}
 use Rattle.std.proofs.lemmas.List.Elements.{All-contains}
-use Rattle.fb_structured_text.specs.Forms.Form.{Form, one, both, either, option, many, as_value, Spells, SpellsOption, SpellsEach}
-use Rattle.fb_structured_text.specs.Forms.Words.{key, cons, separated, list, name}
-use Rattle.fb_structured_text.specs.Forms.declared.kind.Kind.{Kind}
-use Rattle.fb_structured_text.specs.Forms.declared.lexeme.Lexeme.{Lexeme}
-use Rattle.fb_sections.specs.Constants.{number_with, number, other_literal_kinds, simple, in_brackets, constant_list, constant}
+use Rattle.fb_laws.proofs.Common.{Form, one, both, either, option, many, as_value, Spells, SpellsOption, SpellsEach, key, cons, separated, list, name, Kind, Lexeme, number_with, number, other_literal_kinds, simple, in_brackets, constant_list, constant, NameUse, constant_part, tree_parts, constant_span, nearer, nearer_span, nearer_simple, nearer_constant, ReadsAlone, ConstantsReadAlone}
 use Rattle.fb_tree.specs.declared.constant.Literal.{Literal}
-use Rattle.fb_text.specs.declared.name.NameUse.{NameUse}
-use Rattle.fb_laws.specs.SpanParts.{constant_part, tree_parts}
-use Rattle.fb_tree.specs.Tree.{constant_span}
-use Rattle.fb_laws.specs.Alone.{nearer, nearer_span, nearer_simple, nearer_constant, ReadsAlone}
-use Rattle.fb_laws.specs.Spans.{ConstantsReadAlone}
 use Rattle.fb_laws.proofs.Alone.{parts_read_alone}
 
 module _ (bytes : ℕ) where

@@ -3,20 +3,12 @@ use Rattle.std.proofs.Common.{ℕ, ◌≡◌, ◌≢◌, Bool, true, false, not,
 use Rattle.std.specs.Prelude.{Contains}
 use Rattle.std.specs.List.Sorted.{IsStrictlySortedBy}
 use Rattle.std.specs.Str.{bytes_eq}
-use Rattle.std.proofs.lemmas.Bool.{false≢true}
+use Rattle.std.proofs.lemmas.Bool.{false≢true, false_from_ne_true}
 use Rattle.std.proofs.lemmas.List.Kept.{IsStrictlySortedBy-filter}
-use Rattle.fb_text.proofs.Members.{contains_filter, passes_in_filter}
-use Rattle.fb_deploy.specs.Library.View.{Sources}
-use Rattle.fb_wiring.specs.Network.LinkOrder.{link_cmp}
-use Rattle.fb_wiring.specs.Network.declared.flat.Link.{Link}
-use Rattle.fb_wiring.specs.Network.PlainFlat.{PlainFlat}
-use Rattle.fb_placing.specs.Cuts.{home_at, is_cut, same_home}
-use Rattle.fb_placing.specs.PlainResource.{PlainResource}
+use Rattle.fb_laws.proofs.Common.{contains_filter, passes_in_filter, Sources, link_cmp, Link, PlainFlat, home_at, is_cut, same_home, PlainResource, IsPlanned, CutsJoinResources, JoinsResources}
 use Rattle.fb_laws.proofs.HomeLemmas.{bytes_same, same_bytes, some_home}
 use Rattle.fb_laws.proofs.PlannedLemmas.{Known, home_there, homes_in, known, links_sorted, mapped, stands}
 use Rattle.fb_laws.proofs.PlanEnds.{net_fronts}
-use Rattle.fb_laws.specs.Planned.{IsPlanned}
-use Rattle.fb_laws.specs.Plans.{CutsJoinResources, JoinsResources}
 
 module _ (sources : Sources) (system : List ℕ) (flat : PlainFlat) (cuts : List Link) (resources : List PlainResource) (p : IsPlanned sources system flat cuts resources) where
   abbrev it : Known sources system flat cuts resources
@@ -41,18 +33,11 @@ module _ (sources : Sources) (system : List ℕ) (flat : PlainFlat) (cuts : List
         },
       )
 
-  other_bytes : (a b : List ℕ) → a ≢ b → bytes_eq a b ≡ false
-  other_bytes a b differ = by (bytes_eq a b) refl
-    where
-      by : (t : Bool) → bytes_eq a b ≡ t → t ≡ false
-      by true e = absurd (differ (same_bytes a b e))
-      by false e = refl
-
   pub cuts_two : (link : Link) → Contains flat.links link × JoinsResources sources system flat link → Contains cuts link
   cuts_two link (c, j) =
       let from = home_there sources system flat it.homes link.from j.from_home j.from in
       let to = home_there sources system flat it.homes link.to j.to_home j.to in
-      let cut : is_cut homes link ≡ true = (λ i. not (same_home (from i) (to i))) ∙ ap not (other_bytes j.from_home j.to_home j.differ) in
+      let cut : is_cut homes link ≡ true = (λ i. not (same_home (from i) (to i))) ∙ ap not (false_from_ne_true (bytes_eq j.from_home j.to_home) (λ e. j.differ (same_bytes j.from_home j.to_home e))) in
       subst (λ (l : List Link). Contains l link) (sym it.cuts_are) (contains_filter (is_cut homes) flat.links link c cut)
 
   pub cuts_sorted : IsStrictlySortedBy link_cmp cuts

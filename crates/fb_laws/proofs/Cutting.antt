@@ -4,16 +4,9 @@ use Rattle.std.specs.Prelude.{slice_range}
 use Rattle.std.proofs.Math.Seq.{drop-append-add}
 use Rattle.std.specs.Str.{continuation_len}
 use Rattle.std.proofs.lemmas.List.{drop-append-le, drop-drop, nil_from_length, take-append-le}
-use Rattle.fb_text.specs.Bytes.{is_blank, first, is_word_start}
-use Rattle.fb_text.specs.Forms.{form_of, is_number, is_typed, is_string, is_symbol}
-use Rattle.fb_text.specs.Words.{is_word}
+use Rattle.fb_laws.proofs.Common.{is_blank, first, is_word_start, form_of, is_number, is_typed, is_string, is_symbol, is_word, IsLongest, char_len, tokens_of, with_token, Span, Token, TokenKind, Other}
 use Rattle.fb_text.specs.Reads.{AtBlank, AtComment, AtEnd, AtLineComment, AtOpenComment, AtOther, AtToken, BeginsToken, EndsLine, HasNoForm, IsFirstClose, Reads, token_of}
-use Rattle.fb_text.specs.Tokens.{IsLongest, char_len, tokens_of, with_token}
 use Rattle.fb_text.proofs.Relation.{reads-one, reads-tokens}
-use Rattle.fb_text.specs.declared.token.Span.{Span}
-use Rattle.fb_text.specs.declared.token.Token.{Token}
-use Rattle.fb_text.specs.declared.token.TokenKind.{TokenKind}
-use Rattle.fb_text.specs.declared.token.TokenKind.TheVariants.{Other}
 
 -- Tokens one behind the other
 

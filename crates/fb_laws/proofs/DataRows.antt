@@ -1,21 +1,11 @@
 -- The data inputs and outputs of a type.
 use Rattle.std.proofs.Common.{◌≡◌, ◌≢◌, ◌↔◌, ℕ, ◌<◌, Bool, true, List, Some, refl, sym, ap, ◌∙◌, subst, true≢false}
 use Rattle.std.specs.List.{slice_get}
-use Rattle.fb_text.specs.declared.name.NameUse.{NameUse}
-use Rattle.fb_tree.specs.Tree.{InterfaceTree, VariablesTree}
-use Rattle.fb_tree.specs.declared.interface.Section.{Section}
+use Rattle.fb_laws.proofs.Common.{NameUse, InterfaceTree, VariablesTree, Section, Side, TypeUse, DeclaredVariable, first_ones, stands_for, variables_in, variables_together, is_data_on, Cell, IsBefore, IsDataOn, IsFirstVariable, IsVariableIn, data_input, data_output, of_adapter, of_block, of_subapplication, AreExactly, ComeAsDeclared, DataAreDeclared, HaveOwnNames, got_in_map, map_gets}
 use Rattle.fb_tree.specs.declared.interface.Section.TheVariants as sections
-use Rattle.fb_tree.specs.declared.interface.Side.{Side}
 use Rattle.fb_tree.specs.declared.interface.Side.TheVariants as sides
-use Rattle.fb_tree.specs.declared.interface.TypeUse.{TypeUse}
-use Rattle.fb_deploy.specs.Iface.declared.ports.DeclaredVariable.{DeclaredVariable}
-use Rattle.fb_deploy.specs.Iface.Names.{first_ones, stands_for}
-use Rattle.fb_deploy.specs.Iface.Ports.{variables_in, variables_together}
-use Rattle.fb_deploy.specs.Iface.Sides.{is_data_on}
-use Rattle.fb_laws.specs.Declared.{Cell, IsBefore, IsDataOn, IsFirstVariable, IsVariableIn, StandsAt, data_input, data_output, of_adapter, of_block, of_subapplication}
-use Rattle.fb_laws.specs.Ports.{AreExactly, ComeAsDeclared, DataAreDeclared, HaveOwnNames}
+use Rattle.fb_laws.specs.Declared.{StandsAt}
 use Rattle.fb_laws.proofs.FirstLemmas.{IsFirst, IsPort, NoneBefore, among_ports, first_stands, in_turn, is_port, once, ports, stands_first}
-use Rattle.fb_text.proofs.Members.{got_in_map, map_gets}
 use Rattle.fb_laws.proofs.RowLemmas.{IsAt, at_number, before_by_numbers, in_rows, number_of, numbers_in_turn}
 
 abbrev meaning_of : VariablesTree → DeclaredVariable

@@ -2,46 +2,18 @@
 use Rattle.std.proofs.Common.{◌≡◌, ◌≢◌, ℕ, ◌+◌, Bool, true, false, not, ◌&&◌, List, [], ◌∷◌, take, Option, Some, None, refl, sym, ap, ◌∙◌, subst, true≢false, arith}
 use Rattle.std.specs.List.{Contains, enumerate_from, filter, slice_get}
 use Rattle.std.specs.Option.{option_map_or}
-use Rattle.fb_text.proofs.Tests.{not_true}
-use Rattle.fb_text.specs.declared.token.Span.{Span}
-use Rattle.fb_text.specs.declared.name.NameUse.{NameUse}
-use Rattle.fb_tree.specs.Mentions.{unit_kind_of}
-use Rattle.fb_tree.specs.Tree.{ConstantTree, DeclTree, InstanceTree, TypeTree, VariablesTree, block_type, adapter_type, subapplication_type, system_configuration, structure_type, one_value, value_list, value_span}
+use Rattle.std.proofs.lemmas.Bool.{false_from_ne_true}
+use Rattle.fb_laws.proofs.Common.{not_true, Span, NameUse, unit_kind_of, ConstantTree, DeclTree, InstanceTree, TypeTree, VariablesTree, block_type, adapter_type, subapplication_type, system_configuration, structure_type, one_value, value_list, value_span, Side, TypeForm, TypeUse, UnitKind, Role, Carries, carried_of, Sources, tree_at, type_in, Code, Duplicate, Literal, MixedKind, NameDiffers, StructRecursive, UnknownType, WithUnknown, WrongKind, Fault, DeclaredVariable, class_of_name, class_of_simple, class_of_type, is_free, takes, declaration_faults, declared_name, duplicate_faults, iface_faults_of, literal_faults_of, mixed_faults, name_faults, space_duplicates, variables_of, with_faults_of, fault_at, constant_faults, fits_alone, initial_faults, list_faults, literal_fault, has_name, is_same, stands_for, variables_in, DuplicatesAreReported, HasDuplicate, HasMixedKind, HasOtherName, HasSelfCarrying, HasUnknownType, HasUnknownWith, HasWrongKind, IsDeclaredAt, IsMisfit, MisfitsAreReported, MixedKindsAreReported, OtherNamesAreReported, RecursiveStructuresAreReported, UnknownTypesAreReported, Suits, UnknownWithsAreReported, WrongKindsAreReported, no_array, no_list, AreDeclaredIn, IsType, fields_of_structure, of_adapter, of_block, of_subapplication, variables_of_type, goes_with, spaces_of, instance_faults, instances_of, suits, type_fault, type_faults, contains_filter, contains_flat_map, contains_here, contains_map, contains_nothing, contains_single, origin_in_flat_map, origin_in_map, in_unless, in_written, passes_in_filter, unless, written, IsEarlier, earlier_name, in_places, same_exact, same_itself, carried_is_all, Contains-has, has-Contains}
 use Rattle.fb_tree.specs.declared.constant.Simple.{Simple}
-use Rattle.fb_tree.specs.declared.interface.Side.{Side}
-use Rattle.fb_tree.specs.declared.interface.TypeForm.{TypeForm}
 use Rattle.fb_tree.specs.declared.interface.TypeForm.TheVariants as forms
-use Rattle.fb_tree.specs.declared.interface.TypeUse.{TypeUse}
-use Rattle.fb_tree.specs.declared.kinds.UnitKind.{UnitKind}
 use Rattle.fb_tree.specs.declared.kinds.UnitKind.TheVariants as kinds
-use Rattle.fb_tree.specs.declared.network.Role.{Role}
 use Rattle.fb_tree.specs.declared.network.Role.TheVariants as roles
-use Rattle.fb_deploy.specs.Library.Near.{Carries, carried_of}
-use Rattle.fb_deploy.specs.Library.View.{Sources, tree_at, type_in}
-use Rattle.fb_deploy.specs.Iface.declared.code.Code.{Code}
-use Rattle.fb_deploy.specs.Iface.declared.code.Code.TheVariants.{Duplicate, Literal, MixedKind, NameDiffers, StructRecursive, UnknownType, WithUnknown, WrongKind}
-use Rattle.fb_deploy.specs.Iface.declared.fault.Fault.{Fault}
-use Rattle.fb_deploy.specs.Iface.declared.ports.DeclaredVariable.{DeclaredVariable}
-use Rattle.fb_deploy.specs.Iface.Class.{class_of_name, class_of_simple, class_of_type, is_free, takes}
-use Rattle.fb_deploy.specs.Iface.Declarations.{declaration_faults, declared_name, duplicate_faults, iface_faults_of, literal_faults_of, mixed_faults, name_faults, space_duplicates, variables_of, with_faults_of}
-use Rattle.fb_deploy.specs.Iface.Fault.{fault_at}
-use Rattle.fb_deploy.specs.Iface.Literals.{constant_faults, fits_alone, initial_faults, list_faults, literal_fault}
-use Rattle.fb_deploy.specs.Iface.Names.{has_name, is_repeated, is_same, repeated, stands_for}
-use Rattle.fb_deploy.specs.Iface.Ports.{variables_in}
+use Rattle.fb_deploy.specs.Iface.Names.{is_repeated, repeated}
 use Rattle.fb_deploy.specs.Iface.Recursion.{carries_itself, recursion_faults}
-use Rattle.fb_laws.specs.Declarations.{DuplicatesAreReported, HasDuplicate, HasMisfit, HasMixedKind, HasOtherName, HasSelfCarrying, HasUnknownType, HasUnknownWith, HasWrongKind, IsDeclaredAt, IsMisfit, MisfitsAreReported, MixedKindsAreReported, OtherNamesAreReported, RecursiveStructuresAreReported, UnknownTypesAreReported, Suits, UnknownWithsAreReported, WrongKindsAreReported, alone, element, no_array, no_list}
-use Rattle.fb_laws.specs.Declared.{AreDeclaredIn, IsType, fields_of_structure, of_adapter, of_block, of_subapplication, variables_of_type}
-use Rattle.fb_deploy.specs.Iface.Sides.{goes_with}
-use Rattle.fb_deploy.specs.Iface.Spaces.{spaces_of}
-use Rattle.fb_deploy.specs.Iface.Types.{instance_faults, instances_of, suits, type_fault, type_faults}
+use Rattle.fb_laws.specs.Declarations.{HasMisfit, alone, element}
 use Rattle.fb_deploy.specs.Iface.Withs.{goes_along, event_withs, with_faults}
-use Rattle.fb_text.proofs.Members.{contains_filter, contains_flat_map, contains_here, contains_map, contains_nothing, contains_single, origin_in_flat_map, origin_in_map, in_unless, in_written, passes_in_filter, unless, written}
-use Rattle.fb_deploy.proofs.Iface.EarlierLemmas.{IsEarlier, earlier_name, in_places}
 use Rattle.fb_deploy.proofs.Iface.DuplicateLemmas.{duplicate_reported}
-use Rattle.fb_deploy.proofs.Iface.NameLemmas.{same_exact, same_itself}
-use Rattle.fb_deploy.proofs.Library.CarriedLemmas.{carried_is_all}
-use Rattle.fb_deploy.proofs.Library.SeenLemmas.{Contains-has, has-Contains}
-use Rattle.fb_laws.proofs.Joined.{of_either, in_joined, in_where, is_false, where_passes}
+use Rattle.fb_laws.proofs.Joined.{iff, of_either, in_joined, in_where, where_passes}
 use Rattle.fb_laws.proofs.RuleLemmas.{judged, not_free, not_taken, untaken}
 use Rattle.fb_laws.proofs.SpaceLemmas.{known_space, told_space}
 
@@ -62,7 +34,7 @@ pub not_suited : (role : Role) (kind : UnitKind) → suits role kind ≡ false �
 not_suited role kind e is = true≢false (sym (told_suit role kind is) ∙ e)
 
 unsuited : (role : Role) (kind : UnitKind) → ¬ Suits role kind → suits role kind ≡ false
-unsuited role kind none = is_false (suits role kind) (λ e. none (known_suit role kind e))
+unsuited role kind none = false_from_ne_true (suits role kind) (λ e. none (known_suit role kind e))
 
 -- what is so where a unit has a fault of this code
 abbrev pub Has : Code → Sources → List ℕ → Span → Type 0
@@ -122,9 +94,8 @@ pub misfit_origin : (used : TypeUse) (constant : ConstantTree) (f : Fault) → C
 misfit_origin used (one_value v) f c = by used.form refl (in_unless (fits_alone used.form (class_of_type used) (class_of_simple v)) (literal_fault (value_span v)) f c)
   where
     there : (form : TypeForm) → used.form ≡ form → fits_alone form (class_of_type used) (class_of_simple v) ≡ false → IsMisfit used (one_value v) (value_span v)
-    there forms.Plain e fails = alone (no_array_form used.form (ap is_array e)) (not_taken (class_of_type used) (class_of_simple v) fails)
-    there forms.Sized e fails = alone (no_array_form used.form (ap is_array e)) (not_taken (class_of_type used) (class_of_simple v) fails)
     there forms.Array e fails = no_list e (not_free (class_of_simple v) fails)
+    there o e fails = alone (no_array_form used.form (ap is_array e)) (not_taken (class_of_type used) (class_of_simple v) fails)
 
     by : (form : TypeForm) → used.form ≡ form → (fits_alone used.form (class_of_type used) (class_of_simple v) ≡ false) × (literal_fault (value_span v) ≡ f) → (f.code ≡ Literal) × IsMisfit used (one_value v) f.span
     by form e fails =
@@ -149,20 +120,15 @@ misfit_reported used (one_value v) span (alone other fails) = by used.form other
   where
     by : (form : TypeForm) → form ≢ forms.Array → used.form ≡ form → Contains (constant_faults used (one_value v)) (literal_fault (value_span v))
     by forms.Array not_so e = absurd (not_so refl)
-    by forms.Plain not_so e = unless (fits_alone used.form (class_of_type used) (class_of_simple v)) (literal_fault (value_span v)) (ap (λ k. fits_alone k (class_of_type used) (class_of_simple v)) e ∙ untaken (class_of_type used) (class_of_simple v) fails)
-    by forms.Sized not_so e = unless (fits_alone used.form (class_of_type used) (class_of_simple v)) (literal_fault (value_span v)) (ap (λ k. fits_alone k (class_of_type used) (class_of_simple v)) e ∙ untaken (class_of_type used) (class_of_simple v) fails)
+    by o not_so e = unless (fits_alone used.form (class_of_type used) (class_of_simple v)) (literal_fault (value_span v)) (ap (λ k. fits_alone k (class_of_type used) (class_of_simple v)) e ∙ untaken (class_of_type used) (class_of_simple v) fails)
 misfit_reported used (one_value v) span (no_list e fails) =
     unless (fits_alone used.form (class_of_type used) (class_of_simple v)) (literal_fault (value_span v)) (ap (λ k. fits_alone k (class_of_type used) (class_of_simple v)) e ∙ judged (class_of_simple v) fails)
 misfit_reported used (value_list values s) span (element {v = v} e among fails) =
     let class = class_of_name used.name.name in
     let one = contains_map (λ (v : Simple). literal_fault (value_span v)) (filter (λ v. not (takes class (class_of_simple v))) values) v (contains_filter (λ (v : Simple). not (takes class (class_of_simple v))) values v among (ap not (untaken class (class_of_simple v) fails))) in
     subst (λ (k : TypeForm). Contains (list_faults k used values s) (literal_fault (value_span v))) (sym e) one
-misfit_reported used (value_list values s) span (no_array other fails) = by used.form other
-  where
-    by : (form : TypeForm) → form ≢ forms.Array → Contains (list_faults form used values s) (literal_fault s)
-    by forms.Array not_so = absurd (not_so refl)
-    by forms.Plain not_so = unless (is_free (class_of_type used)) (literal_fault s) (judged (class_of_type used) fails)
-    by forms.Sized not_so = unless (is_free (class_of_type used)) (literal_fault s) (judged (class_of_type used) fails)
+misfit_reported used (value_list values s) span (no_array other fails) =
+    (elim used.form as (λ form. form ≢ forms.Array → Contains (list_faults form used values s) (literal_fault s)) [ forms.Array ↦ λ not_so. absurd (not_so refl) | o ↦ λ not_so. unless (is_free (class_of_type used)) (literal_fault s) (judged (class_of_type used) fails) ]) other
 
 -- what carries itself
 
@@ -197,10 +163,7 @@ module _ (sources : Sources) (unit : List ℕ) where
   recursion_found (structure_type s) declared f c =
       let found = in_where (carries_itself sources unit) (fault_at StructRecursive s.name) f c in
       subst Finds found.1 (record { structure = s; declared = declared; carries = carried_by_itself sources unit found.0; place = refl })
-  recursion_found (block_type d) declared f c = absurd (contains_nothing f c)
-  recursion_found (adapter_type d) declared f c = absurd (contains_nothing f c)
-  recursion_found (subapplication_type d) declared f c = absurd (contains_nothing f c)
-  recursion_found (system_configuration s) declared f c = absurd (contains_nothing f c)
+  recursion_found o declared f c = absurd (contains_nothing f c)
 
   module _ (decl : DeclTree) (declared : IsDeclaredAt sources unit decl) where
     name_found : (f : Fault) → Contains (name_faults unit decl) f → Finds f
@@ -262,35 +225,26 @@ module _ (sources : Sources) (unit : List ℕ) where
 
   -- a fault says what its code means
   pub found : (f : Fault) → Contains (iface_faults_of sources unit) f → Finds f
-  found f c = by (tree_at sources unit) refl c
-    where
-      by : (o : Option DeclTree) → tree_at sources unit ≡ o → Contains (declaration_faults sources unit o) f → Finds f
-      by None e h = absurd (contains_nothing f h)
-      by (Some decl) e h = declared_found decl e f h
+  found f c =
+      (elim (tree_at sources unit) as (λ o. tree_at sources unit ≡ o → Contains (declaration_faults sources unit o) f → Finds f) [ None ↦ λ e h. absurd (contains_nothing f h) | Some decl ↦ λ e h. declared_found decl e f h ]) refl c
 
 pub other_names : OtherNamesAreReported
-other_names sources unit span = (found sources unit _, from)
-  where
-    from : HasOtherName sources unit span → Contains (iface_faults_of sources unit) (record { code = NameDiffers; span = span })
-    from h =
-        let fails = is_false (is_same (declared_name h.decl).name unit) (λ e. h.differs (same_exact (declared_name h.decl).name unit e)) in
-        reported sources unit h.decl h.declared 0 (name_faults unit h.decl) refl h.place (unless (is_same (declared_name h.decl).name unit) (fault_at NameDiffers (declared_name h.decl)) fails)
+other_names sources unit span =
+    iff (found sources unit _)
+    (λ h. let fails = false_from_ne_true (is_same (declared_name h.decl).name unit) (λ e. h.differs (same_exact (declared_name h.decl).name unit e)) in
+    reported sources unit h.decl h.declared 0 (name_faults unit h.decl) refl h.place (unless (is_same (declared_name h.decl).name unit) (fault_at NameDiffers (declared_name h.decl)) fails))
 
 pub duplicates : DuplicatesAreReported
-duplicates sources unit span = (found sources unit _, from)
-  where
-    from : HasDuplicate sources unit span → Contains (iface_faults_of sources unit) (record { code = Duplicate; span = span })
-    from h =
-        let before : IsEarlier h.space h.later h.again.name = record { earlier = h.earlier; before = h.before; first = h.first; first_at = h.first_at; same = h.same } in
-        reported sources unit h.decl h.declared 1 (duplicate_faults h.decl) refl h.place (duplicate_reported h.decl h.space h.later h.again (told_space h.decl h.space h.is_space) h.again_at before)
+duplicates sources unit span =
+    iff (found sources unit _)
+    (λ h. let before : IsEarlier h.space h.later h.again.name = record { earlier = h.earlier; before = h.before; first = h.first; first_at = h.first_at; same = h.same } in
+    reported sources unit h.decl h.declared 1 (duplicate_faults h.decl) refl h.place (duplicate_reported h.decl h.space h.later h.again (told_space h.decl h.space h.is_space) h.again_at before))
 
 pub mixed_kinds : MixedKindsAreReported
-mixed_kinds sources unit span = (found sources unit _, from)
-  where
-    from : HasMixedKind sources unit span → Contains (iface_faults_of sources unit) (record { code = MixedKind; span = span })
-    from h =
-        let both : (h.block.chart.is_written && h.block.network.is_written) ≡ true = λ i. h.has_states i && h.has_network i in
-        reported sources unit (block_type h.block) h.declared 2 (mixed_faults (block_type h.block)) refl h.place (where_passes (h.block.chart.is_written && h.block.network.is_written) (fault_at MixedKind h.block.name) both)
+mixed_kinds sources unit span =
+    iff (found sources unit _)
+    (λ h. let both : (h.block.chart.is_written && h.block.network.is_written) ≡ true = λ i. h.has_states i && h.has_network i in
+    reported sources unit (block_type h.block) h.declared 2 (mixed_faults (block_type h.block)) refl h.place (where_passes (h.block.chart.is_written && h.block.network.is_written) (fault_at MixedKind h.block.name) both))
 
 -- a fault of the type of an instance
 in_types : (sources : Sources) (decl : DeclTree) (i : InstanceTree) (type : Option DeclTree) (f : Fault) → Contains (instances_of decl) i → tree_at sources i.type_name.name ≡ type → Contains (type_fault i.role i.type_name type) f → Contains (type_faults sources decl) f
@@ -299,44 +253,34 @@ in_types sources decl i type f among e c =
     (subst (λ (o : Option DeclTree). Contains (type_fault i.role i.type_name o) f) (sym e) c)
 
 pub unknown_types : UnknownTypesAreReported
-unknown_types sources unit span = (found sources unit _, from)
-  where
-    from : HasUnknownType sources unit span → Contains (iface_faults_of sources unit) (record { code = UnknownType; span = span })
-    from h =
-        reported sources unit h.decl h.declared 3 (type_faults sources h.decl) refl h.place (in_types sources h.decl h.instance None (fault_at UnknownType h.instance.type_name) h.among h.unknown (contains_here (fault_at UnknownType h.instance.type_name) []))
+unknown_types sources unit span =
+    iff (found sources unit _)
+    (λ h. reported sources unit h.decl h.declared 3 (type_faults sources h.decl) refl h.place (in_types sources h.decl h.instance None (fault_at UnknownType h.instance.type_name) h.among h.unknown (contains_here (fault_at UnknownType h.instance.type_name) [])))
 
 pub wrong_kinds : WrongKindsAreReported
-wrong_kinds sources unit span = (found sources unit _, from)
-  where
-    from : HasWrongKind sources unit span → Contains (iface_faults_of sources unit) (record { code = WrongKind; span = span })
-    from h =
-        reported sources unit h.decl h.declared 3 (type_faults sources h.decl) refl h.place (in_types sources h.decl h.instance (Some h.type) (fault_at WrongKind h.instance.type_name) h.among h.known (unless (suits h.instance.role (unit_kind_of h.type)) (fault_at WrongKind h.instance.type_name) (unsuited h.instance.role (unit_kind_of h.type) h.unsuited)))
+wrong_kinds sources unit span =
+    iff (found sources unit _)
+    (λ h. reported sources unit h.decl h.declared 3 (type_faults sources h.decl) refl h.place (in_types sources h.decl h.instance (Some h.type) (fault_at WrongKind h.instance.type_name) h.among h.known (unless (suits h.instance.role (unit_kind_of h.type)) (fault_at WrongKind h.instance.type_name) (unsuited h.instance.role (unit_kind_of h.type) h.unsuited))))
 
 pub unknown_withs : UnknownWithsAreReported
-unknown_withs sources unit span = (found sources unit _, from)
-  where
-    from : HasUnknownWith sources unit span → Contains (iface_faults_of sources unit) (record { code = WithUnknown; span = span })
-    from h =
-        let variable = stands_for (variables_in h.type.interface) in
-        let uncarried = λ (w : NameUse). not (goes_along h.event.side (variable w.name)) in
-        let fails = ap not (uncarried_where h.event.side (variable h.name.name) h.no_data) in
-        let one = contains_map (fault_at WithUnknown) (filter uncarried h.event.with) h.name (contains_filter uncarried h.event.with h.name h.behind fails) in
-        let listed = contains_flat_map (event_withs variable) h.type.interface.events h.event (fault_at WithUnknown h.name) h.among one in
-        reported sources unit h.decl h.declared 4 (with_faults_of h.decl) refl h.place
-        (subst (λ (l : List Fault). Contains l (fault_at WithUnknown h.name)) (sym (withs_by_type h.decl)) (written (λ (d : TypeTree). with_faults d.interface) (type_in h.decl) h.type (fault_at WithUnknown h.name) h.is_type listed))
+unknown_withs sources unit span =
+    iff (found sources unit _)
+    (λ h. let variable = stands_for (variables_in h.type.interface) in
+    let uncarried = λ (w : NameUse). not (goes_along h.event.side (variable w.name)) in
+    let fails = ap not (uncarried_where h.event.side (variable h.name.name) h.no_data) in
+    let one = contains_map (fault_at WithUnknown) (filter uncarried h.event.with) h.name (contains_filter uncarried h.event.with h.name h.behind fails) in
+    let listed = contains_flat_map (event_withs variable) h.type.interface.events h.event (fault_at WithUnknown h.name) h.among one in
+    reported sources unit h.decl h.declared 4 (with_faults_of h.decl) refl h.place
+    (subst (λ (l : List Fault). Contains l (fault_at WithUnknown h.name)) (sym (withs_by_type h.decl)) (written (λ (d : TypeTree). with_faults d.interface) (type_in h.decl) h.type (fault_at WithUnknown h.name) h.is_type listed)))
 
 pub misfits_reported : MisfitsAreReported
-misfits_reported sources unit span = (found sources unit _, from)
-  where
-    from : HasMisfit sources unit span → Contains (iface_faults_of sources unit) (record { code = Literal; span = span })
-    from h =
-        let one = written (constant_faults h.variables.type_use) h.variables.initial h.initial (literal_fault span) h.written (misfit_reported h.variables.type_use h.initial span h.misfit) in
-        let listed = contains_flat_map initial_faults (variables_of h.decl) h.variables (literal_fault span) (among_declared h.decl h.variables h.among) one in
-        reported sources unit h.decl h.declared 5 (literal_faults_of h.decl) refl refl listed
+misfits_reported sources unit span =
+    iff (found sources unit _)
+    (λ h. let one = written (constant_faults h.variables.type_use) h.variables.initial h.initial (literal_fault span) h.written (misfit_reported h.variables.type_use h.initial span h.misfit) in
+    let listed = contains_flat_map initial_faults (variables_of h.decl) h.variables (literal_fault span) (among_declared h.decl h.variables h.among) one in
+    reported sources unit h.decl h.declared 5 (literal_faults_of h.decl) refl refl listed)
 
 pub recursive_structures : RecursiveStructuresAreReported
-recursive_structures sources unit span = (found sources unit _, from)
-  where
-    from : HasSelfCarrying sources unit span → Contains (iface_faults_of sources unit) (record { code = StructRecursive; span = span })
-    from h =
-        reported sources unit (structure_type h.structure) h.declared 6 (recursion_faults sources unit (structure_type h.structure)) refl h.place (where_passes (carries_itself sources unit) (fault_at StructRecursive h.structure.name) (is_found_there sources unit h.carries))
+recursive_structures sources unit span =
+    iff (found sources unit _)
+    (λ h. reported sources unit (structure_type h.structure) h.declared 6 (recursion_faults sources unit (structure_type h.structure)) refl h.place (where_passes (carries_itself sources unit) (fault_at StructRecursive h.structure.name) (is_found_there sources unit h.carries)))

@@ -2,30 +2,10 @@
 use Rattle.std.proofs.Common.{◌≡◌, ℕ, List, [], ◌++◌, refl, sym, ◌∙◌, subst, true≢false}
 use Rattle.std.specs.List.{Contains}
 use Rattle.std.proofs.lemmas.List.Elements.{Contains-append_left, Contains-append_right}
-use Rattle.fb_text.specs.declared.token.Span.{Span}
-use Rattle.fb_tree.specs.Tree.{NetworkTree}
-use Rattle.fb_tree.specs.declared.network.Connection.{Connection}
-use Rattle.fb_tree.specs.declared.network.End.{End}
-use Rattle.fb_deploy.specs.Library.View.{Sources}
-use Rattle.fb_deploy.specs.Iface.Names.{first_ones}
-use Rattle.fb_deploy.specs.Iface.Ports.{instances_in, same_side}
-use Rattle.fb_deploy.specs.Iface.declared.code.Code.{Code}
-use Rattle.fb_deploy.specs.Iface.declared.code.Code.TheVariants.{PortSide, PortUnknown}
-use Rattle.fb_deploy.specs.Iface.declared.fault.Fault.{Fault}
-use Rattle.fb_text.proofs.Members.{contains_flat_map, contains_here, contains_nothing, contains_single, in_unless, origin_in_flat_map, unless}
-use Rattle.fb_netcheck.specs.declared.ends.Position.{Position}
-use Rattle.fb_netcheck.specs.declared.ends.Position.TheVariants.{Source, Destination}
-use Rattle.fb_netcheck.specs.declared.ends.Target.{Target}
-use Rattle.fb_netcheck.specs.declared.ends.Target.TheVariants.{Unknown, NotJudged, Found}
-use Rattle.fb_netcheck.specs.Connections.{connection_faults}
-use Rattle.fb_netcheck.specs.Ends.{right_side, target}
-use Rattle.fb_netcheck.specs.Networks.{net_faults_of}
-use Rattle.fb_netcheck.specs.Settings.{NetworkPlace}
-use Rattle.fb_netcheck.specs.Sides.{end_faults, fault_of}
-use Rattle.fb_laws.specs.Ends.{IsEndOf, IsNetworkOf, Site, place_of, source, destination}
-use Rattle.fb_laws.specs.Networks.{HasUnknownPort, HasWrongSide, PortsAreKnown, PortsAreOfRightSides}
+use Rattle.std.proofs.lemmas.Bool.{false_from_ne_true}
+use Rattle.fb_laws.proofs.Common.{Span, NetworkTree, Connection, End, Sources, first_ones, instances_in, same_side, Code, PortSide, PortUnknown, Fault, contains_flat_map, contains_here, contains_nothing, contains_single, in_unless, origin_in_flat_map, unless, Position, Source, Destination, Target, Unknown, NotJudged, Found, connection_faults, right_side, target, net_faults_of, NetworkPlace, end_faults, fault_of, IsEndOf, IsNetworkOf, Site, place_of, source, destination, HasUnknownPort, HasWrongSide, PortsAreKnown, PortsAreOfRightSides}
 use Rattle.fb_laws.proofs.NetworkEnds.{known_names, known_right, known_unknown, told_names, told_right, unknown_judged, unknown_names}
-use Rattle.fb_laws.proofs.Joined.{is_false, of_either}
+use Rattle.fb_laws.proofs.Joined.{iff, of_either}
 use Rattle.fb_laws.proofs.NetworkLemmas.{at_both, at_destination, at_source, end_place, network_origin, own_instances, part, place_at, reported}
 
 -- what is so where a unit has a fault of an end
@@ -104,19 +84,15 @@ module _ (sources : Sources) (unit : List ℕ) (here : Site) (n : NetworkTree) (
       by Destination end destination h = Contains-append_right (at_source sources at n c) (at_destination sources at n c) it h
 
 pub known : PortsAreKnown
-known sources unit span = (λ c. let o = network_origin sources unit _ c in found sources unit o.here o.network o.stands _ o.has, from)
-  where
-    from : HasUnknownPort sources unit span → Contains (net_faults_of sources unit) (record { code = PortUnknown; span = span })
-    from h =
-        let e = known_unknown sources h.here h.network (own_instances sources unit h.here h.network h.stands) h.connection.sort h.end.name h.end.port h.unknown h.judged in
-        end_reported sources unit h.here h.network h.stands PortUnknown h.connection h.position h.end Unknown h.listed h.is_end h.place e (contains_here (fault_of PortUnknown h.end) [])
+known sources unit span =
+    iff (λ c. let o = network_origin sources unit _ c in found sources unit o.here o.network o.stands _ o.has)
+    (λ h. let e = known_unknown sources h.here h.network (own_instances sources unit h.here h.network h.stands) h.connection.sort h.end.name h.end.port h.unknown h.judged in
+    end_reported sources unit h.here h.network h.stands PortUnknown h.connection h.position h.end Unknown h.listed h.is_end h.place e (contains_here (fault_of PortUnknown h.end) []))
 
 pub of_right_sides : PortsAreOfRightSides
-of_right_sides sources unit span = (λ c. let o = network_origin sources unit _ c in found sources unit o.here o.network o.stands _ o.has, from)
-  where
-    from : HasWrongSide sources unit span → Contains (net_faults_of sources unit) (record { code = PortSide; span = span })
-    from h =
-        let e = told_names sources h.here h.network (own_instances sources unit h.here h.network h.stands) h.connection.sort h.end.name h.end.port h.holder h.home h.port h.names in
-        let test = same_side h.port.side (right_side h.position h.holder) in
-        let fails = is_false test (λ right. h.wrong (known_right h.position h.holder h.port.side right)) in
-        end_reported sources unit h.here h.network h.stands PortSide h.connection h.position h.end (Found h.holder h.port) h.listed h.is_end h.place e (unless test (fault_of PortSide h.end) fails)
+of_right_sides sources unit span =
+    iff (λ c. let o = network_origin sources unit _ c in found sources unit o.here o.network o.stands _ o.has)
+    (λ h. let e = told_names sources h.here h.network (own_instances sources unit h.here h.network h.stands) h.connection.sort h.end.name h.end.port h.holder h.home h.port h.names in
+    let test = same_side h.port.side (right_side h.position h.holder) in
+    let fails = false_from_ne_true test (λ right. h.wrong (known_right h.position h.holder h.port.side right)) in
+    end_reported sources unit h.here h.network h.stands PortSide h.connection h.position h.end (Found h.holder h.port) h.listed h.is_end h.place e (unless test (fault_of PortSide h.end) fails))

@@ -5,42 +5,15 @@ use Rattle.std.specs.Option.{option_map_or}
 use Rattle.std.specs.List.{flat_map}
 use Rattle.std.specs.Str.{bytes_eq}
 use Rattle.std.proofs.lemmas.List.Elements.{Contains-append_left, Contains-append_right}
-use Rattle.fb_text.specs.declared.name.NameUse.{NameUse}
-use Rattle.fb_text.proofs.Members.{contains_flat_map, contains_here, contains_map, contains_nothing, origin_in_map, passes_in_find}
-use Rattle.fb_deploy.proofs.Iface.EarlierLemmas.{named_among}
-use Rattle.fb_deploy.proofs.Iface.NameLemmas.{same_exact}
-use Rattle.fb_deploy.proofs.Faults.OrderLemmas.{those_reported}
-use Rattle.fb_tree.specs.Tree.{DeclTree, DeviceTree, MappingTree, ResourceTree, SystemTree, system_configuration}
-use Rattle.fb_deploy.specs.Library.Rests.{itself}
-use Rattle.fb_deploy.specs.Library.View.{Sources, tree_at}
-use Rattle.fb_deploy.specs.Iface.Names.{has_name, is_same, stands_for}
-use Rattle.fb_deploy.specs.Iface.declared.code.Code.TheVariants.{NoSuchResource}
-use Rattle.fb_deploy.specs.Iface.declared.fault.Fault.{Fault}
-use Rattle.fb_deploy.specs.Faults.Faults.{faults_of}
-use Rattle.fb_deploy.specs.Faults.Mappings.{declared_mapping_faults, has_resource, home_faults, home_span, mapping_faults_of, resource_faults, resources_in, second_mappings}
-use Rattle.fb_wiring.specs.Network.Places.{dotted}
-use Rattle.fb_wiring.specs.Network.PlainFlat.{PlainFlat}
-use Rattle.fb_wiring.specs.Network.declared.flat.Link.{Link}
-use Rattle.fb_deploy.specs.Flatten.Net.{HasFlat}
-use Rattle.fb_wiring.specs.Network.Fronts.{IsNearest, nearest}
-use Rattle.fb_placing.specs.Mappings.{mapping_home, mapping_path}
-use Rattle.fb_placing.specs.Systems.{applications_in, devices_in, mappings_in}
-use Rattle.fb_placing.specs.Orders.{orders_of}
-use Rattle.fb_placing.specs.PlainResource.{PlainResource}
-use Rattle.fb_placing.specs.Resources.{device_resources, resource_plan, resources_of}
+use Rattle.fb_laws.proofs.Common.{NameUse, contains_flat_map, contains_here, contains_map, contains_nothing, origin_in_map, passes_in_find, named_among, same_exact, those_reported, DeclTree, DeviceTree, MappingTree, ResourceTree, SystemTree, system_configuration, itself, Sources, tree_at, has_name, is_same, stands_for, NoSuchResource, Fault, faults_of, declared_mapping_faults, has_resource, home_faults, home_span, mapping_faults_of, resource_faults, resources_in, second_mappings, dotted, PlainFlat, Link, HasFlat, IsNearest, nearest, mapping_home, mapping_path, applications_in, devices_in, mappings_in, orders_of, PlainResource, device_resources, resource_plan, resources_of, IsPlanned, HomesHaveCommands}
 use Rattle.fb_laws.proofs.HomeLemmas.{of_nearest}
 use Rattle.fb_laws.proofs.PlannedLemmas.{homes_in, known, mapped, names_in}
-use Rattle.fb_laws.specs.Planned.{IsPlanned}
-use Rattle.fb_laws.specs.Plans.{HomesHaveCommands}
 
 -- ---- a system with a flat network has no faults
 
 no_faults : (sources : Sources) (system : List ℕ) (flat : PlainFlat) → HasFlat sources system flat → faults_of sources system ≡ []
-no_faults sources system flat is = by (faults_of sources system) refl
-  where
-    by : (found : List Fault) → faults_of sources system ≡ found → faults_of sources system ≡ []
-    by [] e = e
-    by (f ∷ fs) e = absurd (contains_nothing system ((is.0.whole.members system).1 (itself, inl (λ none. let both : f ∷ fs ≡ [] = sym e ∙ none in cc))))
+no_faults sources system flat is =
+    (elim (faults_of sources system) as (λ found. faults_of sources system ≡ found → faults_of sources system ≡ []) [ [] ↦ λ e. e | f ∷ fs ↦ λ e. absurd (contains_nothing system ((is.0.whole.members system).1 (itself, inl (λ none. let both : f ∷ fs ≡ [] = sym e ∙ none in cc)))) ]) refl
 
 no_mapping_fault : (sources : Sources) (system : List ℕ) (flat : PlainFlat) → HasFlat sources system flat → (f : Fault) → Contains (mapping_faults_of sources system) f → ⊥
 no_mapping_fault sources system flat is f c =

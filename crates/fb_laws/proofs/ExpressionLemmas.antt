@@ -2,18 +2,8 @@
 use Rattle.std.proofs.Common.{◌≡◌, List, [], ◌∷◌, ◌++◌, ◌⊎◌, inl, inr, refl, sym, subst, append-nil, append_assoc}
 use Rattle.std.specs.List.{Contains}
 use Rattle.std.proofs.lemmas.List.Elements.{Contains-append_cases, Contains-append_left, Contains-append_right}
-use Rattle.fb_tree.specs.Expression.{ReferenceTree, Expression, literal_expression, reference_expression, unary_expression, row_expression, parentheses, Expressions, no_expressions, expression_then, Operands, no_operands, operand_then}
-use Rattle.fb_tree.specs.declared.expression.BinaryUse.{BinaryUse}
-use Rattle.fb_tree.specs.declared.expression.UnaryUse.{UnaryUse}
-use Rattle.fb_tree.specs.declared.reference.Member.{Member}
-use Rattle.fb_deploy.specs.Iface.declared.classes.Class.{Class as ValueClass}
-use Rattle.fb_text.proofs.Members.{contains_cases, contains_here, contains_later, contains_nothing, contains_single}
-use Rattle.fb_expr.specs.Classes.{pair_class}
-use Rattle.fb_expr.specs.Demands.{Demand, names_variable, names_field, suits_operand, suits_operands, suits_place, field_demands, reference_demands, demands_in, row_demands, subscript_demands}
-use Rattle.fb_expr.specs.Expressions.{class_in}
-use Rattle.fb_expr.specs.Names.{Names}
-use Rattle.fb_expr.specs.declared.rules.ClassPlace.TheVariants.{Count}
-use Rattle.fb_laws.specs.Occurrences.{IsOneOf, first_one, later_one, IsOperandOf, first_operand, later_operand, OccursIn, itself, in_subscript, behind_operator, in_first, in_operand, in_parentheses}
+use Rattle.fb_laws.proofs.Common.{ReferenceTree, Expression, literal_expression, reference_expression, unary_expression, row_expression, parentheses, Expressions, no_expressions, expression_then, Operands, no_operands, operand_then, BinaryUse, UnaryUse, Member, Class as ValueClass, contains_cases, contains_here, contains_later, contains_nothing, contains_single, pair_class, Demand, names_variable, names_field, suits_operand, suits_operands, suits_place, field_demands, reference_demands, demands_in, row_demands, subscript_demands, class_in, Names, Count, IsOneOf, first_one, later_one, IsOperandOf, first_operand, later_operand, OccursIn, in_subscript, behind_operator, in_first, in_operand}
+use Rattle.fb_laws.specs.Occurrences.{itself, in_parentheses}
 
 -- an operator of a row, the class of what stands before it, and the operand behind it
 pub data IsPairOf (names : Names) (used : BinaryUse) (before : ValueClass) (x : Expression) : ValueClass → Operands → Type 0 where
@@ -38,11 +28,8 @@ record OfField (r : ReferenceTree) (members : List Member) (demand : Demand) : T
 
 fields_asked : (r : ReferenceTree) (before ms : List Member) (demand : Demand) → Contains (field_demands r before ms) demand → OfField r (before ++ ms) demand
 fields_asked r before [] demand c = absurd (contains_nothing demand c)
-fields_asked r before (m ∷ ms) demand c = by (contains_cases (names_field r before m) (field_demands r (before ++ m ∷ []) ms) demand c) (fields_asked r (before ++ m ∷ []) ms demand)
-  where
-    by : (names_field r before m ≡ demand) ⊎ Contains (field_demands r (before ++ m ∷ []) ms) demand → (Contains (field_demands r (before ++ m ∷ []) ms) demand → OfField r ((before ++ m ∷ []) ++ ms) demand) → OfField r (before ++ m ∷ ms) demand
-    by (inl e) more = record { before = before; member = m; others = ms; parted = refl; is = e }
-    by (inr d) more = subst (λ (l : List Member). OfField r l demand) (append_assoc before (m ∷ []) ms) (more d)
+fields_asked r before (m ∷ ms) demand c =
+    elim (contains_cases (names_field r before m) (field_demands r (before ++ m ∷ []) ms) demand c) [ inl e ↦ record { before = before; member = m; others = ms; parted = refl; is = e } | inr d ↦ subst (λ (l : List Member). OfField r l demand) (append_assoc before (m ∷ []) ms) ((fields_asked r (before ++ m ∷ []) ms demand) d) ]
 
 fields_placed : (r : ReferenceTree) (done before : List Member) (m : Member) (others : List Member) → Contains (field_demands r done (before ++ m ∷ others)) (names_field r (done ++ before) m)
 fields_placed r done [] m others = subst (λ (l : List Member). Contains (field_demands r done (m ∷ others)) (names_field r l m)) (sym (append-nil done)) (contains_here (names_field r done m) (field_demands r (done ++ m ∷ []) others))
@@ -98,27 +85,21 @@ module _ (names : Names) where
 
   by_one : (x : Expression) (others : Expressions) (demand : Demand) → Contains (demands_in names x) demand ⊎ Contains (suits_place Count x ∷ subscript_demands names others) demand → (Contains (demands_in names x) demand → Asked names x demand) → (Contains (subscript_demands names others) demand → AskedOf names others demand) → AskedOf names (expression_then x others) demand
   by_one x others demand (inl c) first more = in_one x first_one (first c)
-  by_one x others demand (inr c) first more = by (contains_cases (suits_place Count x) (subscript_demands names others) demand c)
+  by_one x others demand (inr c) first more =
+      elim (contains_cases (suits_place Count x) (subscript_demands names others) demand c) [ inl e ↦ subst (AskedOf names (expression_then x others)) e (at_one x first_one) | inr d ↦ later demand (more d) ]
     where
       later : (demand : Demand) → AskedOf names others demand → AskedOf names (expression_then x others) demand
       later demand (in_one y one asked) = in_one y (later_one one) asked
       later demand (at_one y one) = at_one y (later_one one)
 
-      by : (suits_place Count x ≡ demand) ⊎ Contains (subscript_demands names others) demand → AskedOf names (expression_then x others) demand
-      by (inl e) = subst (AskedOf names (expression_then x others)) e (at_one x first_one)
-      by (inr d) = later demand (more d)
-
   by_pair : (left : ValueClass) (used : BinaryUse) (x : Expression) (others : Operands) (demand : Demand) → Contains (demands_in names x) demand ⊎ Contains (suits_operands used left x ∷ row_demands names (pair_class used.operator left (class_in names x)) others) demand → (Contains (demands_in names x) demand → Asked names x demand) → (Contains (row_demands names (pair_class used.operator left (class_in names x)) others) demand → AskedBehind names (pair_class used.operator left (class_in names x)) others demand) → AskedBehind names left (operand_then used x others) demand
   by_pair left used x others demand (inl c) first more = in_one x first_operand (first c)
-  by_pair left used x others demand (inr c) first more = by (contains_cases (suits_operands used left x) (row_demands names (pair_class used.operator left (class_in names x)) others) demand c)
+  by_pair left used x others demand (inr c) first more =
+      elim (contains_cases (suits_operands used left x) (row_demands names (pair_class used.operator left (class_in names x)) others) demand c) [ inl e ↦ subst (AskedBehind names left (operand_then used x others)) e (at_one used left x first_pair) | inr d ↦ later demand (more d) ]
     where
       later : (demand : Demand) → AskedBehind names (pair_class used.operator left (class_in names x)) others demand → AskedBehind names left (operand_then used x others) demand
       later demand (in_one y one asked) = in_one y (later_operand one) asked
       later demand (at_one again before y pair) = at_one again before y (later_pair pair)
-
-      by : (suits_operands used left x ≡ demand) ⊎ Contains (row_demands names (pair_class used.operator left (class_in names x)) others) demand → AskedBehind names left (operand_then used x others) demand
-      by (inl e) = subst (AskedBehind names left (operand_then used x others)) e (at_one used left x first_pair)
-      by (inr d) = later demand (more d)
 
   mutual
     pub asked_in : (e : Expression) (demand : Demand) → Contains (demands_in names e) demand → Asked names e demand

@@ -1,10 +1,8 @@
 -- The place of each expression, by the function of the check.
 use Rattle.std.proofs.Common.{◌≡◌, refl, sym, ap, ◌∙◌, subst}
-use Rattle.fb_text.specs.declared.token.Span.{Span}
-use Rattle.fb_tree.specs.Expression.{Expression, literal_expression, reference_expression, unary_expression, row_expression, parentheses, Operands, no_operands, operand_then}
-use Rattle.fb_tree.specs.declared.expression.BinaryUse.{BinaryUse}
-use Rattle.fb_expr.specs.Spans.{across, span_of, span_through}
-use Rattle.fb_laws.specs.Places.{IsLast, only, later, StandsAt, literal, reference, operator, row, no_row, enclosed}
+use Rattle.fb_laws.proofs.Common.{Span, Expression, literal_expression, reference_expression, unary_expression, row_expression, parentheses, Operands, no_operands, operand_then, BinaryUse, span_of, IsLast, only, later, StandsAt, no_row}
+use Rattle.fb_expr.specs.Spans.{across, span_through}
+use Rattle.fb_laws.specs.Places.{literal, reference, operator, row, enclosed}
 
 -- the last of these operands, where there is one
 data Ending : Operands → Type 0 where

@@ -2,22 +2,7 @@
 use Rattle.std.proofs.Common.{◌≡◌, ℕ, ◌≤◌, arith, zero, suc, true, inl, inr, List, [], ◌∷◌, ◌++◌, map, Option, Some, None, refl, sym, ap, ◌∙◌, subst, append_assoc}
 use Rattle.std.specs.List.{flat_map}
 use Rattle.std.proofs.lemmas.List.{append-nil}
-use Rattle.fb_text.specs.declared.name.NameUse.{NameUse}
-use Rattle.fb_text.specs.declared.token.Span.{Span}
-use Rattle.fb_structured_text.specs.Forms.Form.{Form, both, either, many, as_value, Spells, SpellsOption, SpellsEach}
-use Rattle.fb_structured_text.specs.Forms.Literals.{across, literal_kinds}
-use Rattle.fb_structured_text.specs.Forms.Words.{key, name}
-use Rattle.fb_structured_text.specs.Forms.Kind.{is_among}
-use Rattle.fb_structured_text.specs.Forms.declared.kind.Kind.{Kind}
-use Rattle.fb_structured_text.specs.Forms.declared.kind.Kind.TheVariants.{Point}
-use Rattle.fb_structured_text.specs.Forms.declared.lexeme.Lexeme.{Lexeme}
-use Rattle.fb_tree.specs.Expression.{ReferenceTree, Expression, reference_expression, unary_expression, Expressions, expressions_of, operands_of}
-use Rattle.fb_tree.specs.declared.expression.BinaryUse.{BinaryUse}
-use Rattle.fb_tree.specs.declared.expression.UnaryUse.{UnaryUse}
-use Rattle.fb_structured_text.specs.Operators.{signs, strengths, unary_use, binary_use}
-use Rattle.fb_structured_text.specs.Expression.{levels, expression, expressions, subscripts, PartTree, part_of, flat_part, deep_part, further_part, parts, member_in, last_end, subscripts_in, reference_in, flat_reference, deep_reference, reference_value, literal, in_parentheses, parenthesized, flat_primary, deep_primary, with_sign, unary, row_of, operand, row, rows, reference}
-use Rattle.fb_laws.specs.SpanParts.{Part, name_part, expression_part, sign_part, operator_part, name_parts, option_parts, reference_parts, expression_parts, expressions_parts, operands_parts}
-use Rattle.fb_laws.specs.Written.{expression_span, span_through, SpellsPart, EndsAt, IsWritten, sign, operator}
+use Rattle.fb_laws.proofs.Common.{NameUse, Span, Form, both, either, many, as_value, Spells, SpellsOption, SpellsEach, across, literal_kinds, key, name, is_among, Kind, Point, Lexeme, ReferenceTree, Expression, reference_expression, unary_expression, Expressions, expressions_of, operands_of, BinaryUse, UnaryUse, signs, strengths, unary_use, binary_use, levels, expression, expressions, subscripts, PartTree, part_of, flat_part, deep_part, further_part, parts, member_in, last_end, subscripts_in, reference_in, flat_reference, deep_reference, reference_value, literal, in_parentheses, parenthesized, flat_primary, deep_primary, with_sign, unary, row_of, operand, row, rows, reference, Part, name_part, expression_part, sign_part, operator_part, name_parts, option_parts, reference_parts, expression_parts, expressions_parts, operands_parts, expression_span, span_through, SpellsPart, EndsAt, IsWritten, sign, operator}
 use Rattle.fb_laws.proofs.Tokens.{Fills, begins_more, ends_more, written_whole, Each, each_append, each_front, each_rest, each_left, each_right}
 use Rattle.fb_laws.proofs.Filling.{Filled, filled_as, filled_either, filled_token, filled_name, Ends, ends_filled, ends_second, ends_behind, filled_across, filled_more, filled_from}
 use Rattle.fb_laws.proofs.Sound.{Sound, sound_nothing, sound_both, sound_first, sound_second, sound_as, sound_either, sound_option, sound_many, sound_behind, sound_separated, sound_own, sound_same, sound_name, each_items, among_more, among_right}

@@ -1,13 +1,7 @@
 -- Values that keep where the tokens stand that spell them.
 use Rattle.std.proofs.Common.{◌≡◌, inl, inr, List, [], ◌∷◌, ◌++◌, Option, Some, None, refl, sym, subst, ◌∙◌}
 use Rattle.std.proofs.lemmas.List.{append-nil}
-use Rattle.fb_text.specs.declared.token.Span.{Span}
-use Rattle.fb_structured_text.specs.Forms.Form.{Form, one, both, either, option, as_value, Spells, SpellsOption}
-use Rattle.fb_structured_text.specs.Forms.Literals.{across}
-use Rattle.fb_structured_text.specs.Forms.Words.{behind, name}
-use Rattle.fb_structured_text.specs.Forms.declared.kind.Kind.{Kind}
-use Rattle.fb_structured_text.specs.Forms.declared.lexeme.Lexeme.{Lexeme}
-use Rattle.fb_laws.specs.Written.{BeginsAt, EndsAt}
+use Rattle.fb_laws.proofs.Common.{Span, Form, one, both, either, option, as_value, Spells, SpellsOption, across, behind, name, Kind, Lexeme, BeginsAt, EndsAt}
 use Rattle.fb_laws.proofs.Tokens.{Fills, begins_more, ends_more}
 
 -- the tokens that spell a value begin and end where it stands

@@ -6,10 +6,7 @@ use Rattle.std.proofs.lemmas.Bool.{cases_order}
 use Rattle.std.proofs.lemmas.List.{take_all}
 use Rattle.std.proofs.lemmas.Map.Entries.{place_from_lookup}
 use Rattle.std.proofs.lemmas.Option.{slice_get_read}
-use Rattle.fb_deploy.specs.Iface.Names.{first_ones, is_same, stands_for}
-use Rattle.fb_deploy.proofs.Iface.NameLemmas.{same_exact, same_itself}
-use Rattle.fb_deploy.proofs.Iface.EarlierLemmas.{at_place}
-use Rattle.fb_text.proofs.Members.{contains_filter, contains_map}
+use Rattle.fb_laws.proofs.Common.{first_ones, is_same, stands_for, same_exact, same_itself, at_place, contains_filter, contains_map}
 use Rattle.fb_laws.proofs.PickLemmas.{IsPicked, picked, picked_in_turn}
 
 pub at_contained : {X : Type 0} (xs : List X) (x : X) (c : Contains xs x) → slice_get xs c.0 ≡ Some x
@@ -34,11 +31,8 @@ module _ {D : Type 0} where
   before_none [] zero name h = refl
   before_none [] (suc place) name h = refl
   before_none (x ∷ xs) zero name h = refl
-  before_none (x ∷ xs) (suc place) name h = by (is_same x.0 name) refl (before_none xs place name (λ k y lt there. h (suc k) y (omega arith) there))
-    where
-      by : (b : Bool) → is_same x.0 name ≡ b → stands_for (take place xs) name ≡ None → cond b (Some x.1) (stands_for (take place xs) name) ≡ None
-      by true s e = absurd (h 0 x (omega arith) refl (same_exact x.0 name s))
-      by false s e = e
+  before_none (x ∷ xs) (suc place) name h =
+      (elim (is_same x.0 name) as (λ b. is_same x.0 name ≡ b → stands_for (take place xs) name ≡ None → cond b (Some x.1) (stands_for (take place xs) name) ≡ None) [ true ↦ λ s e. absurd (h 0 x (omega arith) refl (same_exact x.0 name s)) | false ↦ λ s e. e ]) refl (before_none xs place name (λ k y lt there. h (suc k) y (omega arith) there))
 
   placed : (n : ℕ) (xs : List (List ℕ × D)) (k : ℕ) (p : ℕ × (List ℕ × D)) → slice_get (enumerate_from n xs) k ≡ Some p → (p.0 ≡ n + k) × (slice_get xs k ≡ Some p.1)
   placed n [] k p e = absurd (let no : ⊥ = cc in no)
@@ -87,15 +81,8 @@ module _ {D : Type 0} where
       contains_map (λ (p : ℕ × (List ℕ × D)). p.1) (filter (is_first xs) (enumerate_from 0 xs)) (o.place, (name, m)) (contains_filter (is_first xs) (enumerate_from 0 xs) (o.place, (name, m)) listed passed)
 
   one_meaning : (xs : List (List ℕ × D)) (name : List ℕ) (m n : D) → IsFirst xs name m → IsFirst xs name n → m ≡ n
-  one_meaning xs name m n o p = by (cases_order o.place p.place)
-    where
-      by : (o.place ≡ p.place) ⊎ ((o.place < p.place) ⊎ (p.place < o.place)) → m ≡ n
-      by (inl e) =
-          let both : Some (name, m) ≡ Some (name, n) = sym o.there ∙ ap (slice_get xs) e ∙ p.there in
-          let same : (name, m) ≡ (name, n) = cc in
-          ap (λ (x : List ℕ × D). x.1) same
-      by (inr (inl h)) = absurd (p.first o.place (name, m) h o.there refl)
-      by (inr (inr h)) = absurd (o.first p.place (name, n) h p.there refl)
+  one_meaning xs name m n o p =
+      elim (cases_order o.place p.place) [ inl e ↦ let both : Some (name, m) ≡ Some (name, n) = sym o.there ∙ ap (slice_get xs) e ∙ p.there in let same : (name, m) ≡ (name, n) = cc in ap (λ (x : List ℕ × D). x.1) same | inr (inl h) ↦ absurd (p.first o.place (name, m) h o.there refl) | inr (inr h) ↦ absurd (o.first p.place (name, n) h p.there refl) ]
 
   -- what a name stands for among the first declarations
   pub stands_first : (xs : List (List ℕ × D)) (name : List ℕ) (m : D) → stands_for (first_ones xs) name ≡ Some m → IsFirst xs name m
@@ -170,9 +157,5 @@ module _ {D T : Type 0} (keep : D → Bool) (give : D → T) where
   not_twice xs one other t same = t.second.origin.first t.first.origin.place (one.0, t.first.meaning) t.earlier t.first.origin.there same
 
   pub once : (xs : List (List ℕ × D)) (i j : ℕ) (one other : List ℕ × T) → slice_get (ports xs) i ≡ Some one → slice_get (ports xs) j ≡ Some other → one.0 ≡ other.0 → i ≡ j
-  once xs i j one other at_one at_other same = by (cases_order i j)
-    where
-      by : (i ≡ j) ⊎ ((i < j) ⊎ (j < i)) → i ≡ j
-      by (inl e) = e
-      by (inr (inl h)) = absurd (not_twice xs one other (in_turn xs i j one other h at_one at_other) same)
-      by (inr (inr h)) = absurd (not_twice xs other one (in_turn xs j i other one h at_other at_one) (sym same))
+  once xs i j one other at_one at_other same =
+      elim (cases_order i j) [ inl e ↦ e | inr (inl h) ↦ absurd (not_twice xs one other (in_turn xs i j one other h at_one at_other) same) | inr (inr h) ↦ absurd (not_twice xs other one (in_turn xs j i other one h at_other at_one) (sym same)) ]

@@ -1,32 +1,15 @@
 -- The networks of units whose nets are flat, and the nets of the types of their subapplication instances.
 use Rattle.std.proofs.Common.{ℕ, ◌≡◌, List, Option, Some, None, length, option_map, inl, refl, ap, subst}
 use Rattle.std.specs.List.{Contains}
-use Rattle.fb_text.proofs.Members.{contains_flat_map}
-use Rattle.fb_tree.specs.Mentions.{unit_kind_of}
-use Rattle.fb_tree.specs.Tree.{DeclTree, adapter_type, block_type, structure_type, subapplication_type, system_configuration}
+use Rattle.fb_laws.proofs.Common.{contains_flat_map, unit_kind_of, DeclTree, adapter_type, block_type, structure_type, subapplication_type, system_configuration, Sources, parts_at, tree_at, IsSound, flat_net, done_part, net_at_is, unit_faultless, sound_part, sound_tree, IsClean, IsCleanThroughout, IsFlat, Held, AreInstances, IsInner, PlainNetwork, Instance, applications_of, applications_at, declared, kind_at, network_of, Holds, IsWithinLimit, OfSubapplication, own_instances, Application, FlatBordersAreComposed, FlatLinksAreComposed, FlatUnitsAreClean, HasFlatNet, InnerBordersAreListed, InnerNetsAreFlat, IsOwnNetwork}
 use Rattle.fb_tree.specs.declared.kinds.UnitKind.TheVariants as kinds
-use Rattle.fb_deploy.specs.Library.View.{Sources, parts_at, tree_at}
 use Rattle.fb_deploy.specs.Flatten.Far.{far_of}
-use Rattle.fb_deploy.specs.Flatten.Net.{IsSound, flat_net}
 use Rattle.fb_deploy.proofs.Flatten.CleanUnits.{applications_clean, networks_clean}
 use Rattle.fb_deploy.proofs.Flatten.ComputedFlats.{IsDone, clean_with}
-use Rattle.fb_deploy.proofs.Flatten.ComputedNets.{done_part, net_at_is, unit_faultless}
 use Rattle.fb_deploy.proofs.Flatten.CountLemmas.{inner_small, own_kind}
 use Rattle.fb_deploy.proofs.Flatten.MentionLemmas.{own_within}
-use Rattle.fb_deploy.proofs.Flatten.SoundLemmas.{sound_part, sound_tree}
-use Rattle.fb_wiring.specs.Network.Clean.{IsClean, IsCleanThroughout}
-use Rattle.fb_wiring.specs.Network.FlatNet.{IsFlat}
-use Rattle.fb_wiring.specs.Network.Instances.{Held, AreInstances}
-use Rattle.fb_wiring.specs.Network.Network.{IsInner}
-use Rattle.fb_wiring.specs.Network.Plain.{PlainNetwork}
-use Rattle.fb_wiring.specs.Network.declared.network.Instance.{Instance}
-use Rattle.fb_wiring.specs.Applications.{applications_of}
-use Rattle.fb_wiring.specs.ByName.{applications_at, declared, kind_at}
-use Rattle.fb_wiring.specs.Networks.{network_of}
-use Rattle.fb_wiring.specs.Units.{Holds, IsWithinLimit, OfSubapplication, own_instances}
-use Rattle.fb_wiring.specs.declared.systems.Application.{Application}
 use Rattle.fb_wiring.proofs.Network.Composing.{found_by_name}
-use Rattle.fb_laws.specs.Chains.{FlatBordersAreComposed, FlatLinksAreComposed, FlatUnitsAreClean, HasFlatNet, InnerBordersAreListed, InnerNetsAreFlat, IsOwnNetwork, of_application, of_subapplication}
+use Rattle.fb_laws.specs.Chains.{of_application, of_subapplication}
 use Rattle.fb_laws.proofs.ChainParts.{borders_composed, links_composed}
 
 -- the instances of the network of a subapplication are its own

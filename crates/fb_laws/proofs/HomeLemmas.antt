@@ -7,15 +7,7 @@ use Rattle.std.proofs.Math.Seq.{take-append_seam}
 use Rattle.std.proofs.lemmas.List.{take_all}
 use Rattle.std.proofs.lemmas.Slice.Eq.{bytes_eq-Decides}
 use native.Mathlib.Decide.{dec_lt}
-use Rattle.fb_text.proofs.Members.{contains_cases, contains_here, contains_later, contains_nothing}
-use Rattle.fb_wiring.proofs.Network.NearestLemmas.{is_nearest}
-use Rattle.fb_wiring.specs.Network.declared.flat.FlatBlock.{FlatBlock}
-use Rattle.fb_placing.specs.Cuts.{home_at}
-use Rattle.fb_placing.specs.Firsts.{first_at}
-use Rattle.fb_wiring.specs.Network.Fronts.{IsFront, IsNearest, nearest}
-use Rattle.fb_placing.specs.Homes.{block_homes}
-use Rattle.fb_placing.specs.declared.homes.Home.{Home}
-use Rattle.fb_laws.specs.Planned.{IsBlockAt}
+use Rattle.fb_laws.proofs.Common.{contains_cases, contains_here, contains_later, contains_nothing, is_nearest, FlatBlock, home_at, first_at, IsFront, IsNearest, nearest, block_homes, Home, IsBlockAt}
 
 -- ---- what is nearest is one only
 

@@ -1,16 +1,12 @@
 -- Members of lists that are joined from others, and of lists with one item where a test passes.
-use Rattle.std.proofs.Common.{zero, suc, ◌≡◌, ℕ, Bool, true, false, cond, List, [], ◌∷◌, ◌++◌, Some, ◌⊎◌, inl, inr, refl, sym, subst, true≢false}
+use Rattle.std.proofs.Common.{zero, suc, ◌≡◌, ℕ, Bool, true, false, cond, List, [], ◌∷◌, ◌++◌, Some, ◌⊎◌, ◌↔◌, inl, inr, refl, sym, subst, true≢false}
 use Rattle.std.specs.List.{Contains, slice_get}
 use Rattle.std.proofs.lemmas.List.Elements.{Contains-append_left, Contains-append_right, Contains-append_cases}
-use Rattle.fb_text.proofs.Members.{contains_here, contains_nothing, contains_single}
+use Rattle.fb_laws.proofs.Common.{contains_here, contains_nothing, contains_single}
 
 -- what is so of the members of each of two lists
 pub of_either : {X : Type 0} {P : X → Type 0} (a b : List X) → ((y : X) → Contains a y → P y) → ((y : X) → Contains b y → P y) → (y : X) → Contains (a ++ b) y → P y
-of_either {P = P} a b left right y c = by (Contains-append_cases a b y c)
-  where
-    by : Contains a y ⊎ Contains b y → P y
-    by (inl h) = left y h
-    by (inr h) = right y h
+of_either {P = P} a b left right y c = elim (Contains-append_cases a b y c) [ inl h ↦ left y h | inr h ↦ right y h ]
 
 -- a list, and others behind it
 abbrev pub joined : {X : Type 0} → List X → List (List X) → List X
@@ -37,8 +33,6 @@ pub where_passes : {X : Type 0} (b : Bool) (x : X) → b ≡ true → Contains (
 where_passes true x e = contains_here x []
 where_passes false x e = absurd (true≢false (sym e))
 
--- tests
-
-pub is_false : (b : Bool) → (b ≡ true → ⊥) → b ≡ false
-is_false true fails = absurd (fails refl)
-is_false false fails = refl
+-- a law in both directions
+pub iff : {A B : Type 0} → (A → B) → (B → A) → A ↔ B
+iff to from = (to, from)

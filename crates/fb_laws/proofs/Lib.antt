@@ -1,3 +1,4 @@
+pub mod Common
 pub mod ByPlaces
 pub mod Tokens
 pub mod Filling

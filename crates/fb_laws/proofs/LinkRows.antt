@@ -3,19 +3,11 @@ use Rattle.std.proofs.Common.{ℕ, ◌≡◌, Bool, true, false, not, List, Opti
 use Rattle.std.specs.Prelude.{Contains}
 use Rattle.std.specs.Str.{bytes_eq}
 use Rattle.std.proofs.lemmas.Bool.{false≢true}
-use Rattle.fb_text.proofs.Members.{contains_filter, passes_in_filter}
-use Rattle.fb_deploy.specs.Library.View.{Sources}
-use Rattle.fb_wiring.specs.Network.declared.flat.Link.{Link}
-use Rattle.fb_wiring.specs.Network.PlainFlat.{PlainFlat}
-use Rattle.fb_placing.specs.Cuts.{home_at, is_cut, same_home}
-use Rattle.fb_wiring.specs.Network.Fronts.{nearest}
-use Rattle.fb_placing.specs.PlainResource.{PlainResource}
+use Rattle.fb_laws.proofs.Common.{contains_filter, passes_in_filter, Sources, Link, PlainFlat, home_at, is_cut, same_home, nearest, PlainResource, IsPlanned, StandsOn, IsMade, LinksAreCutOrMade}
 use Rattle.fb_laws.proofs.HomeLemmas.{bytes_same, nearest_of, same_bytes, some_home}
 use Rattle.fb_laws.proofs.PlannedLemmas.{Known, home_there, homes_in, known, mapped, stands}
 use Rattle.fb_laws.proofs.PlanEnds.{net_fronts}
 use Rattle.fb_laws.proofs.EntryLemmas.{entry_named, home_named}
-use Rattle.fb_laws.specs.Planned.{IsPlanned, StandsOn}
-use Rattle.fb_laws.specs.Plans.{IsMade, LinksAreCutOrMade}
 
 module _ (sources : Sources) (system : List ℕ) (flat : PlainFlat) (cuts : List Link) (resources : List PlainResource) (p : IsPlanned sources system flat cuts resources) where
   abbrev it : Known sources system flat cuts resources

@@ -4,30 +4,13 @@ use Rattle.std.specs.FinMap.{get}
 use Rattle.std.specs.List.{Contains}
 use Rattle.std.specs.Option.{option_and_then}
 use Rattle.std.proofs.lemmas.List.Elements.{Contains-append_cases}
-use Rattle.fb_text.specs.Elementary.{is_elementary}
-use Rattle.fb_text.proofs.Members.{contains_flat_map, contains_here, contains_map, contains_nothing, origin_in_flat_map, origin_in_map, passes_in_filter}
-use Rattle.fb_tree.specs.Mentions.{instance_types, types_in, value_types, variable_types}
-use Rattle.fb_tree.specs.Tree.{ApplicationTree, DeclTree, InstanceTree, TypeTree, VariablesTree, adapter_type, block_type, structure_type, subapplication_type, system_configuration}
-use Rattle.fb_deploy.specs.Library.Rests.{Rests, itself, through}
-use Rattle.fb_deploy.specs.Library.View.{Sources, mentions_at, parts_at, parts_in, tree_at, tree_of, values_at, values_in}
-use Rattle.fb_deploy.specs.Iface.Declarations.{variables_of}
-use Rattle.fb_deploy.specs.Iface.Types.{instances_of}
-use Rattle.fb_deploy.specs.Iface.declared.code.Code.TheVariants.{UnknownType}
-use Rattle.fb_deploy.specs.Iface.declared.fault.Fault.{Fault}
-use Rattle.fb_deploy.specs.Faults.Faults.{faults_of}
+use Rattle.fb_laws.proofs.Common.{is_elementary, contains_flat_map, contains_here, contains_map, contains_nothing, origin_in_flat_map, origin_in_map, passes_in_filter, instance_types, types_in, value_types, variable_types, ApplicationTree, DeclTree, InstanceTree, TypeTree, VariablesTree, adapter_type, block_type, structure_type, subapplication_type, system_configuration, Rests, itself, Sources, mentions_at, parts_at, parts_in, tree_at, tree_of, values_at, values_in, variables_of, instances_of, UnknownType, Fault, faults_of, IsNet, IsWhole, PlainNet, blocked, flat_net, recursive, too_large, part_mention, rests_more, value_mention, in_order_has, net_at_is, no_names_sorted, HasUnknownType, IsDeclaredAt, AreDeclaredIn, IsHeldIn, IsType, instance_of_application, instance_of_type, of_adapter, of_block, of_subapplication, Declarations}
+use Rattle.fb_deploy.specs.Library.Rests.{through}
 use Rattle.fb_deploy.specs.Flatten.Blocking.{AreThose, IsBlocking}
-use Rattle.fb_deploy.specs.Flatten.Net.{IsNet, IsWhole, PlainNet, blocked, flat_net, recursive, too_large}
-use Rattle.fb_deploy.proofs.Library.Locality.{part_mention, rests_more, value_mention}
 use Rattle.fb_deploy.proofs.Library.Opening.{from_names}
-use Rattle.fb_deploy.proofs.Iface.ScopeLocal.{in_order_has}
-use Rattle.fb_deploy.proofs.Flatten.ComputedNets.{net_at_is}
-use Rattle.fb_deploy.proofs.Flatten.SoundLemmas.{no_names_sorted}
 use Rattle.fb_wiring.specs.Reaches.{IsRecursive, Reaches, directly, onward}
 use Rattle.fb_wiring.proofs.StackLemmas.{reaches_more}
-use Rattle.fb_laws.specs.Declarations.{HasUnknownType, IsDeclaredAt}
-use Rattle.fb_laws.specs.Declared.{AreDeclaredIn, IsHeldIn, IsType, instance_of_application, instance_of_type, of_adapter, of_block, of_subapplication}
 use Rattle.fb_laws.specs.MadeOf.{BlockedIsTold, BlockedUnitsHaveFaultsBelow, HasFaultBelow, HasNoFaultsBelow, Holds, IsInTheWay, IsMadeOf, OtherNetsHaveNoFaultsBelow, OtherNetsHoldNothingInItself, RecursiveIsTold, WholeUnitsHaveNoFaultsBelow, absent_type, faulty_unit, inner_part, own_part, own_unit, type_of_part, type_of_value}
-use Rattle.fb_laws.specs.UnitParts.{Declarations}
 use Rattle.fb_laws.proofs.CarriedTypes.{is_plain, no_elementary, value_of}
 use Rattle.fb_laws.proofs.DeclarationRows.{among_declared, declared_in, unknown_types}
 use Rattle.fb_laws.proofs.PartLemmas.{whole_units}
@@ -151,11 +134,8 @@ module _ (sources : Sources) (unit : List ℕ) where
       subst (λ (n : List ℕ). IsMadeOf sources unit n) v.typed (type_of_value decl v.variables made is v.declared plain)
 
   mention_made : (holder name : List ℕ) → IsMadeOf sources unit holder → Contains (mentions_at sources holder) name → IsMadeOf sources unit name
-  mention_made holder name made m = by (Contains-append_cases (parts_at sources holder) (values_at sources holder) name m)
-    where
-      by : Contains (parts_at sources holder) name ⊎ Contains (values_at sources holder) name → IsMadeOf sources unit name
-      by (inl c) = part_made holder name made (tree_at sources holder) refl c
-      by (inr c) = value_made holder name made (tree_at sources holder) refl c
+  mention_made holder name made m =
+      elim (Contains-append_cases (parts_at sources holder) (values_at sources holder) name m) [ inl c ↦ part_made holder name made (tree_at sources holder) refl c | inr c ↦ value_made holder name made (tree_at sources holder) refl c ]
 
   made_on : {holder name : List ℕ} → IsMadeOf sources unit holder → Rests sources holder name → IsMadeOf sources unit name
   made_on made itself = made
@@ -210,13 +190,8 @@ module _ (sources : Sources) (unit : List ℕ) where
   -- ---- whole units
 
   none_below : IsWhole sources unit → HasNoFaultsBelow sources unit
-  none_below whole name made = by (faults_of sources name) refl
-    where
-      by : (found : List Fault) → faults_of sources name ≡ found → faults_of sources name ≡ []
-      by [] is = is
-      by (f ∷ fs) is =
-          let faulty : faults_of sources name ≢ [] = λ none. contains_nothing f (subst (λ (l : List Fault). Contains l f) (sym is ∙ none) (contains_here f fs)) in
-          absurd (contains_nothing name ((whole.members name).1 (made_rests made, inl faulty)))
+  none_below whole name made =
+      (elim (faults_of sources name) as (λ found. faults_of sources name ≡ found → faults_of sources name ≡ []) [ [] ↦ λ is. is | f ∷ fs ↦ λ is. let faulty : faults_of sources name ≢ [] = λ none. contains_nothing f (subst (λ (l : List Fault). Contains l f) (sym is ∙ none) (contains_here f fs)) in absurd (contains_nothing name ((whole.members name).1 (made_rests made, inl faulty))) ]) refl
 
   whole_of_none : HasNoFaultsBelow sources unit → IsWhole sources unit
   whole_of_none none =

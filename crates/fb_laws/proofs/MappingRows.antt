@@ -3,20 +3,8 @@ use Rattle.std.proofs.Common.{◌≡◌, ℕ, true, List, ◌∷◌, ◌++◌, m
 use Rattle.std.proofs.lemmas.List.Elements.{Contains-append_left, Contains-append_right}
 use Rattle.std.specs.List.{Contains, flat_map, slice_get}
 use Rattle.std.specs.Option.{option_map_or}
-use Rattle.fb_text.specs.declared.name.NameUse.{NameUse}
-use Rattle.fb_text.specs.declared.token.Span.{Span}
-use Rattle.fb_tree.specs.Tree.{DeclTree, DeviceTree, MappingTree, ResourceTree, SystemTree, system_configuration}
-use Rattle.fb_deploy.specs.Faults.Mappings.{declared_mapping_faults, has_resource, home_faults, home_span, mapping_faults_of, resource_faults, resources_in, second_mappings, system_mapping_faults}
-use Rattle.fb_deploy.specs.Iface.Names.{has_name, is_same, stands_for}
-use Rattle.fb_deploy.specs.Iface.declared.code.Code.{Code}
-use Rattle.fb_deploy.specs.Iface.declared.code.Code.TheVariants.{MappedTwice, NoSuchResource}
-use Rattle.fb_deploy.specs.Iface.declared.fault.Fault.{Fault}
-use Rattle.fb_deploy.specs.Library.View.{Sources, tree_at}
-use Rattle.fb_netcheck.specs.Paths.{PathUse, path_of_names}
-use Rattle.fb_text.proofs.Members.{contains_cases, contains_flat_map, contains_here, contains_later, contains_map, contains_nothing, contains_single, origin_in_flat_map, origin_in_map}
-use Rattle.fb_deploy.proofs.Iface.NameLemmas.{none_named, not_named, same_exact, same_itself}
-use Rattle.fb_laws.specs.Mappings.{HasLostMapping, HasSecondMapping, IsFirstDevice, IsLost, IsSystemAt, MappingsHaveHomes, MappingsHaveOwnPaths, no_device, no_resource, last_of, place_of_path}
-use Rattle.fb_laws.proofs.Joined.{of_either}
+use Rattle.fb_laws.proofs.Common.{NameUse, Span, DeclTree, DeviceTree, MappingTree, ResourceTree, SystemTree, system_configuration, declared_mapping_faults, has_resource, home_faults, home_span, mapping_faults_of, resource_faults, resources_in, second_mappings, system_mapping_faults, has_name, is_same, stands_for, Code, MappedTwice, NoSuchResource, Fault, Sources, tree_at, PathUse, path_of_names, contains_cases, contains_flat_map, contains_here, contains_later, contains_map, contains_nothing, contains_single, origin_in_flat_map, origin_in_map, none_named, not_named, same_exact, same_itself, HasLostMapping, HasSecondMapping, IsFirstDevice, IsLost, IsSystemAt, MappingsHaveHomes, MappingsHaveOwnPaths, no_device, no_resource, last_of, place_of_path}
+use Rattle.fb_laws.proofs.Joined.{iff, of_either}
 use Rattle.fb_laws.proofs.RepeatedPaths.{repeat_origin, repeat_reported}
 
 -- what is so where a unit has a fault of this code
@@ -99,11 +87,8 @@ none_of (x ∷ devices) name e d c = by (is_same x.name.name name) refl e (conta
 
 none_stands : (devices : List DeviceTree) (name : List ℕ) → ((d : DeviceTree) → Contains devices d → d.name.name ≢ name) → stands_for (resources_in devices) name ≡ None
 none_stands [] name fails = refl
-none_stands (x ∷ devices) name fails = by (is_same x.name.name name) refl (none_stands devices name (λ d c. fails d (contains_later x devices d c)))
-  where
-    by : (b : Bool) → is_same x.name.name name ≡ b → stands_for (resources_in devices) name ≡ None → cond b (Some (names_in x)) (stands_for (resources_in devices) name) ≡ None
-    by true s h = absurd (fails x (contains_here x devices) (same_exact x.name.name name s))
-    by false s h = h
+none_stands (x ∷ devices) name fails =
+    (elim (is_same x.name.name name) as (λ b. is_same x.name.name name ≡ b → stands_for (resources_in devices) name ≡ None → cond b (Some (names_in x)) (stands_for (resources_in devices) name) ≡ None) [ true ↦ λ s h. absurd (fails x (contains_here x devices) (same_exact x.name.name name s)) | false ↦ λ s h. h ]) refl (none_stands devices name (λ d c. fails d (contains_later x devices d c)))
 
 lost_where : (s : SystemTree) (m : MappingTree) → has_resource s.devices m.device.name m.resource.name ≡ false → IsLost s m
 lost_where s m e = by (stands_for (resources_in s.devices) m.device.name) refl e
@@ -157,35 +142,28 @@ module _ (sources : Sources) (unit : List ℕ) where
 
   -- a fault says what its code means
   pub found : (f : Fault) → Contains (mapping_faults_of sources unit) f → Finds f
-  found f c = by (tree_at sources unit) refl c
-    where
-      by : (o : Option DeclTree) → tree_at sources unit ≡ o → Contains (declared_mapping_faults o) f → Finds f
-      by (Some (system_configuration s)) e h = system_found s e f h
-      by o e h = absurd (contains_nothing f h)
+  found f c =
+      (elim (tree_at sources unit) as (λ o. tree_at sources unit ≡ o → Contains (declared_mapping_faults o) f → Finds f) [ Some (system_configuration s) ↦ λ e h. system_found s e f h | o ↦ λ e h. absurd (contains_nothing f h) ]) refl c
 
 pub own_paths : MappingsHaveOwnPaths
-own_paths sources unit span = (found sources unit _, from)
+own_paths sources unit span =
+    iff (found sources unit _)
+    (λ h. let at : (mapping_path h.again).span ≡ span = path_place h.again.path ∙ sym h.place in
+    let one = repeat_reported mapping_path MappedTwice h.system.mappings h.before h.after h.again h.first h.listed h.earlier h.same in
+    let second = subst (λ (s : Span). Contains (second_mappings h.system.mappings) (record { code = MappedTwice; span = s })) at one in
+    reported sources unit h.system h.declared it (Contains-append_left (second_mappings h.system.mappings) (flat_map (resource_faults h.system.devices) h.system.mappings) it second))
   where
     it : Fault
     it = record { code = MappedTwice; span = span }
 
-    from : HasSecondMapping sources unit span → Contains (mapping_faults_of sources unit) it
-    from h =
-        let at : (mapping_path h.again).span ≡ span = path_place h.again.path ∙ sym h.place in
-        let one = repeat_reported mapping_path MappedTwice h.system.mappings h.before h.after h.again h.first h.listed h.earlier h.same in
-        let second = subst (λ (s : Span). Contains (second_mappings h.system.mappings) (record { code = MappedTwice; span = s })) at one in
-        reported sources unit h.system h.declared it (Contains-append_left (second_mappings h.system.mappings) (flat_map (resource_faults h.system.devices) h.system.mappings) it second)
-
 pub have_homes : MappingsHaveHomes
-have_homes sources unit span = (found sources unit _, from)
+have_homes sources unit span =
+    iff (found sources unit _)
+    (λ h. let is : lost_at h.mapping ≡ it = λ i. record { code = NoSuchResource; span = record { start = sym h.starts i; end = sym h.ends i } } in
+    let fails = lost_found_where h.system h.mapping h.lost in
+    let one : Contains (home_faults false h.mapping) it = subst (λ (f : Fault). Contains (lost_at h.mapping ∷ []) f) is (contains_here (lost_at h.mapping) []) in
+    let lost = contains_flat_map (resource_faults h.system.devices) h.system.mappings h.mapping it h.listed (subst (λ (b : Bool). Contains (home_faults b h.mapping) it) (sym fails) one) in
+    reported sources unit h.system h.declared it (Contains-append_right (second_mappings h.system.mappings) (flat_map (resource_faults h.system.devices) h.system.mappings) it lost))
   where
     it : Fault
     it = record { code = NoSuchResource; span = span }
-
-    from : HasLostMapping sources unit span → Contains (mapping_faults_of sources unit) it
-    from h =
-        let is : lost_at h.mapping ≡ it = λ i. record { code = NoSuchResource; span = record { start = sym h.starts i; end = sym h.ends i } } in
-        let fails = lost_found_where h.system h.mapping h.lost in
-        let one : Contains (home_faults false h.mapping) it = subst (λ (f : Fault). Contains (lost_at h.mapping ∷ []) f) is (contains_here (lost_at h.mapping) []) in
-        let lost = contains_flat_map (resource_faults h.system.devices) h.system.mappings h.mapping it h.listed (subst (λ (b : Bool). Contains (home_faults b h.mapping) it) (sym fails) one) in
-        reported sources unit h.system h.declared it (Contains-append_right (second_mappings h.system.mappings) (flat_map (resource_faults h.system.devices) h.system.mappings) it lost)

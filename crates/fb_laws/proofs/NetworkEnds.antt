@@ -2,54 +2,19 @@
 use Rattle.std.proofs.Common.{◌≡◌, ◌≢◌, ℕ, Bool, true, false, ◌&&◌, List, Option, Some, None, refl, sym, ap, ◌∙◌, subst, true≢false}
 use Rattle.std.specs.Prelude.{option_map}
 use Rattle.std.specs.Option.{option_and_then, option_map_or}
-use Rattle.fb_text.specs.declared.name.NameUse.{NameUse}
-use Rattle.fb_tree.specs.Tree.{NetworkTree}
-use Rattle.fb_tree.specs.declared.interface.Section.{Section}
+use Rattle.std.proofs.lemmas.Bool.{and_from, and_parts}
+use Rattle.fb_laws.proofs.Common.{NameUse, NetworkTree, Section, Side, Input, Output, UnitKind, End, Role, Sort, Sources, tree_at, DeclaredEvent, DeclaredInstance, DeclaredVariable, first_ones, stands_for, Meanings, instances_in, same_side, instance_ports, usable, Own, OfInstance, OfPlug, OfSocket, Position, Source, Destination, Target, Unknown, NotJudged, Found, adapter_port, data_port, event_port, holder_of, is_right, port_in, port_in_role, port_in_section, right_side, target, target_held, target_in, target_named, target_of, target_of_instance, NetworkPlace, is_own, is_own_port, home_of, IsPort, IsReached, IsReachedBy, IsRightSide, NamesRight, Site, event, socket, plug, of_block_instance, of_subapplication_instance, of_plug, of_socket, own_port, port_of, own_source, own_destination, instance_source, instance_destination, plug_source, plug_destination, socket_source, socket_destination, IsNotJudged, of_unusable}
 use Rattle.fb_tree.specs.declared.interface.Section.TheVariants as sections
-use Rattle.fb_tree.specs.declared.interface.Side.{Side}
-use Rattle.fb_tree.specs.declared.interface.Side.TheVariants.{Input, Output}
-use Rattle.fb_tree.specs.declared.kinds.UnitKind.{UnitKind}
 use Rattle.fb_tree.specs.declared.kinds.UnitKind.TheVariants as kinds
-use Rattle.fb_tree.specs.declared.network.End.{End}
-use Rattle.fb_tree.specs.declared.network.Role.{Role}
 use Rattle.fb_tree.specs.declared.network.Role.TheVariants as roles
-use Rattle.fb_tree.specs.declared.network.Sort.{Sort}
 use Rattle.fb_tree.specs.declared.network.Sort.TheVariants as sorts
-use Rattle.fb_deploy.specs.Library.View.{Sources, tree_at}
-use Rattle.fb_deploy.specs.Iface.declared.ports.DeclaredEvent.{DeclaredEvent}
-use Rattle.fb_deploy.specs.Iface.declared.ports.DeclaredInstance.{DeclaredInstance}
-use Rattle.fb_deploy.specs.Iface.declared.ports.DeclaredVariable.{DeclaredVariable}
-use Rattle.fb_deploy.specs.Iface.Names.{first_ones, stands_for}
-use Rattle.fb_deploy.specs.Iface.Ports.{Meanings, instances_in, same_side}
-use Rattle.fb_deploy.specs.Iface.Scope.{instance_ports, usable}
 use Rattle.fb_netcheck.specs.declared.ends.Flow.TheVariants as flows
 use Rattle.fb_netcheck.specs.declared.ends.Holder.{Holder}
-use Rattle.fb_netcheck.specs.declared.ends.Holder.TheVariants.{Own, OfInstance, OfPlug, OfSocket}
 use Rattle.fb_netcheck.specs.declared.ends.Port.{Port}
-use Rattle.fb_netcheck.specs.declared.ends.Position.{Position}
-use Rattle.fb_netcheck.specs.declared.ends.Position.TheVariants.{Source, Destination}
-use Rattle.fb_netcheck.specs.declared.ends.Target.{Target}
-use Rattle.fb_netcheck.specs.declared.ends.Target.TheVariants.{Unknown, NotJudged, Found}
-use Rattle.fb_netcheck.specs.Ends.{adapter_port, data_port, event_port, holder_of, is_right, port_in, port_in_role, port_in_section, right_side, target, target_held, target_in, target_named, target_of, target_of_instance}
-use Rattle.fb_netcheck.specs.Settings.{NetworkPlace}
-use Rattle.fb_netcheck.specs.Sides.{is_own, is_own_port}
-use Rattle.fb_netcheck.specs.Types.{home_of}
-use Rattle.fb_laws.specs.Ends.{IsPort, IsReached, IsReachedBy, IsRightSide, Names, NamesRight, Site, event, data_input, data_output, socket, plug, of_block_instance, of_subapplication_instance, of_plug, of_socket, own_port, port_of, own_source, own_destination, instance_source, instance_destination, plug_source, plug_destination, socket_source, socket_destination}
-use Rattle.fb_laws.specs.Usable.{IsNotJudged, of_unusable}
+use Rattle.fb_laws.specs.Ends.{Names, data_input, data_output}
 use Rattle.fb_laws.proofs.ItemRows.{same_sides}
 use Rattle.fb_laws.proofs.NetworkLemmas.{place_at}
 use Rattle.fb_laws.proofs.UsableTypes.{declared_type, known_type, no_type, told_type, type_missing}
-
-pub and_left : (a b : Bool) → (a && b) ≡ true → a ≡ true
-and_left true b e = refl
-and_left false b e = absurd (true≢false (sym e))
-
-pub and_right : (a b : Bool) → (a && b) ≡ true → b ≡ true
-and_right true b e = e
-and_right false b e = absurd (true≢false (sym e))
-
-pub both_true : (a b : Bool) → a ≡ true → b ≡ true → (a && b) ≡ true
-both_true a b p q = λ i. p i && q i
 
 -- ports
 
@@ -61,8 +26,7 @@ module _ (ports : Meanings) (name : List ℕ) where
   known_section : (p : Port) (v : DeclaredVariable) → stands_for ports.variables name ≡ Some v → (s : Section) → v.section ≡ s → port_in_section s v.type_use ≡ Some p → IsPort ports name sorts.Data p
   known_section p v g sections.Input is e = let same : record { side = Input; flow = flows.Data v.type_use } ≡ p = cc in subst (IsPort ports name sorts.Data) same (data_input v g is)
   known_section p v g sections.Output is e = let same : record { side = Output; flow = flows.Data v.type_use } ≡ p = cc in subst (IsPort ports name sorts.Data) same (data_output v g is)
-  known_section p v g sections.Internal is e = absurd (let fails : ⊥ = cc in fails)
-  known_section p v g sections.Field is e = absurd (let fails : ⊥ = cc in fails)
+  known_section p v g o is e = absurd (let fails : ⊥ = cc in fails)
 
   known_data : (p : Port) (o : Option DeclaredVariable) → stands_for ports.variables name ≡ o → option_and_then data_port o ≡ Some p → IsPort ports name sorts.Data p
   known_data p None g e = absurd (let fails : ⊥ = cc in fails)
@@ -71,8 +35,7 @@ module _ (ports : Meanings) (name : List ℕ) where
   known_role : (p : Port) (i : DeclaredInstance) → stands_for ports.instances name ≡ Some i → (r : Role) → i.role ≡ r → port_in_role r i.type_name ≡ Some p → IsPort ports name sorts.Adapter p
   known_role p i g roles.Socket is e = let same : record { side = Input; flow = flows.Adapter i.type_name } ≡ p = cc in subst (IsPort ports name sorts.Adapter) same (socket i g is)
   known_role p i g roles.Plug is e = let same : record { side = Output; flow = flows.Adapter i.type_name } ≡ p = cc in subst (IsPort ports name sorts.Adapter) same (plug i g is)
-  known_role p i g roles.Block is e = absurd (let fails : ⊥ = cc in fails)
-  known_role p i g roles.Subapplication is e = absurd (let fails : ⊥ = cc in fails)
+  known_role p i g o is e = absurd (let fails : ⊥ = cc in fails)
 
   known_adapter : (p : Port) (o : Option DeclaredInstance) → stands_for ports.instances name ≡ o → option_and_then adapter_port o ≡ Some p → IsPort ports name sorts.Adapter p
   known_adapter p None g e = absurd (let fails : ⊥ = cc in fails)
@@ -112,14 +75,12 @@ module _ (here : Site) (sort : Sort) (i : DeclaredInstance) where
       by kind s role k t r e = absurd (let fails : ⊥ = cc in fails)
 
   plug_holder : (s : Sort) → s ≢ sorts.Adapter → holder_of kinds.Block s roles.Plug ≡ Some OfPlug
-  plug_holder sorts.Event other = refl
-  plug_holder sorts.Data other = refl
   plug_holder sorts.Adapter other = absurd (other refl)
+  plug_holder o other = refl
 
   socket_holder : (s : Sort) → s ≢ sorts.Adapter → holder_of kinds.Block s roles.Socket ≡ Some OfSocket
-  socket_holder sorts.Event other = refl
-  socket_holder sorts.Data other = refl
   socket_holder sorts.Adapter other = absurd (other refl)
+  socket_holder o other = refl
 
   told_holder : (holder : Holder) → IsReached here sort i holder → holder_of here.kind sort i.role ≡ Some holder
   told_holder holder (of_block_instance r) = ap (holder_of here.kind sort) r
@@ -150,19 +111,12 @@ module _ (sources : Sources) (here : Site) (n : NetworkTree) (own : here.own.ins
 
   target_behind : (I X : NameUse) (o : Option DeclaredInstance) → stands_for here.own.instances I.name ≡ o → IsTarget sources here sort I (Some X) (target_of_instance here.kind sort o (option_and_then (instance_ports at.scope) o) X.name)
   target_behind I X None g = is_unknown
-  target_behind I X (Some i) g = by_holder (holder_of here.kind sort i.role) refl
+  target_behind I X (Some i) g =
+      (elim (holder_of here.kind sort i.role) as (λ h. holder_of here.kind sort i.role ≡ h → IsTarget sources here sort I (Some X) (target_held h sort (instance_ports at.scope i) X.name)) [ None ↦ λ e. is_unknown | Some holder ↦ λ e. by_ports holder (known_holder here sort i holder e) (instance_ports at.scope i) (sym (ports_there I.name i g)) ]) refl
     where
-      by_port : (holder : Holder) → IsReached here sort i holder → (m : Meanings) → usable_as i ≡ Some m → (o : Option Port) → port_in sort m X.name ≡ o → IsTarget sources here sort I (Some X) (target_of holder o)
-      by_port holder r m u None e = is_unknown
-      by_port holder r m u (Some p) e = is_found i.type_name.name (port_of i m g r (known_type sources i.type_name.name i.role m u) (known_port m X.name sort p e))
-
       by_ports : (holder : Holder) → IsReached here sort i holder → (m : Option Meanings) → usable_as i ≡ m → IsTarget sources here sort I (Some X) (target_in holder sort m X.name)
       by_ports holder r None u = is_not_judged (of_unusable i g (holder, r) (no_type sources i.type_name.name i.role u))
-      by_ports holder r (Some m) u = by_port holder r m u (port_in sort m X.name) refl
-
-      by_holder : (h : Option Holder) → holder_of here.kind sort i.role ≡ h → IsTarget sources here sort I (Some X) (target_held h sort (instance_ports at.scope i) X.name)
-      by_holder None e = is_unknown
-      by_holder (Some holder) e = by_ports holder (known_holder here sort i holder e) (instance_ports at.scope i) (sym (ports_there I.name i g))
+      by_ports holder r (Some m) u = (elim (port_in sort m X.name) as (λ o. port_in sort m X.name ≡ o → IsTarget sources here sort I (Some X) (target_of holder o)) [ None ↦ λ e. is_unknown | Some p ↦ λ e. is_found i.type_name.name (port_of i m g r (known_type sources i.type_name.name i.role m u) (known_port m X.name sort p e)) ]) refl
 
   pub is_target : (name : NameUse) (port : Option NameUse) → IsTarget sources here sort name port (target_named at sort name.name port)
   is_target name None = target_own name (port_in sort here.own name.name) refl
@@ -219,15 +173,12 @@ module _ (sources : Sources) (here : Site) (n : NetworkTree) (own : here.own.ins
 
 -- the right sides
 
+ruleset sides = (instance_source, instance_destination, plug_source, plug_destination, socket_source, socket_destination)
+
 is_side : (position : Position) (holder : Holder) → IsRightSide position holder (right_side position holder)
 is_side Source Own = own_source
 is_side Destination Own = own_destination
-is_side Source OfInstance = instance_source
-is_side Destination OfInstance = instance_destination
-is_side Source OfPlug = plug_source
-is_side Destination OfPlug = plug_destination
-is_side Source OfSocket = socket_source
-is_side Destination OfSocket = socket_destination
+is_side position holder = search sides
 
 pub known_right : (position : Position) (holder : Holder) (side : Side) → same_side side (right_side position holder) ≡ true → IsRightSide position holder side
 known_right position holder side e = subst (IsRightSide position holder) (sym (same_sides side (right_side position holder) e)) (is_side position holder)
@@ -267,9 +218,9 @@ module _ (sources : Sources) (here : Site) (n : NetworkTree) (own : here.own.ins
       by : (t : Target) → IsTarget sources here sort end.name end.port t → is_own_port position t ≡ true → (r : NamesRight sources here sort position end) × (r.holder ≡ Own)
       by t (is_found {holder = holder} {p = p} unit n) e =
           let test = same_side p.side (right_side position holder) in
-          (record { holder = holder; unit = unit; port = p; names = n; right = known_right position holder p.side (and_right (is_own holder) test e) }, own_exact holder (and_left (is_own holder) test e))
+          (record { holder = holder; unit = unit; port = p; names = n; right = known_right position holder p.side (and_parts (is_own holder) test e).1 }, own_exact holder (and_parts (is_own holder) test e).0)
       by t (is_not_judged n) e = absurd (true≢false (sym e))
       by t is_unknown e = absurd (true≢false (sym e))
 
   pub told_own : (r : NamesRight sources here sort position end) → r.holder ≡ Own → is_own_port position there ≡ true
-  told_own r e = ap (is_own_port position) (end_target r) ∙ both_true (is_own r.holder) (same_side r.port.side (right_side position r.holder)) (ap is_own e) (told_right position r.holder r.port.side r.right)
+  told_own r e = ap (is_own_port position) (end_target r) ∙ and_from (is_own r.holder) (same_side r.port.side (right_side position r.holder)) (ap is_own e) (told_right position r.holder r.port.side r.right)

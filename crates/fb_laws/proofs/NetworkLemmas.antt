@@ -2,44 +2,13 @@
 use Rattle.std.proofs.Common.{◌≡◌, ℕ, ◌&&◌, List, [], ◌∷◌, ◌++◌, map, Option, Some, None, refl, sym, ap, subst}
 use Rattle.std.specs.List.{Contains, flat_map, slice_get}
 use Rattle.std.proofs.lemmas.List.Elements.{Contains-append_left, Contains-append_right}
-use Rattle.fb_text.specs.declared.name.NameUse.{NameUse}
-use Rattle.fb_text.specs.declared.token.Span.{Span}
-use Rattle.fb_tree.specs.Tree.{DeclTree, InstanceTree, NetworkTree, ParameterTree, block_type, adapter_type, subapplication_type, system_configuration, structure_type}
-use Rattle.fb_tree.specs.declared.interface.Section.{Section}
+use Rattle.fb_laws.proofs.Common.{NameUse, Span, DeclTree, InstanceTree, NetworkTree, ParameterTree, block_type, adapter_type, subapplication_type, system_configuration, structure_type, Section, TypeUse, UnitKind, Connection, End, Role, Sources, tree_at, fault_at, first_ones, stands_for, Meanings, instances_in, same_side, type_ports_of, Code, DataType, Literal, ParameterUnknown, PassThrough, PortSide, PortUnknown, SecondAdapter, SecondSource, Fault, DeclaredVariable, contains_flat_map, contains_nothing, contains_single, in_unless, origin_in_flat_map, origin_in_map, Position, Source, Destination, Target, Unknown, NotJudged, Found, connection_faults, end_span, right_side, target, application_network, net_faults_of, network_faults, tree_faults, all_parameters, instance_parameters, judged_parameters, parameter_faults, typed_parameters, value_faults, fault_at_path, repeated, all_adapter_ends, data_destinations, end_path, second_adapters, second_sources, NetworkPlace, connection_span, end_faults, fault_of, is_own_port, pass_through_faults, joined_types, IsNetworkOf, Site, place_of}
 use Rattle.fb_tree.specs.declared.interface.Section.TheVariants as sections
-use Rattle.fb_tree.specs.declared.interface.TypeUse.{TypeUse}
-use Rattle.fb_tree.specs.declared.kinds.UnitKind.{UnitKind}
 use Rattle.fb_tree.specs.declared.kinds.UnitKind.TheVariants as kinds
-use Rattle.fb_tree.specs.declared.network.Connection.{Connection}
-use Rattle.fb_tree.specs.declared.network.End.{End}
-use Rattle.fb_tree.specs.declared.network.Role.{Role}
 use Rattle.fb_tree.specs.declared.network.Role.TheVariants as roles
-use Rattle.fb_deploy.specs.Library.View.{Sources, tree_at}
-use Rattle.fb_deploy.specs.Iface.Fault.{fault_at}
-use Rattle.fb_deploy.specs.Iface.Names.{first_ones, stands_for}
-use Rattle.fb_deploy.specs.Iface.Ports.{Meanings, instances_in, same_side}
-use Rattle.fb_deploy.specs.Iface.Scope.{type_ports_of}
-use Rattle.fb_deploy.specs.Iface.declared.code.Code.{Code}
-use Rattle.fb_deploy.specs.Iface.declared.code.Code.TheVariants.{DataType, Literal, ParameterUnknown, PassThrough, PortSide, PortUnknown, SecondAdapter, SecondSource}
-use Rattle.fb_deploy.specs.Iface.declared.fault.Fault.{Fault}
-use Rattle.fb_deploy.specs.Iface.declared.ports.DeclaredVariable.{DeclaredVariable}
-use Rattle.fb_text.proofs.Members.{contains_flat_map, contains_nothing, contains_single, in_unless, origin_in_flat_map, origin_in_map}
-use Rattle.fb_netcheck.specs.declared.ends.Position.{Position}
-use Rattle.fb_netcheck.specs.declared.ends.Position.TheVariants.{Source, Destination}
-use Rattle.fb_netcheck.specs.declared.ends.Target.{Target}
-use Rattle.fb_netcheck.specs.declared.ends.Target.TheVariants.{Unknown, NotJudged, Found}
-use Rattle.fb_netcheck.specs.Connections.{connection_faults}
-use Rattle.fb_netcheck.specs.Ends.{end_span, right_side, target}
-use Rattle.fb_netcheck.specs.Networks.{application_network, net_faults_of, network_faults, tree_faults}
-use Rattle.fb_netcheck.specs.Parameters.{all_parameters, instance_parameters, judged_parameters, parameter_faults, typed_parameters, value_faults}
-use Rattle.fb_netcheck.specs.Paths.{fault_at_path, repeated}
-use Rattle.fb_netcheck.specs.Repeats.{all_adapter_ends, data_destinations, end_path, second_adapters, second_sources}
-use Rattle.fb_netcheck.specs.Settings.{NetworkPlace}
-use Rattle.fb_netcheck.specs.Sides.{connection_span, end_faults, fault_of, is_own_port, pass_through_faults}
-use Rattle.fb_netcheck.specs.Types.{joined_types}
 use Rattle.fb_laws.proofs.DeclarationRows.{misfit_origin}
 use Rattle.fb_laws.proofs.Joined.{in_joined, in_where, of_either}
-use Rattle.fb_laws.specs.Ends.{IsNetworkOf, Site, of_block, of_subapplication, of_application, place_of}
+use Rattle.fb_laws.specs.Ends.{of_block, of_subapplication, of_application}
 
 -- the place of a network as the check has it
 abbrev pub place_at : Sources → Site → NetworkTree → NetworkPlace
@@ -140,15 +109,9 @@ module _ (sources : Sources) (here : NetworkPlace) (n : NetworkTree) where
       other : (p : ParameterTree) → Contains (fault_at ParameterUnknown p.name ∷ []) f → Contains (part f.code) f
       other p h = moved f ParameterUnknown (code_of _ f (contains_single (fault_at ParameterUnknown p.name) f h)) c
 
-      of_value : (section : Section) (used : TypeUse) (p : ParameterTree) → Contains (value_faults section used p) f → Contains (part f.code) f
-      of_value sections.Input used p h = moved f Literal (sym (misfit_origin used p.value f h).0) c
-      of_value sections.Output used p h = other p h
-      of_value sections.Internal used p h = other p h
-      of_value sections.Field used p h = other p h
-
       by : (v : Option DeclaredVariable) (p : ParameterTree) → Contains (parameter_faults v p) f → Contains (part f.code) f
       by None p h = other p h
-      by (Some v) p h = of_value v.section v.type_use p h
+      by (Some v) p h = (elim v.section as (λ section. (used : TypeUse) → (p : ParameterTree) → Contains (value_faults section used p) f → Contains (part f.code) f) [ sections.Input ↦ λ used p h. moved f Literal (sym (misfit_origin used p.value f h).0) c | o ↦ λ used p h. other p h ]) v.type_use p h
 
   in_part : (f : Fault) → Contains (network_faults sources here n) f → Contains (part f.code) f
   in_part = of_either _ _ (of_either _ _ (of_either _ _ (of_either _ _ connections_part types_part) sources_part) adapters_part) parameters_part
@@ -168,12 +131,10 @@ network_origin sources unit f c = by (tree_at sources unit) refl c
     found here n stands h = record { here = here; network = n; stands = stands; has = in_part sources (place_at sources here n) n f h }
 
     by : (o : Option DeclTree) → tree_at sources unit ≡ o → Contains (tree_faults sources unit o) f → NetworkOrigin sources unit f
-    by None e h = absurd (contains_nothing f h)
     by (Some (block_type d)) e h = found _ d.network (of_block d e) h
-    by (Some (adapter_type d)) e h = absurd (contains_nothing f h)
     by (Some (subapplication_type d)) e h = found _ d.network (of_subapplication d e) h
     by (Some (system_configuration s)) e h = let a = origin_in_flat_map (application_network sources unit) s.applications f h in found _ a.origin.network (of_application s a.origin e a.among) a.has
-    by (Some (structure_type s)) e h = absurd (contains_nothing f h)
+    by o e h = absurd (contains_nothing f h)
 
 module _ (sources : Sources) (unit : List ℕ) (here : Site) (n : NetworkTree) (stands : IsNetworkOf sources unit here n) where
   network_reported : (f : Fault) → Contains (network_faults sources (place_at sources here n) n) f → Contains (net_faults_of sources unit) f
@@ -205,11 +166,8 @@ own_instances sources unit here n is = refl
 -- where ends stand
 
 pub end_place : (e : End) → end_span e ≡ place_of e
-end_place e = by e.port
-  where
-    by : (port : Option NameUse) → end_span (record { name = e.name; port = port }) ≡ place_of (record { name = e.name; port = port })
-    by None = refl
-    by (Some p) = refl
+end_place e =
+    elim e.port as (λ port. end_span (record { name = e.name; port = port }) ≡ place_of (record { name = e.name; port = port })) [ None ↦ refl | Some p ↦ refl ]
 
 abbrev pub fault_at_end : Code → End → Fault
 fault_at_end code e = record { code = code; span = place_of e }

@@ -1,31 +1,13 @@
 -- Parameters that stand for no data input, and values that don't fit, by what the list of faults has.
 use Rattle.std.proofs.Common.{◌≡◌, ◌≢◌, ℕ, Bool, true, false, List, [], ◌∷◌, Option, Some, None, refl, sym, ap, ◌∙◌, subst, true≢false}
 use Rattle.std.specs.List.{Contains}
-use Rattle.fb_text.specs.declared.token.Span.{Span}
-use Rattle.fb_tree.specs.Tree.{InstanceTree, NetworkTree, ParameterTree}
-use Rattle.fb_tree.specs.declared.interface.Section.{Section}
+use Rattle.fb_laws.proofs.Common.{Span, InstanceTree, NetworkTree, ParameterTree, Section, Sources, fault_at, literal_fault, stands_for, Meanings, IsMisfit, Code, Literal, ParameterUnknown, Fault, DeclaredVariable, contains_here, contains_single, net_faults_of, all_parameters, parameter_faults, value_faults, NetworkPlace, IsNetworkOf, Site, IsUsable, HasMisfit, HasUnknownParameter, ParametersAreKnown, ParametersFit}
 use Rattle.fb_tree.specs.declared.interface.Section.TheVariants as sections
 use Rattle.fb_tree.specs.declared.network.Role.TheVariants as roles
-use Rattle.fb_deploy.specs.Library.View.{Sources}
-use Rattle.fb_deploy.specs.Iface.Fault.{fault_at}
-use Rattle.fb_deploy.specs.Iface.Literals.{literal_fault}
-use Rattle.fb_deploy.specs.Iface.Names.{stands_for}
-use Rattle.fb_deploy.specs.Iface.Ports.{Meanings}
-use Rattle.fb_laws.specs.Declarations.{IsMisfit}
-use Rattle.fb_deploy.specs.Iface.declared.code.Code.{Code}
-use Rattle.fb_deploy.specs.Iface.declared.code.Code.TheVariants.{Literal, ParameterUnknown}
-use Rattle.fb_deploy.specs.Iface.declared.fault.Fault.{Fault}
-use Rattle.fb_deploy.specs.Iface.declared.ports.DeclaredVariable.{DeclaredVariable}
-use Rattle.fb_text.proofs.Members.{contains_here, contains_single}
-use Rattle.fb_netcheck.specs.Networks.{net_faults_of}
-use Rattle.fb_netcheck.specs.Parameters.{all_parameters, parameter_faults, value_faults}
-use Rattle.fb_netcheck.specs.Settings.{NetworkPlace}
-use Rattle.fb_laws.specs.Ends.{IsNetworkOf, Site}
-use Rattle.fb_laws.specs.Usable.{IsUsable}
-use Rattle.fb_laws.specs.Networks.{HasMisfit, HasUnknownParameter, ParametersAreKnown, ParametersFit}
 use Rattle.fb_laws.proofs.DeclarationRows.{misfit_origin, misfit_reported}
 use Rattle.fb_laws.proofs.NetworkLemmas.{ParameterOrigin, network_origin, parameter_origin, parameter_reported, place_at, reported}
 use Rattle.fb_laws.proofs.UsableTypes.{known_type, listed_type, told_type}
+use Rattle.fb_laws.proofs.Joined.{iff}
 
 -- what is so where a unit has a fault of a parameter
 abbrev Has : Code → Sources → List ℕ → Span → Type 0
@@ -35,22 +17,15 @@ Has code = λ sources unit span. ⊥
 
 abbrev is_input : Section → Bool
 is_input sections.Input = true
-is_input sections.Output = false
-is_input sections.Internal = false
-is_input sections.Field = false
+is_input o = false
 
 other_section : (s : Section) → is_input s ≡ false → s ≢ sections.Input
 other_section s e is = true≢false (sym (ap is_input is) ∙ e)
 
 input_missing : (o : Option DeclaredVariable) (p : ParameterTree) → ((v : DeclaredVariable) → o ≡ Some v → v.section ≢ sections.Input) → Contains (parameter_faults o p) (fault_at ParameterUnknown p.name)
 input_missing None p none = contains_here (fault_at ParameterUnknown p.name) []
-input_missing (Some d) p none = by d.section (none d refl)
-  where
-    by : (s : Section) → s ≢ sections.Input → Contains (value_faults s d.type_use p) (fault_at ParameterUnknown p.name)
-    by sections.Input other = absurd (other refl)
-    by sections.Output other = contains_here (fault_at ParameterUnknown p.name) []
-    by sections.Internal other = contains_here (fault_at ParameterUnknown p.name) []
-    by sections.Field other = contains_here (fault_at ParameterUnknown p.name) []
+input_missing (Some d) p none =
+    (elim d.section as (λ s. s ≢ sections.Input → Contains (value_faults s d.type_use p) (fault_at ParameterUnknown p.name)) [ sections.Input ↦ λ other. absurd (other refl) | o ↦ λ other. contains_here (fault_at ParameterUnknown p.name) [] ]) (none d refl)
 
 input_unfit : (o : Option DeclaredVariable) (p : ParameterTree) (v : DeclaredVariable) (span : Span) → o ≡ Some v → v.section ≡ sections.Input → IsMisfit v.type_use p.value span → Contains (parameter_faults o p) (literal_fault span)
 input_unfit o p v span e is m =
@@ -65,7 +40,7 @@ module _ (sources : Sources) (unit : List ℕ) (here : Site) (n : NetworkTree) (
   Finds f = Has f.code sources unit f.span
 
   found : (f : Fault) → Contains (all_parameters at.scope n.instances) f → Finds f
-  found f c = let o = parameter_origin at n f c in by o (stands_for o.ports.variables o.parameter.name.name) refl o.has
+  found f c = let o = parameter_origin at n f c in (elim (stands_for o.ports.variables o.parameter.name.name) as (λ v. stands_for o.ports.variables o.parameter.name.name ≡ v → Contains (parameter_faults v o.parameter) f → Finds f) [ None ↦ λ e h. unknown o (λ v same. let fails : ⊥ = cc in absurd fails) h | Some d ↦ λ e h. by_section o d d.section e refl h ]) refl o.has
     where
       usable_type : (o : ParameterOrigin at n f) → IsUsable sources o.instance.type_name.name roles.Block o.ports
       usable_type o = known_type sources o.instance.type_name.name roles.Block o.ports (sym (listed_type sources n o.instance o.listed roles.Block) ∙ o.usable)
@@ -117,10 +92,6 @@ module _ (sources : Sources) (unit : List ℕ) (here : Site) (n : NetworkTree) (
       by_section o d sections.Internal e is h = unknown o (outside o d sections.Internal e is refl) h
       by_section o d sections.Field e is h = unknown o (outside o d sections.Field e is refl) h
 
-      by : (o : ParameterOrigin at n f) (v : Option DeclaredVariable) → stands_for o.ports.variables o.parameter.name.name ≡ v → Contains (parameter_faults v o.parameter) f → Finds f
-      by o None e h = unknown o (λ v same. let fails : ⊥ = cc in absurd fails) h
-      by o (Some d) e h = by_section o d d.section e refl h
-
   -- and the other way
   known_reported : {span there : Span} (code : Code) (i : InstanceTree) (ports : Meanings) (p : ParameterTree) → Contains n.instances i → i.role ≡ roles.Block → IsUsable sources i.type_name.name roles.Block ports → Contains i.parameters p → span ≡ there → Contains (parameter_faults (stands_for ports.variables p.name.name) p) (record { code = code; span = there }) → Contains (net_faults_of sources unit) (record { code = code; span = span })
   known_reported {there = there} code i ports p listed is_block usable written place has =
@@ -129,15 +100,11 @@ module _ (sources : Sources) (unit : List ℕ) (here : Site) (n : NetworkTree) (
       (parameter_reported at n (record { code = code; span = there }) (record { instance = i; listed = listed; is_block = is_block; ports = ports; usable = type; parameter = p; written = written; has = has }))
 
 pub known : ParametersAreKnown
-known sources unit span = (λ c. let o = network_origin sources unit _ c in found sources unit o.here o.network o.stands _ o.has, from)
-  where
-    from : HasUnknownParameter sources unit span → Contains (net_faults_of sources unit) (record { code = ParameterUnknown; span = span })
-    from h =
-        known_reported sources unit h.here h.network h.stands ParameterUnknown h.instance h.ports h.parameter h.listed h.is_block h.usable h.written h.place (input_missing (stands_for h.ports.variables h.parameter.name.name) h.parameter h.no_input)
+known sources unit span =
+    iff (λ c. let o = network_origin sources unit _ c in found sources unit o.here o.network o.stands _ o.has)
+    (λ h. known_reported sources unit h.here h.network h.stands ParameterUnknown h.instance h.ports h.parameter h.listed h.is_block h.usable h.written h.place (input_missing (stands_for h.ports.variables h.parameter.name.name) h.parameter h.no_input))
 
 pub fit : ParametersFit
-fit sources unit span = (λ c. let o = network_origin sources unit _ c in found sources unit o.here o.network o.stands _ o.has, from)
-  where
-    from : HasMisfit sources unit span → Contains (net_faults_of sources unit) (record { code = Literal; span = span })
-    from h =
-        known_reported sources unit h.here h.network h.stands Literal h.instance h.ports h.parameter h.listed h.is_block h.usable h.written refl (input_unfit (stands_for h.ports.variables h.parameter.name.name) h.parameter h.input span h.first h.is_input h.misfit)
+fit sources unit span =
+    iff (λ c. let o = network_origin sources unit _ c in found sources unit o.here o.network o.stands _ o.has)
+    (λ h. known_reported sources unit h.here h.network h.stands Literal h.instance h.ports h.parameter h.listed h.is_block h.usable h.written refl (input_unfit (stands_for h.ports.variables h.parameter.name.name) h.parameter h.input span h.first h.is_input h.misfit))

@@ -3,23 +3,10 @@ use Rattle.std.proofs.Common.{◌≡◌, ◌≢◌, ℕ, Bool, true, false, List
 use Rattle.std.specs.List.{Contains, slice_get}
 use Rattle.std.specs.FinMap.{get}
 use Rattle.std.specs.Option.{option_and_then}
-use Rattle.fb_text.specs.declared.token.Span.{Span}
-use Rattle.fb_deploy.specs.Parse.Body.{BodyTree, BrokenAt, Whole, body_of}
-use Rattle.fb_deploy.specs.Library.View.{Sources, tree_at, tree_in, tree_of}
-use Rattle.fb_deploy.specs.Iface.Declarations.{iface_faults_of}
-use Rattle.fb_deploy.specs.Iface.declared.code.Code.{Code}
-use Rattle.fb_deploy.specs.Iface.declared.code.Code.TheVariants.{Syntax, NameDiffers, Duplicate, MixedKind, UnknownType, WrongKind, WithUnknown, StateUnknown, EventUnknown, AlgorithmUnknown, VariableUnknown, Class, PortUnknown, PortSide, DataType, SecondSource, SecondAdapter, PassThrough, ParameterUnknown, Literal, MappedTwice, NoSuchResource, MemberUnknown, StructRecursive}
-use Rattle.fb_deploy.specs.Iface.declared.fault.Fault.{Fault}
-use Rattle.fb_expr.specs.Charts.{expr_faults_of}
-use Rattle.fb_ecc.specs.Charts.{ecc_faults_of}
-use Rattle.fb_netcheck.specs.Networks.{net_faults_of}
-use Rattle.fb_deploy.specs.Faults.Mappings.{mapping_faults_of}
-use Rattle.fb_deploy.specs.Faults.Faults.{body_faults, faults_of, reported_of, syntax_faults_of, text_faults}
-use Rattle.fb_text.proofs.Members.{contains_nothing, contains_single, in_written}
-use Rattle.fb_deploy.proofs.Faults.OrderLemmas.{those_reported}
-use Rattle.fb_laws.specs.UnitParts.{CodesAreOfTheirParts, ConstantsAreOfTwoParts, HasPart, IsCodeOf, IsOfConstants, IsOfPart, Part, Declarations, Expressions, Charts, Networks, Mappings, PartsHaveAllOtherCodes, PartsShareOneCode, WholeUnitsHaveFaultsOfParts, faults_by, of_constant, other_name, duplicate, mixed_kind, unknown_type, wrong_kind, unknown_with, initial_value, recursive_structure, unknown_variable, unknown_member, class, unknown_state, unknown_event, unknown_algorithm, unknown_port, wrong_side, other_type, second_source, second_adapter, passage, unknown_parameter, parameter_value, second_mapping, lost_mapping}
-use Rattle.fb_laws.specs.Texts.{broken_at}
-use Rattle.fb_laws.proofs.CodeLemmas.{own_codes}
+use Rattle.fb_laws.proofs.Common.{Span, BodyTree, BrokenAt, Whole, body_of, Sources, tree_at, tree_in, tree_of, iface_faults_of, Code, Syntax, NameDiffers, Duplicate, MixedKind, UnknownType, WrongKind, WithUnknown, StateUnknown, EventUnknown, AlgorithmUnknown, VariableUnknown, PortUnknown, PortSide, DataType, SecondSource, SecondAdapter, PassThrough, ParameterUnknown, Literal, MappedTwice, NoSuchResource, MemberUnknown, StructRecursive, Fault, expr_faults_of, ecc_faults_of, net_faults_of, mapping_faults_of, body_faults, faults_of, reported_of, syntax_faults_of, text_faults, contains_nothing, contains_single, in_written, those_reported, CodesAreOfTheirParts, ConstantsAreOfTwoParts, HasPart, IsCodeOf, IsOfConstants, IsOfPart, Declarations, Charts, Networks, Mappings, PartsHaveAllOtherCodes, PartsShareOneCode, WholeUnitsHaveFaultsOfParts, faults_by, of_constant, other_name, duplicate, mixed_kind, unknown_type, wrong_kind, unknown_with, initial_value, recursive_structure, unknown_variable, unknown_member, class, unknown_state, unknown_event, unknown_algorithm, unknown_port, wrong_side, other_type, second_source, second_adapter, passage, unknown_parameter, parameter_value, second_mapping, lost_mapping, broken_at}
+use Rattle.fb_deploy.specs.Iface.declared.code.Code.TheVariants.{Class}
+use Rattle.fb_laws.specs.UnitParts.{Part, Expressions}
+use Rattle.fb_laws.proofs.CodeLemmas.{own_codes, codes}
 use Rattle.fb_laws.proofs.Joined.{in_joined, of_either}
 
 -- the parts of a code
@@ -70,29 +57,7 @@ no_text_code part code c e = true≢false (sym (ap is_of_texts e) ∙ (home_of p
 -- the list that has a code
 listed_code : (code : Code) → code ≢ Syntax → HasPart code
 listed_code Syntax other = absurd (other refl)
-listed_code NameDiffers other = record { part = Declarations; is = other_name }
-listed_code Duplicate other = record { part = Declarations; is = duplicate }
-listed_code MixedKind other = record { part = Declarations; is = mixed_kind }
-listed_code UnknownType other = record { part = Declarations; is = unknown_type }
-listed_code WrongKind other = record { part = Declarations; is = wrong_kind }
-listed_code WithUnknown other = record { part = Declarations; is = unknown_with }
-listed_code StateUnknown other = record { part = Charts; is = unknown_state }
-listed_code EventUnknown other = record { part = Charts; is = unknown_event }
-listed_code AlgorithmUnknown other = record { part = Charts; is = unknown_algorithm }
-listed_code VariableUnknown other = record { part = Expressions; is = unknown_variable }
-listed_code Class other = record { part = Expressions; is = class }
-listed_code PortUnknown other = record { part = Networks; is = unknown_port }
-listed_code PortSide other = record { part = Networks; is = wrong_side }
-listed_code DataType other = record { part = Networks; is = other_type }
-listed_code SecondSource other = record { part = Networks; is = second_source }
-listed_code SecondAdapter other = record { part = Networks; is = second_adapter }
-listed_code PassThrough other = record { part = Networks; is = passage }
-listed_code ParameterUnknown other = record { part = Networks; is = unknown_parameter }
-listed_code Literal other = record { part = Declarations; is = initial_value }
-listed_code MappedTwice other = record { part = Mappings; is = second_mapping }
-listed_code NoSuchResource other = record { part = Mappings; is = lost_mapping }
-listed_code MemberUnknown other = record { part = Expressions; is = unknown_member }
-listed_code StructRecursive other = record { part = Declarations; is = recursive_structure }
+listed_code code other = record { part = own_part code; is = search codes }
 
 pub all_other_codes : PartsHaveAllOtherCodes
 all_other_codes code = (listed_code code, λ p. no_text_code p.part code p.is)
@@ -106,14 +71,10 @@ pub record TextOrigin (sources : Sources) (unit : List ℕ) (f : Fault) : Type 0
   pub code : f.code ≡ Syntax
 
 pub text_origin : (sources : Sources) (unit : List ℕ) (f : Fault) → Contains (text_faults (get sources unit)) f → TextOrigin sources unit f
-text_origin sources unit f c = let w = in_written (λ (t : List ℕ). body_faults (body_of t)) (get sources unit) f c in by w.item w.is (body_of w.item) refl w.has
+text_origin sources unit f c = let w = in_written (λ (t : List ℕ). body_faults (body_of t)) (get sources unit) f c in (elim (body_of w.item) as (λ body. body_of w.item ≡ body → Contains (body_faults body) f → TextOrigin sources unit f) [ Whole decl ↦ λ e h. absurd (contains_nothing f h) | BrokenAt span ↦ λ e h. made w.item w.is span e (contains_single (broken_at span) f h) ]) refl w.has
   where
     made : (text : List ℕ) → get sources unit ≡ Some text → (span : Span) → body_of text ≡ BrokenAt span → broken_at span ≡ f → TextOrigin sources unit f
     made text is span e same = record { text = text; present = is; broken = e ∙ ap (λ (g : Fault). BrokenAt g.span) same; code = sym (ap (λ (g : Fault). g.code) same) }
-
-    by : (text : List ℕ) → get sources unit ≡ Some text → (body : BodyTree) → body_of text ≡ body → Contains (body_faults body) f → TextOrigin sources unit f
-    by text is (Whole decl) e h = absurd (contains_nothing f h)
-    by text is (BrokenAt span) e h = made text is span e (contains_single (broken_at span) f h)
 
 -- the parts of what is reported
 
@@ -153,27 +114,18 @@ pub no_tree : (sources : Sources) (unit : List ℕ) (f : Fault) → TextOrigin s
 no_tree sources unit f o = ap (option_and_then tree_of) o.present ∙ ap tree_in o.broken
 
 pub whole_units : WholeUnitsHaveFaultsOfParts
-whole_units sources unit decl there f = (λ c. by (is_found sources unit f c), λ o. part_found sources unit f o.part o.reported)
+whole_units sources unit decl there f = (λ c. (elim (is_found sources unit f c) [ of_text o ↦ absurd (none_is_some (sym (no_tree sources unit f o) ∙ there)) | of_part part h ↦ record { part = part; reported = h } ]), λ o. part_found sources unit f o.part o.reported)
   where
     none_is_some : None ≡ Some decl → ⊥
     none_is_some e = let fails : ⊥ = cc in fails
 
-    by : IsReported sources unit f → IsOfPart sources unit f
-    by (of_text o) = absurd (none_is_some (sym (no_tree sources unit f o) ∙ there))
-    by (of_part part h) = record { part = part; reported = h }
-
 pub of_their_parts : CodesAreOfTheirParts
-of_their_parts part sources unit f code other = (λ c. by (is_found sources unit f c), λ h. part_found sources unit f part h)
+of_their_parts part sources unit f code other = (λ c. (elim (is_found sources unit f c) [ of_text o ↦ absurd (no_text_code part f.code code o.code) | of_part q h ↦ subst (λ (p : Part). Contains (faults_by p sources unit) f) (same q (home_of part f.code code).1 (home_of q f.code (own_codes q sources unit f h)).1) h ]), λ h. part_found sources unit f part h)
   where
     same : (q : Part) → (part ≡ own_part f.code) ⊎ ((part ≡ Networks) × (f.code ≡ Literal)) → (q ≡ own_part f.code) ⊎ ((q ≡ Networks) × (f.code ≡ Literal)) → q ≡ part
     same q (inl e) (inl g) = g ∙ sym e
     same q (inl e) (inr g) = absurd (other g.1)
     same q (inr e) g = absurd (other e.1)
-
-    by : IsReported sources unit f → Contains (faults_by part sources unit) f
-    by (of_text o) = absurd (no_text_code part f.code code o.code)
-    by (of_part q h) =
-        subst (λ (p : Part). Contains (faults_by p sources unit) f) (same q (home_of part f.code code).1 (home_of q f.code (own_codes q sources unit f h)).1) h
 
 pub of_two_parts : ConstantsAreOfTwoParts
 of_two_parts sources unit span = (λ c. by (is_found sources unit it c), from)

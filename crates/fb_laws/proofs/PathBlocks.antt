@@ -3,33 +3,9 @@ use Rattle.std.proofs.Common.{◌≡◌, ℕ, List, [], ◌∷◌, ◌++◌, Opt
 use Rattle.std.specs.Prelude.{Contains, map, option_map}
 use Rattle.std.specs.List.{filter_map, flat_map}
 use Rattle.std.proofs.lemmas.List.Elements.{Contains-append_cases, Contains-append_left, Contains-append_right}
-use Rattle.fb_text.proofs.Members.{contains_cases, contains_flat_map, contains_here, contains_later, contains_map, contains_nothing, origin_in_flat_map, origin_in_map}
-use Rattle.fb_tree.specs.Tree.{ApplicationTree, DeclTree, InstanceTree, SystemTree, block_type, adapter_type, subapplication_type, system_configuration, structure_type}
-use Rattle.fb_tree.specs.Mentions.{unit_kind_of}
-use Rattle.fb_tree.specs.declared.network.Role.{Role}
+use Rattle.fb_laws.proofs.Common.{contains_cases, contains_flat_map, contains_here, contains_later, contains_map, contains_nothing, origin_in_flat_map, origin_in_map, ApplicationTree, DeclTree, InstanceTree, SystemTree, block_type, adapter_type, subapplication_type, system_configuration, structure_type, unit_kind_of, Role, Sources, tree_at, HasFlat, applications_of, plain_application, declared, instance_in_role, network_of, plain_instance, AreFlatApplications, IsFlatApplication, IsUnitFlat, NoApplication, OfSubapplication, OfSystem, ThenApplication, Application, block_within, AreInstances, Held, NoInstance, ThenBlock, ThenSubapplication, held_as, held_within, leaf_first, leaves_of, View, PlainNetwork, PlainFlat, printed, dotted, IsSystemFlat, application_blocks, FlatApplication, FlatBlock, Instance, InstanceKind, IsSystemAt, IsAtPath, in_application, inside, with_points}
 use Rattle.fb_tree.specs.declared.network.Role.TheVariants as roles
-use Rattle.fb_deploy.specs.Library.View.{Sources, tree_at}
-use Rattle.fb_deploy.specs.Flatten.Net.{HasFlat}
-use Rattle.fb_wiring.specs.Applications.{applications_of, plain_application}
-use Rattle.fb_wiring.specs.ByName.{declared}
-use Rattle.fb_wiring.specs.Networks.{instance_in_role, network_of, plain_instance}
-use Rattle.fb_wiring.specs.Units.{AreFlatApplications, IsFlatApplication, IsUnitFlat, NoApplication, OfSubapplication, OfSystem, ThenApplication}
-use Rattle.fb_wiring.specs.declared.systems.Application.{Application}
-use Rattle.fb_wiring.specs.Network.Composed.{block_within}
-use Rattle.fb_wiring.specs.Network.Instances.{AreInstances, Held, NoInstance, ThenBlock, ThenSubapplication, held_as, held_within, leaf_first, leaves_of}
-use Rattle.fb_wiring.specs.Network.Network.{View}
-use Rattle.fb_wiring.specs.Network.Plain.{PlainNetwork}
-use Rattle.fb_wiring.specs.Network.PlainFlat.{PlainFlat}
-use Rattle.fb_wiring.specs.Network.Printed.{printed}
-use Rattle.fb_wiring.specs.Network.Places.{dotted}
-use Rattle.fb_wiring.specs.Network.SystemFlat.{IsSystemFlat, application_blocks}
-use Rattle.fb_wiring.specs.Network.declared.application.FlatApplication.{FlatApplication}
-use Rattle.fb_wiring.specs.Network.declared.flat.FlatBlock.{FlatBlock}
-use Rattle.fb_wiring.specs.Network.declared.network.Instance.{Instance}
-use Rattle.fb_wiring.specs.Network.declared.network.InstanceKind.{InstanceKind}
 use Rattle.fb_wiring.specs.Network.declared.network.InstanceKind.TheVariants.{Block, Subapplication}
-use Rattle.fb_laws.specs.Mappings.{IsSystemAt}
-use Rattle.fb_laws.specs.Paths.{IsAtPath, in_application, inside, with_points}
 use Rattle.fb_laws.proofs.CommandLemmas.{given, gives_member}
 use Rattle.fb_laws.proofs.PlanEnds.{instance_held, leaf_listed}
 use Rattle.fb_laws.proofs.PathTexts.{same_print}
@@ -67,10 +43,9 @@ of_tree i p e = by i.role refl e
     }
 
     by : (role : Role) → i.role ≡ role → instance_in_role role i.name.name i.type_name.name ≡ Some p → IsOfTree i p
-    by roles.Plug role g = absurd (let no : ⊥ = cc in no)
-    by roles.Socket role g = absurd (let no : ⊥ = cc in no)
     by roles.Block role g = made Block role (let same : in_plain i Block ≡ p = cc in same)
     by roles.Subapplication role g = made Subapplication role (let same : in_plain i Subapplication ≡ p = cc in same)
+    by o role g = absurd (let no : ⊥ = cc in no)
 
 -- an instance of a block or a subapplication among the plain ones
 among_plain : (instances : List InstanceTree) (i : InstanceTree) (kind : InstanceKind) → Contains instances i → i.role ≡ role_of kind → Contains (filter_map plain_instance instances) (in_plain i kind)
@@ -182,11 +157,6 @@ module _ (sources : Sources) (s : SystemTree) where
 
   -- the instances in the type of a subapplication instance
   step_in : (path : Path) (z : Instance) (tree : Option DeclTree) → z.kind ≡ Subapplication → tree_at sources z.type_name ≡ tree → StandsAs sources s (path ++ z.name ∷ []) z.kind z.type_name → (inner : PlainNetwork) → option_map network_of tree ≡ Some inner → (p : Instance) → Contains inner.instances p → StandsAs sources s ((path ++ z.name ∷ []) ++ p.name ∷ []) p.kind p.type_name
-  step_in path z None k there o inner e p c = absurd (let no : ⊥ = cc in no)
-  step_in path z (Some (block_type d)) k there o inner e p c = let same : network_of (block_type d) ≡ inner = cc in absurd (contains_nothing p (subst (λ (n : PlainNetwork). Contains n.instances p) (sym same) c))
-  step_in path z (Some (adapter_type d)) k there o inner e p c = let same : network_of (adapter_type d) ≡ inner = cc in absurd (contains_nothing p (subst (λ (n : PlainNetwork). Contains n.instances p) (sym same) c))
-  step_in path z (Some (system_configuration d)) k there o inner e p c = let same : network_of (system_configuration d) ≡ inner = cc in absurd (contains_nothing p (subst (λ (n : PlainNetwork). Contains n.instances p) (sym same) c))
-  step_in path z (Some (structure_type d)) k there o inner e p c = let same : network_of (structure_type d) ≡ inner = cc in absurd (contains_nothing p (subst (λ (n : PlainNetwork). Contains n.instances p) (sym same) c))
   step_in path z (Some (subapplication_type d)) k there o inner e p c =
       let same : network_of (subapplication_type d) ≡ inner = cc in
       let g = given plain_instance d.network.instances p (subst (λ (n : PlainNetwork). Contains n.instances p) (sym same) c) in
@@ -198,31 +168,21 @@ module _ (sources : Sources) (s : SystemTree) where
         in_role = t.in_role;
         of_type = t.typed;
       }
+  step_in path z None k there o inner e p c = absurd (let no : ⊥ = cc in no)
+  step_in path z (Some d) k there o inner e p c = let same : network_of d ≡ inner = cc in absurd (contains_nothing p (subst (λ (n : PlainNetwork). Contains n.instances p) (sym same) c))
 
   held_stands : {list : List Instance} {held : List Held} → AreInstances (declared sources) list held → (path : Path) → ((p : Instance) → Contains list p → StandsAs sources s (path ++ p.name ∷ []) p.kind p.type_name) → (h : Held) → Contains held h → Stands path h
   held_stands NoInstance path each h c = absurd (contains_nothing h c)
-  held_stands (ThenBlock z rest others k more) path each h c = by (contains_cases (held_as z) others h c) (λ d. held_stands more path (λ p cp. each p (contains_later z rest p cp)) h d)
-    where
-      by : (held_as z ≡ h) ⊎ Contains others h → (Contains others h → Stands path h) → Stands path h
-      by (inl same) later = subst (λ (w : Held). Stands path w) same (each z (contains_here z rest))
-      by (inr d) later = later d
+  held_stands (ThenBlock z rest others k more) path each h c =
+      elim (contains_cases (held_as z) others h c) [ inl same ↦ subst (λ (w : Held). Stands path w) same (each z (contains_here z rest)) | inr d ↦ held_stands more path (λ p cp. each p (contains_later z rest p cp)) h d ]
   held_stands (ThenSubapplication z rest inner own others k here within more) path each h c =
       by (contains_cases (held_as z) (map (held_within z.name) own ++ others) h c)
       (λ o co. held_stands within (path ++ z.name ∷ []) (λ p cp. step_in path z (tree_at sources z.type_name) k refl (each z (contains_here z rest)) inner here p cp) o co)
       (λ d. held_stands more path (λ p cp. each p (contains_later z rest p cp)) h d)
     where
-      below : (o : Held) → Stands (path ++ z.name ∷ []) o → Stands path (held_within z.name o)
-      below o st = subst (λ (q : Path). StandsAs sources s q o.kind o.typed) (append_assoc path (z.name ∷ []) o.path) st
-
-      by_part : Contains (map (held_within z.name) own) h ⊎ Contains others h → ((o : Held) → Contains own o → Stands (path ++ z.name ∷ []) o) → (Contains others h → Stands path h) → Stands path h
-      by_part (inl d) deeper later =
-          let o = origin_in_map (held_within z.name) own h d in
-          subst (λ (w : Held). Stands path w) o.gives (below o.origin (deeper o.origin o.among))
-      by_part (inr d) deeper later = later d
-
       by : (held_as z ≡ h) ⊎ Contains (map (held_within z.name) own ++ others) h → ((o : Held) → Contains own o → Stands (path ++ z.name ∷ []) o) → (Contains others h → Stands path h) → Stands path h
       by (inl same) deeper later = subst (λ (w : Held). Stands path w) same (each z (contains_here z rest))
-      by (inr d) deeper later = by_part (Contains-append_cases (map (held_within z.name) own) others h d) deeper later
+      by (inr d) deeper later = elim (Contains-append_cases (map (held_within z.name) own) others h d) [ inl d ↦ let o = origin_in_map (held_within z.name) own h d in subst (λ (w : Held). Stands path w) o.gives (subst (λ (q : Path). StandsAs sources s q o.origin.kind o.origin.typed) (append_assoc path (z.name ∷ []) o.origin.path) (deeper o.origin o.among)) | inr d ↦ later d ]
 
 -- ---- flat networks
 
@@ -262,19 +222,13 @@ later_pair {applications = applications} {flats = flats} {a = a} {f = f} z y p =
 
 flat_of : {view : View} {applications : List Application} {flats : List FlatApplication} → AreFlatApplications view applications flats → (a : Application) → Contains applications a → (f : FlatApplication) × IsPair view applications flats a f
 flat_of NoApplication a c = absurd (contains_nothing a c)
-flat_of {view = view} (ThenApplication {rest = rest} {others = others} z y is more) a c = by (contains_cases z rest a c) (λ d. flat_of more a d)
-  where
-    by : (z ≡ a) ⊎ Contains rest a → (Contains rest a → (f : FlatApplication) × IsPair view rest others a f) → (f : FlatApplication) × IsPair view (z ∷ rest) (y ∷ others) a f
-    by (inl same) later = (y, subst (λ (w : Application). IsPair view (z ∷ rest) (y ∷ others) w y) same (record { application_listed = contains_here z rest; flat_listed = contains_here y others; is = is }))
-    by (inr d) later = let p = later d in (p.0, later_pair z y p.1)
+flat_of {view = view} (ThenApplication {rest = rest} {others = others} z y is more) a c =
+    elim (contains_cases z rest a c) [ inl same ↦ (y, subst (λ (w : Application). IsPair view (z ∷ rest) (y ∷ others) w y) same (record { application_listed = contains_here z rest; flat_listed = contains_here y others; is = is })) | inr d ↦ let p = (flat_of more a d) in (p.0, later_pair z y p.1) ]
 
 application_of : {view : View} {applications : List Application} {flats : List FlatApplication} → AreFlatApplications view applications flats → (f : FlatApplication) → Contains flats f → (a : Application) × IsPair view applications flats a f
 application_of NoApplication f c = absurd (contains_nothing f c)
-application_of {view = view} (ThenApplication {rest = rest} {others = others} z y is more) f c = by (contains_cases y others f c) (λ d. application_of more f d)
-  where
-    by : (y ≡ f) ⊎ Contains others f → (Contains others f → (a : Application) × IsPair view rest others a f) → (a : Application) × IsPair view (z ∷ rest) (y ∷ others) a f
-    by (inl same) later = (z, subst (λ (w : FlatApplication). IsPair view (z ∷ rest) (y ∷ others) z w) same (record { application_listed = contains_here z rest; flat_listed = contains_here y others; is = is }))
-    by (inr d) later = let p = later d in (p.0, later_pair z y p.1)
+application_of {view = view} (ThenApplication {rest = rest} {others = others} z y is more) f c =
+    elim (contains_cases y others f c) [ inl same ↦ (z, subst (λ (w : FlatApplication). IsPair view (z ∷ rest) (y ∷ others) z w) same (record { application_listed = contains_here z rest; flat_listed = contains_here y others; is = is })) | inr d ↦ let p = (application_of more f d) in (p.0, later_pair z y p.1) ]
 
 -- ---- the blocks of the system
 

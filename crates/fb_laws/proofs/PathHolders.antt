@@ -6,33 +6,12 @@ use Rattle.std.specs.Str.{bytes_eq}
 use Rattle.std.specs.Cmp.Lexicographic.{nat_list_cmp_total}
 use Rattle.std.specs.FinMap.{nat_cmp-IsAntisymmetric, slice_cmp-IsAntisymmetric}
 use Rattle.std.proofs.lemmas.List.Elements.{Contains-append_left, Contains-append_right}
-use Rattle.fb_text.specs.declared.name.NameUse.{NameUse}
-use Rattle.fb_text.specs.Order.{name_cmp}
-use Rattle.fb_text.proofs.OrderLemmas.{in_order-members}
-use Rattle.fb_text.proofs.Members.{contains_flat_map, contains_here, contains_later, contains_map, contains_nothing, origin_in_flat_map}
-use Rattle.fb_tree.specs.Mentions.{instance_types, types_in, unit_kind_of}
-use Rattle.fb_tree.specs.Tree.{ApplicationTree, DeclTree, DeviceTree, InstanceTree, SystemTree, TypeTree, block_type, adapter_type, subapplication_type, system_configuration, structure_type}
+use Rattle.fb_laws.proofs.Common.{NameUse, name_cmp, in_order-members, contains_flat_map, contains_here, contains_later, contains_map, contains_nothing, origin_in_flat_map, instance_types, types_in, unit_kind_of, ApplicationTree, DeclTree, DeviceTree, InstanceTree, SystemTree, TypeTree, block_type, adapter_type, subapplication_type, system_configuration, structure_type, Role, PartRests, on_itself, Sources, parts_at, parts_in, tree_at, is_same, stands_for, chart_spaces, interface_spaces, network_spaces, resource_names, instances_of, suits, WrongKind, Fault, IsSound, same_exact, same_itself, parts_more, unit_faultless, sound_below, first_at, IsSystemAt, IsAtPath, in_application, inside}
 use Rattle.fb_tree.specs.declared.kinds.UnitKind.TheVariants as kinds
-use Rattle.fb_tree.specs.declared.network.Role.{Role}
 use Rattle.fb_tree.specs.declared.network.Role.TheVariants as roles
-use Rattle.fb_deploy.specs.Library.Rests.{PartRests, on_itself}
-use Rattle.fb_deploy.specs.Library.View.{Sources, parts_at, parts_in, tree_at}
-use Rattle.fb_deploy.specs.Iface.Names.{is_same, stands_for}
-use Rattle.fb_deploy.specs.Iface.Spaces.{chart_spaces, interface_spaces, network_spaces, resource_names}
-use Rattle.fb_deploy.specs.Iface.Types.{instances_of, suits}
-use Rattle.fb_deploy.specs.Iface.declared.code.Code.TheVariants.{WrongKind}
-use Rattle.fb_deploy.specs.Iface.declared.fault.Fault.{Fault}
-use Rattle.fb_deploy.specs.Flatten.Net.{IsSound}
 use Rattle.fb_deploy.specs.Flatten.Nothing.{HasNoReport}
-use Rattle.fb_deploy.proofs.Iface.NameLemmas.{same_exact, same_itself}
-use Rattle.fb_deploy.proofs.Library.Locality.{parts_more}
-use Rattle.fb_deploy.proofs.Flatten.ComputedNets.{unit_faultless}
 use Rattle.fb_deploy.proofs.Flatten.NameLemmas.{AreApart, apart, distinct, stands_for_itself}
 use Rattle.fb_deploy.proofs.Flatten.NothingLemmas.{nothing_reported}
-use Rattle.fb_deploy.proofs.Flatten.SoundLemmas.{sound_below}
-use Rattle.fb_placing.specs.Firsts.{first_at}
-use Rattle.fb_laws.specs.Mappings.{IsSystemAt}
-use Rattle.fb_laws.specs.Paths.{IsAtPath, in_application, inside}
 use Rattle.fb_laws.proofs.DeclarationRows.{not_suited, wrong_kinds}
 use Rattle.fb_laws.proofs.HomeLemmas.{bytes_same, same_bytes}
 
@@ -114,10 +93,8 @@ module _ (sources : Sources) (unit : List ℕ) (sound : IsSound sources unit) wh
           absurd (contains_nothing fault (subst (λ (l : List Fault). Contains l fault) (no_report h.name h.below).declarations has))
 
   subapplication_role : (role : Role) → suits role kinds.Subapplication ≡ true → role ≡ roles.Subapplication
-  subapplication_role roles.Plug e = absurd (true≢false (sym e))
-  subapplication_role roles.Socket e = absurd (true≢false (sym e))
-  subapplication_role roles.Block e = absurd (true≢false (sym e))
   subapplication_role roles.Subapplication e = refl
+  subapplication_role o e = absurd (true≢false (sym e))
 
   pub is_subapplication : (i : InstanceTree) → Holder sources unit i → (d : TypeTree) → tree_at sources i.type_name.name ≡ Some (subapplication_type d) → i.role ≡ roles.Subapplication
   is_subapplication i h d there = subapplication_role i.role (fits i h (subapplication_type d) there)

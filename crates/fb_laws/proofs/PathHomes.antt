@@ -3,19 +3,8 @@ use Rattle.std.proofs.Common.{◌≡◌, ◌≢◌, ℕ, ◌<◌, Bool, true, fa
 use Rattle.std.specs.Prelude.{Contains, find, option_map}
 use Rattle.std.specs.Str.{bytes_eq}
 use native.Mathlib.Decide.{dec_lt}
-use Rattle.fb_text.proofs.Members.{contains_cases, contains_here, contains_nothing}
+use Rattle.fb_laws.proofs.Common.{contains_cases, contains_here, contains_nothing, Span, MappingTree, SystemTree, on_itself, Sources, MappedTwice, Fault, IsSound, IsFront, IsNearest, mapping_home, mapping_path, resource_at, IsSystemAt, place_of_path, IsAbove, IsMappedTo, path_of, with_points}
 use Rattle.std.proofs.lemmas.List.Elements.{Contains-append_right}
-use Rattle.fb_text.specs.declared.token.Span.{Span}
-use Rattle.fb_tree.specs.Tree.{MappingTree, SystemTree}
-use Rattle.fb_deploy.specs.Library.Rests.{on_itself}
-use Rattle.fb_deploy.specs.Library.View.{Sources}
-use Rattle.fb_deploy.specs.Iface.declared.code.Code.TheVariants.{MappedTwice}
-use Rattle.fb_deploy.specs.Iface.declared.fault.Fault.{Fault}
-use Rattle.fb_deploy.specs.Flatten.Net.{IsSound}
-use Rattle.fb_wiring.specs.Network.Fronts.{IsFront, IsNearest}
-use Rattle.fb_placing.specs.Mappings.{mapping_home, mapping_path, resource_at}
-use Rattle.fb_laws.specs.Mappings.{IsSystemAt, place_of_path}
-use Rattle.fb_laws.specs.Paths.{IsAbove, IsMappedTo, path_of, with_points}
 use Rattle.fb_laws.proofs.HomeLemmas.{bytes_same, same_bytes}
 use Rattle.fb_laws.proofs.MappingRows.{own_paths}
 use Rattle.fb_laws.proofs.PathHolders.{no_report}
@@ -29,11 +18,8 @@ Path = List (List ℕ)
 -- where a member stands
 split_of : {X : Type 0} (xs : List X) (x : X) → Contains xs x → (before : List X) × (after : List X) × (xs ≡ before ++ x ∷ after)
 split_of [] x c = absurd (contains_nothing x c)
-split_of {X = X} (z ∷ zs) x c = by (contains_cases z zs x c) (λ d. split_of zs x d)
-  where
-    by : (z ≡ x) ⊎ Contains zs x → (Contains zs x → (before : List X) × (after : List X) × (zs ≡ before ++ x ∷ after)) → (before : List X) × (after : List X) × (z ∷ zs ≡ before ++ x ∷ after)
-    by (inl same) more = ([], zs, ap (λ (w : X). w ∷ zs) same)
-    by (inr d) more = let o = more d in (z ∷ o.0, o.1, ap (λ (l : List X). z ∷ l) o.2)
+split_of {X = X} (z ∷ zs) x c =
+    elim (contains_cases z zs x c) [ inl same ↦ ([], zs, ap (λ (w : X). w ∷ zs) same) | inr d ↦ let o = (split_of zs x d) in (z ∷ o.0, o.1, ap (λ (l : List X). z ∷ l) o.2) ]
 
 module _ (sources : Sources) (unit : List ℕ) (s : SystemTree) (is : IsSystemAt sources unit s) (sound : IsSound sources unit) where
   -- ---- each mapping has its own path

@@ -3,13 +3,7 @@ use Rattle.std.proofs.Common.{◌≢◌, ℕ, List, [], ◌∷◌, ◌++◌}
 use Rattle.std.specs.Prelude.{Contains, map}
 use Rattle.std.specs.List.{flat_map}
 use Rattle.std.proofs.lemmas.List.Elements.{Contains-append_left, Contains-append_right}
-use Rattle.fb_text.specs.declared.name.NameUse.{NameUse}
-use Rattle.fb_text.proofs.Members.{contains_flat_map, contains_here, contains_later, contains_map}
-use Rattle.fb_tree.specs.Tree.{ApplicationTree, InstanceTree, MappingTree, NetworkTree, SystemTree, TypeTree, subapplication_type, system_configuration}
-use Rattle.fb_deploy.specs.Library.View.{Sources}
-use Rattle.fb_laws.specs.Mappings.{IsSystemAt}
-use Rattle.fb_laws.specs.Paths.{IsAtPath, in_application, inside, path_of}
-use Rattle.fb_laws.specs.SpanParts.{Part, application_parts, chart_parts, connection_parts, device_parts, instance_parts, interface_parts, mapping_parts, name_part, network_parts, parameter_parts, tree_parts}
+use Rattle.fb_laws.proofs.Common.{NameUse, contains_flat_map, contains_here, contains_later, contains_map, ApplicationTree, InstanceTree, MappingTree, NetworkTree, SystemTree, TypeTree, subapplication_type, system_configuration, Sources, IsSystemAt, IsAtPath, in_application, inside, path_of, Part, application_parts, chart_parts, connection_parts, device_parts, instance_parts, interface_parts, mapping_parts, name_part, network_parts, parameter_parts, tree_parts}
 use Rattle.fb_laws.proofs.PlainNames.{IsPlain, name_in_unit}
 use Rattle.fb_laws.proofs.PathTexts.{ArePlain, plain_more}
 

@@ -5,35 +5,10 @@ use Rattle.std.specs.Cmp.Lexicographic.{nat_list_cmp_total}
 use Rattle.std.specs.FinMap.{nat_cmp-IsAntisymmetric, slice_cmp-IsAntisymmetric}
 use Rattle.std.proofs.lemmas.List.{append_cancel_left}
 use Rattle.std.proofs.lemmas.List.Elements.{Contains-append_cases, Contains-append_left, Contains-append_right}
-use Rattle.fb_text.specs.Order.{name_cmp, names_in_order}
-use Rattle.fb_text.proofs.OrderLemmas.{in_order-members}
-use Rattle.fb_text.proofs.Members.{contains_filter, contains_map, contains_nothing, origin_in_map, passes_in_filter}
-use Rattle.fb_tree.specs.Tree.{DeclTree, InstanceTree, MappingTree, SystemTree, system_configuration}
+use Rattle.fb_laws.proofs.Common.{name_cmp, names_in_order, in_order-members, contains_filter, contains_map, contains_nothing, origin_in_map, passes_in_filter, DeclTree, InstanceTree, MappingTree, SystemTree, system_configuration, Sources, tree_at, faulty, planned, planned_by, with_homes, HasFlat, IsNet, IsSound, PlainNet, blocked, flat_net, recursive, too_large, plan_at_is, PlainFlat, FlatBlock, Link, IsNearest, nearest, astray, block_homes, homeless, misplaced, unless_faulty, create_text, mapping_path, names_used, resource_at, PlainResource, leads_nowhere, mappings_in, Home, Misplaced, NoSuchBlock, Unmapped, Line, is_nearest, IsSystemAt, AllBlocksAreMade, BlocksAreMadeWhereMapped, IsAbove, IsAtPath, IsMappedTo, IsMisplaced, IsOfSomething, MakesMapped, MisplacedIsTold, NothingPlannedIsMisplaced, OnlyBlocksAreMade, making, of_nothing, path_of, unmapped, with_points, IsHome, BeginsWith, MakesItsBlocks}
 use Rattle.fb_tree.specs.declared.network.Role.TheVariants as roles
-use Rattle.fb_deploy.specs.Library.View.{Sources, tree_at}
-use Rattle.fb_deploy.specs.Deploy.{faulty, planned, planned_by, with_homes}
 use Rattle.fb_deploy.specs.Plans.{plan_at}
-use Rattle.fb_deploy.specs.Flatten.Net.{HasFlat, IsNet, IsSound, PlainNet, blocked, flat_net, recursive, too_large}
-use Rattle.fb_deploy.proofs.ComputedPlans.{plan_at_is}
-use Rattle.fb_wiring.specs.Network.PlainFlat.{PlainFlat}
-use Rattle.fb_wiring.specs.Network.declared.flat.FlatBlock.{FlatBlock}
-use Rattle.fb_wiring.specs.Network.declared.flat.Link.{Link}
-use Rattle.fb_wiring.specs.Network.Fronts.{IsNearest, nearest}
-use Rattle.fb_placing.specs.Homes.{astray, block_homes, homeless, misplaced, unless_faulty}
-use Rattle.fb_placing.specs.Lines.{create_text}
-use Rattle.fb_placing.specs.Mappings.{mapping_path, names_used, resource_at}
-use Rattle.fb_placing.specs.PlainResource.{PlainResource}
-use Rattle.fb_placing.specs.Standing.{leads_nowhere}
-use Rattle.fb_placing.specs.Systems.{mappings_in}
-use Rattle.fb_placing.specs.declared.homes.Home.{Home}
-use Rattle.fb_placing.specs.declared.homes.Misplaced.{Misplaced}
-use Rattle.fb_placing.specs.declared.homes.Misplaced.TheVariants.{NoSuchBlock, Unmapped}
-use Rattle.fb_placing.specs.declared.lines.Line.{Line}
-use Rattle.fb_wiring.proofs.Network.NearestLemmas.{is_nearest}
-use Rattle.fb_laws.specs.Mappings.{IsSystemAt}
-use Rattle.fb_laws.specs.Paths.{AllBlocksAreMade, BlocksAreMadeWhereMapped, IsAbove, IsAtPath, IsMade, IsMappedTo, IsMisplaced, IsOfSomething, MakesMapped, MisplacedIsTold, NothingPlannedIsMisplaced, OnlyBlocksAreMade, making, of_nothing, path_of, unmapped, with_points}
-use Rattle.fb_laws.specs.Planned.{IsHome}
-use Rattle.fb_laws.specs.Plans.{BeginsWith, MakesItsBlocks}
+use Rattle.fb_laws.specs.Paths.{IsMade}
 use Rattle.fb_laws.proofs.CommandRows.{blocks_made}
 use Rattle.fb_laws.proofs.EntryLemmas.{homes_have}
 use Rattle.fb_laws.proofs.HomeLemmas.{of_nearest}

@@ -3,17 +3,11 @@ use Rattle.std.proofs.Common.{◌≡◌, ℕ, Bool, true, false, not, List, [], 
 use Rattle.std.specs.Prelude.{Contains, find, is_none, option_and_then, option_map}
 use Rattle.std.specs.Option.{option_map_or}
 use Rattle.std.specs.Str.{bytes_eq}
-use Rattle.fb_text.proofs.Members.{contains_nothing, passes_in_find}
-use Rattle.fb_tree.specs.Tree.{ApplicationTree, DeclTree, InstanceTree, SystemTree, block_type, adapter_type, subapplication_type, system_configuration, structure_type}
-use Rattle.fb_tree.specs.declared.network.Role.{Role}
+use Rattle.std.proofs.lemmas.Bool.{not-false}
+use Rattle.fb_laws.proofs.Common.{contains_nothing, passes_in_find, ApplicationTree, DeclTree, InstanceTree, SystemTree, block_type, adapter_type, subapplication_type, system_configuration, structure_type, Role, Sources, tree_at, IsSound, first_at, PlainStanding, application_called, inner_instances, is_placed, leads_nowhere, standing_among, standing_at, standing_beyond, standing_inside, IsSystemAt, IsAtPath, IsOfSomething, in_application, inside, of_application}
 use Rattle.fb_tree.specs.declared.network.Role.TheVariants as roles
-use Rattle.fb_deploy.specs.Library.View.{Sources, tree_at}
-use Rattle.fb_deploy.specs.Flatten.Net.{IsSound}
-use Rattle.fb_placing.specs.Firsts.{first_at}
-use Rattle.fb_placing.specs.Standing.{PlainStanding, application_called, inner_instances, is_placed, leads_nowhere, standing_among, standing_at, standing_beyond, standing_inside}
 use Rattle.fb_placing.proofs.StandingLemmas.{beyond_nothing}
-use Rattle.fb_laws.specs.Mappings.{IsSystemAt}
-use Rattle.fb_laws.specs.Paths.{IsAtPath, IsOfSomething, in_application, inside, of_application, of_block, of_subapplication}
+use Rattle.fb_laws.specs.Paths.{of_block, of_subapplication}
 use Rattle.fb_laws.proofs.HomeLemmas.{same_bytes}
 use Rattle.fb_laws.proofs.PathHolders.{applications_apart, first_own, holder_of, instances_apart, is_subapplication, type_apart, type_below}
 
@@ -43,11 +37,7 @@ module _ (sources : Sources) (unit : List ℕ) (s : SystemTree) (is : IsSystemAt
   step_in path i at name j (Some (subapplication_type d)) there c named =
       let role = is_subapplication sources unit sound i (holder_of sources unit s is path i at) d there in
       subst (λ (n : List ℕ). IsAtPath sources s (path ++ n ∷ []) j) named (inside d j at role there c)
-  step_in path i at name j None there c named = absurd (contains_nothing j c)
-  step_in path i at name j (Some (block_type d)) there c named = absurd (contains_nothing j c)
-  step_in path i at name j (Some (adapter_type d)) there c named = absurd (contains_nothing j c)
-  step_in path i at name j (Some (system_configuration d)) there c named = absurd (contains_nothing j c)
-  step_in path i at name j (Some (structure_type d)) there c named = absurd (contains_nothing j c)
+  step_in path i at name j o there c named = absurd (contains_nothing j c)
 
   next_at : (path : Path) (st : PlainStanding) → IsAtPath sources s path st.instance → (name : List ℕ) (next : PlainStanding) → standing_inside sources name st ≡ Some next → IsAtPath sources s (path ++ name ∷ []) next.instance
   next_at path st at name next e =
@@ -146,14 +136,9 @@ module _ (sources : Sources) (unit : List ℕ) (s : SystemTree) (is : IsSystemAt
   nowhere names = leads_nowhere sources unit s.applications names
 
   placed_role : (role : Role) → is_placed role ≡ true → (role ≡ roles.Block) ⊎ (role ≡ roles.Subapplication)
-  placed_role roles.Plug e = absurd (true≢false (sym e))
-  placed_role roles.Socket e = absurd (true≢false (sym e))
   placed_role roles.Block e = inl refl
   placed_role roles.Subapplication e = inr refl
-
-  not_false : (b : Bool) → not b ≡ false → b ≡ true
-  not_false true e = refl
-  not_false false e = absurd (true≢false e)
+  placed_role o e = absurd (true≢false (sym e))
 
   -- names that lead somewhere
   pub somewhere : (first : List ℕ) (others : Path) → nowhere (first ∷ others) ≡ false → IsOfSomething sources s (first ∷ others)
@@ -166,13 +151,9 @@ module _ (sources : Sources) (unit : List ℕ) (s : SystemTree) (is : IsSystemAt
           subst (λ (n : List ℕ). IsOfSomething sources s (n ∷ [])) found.named (of_application found.item found.among)
   somewhere first (name ∷ names) e = by (standing_at sources unit s.applications (first ∷ name ∷ names)) refl e
     where
-      by_role : (st : PlainStanding) → IsAtPath sources s (first ∷ name ∷ names) st.instance → (st.instance.role ≡ roles.Block) ⊎ (st.instance.role ≡ roles.Subapplication) → IsOfSomething sources s (first ∷ name ∷ names)
-      by_role st at (inl role) = of_block st.instance at role
-      by_role st at (inr role) = of_subapplication st.instance at role
-
       by : (o : Option PlainStanding) → standing_at sources unit s.applications (first ∷ name ∷ names) ≡ o → option_map_or (λ (t : PlainStanding). not (is_placed t.instance.role)) o true ≡ false → IsOfSomething sources s (first ∷ name ∷ names)
       by None f g = absurd (true≢false g)
-      by (Some st) f g = by_role st (lead_to first name names st f) (placed_role st.instance.role (not_false (is_placed st.instance.role) g))
+      by (Some st) f g = elim (placed_role st.instance.role (not-false (is_placed st.instance.role) g)) [ inl role ↦ of_block st.instance (lead_to first name names st f) role | inr role ↦ of_subapplication st.instance (lead_to first name names st f) role ]
 
   -- a path has two names at least
   placed_at : (path : Path) (i : InstanceTree) → IsAtPath sources s path i → is_placed i.role ≡ true → nowhere path ≡ false

@@ -2,10 +2,7 @@
 use Rattle.std.proofs.Common.{◌≡◌, ◌≢◌, ℕ, ◌<◌, ◌≤◌, ◌==◌, Bool, true, false, cond, length, List, [], ◌∷◌, ◌++◌, inl, inr, refl, sym, ap, ◌∙◌, append_assoc, append-nil, length-append, arith}
 use Rattle.std.specs.List.{flat_map}
 use Rattle.std.proofs.lemmas.Bool.{eqb-true}
-use Rattle.fb_wiring.specs.Network.Printed.{printed}
-use Rattle.fb_wiring.specs.Network.Fronts.{IsFront}
-use Rattle.fb_placing.specs.Standing.{on_first, path_names}
-use Rattle.fb_laws.specs.Paths.{with_points}
+use Rattle.fb_laws.proofs.Common.{printed, IsFront, on_first, path_names, with_points}
 use Rattle.fb_laws.proofs.PlainNames.{AllPlain, IsPlain}
 
 abbrev Path : Type 0
@@ -31,11 +28,8 @@ same_print (x ∷ (y ∷ others)) = ap (λ (rest : List ℕ). x ++ 46 ∷ rest) 
 -- names from a place on that is no point
 names_on : (b : ℕ) (bs : List ℕ) → b ≢ 46 → path_names (b ∷ bs) ≡ on_first b (path_names bs)
 unfolding path_names
-names_on b bs other = by (b == 46) refl
-  where
-    by : (t : Bool) → (b == 46) ≡ t → cond t ([] ∷ path_names bs) (on_first b (path_names bs)) ≡ on_first b (path_names bs)
-    by true e = absurd (other (eqb-true b 46 e))
-    by false e = refl
+names_on b bs other =
+    (elim (b == 46) as (λ t. (b == 46) ≡ t → cond t ([] ∷ path_names bs) (on_first b (path_names bs)) ≡ on_first b (path_names bs)) [ true ↦ λ e. absurd (other (eqb-true b 46 e)) | false ↦ λ e. refl ]) refl
 
 names_behind : (bs : List ℕ) → path_names (46 ∷ bs) ≡ [] ∷ path_names bs
 unfolding path_names

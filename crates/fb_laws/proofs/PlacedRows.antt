@@ -5,31 +5,9 @@ use Rattle.std.specs.Cmp.Lexicographic.{nat_list_cmp_total}
 use Rattle.std.specs.FinMap.{nat_cmp-IsAntisymmetric, slice_cmp-IsAntisymmetric}
 use Rattle.std.proofs.lemmas.Bool.{false≢true}
 use Rattle.std.proofs.lemmas.List.Elements.{Contains-append_right}
-use Rattle.fb_text.specs.Order.{name_cmp, names_in_order}
-use Rattle.fb_text.proofs.OrderLemmas.{in_order-members}
-use Rattle.fb_text.proofs.Members.{contains_filter, contains_here, contains_map, contains_nothing, origin_in_map, passes_in_filter}
-use Rattle.fb_deploy.proofs.ComputedPlans.{plan_at_is}
-use Rattle.fb_tree.specs.Tree.{MappingTree}
-use Rattle.fb_deploy.specs.Library.View.{Sources, tree_at}
-use Rattle.fb_wiring.specs.Network.declared.flat.FlatBlock.{FlatBlock}
-use Rattle.fb_wiring.specs.Network.PlainFlat.{PlainFlat}
-use Rattle.fb_deploy.specs.Flatten.Net.{HasFlat, flat_net}
-use Rattle.fb_placing.specs.Cuts.{cuts_of, home_at}
-use Rattle.fb_wiring.specs.Network.Fronts.{nearest}
-use Rattle.fb_placing.specs.Homes.{astray, homeless, misplaced, unless_faulty}
-use Rattle.fb_placing.specs.Mappings.{mapping_path, names_used}
-use Rattle.fb_deploy.specs.Mapping.Placed.{IsSystem}
-use Rattle.fb_placing.specs.Standing.{leads_nowhere}
-use Rattle.fb_placing.specs.Systems.{applications_in, mappings_in}
-use Rattle.fb_placing.specs.declared.homes.Misplaced.{Misplaced}
-use Rattle.fb_placing.specs.declared.homes.Misplaced.TheVariants.{NoSuchBlock, Unmapped}
-use Rattle.fb_deploy.specs.Deploy.{planned, with_homes}
-use Rattle.fb_placing.specs.Orders.{orders_of}
-use Rattle.fb_placing.specs.Resources.{resource_plans}
+use Rattle.fb_laws.proofs.Common.{name_cmp, names_in_order, in_order-members, contains_filter, contains_here, contains_map, contains_nothing, origin_in_map, passes_in_filter, plan_at_is, MappingTree, Sources, tree_at, FlatBlock, PlainFlat, HasFlat, flat_net, cuts_of, home_at, nearest, astray, homeless, misplaced, unless_faulty, mapping_path, names_used, IsSystem, leads_nowhere, applications_in, mappings_in, Misplaced, NoSuchBlock, Unmapped, planned, with_homes, orders_of, resource_plans, HasCommands, IsPlacedWhole, PlacedSystemsHaveCommands}
 use Rattle.fb_laws.proofs.HomeLemmas.{nearest_of, of_nearest}
 use Rattle.fb_laws.proofs.PlannedLemmas.{homes_in, known, mapped, names_in}
-use Rattle.fb_laws.specs.Planned.{HasCommands, IsPlacedWhole}
-use Rattle.fb_laws.specs.Plans.{PlacedSystemsHaveCommands}
 
 no_members : {X : Type 0} (xs : List X) → ((x : X) → Contains xs x → ⊥) → xs ≡ []
 no_members [] h = refl
@@ -59,12 +37,8 @@ module _ (sources : Sources) (system : List ℕ) (flat : PlainFlat) where
       let k = known sources system flat h.cuts h.resources h.is_planned in
       record {
         homes = λ block c. let own = k.homes block c in (own.on_resource, of_nearest (mapped sources system) block.path own.on_resource own.home);
-        mappings = λ m c. by m c k.placed (nowhere m) refl;
+        mappings = λ m c. ((elim (nowhere m) as (λ t. nowhere m ≡ t → nowhere m ≡ false) [ true ↦ λ e. absurd (is_astray m c e k.placed) | false ↦ λ e. e ]) refl);
       }
-    where
-      by : (m : MappingTree) → Contains mappings m → misplaced sources system (tree_at sources system) flat.blocks ≡ [] → (t : Bool) → nowhere m ≡ t → nowhere m ≡ false
-      by m c nothing true e = absurd (is_astray m c e nothing)
-      by m c nothing false e = e
 
   none_homeless : IsPlacedWhole sources system flat → homeless (mapped sources system) flat.blocks ≡ []
   none_homeless w = no_members (homeless (mapped sources system) flat.blocks) absent
@@ -78,13 +52,7 @@ module _ (sources : Sources) (system : List ℕ) (flat : PlainFlat) where
           false≢true (sym (ap (λ (h : Option (List ℕ)). is_none h) (nearest_of (mapped sources system) o.origin.path home.0 home.1)) ∙ kept.passes)
 
   none_lost : IsPlacedWhole sources system flat → lost ≡ []
-  none_lost w = no_members lost absent
-    where
-      absent : (path : List ℕ) → Contains lost path → ⊥
-      absent path c =
-          let o = origin_in_map mapping_path (filter nowhere mappings) path c in
-          let kept = passes_in_filter nowhere mappings o.origin o.among in
-          false≢true (sym (w.mappings o.origin kept.among) ∙ kept.passes)
+  none_lost w = no_members lost (λ path c. let o = origin_in_map mapping_path (filter nowhere mappings) path c in let kept = passes_in_filter nowhere mappings o.origin o.among in false≢true (sym (w.mappings o.origin kept.among) ∙ kept.passes))
 
   pub commands_of : IsSystem sources system → HasFlat sources system flat → IsPlacedWhole sources system flat → HasCommands sources system flat
   commands_of is net w =

@@ -6,19 +6,9 @@ use Rattle.std.specs.FinMap.{get}
 use Rattle.std.specs.Option.{option_and_then}
 use Rattle.std.proofs.lemmas.Bool.Decides.{nat_tests}
 use Rattle.std.proofs.lemmas.List.Elements.{All-contains}
-use Rattle.fb_text.specs.Bytes.{is_word_start, is_word_byte}
-use Rattle.fb_text.specs.Name.{name_of}
+use Rattle.fb_laws.proofs.Common.{is_word_start, is_word_byte, name_of, is_word, NameFault, NameUse, IsName-upper, is_word-all, name_of-ok, lexeme_of, name_or, name_use, spelled_name, DeclTree, Sources, tree_at, tree_in, tree_of, BodyTree, BrokenAt, Whole, body_of, name_part, tree_parts, IsWritten}
 use Rattle.fb_text.specs.Spelling.{IsName}
-use Rattle.fb_text.specs.Words.{is_word}
-use Rattle.fb_text.specs.declared.name.NameFault.{NameFault}
-use Rattle.fb_text.specs.declared.name.NameUse.{NameUse}
-use Rattle.fb_text.proofs.NameLemmas.{IsName-upper, both, is_word-all, name_of-ok}
-use Rattle.fb_structured_text.specs.Forms.Lexemes.{lexeme_of, name_or, name_use, spelled_name}
-use Rattle.fb_tree.specs.Tree.{DeclTree}
-use Rattle.fb_deploy.specs.Library.View.{Sources, tree_at, tree_in, tree_of}
-use Rattle.fb_deploy.specs.Parse.Body.{BodyTree, BrokenAt, Whole, body_of}
-use Rattle.fb_laws.specs.SpanParts.{name_part, tree_parts}
-use Rattle.fb_laws.specs.Written.{IsWritten}
+use Rattle.fb_text.proofs.NameLemmas.{both}
 use Rattle.fb_laws.proofs.Standing.{name_in, of_token, spelled_word, tree_stands}
 
 -- no byte is a point or a blank
@@ -75,12 +65,9 @@ name_in_text text tree is name among =
 
 -- the same of the tree of a unit
 pub name_in_unit : (sources : Sources) (unit : List ℕ) (tree : DeclTree) → tree_at sources unit ≡ Some tree → (name : NameUse) → Contains (tree_parts tree) (name_part name) → IsPlain name.name
-name_in_unit sources unit tree is name among = by_text (get sources unit) is
+name_in_unit sources unit tree is name among =
+    (elim (get sources unit) as (λ text. option_and_then tree_of text ≡ Some tree → IsPlain name.name) [ None ↦ λ e. absurd (let no : ⊥ = cc in no) | Some text ↦ λ e. by_body text (body_of text) refl e ]) is
   where
     by_body : (text : List ℕ) (body : BodyTree) → body_of text ≡ body → tree_in body ≡ Some tree → IsPlain name.name
     by_body text (Whole other) e g = let same : other ≡ tree = cc in name_in_text text tree (e ∙ ap (λ (t : DeclTree). Whole t) same) name among
     by_body text (BrokenAt span) e g = absurd (let no : ⊥ = cc in no)
-
-    by_text : (text : Option (List ℕ)) → option_and_then tree_of text ≡ Some tree → IsPlain name.name
-    by_text None e = absurd (let no : ⊥ = cc in no)
-    by_text (Some text) e = by_body text (body_of text) refl e

@@ -3,32 +3,11 @@ use Rattle.std.proofs.Common.{ℕ, ◌≡◌, List, [], ◌∷◌, ◌++◌, Som
 use Rattle.std.specs.Prelude.{Contains}
 use Rattle.std.specs.BTreeMap.{is_at}
 use Rattle.std.proofs.lemmas.List.Elements.{Contains-append_left, Contains-append_right}
-use Rattle.fb_text.specs.Order.{name_cmp}
-use Rattle.fb_text.proofs.Members.{contains_cases, contains_flat_map, contains_here, contains_later, contains_map, contains_nothing, passes_in_find}
+use Rattle.fb_laws.proofs.Common.{name_cmp, contains_cases, contains_flat_map, contains_here, contains_later, contains_map, contains_nothing, passes_in_find, Sources, Sort, FlatBlock, Link, Instance, InstanceKind, IsFlat, AreBlocks, AreInstances, Held, NoInstance, ThenBlock, ThenSubapplication, held_as, held_within, leaf_first, leaves_of, BlockPort, IsLeafPlace, LeafWithin, Place, View, dotted, PlainNetwork, PlainFlat, printed, HasFlat, AreFlatApplications, IsUnitFlat, NoApplication, OfSubapplication, OfSystem, ThenApplication, Application, block_within, IsSystemFlat, application_blocks, FlatApplication, IsFront}
 use Rattle.fb_wiring.proofs.Network.Equals.{same_bytes}
 use Rattle.fb_placing.proofs.NameLemmas.{printed-push}
-use Rattle.fb_deploy.specs.Library.View.{Sources}
-use Rattle.fb_tree.specs.declared.network.Sort.{Sort}
-use Rattle.fb_wiring.specs.Network.declared.flat.FlatBlock.{FlatBlock}
-use Rattle.fb_wiring.specs.Network.declared.flat.Link.{Link}
-use Rattle.fb_wiring.specs.Network.declared.network.Instance.{Instance}
-use Rattle.fb_wiring.specs.Network.declared.network.InstanceKind.{InstanceKind}
 use Rattle.fb_wiring.specs.Network.declared.network.InstanceKind.TheVariants.{Block, Subapplication}
-use Rattle.fb_wiring.specs.Network.FlatNet.{IsFlat}
-use Rattle.fb_wiring.specs.Network.Instances.{AreBlocks, AreInstances, Held, NoInstance, ThenBlock, ThenSubapplication, held_as, held_within, leaf_first, leaves_of}
 use Rattle.fb_wiring.specs.Network.NetLink.{Direct, FromPlug, IsNetLink, ToPlug}
-use Rattle.fb_wiring.specs.Network.Network.{BlockPort, IsLeafPlace, LeafWithin, Place, View}
-use Rattle.fb_wiring.specs.Network.Places.{dotted}
-use Rattle.fb_wiring.specs.Network.Plain.{PlainNetwork}
-use Rattle.fb_wiring.specs.Network.PlainFlat.{PlainFlat}
-use Rattle.fb_wiring.specs.Network.Printed.{printed}
-use Rattle.fb_deploy.specs.Flatten.Net.{HasFlat}
-use Rattle.fb_wiring.specs.Units.{AreFlatApplications, IsUnitFlat, NoApplication, OfSubapplication, OfSystem, ThenApplication}
-use Rattle.fb_wiring.specs.declared.systems.Application.{Application}
-use Rattle.fb_wiring.specs.Network.Composed.{block_within}
-use Rattle.fb_wiring.specs.Network.SystemFlat.{IsSystemFlat, application_blocks}
-use Rattle.fb_wiring.specs.Network.declared.application.FlatApplication.{FlatApplication}
-use Rattle.fb_wiring.specs.Network.Fronts.{IsFront}
 
 -- ---- blocks at ports
 
@@ -116,15 +95,12 @@ leaf_held {network = network} (LeafWithin inner name a' i e leaf) held are =
 -- what is held as a block is a block
 pub leaf_listed : (held : List Held) (path : Place) (typed : List ℕ) → Contains held (record { path = path; kind = Block; typed = typed }) → Contains (leaves_of held) (record { path = printed path; type_name = typed })
 leaf_listed [] path typed c = absurd (contains_nothing _ c)
-leaf_listed (h ∷ hs) path typed c = by (contains_cases h hs (record { path = path; kind = Block; typed = typed }) c) (leaf_listed hs path typed)
+leaf_listed (h ∷ hs) path typed c =
+    elim (contains_cases h hs (record { path = path; kind = Block; typed = typed }) c) [ inl same ↦ subst (λ (w : Held). Contains (leaf_first w.kind w (leaves_of hs)) (record { path = printed path; type_name = typed })) (sym same) (contains_here (record { path = printed path; type_name = typed }) (leaves_of hs)) | inr d ↦ later h.kind ((leaf_listed hs path typed) d) ]
   where
     later : (k : InstanceKind) → Contains (leaves_of hs) (record { path = printed path; type_name = typed }) → Contains (leaf_first k h (leaves_of hs)) (record { path = printed path; type_name = typed })
     later Block d = contains_later (record { path = printed h.path; type_name = h.typed }) (leaves_of hs) (record { path = printed path; type_name = typed }) d
     later Subapplication d = d
-
-    by : (h ≡ record { path = path; kind = Block; typed = typed }) ⊎ Contains hs (record { path = path; kind = Block; typed = typed }) → (Contains hs (record { path = path; kind = Block; typed = typed }) → Contains (leaves_of hs) (record { path = printed path; type_name = typed })) → Contains (leaves_of (h ∷ hs)) (record { path = printed path; type_name = typed })
-    by (inl same) more = subst (λ (w : Held). Contains (leaf_first w.kind w (leaves_of hs)) (record { path = printed path; type_name = typed })) (sym same) (contains_here (record { path = printed path; type_name = typed }) (leaves_of hs))
-    by (inr d) more = later h.kind (more d)
 
 -- ---- blocks in front of ends
 
@@ -188,11 +164,8 @@ record IsOfApplication (view : View) (flat : FlatApplication) : Type 0 where
 
 application_flat : {view : View} {applications : List Application} {flats : List FlatApplication} → AreFlatApplications view applications flats → (f : FlatApplication) → Contains flats f → IsOfApplication view f
 application_flat NoApplication f c = absurd (contains_nothing f c)
-application_flat {view = view} (ThenApplication {others = others} a z is more) f c = by (contains_cases z others f c) (λ d. application_flat more f d)
-  where
-    by : (z ≡ f) ⊎ Contains others f → (Contains others f → IsOfApplication view f) → IsOfApplication view f
-    by (inl same) rest = subst (λ (w : FlatApplication). IsOfApplication view w) same (record { network = a.network; is = is.net })
-    by (inr d) rest = rest d
+application_flat {view = view} (ThenApplication {others = others} a z is more) f c =
+    elim (contains_cases z others f c) [ inl same ↦ subst (λ (w : FlatApplication). IsOfApplication view w) same (record { network = a.network; is = is.net }) | inr d ↦ application_flat more f d ]
 
 front_within : (name front path : List ℕ) → IsFront front path → IsFront (dotted name front) (dotted name path)
 front_within name front path (inl e) = inl (ap (dotted name) e)

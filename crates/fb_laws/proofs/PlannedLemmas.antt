@@ -5,33 +5,9 @@ use Rattle.std.specs.List.Sorted.{IsStrictlySortedBy}
 use Rattle.std.specs.Cmp.Lexicographic.{nat_list_cmp_total}
 use Rattle.std.specs.FinMap.{nat_cmp-IsAntisymmetric, slice_cmp-IsAntisymmetric}
 use Rattle.std.proofs.lemmas.List.Elements.{Contains-append_left}
-use Rattle.fb_text.specs.Order.{name_cmp, names_in_order}
-use Rattle.fb_text.proofs.OrderLemmas.{in_order-members}
-use Rattle.fb_text.proofs.Members.{contains_filter, contains_map, contains_nothing}
+use Rattle.fb_laws.proofs.Common.{name_cmp, names_in_order, in_order-members, contains_filter, contains_map, contains_nothing, plan_at_is, Sources, tree_at, FlatBlock, Link, PlainFlat, HasFlat, flat_net, IsUnitFlat, OfSubapplication, OfSystem, link_cmp, cuts_of, home_at, nearest, block_homes, homeless, misplaced, unless_faulty, resource_at, IsSystem, applications_in, devices_in, mappings_in, Home, Misplaced, Unmapped, IsPlan, planned, planned_by, with_homes, orders_of, PlainResource, resource_plans, resources_of, IsPlanned, StandsOn}
 use Rattle.fb_deploy.proofs.Flatten.OneNet.{one_net_only}
-use Rattle.fb_deploy.proofs.ComputedPlans.{plan_at_is}
-use Rattle.fb_deploy.specs.Library.View.{Sources, tree_at}
-use Rattle.fb_wiring.specs.Network.declared.flat.FlatBlock.{FlatBlock}
-use Rattle.fb_wiring.specs.Network.declared.flat.Link.{Link}
-use Rattle.fb_wiring.specs.Network.PlainFlat.{PlainFlat}
-use Rattle.fb_deploy.specs.Flatten.Net.{HasFlat, flat_net}
-use Rattle.fb_wiring.specs.Units.{IsUnitFlat, OfSubapplication, OfSystem}
-use Rattle.fb_wiring.specs.Network.LinkOrder.{link_cmp}
-use Rattle.fb_placing.specs.Cuts.{cuts_of, home_at}
-use Rattle.fb_wiring.specs.Network.Fronts.{nearest}
-use Rattle.fb_placing.specs.Homes.{block_homes, homeless, misplaced, unless_faulty}
-use Rattle.fb_placing.specs.Mappings.{resource_at}
-use Rattle.fb_deploy.specs.Mapping.Placed.{IsSystem}
-use Rattle.fb_placing.specs.Systems.{applications_in, devices_in, mappings_in}
-use Rattle.fb_placing.specs.declared.homes.Home.{Home}
-use Rattle.fb_placing.specs.declared.homes.Misplaced.{Misplaced}
-use Rattle.fb_placing.specs.declared.homes.Misplaced.TheVariants.{Unmapped}
-use Rattle.fb_deploy.specs.Deploy.{IsPlan, planned, planned_by, with_homes}
-use Rattle.fb_placing.specs.Orders.{orders_of}
-use Rattle.fb_placing.specs.PlainResource.{PlainResource}
-use Rattle.fb_placing.specs.Resources.{resource_plans, resources_of}
 use Rattle.fb_laws.proofs.HomeLemmas.{HasHome, end_home, home_end}
-use Rattle.fb_laws.specs.Planned.{IsPlanned, StandsOn}
 
 -- the resources that a system maps to
 abbrev pub mapped : Sources → List ℕ → List ℕ → Option (List ℕ)

@@ -2,14 +2,8 @@
 use Rattle.std.proofs.Common.{◌≡◌, ℕ, ◌<◌, List, Some, sym, ap, ◌∙◌, subst, ◌⊎◌, inl, inr}
 use Rattle.std.specs.List.{slice_get}
 use Rattle.std.proofs.lemmas.Bool.{cases_order}
-use Rattle.fb_tree.specs.Tree.{InterfaceTree, TypeTree, VariablesTree, adapter_type, block_type, structure_type, subapplication_type, system_configuration}
-use Rattle.fb_tree.specs.declared.interface.Section.{Section}
+use Rattle.fb_laws.proofs.Common.{InterfaceTree, TypeTree, VariablesTree, adapter_type, block_type, structure_type, subapplication_type, system_configuration, Section, Side, TypeUse, meanings_in_type, Cell, IsBefore, IsDataOn, IsFirstVariable, IsVariableIn, data_input, data_output, in_earlier_row, of_adapter, of_block, of_subapplication, ComeAsDeclaredEach, HaveOwnNamesEach, InternalVariablesAreNoPorts, NamesStandForFirst, PortsComeAsDeclared, PortsHaveOwnNames, StandForFirst}
 use Rattle.fb_tree.specs.declared.interface.Section.TheVariants as sections
-use Rattle.fb_tree.specs.declared.interface.Side.{Side}
-use Rattle.fb_tree.specs.declared.interface.TypeUse.{TypeUse}
-use Rattle.fb_deploy.specs.Iface.Ports.{meanings_in_type}
-use Rattle.fb_laws.specs.Declared.{Cell, IsBefore, IsDataOn, IsFirstVariable, IsVariableIn, data_input, data_output, in_earlier_row, of_adapter, of_block, of_subapplication}
-use Rattle.fb_laws.specs.Ports.{ComeAsDeclaredEach, HaveOwnNamesEach, InternalVariablesAreNoPorts, NamesStandForFirst, PortsComeAsDeclared, PortsHaveOwnNames, StandForFirst}
 use Rattle.fb_laws.proofs.DataRows.{data_declared, data_in_turn, data_once, variables_stand}
 use Rattle.fb_laws.proofs.ItemRows.{adapters_in_turn, adapters_once, events_in_turn, events_once, events_stand, instances_stand}
 
@@ -44,12 +38,8 @@ not_before i name p q v w h = w.first p v.row v.spelled h v.there v.named
 
 -- a name is declared first in one row
 one_row : (i : InterfaceTree) (name : List ℕ) (p q : Cell) → IsFirstVariable i name p → IsFirstVariable i name q → p.row ≡ q.row
-one_row i name p q v w = by (cases_order p.row q.row)
-  where
-    by : (p.row ≡ q.row) ⊎ ((p.row < q.row) ⊎ (q.row < p.row)) → p.row ≡ q.row
-    by (inl e) = e
-    by (inr (inl h)) = absurd (not_before i name p q v w (in_earlier_row h))
-    by (inr (inr h)) = absurd (not_before i name q p w v (in_earlier_row h))
+one_row i name p q v w =
+    elim (cases_order p.row q.row) [ inl e ↦ e | inr (inl h) ↦ absurd (not_before i name p q v w (in_earlier_row h)) | inr (inr h) ↦ absurd (not_before i name q p w v (in_earlier_row h)) ]
 
 -- and stands in one section
 one_section : (i : InterfaceTree) (name : List ℕ) (a b : Section) (t u : TypeUse) → IsVariableIn i a name t → IsVariableIn i b name u → a ≡ b

@@ -3,11 +3,9 @@ use Rattle.std.proofs.Common.{◌≡◌, ℕ, zero, suc, ◌+◌, ◌<◌, ◌�
 use Rattle.std.specs.Prelude.{All, slice_index_or}
 use Rattle.std.proofs.lemmas.Str.{IsUtf8-drop}
 use Rattle.std.proofs.lemmas.Bool.{cases_lt}
-use Rattle.fb_text.specs.Tokens.{piece_at, tokens_of, FitsIn, IsSpelled, LiesIn, SpansRise, spans_of}
+use Rattle.fb_laws.proofs.Common.{piece_at, tokens_of, FitsIn, IsSpelled, LiesIn, SpansRise, spans_of, Span, Token}
 use Rattle.fb_text.specs.declared.scan.Piece.{Piece}
 use Rattle.fb_text.specs.declared.scan.Piece.TheVariants.{Gap, Unclosed, Found}
-use Rattle.fb_text.specs.declared.token.Span.{Span}
-use Rattle.fb_text.specs.declared.token.Token.{Token}
 use Rattle.fb_text.proofs.Boundaries.{piece-fits}
 use Rattle.fb_text.proofs.Reading.{HasRead, start, after-gap, after-token, unclosed, all-read}
 

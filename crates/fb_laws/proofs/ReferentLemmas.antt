@@ -1,56 +1,27 @@
 -- What references stand for by the check: what they begin at, and what their further names lead to.
 use Rattle.std.proofs.Common.{◌≡◌, ℕ, Bool, true, false, true≢false, cond, not, ◌&&◌, ◌||◌, List, [], ◌∷◌, ◌++◌, Option, Some, None, ◌⊎◌, inl, inr, refl, sym, ap, subst, ◌∙◌, append-nil, arith}
 use Rattle.std.specs.Option.{option_and_then}
-use Rattle.std.proofs.lemmas.Bool.{ltb-false}
-use Rattle.fb_text.specs.Elementary.{has_own_class, is_elementary, type_class_of}
+use Rattle.std.proofs.lemmas.Bool.{ltb-false, or_parts}
+use Rattle.fb_laws.proofs.Common.{has_own_class, is_elementary, type_class_of, Span, ReferenceTree, DeclTree, TypeTree, adapter_type, block_type, structure_type, Section, TypeForm, TypeUse, Role, Plug, Socket, Block, Subapplication, Member, Sources, tree_at, class_of_name, is_free, named_class, Fields, NoFields, HasFields, fields_in, fields_of_tree, first_ones, stands_for, Meanings, meanings_in_type, instance_ports, ports_of, usable, DeclaredInstance, DeclaredVariable, stands_for-first_ones, is_known, referent_through, Names, names_of_type, data_referent, field_referent, fields_behind, fields_named, is_adapter, is_at_adapter, is_before_port, is_data, is_some_count, member_among, own_referent, port_named, port_referent, referent_of, step, unless_judged, variable_named, walk, Referent, Variable, Unjudged, NoMember, IsAdapter, IsUsable, as_plug, as_socket, as_block, as_subapplication, IsData, IsAtPort, Begins, own, IsOfNoAdapter, Shows, plain, element, IsOpen, generic, unknown, HasField, GoesOn, at_end, through, NamesType}
 use Rattle.fb_text.specs.declared.elementary.TypeClass.{TypeClass}
 use Rattle.fb_text.specs.declared.elementary.TypeClass.TheVariants as types
-use Rattle.fb_text.specs.declared.token.Span.{Span}
-use Rattle.fb_tree.specs.Expression.{ReferenceTree}
-use Rattle.fb_tree.specs.Tree.{DeclTree, TypeTree, adapter_type, block_type, structure_type}
-use Rattle.fb_tree.specs.declared.interface.Section.{Section}
 use Rattle.fb_tree.specs.declared.interface.Section.TheVariants.{Input, Output, Internal, Field}
-use Rattle.fb_tree.specs.declared.interface.TypeForm.{TypeForm}
 use Rattle.fb_tree.specs.declared.interface.TypeForm.TheVariants as forms
-use Rattle.fb_tree.specs.declared.interface.TypeUse.{TypeUse}
-use Rattle.fb_tree.specs.declared.network.Role.{Role}
-use Rattle.fb_tree.specs.declared.network.Role.TheVariants.{Plug, Socket, Block, Subapplication}
-use Rattle.fb_tree.specs.declared.reference.Member.{Member}
-use Rattle.fb_deploy.specs.Library.View.{Sources, tree_at}
-use Rattle.fb_deploy.specs.Iface.Class.{class_of_name, is_free, named_class}
-use Rattle.fb_deploy.specs.Iface.Fields.{Fields, NotJudged, NoFields, HasFields, fields_in, fields_of_tree}
-use Rattle.fb_deploy.specs.Iface.Names.{first_ones, stands_for}
-use Rattle.fb_deploy.specs.Iface.Ports.{Meanings, meanings_in_type}
-use Rattle.fb_deploy.specs.Iface.Scope.{instance_ports, ports_of, usable}
-use Rattle.fb_deploy.specs.Iface.declared.ports.DeclaredInstance.{DeclaredInstance}
-use Rattle.fb_deploy.specs.Iface.declared.ports.DeclaredVariable.{DeclaredVariable}
-use Rattle.fb_deploy.proofs.Iface.TableLemmas.{stands_for-first_ones}
-use Rattle.fb_expr.specs.Demands.{is_known, referent_through}
-use Rattle.fb_expr.specs.Names.{Names, names_of_type}
-use Rattle.fb_expr.specs.References.{data_referent, field_referent, fields_behind, fields_named, is_adapter, is_at_adapter, is_before_port, is_data, is_some_count, member_among, own_referent, port_named, port_referent, referent_of, step, unless_judged, variable_named, walk}
-use Rattle.fb_expr.specs.declared.references.Referent.{Referent}
-use Rattle.fb_expr.specs.declared.references.Referent.TheVariants.{Variable, Unjudged, Unknown, NoMember}
-use Rattle.fb_laws.specs.Usable.{IsAdapter, IsUsable, as_plug, as_socket, as_block, as_subapplication}
-use Rattle.fb_laws.specs.Variables.{IsData, IsAtPort, Begins, own, of_adapter, IsOfNoAdapter, Shows, plain, element, IsOpen, generic, unknown, HasField, GoesOn, at_end, through, NamesType}
+use Rattle.fb_deploy.specs.Iface.Fields.{NotJudged}
+use Rattle.fb_expr.specs.declared.references.Referent.TheVariants.{Unknown}
+use Rattle.fb_laws.specs.Variables.{of_adapter}
 use Rattle.fb_laws.proofs.CarriedTypes.{IsKnown, data_known, field_known, known_fields, own_known}
 use Rattle.fb_laws.proofs.UsableTypes.{known_type, own_type}
 
 -- a type that has to be declared is none of class Free
 
 own_class : (c : TypeClass) → has_own_class c ≡ false → is_free (named_class c) ≡ false
-own_class types.Truth e = refl
-own_class types.Integer e = refl
-own_class types.Bits e = refl
 own_class types.Free e = absurd (true≢false e)
-own_class types.Other e = refl
-
-left_false : (a b : Bool) → (a || b) ≡ false → a ≡ false
-left_false true b e = absurd (true≢false e)
-left_false false b e = refl
+own_class o e = refl
 
 not_free : (name : List ℕ) → is_elementary name ≡ false → is_free (class_of_name name) ≡ false
 unfolding is_elementary
-not_free name e = own_class (type_class_of name) (left_false (has_own_class (type_class_of name)) _ e)
+not_free name e = own_class (type_class_of name) (or_parts (has_own_class (type_class_of name)) _ e).0
 
 -- whether a subscript stands on a plain type
 abbrev shown : Bool → Fields → Fields
@@ -70,9 +41,8 @@ found_known None m = refl
 found_known (Some v) m = refl
 
 among_known : (fields : Fields) (m : Member) → is_known (member_among fields m) ≡ true
-among_known NotJudged m = refl
-among_known NoFields m = refl
 among_known (HasFields found) m = found_known (stands_for found m.name.name) m
+among_known o m = refl
 
 data_section : (s : Section) → IsData s → is_data s ≡ true
 data_section s (inl input) = ap is_data input
@@ -83,13 +53,8 @@ has_role i (inl r) = ap is_adapter r
 has_role i (inr r) = ap is_adapter r
 
 of_role : (i : DeclaredInstance) → is_adapter i.role ≡ true → IsAdapter i
-of_role i e = by i.role refl e
-  where
-    by : (role : Role) → i.role ≡ role → is_adapter role ≡ true → IsAdapter i
-    by Plug is e = inl is
-    by Socket is e = inr is
-    by Block is e = absurd (true≢false (sym e))
-    by Subapplication is e = absurd (true≢false (sym e))
+of_role i e =
+    (elim i.role as (λ role. i.role ≡ role → is_adapter role ≡ true → IsAdapter i) [ Plug ↦ λ is e. inl is | Socket ↦ λ is e. inr is | Block ↦ λ is e. absurd (true≢false (sym e)) | Subapplication ↦ λ is e. absurd (true≢false (sym e)) ]) refl e
 
 -- an adapter type with these ports
 record HasAdapter (sources : Sources) (name : List ℕ) (ports : Meanings) : Type 0 where
@@ -105,10 +70,8 @@ module _ (sources : Sources) where
   adapter_found : (name : List ℕ) (role : Role) (ports : Meanings) → role ≡ Plug ⊎ role ≡ Socket → IsUsable sources name role ports → HasAdapter sources name ports
   adapter_found name role ports adapter (as_plug a e) = record { type = a; is = e; has = refl }
   adapter_found name role ports adapter (as_socket a e) = record { type = a; is = e; has = refl }
-  adapter_found name role ports (inl r) (as_block a e) = absurd (let no : ⊥ = cc in no)
-  adapter_found name role ports (inr r) (as_block a e) = absurd (let no : ⊥ = cc in no)
-  adapter_found name role ports (inl r) (as_subapplication a e) = absurd (let no : ⊥ = cc in no)
-  adapter_found name role ports (inr r) (as_subapplication a e) = absurd (let no : ⊥ = cc in no)
+  adapter_found name role ports (inl r) used = absurd (let no : ⊥ = cc in no)
+  adapter_found name role ports (inr r) used = absurd (let no : ⊥ = cc in no)
 
 module _ (sources : Sources) (unit : List ℕ) (d : TypeTree) (declared : tree_at sources unit ≡ Some (block_type d)) where
   abbrev names : Names
@@ -252,10 +215,7 @@ module _ (sources : Sources) (unit : List ℕ) (d : TypeTree) (declared : tree_a
       by (step names (Variable used s) m) (looks used m known s) e
       (λ v has. goes v.type_use (is_some_count m.subscripts) ms last t (next_known used s m v known has))
     where
-      More : DeclaredVariable → Type 0
-      More v = walk names (Variable v.type_use (is_some_count m.subscripts)) ms ≡ Variable last t → GoesOn sources v.type_use (is_some_count m.subscripts) ms last t
-
-      by : (r : Referent) → Looks used s m r → walk names r ms ≡ Variable last t → ((v : DeclaredVariable) → HasField sources used s m.name.name v → More v) → GoesOn sources used s (m ∷ ms) last t
+      by : (r : Referent) → Looks used s m r → walk names r ms ≡ Variable last t → ((v : DeclaredVariable) → HasField sources used s m.name.name v → (walk names (Variable v.type_use (is_some_count m.subscripts)) ms ≡ Variable last t → GoesOn sources v.type_use (is_some_count m.subscripts) ms last t)) → GoesOn sources used s (m ∷ ms) last t
       by Unknown none e more = elim none [ ]
       by Unjudged (is_open o) e more = let both : Unjudged ≡ Variable last t = sym (open_stays ms) ∙ e in absurd (let no : ⊥ = cc in no)
       by (NoMember at) is_none e more = let both : NoMember at ≡ Variable last t = sym (wrong_stays at ms) ∙ e in absurd (let no : ⊥ = cc in no)
@@ -324,11 +284,8 @@ module _ (sources : Sources) (unit : List ℕ) (d : TypeTree) (declared : tree_a
   -- behind what it begins at a reference is walked through
   pub walked : (r : ReferenceTree) (base : Referent) (skipped behind : List Member) → Starts r base skipped behind → (before others : List Member) → behind ≡ before ++ others → referent_through names r (skipped ++ before) ≡ walk names base before
   walked r base [] behind (at_first none) [] others parted = refl
-  walked r base [] behind (at_first none) (m ∷ ms) others parted = by (is_before_port names.scope r.name.name r.subscripts) refl
-    where
-      by : (b : Bool) → is_before_port names.scope r.name.name r.subscripts ≡ b → cond b (walk names (port_named names.scope r.name.name m) ms) (walk names base (m ∷ ms)) ≡ walk names base (m ∷ ms)
-      by true e = let at = port_found r m (ms ++ others) parted e in absurd (none at.instance m (ms ++ others) at.at_port)
-      by false e = refl
+  walked r base [] behind (at_first none) (m ∷ ms) others parted =
+      (elim (is_before_port names.scope r.name.name r.subscripts) as (λ b. is_before_port names.scope r.name.name r.subscripts ≡ b → cond b (walk names (port_named names.scope r.name.name m) ms) (walk names base (m ∷ ms)) ≡ walk names base (m ∷ ms)) [ true ↦ λ e. let at = port_found r m (ms ++ others) parted e in absurd (none at.instance m (ms ++ others) at.at_port) | false ↦ λ e. refl ]) refl
   walked r base (n ∷ []) behind (at_second i m rest at) before others parted =
       ap (λ b. cond b (walk names (port_named names.scope r.name.name m) before) (walk names (variable_named names.scope r.name.name (is_some_count r.subscripts)) (m ∷ before))) (port_told r i m rest at)
   walked r base (n ∷ (q ∷ qs)) behind none before others parted = elim none [ ]
@@ -355,8 +312,7 @@ module _ (sources : Sources) (unit : List ℕ) (d : TypeTree) (declared : tree_a
     by_section : (a : TypeTree) → tree_at sources i.type_name.name ≡ Some (adapter_type a) → (v : DeclaredVariable) → stands_for (meanings_in_type a).variables m.name.name ≡ Some v → (s : Section) → v.section ≡ s → Base r behind (cond (is_data s) (Variable v.type_use on) Unknown)
     by_section a is v e Input s = variable (of_adapter i m a v at is e (inl s))
     by_section a is v e Output s = variable (of_adapter i m a v at is e (inr s))
-    by_section a is v e Internal s = nothing
-    by_section a is v e Field s = nothing
+    by_section a is v e o s = nothing
 
     by_data : (a : TypeTree) → tree_at sources i.type_name.name ≡ Some (adapter_type a) → (o : Option DeclaredVariable) → stands_for (meanings_in_type a).variables m.name.name ≡ o → Base r behind (data_referent o on)
     by_data a is None e = nothing
@@ -378,11 +334,8 @@ module _ (sources : Sources) (unit : List ℕ) (d : TypeTree) (declared : tree_a
     base_at_port = subst (λ (o : Option Meanings). Base r behind (port_referent o m.name.name on)) (sym (port_ports r i m behind at)) (by_ports (usable i.role (tree_at sources i.type_name.name)) refl)
 
   pub base_of : (r : ReferenceTree) (base : Referent) (skipped behind : List Member) → Starts r base skipped behind → Base r behind base
-  base_of r base [] behind (at_first none) = by (stands_for names.scope.own.variables r.name.name) refl
-    where
-      by : (o : Option DeclaredVariable) → stands_for names.scope.own.variables r.name.name ≡ o → Base r r.members (own_referent o (is_some_count r.subscripts))
-      by None e = nothing
-      by (Some v) e = variable (own v e none)
+  base_of r base [] behind (at_first none) =
+      (elim (stands_for names.scope.own.variables r.name.name) as (λ o. stands_for names.scope.own.variables r.name.name ≡ o → Base r r.members (own_referent o (is_some_count r.subscripts))) [ None ↦ λ e. nothing | Some v ↦ λ e. variable (own v e none) ]) refl
   base_of r base (n ∷ []) behind (at_second i m others at) = base_at_port r i m behind at
   base_of r base (n ∷ (q ∷ qs)) behind none = elim none [ ]
 

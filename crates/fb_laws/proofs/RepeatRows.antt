@@ -2,26 +2,12 @@
 use Rattle.std.proofs.Common.{◌≡◌, List, [], ◌∷◌, ◌++◌, map, Option, Some, None, option_map, ◌⊎◌, inl, inr, refl, sym, ap, ◌∙◌, subst}
 use Rattle.std.specs.List.{Contains, flat_map}
 use Rattle.std.proofs.lemmas.List.Elements.{Contains-append_left, Contains-append_right, Contains-append_cases}
-use Rattle.fb_text.specs.declared.name.NameUse.{NameUse}
-use Rattle.fb_tree.specs.Tree.{NetworkTree}
-use Rattle.fb_tree.specs.declared.network.Connection.{Connection}
-use Rattle.fb_tree.specs.declared.network.End.{End}
-use Rattle.fb_tree.specs.declared.network.Sort.{Sort}
+use Rattle.fb_laws.proofs.Common.{NameUse, NetworkTree, Connection, End, Sort, Code, SecondAdapter, SecondSource, Fault, ComesThrough, contains_cases, contains_flat_map, contains_here, contains_later, contains_nothing, contains_single, origin_in_flat_map, Position, Source, Destination, net_faults_of, Path, fault_at_path, repeated_faults, adapter_ends, data_destination, end_path, path_named, HaveSameNames, IsEndOf, IsNetworkOf, Site, place_of, source, destination, AdaptersHaveOneEnd, DestinationsHaveOneSource, HasSecondAdapter, HasSecondSource, IsTaken, by_earlier, by_source}
 use Rattle.fb_tree.specs.declared.network.Sort.TheVariants as sorts
-use Rattle.fb_deploy.specs.Iface.declared.code.Code.{Code}
-use Rattle.fb_deploy.specs.Iface.declared.code.Code.TheVariants.{SecondAdapter, SecondSource}
-use Rattle.fb_deploy.specs.Iface.declared.fault.Fault.{Fault}
-use Rattle.fb_text.proofs.Members.{ComesThrough, contains_cases, contains_flat_map, contains_here, contains_later, contains_nothing, contains_single, origin_in_flat_map}
-use Rattle.fb_netcheck.specs.declared.ends.Position.{Position}
-use Rattle.fb_netcheck.specs.declared.ends.Position.TheVariants.{Source, Destination}
-use Rattle.fb_netcheck.specs.Networks.{net_faults_of}
-use Rattle.fb_netcheck.specs.Paths.{Path, fault_at_path, repeated_faults}
-use Rattle.fb_netcheck.specs.Repeats.{adapter_ends, data_destination, end_path, path_named}
-use Rattle.fb_laws.specs.Ends.{HaveSameNames, IsEndOf, IsNetworkOf, Site, place_of, source, destination}
-use Rattle.fb_laws.specs.Networks.{AdaptersHaveOneEnd, DestinationsHaveOneSource, HasSecondAdapter, HasSecondSource, IsTaken, by_earlier, by_source}
 use Rattle.fb_laws.proofs.NetworkLemmas.{end_place, fault_at_end, network_origin, reported}
 use Rattle.fb_laws.proofs.RepeatedPaths.{repeat_origin, repeat_reported}
 use Rattle.fb_laws.proofs.SplitLemmas.{split_through, through_split}
+use Rattle.fb_laws.proofs.Joined.{iff}
 
 -- ends of connections
 
@@ -33,18 +19,16 @@ same_ends a b e = by a.port b.port e
   where
     by : (p q : Option NameUse) → path_named a.name p ≡ path_named b.name q → (a.name.name ≡ b.name.name) × (option_map (λ n. n.name) p ≡ option_map (λ n. n.name) q)
     by None None e = (cc, refl)
-    by None (Some q) e = absurd (let fails : ⊥ = cc in fails)
-    by (Some p) None e = absurd (let fails : ⊥ = cc in fails)
     by (Some p) (Some q) e = let same : p.name ≡ q.name = cc in (cc, ap Some same)
+    by p q e = absurd (let fails : ⊥ = cc in fails)
 
 ends_same : (a b : End) → HaveSameNames a b → names_of a ≡ names_of b
 ends_same a b e = by a.port b.port e.1
   where
     by : (p q : Option NameUse) → option_map (λ (n : NameUse). n.name) p ≡ option_map (λ (n : NameUse). n.name) q → path_named a.name p ≡ path_named b.name q
     by None None s = ap (λ n. n ∷ []) e.0
-    by None (Some q) s = absurd (let fails : ⊥ = cc in fails)
-    by (Some p) None s = absurd (let fails : ⊥ = cc in fails)
     by (Some p) (Some q) s = let same : p.name ≡ q.name = cc in λ i. e.0 i ∷ same i ∷ []
+    by p q s = absurd (let fails : ⊥ = cc in fails)
 
 -- an end of those that each connection has, with one of the same names before it
 record IsSecond (f : Connection → List End) (connections : List Connection) (e : End) : Type 0 where
@@ -68,11 +52,8 @@ record SecondOrigin (code : Code) (f : Connection → List End) (connections : L
   is : fault_at_end code end ≡ fault
 
 taken_in : (f : Connection → List End) (earlier : List Connection) (inside : List End) (other : End) → Contains (flat_map f earlier ++ inside) other → ComesThrough f earlier other ⊎ Contains inside other
-taken_in f earlier inside other c = by (Contains-append_cases (flat_map f earlier) inside other c)
-  where
-    by : Contains (flat_map f earlier) other ⊎ Contains inside other → ComesThrough f earlier other ⊎ Contains inside other
-    by (inl h) = inl (origin_in_flat_map f earlier other h)
-    by (inr h) = inr h
+taken_in f earlier inside other c =
+    elim (Contains-append_cases (flat_map f earlier) inside other c) [ inl h ↦ inl (origin_in_flat_map f earlier other h) | inr h ↦ inr h ]
 
 second_origin : (code : Code) (f : Connection → List End) (connections : List Connection) (fault : Fault) → Contains (repeated_faults code (map end_path (flat_map f connections))) fault → SecondOrigin code f connections fault
 second_origin code f connections fault c =
@@ -117,19 +98,31 @@ destinations c = data_destination c.sort c.destination
 data_parts : (sort : Sort) (d : End) (inside rest : List End) (e : End) → data_destination sort d ≡ inside ++ e ∷ rest → (sort ≡ sorts.Data) × (d ≡ e) × (inside ≡ [])
 data_parts sorts.Data d [] rest e p = (refl, cc, refl)
 data_parts sorts.Data d (x ∷ inside) rest e p = let tails : [] ≡ inside ++ e ∷ rest = cc in absurd (nothing_split inside e rest tails)
-data_parts sorts.Event d inside rest e p = absurd (nothing_split inside e rest p)
-data_parts sorts.Adapter d inside rest e p = absurd (nothing_split inside e rest p)
+data_parts sort d inside rest e p = absurd (nothing_split inside e rest p)
 
 in_data : (sort : Sort) (d e : End) → Contains (data_destination sort d) e → (sort ≡ sorts.Data) × (d ≡ e)
 in_data sorts.Data d e c = (refl, contains_single d e c)
-in_data sorts.Event d e c = absurd (contains_nothing e c)
-in_data sorts.Adapter d e c = absurd (contains_nothing e c)
+in_data o d e c = absurd (contains_nothing e c)
 
 data_is : (sort : Sort) (d : End) → sort ≡ sorts.Data → data_destination sort d ≡ d ∷ []
 data_is sort d e = ap (λ s. data_destination s d) e
 
 pub one_source : DestinationsHaveOneSource
-one_source sources unit span = (to, from)
+one_source sources unit span =
+    iff (λ c. let o = network_origin sources unit it c in let s = second_origin SecondSource destinations o.network.connections it o.has in by o.here o.network o.stands s.end s.is s.second s.second.taken)
+    (λ h. let second : IsSecond destinations h.network.connections h.again.destination = record {
+      earlier = h.before;
+      again = h.again;
+      later = h.after;
+      listed = h.listed;
+      inside = [];
+      rest = [];
+      parts = data_is h.again.sort h.again.destination h.of_data;
+      other = h.first.destination;
+      same = h.same;
+      taken = inl (record { origin = h.first; among = h.earlier; has = subst (λ (l : List End). Contains l h.first.destination) (sym (data_is h.first.sort h.first.destination h.first_of_data)) (contains_here h.first.destination []) });
+    } in
+    reported sources unit h.here h.network h.stands 2 _ refl h.place (second_reported SecondSource destinations h.network.connections h.again.destination second))
   where
     it : Fault
     it = record { code = SecondSource; span = span }
@@ -158,28 +151,6 @@ one_source sources unit span = (to, from)
     by here n stands e is s (inl o) = in_earlier here n stands e is s o
     by here n stands e is s (inr c) = absurd (contains_nothing s.other (subst (λ (l : List End). Contains l s.other) (data_parts s.again.sort s.again.destination s.inside s.rest e s.parts).2 c))
 
-    to : Contains (net_faults_of sources unit) it → HasSecondSource sources unit span
-    to c =
-        let o = network_origin sources unit it c in
-        let s = second_origin SecondSource destinations o.network.connections it o.has in
-        by o.here o.network o.stands s.end s.is s.second s.second.taken
-
-    from : HasSecondSource sources unit span → Contains (net_faults_of sources unit) it
-    from h =
-        let second : IsSecond destinations h.network.connections h.again.destination = record {
-          earlier = h.before;
-          again = h.again;
-          later = h.after;
-          listed = h.listed;
-          inside = [];
-          rest = [];
-          parts = data_is h.again.sort h.again.destination h.of_data;
-          other = h.first.destination;
-          same = h.same;
-          taken = inl (record { origin = h.first; among = h.earlier; has = subst (λ (l : List End). Contains l h.first.destination) (sym (data_is h.first.sort h.first.destination h.first_of_data)) (contains_here h.first.destination []) });
-        } in
-        reported sources unit h.here h.network h.stands 2 _ refl h.place (second_reported SecondSource destinations h.network.connections h.again.destination second)
-
 -- ends of adapter connections
 
 abbrev both_ends : Connection → List End
@@ -194,8 +165,7 @@ adapter_parts : (sort : Sort) (s d : End) (inside rest : List End) (e : End) →
 adapter_parts sorts.Adapter s d [] rest e p = (refl, at_source refl cc)
 adapter_parts sorts.Adapter s d (x ∷ []) rest e p = let first : x ≡ s = cc in (refl, at_destination (ap (λ y. y ∷ []) first) cc)
 adapter_parts sorts.Adapter s d (x ∷ y ∷ inside) rest e p = let tails : [] ≡ inside ++ e ∷ rest = cc in absurd (nothing_split inside e rest tails)
-adapter_parts sorts.Data s d inside rest e p = absurd (nothing_split inside e rest p)
-adapter_parts sorts.Event s d inside rest e p = absurd (nothing_split inside e rest p)
+adapter_parts sort s d inside rest e p = absurd (nothing_split inside e rest p)
 
 -- an end of an adapter connection
 record IsAdapterEnd (c : Connection) (e : End) : Type 0 where
@@ -212,14 +182,9 @@ is_destination c e same = subst (IsEndOf c Destination) same destination
 in_both : (c : Connection) (e : End) → Contains (both_ends c) e → IsAdapterEnd c e
 in_both c e h = by c.sort refl h
   where
-    by_case : c.sort ≡ sorts.Adapter → (c.source ≡ e) ⊎ Contains (c.destination ∷ []) e → IsAdapterEnd c e
-    by_case is (inl same) = record { of_adapter = is; position = Source; is_end = is_source c e same }
-    by_case is (inr d) = record { of_adapter = is; position = Destination; is_end = is_destination c e (contains_single c.destination e d) }
-
     by : (sort : Sort) → c.sort ≡ sort → Contains (adapter_ends sort c.source c.destination) e → IsAdapterEnd c e
-    by sorts.Adapter is h = by_case is (contains_cases c.source (c.destination ∷ []) e h)
-    by sorts.Data is h = absurd (contains_nothing e h)
-    by sorts.Event is h = absurd (contains_nothing e h)
+    by sorts.Adapter is h = elim (contains_cases c.source (c.destination ∷ []) e h) [ inl same ↦ record { of_adapter = is; position = Source; is_end = is_source c e same } | inr d ↦ record { of_adapter = is; position = Destination; is_end = is_destination c e (contains_single c.destination e d) } ]
+    by o is h = absurd (contains_nothing e h)
 
 both_is : (c : Connection) → c.sort ≡ sorts.Adapter → both_ends c ≡ c.source ∷ c.destination ∷ []
 both_is c e = ap (λ s. adapter_ends s c.source c.destination) e
@@ -237,7 +202,10 @@ around c Source e source = ([], c.destination ∷ [], refl)
 around c Destination e destination = (c.source ∷ [], [], refl)
 
 pub one_end : AdaptersHaveOneEnd
-one_end sources unit span = (to, from)
+one_end sources unit span =
+    iff to
+    (λ h. let again = second h.network.connections h.before h.after h.again h.position h.end h.listed h.of_adapter h.is_end h.taken in
+    reported sources unit h.here h.network h.stands 3 _ refl h.place (second_reported SecondAdapter both_ends h.network.connections h.end again))
   where
     it : Fault
     it = record { code = SecondAdapter; span = span }
@@ -315,8 +283,3 @@ one_end sources unit span = (to, from)
       same = same;
       taken = inr (contains_here c.source []);
     }
-
-    from : HasSecondAdapter sources unit span → Contains (net_faults_of sources unit) it
-    from h =
-        let again = second h.network.connections h.before h.after h.again h.position h.end h.listed h.of_adapter h.is_end h.taken in
-        reported sources unit h.here h.network h.stands 3 _ refl h.place (second_reported SecondAdapter both_ends h.network.connections h.end again)

@@ -7,11 +7,7 @@ use Rattle.std.proofs.Math.Bool.{or-true}
 use Rattle.std.proofs.Math.Seq.{take-append_seam}
 use Rattle.std.proofs.lemmas.Cmp.{lists_total, nat_list_cmp_total, tied_itself}
 use Rattle.std.proofs.lemmas.Map.Views.{tells_apart}
-use Rattle.fb_deploy.specs.Iface.declared.code.Code.{Code}
-use Rattle.fb_deploy.specs.Iface.declared.fault.Fault.{Fault}
-use Rattle.fb_deploy.proofs.Iface.EarlierLemmas.{at_place, in_places}
-use Rattle.fb_text.proofs.Members.{contains_cases, contains_filter, contains_here, contains_later, contains_map, contains_nothing, origin_in_map, passes_in_filter}
-use Rattle.fb_netcheck.specs.Paths.{Path, PathUse, fault_at_path, has_path, is_repeated, repeated, repeated_faults, same_path}
+use Rattle.fb_laws.proofs.Common.{Code, Fault, at_place, in_places, contains_cases, contains_filter, contains_here, contains_later, contains_map, contains_nothing, origin_in_map, passes_in_filter, Path, PathUse, fault_at_path, has_path, is_repeated, repeated, repeated_faults, same_path}
 use Rattle.fb_laws.proofs.SplitLemmas.{SplitImages, at_split, images_split, split_at, split_images}
 
 path_exact : (a b : Path) → same_path a b ≡ true → a ≡ b
@@ -22,19 +18,13 @@ path_itself a b e = ap (same_path a) (sym e) ∙ ap is_eq (tied_itself (lists_to
 
 path_among : (paths : List PathUse) (q : Path) → has_path paths q ≡ true → (p : PathUse) × Contains paths p × (p.names ≡ q)
 path_among [] q e = absurd (true≢false (sym e))
-path_among (x ∷ xs) q e = by (same_path x.names q) refl e (path_among xs q)
-  where
-    by : (b : Bool) → same_path x.names q ≡ b → (b || has_path xs q) ≡ true → (has_path xs q ≡ true → (p : PathUse) × Contains xs p × (p.names ≡ q)) → (p : PathUse) × Contains (x ∷ xs) p × (p.names ≡ q)
-    by true s h more = (x, contains_here x xs, path_exact x.names q s)
-    by false s h more = let o = more h in (o.0, contains_later x xs o.0 o.1, o.2)
+path_among (x ∷ xs) q e =
+    (elim (same_path x.names q) as (λ b. same_path x.names q ≡ b → (b || has_path xs q) ≡ true → (has_path xs q ≡ true → (p : PathUse) × Contains xs p × (p.names ≡ q)) → (p : PathUse) × Contains (x ∷ xs) p × (p.names ≡ q)) [ true ↦ λ s h more. (x, contains_here x xs, path_exact x.names q s) | false ↦ λ s h more. let o = more h in (o.0, contains_later x xs o.0 o.1, o.2) ]) refl e (path_among xs q)
 
 among_paths : (paths : List PathUse) (q : Path) (p : PathUse) → Contains paths p → p.names ≡ q → has_path paths q ≡ true
 among_paths [] q p c e = absurd (contains_nothing p c)
-among_paths (x ∷ xs) q p c e = by (contains_cases x xs p c) (λ d. among_paths xs q p d e)
-  where
-    by : (x ≡ p) ⊎ Contains xs p → (Contains xs p → has_path xs q ≡ true) → (same_path x.names q || has_path xs q) ≡ true
-    by (inl s) more = ap (λ b. b || has_path xs q) (path_itself x.names q (ap (λ (m : PathUse). m.names) s ∙ e))
-    by (inr d) more = ap (λ b. same_path x.names q || b) (more d) ∙ or-true (same_path x.names q)
+among_paths (x ∷ xs) q p c e =
+    elim (contains_cases x xs p c) [ inl s ↦ ap (λ b. b || has_path xs q) (path_itself x.names q (ap (λ (m : PathUse). m.names) s ∙ e)) | inr d ↦ ap (λ b. same_path x.names q || b) (among_paths xs q p d e) ∙ or-true (same_path x.names q) ]
 
 -- a path that stands before its place too
 record IsAgain (paths : List PathUse) (x : PathUse) : Type 0 where

@@ -3,16 +3,13 @@ use Rattle.std.proofs.Common.{◌≡◌, zero, suc, ℕ, ◌+◌, ◌<◌, List,
 use Rattle.std.specs.List.{flat_map, slice_get}
 use Rattle.std.proofs.lemmas.Bool.{cases_order}
 use Rattle.std.proofs.lemmas.Option.{slice_get_within}
-use Rattle.fb_laws.specs.Declared.{Cell, IsBefore, in_earlier_row, in_same_row}
+use Rattle.fb_laws.proofs.Common.{Cell, IsBefore, in_earlier_row, in_same_row}
 
 in_either : {Y : Type 0} (xs ys : List Y) (k : ℕ) (y : Y) → slice_get (xs ++ ys) k ≡ Some y → (slice_get xs k ≡ Some y) ⊎ ((j : ℕ) × (k ≡ length xs + j) × (slice_get ys j ≡ Some y))
 in_either [] ys k y e = inr (k, (let start : k ≡ 0 + k = omega arith in start), e)
 in_either (x ∷ xs) ys zero y e = inl e
-in_either (x ∷ xs) ys (suc k) y e = by (in_either xs ys k y e)
-  where
-    by : (slice_get xs k ≡ Some y) ⊎ ((j : ℕ) × (k ≡ length xs + j) × (slice_get ys j ≡ Some y)) → (slice_get xs k ≡ Some y) ⊎ ((j : ℕ) × (suc k ≡ length (x ∷ xs) + j) × (slice_get ys j ≡ Some y))
-    by (inl h) = inl h
-    by (inr o) = let number : k ≡ length xs + o.0 = o.1 in inr (o.0, omega (arith, number), o.2)
+in_either (x ∷ xs) ys (suc k) y e =
+    elim (in_either xs ys k y e) [ inl h ↦ inl h | inr o ↦ let number : k ≡ length xs + o.0 = o.1 in inr (o.0, omega (arith, number), o.2) ]
 
 in_front : {Y : Type 0} (xs ys : List Y) (k : ℕ) (y : Y) → slice_get xs k ≡ Some y → slice_get (xs ++ ys) k ≡ Some y
 in_front [] ys k y e = absurd (let no : ⊥ = cc in no)

@@ -1,19 +1,12 @@
 -- The rules of classes, by the functions of the check.
 use Rattle.std.proofs.Common.{◌≡◌, ◌≢◌, Bool, true, false, Option, Some, None, unwrap_or, refl, sym, ap, ◌∙◌, true≢false}
 use Rattle.std.specs.Option.{option_and_then}
+use Rattle.std.proofs.lemmas.Bool.{false_from_ne_true}
 use Rattle.fb_tree.specs.declared.expression.BinaryOperator.{BinaryOperator}
 use Rattle.fb_tree.specs.declared.expression.BinaryOperator.TheVariants.{Or, Xor, And, Equal, NotEqual, Less, Greater, LessOrEqual, GreaterOrEqual, Add, Subtract, Multiply, Divide, Modulo, Power}
 use Rattle.fb_tree.specs.declared.expression.UnaryOperator.{UnaryOperator}
 use Rattle.fb_tree.specs.declared.expression.UnaryOperator.TheVariants.{Plus, Minus, Not}
-use Rattle.fb_deploy.specs.Iface.Class.{is_free, takes}
-use Rattle.fb_deploy.specs.Iface.declared.classes.Class.{Class}
-use Rattle.fb_deploy.specs.Iface.declared.classes.Class.TheVariants.{B, I, W, O, Free, Num, Any}
-use Rattle.fb_expr.specs.Classes.{arithmetical, change, class_of_broken, combined, join, logical, operation, pair_class, whole as whole_of}
-use Rattle.fb_expr.specs.Rules.{allows}
-use Rattle.fb_expr.specs.declared.rules.ClassPlace.{ClassPlace}
-use Rattle.fb_expr.specs.declared.rules.ClassPlace.TheVariants.{Condition, Count, Counter, Selector}
-use Rattle.fb_laws.proofs.Joined.{is_false}
-use Rattle.fb_laws.specs.Classes.{Joins, Takes, IsLogical, Calculates, Divides, Changes, JoinsTruths, Compares, IsArithmetic, Makes, Combines, Spoils, Results, Fits}
+use Rattle.fb_laws.proofs.Common.{is_free, takes, Class, B, I, W, O, Free, Num, Any, arithmetical, change, class_of_broken, combined, join, logical, operation, pair_class, whole as whole_of, allows, ClassPlace, Condition, Count, Counter, Selector, Joins, Takes, IsLogical, Calculates, Divides, Changes, JoinsTruths, Compares, IsArithmetic, Makes, Combines, Spoils, Results, Fits}
 
 -- a class that comes of a rule, where the check has one
 pub data Known (P : Class → Type 0) : Option Class → Type 0 where
@@ -33,45 +26,17 @@ missing P (Some g) (gives p) none = absurd (none g p)
 
 -- joins
 
+ruleset known = (fails, gives)
+
+ruleset joined = (Joins.equal, Joins.whole_left, Joins.whole_right, Joins.number_right_whole, Joins.number_right_bits, Joins.number_right_other, Joins.number_left_whole, Joins.number_left_bits, Joins.number_left_other)
+
 joins : (a b : Class) → Known (Joins a b) (join a b)
 joins B B = gives (Joins.equal B)
-joins B Free = gives (Joins.free_right B)
-joins B Any = gives (Joins.any_right B)
-joins I I = gives (Joins.equal I)
-joins I O = gives Joins.whole_left
-joins I Free = gives (Joins.free_right I)
-joins I Num = gives Joins.number_right_whole
-joins I Any = gives (Joins.any_right I)
-joins W W = gives (Joins.equal W)
-joins W Free = gives (Joins.free_right W)
-joins W Num = gives Joins.number_right_bits
-joins W Any = gives (Joins.any_right W)
-joins O I = gives Joins.whole_right
-joins O O = gives (Joins.equal O)
-joins O Free = gives (Joins.free_right O)
-joins O Num = gives Joins.number_right_other
-joins O Any = gives (Joins.any_right O)
-joins Free B = gives (Joins.free_left B)
-joins Free I = gives (Joins.free_left I)
-joins Free W = gives (Joins.free_left W)
-joins Free O = gives (Joins.free_left O)
-joins Free Free = gives (Joins.free_left Free)
-joins Free Num = gives (Joins.free_left Num)
-joins Free Any = gives (Joins.free_left Any)
-joins Num I = gives Joins.number_left_whole
-joins Num W = gives Joins.number_left_bits
-joins Num O = gives Joins.number_left_other
-joins Num Free = gives (Joins.free_right Num)
-joins Num Num = gives (Joins.equal Num)
-joins Num Any = gives (Joins.any_right Num)
-joins Any B = gives (Joins.any_left B)
-joins Any I = gives (Joins.any_left I)
-joins Any W = gives (Joins.any_left W)
-joins Any O = gives (Joins.any_left O)
-joins Any Free = gives (Joins.free_right Any)
-joins Any Num = gives (Joins.any_left Num)
-joins Any Any = gives (Joins.equal Any)
-joins a b = fails
+joins a Free = gives (Joins.free_right a)
+joins Free b = gives (Joins.free_left b)
+joins a Any = gives (Joins.any_right a)
+joins Any b = gives (Joins.any_left b)
+joins a b = search (known, joined)
 
 equal_joins : (c : Class) → join c c ≡ Some c
 equal_joins B = refl
@@ -104,22 +69,13 @@ no_join a b none = missing (Joins a b) (join a b) (joins a b) none
 
 -- constants
 
+ruleset constants = (Takes.truth, Takes.truth_any, Takes.whole, Takes.whole_number, Takes.whole_any, Takes.bits, Takes.bits_number, Takes.bits_any, Takes.other, Takes.other_whole, Takes.other_number, Takes.other_any)
+
 known_take : (kind constant : Class) → takes kind constant ≡ true → Takes kind constant
 known_take Free constant e = Takes.free_type constant
 known_take kind Free e = Takes.free_constant kind
-known_take B B e = Takes.truth
-known_take B Any e = Takes.truth_any
-known_take I I e = Takes.whole
-known_take I Num e = Takes.whole_number
-known_take I Any e = Takes.whole_any
-known_take W W e = Takes.bits
-known_take W Num e = Takes.bits_number
-known_take W Any e = Takes.bits_any
-known_take O O e = Takes.other
-known_take O I e = Takes.other_whole
-known_take O Num e = Takes.other_number
-known_take O Any e = Takes.other_any
-known_take kind constant e = absurd (true≢false (sym e))
+known_take kind constant e =
+    first_of (search constants, cc)
 
 free_taken : (kind : Class) → takes kind Free ≡ true
 free_taken B = refl
@@ -133,7 +89,7 @@ pub not_taken : (kind constant : Class) → takes kind constant ≡ false → ¬
 not_taken kind constant e is = true≢false (sym (told_take kind constant is) ∙ e)
 
 pub untaken : (kind constant : Class) → ¬ Takes kind constant → takes kind constant ≡ false
-untaken kind constant none = is_false (takes kind constant) (λ e. none (known_take kind constant e))
+untaken kind constant none = false_from_ne_true (takes kind constant) (λ e. none (known_take kind constant e))
 
 pub not_free : (c : Class) → is_free c ≡ false → c ≢ Free
 not_free c e is = true≢false (sym (ap is_free is) ∙ e)
@@ -148,30 +104,19 @@ judged c other = refl
 data Keeps (c : Class) : Class → Type 0 where
   keeps : IsLogical c → Keeps c c
 
+ruleset kinds = (keeps, IsLogical.bits, IsLogical.free, IsLogical.number, IsLogical.any, Calculates.other, Calculates.free, Calculates.number, Calculates.any, Divides.free, Divides.number, Divides.any)
+
 kept : (c : Class) → Known (Keeps c) (logical c)
 kept B = gives (keeps IsLogical.truth)
-kept I = fails
-kept W = gives (keeps IsLogical.bits)
-kept O = fails
-kept Free = gives (keeps IsLogical.free)
-kept Num = gives (keeps IsLogical.number)
-kept Any = gives (keeps IsLogical.any)
+kept c = search (known, kinds)
 
 calculated : (c : Class) → Known (Calculates c) (arithmetical c)
-calculated B = fails
 calculated I = gives Calculates.whole
-calculated W = fails
-calculated O = gives Calculates.other
-calculated Free = gives Calculates.free
-calculated Num = gives Calculates.number
-calculated Any = gives Calculates.any
+calculated c = search (known, kinds)
 
 divided : (c : Class) → Known (Divides c) (whole_of c)
 divided I = gives Divides.whole
-divided Free = gives Divides.free
-divided Num = gives Divides.number
-divided Any = gives Divides.any
-divided c = fails
+divided c = search (known, kinds)
 
 told_logic : (c : Class) → IsLogical c → logical c ≡ Some c
 told_logic c IsLogical.truth = refl
@@ -204,6 +149,13 @@ none_change operator c e = none_of (Changes operator c) (change operator c) (tol
 pub no_change : (operator : UnaryOperator) (c : Class) → ((g : Class) → ¬ Changes operator c g) → change operator c ≡ None
 no_change operator c none = missing (Changes operator c) (change operator c) (changes operator c) none
 
+-- the kinds of operators
+ruleset logics = (JoinsTruths.or, JoinsTruths.xor, JoinsTruths.and)
+
+ruleset comparisons = (Compares.equal, Compares.not_equal, Compares.less, Compares.greater, Compares.less_or_equal, Compares.greater_or_equal)
+
+ruleset calculations = (IsArithmetic.add, IsArithmetic.subtract, IsArithmetic.multiply, IsArithmetic.divide, IsArithmetic.power)
+
 by_logic : (operator : BinaryOperator) → JoinsTruths operator → (c : Class) → Known (Makes operator c) (logical c)
 by_logic operator is c = mapped (Keeps c) (Makes operator c) (logical c) (λ g k. kept_by g k) (kept c)
   where
@@ -214,21 +166,8 @@ by_arithmetic : (operator : BinaryOperator) → IsArithmetic operator → (c : C
 by_arithmetic operator is c = mapped (Calculates c) (Makes operator c) (arithmetical c) (λ g k. Makes.arithmetic is k) (calculated c)
 
 makes : (operator : BinaryOperator) (c : Class) → Known (Makes operator c) (operation operator c)
-makes Or c = by_logic Or JoinsTruths.or c
-makes Xor c = by_logic Xor JoinsTruths.xor c
-makes And c = by_logic And JoinsTruths.and c
-makes Equal c = gives (Makes.comparison Compares.equal)
-makes NotEqual c = gives (Makes.comparison Compares.not_equal)
-makes Less c = gives (Makes.comparison Compares.less)
-makes Greater c = gives (Makes.comparison Compares.greater)
-makes LessOrEqual c = gives (Makes.comparison Compares.less_or_equal)
-makes GreaterOrEqual c = gives (Makes.comparison Compares.greater_or_equal)
-makes Add c = by_arithmetic Add IsArithmetic.add c
-makes Subtract c = by_arithmetic Subtract IsArithmetic.subtract c
-makes Multiply c = by_arithmetic Multiply IsArithmetic.multiply c
-makes Divide c = by_arithmetic Divide IsArithmetic.divide c
-makes Power c = by_arithmetic Power IsArithmetic.power c
 makes Modulo c = mapped (Divides c) (Makes Modulo c) (whole_of c) (λ g k. Makes.modulo k) (divided c)
+makes operator c = search (by_logic, by_arithmetic, gives, Makes.comparison, logics, comparisons, calculations)
 
 told_makes : (operator : BinaryOperator) (c g : Class) → Makes operator c g → operation operator c ≡ Some g
 told_makes operator c g (Makes.logic JoinsTruths.or l) = told_logic c l
@@ -259,22 +198,11 @@ none_combined operator a b e = none_of (Combines operator a b) (combined operato
 pub not_combined : (operator : BinaryOperator) (a b : Class) → ((g : Class) → ¬ Combines operator a b g) → combined operator a b ≡ None
 not_combined operator a b none = missing (Combines operator a b) (combined operator a b) (combines operator a b) none
 
+ruleset spoilt = (Spoils.logic, Spoils.comparison, Spoils.arithmetic)
+
 spoils : (operator : BinaryOperator) → Spoils operator (class_of_broken operator)
-spoils Or = Spoils.logic JoinsTruths.or
-spoils Xor = Spoils.logic JoinsTruths.xor
-spoils And = Spoils.logic JoinsTruths.and
-spoils Equal = Spoils.comparison Compares.equal
-spoils NotEqual = Spoils.comparison Compares.not_equal
-spoils Less = Spoils.comparison Compares.less
-spoils Greater = Spoils.comparison Compares.greater
-spoils LessOrEqual = Spoils.comparison Compares.less_or_equal
-spoils GreaterOrEqual = Spoils.comparison Compares.greater_or_equal
-spoils Add = Spoils.arithmetic IsArithmetic.add
-spoils Subtract = Spoils.arithmetic IsArithmetic.subtract
-spoils Multiply = Spoils.arithmetic IsArithmetic.multiply
-spoils Divide = Spoils.arithmetic IsArithmetic.divide
-spoils Power = Spoils.arithmetic IsArithmetic.power
 spoils Modulo = Spoils.modulo
+spoils operator = search (spoilt, logics, comparisons, calculations)
 
 told_spoils : (operator : BinaryOperator) (g : Class) → Spoils operator g → class_of_broken operator ≡ g
 told_spoils operator g (Spoils.logic JoinsTruths.or) = refl
@@ -342,8 +270,5 @@ pub misfits : (place : ClassPlace) (c : Class) → allows place c ≡ false → 
 misfits place c e f = true≢false (sym (told_fit place c f) ∙ e)
 
 pub told_misfit : (place : ClassPlace) (c : Class) → ¬ Fits place c → allows place c ≡ false
-told_misfit place c none = by_case (allows place c) refl
-  where
-    by_case : (b : Bool) → allows place c ≡ b → b ≡ false
-    by_case true e = absurd (none (fits place c e))
-    by_case false e = refl
+told_misfit place c none =
+    (elim (allows place c) as (λ b. allows place c ≡ b → b ≡ false) [ true ↦ λ e. absurd (none (fits place c e)) | false ↦ λ e. refl ]) refl

@@ -1,23 +1,10 @@
 -- The parts of constants, types, interfaces, networks, states and parts of systems.
 use Rattle.std.proofs.Common.{inl, inr, refl, List, ◌∷◌, ◌++◌, map, Option, Some, None}
 use Rattle.std.specs.List.{flat_map}
-use Rattle.fb_text.specs.declared.name.NameUse.{NameUse}
-use Rattle.fb_structured_text.specs.Forms.Form.{one}
-use Rattle.fb_structured_text.specs.Forms.Words.{key, behind, list, name, names}
-use Rattle.fb_structured_text.specs.Forms.declared.kind.Kind.TheVariants.{OpenBracket, CloseBracket, Of}
-use Rattle.fb_structured_text.specs.Forms.declared.lexeme.Lexeme.{Lexeme}
+use Rattle.fb_laws.proofs.Common.{NameUse, one, key, behind, list, name, names, OpenBracket, CloseBracket, Of, Lexeme, number, ranges, length_of_string, element_or_sized, plain_type, array_of, array_type, type_use, other_literal_kinds, simple, in_brackets, constant_list, constant, parameter, listed_parameters, parameters, optional_parameters, instance, plugs, sockets, blocks, inner_subapplication, subapplications, end, connection, connections, ParameterTree, one_value, value_span, Section, Side, TypeUse, Role, Sort, Part, name_part, constant_part, type_part, name_parts, names_in, option_parts, simple_parts, constant_parts, type_use_parts, event_parts, variables_parts, parameter_parts, instance_parts, end_parts, connection_parts, action_parts, state_parts, resource_parts, device_parts, mapping_parts}
 use Rattle.fb_sections.specs.Chart.{sent_event, action, actions, state, states}
-use Rattle.fb_sections.specs.Constants.{number, ranges, length_of_string, element_or_sized, plain_type, array_of, array_type, type_use, other_literal_kinds, simple, in_brackets, constant_list, constant}
 use Rattle.fb_sections.specs.Interface.{with_names, event, events, initial, variables, data_variables, internal_variables, fields}
-use Rattle.fb_sections.specs.Network.{parameter, listed_parameters, parameters, optional_parameters, instance, plugs, sockets, blocks, inner_subapplication, subapplications, end, connection, connections}
 use Rattle.fb_sections.specs.SystemParts.{path, mapping, mappings, header, resource, device}
-use Rattle.fb_tree.specs.Tree.{ParameterTree, one_value, value_span}
-use Rattle.fb_tree.specs.declared.interface.Section.{Section}
-use Rattle.fb_tree.specs.declared.interface.Side.{Side}
-use Rattle.fb_tree.specs.declared.interface.TypeUse.{TypeUse}
-use Rattle.fb_tree.specs.declared.network.Role.{Role}
-use Rattle.fb_tree.specs.declared.network.Sort.{Sort}
-use Rattle.fb_laws.specs.SpanParts.{Part, name_part, constant_part, type_part, name_parts, names_in, option_parts, simple_parts, constant_parts, type_use_parts, event_parts, variables_parts, parameter_parts, instance_parts, end_parts, connection_parts, action_parts, state_parts, resource_parts, device_parts, mapping_parts}
 use Rattle.fb_laws.proofs.Tokens.{Each}
 use Rattle.fb_laws.proofs.Filling.{Filled, filled_as, filled_either, filled_token, filled_name, Ends, ends_filled, ends_second, ends_behind, filled_across, filled_more, filled_from}
 use Rattle.fb_laws.proofs.Sound.{Sound, sound_nothing, sound_both, sound_first, sound_second, sound_as, sound_either, sound_option, sound_many, sound_behind, sound_before, sound_optional_list, sound_separated, sound_section, sound_own, sound_name, sound_named, sound_names, sound_optional_name, sound_same}

@@ -3,16 +3,8 @@ use Rattle.std.proofs.Common.{refl, ◌≡◌, inl, inr, List, [], ◌∷◌, �
 use Rattle.std.specs.Prelude.{Bool, true, false, ◌||◌}
 use Rattle.std.specs.List.{flat_map}
 use Rattle.std.proofs.lemmas.Bool.{or_right}
-use Rattle.fb_text.specs.declared.name.NameUse.{NameUse}
-use Rattle.fb_structured_text.specs.Forms.Form.{Form, one, both, either, option, many, as_value, Spells, SpellsOption, SpellsEach}
-use Rattle.fb_structured_text.specs.Forms.Words.{key, before, behind, or_none, optional_list, cons, separated, name, names}
-use Rattle.fb_structured_text.specs.Forms.Kind.{is_among, name_kinds, same_kind}
-use Rattle.fb_structured_text.specs.Forms.Lexemes.{name_use}
-use Rattle.fb_structured_text.specs.Forms.declared.kind.Kind.{Kind}
-use Rattle.fb_structured_text.specs.Forms.declared.lexeme.Lexeme.{Lexeme}
+use Rattle.fb_laws.proofs.Common.{NameUse, Form, one, both, either, option, many, as_value, Spells, SpellsOption, SpellsEach, key, before, behind, or_none, optional_list, cons, separated, name, names, is_among, name_kinds, same_kind, name_use, Kind, Lexeme, Part, name_part, mark_part, name_parts, option_parts, part_span, SpellsPart, IsWritten, mark}
 use Rattle.fb_sections.specs.Sections.{section, optional_name}
-use Rattle.fb_laws.specs.SpanParts.{Part, name_part, mark_part, name_parts, option_parts}
-use Rattle.fb_laws.specs.Written.{part_span, SpellsPart, IsWritten, mark}
 use Rattle.fb_laws.proofs.Filling.{Filled, filled_as, filled_token, filled_name}
 use Rattle.fb_laws.proofs.Tokens.{Each, each_append, each_front, each_rest, each_left, each_right, written_whole}
 

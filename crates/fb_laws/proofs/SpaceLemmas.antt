@@ -2,13 +2,7 @@
 use Rattle.std.proofs.Common.{◌≡◌, ℕ, false, List, [], ◌∷◌, ◌++◌, map, flat_map, if◌then◌else◌, Some, None, ◌⊎◌, inl, inr, refl, sym, ap, ◌∙◌, subst}
 use Rattle.std.specs.List.{Contains, slice_get}
 use Rattle.std.proofs.lemmas.List.Elements.{Contains-append_left, Contains-append_right, Contains-append_cases}
-use Rattle.fb_text.specs.declared.name.NameUse.{NameUse}
-use Rattle.fb_text.proofs.Members.{contains_cases, contains_flat_map, contains_here, contains_later, contains_map, contains_single, origin_in_flat_map, origin_in_map}
-use Rattle.fb_tree.specs.Tree.{ApplicationTree, DeclTree, DeviceTree, EventTree, InstanceTree, NetworkTree, ParameterTree, StateTree, AlgorithmTree, StructureTree, SystemTree, TypeTree, VariablesTree, adapter_type, block_type, structure_type, subapplication_type, system_configuration}
-use Rattle.fb_tree.specs.declared.network.Role.{Role}
-use Rattle.fb_tree.specs.declared.network.Role.TheVariants.{Block, Plug, Socket, Subapplication}
-use Rattle.fb_deploy.specs.Iface.Spaces.{chart_spaces, interface_spaces, is_block, network_spaces, parameter_names, resource_names, spaces_of, system_spaces, type_spaces}
-use Rattle.fb_laws.specs.Declared.{IsHeldIn, IsType, instance_of_application, instance_of_type, of_adapter, of_block, of_subapplication}
+use Rattle.fb_laws.proofs.Common.{NameUse, contains_cases, contains_flat_map, contains_here, contains_later, contains_map, contains_single, origin_in_flat_map, origin_in_map, ApplicationTree, DeclTree, DeviceTree, EventTree, InstanceTree, NetworkTree, ParameterTree, StateTree, AlgorithmTree, StructureTree, SystemTree, TypeTree, VariablesTree, adapter_type, block_type, structure_type, subapplication_type, system_configuration, Role, Block, Plug, Socket, Subapplication, chart_spaces, interface_spaces, is_block, network_spaces, parameter_names, resource_names, spaces_of, system_spaces, type_spaces, IsHeldIn, IsType, instance_of_application, instance_of_type, of_adapter, of_block, of_subapplication}
 use Rattle.fb_laws.specs.Spaces.{IsSpace, algorithms, applications, devices, events, fields, instances, instances_of_application, parameters, resources, states, variables}
 
 abbrev event_names : TypeTree → List NameUse
@@ -46,24 +40,16 @@ abbrev IsSpaceOrNone : DeclTree → List NameUse → Type 0
 IsSpaceOrNone decl space = IsSpace decl space ⊎ (space ≡ [])
 
 known_parameters : (decl : DeclTree) (i : InstanceTree) → IsHeldIn decl i → (space : List NameUse) → parameter_names i ≡ space → IsSpaceOrNone decl space
-known_parameters decl i held space is = by i.role refl
+known_parameters decl i held space is =
+    (elim i.role as (λ role. i.role ≡ role → IsSpaceOrNone decl space) [ Block ↦ λ e. inl (subst (λ (names : List NameUse). IsSpace decl names) (block_parameters i e ∙ is) (parameters held e)) | Plug ↦ λ e. none Plug e refl | Socket ↦ λ e. none Socket e refl | Subapplication ↦ λ e. none Subapplication e refl ]) refl
   where
     none : (role : Role) → i.role ≡ role → is_block role ≡ false → IsSpaceOrNone decl space
     none role e other = inr (sym is ∙ ap (λ r. if is_block r then written i else []) e ∙ ap (λ b. if b then written i else []) other)
 
-    by : (role : Role) → i.role ≡ role → IsSpaceOrNone decl space
-    by Block e = inl (subst (λ (names : List NameUse). IsSpace decl names) (block_parameters i e ∙ is) (parameters held e))
-    by Plug e = none Plug e refl
-    by Socket e = none Socket e refl
-    by Subapplication e = none Subapplication e refl
-
 -- the spaces of a network, of a type or of an application
 known_network : (decl : DeclTree) (n : NetworkTree) → IsSpace decl (instance_names n) → ((i : InstanceTree) → Contains n.instances i → IsHeldIn decl i) → (space : List NameUse) → Contains (network_spaces n) space → IsSpaceOrNone decl space
-known_network decl n named held space c = by (contains_cases (instance_names n) (map parameter_names n.instances) space c)
-  where
-    by : (instance_names n ≡ space) ⊎ Contains (map parameter_names n.instances) space → IsSpaceOrNone decl space
-    by (inl e) = inl (subst (λ (names : List NameUse). IsSpace decl names) e named)
-    by (inr h) = let o = origin_in_map parameter_names n.instances space h in known_parameters decl o.origin (held o.origin o.among) space o.gives
+known_network decl n named held space c =
+    elim (contains_cases (instance_names n) (map parameter_names n.instances) space c) [ inl e ↦ inl (subst (λ (names : List NameUse). IsSpace decl names) e named) | inr h ↦ let o = origin_in_map parameter_names n.instances space h in known_parameters decl o.origin (held o.origin o.among) space o.gives ]
 
 -- ---- types
 
@@ -87,29 +73,16 @@ module _ (decl : DeclTree) (d : TypeTree) (is : IsType decl d) where
   moved space s e = inl (subst (λ (names : List NameUse). IsSpace decl names) e s)
 
   known_interface : (space : List NameUse) → Contains in_interface space → IsSpaceOrNone decl space
-  known_interface space c = by (contains_cases (event_names d) (variable_names d ∷ []) space c)
-    where
-      by : (event_names d ≡ space) ⊎ Contains (variable_names d ∷ []) space → IsSpaceOrNone decl space
-      by (inl e) = moved space (events is) e
-      by (inr h) = moved space (variables is) (contains_single (variable_names d) space h)
+  known_interface space c =
+      elim (contains_cases (event_names d) (variable_names d ∷ []) space c) [ inl e ↦ moved space (events is) e | inr h ↦ moved space (variables is) (contains_single (variable_names d) space h) ]
 
   known_chart : (space : List NameUse) → Contains in_chart space → IsSpaceOrNone decl space
-  known_chart space c = by (contains_cases (state_names d) (algorithm_names d ∷ []) space c)
-    where
-      by : (state_names d ≡ space) ⊎ Contains (algorithm_names d ∷ []) space → IsSpaceOrNone decl space
-      by (inl e) = moved space (states is) e
-      by (inr h) = moved space (algorithms is) (contains_single (algorithm_names d) space h)
+  known_chart space c =
+      elim (contains_cases (state_names d) (algorithm_names d ∷ []) space c) [ inl e ↦ moved space (states is) e | inr h ↦ moved space (algorithms is) (contains_single (algorithm_names d) space h) ]
 
   known_type : (space : List NameUse) → Contains (type_spaces d) space → IsSpaceOrNone decl space
-  known_type space c = by (Contains-append_cases (in_interface ++ in_chart) (network_spaces d.network) space c)
-    where
-      front : Contains in_interface space ⊎ Contains in_chart space → IsSpaceOrNone decl space
-      front (inl h) = known_interface space h
-      front (inr h) = known_chart space h
-
-      by : Contains (in_interface ++ in_chart) space ⊎ Contains (network_spaces d.network) space → IsSpaceOrNone decl space
-      by (inl h) = front (Contains-append_cases in_interface in_chart space h)
-      by (inr h) = known_network decl d.network (instances is) (λ i among. instance_of_type is among) space h
+  known_type space c =
+      elim (Contains-append_cases (in_interface ++ in_chart) (network_spaces d.network) space c) [ inl h ↦ elim (Contains-append_cases in_interface in_chart space h) [ inl h ↦ known_interface space h | inr h ↦ known_chart space h ] | inr h ↦ known_network decl d.network (instances is) (λ i among. instance_of_type is among) space h ]
 
 -- ---- systems
 
@@ -142,19 +115,9 @@ module _ (s : SystemTree) where
       moved_here : {names : List NameUse} → IsSpace (system_configuration s) names → names ≡ space → IsSpaceOrNone (system_configuration s) space
       moved_here n e = inl (subst (λ (names : List NameUse). IsSpace (system_configuration s) names) e n)
 
-      front : (app_names ≡ space) ⊎ Contains app_spaces space → IsSpaceOrNone (system_configuration s) space
-      front (inl e) = moved_here (applications s) e
-      front (inr h) =
-          let o = origin_in_flat_map (λ (a : ApplicationTree). network_spaces a.network) s.applications space h in
-          known_network (system_configuration s) o.origin.network (instances_of_application o.among) (λ i within. instance_of_application o.among within) space o.has
-
-      back : (device_names ≡ space) ⊎ Contains device_spaces space → IsSpaceOrNone (system_configuration s) space
-      back (inl e) = moved_here (devices s) e
-      back (inr h) = let o = origin_in_map resource_names s.devices space h in moved_here (resources o.among) o.gives
-
       by : Contains (app_names ∷ app_spaces) space ⊎ Contains (device_names ∷ device_spaces) space → IsSpaceOrNone (system_configuration s) space
-      by (inl h) = front (contains_cases app_names app_spaces space h)
-      by (inr h) = back (contains_cases device_names device_spaces space h)
+      by (inl h) = elim (contains_cases app_names app_spaces space h) [ inl e ↦ moved_here (applications s) e | inr h ↦ let o = origin_in_flat_map (λ (a : ApplicationTree). network_spaces a.network) s.applications space h in known_network (system_configuration s) o.origin.network (instances_of_application o.among) (λ i within. instance_of_application o.among within) space o.has ]
+      by (inr h) = elim (contains_cases device_names device_spaces space h) [ inl e ↦ moved_here (devices s) e | inr h ↦ let o = origin_in_map resource_names s.devices space h in moved_here (resources o.among) o.gives ]
 
 -- ---- units
 

@@ -4,31 +4,10 @@ use Rattle.std.specs.Prelude.{All, Contains, IsOk, nat_lt, slice_index_or, slice
 use Rattle.std.specs.Str.{IsCharBoundary, str_to_ascii_uppercase}
 use Rattle.std.proofs.lemmas.List.{map-append}
 use Rattle.std.proofs.lemmas.List.Elements.{Contains-append_left, All-contains, All-from_recursion, All-map, All-weaker, Contains-append_right}
-use Rattle.fb_text.specs.Name.{name_of}
-use Rattle.fb_text.specs.Tokens.{tokens_of, spans_of, IsSpelled, LiesIn, SpansRise}
-use Rattle.fb_text.specs.Forms.{HasForm}
-use Rattle.fb_text.specs.Words.{is_word, word_len}
-use Rattle.fb_text.specs.declared.name.NameFault.{NameFault}
+use Rattle.fb_laws.proofs.Common.{name_of, tokens_of, spans_of, IsSpelled, LiesIn, SpansRise, HasForm, is_word, word_len, NameFault, NameUse, Span, Token, TokenKind, Word, name_of-ok, IsBody, IsBodyIn, body_of, Whole, name as name_form, Spells, is_among, name_kinds, lexeme_of, lexemes_in, lexemes_of, name_or, name_use, Lexeme, DeclTree, told, Part, name_part, tree_parts, PartsAreWritten, SpansCoverTokens, SpansLieInText, NamesAreWords, part_span, BeginsAt, EndsAt, IsWritten}
 use Rattle.fb_text.specs.declared.name.NameFault.TheVariants.{Empty, BadByte, TooLong}
-use Rattle.fb_text.specs.declared.name.NameUse.{NameUse}
-use Rattle.fb_text.specs.declared.token.Span.{Span}
-use Rattle.fb_text.specs.declared.token.Token.{Token}
-use Rattle.fb_text.specs.declared.token.TokenKind.{TokenKind}
-use Rattle.fb_text.specs.declared.token.TokenKind.TheVariants.{Word}
-use Rattle.fb_text.proofs.NameLemmas.{name_of-ok}
 use Rattle.fb_structured_text.proofs.Forms.NameWords.{names as names_are_words}
-use Rattle.fb_deploy.specs.Parse.Body.{IsBody, IsBodyIn, body_of, Whole}
-use Rattle.fb_structured_text.specs.Forms.Words.{name as name_form}
-use Rattle.fb_structured_text.specs.Forms.Form.{Spells}
-use Rattle.fb_structured_text.specs.Forms.Kind.{is_among, name_kinds}
-use Rattle.fb_structured_text.specs.Forms.Lexemes.{lexeme_of, lexemes_in, lexemes_of, name_or, name_use}
-use Rattle.fb_structured_text.specs.Forms.declared.lexeme.Lexeme.{Lexeme}
-use Rattle.fb_tree.specs.Tree.{DeclTree}
-use Rattle.fb_deploy.proofs.Parse.Bodies.{told}
-use Rattle.fb_laws.specs.SpanParts.{Part, name_part, tree_parts}
 use Rattle.fb_laws.specs.Standing.{Covers, IsWord}
-use Rattle.fb_laws.specs.Spans.{PartsAreWritten, SpansCoverTokens, SpansLieInText, NamesAreWords}
-use Rattle.fb_laws.specs.Written.{part_span, BeginsAt, EndsAt, IsWritten}
 use Rattle.fb_laws.proofs.Reading.{AreTokens, tokens_are, rise_at, rise_behind}
 use Rattle.fb_laws.proofs.UnitSpans.{sound_unit}
 

@@ -3,16 +3,8 @@ use Rattle.std.proofs.Common.{◌≡◌, List, [], ◌∷◌, ◌++◌, Option, 
 use Rattle.std.specs.List.{Contains}
 use Rattle.std.specs.Option.{option_map_or}
 use Rattle.std.proofs.lemmas.List.Elements.{Contains-append_cases, Contains-append_left, Contains-append_right}
-use Rattle.fb_text.specs.declared.name.NameUse.{NameUse}
-use Rattle.fb_text.specs.declared.token.Span.{Span}
-use Rattle.fb_tree.specs.Expression.{ReferenceTree, Expression, reference_expression, Expressions, no_expressions}
-use Rattle.fb_tree.specs.Statement.{Statement, empty, assignment, exit, return, choice, selection, count, while_loop, repeat_loop, Statements, no_statements, statement_then, Arms, no_arms, arm_then}
-use Rattle.fb_text.proofs.Members.{contains_cases, contains_here, contains_later, contains_nothing, contains_single}
-use Rattle.fb_expr.specs.Demands.{Demand, names_variable, suits_place, assigns, demands_in, demands_at, name_alone, counter_demands, range_demands, statement_demands, statements_demands, arms_demands}
-use Rattle.fb_expr.specs.Names.{Names}
-use Rattle.fb_expr.specs.declared.rules.ClassPlace.{ClassPlace}
-use Rattle.fb_expr.specs.declared.rules.ClassPlace.TheVariants.{Condition, Count, Counter, Selector}
-use Rattle.fb_laws.specs.Occurrences.{IsArmOf, first_arm, later_arm, Asks, arm, selector, from, to, by, while_condition, until_condition, HasExpression, in_place, destination, value, IsWithin, this, in_arm, behind_else, in_case, behind_cases, in_for, in_while, in_repeat, IsAmong, in_first_statement, in_later_statement}
+use Rattle.fb_laws.proofs.Common.{NameUse, Span, ReferenceTree, Expression, reference_expression, Expressions, no_expressions, Statement, empty, assignment, exit, return, choice, selection, count, while_loop, repeat_loop, Statements, no_statements, statement_then, Arms, no_arms, arm_then, contains_cases, contains_here, contains_later, contains_nothing, contains_single, Demand, names_variable, suits_place, assigns, demands_in, demands_at, name_alone, counter_demands, range_demands, statement_demands, statements_demands, arms_demands, Names, ClassPlace, Condition, Count, Counter, Selector, IsArmOf, first_arm, later_arm, Asks, selector, from, to, by, while_condition, until_condition, HasExpression, in_place, value, this, in_arm, behind_else, in_case, behind_cases, in_for, in_while, in_repeat, IsAmong, in_first_statement, in_later_statement}
+use Rattle.fb_laws.specs.Occurrences.{arm, destination, IsWithin}
 use Rattle.fb_laws.proofs.ExpressionLemmas.{Asked, asked_in, demanded_in}
 
 -- what a statement demands itself, without the statements in it
@@ -46,15 +38,8 @@ data InThree {A : Type 0} (a b c : List A) (x : A) : Type 0 where
   third : Contains c x → InThree a b c x
 
 in_three : {A : Type 0} (a b c : List A) (x : A) → Contains ((a ++ b) ++ c) x → InThree a b c x
-in_three {A = A} a b c x h = outer (Contains-append_cases (a ++ b) c x h)
-  where
-    inner : Contains a x ⊎ Contains b x → InThree a b c x
-    inner (inl g) = first g
-    inner (inr g) = second g
-
-    outer : Contains (a ++ b) x ⊎ Contains c x → InThree a b c x
-    outer (inl g) = inner (Contains-append_cases a b x g)
-    outer (inr g) = third g
+in_three {A = A} a b c x h =
+    elim (Contains-append_cases (a ++ b) c x h) [ inl g ↦ elim (Contains-append_cases a b x g) [ inl g ↦ first g | inr g ↦ second g ] | inr g ↦ third g ]
 
 three_in : {A : Type 0} (a b c : List A) (x : A) → InThree a b c x → Contains ((a ++ b) ++ c) x
 three_in a b c x (first h) = Contains-append_left (a ++ b) c x (Contains-append_left a b x h)
@@ -67,11 +52,8 @@ module _ (names : Names) where
 
   -- an expression in a place demands its own and that it suits the place
   at_place : (s : Statement) (place : ClassPlace) (x : Expression) (demand : Demand) → Asks s place x → Contains (demands_at place names x) demand → OwnDemand names s demand
-  at_place s place x demand asks c = by_case (Contains-append_cases (demands_in names x) (suits_place place x ∷ []) demand c)
-    where
-      by_case : Contains (demands_in names x) demand ⊎ Contains (suits_place place x ∷ []) demand → OwnDemand names s demand
-      by_case (inl h) = inside x (in_place place asks) (asked_in names x demand h)
-      by_case (inr h) = subst (OwnDemand names s) (contains_single (suits_place place x) demand h) (placed place x asks)
+  at_place s place x demand asks c =
+      elim (Contains-append_cases (demands_in names x) (suits_place place x ∷ []) demand c) [ inl h ↦ inside x (in_place place asks) (asked_in names x demand h) | inr h ↦ subst (OwnDemand names s) (contains_single (suits_place place x) demand h) (placed place x asks) ]
 
   of_counter : (name : NameUse) (a b : Expression) (step : Option Expression) (body : Statements) (demand : Demand) → Contains (counter_demands name) demand → OwnDemand names (count name a b step body) demand
   of_counter name a b step body demand c = by_case (contains_cases (names_variable (name_alone name)) (suits_place Counter (reference_expression (name_alone name) no_expressions) ∷ []) demand c)
@@ -103,11 +85,8 @@ module _ (names : Names) where
 
   of_choice : (arms : Arms) (otherwise : Statements) (demand : Demand) → Contains (arms_demands names arms) demand ⊎ Contains (statements_demands names otherwise) demand → (Contains (arms_demands names arms) demand → AmongArms names arms demand) → (Contains (statements_demands names otherwise) demand → Among names otherwise demand) → Within names (choice arms otherwise) demand
   of_choice arms otherwise demand (inr h) in_arms more = deeper (choice arms otherwise) otherwise demand (λ t a. behind_else a) (more h)
-  of_choice arms otherwise demand (inl h) in_arms more = by_case (in_arms h)
-    where
-      by_case : AmongArms names arms demand → Within names (choice arms otherwise) demand
-      by_case (of_condition condition body is c) = itself_demands (choice arms otherwise) demand (at_place (choice arms otherwise) Condition condition demand (arm is) c)
-      by_case (of_body condition body is a) = deeper (choice arms otherwise) body demand (λ t o. in_arm condition body is o) a
+  of_choice arms otherwise demand (inl h) in_arms more =
+      elim (in_arms h) [ of_condition condition body is c ↦ itself_demands (choice arms otherwise) demand (at_place (choice arms otherwise) Condition condition demand (arm is) c) | of_body condition body is a ↦ deeper (choice arms otherwise) body demand (λ t o. in_arm condition body is o) a ]
 
   of_selection : (e : Expression) (cases otherwise : Statements) (demand : Demand) → InThree (demands_at Selector names e) (statements_demands names cases) (statements_demands names otherwise) demand → (Contains (statements_demands names cases) demand → Among names cases demand) → (Contains (statements_demands names otherwise) demand → Among names otherwise demand) → Within names (selection e cases otherwise) demand
   of_selection e cases otherwise demand (first h) inner more = itself_demands (selection e cases otherwise) demand (at_place (selection e cases otherwise) Selector e demand selector h)
@@ -135,11 +114,8 @@ module _ (names : Names) where
   of_arms : (condition : Expression) (body : Statements) (others : Arms) (demand : Demand) → InThree (demands_at Condition names condition) (statements_demands names body) (arms_demands names others) demand → (Contains (statements_demands names body) demand → Among names body demand) → (Contains (arms_demands names others) demand → AmongArms names others demand) → AmongArms names (arm_then condition body others) demand
   of_arms condition body others demand (first h) inner more = of_condition condition body first_arm h
   of_arms condition body others demand (second h) inner more = of_body condition body first_arm (inner h)
-  of_arms condition body others demand (third h) inner more = by_case (more h)
-    where
-      by_case : AmongArms names others demand → AmongArms names (arm_then condition body others) demand
-      by_case (of_condition c b is d) = of_condition c b (later_arm is) d
-      by_case (of_body c b is a) = of_body c b (later_arm is) a
+  of_arms condition body others demand (third h) inner more =
+      elim (more h) [ of_condition c b is d ↦ of_condition c b (later_arm is) d | of_body c b is a ↦ of_body c b (later_arm is) a ]
 
   mutual
     asked_within : (s : Statement) (demand : Demand) → Contains (statement_demands names s) demand → Within names s demand

@@ -3,18 +3,7 @@ use Rattle.std.proofs.Common.{◌≡◌, ℕ, zero, suc, ◌+◌, inl, inr, List
 use Rattle.std.specs.List.{sum_by}
 use Rattle.std.proofs.lemmas.List.Elements.{All-contains}
 use Rattle.std.proofs.lemmas.List.Sums.{sum_by-cons}
-use Rattle.fb_structured_text.specs.Forms.Form.{Form, either, as_value, Spells}
-use Rattle.fb_structured_text.specs.Forms.declared.kind.Kind.{Kind}
-use Rattle.fb_structured_text.specs.Forms.declared.lexeme.Lexeme.{Lexeme}
-use Rattle.fb_tree.specs.Expression.{ReferenceTree, Expression, literal_expression, reference_expression, unary_expression, row_expression, parentheses, Expressions, expressions_of}
-use Rattle.fb_tree.specs.declared.expression.BinaryUse.{BinaryUse}
-use Rattle.fb_tree.specs.declared.expression.UnaryUse.{UnaryUse}
-use Rattle.fb_tree.specs.declared.reference.Member.{Member}
-use Rattle.fb_structured_text.specs.Operators.{strengths}
-use Rattle.fb_structured_text.specs.Expression.{PartTree, expression, parts, flat_part, deep_part, member_in, subscripts_in, reference_in, flat_reference, deep_reference, reference_value, literal, in_parentheses, parenthesized, flat_primary, deep_primary, with_sign, unary, row_of, row, rows}
-use Rattle.fb_laws.specs.SpanParts.{expression_part, tree_parts}
-use Rattle.fb_laws.specs.Spans.{SubscriptsAreCounted, counted_by, number_of}
-use Rattle.fb_laws.specs.Written.{IsWritten}
+use Rattle.fb_laws.proofs.Common.{Form, either, as_value, Spells, Kind, Lexeme, ReferenceTree, Expression, literal_expression, reference_expression, unary_expression, row_expression, parentheses, Expressions, expressions_of, BinaryUse, UnaryUse, Member, strengths, PartTree, expression, parts, flat_part, deep_part, member_in, subscripts_in, reference_in, flat_reference, deep_reference, reference_value, literal, in_parentheses, parenthesized, flat_primary, deep_primary, with_sign, unary, row_of, row, rows, expression_part, tree_parts, SubscriptsAreCounted, counted_by, number_of, IsWritten}
 use Rattle.fb_laws.proofs.Standing.{parts_are_written}
 
 number_is : (es : List Expression) → number_of (expressions_of es) ≡ length es
@@ -36,11 +25,8 @@ parts_count p ps =
 
 -- what is so of an expression that is a reference
 abbrev Counts : Expression → Type 0
-Counts (literal_expression l) = Unit {0}
 Counts (reference_expression r subscripts) = counted_by r ≡ number_of subscripts
-Counts (unary_expression operator e) = Unit {0}
-Counts (row_expression e _) = Unit {0}
-Counts (parentheses e span) = Unit {0}
+Counts o = Unit {0}
 
 record Counted (x : Form Expression) : Type 0 where
   counts : (us : List Lexeme) (e : Expression) → Spells x us e → Counts e

@@ -2,25 +2,19 @@
 use Rattle.std.proofs.Common.{◌≡◌, List, [], refl, sym, ap, subst}
 use Rattle.std.specs.List.{Contains}
 use Rattle.std.specs.Option.{option_and_then}
-use Rattle.fb_deploy.specs.Parse.Body.{BodyTree, BrokenAt, IsBody}
-use Rattle.fb_deploy.specs.Library.View.{tree_of}
-use Rattle.fb_deploy.specs.Iface.Fault.{faults_in_order}
-use Rattle.fb_deploy.specs.Iface.declared.code.Code.TheVariants.{Syntax}
-use Rattle.fb_deploy.specs.Iface.declared.fault.Fault.{Fault}
-use Rattle.fb_deploy.specs.Faults.Faults.{all_reported, faults_of, text_faults}
-use Rattle.fb_text.proofs.Members.{contains_here}
-use Rattle.fb_deploy.proofs.Faults.OrderLemmas.{broken_alone}
-use Rattle.fb_deploy.proofs.Parse.Bodies.{one, told}
-use Rattle.fb_laws.specs.UnitParts.{IsOfPart}
-use Rattle.fb_laws.specs.Texts.{AbsentUnitsHaveNoFaults, BrokenTextsAreReported, BrokenTextsAreReportedAlone, IsBroken, WholeTextsAreNotReported, broken_at}
+use Rattle.fb_laws.proofs.Common.{BodyTree, BrokenAt, IsBody, tree_of, faults_in_order, Syntax, Fault, all_reported, faults_of, text_faults, contains_here, broken_alone, told, IsOfPart, AbsentUnitsHaveNoFaults, BrokenTextsAreReported, BrokenTextsAreReportedAlone, IsBroken, WholeTextsAreNotReported, broken_at}
+use Rattle.fb_deploy.proofs.Parse.Bodies.{one}
 use Rattle.fb_laws.proofs.CodeLemmas.{own_codes}
 use Rattle.fb_laws.proofs.PartLemmas.{IsReported, is_found, no_text_code, of_part, of_text, whole_units}
+use Rattle.fb_laws.proofs.Joined.{iff}
 
 pub broken_reported_alone : BrokenTextsAreReportedAlone
 broken_reported_alone sources unit span b = broken_alone sources unit b.text span b.present (sym (one b.text (BrokenAt span) b.broken))
 
 pub broken_reported : BrokenTextsAreReported
-broken_reported sources unit span = (λ c. by (is_found sources unit it c), from)
+broken_reported sources unit span =
+    iff (λ c. by (is_found sources unit it c))
+    (λ b. subst (λ (l : List Fault). Contains l it) (sym (broken_reported_alone sources unit span b)) (contains_here it []))
   where
     it : Fault
     it = broken_at span
@@ -28,9 +22,6 @@ broken_reported sources unit span = (λ c. by (is_found sources unit it c), from
     by : IsReported sources unit it → IsBroken sources unit span
     by (of_text o) = record { text = o.text; present = o.present; broken = subst (λ (b : BodyTree). IsBody o.text b) o.broken (told o.text) }
     by (of_part part h) = absurd (no_text_code part Syntax (own_codes part sources unit it h) refl)
-
-    from : IsBroken sources unit span → Contains (faults_of sources unit) it
-    from b = subst (λ (l : List Fault). Contains l it) (sym (broken_reported_alone sources unit span b)) (contains_here it [])
 
 pub whole_not_reported : WholeTextsAreNotReported
 whole_not_reported sources unit decl there f c = by ((whole_units sources unit decl there f).0 c)

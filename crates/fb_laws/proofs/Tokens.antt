@@ -2,10 +2,7 @@
 use Rattle.std.proofs.Common.{ℕ, List, [], ◌∷◌, ◌++◌, sym, ap, ◌∙◌, append_assoc}
 use Rattle.std.specs.List.{AllByRecursion}
 use Rattle.std.proofs.lemmas.List.{append-nil}
-use Rattle.fb_text.specs.declared.token.Span.{Span}
-use Rattle.fb_structured_text.specs.Forms.declared.lexeme.Lexeme.{Lexeme}
-use Rattle.fb_laws.specs.SpanParts.{Part}
-use Rattle.fb_laws.specs.Written.{part_span, BeginsAt, EndsAt, SpellsPart, IsWritten}
+use Rattle.fb_laws.proofs.Common.{Span, Lexeme, Part, part_span, BeginsAt, EndsAt, SpellsPart, IsWritten}
 
 -- Where tokens begin and end
 

@@ -2,26 +2,10 @@
 use Rattle.std.proofs.Common.{◌≡◌, ℕ, false, List, [], ◌∷◌, ◌++◌, Option, Some, None, ◌⊎◌, inl, inr, refl, subst}
 use Rattle.std.specs.List.{Contains, flat_map}
 use Rattle.std.proofs.lemmas.List.Elements.{Contains-append_cases, Contains-append_left, Contains-append_right}
-use Rattle.fb_text.specs.declared.name.NameUse.{NameUse}
-use Rattle.fb_text.specs.declared.token.Span.{Span}
-use Rattle.fb_tree.specs.Expression.{ReferenceTree, Expression, reference_expression, unary_expression, row_expression, Expressions, no_expressions, Operands}
-use Rattle.fb_tree.specs.Statement.{Statement, assignment, count, Statements, statements_of}
-use Rattle.fb_tree.specs.Tree.{ConditionTree, always, on_event, guarded, guard, DeclTree, TypeTree, block_type, adapter_type}
-use Rattle.fb_tree.specs.declared.expression.BinaryUse.{BinaryUse}
-use Rattle.fb_tree.specs.declared.expression.UnaryUse.{UnaryUse}
-use Rattle.fb_tree.specs.declared.reference.Member.{Member}
-use Rattle.fb_deploy.specs.Library.View.{Sources, tree_at}
-use Rattle.fb_deploy.specs.Iface.declared.classes.Class.{Class as ValueClass}
-use Rattle.fb_deploy.specs.Iface.declared.fault.Fault.{Fault}
-use Rattle.fb_text.proofs.Members.{contains_flat_map, contains_here, contains_nothing, contains_single, origin_in_flat_map}
-use Rattle.fb_expr.specs.Charts.{expr_faults_of, faults_in_unit}
-use Rattle.fb_expr.specs.Demands.{Demand, names_variable, names_field, suits_operand, suits_operands, suits_place, assigns, is_met, fault_of, demands_in, demands_at, name_alone, guard_demands, transition_demands, algorithm_demands, chart_demands}
-use Rattle.fb_expr.specs.Expressions.{class_in}
-use Rattle.fb_expr.specs.Names.{Names, names_of_type}
-use Rattle.fb_expr.specs.declared.rules.ClassPlace.{ClassPlace}
-use Rattle.fb_expr.specs.declared.rules.ClassPlace.TheVariants.{Condition, Count, Counter}
+use Rattle.fb_laws.proofs.Common.{NameUse, Span, ReferenceTree, Expression, reference_expression, unary_expression, row_expression, Expressions, no_expressions, Operands, Statement, assignment, count, Statements, statements_of, ConditionTree, always, on_event, guarded, guard, DeclTree, TypeTree, block_type, adapter_type, BinaryUse, UnaryUse, Member, Sources, tree_at, Class as ValueClass, Fault, contains_flat_map, contains_here, contains_nothing, contains_single, origin_in_flat_map, expr_faults_of, faults_in_unit, Demand, names_variable, names_field, suits_operand, suits_operands, suits_place, assigns, is_met, demands_in, demands_at, name_alone, guard_demands, transition_demands, algorithm_demands, chart_demands, class_in, Names, names_of_type, ClassPlace, Condition, Count, Counter, IsOneOf, OccursIn, Asks, IsGuardOf, with_event, IsRunIn, IsTestedIn, IsWrittenIn, in_guard, in_statement}
+use Rattle.fb_expr.specs.Demands.{fault_of}
 use Rattle.fb_expr.proofs.DemandLemmas.{faults_unmet}
-use Rattle.fb_laws.specs.Occurrences.{IsOneOf, OccursIn, Asks, IsGuardOf, with_event, alone, IsRunIn, IsTestedIn, IsWrittenIn, in_guard, in_statement}
+use Rattle.fb_laws.specs.Occurrences.{alone}
 use Rattle.fb_laws.proofs.ExpressionLemmas.{IsPairOf, Asked, of_reference, of_field, of_operator, of_pair, of_subscript, asked_in, demanded_in}
 use Rattle.fb_laws.proofs.StatementLemmas.{OwnDemand, inside, placed, counter, counter_class, assigned, asked_among, demanded_in_list}
 
@@ -57,17 +41,13 @@ module _ (names : Names) (d : TypeTree) where
   of_statement s demand runs (assigned r subscripts place e is) = of_assignment r subscripts place e (run s (assignment r subscripts place e) is runs)
 
   of_test : (x : Expression) (demand : Demand) → IsTestedIn d x → Contains (demands_at Condition names x) demand → DemandOf names d demand
-  of_test x demand tested c = by_case (Contains-append_cases (demands_in names x) (suits_place Condition x ∷ []) demand c)
-    where
-      by_case : Contains (demands_in names x) demand ⊎ Contains (suits_place Condition x ∷ []) demand → DemandOf names d demand
-      by_case (inl h) = in_expression x demand (λ z o. in_guard x tested o) (asked_in names x demand h)
-      by_case (inr h) = subst (DemandOf names d) (contains_single (suits_place Condition x) demand h) (test x tested)
+  of_test x demand tested c =
+      elim (Contains-append_cases (demands_in names x) (suits_place Condition x ∷ []) demand c) [ inl h ↦ in_expression x demand (λ z o. in_guard x tested o) (asked_in names x demand h) | inr h ↦ subst (DemandOf names d) (contains_single (suits_place Condition x) demand h) (test x tested) ]
 
   of_condition : (condition : ConditionTree) (demand : Demand) → ((x : Expression) → IsGuardOf x condition → IsTestedIn d x) → Contains (guard_demands names condition) demand → DemandOf names d demand
-  of_condition (always span) demand tested c = absurd (contains_nothing demand c)
-  of_condition (on_event event) demand tested c = absurd (contains_nothing demand c)
   of_condition (guarded event x) demand tested c = of_test x demand (tested x with_event) c
   of_condition (guard x) demand tested c = of_test x demand (tested x alone) c
+  of_condition o demand tested c = absurd (contains_nothing demand c)
 
   pub demand_of : (demand : Demand) → Contains (chart_demands names d.chart) demand → DemandOf names d demand
   demand_of demand c = by_case (Contains-append_cases (flat_map (transition_demands names) d.chart.transitions) (flat_map (algorithm_demands names) d.chart.algorithms) demand c)
@@ -84,10 +64,9 @@ module _ (names : Names) (d : TypeTree) where
   -- and the other way
 
   guard_demanded : (x : Expression) (condition : ConditionTree) (demand : Demand) → IsGuardOf x condition → Contains (demands_at Condition names x) demand → Contains (guard_demands names condition) demand
-  guard_demanded x (always span) demand none c = elim none [ ]
-  guard_demanded x (on_event event) demand none c = elim none [ ]
   guard_demanded x (guarded event y) demand with_event c = c
   guard_demanded x (guard y) demand alone c = c
+  guard_demanded x o demand none c = elim none [ ]
 
   tested_demands : (x : Expression) (demand : Demand) → IsTestedIn d x → Contains (demands_at Condition names x) demand → Contains (chart_demands names d.chart) demand
   tested_demands x demand t c =

@@ -1,18 +1,9 @@
 -- Usable types, by what the check knows of them.
 use Rattle.std.proofs.Common.{◌≡◌, ℕ, cond, List, [], ◌∷◌, map, Option, Some, None, refl, sym, ap, ◌∙◌, subst}
 use Rattle.std.specs.List.{Contains}
-use Rattle.fb_tree.specs.Tree.{DeclTree, InstanceTree, NetworkTree, TypeTree, block_type, adapter_type, subapplication_type}
-use Rattle.fb_tree.specs.declared.network.Role.{Role}
+use Rattle.fb_laws.proofs.Common.{DeclTree, InstanceTree, NetworkTree, TypeTree, block_type, adapter_type, subapplication_type, Role, Sources, tree_at, first_ones, stands_for, Meanings, instances_in, meanings_in_type, instance_ports, scope_of_type, type_ports_of, usable, DeclaredInstance, contains_here, contains_later, contains_map, named, IsUsable, as_plug, as_socket, as_block, as_subapplication}
 use Rattle.fb_tree.specs.declared.network.Role.TheVariants as roles
-use Rattle.fb_deploy.specs.Library.View.{Sources, tree_at}
-use Rattle.fb_deploy.specs.Iface.Names.{first_ones, stands_for}
-use Rattle.fb_deploy.specs.Iface.Ports.{Meanings, instances_in, meanings_in_type}
-use Rattle.fb_deploy.specs.Iface.Scope.{instance_ports, scope_of_type, type_ports_of, usable}
-use Rattle.fb_deploy.specs.Iface.declared.ports.DeclaredInstance.{DeclaredInstance}
 use Rattle.fb_netcheck.proofs.Locality.{Each, instance_stands}
-use Rattle.fb_text.proofs.Members.{contains_here, contains_later, contains_map}
-use Rattle.fb_deploy.proofs.Iface.NameLemmas.{named}
-use Rattle.fb_laws.specs.Usable.{IsUsable, as_plug, as_socket, as_block, as_subapplication}
 
 module _ (sources : Sources) (name : List ℕ) where
   pub told_type : (role : Role) (ports : Meanings) → IsUsable sources name role ports → usable role (tree_at sources name) ≡ Some ports
@@ -35,11 +26,8 @@ module _ (sources : Sources) (name : List ℕ) where
   no_type role e ports is = let both : Some ports ≡ None = sym (told_type role ports is) ∙ e in let fails : ⊥ = cc in fails
 
   pub type_missing : (role : Role) → ((ports : Meanings) → ¬ IsUsable sources name role ports) → usable role (tree_at sources name) ≡ None
-  type_missing role none = by (usable role (tree_at sources name)) refl
-    where
-      by : (o : Option Meanings) → usable role (tree_at sources name) ≡ o → o ≡ None
-      by None e = refl
-      by (Some ports) e = absurd (none ports (known_type role ports e))
+  type_missing role none =
+      (elim (usable role (tree_at sources name)) as (λ o. usable role (tree_at sources name) ≡ o → o ≡ None) [ None ↦ λ e. refl | Some ports ↦ λ e. absurd (none ports (known_type role ports e)) ]) refl
 
 -- the types of the instances of a network are known to its check
 

@@ -1,35 +1,19 @@
 -- References that begin at no variable, and further names that are no fields, by what the list of faults has.
 use Rattle.std.proofs.Common.{◌≡◌, ℕ, zero, suc, Bool, true, false, true≢false, not, ◌||◌, List, [], ◌∷◌, ◌++◌, Some, refl, sym, ap, subst, ◌∙◌, append_assoc}
 use Rattle.std.specs.List.{Contains}
-use Rattle.fb_text.specs.declared.token.Span.{Span}
-use Rattle.fb_tree.specs.Tree.{TypeTree, block_type}
-use Rattle.fb_tree.specs.Expression.{ReferenceTree}
-use Rattle.fb_tree.specs.declared.interface.TypeUse.{TypeUse}
-use Rattle.fb_tree.specs.declared.reference.Member.{Member}
-use Rattle.fb_deploy.specs.Library.View.{Sources, tree_at}
-use Rattle.fb_deploy.specs.Iface.declared.code.Code.{Code}
-use Rattle.fb_deploy.specs.Iface.declared.code.Code.TheVariants.{Class, MemberUnknown, VariableUnknown}
-use Rattle.fb_deploy.specs.Iface.declared.fault.Fault.{Fault}
-use Rattle.fb_deploy.specs.Iface.declared.ports.DeclaredVariable.{DeclaredVariable}
-use Rattle.fb_expr.specs.Charts.{expr_faults_of}
-use Rattle.fb_expr.specs.Demands.{Demand, names_field, names_variable, code_of_demand, fault_of, is_field, is_known, is_met, name_alone, referent_through}
-use Rattle.fb_expr.specs.Names.{Names, names_of_type}
-use Rattle.fb_expr.specs.References.{referent_of, step, walk}
-use Rattle.fb_expr.specs.Spans.{names_span, through_second}
-use Rattle.fb_expr.specs.declared.references.Referent.{Referent}
-use Rattle.fb_expr.specs.declared.references.Referent.TheVariants.{Variable, Unjudged, Unknown, NoMember}
+use Rattle.fb_laws.proofs.Common.{Span, TypeTree, block_type, ReferenceTree, TypeUse, Member, Sources, tree_at, Code, MemberUnknown, VariableUnknown, Fault, DeclaredVariable, expr_faults_of, Demand, names_field, names_variable, code_of_demand, is_field, is_known, is_met, name_alone, referent_through, Names, names_of_type, referent_of, step, walk, names_span, through_second, Referent, Variable, Unjudged, NoMember, HasUnknownMember, HasUnknownVariable, IsNamedIn, in_reference, behind_for, MembersAreKnown, VariablesAreKnown, alone, subscripted, with_second, Begins, GoesOn, HasField, IsOpen}
+use Rattle.fb_deploy.specs.Iface.declared.code.Code.TheVariants.{Class}
+use Rattle.fb_expr.specs.Demands.{fault_of}
+use Rattle.fb_expr.specs.declared.references.Referent.TheVariants.{Unknown}
 use Rattle.fb_expr.proofs.MemberLemmas.{walk-append}
-use Rattle.fb_laws.specs.Expressions.{HasUnknownMember, HasUnknownVariable, IsNamedIn, in_reference, behind_for, MembersAreKnown, VariablesAreKnown}
-use Rattle.fb_laws.specs.Places.{BeginsAt, alone, subscripted, with_second}
-use Rattle.fb_laws.specs.Variables.{Begins, GoesOn, HasField, IsOpen}
+use Rattle.fb_laws.specs.Places.{BeginsAt}
 use Rattle.fb_laws.proofs.ReferentLemmas.{Base, variable, not_judged_port, nothing, open_stays, unknown_stays, Looks, is_open, is_none, is_found, Starts, at_first, at_second, base_of, begins_known, begun, goes, is_judged, is_unknown, last_known, looks, none_begins, parts, start, told_field, told_goes, told_open, walked}
 use Rattle.fb_laws.proofs.UnitDemands.{DemandOf, reference, field, behind_for as behind_for_demanded, reported, unmet}
+use Rattle.fb_laws.proofs.Joined.{iff}
 
 unknown_only : (t : Referent) → is_known t ≡ false → t ≡ Unknown
-unknown_only (Variable used s) e = absurd (true≢false e)
-unknown_only Unjudged e = absurd (true≢false e)
 unknown_only Unknown e = refl
-unknown_only (NoMember at) e = absurd (true≢false e)
+unknown_only o e = absurd (true≢false e)
 
 -- where a reference begins
 
@@ -67,13 +51,21 @@ is_member_code MemberUnknown = true
 is_member_code code = false
 
 pub known : VariablesAreKnown
-known sources unit span = (to, back)
+known sources unit span =
+    iff (λ c. let u = unmet sources unit it c in by_demand u.block u.declared u.demand u.of_block u.fails u.is)
+    (λ h. let r = h.reference in
+    reported sources unit it
+    (record {
+      block = h.block;
+      declared = h.declared;
+      demand = names_variable r;
+      of_block = demanded h.block r h.named;
+      fails = ap is_known (is_unknown sources unit h.block h.declared r h.unknown h.judged);
+      is = let whole = told_begins r span h.place in λ i. record { code = VariableUnknown; span = whole i };
+    }))
   where
     it : Fault
     it = record { code = VariableUnknown; span = span }
-
-    other : (demand : Demand) → is_unknown_code (code_of_demand demand) ≡ false → it ≡ fault_of demand → ⊥
-    other demand differs is = true≢false (ap (λ (f : Fault). is_unknown_code f.code) is ∙ differs)
 
     named : (d : TypeTree) → tree_at sources unit ≡ Some (block_type d) → (r : ReferenceTree) → IsNamedIn d r → is_known (referent_of (names_of_type sources unit d) r) ≡ false → it ≡ fault_of (names_variable r) → HasUnknownVariable sources unit span
     named d declared r stands fails is =
@@ -91,27 +83,11 @@ known sources unit span = (to, back)
     by_demand : (d : TypeTree) → tree_at sources unit ≡ Some (block_type d) → (demand : Demand) → DemandOf (names_of_type sources unit d) d demand → is_met (names_of_type sources unit d) demand ≡ false → it ≡ fault_of demand → HasUnknownVariable sources unit span
     by_demand d declared demand (reference r subscripts w) fails is = named d declared r (in_reference r subscripts w) fails is
     by_demand d declared demand (behind_for_demanded name a b step body runs) fails is = named d declared (name_alone name) (behind_for name a b step body runs) fails is
-    by_demand d declared demand of fails is = absurd (other demand refl is)
-
-    to : Contains (expr_faults_of sources unit) it → HasUnknownVariable sources unit span
-    to c = let u = unmet sources unit it c in by_demand u.block u.declared u.demand u.of_block u.fails u.is
+    by_demand d declared demand of fails is = absurd (true≢false (ap (λ (f : Fault). is_unknown_code f.code) is ∙ refl))
 
     demanded : (d : TypeTree) (r : ReferenceTree) → IsNamedIn d r → DemandOf (names_of_type sources unit d) d (names_variable r)
     demanded d r (in_reference q subscripts w) = reference q subscripts w
     demanded d r (behind_for name a b step body runs) = behind_for_demanded name a b step body runs
-
-    back : HasUnknownVariable sources unit span → Contains (expr_faults_of sources unit) it
-    back h =
-        let r = h.reference in
-        reported sources unit it
-        (record {
-          block = h.block;
-          declared = h.declared;
-          demand = names_variable r;
-          of_block = demanded h.block r h.named;
-          fails = ap is_known (is_unknown sources unit h.block h.declared r h.unknown h.judged);
-          is = let whole = told_begins r span h.place in λ i. record { code = VariableUnknown; span = whole i };
-        })
 
 -- Further names
 
@@ -209,8 +185,6 @@ module _ (sources : Sources) (unit : List ℕ) (d : TypeTree) (declared : tree_a
   behind_wrong r m behind before (Variable first at_begin) (variable n) is fails = by (walk names (Variable first at_begin) before) refl is fails
     where
       by : (t : Referent) → walk names (Variable first at_begin) before ≡ t → is_field t ≡ true → is_field (step names t m) ≡ false → Behind r m behind before
-      by Unjudged w is fails = absurd (true≢false fails)
-      by Unknown w is fails = absurd (true≢false fails)
       by (NoMember at) w is fails = absurd (true≢false (sym is))
       by (Variable used on) w is fails =
           let begins = begins_known sources unit d declared r first at_begin behind n in
@@ -226,6 +200,7 @@ module _ (sources : Sources) (unit : List ℕ) (d : TypeTree) (declared : tree_a
             judged = λ o. true≢false (sym (ap is_field (told_open sources unit d declared used on m known o)) ∙ fails);
             none = λ v has. true≢false (sym (ap is_field (told_field sources unit d declared used on m v known has)) ∙ fails);
           }
+      by o w is fails = absurd (true≢false fails)
 
   -- a name that is no field, where it is judged
   no_field : (used : TypeUse) (on : Bool) (m : Member) (t : Referent) → Looks sources unit d declared used on m t → ¬ IsOpen sources used on → ((v : DeclaredVariable) → ¬ HasField sources used on m.name.name v) → is_field t ≡ false
@@ -254,13 +229,22 @@ module _ (sources : Sources) (unit : List ℕ) (d : TypeTree) (declared : tree_a
       )
 
 pub members : MembersAreKnown
-members sources unit span = (to, back)
+members sources unit span =
+    iff (λ c. let u = unmet sources unit it c in by_demand u.block u.declared u.demand u.of_block u.fails u.is)
+    (λ h. let r = h.reference in
+    let f = failing sources unit h.block h.declared r h.first h.at_first h.behind h.before h.member h.others h.used h.subscripted h.begins h.parted h.leads h.judged h.none in
+    reported sources unit it
+    (record {
+      block = h.block;
+      declared = h.declared;
+      demand = names_field r (f.0 ++ h.before) h.member;
+      of_block = field r h.subscripts (f.0 ++ h.before) h.member h.others h.written f.1;
+      fails = f.2;
+      is = λ i. record { code = MemberUnknown; span = h.place i };
+    }))
   where
     it : Fault
     it = record { code = MemberUnknown; span = span }
-
-    other : (demand : Demand) → is_member_code (code_of_demand demand) ≡ false → it ≡ fault_of demand → ⊥
-    other demand differs is = true≢false (ap (λ (f : Fault). is_member_code f.code) is ∙ differs)
 
     by_demand : (d : TypeTree) → tree_at sources unit ≡ Some (block_type d) → (demand : Demand) → DemandOf (names_of_type sources unit d) d demand → is_met (names_of_type sources unit d) demand ≡ false → it ≡ fault_of demand → HasUnknownMember sources unit span
     by_demand d declared demand (field r subscripts before m others w parted) fails is =
@@ -287,21 +271,4 @@ members sources unit span = (to, back)
           none = b.none;
           place = ap (λ (f : Fault). f.span) is;
         }
-    by_demand d declared demand of fails is = absurd (other demand refl is)
-
-    to : Contains (expr_faults_of sources unit) it → HasUnknownMember sources unit span
-    to c = let u = unmet sources unit it c in by_demand u.block u.declared u.demand u.of_block u.fails u.is
-
-    back : HasUnknownMember sources unit span → Contains (expr_faults_of sources unit) it
-    back h =
-        let r = h.reference in
-        let f = failing sources unit h.block h.declared r h.first h.at_first h.behind h.before h.member h.others h.used h.subscripted h.begins h.parted h.leads h.judged h.none in
-        reported sources unit it
-        (record {
-          block = h.block;
-          declared = h.declared;
-          demand = names_field r (f.0 ++ h.before) h.member;
-          of_block = field r h.subscripts (f.0 ++ h.before) h.member h.others h.written f.1;
-          fails = f.2;
-          is = λ i. record { code = MemberUnknown; span = h.place i };
-        })
+    by_demand d declared demand of fails is = absurd (true≢false (ap (λ (f : Fault). is_member_code f.code) is ∙ refl))

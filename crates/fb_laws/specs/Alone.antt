@@ -1,12 +1,6 @@
 -- Parts of a tree that are cut out of the text.
 use Rattle.std.specs.Prelude.{◌≡◌, ℕ, ◌-◌, List, map, slice_range, Ok}
-use Rattle.fb_text.specs.declared.token.Span.{Span}
-use Rattle.fb_structured_text.specs.Forms.Form.{Spells}
-use Rattle.fb_structured_text.specs.Forms.Lexemes.{lexemes_of}
-use Rattle.fb_structured_text.specs.Forms.declared.lexeme.Lexeme.{Lexeme}
-use Rattle.fb_sections.specs.Constants.{constant}
-use Rattle.fb_tree.specs.Tree.{ConstantTree, constant_span, one_value, value_list}
-use Rattle.fb_tree.specs.declared.constant.Simple.{Simple}
+use Rattle.fb_laws.specs.Common.{Span, Spells, lexemes_of, Lexeme, constant, ConstantTree, constant_span, one_value, value_list, Simple}
 use Rattle.fb_tree.specs.declared.constant.Simple.TheVariants as simple
 use Rattle.fb_laws.specs.SpanParts.{Part}
 use Rattle.fb_laws.specs.Written.{part_span, SpellsPart}

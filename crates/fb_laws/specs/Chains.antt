@@ -3,17 +3,13 @@
 use Rattle.std.specs.Prelude.{◌≡◌, ℕ, Bool, true, false, List, [], ◌∷◌, ◌++◌, Some, Contains, ◌⊎◌, filter, map}
 use mathlib.Core.Logic.{inl, inr}
 use Rattle.fb_tree.specs.declared.kinds.UnitKind.TheVariants.{Subapplication, System}
-use Rattle.fb_tree.specs.declared.network.Sort.{Sort}
-use Rattle.fb_deploy.specs.Library.View.{Sources}
-use Rattle.fb_deploy.specs.Flatten.Net.{flat_net}
-use Rattle.fb_deploy.specs.Flatten.Nets.{net_at}
+use Rattle.fb_laws.specs.Common.{Sort, Sources, flat_net, net_at, PlainFlat}
 use Rattle.fb_wiring.specs.Network.declared.network.End.{End}
 use Rattle.fb_wiring.specs.Network.declared.network.End.TheVariants.{Of}
 use Rattle.fb_wiring.specs.Network.Clean.{IsCleanThroughout}
 use Rattle.fb_wiring.specs.Network.FlatNet.{IsFlat}
 use Rattle.fb_wiring.specs.Network.Network.{View, Place, place_of, IsInner, IsConnected, Step, Holds, Within, Chain, One, More, IsLink, IsBorder}
 use Rattle.fb_wiring.specs.Network.Plain.{PlainNetwork}
-use Rattle.fb_wiring.specs.Network.PlainFlat.{PlainFlat}
 use Rattle.fb_wiring.specs.Network.Printed.{printed}
 use Rattle.fb_wiring.specs.ByName.{applications_at, declared, kind_at}
 use Rattle.fb_wiring.specs.declared.systems.Application.{Application}
@@ -48,8 +44,8 @@ pub record StaysInside (view : View) (sort : Sort) (network : PlainNetwork) (a b
   pub link : IsLink view inner sort from to
   pub whole : passed ≡ map (inside name) (passed_by link.chain)
 
--- All that is passed is behind a border of an inner network, and leads to the port that the end names.
-pub record LeavesByBorder (view : View) (sort : Sort) (network : PlainNetwork) (a : Place) (end : End) (passed : List Passed) : Type 0 where
+-- All that is passed lies inside one subapplication instance, and leads to the port that the end names.
+pub record LeavesInner (view : View) (sort : Sort) (network : PlainNetwork) (a : Place) (end : End) (passed : List Passed) : Type 0 where
   pub name : List ℕ
   pub inner : PlainNetwork
   pub is_inner : IsInner view network name inner
@@ -57,13 +53,17 @@ pub record LeavesByBorder (view : View) (sort : Sort) (network : PlainNetwork) (
   pub from : Place
   pub end_is : end ≡ Of name port
   pub from_is : a ≡ name ∷ from
-  pub border : IsBorder view inner sort port from
   pub chain : Chain view sort inner from (port ∷ [])
-  pub behind : border.chain ≡ inr chain
   pub whole : passed ≡ map (inside name) (passed_by chain)
 
--- All that is passed is behind a border of an inner network, and leads on from the port that the end names.
-pub record EntersByBorder (view : View) (sort : Sort) (network : PlainNetwork) (end : End) (b : Place) (passed : List Passed) : Type 0 where
+-- and is behind a border of the inner network
+pub record LeavesByBorder (view : View) (sort : Sort) (network : PlainNetwork) (a : Place) (end : End) (passed : List Passed) : Type 0 where
+  pub leaves : LeavesInner view sort network a end passed
+  pub border : IsBorder view leaves.inner sort leaves.port leaves.from
+  pub behind : border.chain ≡ inr leaves.chain
+
+-- All that is passed lies inside one subapplication instance, and leads on from the port that the end names.
+pub record EntersInner (view : View) (sort : Sort) (network : PlainNetwork) (end : End) (b : Place) (passed : List Passed) : Type 0 where
   pub name : List ℕ
   pub inner : PlainNetwork
   pub is_inner : IsInner view network name inner
@@ -71,10 +71,14 @@ pub record EntersByBorder (view : View) (sort : Sort) (network : PlainNetwork) (
   pub to : Place
   pub end_is : end ≡ Of name port
   pub to_is : b ≡ name ∷ to
-  pub border : IsBorder view inner sort port to
   pub chain : Chain view sort inner (port ∷ []) to
-  pub behind : border.chain ≡ inl chain
   pub whole : passed ≡ map (inside name) (passed_by chain)
+
+-- and is behind a border of the inner network
+pub record EntersByBorder (view : View) (sort : Sort) (network : PlainNetwork) (end : End) (b : Place) (passed : List Passed) : Type 0 where
+  pub enters : EntersInner view sort network end b passed
+  pub border : IsBorder view enters.inner sort enters.port enters.to
+  pub behind : border.chain ≡ inl enters.chain
 
 -- what is passed from a place to the source of a connection of the network itself: nothing, or a border
 pub data IsBefore (view : View) (sort : Sort) (network : PlainNetwork) (a : Place) (source : End) : List Passed → Type 0 where

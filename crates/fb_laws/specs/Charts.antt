@@ -1,19 +1,6 @@
 -- Each code of charts in words of its own: where the list of faults has it.
 use Rattle.std.specs.Prelude.{◌≡◌, ◌≢◌, ℕ, List, [], ◌∷◌, Option, Some, None, Contains, ◌⊎◌}
-use Rattle.fb_text.specs.declared.token.Span.{Span}
-use Rattle.fb_text.specs.declared.name.NameUse.{NameUse}
-use Rattle.fb_tree.specs.Tree.{AlgorithmTree, StateTree, TransitionTree, TypeTree}
-use Rattle.fb_tree.specs.declared.chart.Action.{Action}
-use Rattle.fb_tree.specs.declared.interface.Side.{Side}
-use Rattle.fb_tree.specs.declared.interface.Side.TheVariants.{Input, Output}
-use Rattle.fb_tree.specs.declared.network.End.{End}
-use Rattle.fb_tree.specs.declared.network.Role.TheVariants.{Plug, Socket}
-use Rattle.fb_deploy.specs.Library.View.{Sources}
-use Rattle.fb_deploy.specs.Iface.declared.code.Code.TheVariants.{AlgorithmUnknown, EventUnknown, StateUnknown}
-use Rattle.fb_deploy.specs.Iface.declared.ports.DeclaredEvent.{DeclaredEvent}
-use Rattle.fb_deploy.specs.Iface.declared.ports.DeclaredInstance.{DeclaredInstance}
-use Rattle.fb_deploy.specs.Iface.Names.{stands_for}
-use Rattle.fb_deploy.specs.Iface.Ports.{Meanings, meanings_in_type}
+use Rattle.fb_laws.specs.Common.{Span, NameUse, AlgorithmTree, StateTree, TransitionTree, TypeTree, Action, Side, Input, Output, End, Plug, Socket, Sources, AlgorithmUnknown, EventUnknown, StateUnknown, DeclaredEvent, DeclaredInstance, stands_for, Meanings, meanings_in_type}
 use Rattle.fb_ecc.specs.Events.{event_in, opposite, span_from}
 use Rattle.fb_laws.specs.Declared.{IsBlockAt}
 use Rattle.fb_laws.specs.UnitParts.{Charts, IsReportedWhere}

@@ -1,25 +1,11 @@
 -- Each code of declarations in words of its own: where the list of faults has it.
 use Rattle.std.specs.Prelude.{◌≡◌, ◌≢◌, ℕ, ◌<◌, true, false, List, Some, None, Contains, slice_get}
-use Rattle.fb_text.specs.declared.token.Span.{Span}
-use Rattle.fb_text.specs.declared.name.NameUse.{NameUse}
+use Rattle.fb_laws.specs.Common.{Span, NameUse, ConstantTree, DeclTree, EventTree, InstanceTree, StructureTree, TypeTree, VariablesTree, block_type, structure_type, one_value, value_list, value_span, Simple, TypeUse, UnitKind, Role, Sources, tree_at, type_in, Free, Duplicate, Literal, MixedKind, NameDiffers, StructRecursive, UnknownType, WithUnknown, WrongKind, DeclaredVariable, class_of_name, class_of_simple, class_of_type, declared_name, stands_for, variables_in}
 use Rattle.fb_tree.specs.Mentions.{unit_kind_of}
-use Rattle.fb_tree.specs.Tree.{ConstantTree, DeclTree, EventTree, InstanceTree, StructureTree, TypeTree, VariablesTree, block_type, structure_type, one_value, value_list, value_span}
-use Rattle.fb_tree.specs.declared.constant.Simple.{Simple}
 use Rattle.fb_tree.specs.declared.interface.TypeForm.TheVariants as forms
-use Rattle.fb_tree.specs.declared.interface.TypeUse.{TypeUse}
-use Rattle.fb_tree.specs.declared.kinds.UnitKind.{UnitKind}
 use Rattle.fb_tree.specs.declared.kinds.UnitKind.TheVariants as kinds
-use Rattle.fb_tree.specs.declared.network.Role.{Role}
 use Rattle.fb_tree.specs.declared.network.Role.TheVariants as roles
 use Rattle.fb_deploy.specs.Library.Near.{Carries}
-use Rattle.fb_deploy.specs.Library.View.{Sources, tree_at, type_in}
-use Rattle.fb_deploy.specs.Iface.declared.classes.Class.TheVariants.{Free}
-use Rattle.fb_deploy.specs.Iface.declared.code.Code.TheVariants.{Duplicate, Literal, MixedKind, NameDiffers, StructRecursive, UnknownType, WithUnknown, WrongKind}
-use Rattle.fb_deploy.specs.Iface.declared.ports.DeclaredVariable.{DeclaredVariable}
-use Rattle.fb_deploy.specs.Iface.Class.{class_of_name, class_of_simple, class_of_type}
-use Rattle.fb_deploy.specs.Iface.Declarations.{declared_name}
-use Rattle.fb_deploy.specs.Iface.Names.{stands_for}
-use Rattle.fb_deploy.specs.Iface.Ports.{variables_in}
 use Rattle.fb_deploy.specs.Iface.Sides.{goes_with}
 use Rattle.fb_deploy.specs.Iface.Types.{instances_of}
 use Rattle.fb_laws.specs.Classes.{Takes}

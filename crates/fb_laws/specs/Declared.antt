@@ -1,14 +1,8 @@
 -- What a unit declares, and what a type declares first of its name and at which place.
 use Rattle.std.specs.Prelude.{◌≡◌, ◌≢◌, ℕ, ◌<◌, List, Option, Some, Contains, slice_get}
-use Rattle.fb_text.specs.declared.name.NameUse.{NameUse}
-use Rattle.fb_tree.specs.Tree.{ApplicationTree, DeclTree, EventTree, InstanceTree, InterfaceTree, NetworkTree, StructureTree, SystemTree, TypeTree, VariablesTree, adapter_type, block_type, structure_type, subapplication_type, system_configuration}
-use Rattle.fb_tree.specs.declared.interface.Section.{Section}
+use Rattle.fb_laws.specs.Common.{NameUse, ApplicationTree, DeclTree, EventTree, InstanceTree, InterfaceTree, NetworkTree, StructureTree, SystemTree, TypeTree, VariablesTree, adapter_type, block_type, structure_type, subapplication_type, system_configuration, Section, Side, TypeUse, Role, Sources, tree_at}
 use Rattle.fb_tree.specs.declared.interface.Section.TheVariants as sections
-use Rattle.fb_tree.specs.declared.interface.Side.{Side}
 use Rattle.fb_tree.specs.declared.interface.Side.TheVariants as sides
-use Rattle.fb_tree.specs.declared.interface.TypeUse.{TypeUse}
-use Rattle.fb_tree.specs.declared.network.Role.{Role}
-use Rattle.fb_deploy.specs.Library.View.{Sources, tree_at}
 
 -- the unit is a block type, and this its declaration
 abbrev pub IsBlockAt : Sources → List ℕ → TypeTree → Type 0

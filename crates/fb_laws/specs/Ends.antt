@@ -1,30 +1,11 @@
 -- The networks of a unit, and what the ends of their connections name.
 use Rattle.std.specs.Prelude.{◌≡◌, ◌≢◌, ℕ, List, [], Option, Some, None, option_map, Contains}
-use Rattle.fb_text.specs.declared.name.NameUse.{NameUse}
-use Rattle.fb_text.specs.declared.token.Span.{Span}
-use Rattle.fb_tree.specs.Tree.{ApplicationTree, NetworkTree, SystemTree, TypeTree, block_type, subapplication_type, system_configuration}
+use Rattle.fb_laws.specs.Common.{NameUse, Span, ApplicationTree, NetworkTree, SystemTree, TypeTree, block_type, subapplication_type, system_configuration, Side, Input, Output, UnitKind, Connection, End, Sort, Sources, tree_at, DeclaredEvent, DeclaredInstance, DeclaredVariable, first_ones, stands_for, Meanings, instances_in, meanings_in_type, Holder, Own, OfInstance, OfPlug, OfSocket, Port, Position, Source, Destination}
 use Rattle.fb_tree.specs.declared.interface.Section.TheVariants as sections
-use Rattle.fb_tree.specs.declared.interface.Side.{Side}
-use Rattle.fb_tree.specs.declared.interface.Side.TheVariants.{Input, Output}
-use Rattle.fb_tree.specs.declared.kinds.UnitKind.{UnitKind}
 use Rattle.fb_tree.specs.declared.kinds.UnitKind.TheVariants as kinds
-use Rattle.fb_tree.specs.declared.network.Connection.{Connection}
-use Rattle.fb_tree.specs.declared.network.End.{End}
 use Rattle.fb_tree.specs.declared.network.Role.TheVariants as roles
-use Rattle.fb_tree.specs.declared.network.Sort.{Sort}
 use Rattle.fb_tree.specs.declared.network.Sort.TheVariants as sorts
-use Rattle.fb_deploy.specs.Library.View.{Sources, tree_at}
-use Rattle.fb_deploy.specs.Iface.declared.ports.DeclaredEvent.{DeclaredEvent}
-use Rattle.fb_deploy.specs.Iface.declared.ports.DeclaredInstance.{DeclaredInstance}
-use Rattle.fb_deploy.specs.Iface.declared.ports.DeclaredVariable.{DeclaredVariable}
-use Rattle.fb_deploy.specs.Iface.Names.{first_ones, stands_for}
-use Rattle.fb_deploy.specs.Iface.Ports.{Meanings, instances_in, meanings_in_type}
 use Rattle.fb_netcheck.specs.declared.ends.Flow.TheVariants as flows
-use Rattle.fb_netcheck.specs.declared.ends.Holder.{Holder}
-use Rattle.fb_netcheck.specs.declared.ends.Holder.TheVariants.{Own, OfInstance, OfPlug, OfSocket}
-use Rattle.fb_netcheck.specs.declared.ends.Port.{Port}
-use Rattle.fb_netcheck.specs.declared.ends.Position.{Position}
-use Rattle.fb_netcheck.specs.declared.ends.Position.TheVariants.{Source, Destination}
 use Rattle.fb_laws.specs.Places.{span_through}
 use Rattle.fb_laws.specs.Usable.{IsUsable}
 

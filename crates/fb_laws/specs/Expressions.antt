@@ -1,24 +1,8 @@
 -- Each code of expressions and statements in words of its own: where the list of faults has it.
 use Rattle.std.specs.Prelude.{◌≡◌, ℕ, Bool, List, ◌∷◌, ◌++◌, Option, Some}
-use Rattle.fb_text.specs.declared.name.NameUse.{NameUse}
-use Rattle.fb_text.specs.declared.token.Span.{Span}
-use Rattle.fb_tree.specs.Expression.{ReferenceTree, Expression, reference_expression, unary_expression, row_expression, Expressions, Operands}
-use Rattle.fb_tree.specs.Statement.{Statement, assignment, count, Statements}
-use Rattle.fb_tree.specs.Tree.{TypeTree}
-use Rattle.fb_tree.specs.declared.expression.BinaryUse.{BinaryUse}
-use Rattle.fb_tree.specs.declared.expression.UnaryUse.{UnaryUse}
-use Rattle.fb_tree.specs.declared.interface.TypeUse.{TypeUse}
-use Rattle.fb_tree.specs.declared.reference.Member.{Member}
-use Rattle.fb_deploy.specs.Library.View.{Sources}
-use Rattle.fb_deploy.specs.Iface.Class.{class_of_type}
-use Rattle.fb_deploy.specs.Iface.Names.{stands_for}
-use Rattle.fb_deploy.specs.Iface.Ports.{meanings_in_type}
+use Rattle.fb_laws.specs.Common.{NameUse, Span, ReferenceTree, Expression, reference_expression, unary_expression, row_expression, Expressions, Operands, Statement, assignment, count, Statements, TypeTree, BinaryUse, UnaryUse, TypeUse, Member, Sources, class_of_type, stands_for, meanings_in_type, Class, MemberUnknown, VariableUnknown, DeclaredVariable, ClassPlace, Condition, Count, Counter}
 use Rattle.fb_deploy.specs.Iface.declared.classes.Class.{Class as ValueClass}
-use Rattle.fb_deploy.specs.Iface.declared.code.Code.TheVariants.{Class, MemberUnknown, VariableUnknown}
-use Rattle.fb_deploy.specs.Iface.declared.ports.DeclaredVariable.{DeclaredVariable}
 use Rattle.fb_expr.specs.Demands.{name_alone}
-use Rattle.fb_expr.specs.declared.rules.ClassPlace.{ClassPlace}
-use Rattle.fb_expr.specs.declared.rules.ClassPlace.TheVariants.{Condition, Count, Counter}
 use Rattle.fb_laws.specs.Classes.{Changes, Combines, Fits, HasClass, IsPairIn, Joins}
 use Rattle.fb_laws.specs.Occurrences.{Asks, IsOneOf, IsRunIn, IsTestedIn, IsWrittenIn}
 use Rattle.fb_laws.specs.Declared.{IsBlockAt}

@@ -1,4 +1,5 @@
 -- What the contracts of this crate cite.
+pub mod Common
 pub mod SpanParts
 pub mod Written
 pub mod Standing

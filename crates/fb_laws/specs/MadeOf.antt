@@ -1,12 +1,7 @@
 -- What a unit is made of, what it holds, and what of both keeps it from having a flat network.
 use Rattle.std.specs.Prelude.{◌≡◌, ◌≢◌, ◌↔◌, ℕ, false, List, [], Some, None, Contains}
 use Rattle.std.specs.FinMap.{get}
-use Rattle.fb_text.specs.Elementary.{is_elementary}
-use Rattle.fb_tree.specs.Tree.{DeclTree, InstanceTree, VariablesTree}
-use Rattle.fb_deploy.specs.Library.View.{Sources}
-use Rattle.fb_deploy.specs.Faults.Faults.{faults_of}
-use Rattle.fb_deploy.specs.Flatten.Net.{IsWhole, PlainNet, blocked, recursive}
-use Rattle.fb_deploy.specs.Flatten.Nets.{net_at}
+use Rattle.fb_laws.specs.Common.{is_elementary, DeclTree, InstanceTree, VariablesTree, Sources, faults_of, IsWhole, PlainNet, blocked, recursive, net_at}
 use Rattle.fb_laws.specs.Declarations.{IsDeclaredAt}
 use Rattle.fb_laws.specs.Declared.{AreDeclaredIn, IsHeldIn}
 

@@ -1,10 +1,6 @@
 -- Each code of mappings in words of its own: where the list of faults has it.
 use Rattle.std.specs.Prelude.{◌≡◌, ◌≢◌, ℕ, List, [], ◌∷◌, ◌++◌, map, Some, Contains}
-use Rattle.fb_text.specs.declared.name.NameUse.{NameUse}
-use Rattle.fb_text.specs.declared.token.Span.{Span}
-use Rattle.fb_tree.specs.Tree.{DeviceTree, MappingTree, ResourceTree, SystemTree, system_configuration}
-use Rattle.fb_deploy.specs.Library.View.{Sources, tree_at}
-use Rattle.fb_deploy.specs.Iface.declared.code.Code.TheVariants.{MappedTwice, NoSuchResource}
+use Rattle.fb_laws.specs.Common.{NameUse, Span, DeviceTree, MappingTree, ResourceTree, SystemTree, system_configuration, Sources, tree_at, MappedTwice, NoSuchResource}
 use Rattle.fb_laws.specs.UnitParts.{IsReportedWhere, Mappings}
 
 -- the unit is a system, and this its declaration

@@ -1,31 +1,14 @@
 -- Each code of networks in words of its own: where the list of faults has it.
 use Rattle.std.specs.Prelude.{◌≡◌, ◌≢◌, ℕ, List, ◌∷◌, ◌++◌, Some, Contains}
-use Rattle.fb_text.specs.declared.name.NameUse.{NameUse}
-use Rattle.fb_text.specs.declared.token.Span.{Span}
-use Rattle.fb_tree.specs.Tree.{InstanceTree, NetworkTree, ParameterTree}
+use Rattle.fb_laws.specs.Common.{NameUse, Span, InstanceTree, NetworkTree, ParameterTree, TypeUse, Connection, End, Sources, Free, DataType, Literal, ParameterUnknown, PassThrough, PortSide, PortUnknown, SecondAdapter, SecondSource, DeclaredVariable, class_of_type, stands_for, Meanings, Holder, Own, Port, Position, Source, Destination}
 use Rattle.fb_tree.specs.declared.interface.Section.TheVariants as sections
 use Rattle.fb_tree.specs.declared.interface.TypeForm.TheVariants as forms
-use Rattle.fb_tree.specs.declared.interface.TypeUse.{TypeUse}
 use Rattle.fb_tree.specs.declared.kinds.UnitKind.TheVariants as kinds
-use Rattle.fb_tree.specs.declared.network.Connection.{Connection}
-use Rattle.fb_tree.specs.declared.network.End.{End}
 use Rattle.fb_tree.specs.declared.network.Role.TheVariants as roles
 use Rattle.fb_tree.specs.declared.network.Sort.TheVariants as sorts
-use Rattle.fb_deploy.specs.Library.View.{Sources}
-use Rattle.fb_deploy.specs.Iface.declared.classes.Class.TheVariants.{Free}
-use Rattle.fb_deploy.specs.Iface.declared.code.Code.TheVariants.{DataType, Literal, ParameterUnknown, PassThrough, PortSide, PortUnknown, SecondAdapter, SecondSource}
-use Rattle.fb_deploy.specs.Iface.declared.ports.DeclaredVariable.{DeclaredVariable}
-use Rattle.fb_deploy.specs.Iface.Class.{class_of_type}
-use Rattle.fb_deploy.specs.Iface.Names.{stands_for}
-use Rattle.fb_deploy.specs.Iface.Ports.{Meanings}
 use Rattle.fb_laws.specs.Declarations.{IsMisfit}
 use Rattle.fb_netcheck.specs.declared.ends.Flow.{Flow}
 use Rattle.fb_netcheck.specs.declared.ends.Flow.TheVariants as flows
-use Rattle.fb_netcheck.specs.declared.ends.Holder.{Holder}
-use Rattle.fb_netcheck.specs.declared.ends.Holder.TheVariants.{Own}
-use Rattle.fb_netcheck.specs.declared.ends.Port.{Port}
-use Rattle.fb_netcheck.specs.declared.ends.Position.{Position}
-use Rattle.fb_netcheck.specs.declared.ends.Position.TheVariants.{Source, Destination}
 use Rattle.fb_netcheck.specs.Spellings.{words_at}
 use Rattle.fb_laws.specs.Ends.{HaveSameNames, IsEndOf, IsNetworkOf, IsReachedBy, IsRightSide, Names, NamesRight, Site, place_of}
 use Rattle.fb_laws.specs.Usable.{IsNotJudged, IsUsable}

@@ -1,15 +1,6 @@
 -- Where expressions and statements stand, at any depth.
 use Rattle.std.specs.Prelude.{Option, Some, Contains}
-use Rattle.fb_text.specs.declared.name.NameUse.{NameUse}
-use Rattle.fb_text.specs.declared.token.Span.{Span}
-use Rattle.fb_tree.specs.Expression.{ReferenceTree, Expression, reference_expression, unary_expression, row_expression, parentheses, Expressions, expression_then, Operands, operand_then}
-use Rattle.fb_tree.specs.Statement.{Statement, assignment, choice, selection, count, while_loop, repeat_loop, Statements, statement_then, Arms, arm_then, statements_of}
-use Rattle.fb_tree.specs.Tree.{AlgorithmTree, ConditionTree, guarded, guard, TransitionTree, TypeTree}
-use Rattle.fb_tree.specs.declared.expression.BinaryUse.{BinaryUse}
-use Rattle.fb_tree.specs.declared.expression.UnaryUse.{UnaryUse}
-use Rattle.fb_tree.specs.declared.network.End.{End}
-use Rattle.fb_expr.specs.declared.rules.ClassPlace.{ClassPlace}
-use Rattle.fb_expr.specs.declared.rules.ClassPlace.TheVariants.{Condition, Count, Selector}
+use Rattle.fb_laws.specs.Common.{NameUse, Span, ReferenceTree, Expression, reference_expression, unary_expression, row_expression, parentheses, Expressions, expression_then, Operands, operand_then, Statement, assignment, choice, selection, count, while_loop, repeat_loop, Statements, statement_then, Arms, arm_then, statements_of, AlgorithmTree, ConditionTree, guarded, guard, TransitionTree, TypeTree, BinaryUse, UnaryUse, End, ClassPlace, Condition, Count, Selector}
 
 -- one of the expressions of a list
 pub data IsOneOf (e : Expression) : Expressions → Type 0 where

@@ -1,12 +1,7 @@
 -- Where names and expressions stand.
 use Rattle.std.specs.Prelude.{◌≡◌, ◌≢◌, List, [], ◌∷◌, Option, Some, None}
-use Rattle.fb_text.specs.declared.name.NameUse.{NameUse}
-use Rattle.fb_text.specs.declared.token.Span.{Span}
-use Rattle.fb_tree.specs.Expression.{ReferenceTree, Expression, literal_expression, reference_expression, unary_expression, row_expression, parentheses, Expressions, Operands, no_operands, operand_then}
+use Rattle.fb_laws.specs.Common.{NameUse, Span, ReferenceTree, Expression, literal_expression, reference_expression, unary_expression, row_expression, parentheses, Expressions, Operands, no_operands, operand_then, BinaryUse, UnaryUse, Member}
 use Rattle.fb_tree.specs.declared.constant.Literal.{Literal}
-use Rattle.fb_tree.specs.declared.expression.BinaryUse.{BinaryUse}
-use Rattle.fb_tree.specs.declared.expression.UnaryUse.{UnaryUse}
-use Rattle.fb_tree.specs.declared.reference.Member.{Member}
 
 -- from the first name through the last
 abbrev pub span_through : NameUse → Option NameUse → Span

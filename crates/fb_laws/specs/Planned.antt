@@ -1,18 +1,8 @@
 -- Systems with a plan, and where their blocks and the ends of their links stand.
 use Rattle.std.specs.Prelude.{◌≡◌, ◌≤◌, ℕ, false, List, length, Some, Contains}
-use Rattle.fb_tree.specs.Tree.{MappingTree}
-use Rattle.fb_deploy.specs.Library.View.{Sources, tree_at}
-use Rattle.fb_wiring.specs.Network.declared.flat.FlatBlock.{FlatBlock}
-use Rattle.fb_wiring.specs.Network.declared.flat.Link.{Link}
-use Rattle.fb_wiring.specs.Network.PlainFlat.{PlainFlat}
-use Rattle.fb_deploy.specs.Flatten.Net.{HasFlat}
+use Rattle.fb_laws.specs.Common.{MappingTree, Sources, tree_at, FlatBlock, Link, PlainFlat, HasFlat, leads_nowhere, applications_in, mappings_in, planned, PlainResource, plan_at}
 use Rattle.fb_wiring.specs.Network.Fronts.{IsFront, IsNearest}
 use Rattle.fb_placing.specs.Mappings.{names_used, resource_at}
-use Rattle.fb_placing.specs.Standing.{leads_nowhere}
-use Rattle.fb_placing.specs.Systems.{applications_in, mappings_in}
-use Rattle.fb_deploy.specs.Deploy.{planned}
-use Rattle.fb_placing.specs.PlainResource.{PlainResource}
-use Rattle.fb_deploy.specs.Plans.{plan_at}
 
 -- the system has this flat network, and its plan has these cut links and these resources with their commands
 pub record IsPlanned (sources : Sources) (system : List ℕ) (flat : PlainFlat) (cuts : List Link) (resources : List PlainResource) : Type 0 where

@@ -2,20 +2,12 @@
 use Rattle.std.specs.Prelude.{◌≡◌, ◌≢◌, ◌↔◌, ◌⊎◌, ℕ, List, [], ◌∷◌, ◌++◌, map, Some, Contains, codes}
 use Rattle.std.specs.List.{flat_map}
 use Rattle.std.specs.List.Sorted.{IsStrictlySortedBy}
-use Rattle.fb_tree.specs.Tree.{ParameterTree, SystemTree, system_configuration}
-use Rattle.fb_deploy.specs.Library.View.{Sources, text_or_empty, tree_at}
+use Rattle.fb_laws.specs.Common.{ParameterTree, SystemTree, system_configuration, Sources, text_or_empty, tree_at, FlatBlock, Link, PlainFlat, HasFlat, PlainStanding, path_names, standing_at, applications_in, PlainResource}
 use Rattle.fb_wiring.specs.Network.LinkOrder.{link_cmp}
 use Rattle.fb_wiring.specs.Network.Places.{dotted}
-use Rattle.fb_wiring.specs.Network.declared.flat.FlatBlock.{FlatBlock}
-use Rattle.fb_wiring.specs.Network.declared.flat.Link.{Link}
-use Rattle.fb_wiring.specs.Network.PlainFlat.{PlainFlat}
 use Rattle.fb_deploy.specs.Mapping.Placed.{IsSystem}
-use Rattle.fb_deploy.specs.Flatten.Net.{HasFlat}
-use Rattle.fb_placing.specs.Standing.{PlainStanding, path_names, standing_at}
-use Rattle.fb_placing.specs.Systems.{applications_in}
 use Rattle.fb_placing.specs.Lines.{create_text, line_cmp, write_text}
 use Rattle.fb_placing.specs.Orders.{connection_text}
-use Rattle.fb_placing.specs.PlainResource.{PlainResource}
 use Rattle.fb_placing.specs.Written.{written}
 use Rattle.fb_placing.specs.declared.lines.Line.{Line}
 use Rattle.fb_laws.specs.Planned.{HasCommands, IsHome, IsPlacedWhole, IsPlanned, StandsOn}

@@ -1,8 +1,6 @@
 -- The name spaces of units.
 use Rattle.std.specs.Prelude.{◌≡◌, List, Contains, flat_map, map}
-use Rattle.fb_text.specs.declared.name.NameUse.{NameUse}
-use Rattle.fb_tree.specs.Tree.{AlgorithmTree, ApplicationTree, DeclTree, DeviceTree, EventTree, InstanceTree, ParameterTree, ResourceTree, StateTree, StructureTree, SystemTree, TypeTree, VariablesTree, structure_type, system_configuration}
-use Rattle.fb_tree.specs.declared.network.Role.TheVariants.{Block}
+use Rattle.fb_laws.specs.Common.{NameUse, AlgorithmTree, ApplicationTree, DeclTree, DeviceTree, EventTree, InstanceTree, ParameterTree, ResourceTree, StateTree, StructureTree, SystemTree, TypeTree, VariablesTree, structure_type, system_configuration, Block}
 use Rattle.fb_laws.specs.Declared.{IsHeldIn, IsType}
 
 -- The names of one space, in the order of the text. Of a type: events; variables of all sections; plugs, sockets and instances; states; algorithms.

@@ -2,13 +2,7 @@
 use Rattle.std.specs.Prelude.{◌≡◌, ℕ, suc, ◌+◌, ◌<◌, List, All, Contains, Ok, IsUtf8}
 use Rattle.std.specs.List.{sum_by}
 use Rattle.fb_text.specs.Tokens.{tokens_of, spans_of, LiesIn}
-use Rattle.fb_text.specs.declared.name.NameUse.{NameUse}
-use Rattle.fb_text.specs.declared.token.Token.{Token}
-use Rattle.fb_deploy.specs.Parse.Body.{body_of, Whole}
-use Rattle.fb_structured_text.specs.Forms.Lexemes.{lexemes_of}
-use Rattle.fb_structured_text.specs.Forms.declared.lexeme.Lexeme.{Lexeme}
-use Rattle.fb_tree.specs.Expression.{ReferenceTree, reference_expression, Expressions, no_expressions, expression_then}
-use Rattle.fb_tree.specs.Tree.{ConstantTree, DeclTree}
+use Rattle.fb_laws.specs.Common.{NameUse, Token, body_of, Whole, lexemes_of, Lexeme, ReferenceTree, reference_expression, Expressions, no_expressions, expression_then, ConstantTree, DeclTree}
 use Rattle.fb_laws.specs.Alone.{ReadsAlone, ConstantReadsAlone}
 use Rattle.fb_laws.specs.SpanParts.{name_part, constant_part, expression_part, tree_parts}
 use Rattle.fb_laws.specs.Standing.{Covers, IsWord}

@@ -1,9 +1,7 @@
 -- Where spans and names stand among the tokens of a text.
 use Rattle.std.specs.Prelude.{◌≡◌, ℕ, List, ◌∷◌, ◌++◌, slice_range, Contains}
 use Rattle.std.specs.Str.{str_to_ascii_uppercase}
-use Rattle.fb_text.specs.declared.name.NameUse.{NameUse}
-use Rattle.fb_text.specs.declared.token.Span.{Span}
-use Rattle.fb_text.specs.declared.token.Token.{Token}
+use Rattle.fb_laws.specs.Common.{NameUse, Span, Token}
 use Rattle.fb_text.specs.declared.token.TokenKind.TheVariants.{Word}
 
 -- the span begins where one of the tokens begins, and ends where that token or a later one ends

@@ -1,13 +1,7 @@
 -- Units whose text is broken, whole or absent.
 use Rattle.std.specs.Prelude.{◌≡◌, ◌≢◌, ℕ, List, [], ◌∷◌, Some, None, Contains, ◌↔◌}
 use Rattle.std.specs.FinMap.{get}
-use Rattle.fb_text.specs.declared.token.Span.{Span}
-use Rattle.fb_tree.specs.Tree.{DeclTree}
-use Rattle.fb_deploy.specs.Parse.Body.{BrokenAt, IsBody}
-use Rattle.fb_deploy.specs.Library.View.{Sources, tree_at}
-use Rattle.fb_deploy.specs.Iface.declared.code.Code.TheVariants.{Syntax}
-use Rattle.fb_deploy.specs.Iface.declared.fault.Fault.{Fault}
-use Rattle.fb_deploy.specs.Faults.Faults.{faults_of}
+use Rattle.fb_laws.specs.Common.{Span, DeclTree, BrokenAt, IsBody, Sources, tree_at, Syntax, Fault, faults_of}
 
 -- the unit is present, its text spells no declaration, and this is where it is broken
 pub record IsBroken (sources : Sources) (unit : List ℕ) (span : Span) : Type 0 where

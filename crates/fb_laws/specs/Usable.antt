@@ -1,13 +1,7 @@
 -- Types of instances that are usable, and names that are not judged because the type of an instance is not.
 use Rattle.std.specs.Prelude.{◌≡◌, ℕ, List, Option, Some, ◌⊎◌}
-use Rattle.fb_text.specs.declared.name.NameUse.{NameUse}
-use Rattle.fb_tree.specs.Tree.{TypeTree, adapter_type, block_type, subapplication_type}
-use Rattle.fb_tree.specs.declared.network.Role.{Role}
+use Rattle.fb_laws.specs.Common.{NameUse, TypeTree, adapter_type, block_type, subapplication_type, Role, Sources, tree_at, DeclaredInstance, stands_for, Meanings, meanings_in_type}
 use Rattle.fb_tree.specs.declared.network.Role.TheVariants as roles
-use Rattle.fb_deploy.specs.Library.View.{Sources, tree_at}
-use Rattle.fb_deploy.specs.Iface.declared.ports.DeclaredInstance.{DeclaredInstance}
-use Rattle.fb_deploy.specs.Iface.Names.{stands_for}
-use Rattle.fb_deploy.specs.Iface.Ports.{Meanings, meanings_in_type}
 
 -- The type of this name is usable in this role: present, not broken, and of the kind that the section wants. These are what its names stand
 -- for.

@@ -1,20 +1,9 @@
 -- The variables that references begin at, and the fields that their further names lead to.
 use Rattle.std.specs.Prelude.{◌≡◌, ◌≢◌, ◌⊎◌, ℕ, Bool, true, false, List, [], ◌∷◌, Some, None}
-use Rattle.fb_text.specs.Elementary.{is_elementary}
-use Rattle.fb_tree.specs.Expression.{ReferenceTree}
-use Rattle.fb_tree.specs.Tree.{StructureTree, TypeTree, adapter_type, structure_type}
-use Rattle.fb_tree.specs.declared.interface.Section.{Section}
+use Rattle.fb_laws.specs.Common.{is_elementary, ReferenceTree, StructureTree, TypeTree, adapter_type, structure_type, Section, TypeUse, Member, Sources, tree_at, class_of_name, is_free, stands_for, meanings_in_type, DeclaredInstance, DeclaredVariable}
 use Rattle.fb_tree.specs.declared.interface.Section.TheVariants.{Input, Output}
 use Rattle.fb_tree.specs.declared.interface.TypeForm.TheVariants as forms
-use Rattle.fb_tree.specs.declared.interface.TypeUse.{TypeUse}
-use Rattle.fb_tree.specs.declared.reference.Member.{Member}
-use Rattle.fb_deploy.specs.Library.View.{Sources, tree_at}
-use Rattle.fb_deploy.specs.Iface.Class.{class_of_name, is_free}
 use Rattle.fb_deploy.specs.Iface.Fields.{fields_in}
-use Rattle.fb_deploy.specs.Iface.Names.{stands_for}
-use Rattle.fb_deploy.specs.Iface.Ports.{meanings_in_type}
-use Rattle.fb_deploy.specs.Iface.declared.ports.DeclaredInstance.{DeclaredInstance}
-use Rattle.fb_deploy.specs.Iface.declared.ports.DeclaredVariable.{DeclaredVariable}
 use Rattle.fb_expr.specs.References.{is_some_count}
 use Rattle.fb_laws.specs.Usable.{IsAdapter}
 

@@ -1,5 +1,2 @@
-use Rattle.fb_laws.proofs.FlatUnits.{flat_clean}
-use Rattle.fb_laws.proofs.chains.flat_units_are_clean.Goals as goal
-
-pub returns : goal.returns
-returns c = flat_clean
+pub returns : Rattle.fb_laws.proofs.chains.flat_units_are_clean.Goals.returns
+returns c = Rattle.fb_laws.proofs.FlatUnits.flat_clean

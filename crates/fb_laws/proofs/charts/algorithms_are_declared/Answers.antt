@@ -1,5 +1,2 @@
-use Rattle.fb_laws.proofs.ChartRows.{algorithms_declared}
-use Rattle.fb_laws.proofs.charts.algorithms_are_declared.Goals as goal
-
-pub returns : goal.returns
-returns c = algorithms_declared
+pub returns : Rattle.fb_laws.proofs.charts.algorithms_are_declared.Goals.returns
+returns c = Rattle.fb_laws.proofs.ChartRows.algorithms_declared

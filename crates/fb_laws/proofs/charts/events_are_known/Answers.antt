@@ -1,5 +1,2 @@
-use Rattle.fb_laws.proofs.ChartRows.{events_known}
-use Rattle.fb_laws.proofs.charts.events_are_known.Goals as goal
-
-pub returns : goal.returns
-returns c = events_known
+pub returns : Rattle.fb_laws.proofs.charts.events_are_known.Goals.returns
+returns c = Rattle.fb_laws.proofs.ChartRows.events_known

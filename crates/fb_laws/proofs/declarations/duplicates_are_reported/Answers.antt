@@ -1,5 +1,2 @@
-use Rattle.fb_laws.proofs.DeclarationRows.{duplicates}
-use Rattle.fb_laws.proofs.declarations.duplicates_are_reported.Goals as goal
-
-pub returns : goal.returns
-returns c = duplicates
+pub returns : Rattle.fb_laws.proofs.declarations.duplicates_are_reported.Goals.returns
+returns c = Rattle.fb_laws.proofs.DeclarationRows.duplicates

@@ -1,5 +1,2 @@
-use Rattle.fb_laws.proofs.DeclarationRows.{misfits_reported}
-use Rattle.fb_laws.proofs.declarations.misfits_are_reported.Goals as goal
-
-pub returns : goal.returns
-returns c = misfits_reported
+pub returns : Rattle.fb_laws.proofs.declarations.misfits_are_reported.Goals.returns
+returns c = Rattle.fb_laws.proofs.DeclarationRows.misfits_reported

@@ -1,5 +1,2 @@
-use Rattle.fb_laws.proofs.DeclarationRows.{other_names}
-use Rattle.fb_laws.proofs.declarations.other_names_are_reported.Goals as goal
-
-pub returns : goal.returns
-returns c = other_names
+pub returns : Rattle.fb_laws.proofs.declarations.other_names_are_reported.Goals.returns
+returns c = Rattle.fb_laws.proofs.DeclarationRows.other_names

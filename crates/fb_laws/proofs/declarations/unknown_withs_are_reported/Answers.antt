@@ -1,5 +1,2 @@
-use Rattle.fb_laws.proofs.DeclarationRows.{unknown_withs}
-use Rattle.fb_laws.proofs.declarations.unknown_withs_are_reported.Goals as goal
-
-pub returns : goal.returns
-returns c = unknown_withs
+pub returns : Rattle.fb_laws.proofs.declarations.unknown_withs_are_reported.Goals.returns
+returns c = Rattle.fb_laws.proofs.DeclarationRows.unknown_withs

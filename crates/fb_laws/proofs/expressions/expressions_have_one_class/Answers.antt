@@ -1,5 +1,2 @@
-use Rattle.fb_laws.proofs.ClassRows.{one_class}
-use Rattle.fb_laws.proofs.expressions.expressions_have_one_class.Goals as goal
-
-pub returns : goal.returns
-returns c = one_class
+pub returns : Rattle.fb_laws.proofs.expressions.expressions_have_one_class.Goals.returns
+returns c = Rattle.fb_laws.proofs.ClassRows.one_class

@@ -1,5 +1,2 @@
-use Rattle.fb_laws.proofs.ParameterRows.{fit}
-use Rattle.fb_laws.proofs.networks.parameters_fit.Goals as goal
-
-pub returns : goal.returns
-returns c = fit
+pub returns : Rattle.fb_laws.proofs.networks.parameters_fit.Goals.returns
+returns c = Rattle.fb_laws.proofs.ParameterRows.fit

@@ -1,5 +1,2 @@
-use Rattle.fb_laws.proofs.EndRows.{known}
-use Rattle.fb_laws.proofs.networks.ports_are_known.Goals as goal
-
-pub returns : goal.returns
-returns c = known
+pub returns : Rattle.fb_laws.proofs.networks.ports_are_known.Goals.returns
+returns c = Rattle.fb_laws.proofs.EndRows.known

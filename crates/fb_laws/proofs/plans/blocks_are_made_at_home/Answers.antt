@@ -1,5 +1,2 @@
-use Rattle.fb_laws.proofs.CommandRows.{blocks_made}
-use Rattle.fb_laws.proofs.plans.blocks_are_made_at_home.Goals as goal
-
-pub returns : goal.returns
-returns c = blocks_made
+pub returns : Rattle.fb_laws.proofs.plans.blocks_are_made_at_home.Goals.returns
+returns c = Rattle.fb_laws.proofs.CommandRows.blocks_made

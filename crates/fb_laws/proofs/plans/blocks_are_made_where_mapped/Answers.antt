@@ -1,12 +1,8 @@
--- The laws of what is made where.
-use Rattle.fb_laws.proofs.PathRows.{all_made, made_where_mapped, only_made}
-use Rattle.fb_laws.proofs.plans.blocks_are_made_where_mapped.Goals as goal
+pub returns-clause-made : Rattle.fb_laws.proofs.plans.blocks_are_made_where_mapped.Goals.returns-clause-made
+returns-clause-made c = Rattle.fb_laws.proofs.PathRows.made_where_mapped
 
-pub returns-clause-made : goal.returns-clause-made
-returns-clause-made c = made_where_mapped
+pub returns-clause-all : Rattle.fb_laws.proofs.plans.blocks_are_made_where_mapped.Goals.returns-clause-all
+returns-clause-all c = Rattle.fb_laws.proofs.PathRows.all_made
 
-pub returns-clause-all : goal.returns-clause-all
-returns-clause-all c = all_made
-
-pub returns-clause-only : goal.returns-clause-only
-returns-clause-only c = only_made
+pub returns-clause-only : Rattle.fb_laws.proofs.plans.blocks_are_made_where_mapped.Goals.returns-clause-only
+returns-clause-only c = Rattle.fb_laws.proofs.PathRows.only_made

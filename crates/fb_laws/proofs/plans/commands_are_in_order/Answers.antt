@@ -1,5 +1,2 @@
-use Rattle.fb_laws.proofs.CommandRows.{in_order_of}
-use Rattle.fb_laws.proofs.plans.commands_are_in_order.Goals as goal
-
-pub returns : goal.returns
-returns c = in_order_of
+pub returns : Rattle.fb_laws.proofs.plans.commands_are_in_order.Goals.returns
+returns c = Rattle.fb_laws.proofs.CommandRows.in_order_of

@@ -1,5 +1,2 @@
-use Rattle.fb_laws.proofs.CutRows.{cuts_join}
-use Rattle.fb_laws.proofs.plans.cuts_join_resources.Goals as goal
-
-pub returns : goal.returns
-returns c = cuts_join
+pub returns : Rattle.fb_laws.proofs.plans.cuts_join_resources.Goals.returns
+returns c = Rattle.fb_laws.proofs.CutRows.cuts_join

@@ -1,5 +1,2 @@
-use Rattle.fb_laws.proofs.EntryLemmas.{homes_have}
-use Rattle.fb_laws.proofs.plans.homes_have_commands.Goals as goal
-
-pub returns : goal.returns
-returns c = homes_have
+pub returns : Rattle.fb_laws.proofs.plans.homes_have_commands.Goals.returns
+returns c = Rattle.fb_laws.proofs.EntryLemmas.homes_have

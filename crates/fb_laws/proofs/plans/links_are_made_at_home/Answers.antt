@@ -1,5 +1,2 @@
-use Rattle.fb_laws.proofs.CommandRows.{links_made}
-use Rattle.fb_laws.proofs.plans.links_are_made_at_home.Goals as goal
-
-pub returns : goal.returns
-returns c = links_made
+pub returns : Rattle.fb_laws.proofs.plans.links_are_made_at_home.Goals.returns
+returns c = Rattle.fb_laws.proofs.CommandRows.links_made

@@ -1,5 +1,2 @@
-use Rattle.fb_laws.proofs.CommandRows.{parameters_set}
-use Rattle.fb_laws.proofs.plans.parameters_are_set_at_home.Goals as goal
-
-pub returns : goal.returns
-returns c = parameters_set
+pub returns : Rattle.fb_laws.proofs.plans.parameters_are_set_at_home.Goals.returns
+returns c = Rattle.fb_laws.proofs.CommandRows.parameters_set

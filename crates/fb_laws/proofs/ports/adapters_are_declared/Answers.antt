@@ -1,5 +1,2 @@
-use Rattle.fb_laws.proofs.ItemRows.{adapters_declared}
-use Rattle.fb_laws.proofs.ports.adapters_are_declared.Goals as goal
-
-pub returns : goal.returns
-returns c = adapters_declared
+pub returns : Rattle.fb_laws.proofs.ports.adapters_are_declared.Goals.returns
+returns c = Rattle.fb_laws.proofs.ItemRows.adapters_declared

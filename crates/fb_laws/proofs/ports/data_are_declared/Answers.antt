@@ -1,5 +1,2 @@
-use Rattle.fb_laws.proofs.DataRows.{data_declared}
-use Rattle.fb_laws.proofs.ports.data_are_declared.Goals as goal
-
-pub returns : goal.returns
-returns c = data_declared
+pub returns : Rattle.fb_laws.proofs.ports.data_are_declared.Goals.returns
+returns c = Rattle.fb_laws.proofs.DataRows.data_declared

@@ -1,5 +1,2 @@
-use Rattle.fb_laws.proofs.PortRows.{internal}
-use Rattle.fb_laws.proofs.ports.internal_variables_are_no_ports.Goals as goal
-
-pub returns : goal.returns
-returns c = internal
+pub returns : Rattle.fb_laws.proofs.ports.internal_variables_are_no_ports.Goals.returns
+returns c = Rattle.fb_laws.proofs.PortRows.internal

@@ -1,5 +1,2 @@
-use Rattle.fb_laws.proofs.Standing.{spans_lie_in_text}
-use Rattle.fb_laws.proofs.spans.spans_lie_in_text.Goals as goal
-
-pub returns : goal.returns
-returns c = spans_lie_in_text
+pub returns : Rattle.fb_laws.proofs.spans.spans_lie_in_text.Goals.returns
+returns c = Rattle.fb_laws.proofs.Standing.spans_lie_in_text

@@ -1,5 +1,2 @@
-use Rattle.fb_laws.proofs.TextRows.{absent_clean}
-use Rattle.fb_laws.proofs.units.absent_units_have_no_faults.Goals as goal
-
-pub returns : goal.returns
-returns c = absent_clean
+pub returns : Rattle.fb_laws.proofs.units.absent_units_have_no_faults.Goals.returns
+returns c = Rattle.fb_laws.proofs.TextRows.absent_clean

@@ -1,5 +1,2 @@
-use Rattle.fb_laws.proofs.TextRows.{broken_reported}
-use Rattle.fb_laws.proofs.units.broken_texts_are_reported.Goals as goal
-
-pub returns : goal.returns
-returns c = broken_reported
+pub returns : Rattle.fb_laws.proofs.units.broken_texts_are_reported.Goals.returns
+returns c = Rattle.fb_laws.proofs.TextRows.broken_reported

@@ -1,5 +1,2 @@
-use Rattle.fb_laws.proofs.PartLemmas.{of_their_parts}
-use Rattle.fb_laws.proofs.units.codes_are_of_their_parts.Goals as goal
-
-pub returns : goal.returns
-returns c = of_their_parts
+pub returns : Rattle.fb_laws.proofs.units.codes_are_of_their_parts.Goals.returns
+returns c = Rattle.fb_laws.proofs.PartLemmas.of_their_parts

@@ -1,5 +1,2 @@
-use Rattle.fb_laws.proofs.MappingRows.{own_paths}
-use Rattle.fb_laws.proofs.units.mappings_have_own_paths.Goals as goal
-
-pub returns : goal.returns
-returns c = own_paths
+pub returns : Rattle.fb_laws.proofs.units.mappings_have_own_paths.Goals.returns
+returns c = Rattle.fb_laws.proofs.MappingRows.own_paths

@@ -1,5 +1,2 @@
-use Rattle.fb_laws.proofs.PartLemmas.{whole_units}
-use Rattle.fb_laws.proofs.units.whole_units_have_faults_of_parts.Goals as goal
-
-pub returns : goal.returns
-returns c = whole_units
+pub returns : Rattle.fb_laws.proofs.units.whole_units_have_faults_of_parts.Goals.returns
+returns c = Rattle.fb_laws.proofs.PartLemmas.whole_units
