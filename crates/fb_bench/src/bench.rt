@@ -68,7 +68,7 @@ impl Bench {
     ghost use Rattle.fb_entries.specs.Jobs.Reads.{read_texts};
     ghost use Rattle.fb_entries.specs.Jobs.Values.{all_seen};
     ghost use Rattle.fb_history.specs.declared.answers.Delivered.TheVariants.{Accepted};
-    ghost use Rattle.fb_history.specs.BenchView.{IsOrigin, IsFull, new_story, state_of, reply_at, recorded, record_of, record_numbered, all_turns, last_number, pages_after, calls_of, IsReplay, AreTurns};
+    ghost use Rattle.fb_history.specs.BenchView.{IsOrigin, IsFull, new_bench, state_of, reply_at, recorded, record_of, record_numbered, all_turns, last_number, pages_after, calls_of, IsReplay, AreTurns};
     ghost use Rattle.fb_bench.specs.Records.{call_of, reply_of, shown_in, job_in, commit_of};
     ghost use Rattle.fb_history.specs.Records.{records_in};
     ghost use Rattle.fb_bench.specs.Founds.{HasNetsOf};
@@ -85,7 +85,7 @@ impl Bench {
 
     /// An empty workbench. It keeps the allocator for all its calls.
     pub fn new(alloc: Global, limits: Limits) -> Bench
-        ensures { result ≡ new_story limits.units limits.history }
+        ensures { result ≡ new_bench limits.units limits.history }
     {
         Bench {
             alloc,

@@ -180,9 +180,9 @@ impl Drop for Record {
 }
 
 impl Model for Record {
-    ghost use Rattle.fb_history.specs.BenchView as story;
+    ghost use Rattle.fb_history.specs.BenchView as bench;
 
-    ghost Value = { story.Record };
+    ghost Value = { bench.Record };
 
     ghost use Rattle.fb_history.specs.Records.{call_of, reply_of};
 

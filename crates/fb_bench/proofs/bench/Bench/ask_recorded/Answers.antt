@@ -5,7 +5,7 @@ use Rattle.fb_history.specs.BenchView.{BenchView, logged, record_after, state_of
 use Rattle.fb_bench.specs.Records.{reply_of}
 use Rattle.fb_bench.specs.Kept.{Agrees}
 use Rattle.fb_bench.proofs.Keeping.{kept_pushed}
-use Rattle.fb_history.proofs.Steps.{story_pushed, share_pushed, reply_ask, after_ask}
+use Rattle.fb_history.proofs.Steps.{bench_pushed, share_pushed, reply_ask, after_ask}
 use Rattle.fb_bench.proofs.bench.Bench.ask_recorded.Goals as goal
 
 pub invariant_of-self-2 : goal.invariant_of-self-2
@@ -20,7 +20,7 @@ pub returns-clause-step : goal.returns-clause-step
 returns-clause-step c =
     let story : BenchView = c.self.inside.history in
     let answer : reply_of c.in_ok-answer.stored ≡ reply (state_of story) (ToAsk c.args.key) = c.in_ok-answer.ensures.stored ∙ ap (λ st. OfAsk (shown (state_of st) c.args.key)) (sym c.self.view_is) ∙ sym (reply_ask _ _) in
-    story_pushed story _ _ c.args.caller (ToAsk c.args.key) _ c.self.view_is (c.in_ok-share.ensures.ok ∙ ap (λ k. logged story c.args.caller (ToAsk k) (reply_of c.in_ok-answer.stored)) c.in_ok-answer.ensures.key) answer
+    bench_pushed story _ _ c.args.caller (ToAsk c.args.key) _ c.self.view_is (c.in_ok-share.ensures.ok ∙ ap (λ k. logged story c.args.caller (ToAsk k) (reply_of c.in_ok-answer.stored)) c.in_ok-answer.ensures.key) answer
 
 pub returns-clause-answer : goal.returns-clause-answer
 returns-clause-answer c = ap OfAsk c.in_ok-answer.ensures.answer ∙ sym (reply_ask _ _)
