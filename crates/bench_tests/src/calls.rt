@@ -1,5 +1,5 @@
 //! What a workbench shows after the calls of its callers: its records, keys, revisions and what is known of a key.
-use crate::talk::{all_right, new_bench, talk};
+use crate::conversation::{all_right, converse, new_bench};
 use fb_text::Name;
 use fb_wire::bench::{Bench, Call, CheckpointRefused, Limits, Reply, Shown};
 use fb_wire::jobs::{Key, Kind};
@@ -109,7 +109,7 @@ fn is_start_key(bench: &Bench, unit: &str, is_pending: bool, is_out: bool) -> Re
 // Whether the step goes as it says.
 fn goes(alloc: Global, bench: &mut Bench, step: &Step<'_>) -> Result<bool, Fail> {
     match step {
-        Step::Lines(caller, text) => Ok(talk(alloc, bench, *caller, text)?.is_none()),
+        Step::Lines(caller, text) => Ok(converse(alloc, bench, *caller, text)?.is_none()),
         Step::Value(unit) => peeks_a_value(bench, unit),
         Step::Pending(unit) => peeks_pending(bench, unit),
         Step::Out(unit) => is_out(bench, unit),
@@ -159,24 +159,16 @@ const OLD_BASE: &[Step<'static>] = &[
     Step::Lines(
         1,
         r#"
-> {"op":"commit","changes":[{"put":"A","base":0,"text":"FUNCTION_BLOCK A END_FUNCTION_BLOCK"}]}
-< {"commit":1}
-> {"op":"commit","changes":[{"put":"A","base":1,"text":"FUNCTION_BLOCK A END_FUNCTION_BLOCK"}]}
-< {"commit":2}
-> {"op":"take"}
-< {"job":1,"kind":"faults","unit":"A"}
-> {"op":"deliver","job":1}
-< {"delivered":"accepted"}
-> {"op":"commit","changes":[{"put":"A","base":1,"text":"FUNCTION_BLOCK A FBS X:B; END_FBS END_FUNCTION_BLOCK"}]}
-< {"current":2,"refused":"StaleBase","unit":"A"}
+{"op":"commit","changes":[{"put":"A","base":0,"text":"FUNCTION_BLOCK A END_FUNCTION_BLOCK"}]} => {"commit":1}
+{"op":"commit","changes":[{"put":"A","base":1,"text":"FUNCTION_BLOCK A END_FUNCTION_BLOCK"}]} => {"commit":2}
+{"op":"take"} => {"job":1,"kind":"faults","unit":"A"}
+{"op":"deliver","job":1} => {"delivered":"accepted"}
+{"op":"commit","changes":[{"put":"A","base":1,"text":"FUNCTION_BLOCK A FBS X:B; END_FBS END_FUNCTION_BLOCK"}]} => {"current":2,"refused":"StaleBase","unit":"A"}
 "#,
     ),
     Step::Lines(
         2,
-        r#"
-> {"op":"ask","kind":"faults","unit":"A"}
-< {"faults":[]}
-"#,
+        r#"{"op":"ask","kind":"faults","unit":"A"} => {"faults":[]}"#,
     ),
     Step::Value("A"),
     Step::Answer(6, 1),
@@ -189,21 +181,16 @@ const FULL: &[Step<'static>] = &[
     Step::Lines(
         2,
         r#"
-> {"op":"ask","kind":"faults","unit":"A"}
-< {"refused":"NoSuchKey"}
-> {"op":"ask","kind":"faults","unit":"A"}
-< {"refused":"NoSuchKey"}
-> {"op":"ask","kind":"faults","unit":"A"}
-< {"refused":"NoSuchKey"}
+{"op":"ask","kind":"faults","unit":"A"} => {"refused":"NoSuchKey"}
+{"op":"ask","kind":"faults","unit":"A"} => {"refused":"NoSuchKey"}
+{"op":"ask","kind":"faults","unit":"A"} => {"refused":"NoSuchKey"}
 "#,
     ),
     Step::Lines(
         1,
         r#"
-> {"op":"ask","kind":"faults","unit":"A"}
-< {"refused":"HistoryFull"}
-> {"op":"take"}
-< {"refused":"HistoryFull"}
+{"op":"ask","kind":"faults","unit":"A"} => {"refused":"HistoryFull"}
+{"op":"take"} => {"refused":"HistoryFull"}
 "#,
     ),
     Step::Records(3),
@@ -214,12 +201,9 @@ const CROWDED: &[Step<'static>] = &[
     Step::Lines(
         1,
         r#"
-> {"op":"commit","changes":[{"put":"A","base":0,"text":"FUNCTION_BLOCK A END_FUNCTION_BLOCK"}]}
-< {"commit":1}
-> {"op":"commit","changes":[{"put":"B","base":0,"text":"FUNCTION_BLOCK A END_FUNCTION_BLOCK"}]}
-< {"refused":"TooManyUnits"}
-> {"op":"commit","changes":[{"put":"B","base":0,"text":"FUNCTION_BLOCK A END_FUNCTION_BLOCK"},{"remove":"A","base":1}]}
-< {"commit":2}
+{"op":"commit","changes":[{"put":"A","base":0,"text":"FUNCTION_BLOCK A END_FUNCTION_BLOCK"}]} => {"commit":1}
+{"op":"commit","changes":[{"put":"B","base":0,"text":"FUNCTION_BLOCK A END_FUNCTION_BLOCK"}]} => {"refused":"TooManyUnits"}
+{"op":"commit","changes":[{"put":"B","base":0,"text":"FUNCTION_BLOCK A END_FUNCTION_BLOCK"},{"remove":"A","base":1}]} => {"commit":2}
 "#,
     ),
     Step::Revision("A", 0),
@@ -231,52 +215,32 @@ const GIVEN_BACK: &[Step<'static>] = &[
     Step::Lines(
         1,
         r#"
-> {"op":"commit","changes":[{"put":"A","base":0,"text":"FUNCTION_BLOCK A END_FUNCTION_BLOCK"}]}
-< {"commit":1}
-> {"op":"take"}
-< {"job":1,"kind":"faults","unit":"A"}
+{"op":"commit","changes":[{"put":"A","base":0,"text":"FUNCTION_BLOCK A END_FUNCTION_BLOCK"}]} => {"commit":1}
+{"op":"take"} => {"job":1,"kind":"faults","unit":"A"}
 "#,
     ),
-    Step::Lines(
-        2,
-        r#"
-> {"op":"take"}
-< {"job":0}
-"#,
-    ),
+    Step::Lines(2, r#"{"op":"take"} => {"job":0}"#),
     Step::Out("A"),
     Step::Lines(
         2,
-        r#"
-> {"op":"ask","kind":"faults","unit":"A"}
-< {"answer":"pending"}
-"#,
+        r#"{"op":"ask","kind":"faults","unit":"A"} => {"answer":"pending"}"#,
     ),
     Step::Pending("A"),
     Step::Lines(
         2,
-        r#"
-> {"op":"give_back","kind":"faults","unit":"A"}
-< {"returned":true}
-"#,
+        r#"{"op":"give_back","kind":"faults","unit":"A"} => {"returned":true}"#,
     ),
     Step::Lines(
         1,
         r#"
-> {"op":"take"}
-< {"job":1,"kind":"faults","unit":"A"}
-> {"op":"deliver","job":1}
-< {"delivered":"accepted"}
-> {"op":"deliver","job":1}
-< {"refused":"NotPending"}
+{"op":"take"} => {"job":1,"kind":"faults","unit":"A"}
+{"op":"deliver","job":1} => {"delivered":"accepted"}
+{"op":"deliver","job":1} => {"refused":"NotPending"}
 "#,
     ),
     Step::Lines(
         2,
-        r#"
-> {"op":"give_back","kind":"faults","unit":"A"}
-< {"returned":false}
-"#,
+        r#"{"op":"give_back","kind":"faults","unit":"A"} => {"returned":false}"#,
     ),
 ];
 
@@ -285,86 +249,57 @@ const MEANWHILE: &[Step<'static>] = &[
     Step::Lines(
         1,
         r#"
-> {"op":"commit","changes":[{"put":"A","base":0,"text":"FUNCTION_BLOCK A FBS X:B; END_FBS END_FUNCTION_BLOCK"}]}
-< {"commit":1}
-> {"op":"take"}
-< {"job":1,"kind":"faults","unit":"A"}
-> {"op":"commit","changes":[{"put":"B","base":0,"text":"FUNCTION_BLOCK A END_FUNCTION_BLOCK"}]}
-< {"commit":2}
-> {"op":"deliver","job":1}
-< {"refused":"Stale","unit":"B"}
-> {"op":"take"}
-< {"job":2,"kind":"faults","unit":"A"}
-> {"op":"take"}
-< {"job":3,"kind":"faults","unit":"B"}
-> {"op":"deliver","job":3}
-< {"delivered":"accepted"}
-> {"op":"deliver","job":2}
-< {"delivered":"accepted"}
-> {"op":"deliver","job":2}
-< {"refused":"NotPending"}
+{"op":"commit","changes":[{"put":"A","base":0,"text":"FUNCTION_BLOCK A FBS X:B; END_FBS END_FUNCTION_BLOCK"}]} => {"commit":1}
+{"op":"take"} => {"job":1,"kind":"faults","unit":"A"}
+{"op":"commit","changes":[{"put":"B","base":0,"text":"FUNCTION_BLOCK A END_FUNCTION_BLOCK"}]} => {"commit":2}
+{"op":"deliver","job":1} => {"refused":"Stale","unit":"B"}
+{"op":"take"} => {"job":2,"kind":"faults","unit":"A"}
+{"op":"take"} => {"job":3,"kind":"faults","unit":"B"}
+{"op":"deliver","job":3} => {"delivered":"accepted"}
+{"op":"deliver","job":2} => {"delivered":"accepted"}
+{"op":"deliver","job":2} => {"refused":"NotPending"}
 "#,
     ),
     Step::Lines(
         2,
         r#"
-> {"op":"ask","kind":"faults","unit":"A"}
-< {"faults":[]}
-> {"op":"ask","kind":"faults","unit":"B"}
-< {"faults":[["NAME_DIFFERS",15,16]]}
+{"op":"ask","kind":"faults","unit":"A"} => {"faults":[]}
+{"op":"ask","kind":"faults","unit":"B"} => {"faults":[["NAME_DIFFERS",15,16]]}
 "#,
     ),
     Step::Value("A"),
     Step::Value("B"),
     Step::Lines(
         1,
-        r#"
-> {"op":"commit","changes":[{"put":"B","base":2,"text":"FUNCTION_BLOCK A END_FUNCTION_BLOCK"}]}
-< {"commit":3}
-"#,
+        r#"{"op":"commit","changes":[{"put":"B","base":2,"text":"FUNCTION_BLOCK A END_FUNCTION_BLOCK"}]} => {"commit":3}"#,
     ),
     Step::Lines(
         2,
-        r#"
-> {"op":"ask","kind":"faults","unit":"A"}
-< {"answer":"pending"}
-"#,
+        r#"{"op":"ask","kind":"faults","unit":"A"} => {"answer":"pending"}"#,
     ),
     Step::Pending("A"),
     Step::Lines(
         1,
         r#"
-> {"op":"take"}
-< {"job":1,"kind":"faults","unit":"A"}
-> {"op":"take"}
-< {"job":2,"kind":"faults","unit":"B"}
-> {"op":"commit","changes":[{"remove":"B","base":3}]}
-< {"commit":4}
-> {"op":"deliver","job":1}
-< {"refused":"Stale","unit":"B"}
-> {"op":"deliver","job":2}
-< {"refused":"NoSuchKey"}
-> {"op":"take"}
-< {"job":3,"kind":"faults","unit":"A"}
-> {"op":"deliver","job":3}
-< {"delivered":"accepted"}
+{"op":"take"} => {"job":1,"kind":"faults","unit":"A"}
+{"op":"take"} => {"job":2,"kind":"faults","unit":"B"}
+{"op":"commit","changes":[{"remove":"B","base":3}]} => {"commit":4}
+{"op":"deliver","job":1} => {"refused":"Stale","unit":"B"}
+{"op":"deliver","job":2} => {"refused":"NoSuchKey"}
+{"op":"take"} => {"job":3,"kind":"faults","unit":"A"}
+{"op":"deliver","job":3} => {"delivered":"accepted"}
 "#,
     ),
     Step::Lines(
         2,
-        r#"
-> {"op":"ask","kind":"faults","unit":"A"}
-< {"faults":[["UNKNOWN_TYPE",23,24]]}
-"#,
+        r#"{"op":"ask","kind":"faults","unit":"A"} => {"faults":[["UNKNOWN_TYPE",23,24]]}"#,
     ),
     Step::Value("A"),
     Step::Lines(
         2,
         r#"
-> {"op":"ask","kind":"faults","unit":"B"}
-< {"refused":"NoSuchKey"}
-> {"op":"take"}
-< {"job":0}
+{"op":"ask","kind":"faults","unit":"B"} => {"refused":"NoSuchKey"}
+{"op":"take"} => {"job":0}
 "#,
     ),
 ];
@@ -374,24 +309,16 @@ const PUT_AGAIN: &[Step<'static>] = &[
     Step::Lines(
         1,
         r#"
-> {"op":"commit","changes":[{"put":"A","base":0,"text":"FUNCTION_BLOCK A END_FUNCTION_BLOCK"}]}
-< {"commit":1}
-> {"op":"take"}
-< {"job":1,"kind":"faults","unit":"A"}
-> {"op":"commit","changes":[{"put":"A","base":1,"text":"FUNCTION_BLOCK A FBS X:B; END_FBS END_FUNCTION_BLOCK"}]}
-< {"commit":2}
-> {"op":"commit","changes":[{"put":"A","base":2,"text":"FUNCTION_BLOCK A END_FUNCTION_BLOCK"}]}
-< {"commit":3}
-> {"op":"deliver","job":1}
-< {"refused":"Stale","unit":"A"}
+{"op":"commit","changes":[{"put":"A","base":0,"text":"FUNCTION_BLOCK A END_FUNCTION_BLOCK"}]} => {"commit":1}
+{"op":"take"} => {"job":1,"kind":"faults","unit":"A"}
+{"op":"commit","changes":[{"put":"A","base":1,"text":"FUNCTION_BLOCK A FBS X:B; END_FBS END_FUNCTION_BLOCK"}]} => {"commit":2}
+{"op":"commit","changes":[{"put":"A","base":2,"text":"FUNCTION_BLOCK A END_FUNCTION_BLOCK"}]} => {"commit":3}
+{"op":"deliver","job":1} => {"refused":"Stale","unit":"A"}
 "#,
     ),
     Step::Lines(
         2,
-        r#"
-> {"op":"ask","kind":"faults","unit":"A"}
-< {"answer":"pending"}
-"#,
+        r#"{"op":"ask","kind":"faults","unit":"A"} => {"answer":"pending"}"#,
     ),
     Step::Pending("A"),
 ];
@@ -401,14 +328,10 @@ const REFUSED: &[Step<'static>] = &[
     Step::Lines(
         1,
         r#"
-> {"op":"commit","changes":[]}
-< {"refused":"NoChange"}
-> {"op":"commit","changes":[{"remove":"A","base":1}]}
-< {"refused":"NoSuchUnit","unit":"A"}
-> {"op":"commit","changes":[{"remove":"A","base":1},{"put":"A","base":0,"text":"FUNCTION_BLOCK A END_FUNCTION_BLOCK"}]}
-< {"refused":"SameUnitTwice","unit":"A"}
-> {"op":"commit","changes":[{"put":"A","base":0,"text":"FUNCTION_BLOCK A END_FUNCTION_BLOCK"},{"put":"A","base":0,"text":"FUNCTION_BLOCK A END_FUNCTION_BLOCK"},{"put":"A","base":0,"text":"FUNCTION_BLOCK A END_FUNCTION_BLOCK"},{"put":"A","base":0,"text":"FUNCTION_BLOCK A END_FUNCTION_BLOCK"},{"put":"A","base":0,"text":"FUNCTION_BLOCK A END_FUNCTION_BLOCK"},{"put":"A","base":0,"text":"FUNCTION_BLOCK A END_FUNCTION_BLOCK"},{"put":"A","base":0,"text":"FUNCTION_BLOCK A END_FUNCTION_BLOCK"},{"put":"A","base":0,"text":"FUNCTION_BLOCK A END_FUNCTION_BLOCK"},{"put":"A","base":0,"text":"FUNCTION_BLOCK A END_FUNCTION_BLOCK"},{"put":"A","base":0,"text":"FUNCTION_BLOCK A END_FUNCTION_BLOCK"},{"put":"A","base":0,"text":"FUNCTION_BLOCK A END_FUNCTION_BLOCK"},{"put":"A","base":0,"text":"FUNCTION_BLOCK A END_FUNCTION_BLOCK"},{"put":"A","base":0,"text":"FUNCTION_BLOCK A END_FUNCTION_BLOCK"},{"put":"A","base":0,"text":"FUNCTION_BLOCK A END_FUNCTION_BLOCK"},{"put":"A","base":0,"text":"FUNCTION_BLOCK A END_FUNCTION_BLOCK"},{"put":"A","base":0,"text":"FUNCTION_BLOCK A END_FUNCTION_BLOCK"},{"put":"A","base":0,"text":"FUNCTION_BLOCK A END_FUNCTION_BLOCK"}]}
-< {"refused":"TooManyChanges"}
+{"op":"commit","changes":[]} => {"refused":"NoChange"}
+{"op":"commit","changes":[{"remove":"A","base":1}]} => {"refused":"NoSuchUnit","unit":"A"}
+{"op":"commit","changes":[{"remove":"A","base":1},{"put":"A","base":0,"text":"FUNCTION_BLOCK A END_FUNCTION_BLOCK"}]} => {"refused":"SameUnitTwice","unit":"A"}
+{"op":"commit","changes":[{"put":"A","base":0,"text":"FUNCTION_BLOCK A END_FUNCTION_BLOCK"},{"put":"A","base":0,"text":"FUNCTION_BLOCK A END_FUNCTION_BLOCK"},{"put":"A","base":0,"text":"FUNCTION_BLOCK A END_FUNCTION_BLOCK"},{"put":"A","base":0,"text":"FUNCTION_BLOCK A END_FUNCTION_BLOCK"},{"put":"A","base":0,"text":"FUNCTION_BLOCK A END_FUNCTION_BLOCK"},{"put":"A","base":0,"text":"FUNCTION_BLOCK A END_FUNCTION_BLOCK"},{"put":"A","base":0,"text":"FUNCTION_BLOCK A END_FUNCTION_BLOCK"},{"put":"A","base":0,"text":"FUNCTION_BLOCK A END_FUNCTION_BLOCK"},{"put":"A","base":0,"text":"FUNCTION_BLOCK A END_FUNCTION_BLOCK"},{"put":"A","base":0,"text":"FUNCTION_BLOCK A END_FUNCTION_BLOCK"},{"put":"A","base":0,"text":"FUNCTION_BLOCK A END_FUNCTION_BLOCK"},{"put":"A","base":0,"text":"FUNCTION_BLOCK A END_FUNCTION_BLOCK"},{"put":"A","base":0,"text":"FUNCTION_BLOCK A END_FUNCTION_BLOCK"},{"put":"A","base":0,"text":"FUNCTION_BLOCK A END_FUNCTION_BLOCK"},{"put":"A","base":0,"text":"FUNCTION_BLOCK A END_FUNCTION_BLOCK"},{"put":"A","base":0,"text":"FUNCTION_BLOCK A END_FUNCTION_BLOCK"},{"put":"A","base":0,"text":"FUNCTION_BLOCK A END_FUNCTION_BLOCK"}]} => {"refused":"TooManyChanges"}
 "#,
     ),
     Step::Records(4),
@@ -419,12 +342,9 @@ const PLANNED: &[Step<'static>] = &[
     Step::Lines(
         1,
         r#"
-> plant
-< {"commit":1}
-> {"op":"work","turns":5}
-< {"accepted":5}
-> {"op":"take"}
-< {"job":1,"kind":"deploy","unit":"Y"}
+plant => {"commit":1}
+{"op":"work","turns":5} => {"accepted":5}
+{"op":"take"} => {"job":1,"kind":"deploy","unit":"Y"}
 "#,
     ),
     Step::Keys(&[
@@ -438,24 +358,15 @@ const PLANNED: &[Step<'static>] = &[
     Step::Lines(
         2,
         r#"
-> {"op":"give_back","kind":"deploy","unit":"Y"}
-< {"returned":true}
-> {"op":"give_back","kind":"deploy","unit":"Y"}
-< {"returned":false}
-> {"op":"give_back","kind":"net","unit":"TN"}
-< {"returned":false}
-> {"op":"take"}
-< {"job":1,"kind":"deploy","unit":"Y"}
-> {"op":"deliver","job":1}
-< {"delivered":"accepted"}
-> {"op":"deliver","job":1}
-< {"refused":"NotPending"}
-> {"op":"commit","changes":[{"remove":"Y","base":1}]}
-< {"commit":2}
-> {"op":"deliver","job":1}
-< {"refused":"NoSuchKey"}
-> {"op":"ask","kind":"net","unit":"Y"}
-< {"refused":"NoSuchKey"}
+{"op":"give_back","kind":"deploy","unit":"Y"} => {"returned":true}
+{"op":"give_back","kind":"deploy","unit":"Y"} => {"returned":false}
+{"op":"give_back","kind":"net","unit":"TN"} => {"returned":false}
+{"op":"take"} => {"job":1,"kind":"deploy","unit":"Y"}
+{"op":"deliver","job":1} => {"delivered":"accepted"}
+{"op":"deliver","job":1} => {"refused":"NotPending"}
+{"op":"commit","changes":[{"remove":"Y","base":1}]} => {"commit":2}
+{"op":"deliver","job":1} => {"refused":"NoSuchKey"}
+{"op":"ask","kind":"net","unit":"Y"} => {"refused":"NoSuchKey"}
 "#,
     ),
     Step::Keys(&[
@@ -474,24 +385,16 @@ const BEGUN_ANEW: &[Step<'static>] = &[
     Step::Checkpoint(4, 100, Ok(0)),
     Step::Lines(
         1,
-        r#"
-> {"op":"commit","changes":[{"put":"A","base":0,"text":"FUNCTION_BLOCK A END_FUNCTION_BLOCK"}]}
-< {"commit":1}
-"#,
+        r#"{"op":"commit","changes":[{"put":"A","base":0,"text":"FUNCTION_BLOCK A END_FUNCTION_BLOCK"}]} => {"commit":1}"#,
     ),
     Step::Lines(
         2,
         r#"
-> {"op":"ask","kind":"faults","unit":"A"}
-< {"answer":"pending"}
-> {"op":"take"}
-< {"job":1,"kind":"faults","unit":"A"}
-> {"op":"deliver","job":1}
-< {"delivered":"accepted"}
-> {"op":"ask","kind":"faults","unit":"A"}
-< {"faults":[]}
-> {"op":"give_back","kind":"faults","unit":"A"}
-< {"returned":false}
+{"op":"ask","kind":"faults","unit":"A"} => {"answer":"pending"}
+{"op":"take"} => {"job":1,"kind":"faults","unit":"A"}
+{"op":"deliver","job":1} => {"delivered":"accepted"}
+{"op":"ask","kind":"faults","unit":"A"} => {"faults":[]}
+{"op":"give_back","kind":"faults","unit":"A"} => {"returned":false}
 "#,
     ),
     Step::Records(6),
@@ -510,10 +413,7 @@ const BEGUN_ANEW: &[Step<'static>] = &[
     Step::Keys(&[(Kind::Faults, "A")]),
     Step::Lines(
         2,
-        r#"
-> {"op":"ask","kind":"faults","unit":"A"}
-< {"faults":[]}
-"#,
+        r#"{"op":"ask","kind":"faults","unit":"A"} => {"faults":[]}"#,
     ),
     Step::Answer(7, 6),
     Step::NoRecord(8),
@@ -531,10 +431,8 @@ const BEGUN_WAITING: &[Step<'static>] = &[
     Step::Lines(
         1,
         r#"
-> {"op":"commit","changes":[{"put":"A","base":0,"text":"FUNCTION_BLOCK A END_FUNCTION_BLOCK"},{"put":"B","base":0,"text":""}]}
-< {"commit":1}
-> {"op":"take"}
-< {"job":1,"kind":"faults","unit":"A"}
+{"op":"commit","changes":[{"put":"A","base":0,"text":"FUNCTION_BLOCK A END_FUNCTION_BLOCK"},{"put":"B","base":0,"text":""}]} => {"commit":1}
+{"op":"take"} => {"job":1,"kind":"faults","unit":"A"}
 "#,
     ),
     Step::Checkpoint(1, 2, Err(CheckpointRefused::UnitsOver(2))),
@@ -550,14 +448,10 @@ const BEGUN_WAITING: &[Step<'static>] = &[
     Step::Lines(
         1,
         r#"
-> {"op":"take"}
-< {"job":1,"kind":"faults","unit":"B"}
-> {"op":"deliver","job":1}
-< {"delivered":"accepted"}
-> {"op":"commit","changes":[{"remove":"A","base":1}]}
-< {"commit":2}
-> {"op":"take"}
-< {"refused":"HistoryFull"}
+{"op":"take"} => {"job":1,"kind":"faults","unit":"B"}
+{"op":"deliver","job":1} => {"delivered":"accepted"}
+{"op":"commit","changes":[{"remove":"A","base":1}]} => {"commit":2}
+{"op":"take"} => {"refused":"HistoryFull"}
 "#,
     ),
     Step::Value("B"),
@@ -574,9 +468,9 @@ const BEGUN_WAITING: &[Step<'static>] = &[
 ];
 
 /// What is gone through, the most units and the most records, and the steps.
-type Talk = (&'static str, u64, u64, &'static [Step<'static>]);
+type Row = (&'static str, u64, u64, &'static [Step<'static>]);
 
-const TALKS: &[Talk] = &[
+const ROWS: &[Row] = &[
     ("old base", 4, 100, OLD_BASE),
     ("full", 1, 3, FULL),
     ("crowded", 1, 100, CROWDED),
@@ -589,16 +483,16 @@ const TALKS: &[Talk] = &[
     ("begun waiting", 4, 100, BEGUN_WAITING),
 ];
 
-fn compare_all(rt: &impl Abort, alloc: Global, talks: &[Talk]) -> Result<(), Fail> {
-    for (about, units, history, steps) in talks {
+fn compare_all(rt: &impl Abort, alloc: Global, rows: &[Row]) -> Result<(), Fail> {
+    for (about, units, history, steps) in rows {
         compare_steps(rt, alloc, about, (*units, *history), steps)?;
     }
     Ok(())
 }
 
 #[test]
-fn talks(rt: HostRuntime) -> Result<(), Fail> {
-    compare_all(&rt, rt.alloc(), TALKS)
+fn conversations(rt: HostRuntime) -> Result<(), Fail> {
+    compare_all(&rt, rt.alloc(), ROWS)
 }
 
 #[test]

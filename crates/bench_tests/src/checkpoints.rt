@@ -1,284 +1,154 @@
 //! Conversations with checkpoints: what they keep, what they refuse, and how they make room.
-use crate::talk::{Limited, compare_limited};
+use crate::conversation::compare;
 use std::test::Fail;
 
+const CONVERSATIONS: &str = r#"
+== a held job / 1024 / 3
 // A job taken before is delivered after; the history is full after three calls, and goes on after another checkpoint.
-const HELD: &str = r#"
-> {"op":"commit","changes":[{"put":"A","base":0,"text":"FUNCTION_BLOCK A END_FUNCTION_BLOCK"}]}
-< {"commit":1}
-> {"op":"take"}
-< {"job":1,"kind":"faults","unit":"A"}
-> {"op":"checkpoint","units":4,"history":3}
-< {"checkpoint":2}
-> {"op":"deliver","job":1}
-< {"delivered":"accepted"}
-> {"op":"ask","kind":"faults","unit":"A"}
-< {"faults":[]}
-> {"op":"commit","changes":[{"put":"A","base":1,"text":"FUNCTION_BLOCK B END_FUNCTION_BLOCK"}]}
-< {"commit":2}
-> {"op":"ask","kind":"faults","unit":"A"}
-< {"refused":"HistoryFull"}
-> {"op":"checkpoint","units":4,"history":3}
-< {"checkpoint":5}
-> {"op":"ask","kind":"faults","unit":"A"}
-< {"answer":"pending"}
-"#;
+{"op":"commit","changes":[{"put":"A","base":0,"text":"FUNCTION_BLOCK A END_FUNCTION_BLOCK"}]} => {"commit":1}
+{"op":"take"} => {"job":1,"kind":"faults","unit":"A"}
+{"op":"checkpoint","units":4,"history":3} => {"checkpoint":2}
+{"op":"deliver","job":1} => {"delivered":"accepted"}
+{"op":"ask","kind":"faults","unit":"A"} => {"faults":[]}
+{"op":"commit","changes":[{"put":"A","base":1,"text":"FUNCTION_BLOCK B END_FUNCTION_BLOCK"}]} => {"commit":2}
+{"op":"ask","kind":"faults","unit":"A"} => {"refused":"HistoryFull"}
+{"op":"checkpoint","units":4,"history":3} => {"checkpoint":5}
+{"op":"ask","kind":"faults","unit":"A"} => {"answer":"pending"}
 
+== units over
 // Two units are over one, and not over two; a second checkpoint with no call between gives the same number.
-const OVER_UNITS: &str = r#"
-> {"op":"commit","changes":[{"put":"A","base":0,"text":"FUNCTION_BLOCK A END_FUNCTION_BLOCK"},{"put":"B","base":0,"text":""}]}
-< {"commit":1}
-> {"op":"checkpoint","units":1,"history":9}
-< {"refused":"UnitsOver"}
-> {"op":"checkpoint","units":2,"history":9}
-< {"checkpoint":1}
-> {"op":"checkpoint","units":3,"history":9}
-< {"checkpoint":1}
-"#;
+{"op":"commit","changes":[{"put":"A","base":0,"text":"FUNCTION_BLOCK A END_FUNCTION_BLOCK"},{"put":"B","base":0,"text":""}]} => {"commit":1}
+{"op":"checkpoint","units":1,"history":9} => {"refused":"UnitsOver"}
+{"op":"checkpoint","units":2,"history":9} => {"checkpoint":1}
+{"op":"checkpoint","units":3,"history":9} => {"checkpoint":1}
 
+== ranges
 // The limits, and requests that are none. Nothing is recorded.
-const RANGES: &str = r#"
-> {"op":"checkpoint","units":16384,"history":10000000}
-< {"checkpoint":0}
-> {"op":"checkpoint","units":16385,"history":1}
-< {"refused":"BadRequest"}
-> {"op":"checkpoint","units":1,"history":10000001}
-< {"refused":"BadRequest"}
-> {"op":"checkpoint","units":4,"history":0}
-< {"refused":"BadRequest"}
-> {"op":"checkpoint","units":4}
-< {"refused":"BadRequest"}
-> {"op":"checkpoint","units":"4","history":4}
-< {"refused":"BadRequest"}
-> {"op":"checkpoint","units":4.0,"history":4}
-< {"refused":"BadRequest"}
-> {"op":"checkpoint","units":4,"history":-1}
-< {"refused":"BadRequest"}
-> {"op":"checkpoint","units":4,"history":0,"history":5,"x":[]}
-< {"checkpoint":0}
-"#;
+{"op":"checkpoint","units":16384,"history":10000000} => {"checkpoint":0}
+{"op":"checkpoint","units":16385,"history":1} => {"refused":"BadRequest"}
+{"op":"checkpoint","units":1,"history":10000001} => {"refused":"BadRequest"}
+{"op":"checkpoint","units":4,"history":0} => {"refused":"BadRequest"}
+{"op":"checkpoint","units":4} => {"refused":"BadRequest"}
+{"op":"checkpoint","units":"4","history":4} => {"refused":"BadRequest"}
+{"op":"checkpoint","units":4.0,"history":4} => {"refused":"BadRequest"}
+{"op":"checkpoint","units":4,"history":-1} => {"refused":"BadRequest"}
+{"op":"checkpoint","units":4,"history":0,"history":5,"x":[]} => {"checkpoint":0}
 
+== a full history / 1024 / 1
 // On a full history, again and again.
-const FULL: &str = r#"
-> {"op":"ask","kind":"faults","unit":"A"}
-< {"refused":"NoSuchKey"}
-> {"op":"ask","kind":"faults","unit":"A"}
-< {"refused":"HistoryFull"}
-> {"op":"work","turns":1}
-< {"accepted":0,"refused":"HistoryFull"}
-> {"op":"checkpoint","units":1,"history":1}
-< {"checkpoint":1}
-> {"op":"ask","kind":"faults","unit":"A"}
-< {"refused":"NoSuchKey"}
-> {"op":"checkpoint","units":1,"history":1}
-< {"checkpoint":2}
-"#;
+{"op":"ask","kind":"faults","unit":"A"} => {"refused":"NoSuchKey"}
+{"op":"ask","kind":"faults","unit":"A"} => {"refused":"HistoryFull"}
+{"op":"work","turns":1} => {"accepted":0,"refused":"HistoryFull"}
+{"op":"checkpoint","units":1,"history":1} => {"checkpoint":1}
+{"op":"ask","kind":"faults","unit":"A"} => {"refused":"NoSuchKey"}
+{"op":"checkpoint","units":1,"history":1} => {"checkpoint":2}
 
+== out
 // A key that is out stays out, and is given back after; the first job's result comes too late then.
-const OUT: &str = r#"
-> {"op":"commit","changes":[{"put":"A","base":0,"text":"FUNCTION_BLOCK A END_FUNCTION_BLOCK"}]}
-< {"commit":1}
-> {"op":"take"}
-< {"job":1,"kind":"faults","unit":"A"}
-> {"op":"checkpoint","units":9,"history":9}
-< {"checkpoint":2}
-> {"op":"take"}
-< {"job":0}
-> {"op":"give_back","kind":"faults","unit":"A"}
-< {"returned":true}
-> {"op":"take"}
-< {"job":2,"kind":"faults","unit":"A"}
-> {"op":"deliver","job":2}
-< {"delivered":"accepted"}
-> {"op":"deliver","job":1}
-< {"refused":"NotPending"}
-"#;
+{"op":"commit","changes":[{"put":"A","base":0,"text":"FUNCTION_BLOCK A END_FUNCTION_BLOCK"}]} => {"commit":1}
+{"op":"take"} => {"job":1,"kind":"faults","unit":"A"}
+{"op":"checkpoint","units":9,"history":9} => {"checkpoint":2}
+{"op":"take"} => {"job":0}
+{"op":"give_back","kind":"faults","unit":"A"} => {"returned":true}
+{"op":"take"} => {"job":2,"kind":"faults","unit":"A"}
+{"op":"deliver","job":2} => {"delivered":"accepted"}
+{"op":"deliver","job":1} => {"refused":"NotPending"}
 
+== stale
 // A result is stale across a checkpoint: the type was changed behind it.
-const STALE: &str = r#"
-> {"op":"commit","changes":[{"put":"C","base":0,"text":"FUNCTION_BLOCK C FBS S:E; END_FBS END_FUNCTION_BLOCK"},{"put":"E","base":0,"text":"FUNCTION_BLOCK E END_FUNCTION_BLOCK"}]}
-< {"commit":1}
-> {"op":"take"}
-< {"job":1,"kind":"faults","unit":"C"}
-> {"op":"checkpoint","units":9,"history":9}
-< {"checkpoint":2}
-> {"op":"commit","changes":[{"put":"E","base":1,"text":"FUNCTION_BLOCK E END_FUNCTION_BLOCK"}]}
-< {"commit":2}
-> {"op":"deliver","job":1}
-< {"refused":"Stale","unit":"E"}
-> {"op":"ask","kind":"faults","unit":"C"}
-< {"answer":"pending"}
-"#;
+{"op":"commit","changes":[{"put":"C","base":0,"text":"FUNCTION_BLOCK C FBS S:E; END_FBS END_FUNCTION_BLOCK"},{"put":"E","base":0,"text":"FUNCTION_BLOCK E END_FUNCTION_BLOCK"}]} => {"commit":1}
+{"op":"take"} => {"job":1,"kind":"faults","unit":"C"}
+{"op":"checkpoint","units":9,"history":9} => {"checkpoint":2}
+{"op":"commit","changes":[{"put":"E","base":1,"text":"FUNCTION_BLOCK E END_FUNCTION_BLOCK"}]} => {"commit":2}
+{"op":"deliver","job":1} => {"refused":"Stale","unit":"E"}
+{"op":"ask","kind":"faults","unit":"C"} => {"answer":"pending"}
 
+== stale before
 // The same with the checkpoint between the change and the delivery.
-const STALE_BEFORE: &str = r#"
-> {"op":"commit","changes":[{"put":"C","base":0,"text":"FUNCTION_BLOCK C FBS S:E; END_FBS END_FUNCTION_BLOCK"},{"put":"E","base":0,"text":"FUNCTION_BLOCK E END_FUNCTION_BLOCK"}]}
-< {"commit":1}
-> {"op":"take"}
-< {"job":1,"kind":"faults","unit":"C"}
-> {"op":"commit","changes":[{"put":"E","base":1,"text":"FUNCTION_BLOCK E END_FUNCTION_BLOCK"}]}
-< {"commit":2}
-> {"op":"checkpoint","units":9,"history":9}
-< {"checkpoint":3}
-> {"op":"deliver","job":1}
-< {"refused":"Stale","unit":"E"}
-"#;
+{"op":"commit","changes":[{"put":"C","base":0,"text":"FUNCTION_BLOCK C FBS S:E; END_FBS END_FUNCTION_BLOCK"},{"put":"E","base":0,"text":"FUNCTION_BLOCK E END_FUNCTION_BLOCK"}]} => {"commit":1}
+{"op":"take"} => {"job":1,"kind":"faults","unit":"C"}
+{"op":"commit","changes":[{"put":"E","base":1,"text":"FUNCTION_BLOCK E END_FUNCTION_BLOCK"}]} => {"commit":2}
+{"op":"checkpoint","units":9,"history":9} => {"checkpoint":3}
+{"op":"deliver","job":1} => {"refused":"Stale","unit":"E"}
 
+== settled
 // Pending at the start, and settled after it.
-const SETTLED: &str = r#"
-> {"op":"commit","changes":[{"put":"A","base":0,"text":"FUNCTION_BLOCK A END_FUNCTION_BLOCK"}]}
-< {"commit":1}
-> {"op":"checkpoint","units":9,"history":9}
-< {"checkpoint":1}
-> {"op":"ask","kind":"faults","unit":"A"}
-< {"answer":"pending"}
-> {"op":"work","turns":9}
-< {"accepted":1}
-> {"op":"ask","kind":"faults","unit":"A"}
-< {"faults":[]}
-"#;
+{"op":"commit","changes":[{"put":"A","base":0,"text":"FUNCTION_BLOCK A END_FUNCTION_BLOCK"}]} => {"commit":1}
+{"op":"checkpoint","units":9,"history":9} => {"checkpoint":1}
+{"op":"ask","kind":"faults","unit":"A"} => {"answer":"pending"}
+{"op":"work","turns":9} => {"accepted":1}
+{"op":"ask","kind":"faults","unit":"A"} => {"faults":[]}
 
+== made anew
 // Pending at the start, gone, and made anew. The revision goes on from the commits before.
-const ANEW: &str = r#"
-> {"op":"commit","changes":[{"put":"A","base":0,"text":"FUNCTION_BLOCK A END_FUNCTION_BLOCK"}]}
-< {"commit":1}
-> {"op":"checkpoint","units":9,"history":9}
-< {"checkpoint":1}
-> {"op":"commit","changes":[{"remove":"A","base":1}]}
-< {"commit":2}
-> {"op":"ask","kind":"faults","unit":"A"}
-< {"refused":"NoSuchKey"}
-> {"op":"commit","changes":[{"put":"A","base":0,"text":"FUNCTION_BLOCK A END_FUNCTION_BLOCK"}]}
-< {"commit":3}
-> {"op":"ask","kind":"faults","unit":"A"}
-< {"answer":"pending"}
-"#;
+{"op":"commit","changes":[{"put":"A","base":0,"text":"FUNCTION_BLOCK A END_FUNCTION_BLOCK"}]} => {"commit":1}
+{"op":"checkpoint","units":9,"history":9} => {"checkpoint":1}
+{"op":"commit","changes":[{"remove":"A","base":1}]} => {"commit":2}
+{"op":"ask","kind":"faults","unit":"A"} => {"refused":"NoSuchKey"}
+{"op":"commit","changes":[{"put":"A","base":0,"text":"FUNCTION_BLOCK A END_FUNCTION_BLOCK"}]} => {"commit":3}
+{"op":"ask","kind":"faults","unit":"A"} => {"answer":"pending"}
 
+== a value
 // A value is kept, and ends where a commit behind the checkpoint reaches it.
-const VALUE: &str = r#"
-> {"op":"commit","changes":[{"put":"C","base":0,"text":"FUNCTION_BLOCK C FBS S:E; END_FBS END_FUNCTION_BLOCK"}]}
-< {"commit":1}
-> {"op":"work","turns":9}
-< {"accepted":1}
-> {"op":"checkpoint","units":9,"history":9}
-< {"checkpoint":4}
-> {"op":"ask","kind":"faults","unit":"C"}
-< {"faults":[["UNKNOWN_TYPE",23,24]]}
-> {"op":"commit","changes":[{"put":"E","base":0,"text":"FUNCTION_BLOCK E END_FUNCTION_BLOCK"}]}
-< {"commit":2}
-> {"op":"ask","kind":"faults","unit":"C"}
-< {"answer":"pending"}
-"#;
+{"op":"commit","changes":[{"put":"C","base":0,"text":"FUNCTION_BLOCK C FBS S:E; END_FBS END_FUNCTION_BLOCK"}]} => {"commit":1}
+{"op":"work","turns":9} => {"accepted":1}
+{"op":"checkpoint","units":9,"history":9} => {"checkpoint":4}
+{"op":"ask","kind":"faults","unit":"C"} => {"faults":[["UNKNOWN_TYPE",23,24]]}
+{"op":"commit","changes":[{"put":"E","base":0,"text":"FUNCTION_BLOCK E END_FUNCTION_BLOCK"}]} => {"commit":2}
+{"op":"ask","kind":"faults","unit":"C"} => {"answer":"pending"}
 
+== revisions
 // Commit numbers and revisions go on.
-const REVISIONS: &str = r#"
-> {"op":"commit","changes":[{"put":"A","base":0,"text":"FUNCTION_BLOCK A END_FUNCTION_BLOCK"}]}
-< {"commit":1}
-> {"op":"commit","changes":[{"put":"A","base":1,"text":"FUNCTION_BLOCK B END_FUNCTION_BLOCK"}]}
-< {"commit":2}
-> {"op":"checkpoint","units":9,"history":9}
-< {"checkpoint":2}
-> {"op":"commit","changes":[{"put":"A","base":1,"text":"FUNCTION_BLOCK A END_FUNCTION_BLOCK"}]}
-< {"current":2,"refused":"StaleBase","unit":"A"}
-> {"op":"commit","changes":[{"put":"A","base":2,"text":"FUNCTION_BLOCK A END_FUNCTION_BLOCK"}]}
-< {"commit":3}
-"#;
+{"op":"commit","changes":[{"put":"A","base":0,"text":"FUNCTION_BLOCK A END_FUNCTION_BLOCK"}]} => {"commit":1}
+{"op":"commit","changes":[{"put":"A","base":1,"text":"FUNCTION_BLOCK B END_FUNCTION_BLOCK"}]} => {"commit":2}
+{"op":"checkpoint","units":9,"history":9} => {"checkpoint":2}
+{"op":"commit","changes":[{"put":"A","base":1,"text":"FUNCTION_BLOCK A END_FUNCTION_BLOCK"}]} => {"current":2,"refused":"StaleBase","unit":"A"}
+{"op":"commit","changes":[{"put":"A","base":2,"text":"FUNCTION_BLOCK A END_FUNCTION_BLOCK"}]} => {"commit":3}
 
+== other limits / 1 / 3
 // A smaller and a larger limit of units, and of calls.
-const LIMITS: &str = r#"
-> {"op":"commit","changes":[{"put":"A","base":0,"text":"FUNCTION_BLOCK A END_FUNCTION_BLOCK"}]}
-< {"commit":1}
-> {"op":"commit","changes":[{"put":"B","base":0,"text":""}]}
-< {"refused":"TooManyUnits"}
-> {"op":"checkpoint","units":2,"history":5}
-< {"checkpoint":2}
-> {"op":"commit","changes":[{"put":"B","base":0,"text":""}]}
-< {"commit":2}
-> {"op":"checkpoint","units":2,"history":1}
-< {"checkpoint":3}
-> {"op":"commit","changes":[{"put":"C","base":0,"text":""}]}
-< {"refused":"TooManyUnits"}
-> {"op":"ask","kind":"faults","unit":"B"}
-< {"refused":"HistoryFull"}
-"#;
+{"op":"commit","changes":[{"put":"A","base":0,"text":"FUNCTION_BLOCK A END_FUNCTION_BLOCK"}]} => {"commit":1}
+{"op":"commit","changes":[{"put":"B","base":0,"text":""}]} => {"refused":"TooManyUnits"}
+{"op":"checkpoint","units":2,"history":5} => {"checkpoint":2}
+{"op":"commit","changes":[{"put":"B","base":0,"text":""}]} => {"commit":2}
+{"op":"checkpoint","units":2,"history":1} => {"checkpoint":3}
+{"op":"commit","changes":[{"put":"C","base":0,"text":""}]} => {"refused":"TooManyUnits"}
+{"op":"ask","kind":"faults","unit":"B"} => {"refused":"HistoryFull"}
 
+== work / 1024 / 2
 // Work that meets the full history in the middle leaves its key out, and a checkpoint leaves it so.
-const WORK: &str = r#"
-> {"op":"commit","changes":[{"put":"A","base":0,"text":"FUNCTION_BLOCK A END_FUNCTION_BLOCK"}]}
-< {"commit":1}
-> {"op":"work","turns":1}
-< {"accepted":0,"refused":"HistoryFull"}
-> {"op":"checkpoint","units":9,"history":9}
-< {"checkpoint":2}
-> {"op":"take"}
-< {"job":0}
-> {"op":"give_back","kind":"faults","unit":"A"}
-< {"returned":true}
-> {"op":"work","turns":9}
-< {"accepted":1}
-"#;
+{"op":"commit","changes":[{"put":"A","base":0,"text":"FUNCTION_BLOCK A END_FUNCTION_BLOCK"}]} => {"commit":1}
+{"op":"work","turns":1} => {"accepted":0,"refused":"HistoryFull"}
+{"op":"checkpoint","units":9,"history":9} => {"checkpoint":2}
+{"op":"take"} => {"job":0}
+{"op":"give_back","kind":"faults","unit":"A"} => {"returned":true}
+{"op":"work","turns":9} => {"accepted":1}
 
+== refused lines / 1024 / 1
 // What the line engine refuses is no call, before and after.
-const REFUSED: &str = r#"
-> {"op":"take"}
-< {"job":0}
-> {"op":"ask","kind":"faults","unit":"9A"}
-< {"refused":"BadName"}
-> {"op":"deliver","job":1}
-< {"refused":"NoSuchJob"}
-> {"op":"checkpoint","units":9,"history":9}
-< {"checkpoint":1}
-> {"op":"deliver","job":1}
-< {"refused":"NoSuchJob"}
-"#;
+{"op":"take"} => {"job":0}
+{"op":"ask","kind":"faults","unit":"9A"} => {"refused":"BadName"}
+{"op":"deliver","job":1} => {"refused":"NoSuchJob"}
+{"op":"checkpoint","units":9,"history":9} => {"checkpoint":1}
+{"op":"deliver","job":1} => {"refused":"NoSuchJob"}
 
+== ranges first
 // Out of range comes before what the workbench says.
-const RANGE_FIRST: &str = r#"
-> {"op":"commit","changes":[{"put":"A","base":0,"text":""},{"put":"B","base":0,"text":""}]}
-< {"commit":1}
-> {"op":"checkpoint","units":1,"history":0}
-< {"refused":"BadRequest"}
-> {"op":"checkpoint","units":1,"history":1}
-< {"refused":"UnitsOver"}
-"#;
+{"op":"commit","changes":[{"put":"A","base":0,"text":""},{"put":"B","base":0,"text":""}]} => {"commit":1}
+{"op":"checkpoint","units":1,"history":0} => {"refused":"BadRequest"}
+{"op":"checkpoint","units":1,"history":1} => {"refused":"UnitsOver"}
 
+== a text again
 // A text that came back is another revision, with a checkpoint between too.
-const TEXT_AGAIN: &str = r#"
-> {"op":"commit","changes":[{"put":"A","base":0,"text":"FUNCTION_BLOCK A END_FUNCTION_BLOCK"}]}
-< {"commit":1}
-> {"op":"take"}
-< {"job":1,"kind":"faults","unit":"A"}
-> {"op":"commit","changes":[{"remove":"A","base":1}]}
-< {"commit":2}
-> {"op":"checkpoint","units":9,"history":9}
-< {"checkpoint":3}
-> {"op":"commit","changes":[{"put":"A","base":0,"text":"FUNCTION_BLOCK A END_FUNCTION_BLOCK"}]}
-< {"commit":3}
-> {"op":"deliver","job":1}
-< {"refused":"Stale","unit":"A"}
+{"op":"commit","changes":[{"put":"A","base":0,"text":"FUNCTION_BLOCK A END_FUNCTION_BLOCK"}]} => {"commit":1}
+{"op":"take"} => {"job":1,"kind":"faults","unit":"A"}
+{"op":"commit","changes":[{"remove":"A","base":1}]} => {"commit":2}
+{"op":"checkpoint","units":9,"history":9} => {"checkpoint":3}
+{"op":"commit","changes":[{"put":"A","base":0,"text":"FUNCTION_BLOCK A END_FUNCTION_BLOCK"}]} => {"commit":3}
+{"op":"deliver","job":1} => {"refused":"Stale","unit":"A"}
 "#;
-
-// With the most units and the most records.
-const TALKS: &[Limited] = &[
-    ("a held job", 1024, 3, HELD),
-    ("units over", 1024, 100_000, OVER_UNITS),
-    ("ranges", 1024, 100_000, RANGES),
-    ("a full history", 1024, 1, FULL),
-    ("out", 1024, 100_000, OUT),
-    ("stale", 1024, 100_000, STALE),
-    ("stale before", 1024, 100_000, STALE_BEFORE),
-    ("settled", 1024, 100_000, SETTLED),
-    ("made anew", 1024, 100_000, ANEW),
-    ("a value", 1024, 100_000, VALUE),
-    ("revisions", 1024, 100_000, REVISIONS),
-    ("other limits", 1, 3, LIMITS),
-    ("work", 1024, 2, WORK),
-    ("refused lines", 1024, 1, REFUSED),
-    ("ranges first", 1024, 100_000, RANGE_FIRST),
-    ("a text again", 1024, 100_000, TEXT_AGAIN),
-];
 
 #[test]
-fn talks(rt: HostRuntime) -> Result<(), Fail> {
-    compare_limited(&rt, rt.alloc(), TALKS)
+fn conversations(rt: HostRuntime) -> Result<(), Fail> {
+    compare(&rt, rt.alloc(), CONVERSATIONS)
 }

@@ -1,5 +1,7 @@
 //! A conversation over streams of std of which each read, each write and each flush fails in turn, or a write takes nothing.
-use crate::talk::{ALWAYS, GOOD, new_bench, replies_in, replies_within, requests_in, run_over};
+use crate::conversation::{
+    ALWAYS, GOOD, new_bench, replies_in, replies_within, requests_in, run_over,
+};
 use fb_wire::bench::Bench;
 use fb_wire::{FromRead, IntoWrite, RunEnd, run_script};
 use std::alloc::Global;
@@ -10,26 +12,16 @@ use std::test::Fail;
 
 /// A result that comes late, with a question that is refused and a line that is no request.
 pub(crate) const LATE: &str = r#"
-> {"op":"commit","changes":[{"put":"C","base":0,"text":"FUNCTION_BLOCK C FBS S:E_SPLIT; END_FBS END_FUNCTION_BLOCK"},{"put":"E_SPLIT","base":0,"text":"FUNCTION_BLOCK E_SPLIT EVENT_INPUT EI; END_EVENT EVENT_OUTPUT EO1; EO2; END_EVENT END_FUNCTION_BLOCK"}]}
-< {"commit":1}
-> {"op":"take"}
-< {"job":1,"kind":"faults","unit":"C"}
-> {"op":"ask","kind":"net","unit":"C"}
-< {"refused":"NoSuchKey"}
-> {"op":"ask"}
-< {"refused":"BadRequest"}
-> {"op":"commit","changes":[{"put":"E_SPLIT","base":1,"text":"FUNCTION_BLOCK E_SPLIT EVENT_INPUT EI; END_EVENT EVENT_OUTPUT EO1; EO2; END_EVENT END_FUNCTION_BLOCK"}]}
-< {"commit":2}
-> {"op":"deliver","job":1}
-< {"refused":"Stale","unit":"E_SPLIT"}
-> {"op":"deliver","job":1}
-< {"refused":"Stale","unit":"E_SPLIT"}
-> {"op":"ask","kind":"faults","unit":"C"}
-< {"answer":"pending"}
-> {"op":"work","turns":9}
-< {"accepted":2}
-> {"op":"deliver","job":1}
-< {"refused":"NotPending"}
+{"op":"commit","changes":[{"put":"C","base":0,"text":"FUNCTION_BLOCK C FBS S:E_SPLIT; END_FBS END_FUNCTION_BLOCK"},{"put":"E_SPLIT","base":0,"text":"FUNCTION_BLOCK E_SPLIT EVENT_INPUT EI; END_EVENT EVENT_OUTPUT EO1; EO2; END_EVENT END_FUNCTION_BLOCK"}]} => {"commit":1}
+{"op":"take"} => {"job":1,"kind":"faults","unit":"C"}
+{"op":"ask","kind":"net","unit":"C"} => {"refused":"NoSuchKey"}
+{"op":"ask"} => {"refused":"BadRequest"}
+{"op":"commit","changes":[{"put":"E_SPLIT","base":1,"text":"FUNCTION_BLOCK E_SPLIT EVENT_INPUT EI; END_EVENT EVENT_OUTPUT EO1; EO2; END_EVENT END_FUNCTION_BLOCK"}]} => {"commit":2}
+{"op":"deliver","job":1} => {"refused":"Stale","unit":"E_SPLIT"}
+{"op":"deliver","job":1} => {"refused":"Stale","unit":"E_SPLIT"}
+{"op":"ask","kind":"faults","unit":"C"} => {"answer":"pending"}
+{"op":"work","turns":9} => {"accepted":2}
+{"op":"deliver","job":1} => {"refused":"NotPending"}
 "#;
 
 /// How many calls are recorded once so many of its lines are answered. The work takes three times, and delivers twice.
@@ -134,7 +126,7 @@ fn store_of(alloc: Global, fault: Fault, good: u64) -> Store {
 
 /// Request lines, the replies to them, and a workbench that has answered them.
 #[derive(Drop)]
-pub(crate) struct Talk<'a> {
+pub(crate) struct Conversation<'a> {
     pub(crate) requests: &'a str,
     pub(crate) replies: &'a str,
     pub(crate) whole: &'a Bench,
@@ -167,8 +159,14 @@ struct Cut {
     is_front: bool,
 }
 
-fn cut_on(alloc: Global, bench: &mut Bench, talk: &Talk<'_>, fault: Fault, good: u64) -> Cut {
-    let mut feed = FromRead::new(source_of(talk.requests.as_bytes(), fault, good));
+fn cut_on(
+    alloc: Global,
+    bench: &mut Bench,
+    conversation: &Conversation<'_>,
+    fault: Fault,
+    good: u64,
+) -> Cut {
+    let mut feed = FromRead::new(source_of(conversation.requests.as_bytes(), fault, good));
     let mut store = store_of(alloc, fault, good);
     let mut sink = IntoWrite::new(&mut store);
     let end = run_script(alloc, &mut feed, &mut sink, bench, 1, 1_000_000);
@@ -176,13 +174,18 @@ fn cut_on(alloc: Global, bench: &mut Bench, talk: &Talk<'_>, fault: Fault, good:
         end,
         output: store.held,
         calls: bench.len(),
-        is_front: is_front(bench, talk.whole),
+        is_front: is_front(bench, conversation.whole),
     }
 }
 
-fn cut_anew(alloc: Global, talk: &Talk<'_>, fault: Fault, good: u64) -> Result<Cut, Fail> {
+fn cut_anew(
+    alloc: Global,
+    conversation: &Conversation<'_>,
+    fault: Fault,
+    good: u64,
+) -> Result<Cut, Fail> {
     let mut bench = new_bench(alloc, 10, 1000)?;
-    Ok(cut_on(alloc, &mut bench, talk, fault, good))
+    Ok(cut_on(alloc, &mut bench, conversation, fault, good))
 }
 
 /// How many lines end in these bytes.
@@ -236,37 +239,45 @@ fn is_cut(cut: &Cut, output: &[u8], end: RunEnd, is_one_more: bool) -> bool {
 // Whether a run is right of which so many are good, or all.
 fn is_right(
     alloc: Global,
-    talk: &Talk<'_>,
+    conversation: &Conversation<'_>,
     fault: Fault,
     good: usize,
     are_all: bool,
 ) -> Result<bool, Fail> {
-    let replies = talk.replies.as_bytes();
-    let bytes = bytes_wanted(alloc, talk.replies, fault, good)?;
+    let replies = conversation.replies.as_bytes();
+    let bytes = bytes_wanted(alloc, conversation.replies, fault, good)?;
     let output = replies.get(..bytes).unwrap_or(replies);
     let (end, is_one_more) = if are_all {
         (RunEnd::End, false)
     } else {
         end_wanted(fault)
     };
-    let cut = cut_anew(alloc, talk, fault, good as u64)?;
+    let cut = cut_anew(alloc, conversation, fault, good as u64)?;
     Ok(is_cut(&cut, output, end, is_one_more))
 }
 
 // How many of its kind there are in the whole run. The last read finds the end.
-fn good_in_all(talk: &Talk<'_>, fault: Fault) -> usize {
+fn good_in_all(conversation: &Conversation<'_>, fault: Fault) -> usize {
     match fault {
-        Fault::Read(piece) => talk.requests.len().div_ceil(piece.max(1)).saturating_add(1),
-        Fault::Write(1) | Fault::EmptyWrite(1) => talk.replies.len(),
-        _ => lines_in(talk.replies.as_bytes()),
+        Fault::Read(piece) => conversation
+            .requests
+            .len()
+            .div_ceil(piece.max(1))
+            .saturating_add(1),
+        Fault::Write(1) | Fault::EmptyWrite(1) => conversation.replies.len(),
+        _ => lines_in(conversation.replies.as_bytes()),
     }
 }
 
 // The least number of good ones with which a run is wrong.
-fn first_wrong(alloc: Global, talk: &Talk<'_>, fault: Fault) -> Result<Option<usize>, Fail> {
-    let all = good_in_all(talk, fault);
+fn first_wrong(
+    alloc: Global,
+    conversation: &Conversation<'_>,
+    fault: Fault,
+) -> Result<Option<usize>, Fail> {
+    let all = good_in_all(conversation, fault);
     for good in 0..all.saturating_add(1) {
-        if !is_right(alloc, talk, fault, good, good == all)? {
+        if !is_right(alloc, conversation, fault, good, good == all)? {
             return Ok(Some(good));
         }
     }
@@ -281,12 +292,12 @@ fn wrong_beside(
     fault: Fault,
 ) -> Result<Option<usize>, Fail> {
     run_over(alloc, whole, 1, requests.as_bytes(), GOOD)?;
-    let talk = Talk {
+    let conversation = Conversation {
         requests,
         replies,
         whole,
     };
-    first_wrong(alloc, &talk, fault)
+    first_wrong(alloc, &conversation, fault)
 }
 
 fn wrong(alloc: Global, fault: Fault) -> Result<Option<usize>, Fail> {

@@ -1,5 +1,5 @@
 //! Jobs with what they read, results that come from another workbench, and calls that are made as requests.
-use crate::talk::{new_bench, talk};
+use crate::conversation::{converse, new_bench};
 use fb_library::Change;
 use fb_library::parse::Source;
 use fb_text::Name;
@@ -10,31 +10,26 @@ use std::process::Abort;
 use std::test::Fail;
 
 const PLAIN: &str = r#"
-> {"op":"commit","changes":[{"put":"A","base":0,"text":"FUNCTION_BLOCK A END_FUNCTION_BLOCK"}]}
-< {"commit":1}
+{"op":"commit","changes":[{"put":"A","base":0,"text":"FUNCTION_BLOCK A END_FUNCTION_BLOCK"}]} => {"commit":1}
 "#;
 
 const EMPTY: &str = r#"
-> {"op":"commit","changes":[{"put":"B","base":0,"text":""}]}
-< {"commit":1}
+{"op":"commit","changes":[{"put":"B","base":0,"text":""}]} => {"commit":1}
 "#;
 
 // Mentions as little as the plain text does.
 const OTHER: &str = r#"
-> {"op":"commit","changes":[{"put":"A","base":0,"text":"FUNCTION_BLOCK A EVENT_INPUT E; END_EVENT END_FUNCTION_BLOCK"}]}
-< {"commit":1}
+{"op":"commit","changes":[{"put":"A","base":0,"text":"FUNCTION_BLOCK A EVENT_INPUT E; END_EVENT END_FUNCTION_BLOCK"}]} => {"commit":1}
 "#;
 
 // Has another name in it.
 const RENAMED: &str = r#"
-> {"op":"commit","changes":[{"put":"A","base":0,"text":"FUNCTION_BLOCK B END_FUNCTION_BLOCK"}]}
-< {"commit":1}
+{"op":"commit","changes":[{"put":"A","base":0,"text":"FUNCTION_BLOCK B END_FUNCTION_BLOCK"}]} => {"commit":1}
 "#;
 
 // Rests on B.
 const USER: &str = r#"
-> {"op":"commit","changes":[{"put":"A","base":0,"text":"FUNCTION_BLOCK A FBS X:B; END_FBS END_FUNCTION_BLOCK"}]}
-< {"commit":1}
+{"op":"commit","changes":[{"put":"A","base":0,"text":"FUNCTION_BLOCK A FBS X:B; END_FBS END_FUNCTION_BLOCK"}]} => {"commit":1}
 "#;
 
 pub(crate) fn key_of(kind: Kind, unit: &str) -> Result<Key, Fail> {
@@ -49,7 +44,7 @@ fn faults_of_a() -> Result<Key, Fail> {
 // A new workbench after a conversation.
 pub(crate) fn bench_after(alloc: Global, text: &str) -> Result<Bench, Fail> {
     let mut bench = new_bench(alloc, 4, 100)?;
-    match talk(alloc, &mut bench, 1, text)? {
+    match converse(alloc, &mut bench, 1, text)? {
         None => Ok(bench),
         Some(_) => Err(Fail::from("another reply")),
     }
@@ -114,41 +109,35 @@ type Row = (
 const JOBS: &[Row] = &[
     (
         r#"
-> {"op":"commit","changes":[{"put":"A","base":0,"text":"FUNCTION_BLOCK A EVENT_INPUT"}]}
-< {"commit":1}
+{"op":"commit","changes":[{"put":"A","base":0,"text":"FUNCTION_BLOCK A EVENT_INPUT"}]} => {"commit":1}
 "#,
         Kind::Faults,
         "A",
         &[("A", 1)],
         r#"
-> {"op":"ask","kind":"faults","unit":"A"}
-< {"faults":[["SYNTAX",28,28]]}
+{"op":"ask","kind":"faults","unit":"A"} => {"faults":[["SYNTAX",28,28]]}
 "#,
     ),
     (
         r#"
-> {"op":"commit","changes":[{"put":"S","base":0,"text":"SUBAPPLICATION S FBS X:T; END_FBS END_SUBAPPLICATION"}]}
-< {"commit":1}
+{"op":"commit","changes":[{"put":"S","base":0,"text":"SUBAPPLICATION S FBS X:T; END_FBS END_SUBAPPLICATION"}]} => {"commit":1}
 "#,
         Kind::Net,
         "S",
         &[("S", 1), ("T", 0)],
         r#"
-> {"op":"ask","kind":"net","unit":"S"}
-< {"net":{"blocked":["S","T"]}}
+{"op":"ask","kind":"net","unit":"S"} => {"net":{"blocked":["S","T"]}}
 "#,
     ),
     (
         r#"
-> plant
-< {"commit":1}
+plant => {"commit":1}
 "#,
         Kind::Deploy,
         "Y",
         &[("SA", 1), ("TN", 1), ("Y", 1)],
         r#"
-> {"op":"ask","kind":"deploy","unit":"Y"}
-< {"deploy":{"cuts":[["event","APP.SUB.F.O","APP.SUB.G.I"]],"resources":[["D.R1",["CREATE FB APP.SUB.G TN","CREATE FB APP.SUB.H TN","WRITE APP.SUB.G.DT T#250ms","CREATE CONNECTION APP.SUB.G.O APP.SUB.H.I","START D.R1"]],["D.R2",["CREATE FB APP.SUB.F TN","START D.R2"]]]}}
+{"op":"ask","kind":"deploy","unit":"Y"} => {"deploy":{"cuts":[["event","APP.SUB.F.O","APP.SUB.G.I"]],"resources":[["D.R1",["CREATE FB APP.SUB.G TN","CREATE FB APP.SUB.H TN","WRITE APP.SUB.G.DT T#250ms","CREATE CONNECTION APP.SUB.G.O APP.SUB.H.I","START D.R1"]],["D.R2",["CREATE FB APP.SUB.F TN","START D.R2"]]]}}
 "#,
     ),
 ];
@@ -188,7 +177,7 @@ fn goes(
     reads: &[(&str, u64)],
     after: &str,
 ) -> Result<bool, Fail> {
-    Ok(is_worked(alloc, bench, key, reads)? && talk(alloc, bench, 1, after)?.is_none())
+    Ok(is_worked(alloc, bench, key, reads)? && converse(alloc, bench, 1, after)?.is_none())
 }
 
 // The same on a new workbench.
@@ -287,19 +276,15 @@ fn is_stale(alloc: Global, bench: &mut Bench, text: &str) -> Result<bool, Fail> 
 
 // Whether this caller says a conversation, after which the faults of A are known.
 fn is_known_after(alloc: Global, bench: &mut Bench, caller: u32, text: &str) -> Result<bool, Fail> {
-    let is_said = talk(alloc, bench, caller, text)?.is_none();
+    let is_said = converse(alloc, bench, caller, text)?.is_none();
     Ok(is_said && has_value(bench, faults_of_a()?))
 }
 
 const TAKEN_IN: &str = r#"
-> {"op":"take"}
-< {"job":1,"kind":"faults","unit":"A"}
-> {"op":"deliver","job":1}
-< {"delivered":"accepted"}
-> {"op":"deliver","job":1}
-< {"refused":"NotPending"}
-> {"op":"ask","kind":"faults","unit":"A"}
-< {"faults":[]}
+{"op":"take"} => {"job":1,"kind":"faults","unit":"A"}
+{"op":"deliver","job":1} => {"delivered":"accepted"}
+{"op":"deliver","job":1} => {"refused":"NotPending"}
+{"op":"ask","kind":"faults","unit":"A"} => {"faults":[]}
 "#;
 
 // Whether the results of other texts are stale.
@@ -406,8 +391,7 @@ fn are_made_anew(alloc: Global, bench: &mut Bench) -> Result<bool, Fail> {
 }
 
 const KNOWN: &str = r#"
-> {"op":"ask","kind":"faults","unit":"A"}
-< {"faults":[]}
+{"op":"ask","kind":"faults","unit":"A"} => {"faults":[]}
 "#;
 
 fn are_made_and_known(alloc: Global, bench: &mut Bench) -> Result<bool, Fail> {

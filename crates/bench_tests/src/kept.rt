@@ -1,6 +1,6 @@
 //! Which kept nets jobs take along.
+use crate::conversation::{converse, new_bench};
 use crate::jobs::{bench_after, is_accepted, job_for, key_of};
-use crate::talk::{new_bench, talk};
 use fb_wire::bench::{Bench, Taken};
 use fb_wire::jobs::{Job, Key, Kind};
 use std::alloc::Global;
@@ -9,32 +9,23 @@ use std::test::Fail;
 
 // An event through two borders to two blocks, with all values but that of the outermost net, which was committed once more.
 const NESTED: &str = r#"
-> {"op":"commit","changes":[{"put":"T","base":0,"text":"FUNCTION_BLOCK T EVENT_INPUT I; END_EVENT EVENT_OUTPUT O; END_EVENT END_FUNCTION_BLOCK"},{"put":"INNER","base":0,"text":"SUBAPPLICATION INNER EVENT_INPUT E; END_EVENT FBS F1:T; F2:T; END_FBS EVENT_CONNECTIONS E TO F1.I; E TO F2.I; END_CONNECTIONS END_SUBAPPLICATION"},{"put":"MID","base":0,"text":"SUBAPPLICATION MID EVENT_INPUT E; END_EVENT SUBAPPS K:INNER; END_SUBAPPS EVENT_CONNECTIONS E TO K.E; END_CONNECTIONS END_SUBAPPLICATION"},{"put":"OUTER","base":0,"text":"SUBAPPLICATION OUTER FBS G:T; END_FBS SUBAPPS N:MID; END_SUBAPPS EVENT_CONNECTIONS G.O TO N.E; END_CONNECTIONS END_SUBAPPLICATION"}]}
-< {"commit":1}
-> {"op":"work","turns":9}
-< {"accepted":7}
-> {"op":"commit","changes":[{"put":"OUTER","base":1,"text":"SUBAPPLICATION OUTER FBS G:T; END_FBS SUBAPPS N:MID; END_SUBAPPS EVENT_CONNECTIONS G.O TO N.E; END_CONNECTIONS END_SUBAPPLICATION"}]}
-< {"commit":2}
+{"op":"commit","changes":[{"put":"T","base":0,"text":"FUNCTION_BLOCK T EVENT_INPUT I; END_EVENT EVENT_OUTPUT O; END_EVENT END_FUNCTION_BLOCK"},{"put":"INNER","base":0,"text":"SUBAPPLICATION INNER EVENT_INPUT E; END_EVENT FBS F1:T; F2:T; END_FBS EVENT_CONNECTIONS E TO F1.I; E TO F2.I; END_CONNECTIONS END_SUBAPPLICATION"},{"put":"MID","base":0,"text":"SUBAPPLICATION MID EVENT_INPUT E; END_EVENT SUBAPPS K:INNER; END_SUBAPPS EVENT_CONNECTIONS E TO K.E; END_CONNECTIONS END_SUBAPPLICATION"},{"put":"OUTER","base":0,"text":"SUBAPPLICATION OUTER FBS G:T; END_FBS SUBAPPS N:MID; END_SUBAPPS EVENT_CONNECTIONS G.O TO N.E; END_CONNECTIONS END_SUBAPPLICATION"}]} => {"commit":1}
+{"op":"work","turns":9} => {"accepted":7}
+{"op":"commit","changes":[{"put":"OUTER","base":1,"text":"SUBAPPLICATION OUTER FBS G:T; END_FBS SUBAPPS N:MID; END_SUBAPPS EVENT_CONNECTIONS G.O TO N.E; END_CONNECTIONS END_SUBAPPLICATION"}]} => {"commit":2}
 "#;
 
 // What is said of the outermost net; then the type changes, and the three faults that it reaches are found.
 const CHANGED: &str = r#"
-> {"op":"ask","kind":"net","unit":"OUTER"}
-< {"net":{"blocks":[["G","T"],["N.K.F1","T"],["N.K.F2","T"]],"borders":[],"links":[["event","G.O","N.K.F1.I"],["event","G.O","N.K.F2.I"]]}}
-> {"op":"commit","changes":[{"put":"T","base":1,"text":"FUNCTION_BLOCK T EVENT_INPUT I; END_EVENT EVENT_OUTPUT O; END_EVENT END_FUNCTION_BLOCK"}]}
-< {"commit":3}
-> {"op":"work","turns":3}
-< {"accepted":3}
+{"op":"ask","kind":"net","unit":"OUTER"} => {"net":{"blocks":[["G","T"],["N.K.F1","T"],["N.K.F2","T"]],"borders":[],"links":[["event","G.O","N.K.F1.I"],["event","G.O","N.K.F2.I"]]}}
+{"op":"commit","changes":[{"put":"T","base":1,"text":"FUNCTION_BLOCK T EVENT_INPUT I; END_EVENT EVENT_OUTPUT O; END_EVENT END_FUNCTION_BLOCK"}]} => {"commit":3}
+{"op":"work","turns":3} => {"accepted":3}
 "#;
 
 // A system over four subapplications, of which one rests on another, and one block of its own; then its mapping changes.
 const PLANT: &str = r#"
-> {"op":"commit","changes":[{"put":"T","base":0,"text":"FUNCTION_BLOCK T END_FUNCTION_BLOCK"},{"put":"S1","base":0,"text":"SUBAPPLICATION S1 FBS X:T; END_FBS END_SUBAPPLICATION"},{"put":"S2","base":0,"text":"SUBAPPLICATION S2 FBS X:T; END_FBS END_SUBAPPLICATION"},{"put":"S3","base":0,"text":"SUBAPPLICATION S3 SUBAPPS X:S1; END_SUBAPPS END_SUBAPPLICATION"},{"put":"S4","base":0,"text":"SUBAPPLICATION S4 FBS X:T; END_FBS END_SUBAPPLICATION"},{"put":"Y","base":0,"text":"SYSTEM Y APPLICATION A FBS B:T; END_FBS SUBAPPS P:S2; Q:S3; R:S4; END_SUBAPPS END_APPLICATION DEVICE D:DT RESOURCE R1:RT END_RESOURCE END_DEVICE MAPPINGS A ON D.R1; END_MAPPINGS END_SYSTEM"}]}
-< {"commit":1}
-> {"op":"work","turns":20}
-< {"accepted":12}
-> {"op":"commit","changes":[{"put":"Y","base":1,"text":"SYSTEM Y APPLICATION A FBS B:T; END_FBS SUBAPPS P:S2; Q:S3; R:S4; END_SUBAPPS END_APPLICATION DEVICE D:DT RESOURCE R2:RT END_RESOURCE END_DEVICE MAPPINGS A ON D.R2; END_MAPPINGS END_SYSTEM"}]}
-< {"commit":2}
+{"op":"commit","changes":[{"put":"T","base":0,"text":"FUNCTION_BLOCK T END_FUNCTION_BLOCK"},{"put":"S1","base":0,"text":"SUBAPPLICATION S1 FBS X:T; END_FBS END_SUBAPPLICATION"},{"put":"S2","base":0,"text":"SUBAPPLICATION S2 FBS X:T; END_FBS END_SUBAPPLICATION"},{"put":"S3","base":0,"text":"SUBAPPLICATION S3 SUBAPPS X:S1; END_SUBAPPS END_SUBAPPLICATION"},{"put":"S4","base":0,"text":"SUBAPPLICATION S4 FBS X:T; END_FBS END_SUBAPPLICATION"},{"put":"Y","base":0,"text":"SYSTEM Y APPLICATION A FBS B:T; END_FBS SUBAPPS P:S2; Q:S3; R:S4; END_SUBAPPS END_APPLICATION DEVICE D:DT RESOURCE R1:RT END_RESOURCE END_DEVICE MAPPINGS A ON D.R1; END_MAPPINGS END_SYSTEM"}]} => {"commit":1}
+{"op":"work","turns":20} => {"accepted":12}
+{"op":"commit","changes":[{"put":"Y","base":1,"text":"SYSTEM Y APPLICATION A FBS B:T; END_FBS SUBAPPS P:S2; Q:S3; R:S4; END_SUBAPPS END_APPLICATION DEVICE D:DT RESOURCE R2:RT END_RESOURCE END_DEVICE MAPPINGS A ON D.R2; END_MAPPINGS END_SYSTEM"}]} => {"commit":2}
 "#;
 
 // Whether a job takes the nets of these units along, in this order, and no others.
@@ -76,7 +67,7 @@ fn are_kept(alloc: Global, bench: &mut Bench) -> Result<bool, Fail> {
     let faults = key_of(Kind::Faults, "OUTER")?;
     let is_judged = is_worked_with(alloc, bench, faults, &[])?;
     let is_worked = is_worked_with(alloc, bench, net_of("OUTER")?, &["INNER", "MID"])?;
-    let is_said = talk(alloc, bench, 1, CHANGED)?.is_none();
+    let is_said = converse(alloc, bench, 1, CHANGED)?.is_none();
     let are_alone = is_next_alone(bench, net_of("INNER")?)?
         && is_next_alone(bench, net_of("MID")?)?;
     Ok(is_judged && is_worked && is_said && are_alone)
@@ -105,7 +96,7 @@ fn are_planned(alloc: Global, bench: &mut Bench) -> Result<bool, Fail> {
 
 fn are_planned_after(alloc: Global, text: &str) -> Result<bool, Fail> {
     let mut bench = new_bench(alloc, 8, 100)?;
-    let is_said = talk(alloc, &mut bench, 1, text)?.is_none();
+    let is_said = converse(alloc, &mut bench, 1, text)?.is_none();
     Ok(is_said && are_planned(alloc, &mut bench)?)
 }
 
@@ -117,22 +108,16 @@ fn plans_take_subapplications_along(rt: HostRuntime) -> Result<(), Fail> {
 
 // A subapplication with one that it holds, of which no value is there yet.
 const FOUND: &str = r#"
-> {"op":"commit","changes":[{"put":"T","base":0,"text":"FUNCTION_BLOCK T END_FUNCTION_BLOCK"},{"put":"A","base":0,"text":"SUBAPPLICATION A SUBAPPS X:B; END_SUBAPPS END_SUBAPPLICATION"},{"put":"B","base":0,"text":"SUBAPPLICATION B FBS X:T; END_FBS END_SUBAPPLICATION"}]}
-< {"commit":1}
-> {"op":"work","turns":3}
-< {"accepted":3}
+{"op":"commit","changes":[{"put":"T","base":0,"text":"FUNCTION_BLOCK T END_FUNCTION_BLOCK"},{"put":"A","base":0,"text":"SUBAPPLICATION A SUBAPPS X:B; END_SUBAPPS END_SUBAPPLICATION"},{"put":"B","base":0,"text":"SUBAPPLICATION B FBS X:T; END_FBS END_SUBAPPLICATION"}]} => {"commit":1}
+{"op":"work","turns":3} => {"accepted":3}
 "#;
 
 // A net that was found on the way to another is still pending, is no hint, and is asked for and taken as ever.
 const STILL: &str = r#"
-> {"op":"ask","kind":"net","unit":"B"}
-< {"answer":"pending"}
-> {"op":"work","turns":9}
-< {"accepted":1}
-> {"op":"ask","kind":"net","unit":"B"}
-< {"net":{"blocks":[["X","T"]],"borders":[],"links":[]}}
-> {"op":"ask","kind":"net","unit":"A"}
-< {"net":{"blocks":[["X.X","T"]],"borders":[],"links":[]}}
+{"op":"ask","kind":"net","unit":"B"} => {"answer":"pending"}
+{"op":"work","turns":9} => {"accepted":1}
+{"op":"ask","kind":"net","unit":"B"} => {"net":{"blocks":[["X","T"]],"borders":[],"links":[]}}
+{"op":"ask","kind":"net","unit":"A"} => {"net":{"blocks":[["X.X","T"]],"borders":[],"links":[]}}
 "#;
 
 // Whether the result of a job for the outer net has found the net of the inner one, which stays pending.
@@ -141,7 +126,7 @@ fn is_found(alloc: Global, bench: &mut Bench) -> Result<bool, Fail> {
     let finished = job.run(alloc)?;
     let found = finished.found();
     let is_one = found.len() == 1 && found[0].unit.as_str() == "B";
-    Ok(is_one && is_accepted(bench, &finished)? && talk(alloc, bench, 1, STILL)?.is_none())
+    Ok(is_one && is_accepted(bench, &finished)? && converse(alloc, bench, 1, STILL)?.is_none())
 }
 
 fn is_found_after(alloc: Global, text: &str) -> Result<bool, Fail> {

@@ -7,6 +7,8 @@ mod calls;
 #[cfg(test)]
 mod checkpoints;
 #[cfg(test)]
+mod conversation;
+#[cfg(test)]
 mod cuts;
 #[cfg(test)]
 mod jobs;
@@ -28,7 +30,5 @@ mod refused;
 mod streams;
 #[cfg(test)]
 mod structures;
-#[cfg(test)]
-mod talk;
 #[cfg(test)]
 mod units;

@@ -1,6 +1,6 @@
 //! How many owners a text and a value have before and after each call: what is kept of both, and what is handed out, is shared and never copied.
+use crate::conversation::new_bench;
 use crate::jobs::key_of;
-use crate::talk::new_bench;
 use fb_library::Change;
 use fb_library::parse::Source;
 use fb_text::Name;

@@ -1,164 +1,93 @@
 //! Lines that are no request or that are refused, by their form, by the limits or by what there is.
-use crate::talk::{Limited, all_right, compare, compare_limited, talk_alone, talk_within};
+use crate::conversation::{all_right, compare, converse_alone, converse_within};
 use std::alloc::{AllocError, Global};
 use std::test::Fail;
 
+const CONVERSATIONS: &str = r#"
+== no lines
+
+== typing errors
 // Typing errors, and what is refused for another reason.
-const TYPING_ERRORS: &str = r#"
-> ask faults A
-< {"refused":"BadRequest"}
-> {"op":"ask","kind":"faults","unit":"A"
-< {"refused":"BadRequest"}
-> {"op":"ask","kind":"faults","unit":"A"},
-< {"refused":"BadRequest"}
-> {'op':'ask','kind':'faults','unit':'A'}
-< {"refused":"BadRequest"}
-> {"op":"aks","kind":"faults","unit":"A"}
-< {"refused":"BadRequest"}
-> {"op":"ask","kind":"Faults","unit":"A"}
-< {"refused":"BadRequest"}
-> {"op":"ask","kind":"faults","units":"A"}
-< {"refused":"BadRequest"}
-> {"op":"work"}
-< {"refused":"BadRequest"}
-> {"op":"work","turns":"5"}
-< {"refused":"BadRequest"}
-> {"op":"work","turns":5.0}
-< {"refused":"BadRequest"}
-> {"op":"work","turns":1001}
-< {"refused":"BadRequest"}
-> {"op":"commit","changes":{"put":"A","base":0,"text":""}}
-< {"refused":"BadRequest"}
-> {"op":"ask","kind":"faults","unit":"A B"}
-< {"refused":"BadName"}
-> {"op":"deliver","job":0}
-< {"refused":"NoSuchJob"}
+ask faults A => {"refused":"BadRequest"}
+{"op":"ask","kind":"faults","unit":"A" => {"refused":"BadRequest"}
+{"op":"ask","kind":"faults","unit":"A"}, => {"refused":"BadRequest"}
+{'op':'ask','kind':'faults','unit':'A'} => {"refused":"BadRequest"}
+{"op":"aks","kind":"faults","unit":"A"} => {"refused":"BadRequest"}
+{"op":"ask","kind":"Faults","unit":"A"} => {"refused":"BadRequest"}
+{"op":"ask","kind":"faults","units":"A"} => {"refused":"BadRequest"}
+{"op":"work"} => {"refused":"BadRequest"}
+{"op":"work","turns":"5"} => {"refused":"BadRequest"}
+{"op":"work","turns":5.0} => {"refused":"BadRequest"}
+{"op":"work","turns":1001} => {"refused":"BadRequest"}
+{"op":"commit","changes":{"put":"A","base":0,"text":""}} => {"refused":"BadRequest"}
+{"op":"ask","kind":"faults","unit":"A B"} => {"refused":"BadName"}
+{"op":"deliver","job":0} => {"refused":"NoSuchJob"}
 // What is not asked for is passed over.
-> {"why":"?","unit":"A","kind":"faults","op":"ask"}
-< {"refused":"NoSuchKey"}
-"#;
+{"why":"?","unit":"A","kind":"faults","op":"ask"} => {"refused":"NoSuchKey"}
 
+== nested lists
 // A value of 100 nested lists is read, one of 200 is not.
-const NESTED_LISTS: &str = r#"
-> {"op":"take","x":[[[[[[[[[[[[[[[[[[[[[[[[[[[[[[[[[[[[[[[[[[[[[[[[[[[[[[[[[[[[[[[[[[[[[[[[[[[[[[[[[[[[[[[[[[[[[[[[[[[[]]]]]]]]]]]]]]]]]]]]]]]]]]]]]]]]]]]]]]]]]]]]]]]]]]]]]]]]]]]]]]]]]]]]]]]]]]]]]]]]]]]]]]]]]]]]]]]]]]]]}
-< {"job":0}
-> {"op":"take","x":[[[[[[[[[[[[[[[[[[[[[[[[[[[[[[[[[[[[[[[[[[[[[[[[[[[[[[[[[[[[[[[[[[[[[[[[[[[[[[[[[[[[[[[[[[[[[[[[[[[[[[[[[[[[[[[[[[[[[[[[[[[[[[[[[[[[[[[[[[[[[[[[[[[[[[[[[[[[[[[[[[[[[[[[[[[[[[[[[[[[[[[[[[[[[[[[[[[[[[[[]]]]]]]]]]]]]]]]]]]]]]]]]]]]]]]]]]]]]]]]]]]]]]]]]]]]]]]]]]]]]]]]]]]]]]]]]]]]]]]]]]]]]]]]]]]]]]]]]]]]]]]]]]]]]]]]]]]]]]]]]]]]]]]]]]]]]]]]]]]]]]]]]]]]]]]]]]]]]]]]]]]]]]]]]]]]]]]]]]]]]]]]]]]]]]]]]]]]]]]]}
-< {"refused":"BadRequest"}
-"#;
+{"op":"take","x":[[[[[[[[[[[[[[[[[[[[[[[[[[[[[[[[[[[[[[[[[[[[[[[[[[[[[[[[[[[[[[[[[[[[[[[[[[[[[[[[[[[[[[[[[[[[[[[[[[[[]]]]]]]]]]]]]]]]]]]]]]]]]]]]]]]]]]]]]]]]]]]]]]]]]]]]]]]]]]]]]]]]]]]]]]]]]]]]]]]]]]]]]]]]]]]]]]]]]]]]} => {"job":0}
+{"op":"take","x":[[[[[[[[[[[[[[[[[[[[[[[[[[[[[[[[[[[[[[[[[[[[[[[[[[[[[[[[[[[[[[[[[[[[[[[[[[[[[[[[[[[[[[[[[[[[[[[[[[[[[[[[[[[[[[[[[[[[[[[[[[[[[[[[[[[[[[[[[[[[[[[[[[[[[[[[[[[[[[[[[[[[[[[[[[[[[[[[[[[[[[[[[[[[[[[[[[[[[[[[]]]]]]]]]]]]]]]]]]]]]]]]]]]]]]]]]]]]]]]]]]]]]]]]]]]]]]]]]]]]]]]]]]]]]]]]]]]]]]]]]]]]]]]]]]]]]]]]]]]]]]]]]]]]]]]]]]]]]]]]]]]]]]]]]]]]]]]]]]]]]]]]]]]]]]]]]]]]]]]]]]]]]]]]]]]]]]]]]]]]]]]]]]]]]]]]]]]]]]]]} => {"refused":"BadRequest"}
 
+== refused changes
 // A change with both or none of `put` and `remove`, also where one is null, and what comes first of two refusals.
-const REFUSED_CHANGES: &str = r#"
-> {"op":"commit","changes":[{"base":0,"text":""}]}
-< {"refused":"BadRequest"}
-> {"op":"commit","changes":[{"put":"A","base":0,"text":"","remove":null}]}
-< {"refused":"BadRequest"}
-> {"op":"commit","changes":[{"remove":"A","put":null,"base":0}]}
-< {"refused":"BadRequest"}
-> {"op":"commit","changes":[{"remove":"9","base":0},{"remove":"A","base":-1}]}
-< {"refused":"BadRequest"}
-> {"op":"commit","changes":[{"remove":"A","base":0},{"remove":"","base":0}]}
-< {"refused":"BadName"}
-> {"op":"commit","changes":[{"remove":"a","base":7}]}
-< {"refused":"NoSuchUnit","unit":"A"}
-> {"op":"ask","kind":"fault","unit":"9"}
-< {"refused":"BadRequest"}
-> {"op":"ask","kind":"net","unit":"9"}
-< {"refused":"BadName"}
-> {"op":"ask","kind":"deploy","unit":"A"}
-< {"refused":"NoSuchKey"}
-"#;
+{"op":"commit","changes":[{"base":0,"text":""}]} => {"refused":"BadRequest"}
+{"op":"commit","changes":[{"put":"A","base":0,"text":"","remove":null}]} => {"refused":"BadRequest"}
+{"op":"commit","changes":[{"remove":"A","put":null,"base":0}]} => {"refused":"BadRequest"}
+{"op":"commit","changes":[{"remove":"9","base":0},{"remove":"A","base":-1}]} => {"refused":"BadRequest"}
+{"op":"commit","changes":[{"remove":"A","base":0},{"remove":"","base":0}]} => {"refused":"BadName"}
+{"op":"commit","changes":[{"remove":"a","base":7}]} => {"refused":"NoSuchUnit","unit":"A"}
+{"op":"ask","kind":"fault","unit":"9"} => {"refused":"BadRequest"}
+{"op":"ask","kind":"net","unit":"9"} => {"refused":"BadName"}
+{"op":"ask","kind":"deploy","unit":"A"} => {"refused":"NoSuchKey"}
 
+== a refused commit
 // A commit of three changes of which the last is refused.
-const REFUSED_COMMIT: &str = r#"
-> {"op":"commit","changes":[{"put":"A","base":0,"text":"FUNCTION_BLOCK A END_FUNCTION_BLOCK"}]}
-< {"commit":1}
-> {"op":"commit","changes":[{"put":"B","base":0,"text":"FUNCTION_BLOCK B END_FUNCTION_BLOCK"},{"put":"C","base":0,"text":"FUNCTION_BLOCK C FBS S:E_SPLIT; END_FBS END_FUNCTION_BLOCK"},{"put":"A","base":7,"text":"FUNCTION_BLOCK A END_FUNCTION_BLOCK"}]}
-< {"current":1,"refused":"StaleBase","unit":"A"}
-> {"op":"ask","kind":"faults","unit":"B"}
-< {"refused":"NoSuchKey"}
-> {"op":"ask","kind":"faults","unit":"A"}
-< {"answer":"pending"}
-"#;
+{"op":"commit","changes":[{"put":"A","base":0,"text":"FUNCTION_BLOCK A END_FUNCTION_BLOCK"}]} => {"commit":1}
+{"op":"commit","changes":[{"put":"B","base":0,"text":"FUNCTION_BLOCK B END_FUNCTION_BLOCK"},{"put":"C","base":0,"text":"FUNCTION_BLOCK C FBS S:E_SPLIT; END_FBS END_FUNCTION_BLOCK"},{"put":"A","base":7,"text":"FUNCTION_BLOCK A END_FUNCTION_BLOCK"}]} => {"current":1,"refused":"StaleBase","unit":"A"}
+{"op":"ask","kind":"faults","unit":"B"} => {"refused":"NoSuchKey"}
+{"op":"ask","kind":"faults","unit":"A"} => {"answer":"pending"}
 
-const REFUSED_LINES: &str = r#"
-> []
-< {"refused":"BadRequest"}
-> {"op":"work","turns":0}
-< {"refused":"BadRequest"}
-> {"op":"commit","changes":[{"put":"9A","base":0,"text":"FUNCTION_BLOCK A END_FUNCTION_BLOCK"}]}
-< {"refused":"BadName"}
-> {"op":"deliver","job":9}
-< {"refused":"NoSuchJob"}
-> {"op":"commit","changes":[]}
-< {"refused":"NoChange"}
-> {"op":"commit","changes":[{"remove":"A","base":0},{"remove":"A","base":0},{"remove":"A","base":0},{"remove":"A","base":0},{"remove":"A","base":0},{"remove":"A","base":0},{"remove":"A","base":0},{"remove":"A","base":0},{"remove":"A","base":0},{"remove":"A","base":0},{"remove":"A","base":0},{"remove":"A","base":0},{"remove":"A","base":0},{"remove":"A","base":0},{"remove":"A","base":0},{"remove":"A","base":0},{"remove":"A","base":0}]}
-< {"refused":"TooManyChanges"}
-> {"op":"commit","changes":[{"put":"a","base":0,"text":"FUNCTION_BLOCK A END_FUNCTION_BLOCK"},{"put":"A","base":0,"text":"FUNCTION_BLOCK A END_FUNCTION_BLOCK"}]}
-< {"refused":"SameUnitTwice","unit":"A"}
-> {"op":"take"}
-< {"job":0}
-> {"op":"give_back","kind":"faults","unit":"A"}
-< {"returned":false}
-> {"op":"take"}
-< {"refused":"HistoryFull"}
-"#;
+== refused lines / 1024 / 5
+[] => {"refused":"BadRequest"}
+{"op":"work","turns":0} => {"refused":"BadRequest"}
+{"op":"commit","changes":[{"put":"9A","base":0,"text":"FUNCTION_BLOCK A END_FUNCTION_BLOCK"}]} => {"refused":"BadName"}
+{"op":"deliver","job":9} => {"refused":"NoSuchJob"}
+{"op":"commit","changes":[]} => {"refused":"NoChange"}
+{"op":"commit","changes":[{"remove":"A","base":0},{"remove":"A","base":0},{"remove":"A","base":0},{"remove":"A","base":0},{"remove":"A","base":0},{"remove":"A","base":0},{"remove":"A","base":0},{"remove":"A","base":0},{"remove":"A","base":0},{"remove":"A","base":0},{"remove":"A","base":0},{"remove":"A","base":0},{"remove":"A","base":0},{"remove":"A","base":0},{"remove":"A","base":0},{"remove":"A","base":0},{"remove":"A","base":0}]} => {"refused":"TooManyChanges"}
+{"op":"commit","changes":[{"put":"a","base":0,"text":"FUNCTION_BLOCK A END_FUNCTION_BLOCK"},{"put":"A","base":0,"text":"FUNCTION_BLOCK A END_FUNCTION_BLOCK"}]} => {"refused":"SameUnitTwice","unit":"A"}
+{"op":"take"} => {"job":0}
+{"op":"give_back","kind":"faults","unit":"A"} => {"returned":false}
+{"op":"take"} => {"refused":"HistoryFull"}
 
-const FULL_HISTORY: &str = r#"
-> {"op":"ask","kind":"faults","unit":"A"}
-< {"refused":"NoSuchKey"}
-> {"op":"ask","kind":"faults","unit":"A"}
-< {"refused":"NoSuchKey"}
-> {"op":"ask","kind":"faults","unit":"A"}
-< {"refused":"NoSuchKey"}
-> {"op":"ask","kind":"faults","unit":"A"}
-< {"refused":"HistoryFull"}
-> {"op":"work","turns":1}
-< {"accepted":0,"refused":"HistoryFull"}
-"#;
+== a full history / 1024 / 3
+{"op":"ask","kind":"faults","unit":"A"} => {"refused":"NoSuchKey"}
+{"op":"ask","kind":"faults","unit":"A"} => {"refused":"NoSuchKey"}
+{"op":"ask","kind":"faults","unit":"A"} => {"refused":"NoSuchKey"}
+{"op":"ask","kind":"faults","unit":"A"} => {"refused":"HistoryFull"}
+{"op":"work","turns":1} => {"accepted":0,"refused":"HistoryFull"}
 
+== a full library / 1 / 100000
 // As many units as the words allow.
-const FULL_LIBRARY: &str = r#"
-> {"op":"commit","changes":[{"put":"A","base":0,"text":"FUNCTION_BLOCK A END_FUNCTION_BLOCK"}]}
-< {"commit":1}
-> {"op":"commit","changes":[{"put":"B","base":0,"text":"FUNCTION_BLOCK B END_FUNCTION_BLOCK"}]}
-< {"refused":"TooManyUnits"}
-> {"op":"commit","changes":[{"put":"B","base":0,"text":"FUNCTION_BLOCK B END_FUNCTION_BLOCK"},{"remove":"A","base":1}]}
-< {"commit":2}
+{"op":"commit","changes":[{"put":"A","base":0,"text":"FUNCTION_BLOCK A END_FUNCTION_BLOCK"}]} => {"commit":1}
+{"op":"commit","changes":[{"put":"B","base":0,"text":"FUNCTION_BLOCK B END_FUNCTION_BLOCK"}]} => {"refused":"TooManyUnits"}
+{"op":"commit","changes":[{"put":"B","base":0,"text":"FUNCTION_BLOCK B END_FUNCTION_BLOCK"},{"remove":"A","base":1}]} => {"commit":2}
 "#;
-
-const TALKS: &[(&str, &str)] = &[
-    ("no lines", ""),
-    ("typing errors", TYPING_ERRORS),
-    ("nested lists", NESTED_LISTS),
-    ("refused changes", REFUSED_CHANGES),
-    ("a refused commit", REFUSED_COMMIT),
-];
-
-// With the most units and the most records.
-const LIMITED: &[Limited] = &[
-    ("refused lines", 1024, 5, REFUSED_LINES),
-    ("a full history", 1024, 3, FULL_HISTORY),
-    ("a full library", 1, 100_000, FULL_LIBRARY),
-];
 
 #[test]
-fn talks(rt: HostRuntime) -> Result<(), Fail> {
-    compare_limited(&rt, rt.alloc(), LIMITED)?;
-    compare(&rt, rt.alloc(), TALKS)
+fn conversations(rt: HostRuntime) -> Result<(), Fail> {
+    compare(&rt, rt.alloc(), CONVERSATIONS)
 }
 
 // A conversation with a text of these spaces, and one of a space more.
 fn with_spaces(alloc: Global, spaces: &str) -> Result<String, AllocError> {
     format!(in alloc;
         r#"
-> {{"op":"commit","changes":[{{"put":"A","base":0,"text":"{0}"}}]}}
-< {{"commit":1}}
-> {{"op":"work","turns":1}}
-< {{"accepted":1}}
-> {{"op":"ask","kind":"faults","unit":"A"}}
-< {{"faults":[["SYNTAX",65536,65536]]}}
-> {{"op":"commit","changes":[{{"put":"A","base":1,"text":"{0} "}},{{"remove":"9","base":0}}]}}
-< {{"refused":"TextTooLong"}}
+{{"op":"commit","changes":[{{"put":"A","base":0,"text":"{0}"}}]}} => {{"commit":1}}
+{{"op":"work","turns":1}} => {{"accepted":1}}
+{{"op":"ask","kind":"faults","unit":"A"}} => {{"faults":[["SYNTAX",65536,65536]]}}
+{{"op":"commit","changes":[{{"put":"A","base":1,"text":"{0} "}},{{"remove":"9","base":0}}]}} => {{"refused":"TextTooLong"}}
 "#,
         spaces
     )
@@ -169,7 +98,11 @@ fn with_spaces(alloc: Global, spaces: &str) -> Result<String, AllocError> {
 fn long_texts(rt: HostRuntime) -> Result<(), Fail> {
     let spaces = " ".repeat(rt.alloc(), 65_536)?;
     let text = with_spaces(rt.alloc(), spaces.as_str())?;
-    all_right(&rt, talk_alone(rt.alloc(), text.as_str())?, "long texts");
+    all_right(
+        &rt,
+        converse_alone(rt.alloc(), text.as_str())?,
+        "long texts",
+    );
     Ok(())
 }
 
@@ -179,10 +112,8 @@ fn say_jobs(text: &mut String) -> Result<(), AllocError> {
         write!(
             text,
             r#"
-> {{"op":"take"}}
-< {{"job":{job},"kind":"faults","unit":"A"}}
-> {{"op":"give_back","kind":"faults","unit":"A"}}
-< {{"returned":true}}
+{{"op":"take"}} => {{"job":{job},"kind":"faults","unit":"A"}}
+{{"op":"give_back","kind":"faults","unit":"A"}} => {{"returned":true}}
 "#
         )?;
     }
@@ -194,17 +125,14 @@ fn jobs(alloc: Global) -> Result<String, AllocError> {
     let mut text = String::from_str(
         alloc,
         r#"
-> {"op":"commit","changes":[{"put":"A","base":0,"text":"FUNCTION_BLOCK A END_FUNCTION_BLOCK"}]}
-< {"commit":1}
+{"op":"commit","changes":[{"put":"A","base":0,"text":"FUNCTION_BLOCK A END_FUNCTION_BLOCK"}]} => {"commit":1}
 "#,
     )?;
     say_jobs(&mut text)?;
     text.push_str(
         r#"
-> {"op":"take"}
-< {"refused":"TooManyJobs"}
-> {"op":"ask","kind":"faults","unit":"B"}
-< {"refused":"HistoryFull"}
+{"op":"take"} => {"refused":"TooManyJobs"}
+{"op":"ask","kind":"faults","unit":"B"} => {"refused":"HistoryFull"}
 "#,
     )?;
     Ok(text)
@@ -214,7 +142,7 @@ fn jobs(alloc: Global) -> Result<String, AllocError> {
 #[test]
 fn too_many_jobs(rt: HostRuntime) -> Result<(), Fail> {
     let text = jobs(rt.alloc())?;
-    let wrong = talk_within(rt.alloc(), 1024, 129, text.as_str())?;
+    let wrong = converse_within(rt.alloc(), 1024, 129, text.as_str())?;
     all_right(&rt, wrong, "too many jobs");
     Ok(())
 }

@@ -1,7 +1,7 @@
 //! Conversations of which each allocation is refused in turn. One that ends for want of memory has made the calls of the lines that it answered, and none,
 //! some or all of one more. Where no line names a job of another line, it goes on with the lines that were not answered.
-use crate::cuts::{LATE, LATE_CALLS, Talk, behind, is_front, lines_in};
-use crate::talk::{ALWAYS, GOOD, new_bench, replies_in, requests_in, run_over, said};
+use crate::conversation::{ALWAYS, GOOD, new_bench, replies_in, requests_in, run_over, said};
+use crate::cuts::{Conversation, LATE, LATE_CALLS, behind, is_front, lines_in};
 use fb_wire::bench::Bench;
 use fb_wire::{IntoWrite, MemoryFeed, RunEnd, run_script};
 use refusing::{Refusals, refuse, report, was_refused};
@@ -10,24 +10,15 @@ use std::test::Fail;
 
 // No line names a job of another line, so that it can be said again in another run.
 const LINES: &str = r#"
-> {"op":"commit","changes":[{"put":"C","base":0,"text":"FUNCTION_BLOCK C FBS S:E_SPLIT; END_FBS END_FUNCTION_BLOCK"},{"put":"E_SPLIT","base":0,"text":"FUNCTION_BLOCK E_SPLIT EVENT_INPUT EI; END_EVENT EVENT_OUTPUT EO1; EO2; END_EVENT END_FUNCTION_BLOCK"}]}
-< {"commit":1}
-> {"op":"take"}
-< {"job":1,"kind":"faults","unit":"C"}
-> {"op":"give_back","kind":"faults","unit":"C"}
-< {"returned":true}
-> {"op":"ask","kind":"net","unit":"C"}
-< {"refused":"NoSuchKey"}
-> {"op":"ask"}
-< {"refused":"BadRequest"}
-> {"op":"work","turns":1}
-< {"accepted":1}
-> {"op":"ask","kind":"faults","unit":"C"}
-< {"faults":[]}
-> {"op":"ask","kind":"faults","unit":"E_SPLIT"}
-< {"answer":"pending"}
-> {"op":"commit","changes":[{"put":"E_SPLIT","base":0,"text":""}]}
-< {"current":1,"refused":"StaleBase","unit":"E_SPLIT"}
+{"op":"commit","changes":[{"put":"C","base":0,"text":"FUNCTION_BLOCK C FBS S:E_SPLIT; END_FBS END_FUNCTION_BLOCK"},{"put":"E_SPLIT","base":0,"text":"FUNCTION_BLOCK E_SPLIT EVENT_INPUT EI; END_EVENT EVENT_OUTPUT EO1; EO2; END_EVENT END_FUNCTION_BLOCK"}]} => {"commit":1}
+{"op":"take"} => {"job":1,"kind":"faults","unit":"C"}
+{"op":"give_back","kind":"faults","unit":"C"} => {"returned":true}
+{"op":"ask","kind":"net","unit":"C"} => {"refused":"NoSuchKey"}
+{"op":"ask"} => {"refused":"BadRequest"}
+{"op":"work","turns":1} => {"accepted":1}
+{"op":"ask","kind":"faults","unit":"C"} => {"faults":[]}
+{"op":"ask","kind":"faults","unit":"E_SPLIT"} => {"answer":"pending"}
+{"op":"commit","changes":[{"put":"E_SPLIT","base":0,"text":""}]} => {"current":1,"refused":"StaleBase","unit":"E_SPLIT"}
 "#;
 
 // How many calls are recorded once so many of the lines are answered. The work takes and delivers.
@@ -75,7 +66,7 @@ fn is_given_back(alloc: Global, bench: &mut Bench) -> Result<bool, Fail> {
 fn goes_on(
     alloc: Global,
     bench: &mut Bench,
-    talk: &Talk<'_>,
+    conversation: &Conversation<'_>,
     answered: usize,
 ) -> Result<bool, Fail> {
     let made = lines_made(answered, bench.len());
@@ -83,15 +74,15 @@ fn goes_on(
         return Ok(false);
     }
     let lines = made.unwrap_or(answered);
-    let rest = said(alloc, bench, 1, behind(talk.requests, lines))?;
-    Ok(rest.as_str() == behind(talk.replies, lines))
+    let rest = said(alloc, bench, 1, behind(conversation.requests, lines))?;
+    Ok(rest.as_str() == behind(conversation.replies, lines))
 }
 
 // Whether a run wrote whole lines from the front of the replies, and made the first calls of the whole run.
-fn is_front_of(bench: &Bench, talk: &Talk<'_>, output: &[u8]) -> bool {
+fn is_front_of(bench: &Bench, conversation: &Conversation<'_>, output: &[u8]) -> bool {
     let is_whole = output.is_empty() || output.last() == Some(&b'\n');
-    let is_said = talk.replies.as_bytes().starts_with(output);
-    is_whole && is_said && is_front(bench, talk.whole)
+    let is_said = conversation.replies.as_bytes().starts_with(output);
+    is_whole && is_said && is_front(bench, conversation.whole)
 }
 
 /// Which conversation it is.
@@ -116,12 +107,12 @@ fn are_late_calls(answered: usize, calls: usize) -> bool {
 fn is_cut_right(
     alloc: Global,
     bench: &mut Bench,
-    talk: &Talk<'_>,
+    conversation: &Conversation<'_>,
     which: Which,
     answered: usize,
 ) -> Result<bool, Fail> {
     match which {
-        Which::Lines => goes_on(alloc, bench, talk, answered),
+        Which::Lines => goes_on(alloc, bench, conversation, answered),
         Which::Late => Ok(are_late_calls(answered, bench.len())),
     }
 }
@@ -130,17 +121,19 @@ fn is_cut_right(
 fn is_right(
     alloc: Global,
     bench: &mut Bench,
-    talk: &Talk<'_>,
+    conversation: &Conversation<'_>,
     which: Which,
     output: &[u8],
     end: RunEnd,
 ) -> Result<bool, Fail> {
-    if !is_front_of(bench, talk, output) {
+    if !is_front_of(bench, conversation, output) {
         return Ok(false);
     }
     match end {
-        RunEnd::End => Ok(output.len() == talk.replies.len() && bench.len() == talk.whole.len()),
-        RunEnd::Memory => is_cut_right(alloc, bench, talk, which, lines_in(output)),
+        RunEnd::End => Ok(
+            output.len() == conversation.replies.len() && bench.len() == conversation.whole.len(),
+        ),
+        RunEnd::Memory => is_cut_right(alloc, bench, conversation, which, lines_in(output)),
         _ => Ok(false),
     }
 }
@@ -156,29 +149,38 @@ struct Ended {
 fn ended_on(
     alloc: Global,
     bench: &mut Bench,
-    talk: &Talk<'_>,
+    conversation: &Conversation<'_>,
     which: Which,
     output: &mut Vec<u8>,
     number: u32,
 ) -> Result<Ended, Fail> {
-    let (end, is_refused) = run_without(alloc, bench, talk.requests, output, number);
+    let (end, is_refused) = run_without(alloc, bench, conversation.requests, output, number);
     Ok(Ended {
         is_refused,
         is_short: end == RunEnd::Memory,
-        is_right: is_right(alloc, bench, talk, which, output, end)?,
+        is_right: is_right(alloc, bench, conversation, which, output, end)?,
     })
 }
 
-fn ended_anew(alloc: Global, talk: &Talk<'_>, which: Which, number: u32) -> Result<Ended, Fail> {
+fn ended_anew(
+    alloc: Global,
+    conversation: &Conversation<'_>,
+    which: Which,
+    number: u32,
+) -> Result<Ended, Fail> {
     let mut output = Vec::with_capacity(alloc, 1000)?;
     let mut bench = new_bench(alloc, 10, 1000)?;
-    ended_on(alloc, &mut bench, talk, which, &mut output, number)
+    ended_on(alloc, &mut bench, conversation, which, &mut output, number)
 }
 
-fn each_refused(alloc: Global, talk: &Talk<'_>, which: Which) -> Result<Refusals, Fail> {
+fn each_refused(
+    alloc: Global,
+    conversation: &Conversation<'_>,
+    which: Which,
+) -> Result<Refusals, Fail> {
     let mut memory = 0u32;
     for number in 1..100_000u32 {
-        let ended = ended_anew(alloc, talk, which, number)?;
+        let ended = ended_anew(alloc, conversation, which, number)?;
         if !ended.is_right || (ended.is_short && !ended.is_refused) {
             return Err(Fail::from("another end"));
         }
@@ -201,12 +203,12 @@ fn refused_beside(
     which: Which,
 ) -> Result<Refusals, Fail> {
     run_over(alloc, whole, 1, requests.as_bytes(), GOOD)?;
-    let talk = Talk {
+    let conversation = Conversation {
         requests,
         replies,
         whole,
     };
-    each_refused(alloc, &talk, which)
+    each_refused(alloc, &conversation, which)
 }
 
 fn refused_anew(alloc: Global, text: &str, which: Which) -> Result<Refusals, Fail> {

@@ -1,7 +1,8 @@
 //! Conversations with a workbench, and whether its replies are those wanted.
 //!
-//! A conversation is a text in which `> ` comes before a request, `< ` before the reply to it and `// ` before a remark; other lines are
-//! empty. The requests `plant` and `misplaced` stand for commits that several conversations begin with.
+//! A conversation is a text of lines `REQUEST => REPLY`, of remarks behind `// ` and of empty lines. The requests `plant` and `misplaced`
+//! stand for commits that several conversations begin with. Where several conversations stand in one text, each has a heading: `== TITLE`,
+//! or `== TITLE / UNITS / CALLS` where its workbench has other limits than the program's own.
 ghost use Rattle.std.specs.Prelude.{◌<◌};
 
 use fb_wire::bench::{Bench, Limits};
@@ -73,27 +74,22 @@ pub(crate) fn run_over(
     })
 }
 
-/// The request in a line of a conversation.
-fn request_in(line: &str) -> Option<&str> {
-    match line.strip_prefix("> ") {
-        Some("plant") => Some(PLANT),
-        Some("misplaced") => Some(MISPLACED),
-        request => request,
+/// The request in a line of a conversation, and the reply to it.
+fn exchange_in(line: &str) -> Option<(&str, &str)> {
+    match line.split_once(" => ") {
+        Some(("plant", reply)) => Some((PLANT, reply)),
+        Some(("misplaced", reply)) => Some((MISPLACED, reply)),
+        exchange => exchange,
     }
-}
-
-// Whether a line is no request, and is a reply, a remark or empty.
-fn is_beside(line: &str) -> bool {
-    line.is_empty() || line.starts_with("< ") || line.starts_with("// ")
 }
 
 /// The request lines of a conversation.
 pub(crate) fn requests_in(alloc: Global, text: &str) -> Result<String, Fail> {
     let mut requests = String::new(alloc);
     for line in text.split('\n') {
-        if let Some(request) = request_in(line) {
+        if let Some((request, _)) = exchange_in(line) {
             writeln!(requests, "{request}")?;
-        } else if !is_beside(line) {
+        } else if !line.is_empty() && !line.starts_with("// ") {
             return Err(Fail::from("a line of no kind"));
         }
     }
@@ -109,12 +105,11 @@ pub(crate) fn replies_within(
     let mut replies = String::new(alloc);
     let mut left = bytes;
     for line in text.split('\n') {
-        if let Some(request) = request_in(line) {
+        if let Some((request, reply)) = exchange_in(line) {
             if left <= request.len() {
                 return Ok(replies);
             }
             left -= request.len() + 1;
-        } else if let Some(reply) = line.strip_prefix("< ") {
             writeln!(replies, "{reply}")?;
         }
     }
@@ -151,7 +146,7 @@ pub(crate) fn said(
 
 /// Has a caller say the requests of a conversation. Where the replies are not those that stand there, it gives how many at
 /// the front are.
-pub(crate) fn talk(
+pub(crate) fn converse(
     alloc: Global,
     bench: &mut Bench,
     caller: u32,
@@ -164,19 +159,19 @@ pub(crate) fn talk(
 }
 
 /// The same with a new workbench of these limits.
-pub(crate) fn talk_within(
+pub(crate) fn converse_within(
     alloc: Global,
     units: u64,
     history: u64,
     text: &str,
 ) -> Result<Option<usize>, Fail> {
     let mut bench = new_bench(alloc, units, history)?;
-    talk(alloc, &mut bench, 1, text)
+    converse(alloc, &mut bench, 1, text)
 }
 
 /// The same with a new workbench of the program's own limits.
-pub(crate) fn talk_alone(alloc: Global, text: &str) -> Result<Option<usize>, Fail> {
-    talk_within(alloc, 1024, 100_000, text)
+pub(crate) fn converse_alone(alloc: Global, text: &str) -> Result<Option<usize>, Fail> {
+    converse_within(alloc, 1024, 100_000, text)
 }
 
 /// Fails where there is a wrong place, as a reply or a step.
@@ -184,25 +179,23 @@ pub(crate) fn all_right(rt: &impl Abort, wrong: Option<usize>, about: &str) {
     assert_eq!(rt; wrong, None, "{about}");
 }
 
-/// What a conversation is about, the most units and the most records of its workbench, and the conversation.
-pub(crate) type Limited = (&'static str, u64, u64, &'static str);
-
-/// Has a caller say each of these conversations to a workbench of its own, of these limits.
-pub(crate) fn compare_limited(
-    rt: &impl Abort,
-    alloc: Global,
-    talks: &[Limited],
-) -> Result<(), Fail> {
-    for (about, units, history, text) in talks {
-        all_right(rt, talk_within(alloc, *units, *history, text)?, about);
-    }
-    Ok(())
+/// The title in a heading behind `== `, and the most units and calls of the workbench.
+fn heading_in(heading: &str) -> Result<(&str, u64, u64), Fail> {
+    let Some((title, limits)) = heading.split_once(" / ") else {
+        return Ok((heading, 1024, 100_000));
+    };
+    let (units, history) = limits.split_once(" / ").ok_or("limits")?;
+    Ok((title, units.parse()?, history.parse()?))
 }
 
 /// Has a caller say each of these conversations to a workbench of its own.
-pub(crate) fn compare(rt: &impl Abort, alloc: Global, talks: &[(&str, &str)]) -> Result<(), Fail> {
-    for (about, text) in talks {
-        all_right(rt, talk_alone(alloc, text)?, about);
+pub(crate) fn compare(rt: &impl Abort, alloc: Global, text: &str) -> Result<(), Fail> {
+    let (before, conversations) = text.split_once("== ").ok_or("a heading")?;
+    assert_eq!(rt; before, "\n");
+    for conversation in conversations.split("\n== ") {
+        let (heading, text) = conversation.split_once('\n').ok_or("a line")?;
+        let (title, units, history) = heading_in(heading)?;
+        all_right(rt, converse_within(alloc, units, history, text)?, title);
     }
     Ok(())
 }
