@@ -217,7 +217,7 @@ class WordsTest(InFolder):
     @unittest.skipUnless(shutil.which("systemd-analyze"), "systemd is not installed")
     def test_systemd_takes_the_lines_for_a_secret(self) -> None:
         unit = self.write("bench61499.service", (PACKAGING / "bench61499.service").read_bytes())
-        lines = re.search(r"^(?:    .*\n)+(?=\nThe same in a container)", (PACKAGING / "INSTALL.md").read_text(), re.M)[0]
+        lines = re.search(r"^(?:    .*\n)+(?=\nIn a container)", (PACKAGING / "INSTALL.md").read_text(), re.M)[0]
         self.write("bench61499.service.d/override.conf", textwrap.dedent(lines))
         ran = subprocess.run(["systemd-analyze", "verify", unit], env={**os.environ, "SYSTEMD_UNIT_PATH": f"{self.folder}:"}, capture_output=True, text=True)
         self.assertEqual(faults_of_unit(ran.stderr), [])
