@@ -1,6 +1,6 @@
 -- One more name of an order is finished.
 use Rattle.std.proofs.Common.{ℕ, zero, suc, ◌≡◌, ◌<◌, Bool, true, false, not, ◌&&◌, List, [], ◌∷◌, ◌++◌, Option, Some, ◌⊎◌, inl, inr, refl, sym, ◌∙◌, ap, subst, take, get_or, length}
-use Rattle.std.proofs.lemmas.Bool.{false≢true}
+use Rattle.std.proofs.lemmas.Bool.{and_parts, false≢true}
 use Rattle.std.proofs.lemmas.List.Elements.{Contains-push_cases}
 use Rattle.std.specs.Prelude.{Contains, ◌≢◌, option_map}
 use Rattle.std.specs.Option.{option_or}
@@ -45,14 +45,6 @@ in_take {X = X} (suc k) (y ∷ ys) x c = by_case (contains_cases y (take k ys) x
     by_case : (y ≡ x) ⊎ Contains (take k ys) x → (Contains (take k ys) x → Contains ys x) → Contains (y ∷ ys) x
     by_case (inl e) more = subst (λ (z : X). Contains (y ∷ ys) z) e (contains_here y ys)
     by_case (inr h) more = contains_later y ys x (more h)
-
-pub and_first : (a b : Bool) → (a && b) ≡ true → a ≡ true
-and_first true b e = refl
-and_first false b e = absurd (false≢true e)
-
-pub and_second : (a b : Bool) → (a && b) ≡ true → b ≡ true
-and_second true b e = e
-and_second false b e = absurd (false≢true e)
 
 -- ---- the names of an order
 
@@ -129,7 +121,7 @@ module _ {sources : Sources} {hints : List ℕ → Option PlainNet} {table : Vie
   -- what is composed of the next name that is missing is its flat network
   pub added_finished : (old new : Nets) (i : ℕ) (name : List ℕ) → i < length order → name ≡ get_or order i name → is_missing sources hints unit name ≡ true → AllFinished sources (known_flats hints old) unit (take i order) → IsAdded table (known_flats hints old) new name → IsSmallType (declared sources) name → IsFinished (declared sources) (known_flats hints new) name
   added_finished old new i name lt e missing all added small =
-      let unknown = not_of_not (is_whole_hint (hints name)) (and_first (not (is_whole_hint (hints name))) _ (and_second (not (is_at (name_cmp unit) name)) _ missing)) in
+      let unknown = not_of_not (is_whole_hint (hints name)) (and_parts (not (is_whole_hint (hints name))) _ (and_parts (not (is_at (name_cmp unit) name)) _ missing).1).0 in
       let c : Contains order name = (i, lt, sym e) in
       let it = sound_network (o.names.sound name c) in
       let made = added.composed in

@@ -1,6 +1,6 @@
 -- What is composed for a unit is the net of its type, where that is counted within the limit.
 use Rattle.std.proofs.Common.{ℕ, ◌≡◌, ◌≤◌, arith, true, not, List, Option, Some, None, inl, refl, sym, ◌∙◌, ap, subst}
-use Rattle.std.proofs.lemmas.Bool.{false≢true}
+use Rattle.std.proofs.lemmas.Bool.{and_parts, false≢true}
 use Rattle.std.specs.Prelude.{Contains, ◌≢◌, option_map}
 use Rattle.std.specs.Option.{option_or}
 use Rattle.std.specs.BTreeMap.{is_at}
@@ -29,7 +29,6 @@ use Rattle.fb_flatten.specs.Nets.{net_at}
 use Rattle.fb_flatten.specs.Tables.{AllFinished, AreRightCounts, AreMissing, IsSmallType, IsUnitOrder, is_missing, known_flats}
 use Rattle.fb_flatten.specs.declared.inner.Inner.{Inner}
 use Rattle.fb_flatten.proofs.ComputedNets.{net_at_is}
-use Rattle.fb_flatten.proofs.FlatsLemmas.{and_first, and_second}
 use Rattle.fb_flatten.proofs.HintLemmas.{no_flat, not_of_not}
 
 module _ (sources : Sources) (name : List ℕ) (kind : kind_at sources name ≡ Some kinds.Subapplication) where
@@ -77,14 +76,14 @@ module _ {sources : Sources} {hints : List ℕ → Option PlainNet} {unit : List
   apart : (name : List ℕ) → is_missing sources hints unit name ≡ true → name ≢ unit
   apart name missing e =
       false≢true
-      (ap not (sym (bytes_same unit)) ∙ ap (λ (n : List ℕ). not (is_at (name_cmp unit) n)) (sym e) ∙ and_first (not (is_at (name_cmp unit) name)) _ missing)
+      (ap not (sym (bytes_same unit)) ∙ ap (λ (n : List ℕ). not (is_at (name_cmp unit) n)) (sym e) ∙ (and_parts (not (is_at (name_cmp unit) name)) _ missing).0)
 
   -- the flat network of a name that is counted within the limit is the name's net
   counted_net : (flats : Nets) (counts : List ℕ → Option ℕ) (name : List ℕ) (flat : PlainFlat) → AreRightCounts sources counts → AllFinished sources (known_flats hints flats) unit order → Contains order name → is_missing sources hints unit name ≡ true → flats name ≡ Some flat → IsCountedWithin counts name → net_at sources name ≡ Some (flat_net flat)
   counted_net flats counts name flat right finished c missing found small =
-      let rest = and_second (not (is_at (name_cmp unit) name)) _ missing in
-      let unknown = not_of_not (is_whole_hint (hints name)) (and_first (not (is_whole_hint (hints name))) _ rest) in
-      let kind = subapplication_by_tree sources name (and_second (not (is_whole_hint (hints name))) _ rest) in
+      let rest = (and_parts (not (is_at (name_cmp unit) name)) _ missing).1 in
+      let unknown = not_of_not (is_whole_hint (hints name)) (and_parts (not (is_whole_hint (hints name))) _ rest).0 in
+      let kind = subapplication_by_tree sources name (and_parts (not (is_whole_hint (hints name))) _ rest).1 in
       let known = right name small.count small.counted in
       let f = finished name c (apart name missing) kind (small_type sources name kind small.count known small.counted small.within) in
       let composed : flats name ≡ Some f.net = sym (ap (λ (p : Option PlainFlat). option_or p (flats name)) (no_flat (hints name) unknown)) ∙ f.found in

@@ -1,6 +1,6 @@
 -- Spellings, fronts and what reading by a predictive form gives.
 use Rattle.std.proofs.Common.{◌≡◌, ℕ, zero, suc, ◌≤◌, ◌<◌, Bool, true, false, cond, ◌&&◌, ◌||◌, not, nat_eq, ◌⊎◌, inl, inr, List, [], ◌∷◌, ◌++◌, length, Some, None, Ok, Err, refl, sym, ◌∙◌, ap, subst, arith, append_assoc, length-append, ap₂}
-use Rattle.std.proofs.lemmas.Bool.{or_right, or_left}
+use Rattle.std.proofs.lemmas.Bool.{and_parts, or_left, or_right}
 use borrow.Author.Tests.{eqb-true}
 use Rattle.fb_tree.proofs.Text.Tests.{not_true}
 use Rattle.fb_grammar.specs.declared.kind.Kind.{Kind}
@@ -11,14 +11,6 @@ use Rattle.fb_grammar.specs.Fault.{IsStuck, IsFault}
 use Rattle.fb_grammar.specs.Reading.{is_nullable, first, after, are_apart, is_predictive, Outcome, ◌>>=◌, is_next, read_one, read_each, read}
 
 -- Tests
-
-and_left : (a b : Bool) → (a && b) ≡ true → a ≡ true
-and_left true b h = refl
-and_left false b h = h
-
-and_right : (a b : Bool) → (a && b) ≡ true → b ≡ true
-and_right true b h = h
-and_right false b h = cc
 
 pub or_cases : (a b : Bool) → (a || b) ≡ true → (a ≡ true) ⊎ (b ≡ true)
 or_cases true b h = inl refl
@@ -59,7 +51,7 @@ among_same a (x ∷ b) k h = rw (same_from_code a x k h, among_same a b k h) ref
 -- what is among one list is not among one apart from it
 pub apart_among : (a b : List Kind) (k : Kind) → are_apart a b ≡ true → is_among a k ≡ true → is_among b k ≡ false
 apart_among [] b k h m = cc
-apart_among (x ∷ a) b k h m = elim (or_cases (same_kind x k) (is_among a k) m) [ inl p ↦ among_same x b k p ∙ not_true (is_among b x) (and_left (not (is_among b x)) (are_apart a b) h) | inr q ↦ apart_among a b k (and_right (not (is_among b x)) (are_apart a b) h) q ]
+apart_among (x ∷ a) b k h m = elim (or_cases (same_kind x k) (is_among a k) m) [ inl p ↦ among_same x b k p ∙ not_true (is_among b x) (and_parts (not (is_among b x)) (are_apart a b) h).0 | inr q ↦ apart_among a b k (and_parts (not (is_among b x)) (are_apart a b) h).1 q ]
 
 apart_among_left : (a b : List Kind) (k : Kind) → are_apart a b ≡ true → is_among b k ≡ true → is_among a k ≡ false
 apart_among_left a b k h m = go (is_among a k) refl
@@ -261,13 +253,13 @@ spelled_next x us v rest n s = elim (next_of_front x us (front_of_spelling x us 
 
 -- the parts of a test that a form is predictive
 predictive_left : {A B : Type 0} (x : Form A) (y : Form B) → is_predictive (both x y) ≡ true → is_predictive x ≡ true
-predictive_left x y h = and_left _ _ h
+predictive_left x y h = (and_parts _ _ h).0
 
 predictive_right : {A B : Type 0} (x : Form A) (y : Form B) → is_predictive (both x y) ≡ true → is_predictive y ≡ true
-predictive_right x y h = and_left _ _ (and_right (is_predictive x) _ h)
+predictive_right x y h = (and_parts _ _ (and_parts (is_predictive x) _ h).1).0
 
 predictive_apart : {A B : Type 0} (x : Form A) (y : Form B) → is_predictive (both x y) ≡ true → are_apart (after x) (first y) ≡ true
-predictive_apart x y h = and_right (is_predictive y) _ (and_right (is_predictive x) _ h)
+predictive_apart x y h = (and_parts (is_predictive y) _ (and_parts (is_predictive x) _ h).1).1
 
 pub record Choice {A : Type 0} (x y : Form A) : Type 0 where
   pub left : is_predictive x ≡ true
@@ -278,15 +270,15 @@ pub record Choice {A : Type 0} (x y : Form A) : Type 0 where
 
 choice : {A : Type 0} (x y : Form A) → is_predictive (either x y) ≡ true → Choice x y
 choice x y h =
-    let right = and_right (is_predictive x) _ h in
-    let tests = and_right (is_predictive y) _ right in
-    let filled = and_right (are_apart (first x) (first y)) _ tests in
+    let right = (and_parts (is_predictive x) _ h).1 in
+    let tests = (and_parts (is_predictive y) _ right).1 in
+    let filled = (and_parts (are_apart (first x) (first y)) _ tests).1 in
     record {
-      left = and_left _ _ h;
-      right = and_left _ _ right;
-      apart = and_left _ _ tests;
-      left_filled = not_true _ (and_left _ _ filled);
-      right_filled = not_true _ (and_right (not (is_nullable x)) _ filled);
+      left = (and_parts _ _ h).0;
+      right = (and_parts _ _ right).0;
+      apart = (and_parts _ _ tests).0;
+      left_filled = not_true _ (and_parts _ _ filled).0;
+      right_filled = not_true _ (and_parts (not (is_nullable x)) _ filled).1;
     }
 
 pub length_of_spelling : {A : Type 0} (x : Form A) (us : List Lexeme) (v : A) → is_nullable x ≡ false → Spells x us v → 1 ≤ length us
@@ -344,10 +336,10 @@ complete (either x y) h us v rest s p =
     ]
 complete (option x) h us None rest s p = rw s (rw (none_left (first x) (after x) rest p) refl)
 complete (option x) h us (Some v) rest s p =
-    rw (spelled_next x us v rest (not_true _ (and_right (is_predictive x) _ h)) s) (rw (complete x (and_left _ _ h) us v rest s (none_right (first x) (after x) rest p)) refl)
+    rw (spelled_next x us v rest (not_true _ (and_parts (is_predictive x) _ h).1) s) (rw (complete x (and_parts _ _ h).0 us v rest s (none_right (first x) (after x) rest p)) refl)
 complete (many x) h us vs rest s p =
-    let tests = and_right (is_predictive x) _ h in
-    complete_each x (complete x (and_left _ _ h)) (not_true _ (and_left _ _ tests)) (and_right (not (is_nullable x)) _ tests) (length (us ++ rest)) us vs rest (omega (arith, length-append us rest)) s p
+    let tests = (and_parts (is_predictive x) _ h).1 in
+    complete_each x (complete x (and_parts _ _ h).0) (not_true _ (and_parts _ _ tests).0) (and_parts (not (is_nullable x)) _ tests).1 (length (us ++ rest)) us vs rest (omega (arith, length-append us rest)) s p
 complete (as_value f x) h us v rest s p = rw (complete x h us s.0 rest s.1 p) (rw s.2 refl)
 
 -- Reading passes over every front
@@ -419,8 +411,8 @@ pub record Repeated {A : Type 0} (x : Form A) : Type 0 where
 
 repeated : {A : Type 0} (x : Form A) → is_predictive (many x) ≡ true → Repeated x
 repeated x h =
-    let tests = and_right (is_predictive x) _ h in
-    record { each = and_left _ _ h; filled = not_true _ (and_left _ _ tests); apart = and_right (not (is_nullable x)) _ tests }
+    let tests = (and_parts (is_predictive x) _ h).1 in
+    record { each = (and_parts _ _ h).0; filled = not_true _ (and_parts _ _ tests).0; apart = (and_parts (not (is_nullable x)) _ tests).1 }
 
 -- a value of several, with others behind it or as the last one
 pass_next : {A : Type 0} (x : Form A) → Repeated x → (n : ℕ) (us a b : List Lexeme) (v : A) (rest : List Lexeme)
@@ -471,7 +463,7 @@ pass (either x y) h us rest f =
     ]
 pass (option x) h us rest f = elim (next_of_front x us f) [
   | inl e ↦ rw e (within_read (option x) rest)
-  | inr q ↦ rw (next_append (first x) us rest q) (within_bind (length rest) (read x (us ++ rest)) _ (pass x (and_left _ _ h) us rest f) (λ a more. more))
+  | inr q ↦ rw (next_append (first x) us rest q) (within_bind (length rest) (read x (us ++ rest)) _ (pass x (and_parts _ _ h).0 us rest f) (λ a more. more))
 ]
 pass (many x) h us rest f =
     let c = repeated x h in

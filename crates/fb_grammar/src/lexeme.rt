@@ -12,18 +12,17 @@ ghost use Rattle.fb_grammar.specs.Lexemes.{kind_of, lexeme_of, lexemes_of, name_
 use crate::keywords::{keyword, symbol};
 use crate::kind::Kind;
 use fb_tree::text::{
-    CompactName, Name, NameUse, Place, Span, Token, TokenFault, TokenKind, TypeClass, WideUse,
-    same_word, tokens, type_class,
+    CompactName, NameUse, Place, Span, Token, TokenFault, TokenKind, TypeClass, same_word, tokens,
+    type_class,
 };
 use std::alloc::{AllocError, Global};
 
 /// A token: where it stands, its kind, and the name that it spells, `_` where it spells none.
-#[derive(Clone, Copy, Debug)]
+#[derive(Debug, Drop)]
 pub struct Lexeme {
-    // First, so that no gap stands before it: a copy of a gap and a span together waits for both.
     pub span: Place,
     pub kind: Kind,
-    pub name: Name,
+    pub name: CompactName,
 }
 
 impl Lexeme {
@@ -34,16 +33,9 @@ impl Lexeme {
         ensures { IfOk result (λ used. used ≡ name_use self.now) }
     {
         Ok(NameUse {
-            name: CompactName::keep(alloc, &self.name)?,
+            name: self.name.clone()?,
             span: self.span,
         })
-    }
-
-    /// The same as a copy.
-    pub fn wide_use(&self) -> WideUse
-        ensures { result ≡ name_use self.now }
-    {
-        WideUse::new(self.name, self.span)
     }
 }
 
@@ -143,20 +135,20 @@ fn kind_of(kind: TokenKind, bytes: &[u8]) -> Kind
 
 /// A token of a text, as the grammar sees it.
 #[tactic(auto, unfolding(crate::specs::Lexemes::lexeme_of))]
-fn lexeme_of(text: &str, token: &Token) -> Lexeme
+fn lexeme_of(alloc: Global, text: &str, token: &Token) -> Result<Lexeme, AllocError>
     requires within { LiesIn text.now token.now.span }
     requires short { length text.now < 4294967296 }
-    ensures { result ≡ lexeme_of text.now token.now }
+    ensures { IfOk result (λ lexeme. lexeme ≡ lexeme_of text.now token.now) }
 {
     let bytes = token.text(text);
-    Lexeme {
+    Ok(Lexeme {
         span: Place::of(token.span),
         kind: kind_of(token.kind, bytes.as_bytes()),
-        name: match Name::read(bytes) {
+        name: match CompactName::read(alloc, bytes)? {
             Ok(name) => name,
-            Err(_) => Name::underscore(),
+            Err(_) => CompactName::underscore(),
         },
-    }
+    })
 }
 
 /// The tokens of a text of less than 4 GiB, as the grammar sees them.
@@ -171,7 +163,7 @@ pub fn lexemes(alloc: Global, text: &str) -> Result<Vec<Lexeme>, TokenFault>
     let tokens = tokens(alloc, text)?;
     let mut lexemes = Vec::with_capacity(alloc, tokens.len())?;
     for token in &tokens {
-        lexemes.push(lexeme_of(text, token))?;
+        lexemes.push(lexeme_of(alloc, text, token)?)?;
     }
     Ok(lexemes)
 }

@@ -7,7 +7,7 @@ use Rattle.fb_jobs.specs.Keys.{has_key}
 use Rattle.fb_jobs.specs.KeyOrder.{same_key}
 use Rattle.fb_jobs.proofs.Members.{of_filtered}
 use Rattle.fb_jobs.proofs.Order.{keys_equal}
-use Rattle.fb_text.proofs.Tests.{and_false}
+use Rattle.std.proofs.lemmas.Bool.{and_parts, and_right}
 use Rattle.fb_history.specs.declared.answers.Committed.{Committed}
 use Rattle.fb_history.specs.declared.answers.Committed.TheVariants.{Done, NoChange, TooManyChanges, SameUnitTwice, StaleBase, NoSuchUnit, TooManyUnits}
 use Rattle.fb_history.specs.declared.answers.Delivered.{Delivered}
@@ -27,9 +27,6 @@ use Rattle.fb_history.proofs.Sorted.{rise_bench}
 abbrev IsWithin : State → Type 0
 IsWithin s = (key : Key) → has_key s.units key ≡ false → (s.pending key ≡ false) × (s.out key ≡ false)
 
-and_right : (a b : Bool) → b ≡ false → (a && b) ≡ false
-and_right a b none = ap (λ x. a && x) none ∙ and_false a
-
 within_commit : (answer : Committed) (edits : List Edit) (s : State) → IsWithin s → IsWithin (after_commit answer edits s)
 within_commit (Done commit) edits s within =
     λ key none. (
@@ -43,10 +40,6 @@ within_commit (StaleBase unit current) edits s within = within
 within_commit (NoSuchUnit unit) edits s within = within
 within_commit TooManyUnits edits s within = within
 
-first_true : (a b : Bool) → (a && b) ≡ true → a ≡ true
-first_true true b both = refl
-first_true false b both = cc
-
 not_it : (s : State) (k key : Key) (same : Bool) → IsWithin s → s.pending k ≡ true → has_key s.units key ≡ false → same_key k key ≡ same → same ≡ false
 not_it s k key true within pends none at =
     let there : s.pending key ≡ true = subst (λ x. s.pending x ≡ true) (keys_equal k key at) pends in
@@ -56,7 +49,7 @@ not_it s k key false within pends none at = refl
 within_take : (next_key : Option Key) (s : State) → next_key ≡ next s → IsWithin s → IsWithin (after_take next_key s)
 within_take None s is within = within
 within_take (Some k) s is within =
-    let pends : s.pending k ≡ true = first_true (s.pending k) (not (s.out k)) (next_passes s k is) in
+    let pends : s.pending k ≡ true = (and_parts (s.pending k) (not (s.out k)) (next_passes s k is)).0 in
     λ key none.
     let apart : same_key k key ≡ false = not_it s k key (same_key k key) within pends none refl in
     ((within key none).0, ap (λ b. b || s.out key) apart ∙ (within key none).1)

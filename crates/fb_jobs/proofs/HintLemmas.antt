@@ -8,6 +8,7 @@ use Rattle.std.specs.declared.cmp.Ordering.TheVariants.{Less}
 use Rattle.std.proofs.lemmas.List.Elements.{All-get_or, All-nil, All-cons, All-push, All-contains, All-contains_itself, filter-append}
 use Rattle.std.proofs.lemmas.List.Kept.{AllPairs-cons, IsStrictlySortedBy-filter}
 use Rattle.std.proofs.lemmas.Cmp.{tied_itself}
+use Rattle.std.proofs.lemmas.Bool.{and_parts}
 use Rattle.std.proofs.lemmas.List.{append-nil, get_or-map, length-map, map-append}
 use Rattle.fb_text.specs.Order.{name_cmp}
 use Rattle.fb_text.proofs.Members.{contains_map, passes_in_filter}
@@ -106,15 +107,11 @@ unfolding IsStrictlySortedBy
 units_apart [] sorted = λ i j d first last. absurd (omega (arith, last))
 units_apart (h ∷ hs) sorted = AllPairs-cons (λ (a b : Hint). a.unit ≢ b.unit) h hs (all_apart h.unit h hs refl sorted.0) (units_apart hs sorted.1)
 
-and_first : (a b : Bool) → (a && b) ≡ true → a ≡ true
-and_first true b e = refl
-and_first false b e = cc
-
 chosen_is : (T : Texts) (kept : Key → Option Finding) (key : Key) (hints : List Hint) → AreKept T kept → AreChosen T kept key.unit (reads_for T key) hints → (hint : Hint) → Contains hints hint → IsHint T key hint
 chosen_is T kept key hints right chosen hint there =
     let among = passes_in_filter (is_chosen T kept key.unit) (read_names (reads_for T key)) hint.unit (subst (λ ns. Contains ns hint.unit) chosen.units (contains_map (λ (h : Hint). h.unit) hints hint there)) in
     record {
-      other = and_first _ _ among.passes;
+      other = (and_parts _ _ among.passes).0;
       needed = has-Contains hint.unit (needs T key) (subst (λ ns. Contains ns hint.unit) (names_under T (needs T key)) among.among);
       net_is = right (net_key hint.unit) (finding_of hint.value.value) (All-contains (IsKeptHint kept) hints hint chosen.nets there);
     }

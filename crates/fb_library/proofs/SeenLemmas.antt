@@ -197,9 +197,5 @@ begun old new x none updates q = has-updates old new x updates q ∙ ap (λ l. h
 pub one_pushed : (xs ys : List (List ℕ)) (x : List ℕ) → xs ≡ [] → ys ≡ xs ++ x ∷ [] → ys ≡ x ∷ []
 one_pushed xs ys x none is = is ∙ ap (λ l. l ++ x ∷ []) none
 
-pub no_items : (xs : List (List ℕ)) → length xs ≡ 0 → xs ≡ []
-no_items [] e = refl
-no_items (x ∷ xs) e = absurd (omega arith)
-
 pub longer : (xs ys : List (List ℕ)) (x : List ℕ) → xs ≡ ys ++ x ∷ [] → length xs ≡ length ys + 1
 longer xs ys x is = ap length is ∙ length-append ys (x ∷ [])

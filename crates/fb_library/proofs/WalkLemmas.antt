@@ -16,7 +16,7 @@ use Rattle.fb_library.specs.Opened.{Leads, itself, through, LedFrom, IsWithin}
 use Rattle.fb_library.specs.Seen.{has_name, unseen, Opens}
 use Rattle.fb_library.proofs.SeenLemmas.{or_left, or_right, same, same_is, same_self}
 use Rattle.fb_library.proofs.Opening.{leads_more}
-pub use Rattle.fb_library.proofs.SeenLemmas.{Contains-has, has-Contains, has-push, last_named, Opens-none, Opens-new, Opens-old, Opens-both, has-updates, not_true, not_false, begun, one_pushed, no_items, longer}
+pub use Rattle.fb_library.proofs.SeenLemmas.{Contains-has, has-Contains, has-push, last_named, Opens-none, Opens-new, Opens-old, Opens-both, has-updates, not_true, not_false, begun, one_pushed, longer}
 
 -- ---- the whole walk
 

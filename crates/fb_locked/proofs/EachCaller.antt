@@ -5,7 +5,7 @@ use Rattle.std.specs.BTreeMap.{is_at}
 use Rattle.std.specs.List.{list_any}
 use Rattle.std.specs.Map.{keys_of, lookup}
 use Rattle.std.specs.Map.Iter.{deref}
-use Rattle.std.proofs.lemmas.Bool.{eqb-true}
+use Rattle.std.proofs.lemmas.Bool.{and_parts, eqb-true}
 use Rattle.std.proofs.lemmas.Bool.Decides.{nat_tests}
 use Rattle.std.proofs.lemmas.List.{map-append}
 use Rattle.std.proofs.lemmas.List.Folds.{list_any-append}
@@ -125,10 +125,6 @@ beyond_all callers bench seen q is = ap (λ b. b && not (is_first callers q)) (s
 
 -- ---- how many calls each has made
 
-first_true : (a b : Bool) → (a && b) ≡ true → a ≡ true
-first_true true b both = refl
-first_true false b both = both
-
 counted_at : (a' a b : Bool) (t t' : ℕ) (old new : Option ℕ) → a' ≡ (a || b) → (b ≡ true → t' ≡ t) → old ≡ cond a (Some t) None → new ≡ cond b (Some t') old → new ≡ cond a' (Some t) None
 counted_at a' true true t t' old new is same was now = now ∙ (ap Some (same refl) ∙ ap (λ (x : Bool). cond x (Some t) None) (sym is))
 counted_at a' false true t t' old new is same was now = now ∙ (ap Some (same refl) ∙ ap (λ (x : Bool). cond x (Some t) None) (sym is))
@@ -144,7 +140,7 @@ counted_more callers bench seen k q old new was now =
     let more : Bool = k.now == q && nat_lt 0 (all_turns bench k.now) in
     counted_at (is_first callers q || has_called (map deref (seen ++ k ∷ [])) bench q) (is_first callers q || before) more (all_turns bench q) (all_turns bench k.now) old new
     (ap (λ b. is_first callers q || b) (called_more bench seen k q) ∙ either_assoc (is_first callers q) before more)
-    (λ both. ap (all_turns bench) (eqb-true k.now q (first_true (k.now == q) (nat_lt 0 (all_turns bench k.now)) both)))
+    (λ both. ap (all_turns bench) (eqb-true k.now q (and_parts (k.now == q) (nat_lt 0 (all_turns bench k.now)) both).0))
     was now
 
 pub counted_all : (callers : ℕ) (bench : BenchView) (seen : List ℕ) (q : ℕ) → seen ≡ keys_of (pages_after bench.origin.pages bench.log.records)

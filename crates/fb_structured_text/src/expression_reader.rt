@@ -109,11 +109,11 @@ fn deep_part(alloc: Global, below: u8, tokens: &[Lexeme]) -> Result<(Part, &[Lex
 {
     let (name, rest) = name(tokens)?;
     if !is_next(rest, &[Kind::OpenBracket]) {
-        return Ok((alone(alloc, name), rest));
+        return Ok((alone(alloc, name)?, rest));
     }
     let ((subscripts, close), rest) = subscripts(alloc, below, rest)?;
     let part = Part {
-        name: name.wide_use(),
+        name: name.name_use(alloc)?,
         subscripts,
         end: close.span.end(),
     };

@@ -8,28 +8,28 @@ ghost use Rattle.fb_structured_text.specs.Part.{part_tree};
 ghost use Rattle.std.specs.Prelude.{◌≡◌, IfOk, None, map};
 
 use fb_grammar::{Kind, Lexeme, Reader, Stop, key, name, several};
-use fb_tree::text::WideUse;
+use fb_tree::text::NameUse;
 use fb_tree::{Expr, Member, Reference};
 use std::alloc::{AllocError, Global};
 
 /// A name of a reference, with the subscripts behind it.
 #[derive(Drop)]
 pub struct Part {
-    pub name: WideUse,
+    pub name: NameUse,
     pub subscripts: Vec<Expr>,
     /// Where the bracket of the subscripts ends, or the name where none are written.
     pub end: u32,
 }
 
 /// A name without subscripts.
-pub fn alone(alloc: Global, name: &Lexeme) -> Part
-    ensures { part_tree result ≡ part_of (name_use name.now) None }
+pub fn alone(alloc: Global, name: &Lexeme) -> Result<Part, AllocError>
+    ensures { IfOk result (λ part. part_tree part ≡ part_of (name_use name.now) None) }
 {
-    Part {
-        name: name.wide_use(),
+    Ok(Part {
+        name: name.name_use(alloc)?,
         subscripts: Vec::new(alloc),
         end: name.span.end(),
-    }
+    })
 }
 
 /// The reference of these parts, and the subscripts of all of them.
@@ -46,10 +46,9 @@ pub fn joined(
     let mut members = Vec::with_capacity(alloc, others.len())?;
     let mut end = first.end;
     for part in others {
-        let name = part.name.keep(alloc)?;
         let mut behind = part.subscripts;
         members.push(Member {
-            name,
+            name: part.name,
             subscripts: behind.len(),
         })?;
         subscripts.append(&mut behind)?;
@@ -65,7 +64,7 @@ fn flat_part(alloc: Global, tokens: &[Lexeme]) -> Result<(Part, &[Lexeme]), Stop
     ensures { Gives part_tree result (read flat_part tokens.now) }
 {
     let (name, rest) = name(tokens)?;
-    Ok((alone(alloc, name), rest))
+    Ok((alone(alloc, name)?, rest))
 }
 
 /// Reads a point and a name.

@@ -2,7 +2,7 @@
 use Rattle.std.specs.Prelude.{ℕ, List, [], ◌∷◌, box_value}
 use Rattle.fb_text.specs.declared.token.Span.{Span}
 use Rattle.fb_text.specs.declared.name.NameUse.{NameUse}
-use Rattle.fb_tree.specs.Reference.{first_name, further_names}
+use Rattle.fb_tree.specs.Reference.{first_use, further_names}
 use Rattle.fb_tree.specs.declared.constant.Literal.{Literal as LiteralUse}
 use Rattle.fb_tree.specs.declared.expression.BinaryUse.{BinaryUse}
 use Rattle.fb_tree.specs.declared.expression.UnaryUse.{UnaryUse}
@@ -22,10 +22,9 @@ pub record ReferenceTree : Type 0 where
   -- from the first name through the last name or bracket
   pub span : Span
 
--- the first name stands where the reference begins
 abbrev pub reference_tree : ReferenceUse → ReferenceTree
 reference_tree r = record {
-  name = record { name = first_name r.names; span = record { start = r.span.start; end = r.name_end } };
+  name = first_use r.names;
   subscripts = r.subscripts;
   members = further_names r.names;
   span = r.span;

@@ -1,9 +1,9 @@
 //! References to variables. They take little memory, since a text has many.
 ghost use Rattle.std.specs.Prelude.{◌≡◌, IfOk};
 ghost use Rattle.fb_tree.specs.Expression.{reference_tree};
-ghost use Rattle.fb_tree.specs.Reference.{first_name, further_names};
+ghost use Rattle.fb_tree.specs.Reference.{first_use, further_names};
 
-use fb_text::{Name, NameUse, Place, ShortName, WideUse};
+use fb_text::{Name, NameUse, Place};
 use std::alloc::{AllocError, Global};
 
 /// A further name of a reference, with how many subscripts stand behind it.
@@ -22,19 +22,18 @@ impl Drop for Member {
     }
 }
 
-/// The names of a reference. Most have one that is short.
+/// The names of a reference. Most have one.
 #[derive(Debug)]
 pub enum ReferenceNames {
-    Short(ShortName),
-    Long(Box<Name>),
+    One(NameUse),
     /// The first name, and the names behind it.
-    Members(Box<(Name, Vec<Member>)>),
+    Members(Box<(NameUse, Vec<Member>)>),
 }
 
 impl Drop for ReferenceNames {
     fn drop(self) {
         match self {
-            Self::Short(_) | Self::Long(_) | Self::Members(_) => {}
+            Self::One(_) | Self::Members(_) => {}
         }
     }
 }
@@ -44,8 +43,6 @@ impl Drop for ReferenceNames {
 #[derive(Debug)]
 pub struct Reference {
     pub names: ReferenceNames,
-    /// Where the first name ends. It begins where the reference does.
-    pub name_end: u32,
     /// How many subscripts stand behind the first name.
     pub subscripts: usize,
     /// From the first name through the last name or bracket.
@@ -56,7 +53,6 @@ impl Drop for Reference {
     fn drop(self) {
         let Self {
             names: _,
-            name_end: _,
             subscripts: _,
             span: _,
         } = self;
@@ -64,21 +60,22 @@ impl Drop for Reference {
 }
 
 // Each variable that a text uses takes so many bytes.
-const _: () = prove!(size_of::<Reference>() == 48);
+const _: () = prove!(size_of::<Reference>() == 56);
 
 impl ReferenceNames {
     /// The first name, and the names behind it.
-    fn keep(alloc: Global, name: Name, members: Vec<Member>) -> Result<ReferenceNames, AllocError>
-        ensures first { IfOk result (λ names. first_name names ≡ name) }
+    fn keep(
+        alloc: Global,
+        first: NameUse,
+        members: Vec<Member>,
+    ) -> Result<ReferenceNames, AllocError>
+        ensures first { IfOk result (λ names. first_use names ≡ first) }
         ensures further { IfOk result (λ names. further_names names ≡ members.items) }
     {
-        if !members.is_empty() {
-            return Ok(ReferenceNames::Members(Box::new(alloc, (name, members))?));
+        if members.is_empty() {
+            return Ok(ReferenceNames::One(first));
         }
-        match name.shortened() {
-            Some(short) => Ok(ReferenceNames::Short(short)),
-            None => Ok(ReferenceNames::Long(Box::new(alloc, name)?)),
-        }
+        Ok(ReferenceNames::Members(Box::new(alloc, (first, members))?))
     }
 }
 
@@ -87,7 +84,7 @@ impl Reference {
     /// an end.
     pub fn new(
         alloc: Global,
-        name: WideUse,
+        name: NameUse,
         subscripts: usize,
         members: Vec<Member>,
         end: u32,
@@ -100,30 +97,36 @@ impl Reference {
               span = record { start = name.span.start; end = end };
             }) }
     {
+        let span = Place::new(name.span.start(), end);
         Ok(Reference {
-            names: ReferenceNames::keep(alloc, *name.name(), members)?,
-            name_end: name.place().end(),
+            names: ReferenceNames::keep(alloc, name, members)?,
             subscripts,
-            span: Place::new(name.place().start(), end),
+            span,
         })
+    }
+
+    /// The first name where it stands.
+    fn first(&self) -> &NameUse
+        ensures { result.now ≡ (reference_tree self.now).name }
+    {
+        match &self.names {
+            ReferenceNames::One(used) => used,
+            ReferenceNames::Members(names) => &names.0,
+        }
     }
 
     /// Where the first name stands.
     pub fn name_span(&self) -> Place
         ensures { result ≡ (reference_tree self.now).name.span }
     {
-        Place::new(self.span.start(), self.name_end)
+        self.first().span
     }
 
     /// The first name.
     pub fn name(&self) -> Name
         ensures { result ≡ (reference_tree self.now).name.name }
     {
-        match &self.names {
-            ReferenceNames::Short(name) => name.name(),
-            ReferenceNames::Long(name) => **name,
-            ReferenceNames::Members(names) => names.0,
-        }
+        self.first().name.name()
     }
 
     /// The names behind the first one, in the order of the text.
@@ -131,7 +134,7 @@ impl Reference {
         ensures { result.now ≡ (reference_tree self.now).members }
     {
         match &self.names {
-            ReferenceNames::Short(_) | ReferenceNames::Long(_) => &[],
+            ReferenceNames::One(_) => &[],
             ReferenceNames::Members(names) => &names.1,
         }
     }

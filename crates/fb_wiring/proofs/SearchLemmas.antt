@@ -294,7 +294,3 @@ module _ (sources : Sources) (names entered left order : List (List ℕ)) (befor
 
     pub entered_falls : fuel sources names entered' steps' < fuel sources names entered before
     entered_falls = fuel_enter sources names entered left order entered' before steps steps' w (at_step before steps step (Enter w) popped is) search new adds opened
-
-pub no_steps : (steps : List Step) → length steps ≡ 0 → steps ≡ []
-no_steps [] e = refl
-no_steps (x ∷ steps) e = absurd (omega arith)

@@ -2,9 +2,10 @@
 use Rattle.std.proofs.Common.{◌≡◌, ◌∷◌, [], ◌++◌, List, ℕ, ap, sym, subst, ◌∙◌, arith}
 use Rattle.std.proofs.lemmas.Result.{IfOk-weaker}
 use Rattle.std.specs.List.Sorted.{IsStrictlySortedBy}
+use Rattle.std.proofs.lemmas.List.{nil_from_length}
 use Rattle.fb_wiring.specs.Text.Order.{name_cmp}
 use Rattle.fb_wiring.specs.Library.Seen.{has_name}
-use Rattle.fb_wiring.proofs.Library.WalkLemmas.{begun, one_pushed, no_items, Contains-has, has-Contains}
+use Rattle.fb_wiring.proofs.Library.WalkLemmas.{begun, one_pushed, Contains-has, has-Contains}
 use Rattle.fb_flatten.proofs.SuspectLemmas.{IsSearch, IsSearch-begin, IsSearch-step, all_seen, part_seen, recursive_seen, search_falls}
 use Rattle.fb_flatten.proofs.suspects.suspects.Goals as goal
 
@@ -33,7 +34,7 @@ returns g c =
     let sources = g.V.View.sources c.args.view.now in
     let unit = c.args.unit in
     let seen = c.loop-name.seen.keys in
-    let empty : c.loop-name.pending.items ≡ [] = no_items c.loop-name.pending.items (omega (arith, c.in_default.ensures.cases, c.loop-name.pending.ok.0)) in
+    let empty : c.loop-name.pending.items ≡ [] = nil_from_length c.loop-name.pending.items (omega (arith, c.in_default.ensures.cases, c.loop-name.pending.ok.0)) in
     let walk : IsSearch hints sources unit seen [] = subst (IsSearch hints sources unit seen) empty c.loop-name.invariant in
     IfOk-weaker c.names_of.result _ _
     (λ names is. record {

@@ -2,12 +2,13 @@ use Rattle.std.proofs.Common.{◌≡◌, ◌+◌, [], ◌∷◌, ◌++◌, take,
 use Rattle.std.proofs.lemmas.Grind.{common_steps}
 use Rattle.std.proofs.lemmas.Result.{IfOk-weaker}
 use Rattle.std.specs.List.{flat_map}
+use Rattle.std.proofs.lemmas.List.{nil_from_length}
 use Rattle.fb_library.specs.Near.{carried_on}
 use Rattle.fb_library.specs.Seen.{Opens}
 use Rattle.fb_library.specs.View.{values_at, values_in}
 use Rattle.fb_library.specs.Near.{in_all_trees}
 use Rattle.fb_library.proofs.CarriedLemmas.{carried_within, carried_at_end}
-use Rattle.fb_library.proofs.WalkLemmas.{IsWalk, IsWalk-begin, IsWalk-step, opens_falls, opens_more, no_items}
+use Rattle.fb_library.proofs.WalkLemmas.{IsWalk, IsWalk-begin, IsWalk-step, opens_falls, opens_more}
 use Rattle.fb_library.proofs.walk.carried.Goals as goal
 
 pub loop-unit-preserved : goal.loop-unit-preserved
@@ -48,6 +49,6 @@ pub returns : goal.returns
 returns g c =
     let sources = g.V.View.sources c.args.view.now in
     let walk = IsWalk (carried_on sources) (flat_map (values_at sources) c.args.units.now) c.loop-name.seen.keys in
-    let empty : c.loop-name.pending.items ≡ [] = no_items c.loop-name.pending.items (omega (arith, c.in_default.ensures.cases, c.loop-name.pending.ok.0)) in
+    let empty : c.loop-name.pending.items ≡ [] = nil_from_length c.loop-name.pending.items (omega (arith, c.in_default.ensures.cases, c.loop-name.pending.ok.0)) in
     let is = carried_at_end sources c.args.units.now c.loop-name.seen.keys c.names_of.ensures.ordered (subst walk empty c.loop-name.invariant) in
     IfOk-weaker c.names_of.result _ _ (λ names same. same ∙ is) c.names_of.ensures.items

@@ -1,10 +1,11 @@
 use Rattle.std.proofs.Common.{◌≡◌, ◌∷◌, [], ◌++◌, refl, ap, sym, subst, ◌∙◌, arith}
 use Rattle.std.proofs.lemmas.Result.{IfOk-weaker}
+use Rattle.std.proofs.lemmas.List.{nil_from_length}
 use Rattle.fb_library.specs.Near.{in_all_trees}
 use Rattle.fb_library.specs.Seen.{has_name}
 use Rattle.fb_library.specs.View.{mentions_at, mentions_in}
 use Rattle.fb_library.proofs.FarLemmas.{seen_rests, rests_seen}
-use Rattle.fb_library.proofs.WalkLemmas.{IsWalk, IsWalk-one, IsWalk-step, begun, one_pushed, no_items, opens_falls, mentioned_somewhere, Contains-has, has-Contains}
+use Rattle.fb_library.proofs.WalkLemmas.{IsWalk, IsWalk-one, IsWalk-step, begun, one_pushed, opens_falls, mentioned_somewhere, Contains-has, has-Contains}
 use Rattle.fb_library.proofs.walk.far.Goals as goal
 
 pub loop-name-init : goal.loop-name-init
@@ -33,6 +34,6 @@ returns-clause-sound g c =
 pub returns-clause-complete : goal.returns-clause-complete
 returns-clause-complete g c =
     let sources = g.V.View.sources c.args.view.now in
-    let empty : c.loop-name.pending.items ≡ [] = no_items c.loop-name.pending.items (omega (arith, c.in_default.ensures.cases, c.loop-name.pending.ok.0)) in
+    let empty : c.loop-name.pending.items ≡ [] = nil_from_length c.loop-name.pending.items (omega (arith, c.in_default.ensures.cases, c.loop-name.pending.ok.0)) in
     let walk : IsWalk (mentions_at sources) (c.args.unit ∷ []) c.loop-name.seen.keys [] = subst (IsWalk (mentions_at sources) (c.args.unit ∷ []) c.loop-name.seen.keys) empty c.loop-name.invariant in
     IfOk-weaker c.names_of.result _ _ (λ names is v rests. Contains-has v names.items (ap (λ l. has_name l v) is ∙ rests_seen walk v rests)) c.names_of.ensures.items

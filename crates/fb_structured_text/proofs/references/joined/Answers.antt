@@ -11,7 +11,7 @@ loop-part-init c = rw c.in_ok-members.ensures.items (joined_none c.args.first)
 pub loop-part-preserved : goal.loop-part-preserved
 loop-part-preserved c =
     joined_more c.args.first c.loop-part.yielded c.loop-part.members.items c.push.new.self.items c.loop-part.subscripts.items c.append.new.self.items c.loop-part.end c.in-Some.part _
-    c.loop-part.invariant c.in_ok-push.ensures.items (λ i. record { name = c.in_ok-name.ensures i; subscripts = (c.len-in-loop-part.ensures ∙ c.in-Some.part.subscripts.ok.0) i }) c.in_ok-append.ensures.items
+    c.loop-part.invariant c.in_ok-push.ensures.items (λ i. record { name = c.in-Some.part.name; subscripts = (c.len-in-loop-part.ensures ∙ c.in-Some.part.subscripts.ok.0) i }) c.in_ok-append.ensures.items
 
 pub returns : goal.returns
 returns c =

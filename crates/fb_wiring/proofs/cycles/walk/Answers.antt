@@ -1,6 +1,7 @@
 use Rattle.std.proofs.Common.{◌≡◌, List, ℕ, ◌∷◌, [], ◌++◌, sym, subst, arith}
+use Rattle.std.proofs.lemmas.List.{nil_from_length}
 use Rattle.fb_iface.specs.Library.Seen.{Opens, has_name}
-use Rattle.fb_iface.proofs.Library.WalkLemmas.{one_pushed, no_items}
+use Rattle.fb_iface.proofs.Library.WalkLemmas.{one_pushed}
 use Rattle.fb_wiring.specs.Graph.{edges_within}
 use Rattle.fb_wiring.proofs.FilterLemmas.{of_filter}
 use Rattle.fb_wiring.proofs.GraphLemmas.{edges-none, edges-some}
@@ -37,6 +38,6 @@ loop-name-smaller c =
 pub returns : goal.returns
 returns c =
     let next = edges_within c.args.edges.now c.args.within.now in
-    let empty : c.loop-name.pending.items ≡ [] = no_items c.loop-name.pending.items (omega (arith, c.in_default.ensures.cases, c.loop-name.pending.ok.0)) in
+    let empty : c.loop-name.pending.items ≡ [] = nil_from_length c.loop-name.pending.items (omega (arith, c.in_default.ensures.cases, c.loop-name.pending.ok.0)) in
     let walk : IsWalk next c.args.from.now c.loop-name.seen.keys [] = subst (IsWalk next c.args.from.now c.loop-name.seen.keys) empty c.loop-name.invariant in
     walk_at_end next c.args.from.now c.loop-name.seen.keys walk

@@ -1,8 +1,9 @@
 use Rattle.std.proofs.Common.{◌≡◌, ℕ, List, [], refl, sym, subst, ◌∙◌, arith}
 use Rattle.std.proofs.lemmas.Bool.{false≢true}
+use Rattle.std.proofs.lemmas.List.{nil_from_length}
 use Rattle.fb_iface.proofs.Library.WalkLemmas.{has-updates, not_true, not_false}
 use Rattle.fb_wiring.specs.declared.search.Step.{Step}
-use Rattle.fb_wiring.proofs.SearchLemmas.{IsSearch, IsSearch-begin, fuel_pop, skipped, left_last, found_loop, entered_next, entered_falls, whole_at_end, none_at_end, no_steps}
+use Rattle.fb_wiring.proofs.SearchLemmas.{IsSearch, IsSearch-begin, fuel_pop, skipped, left_last, found_loop, entered_next, entered_falls, whole_at_end, none_at_end}
 use Rattle.fb_wiring.proofs.search.all_inner_first.Goals as goal
 
 pub loop-step-init : goal.loop-step-init
@@ -59,13 +60,13 @@ returns-then-not-branch-clause-recursive g c = (
 pub returns-clause-whole : goal.returns-clause-whole
 returns-clause-whole g c =
     let sources = g.V.View.sources c.args.view.now in
-    let empty : c.loop-step.steps.items ≡ [] = no_steps c.loop-step.steps.items (omega (arith, c.in_default.ensures.cases, c.loop-step.steps.ok.0)) in
+    let empty : c.loop-step.steps.items ≡ [] = nil_from_length c.loop-step.steps.items (omega (arith, c.in_default.ensures.cases, c.loop-step.steps.ok.0)) in
     let search = subst (λ (x : List Step). IsSearch sources c.args.names.now c.loop-step.entered.keys c.loop-step.left.keys c.loop-step.order.items x) empty c.loop-step.invariant in
     λ v. whole_at_end sources c.args.names.now _ _ _ search v
 
 pub returns-clause-recursive : goal.returns-clause-recursive
 returns-clause-recursive g c =
     let sources = g.V.View.sources c.args.view.now in
-    let empty : c.loop-step.steps.items ≡ [] = no_steps c.loop-step.steps.items (omega (arith, c.in_default.ensures.cases, c.loop-step.steps.ok.0)) in
+    let empty : c.loop-step.steps.items ≡ [] = nil_from_length c.loop-step.steps.items (omega (arith, c.in_default.ensures.cases, c.loop-step.steps.ok.0)) in
     let search = subst (λ (x : List Step). IsSearch sources c.args.names.now c.loop-step.entered.keys c.loop-step.left.keys c.loop-step.order.items x) empty c.loop-step.invariant in
     (λ none. absurd (false≢true (sym none)), λ loop. absurd (none_at_end sources c.args.names.now _ _ _ search loop))

@@ -3,8 +3,9 @@ use Rattle.std.proofs.Common.{◌≡◌, ◌+◌, [], ◌∷◌, ◌++◌, take,
 use Rattle.std.proofs.lemmas.Grind.{common_steps}
 use Rattle.std.proofs.lemmas.Result.{IfOk-weaker}
 use Rattle.std.specs.List.{flat_map}
+use Rattle.std.proofs.lemmas.List.{nil_from_length}
 use Rattle.fb_library.specs.Seen.{Opens}
-use Rattle.fb_library.proofs.WalkLemmas.{IsWalk, IsWalk-begin, IsWalk-step, opens_falls, opens_more, no_items}
+use Rattle.fb_library.proofs.WalkLemmas.{IsWalk, IsWalk-begin, IsWalk-step, opens_falls, opens_more}
 use Rattle.fb_index.specs.Indexed.{Indexed}
 use Rattle.fb_index.specs.Near.{carrying_on}
 use Rattle.fb_index.specs.Users.{users_of}
@@ -45,6 +46,6 @@ loop-name-2-smaller c =
 
 pub returns : goal.returns
 returns c =
-    let empty : c.loop-name-2.pending.items ≡ [] = no_items c.loop-name-2.pending.items (omega (arith, c.in_default.ensures.cases, c.loop-name-2.pending.ok.0)) in
+    let empty : c.loop-name-2.pending.items ≡ [] = nil_from_length c.loop-name-2.pending.items (omega (arith, c.in_default.ensures.cases, c.loop-name-2.pending.ok.0)) in
     let walk = subst (IsWalk (carrying_on c.args.self.now) (flat_map (users_of c.args.self.now.of_values) c.args.names.now) c.loop-name-2.seen.keys) empty c.loop-name-2.invariant in
     IfOk-weaker c.names_of.result _ _ (λ units is. carriers_at_end c.args.self.now c.args.names.now c.loop-name-2.seen.keys units.items is walk) c.names_of.ensures.items

@@ -4,11 +4,12 @@ use Rattle.std.proofs.lemmas.Grind.{common_steps}
 use Rattle.std.proofs.lemmas.Result.{IfOk-weaker}
 use Rattle.std.specs.List.{flat_map}
 use Rattle.std.specs.List.Sorted.{IsStrictlySortedBy}
+use Rattle.std.proofs.lemmas.List.{nil_from_length}
 use Rattle.fb_text.specs.Order.{name_cmp, names_in_order}
 use Rattle.fb_text.proofs.OrderLemmas.{in_order-sorted}
 use Rattle.fb_library.specs.Seen.{Opens}
 use Rattle.fb_library.proofs.Names.{name_total}
-use Rattle.fb_library.proofs.WalkLemmas.{IsWalk, IsWalk-begin, IsWalk-step, opens_falls, opens_more, no_items}
+use Rattle.fb_library.proofs.WalkLemmas.{IsWalk, IsWalk-begin, IsWalk-step, opens_falls, opens_more}
 use Rattle.fb_index.specs.Indexed.{is_indexed}
 use Rattle.fb_index.specs.Near.{mentioning}
 use Rattle.fb_index.proofs.Walks.{all_users, mentioning_within, far_at_end, in_order_are}
@@ -50,7 +51,7 @@ pub returns-clause-exact : goal.returns-clause-exact
 returns-clause-exact c =
     let it = c.args.self.now in
     let names = c.args.names.now in
-    let empty : c.loop-name-2.pending.items ≡ [] = no_items c.loop-name-2.pending.items (omega (arith, c.in_default.ensures.cases, c.loop-name-2.pending.ok.0)) in
+    let empty : c.loop-name-2.pending.items ≡ [] = nil_from_length c.loop-name-2.pending.items (omega (arith, c.in_default.ensures.cases, c.loop-name-2.pending.ok.0)) in
     let walk = subst (IsWalk (mentioning it) (flat_map (mentioning it) names) c.loop-name-2.seen.keys) empty c.loop-name-2.invariant in
     let users : c.as_slice.result.now ≡ c.loop-name-2.seen.keys = c.as_slice.ensures.value ∙ c.in_ok-users.ensures.items in
     let first : c.extend_from_slice.new.self.items ≡ c.in_ok-units.units.items ++ c.as_slice.result.now = c.in_ok-extend_from_slice.ensures.items in
