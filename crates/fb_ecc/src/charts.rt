@@ -20,19 +20,13 @@ pub fn ecc_faults<V: View>(alloc: Global, view: &V, unit: &Name) -> Result<Vec<F
     ensures { IfOk result
         (λ faults. faults.items ≡ faults_in_order (ecc_faults_of (V.sources view.now) unit.now)) }
 {
-    let found = reported(alloc, view, unit)?;
-    sorted_faults(alloc, found.as_slice())
-}
-
-/// The faults as they are found.
-fn reported<V: View>(alloc: Global, view: &V, unit: &Name) -> Result<Vec<Fault>, AllocError>
-    ensures { IfOk result (λ faults. faults.items ≡ ecc_faults_of (V.sources view.now) unit.now) }
-{
     let mut found = Vec::new(alloc);
-    if let Some(Decl::Block(declared)) = tree_by_name(view, unit) {
-        report_block(alloc, view, declared, &mut found)?;
-    }
-    Ok(found)
+    let declared = match tree_by_name(view, unit) {
+        Some(Decl::Block(declared)) => declared,
+        _ => return Ok(found),
+    };
+    report_block(alloc, view, declared, &mut found)?;
+    sorted_faults(alloc, found.as_slice())
 }
 
 /// Reports the faults of a block type. Where it has no chart, what names stand for isn't read.

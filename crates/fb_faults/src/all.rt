@@ -6,7 +6,7 @@ ghost use Rattle.fb_netcheck.specs.Parse.Body.{Whole, body_tree};
 ghost use Rattle.fb_netcheck.specs.Iface.Ports.{meanings_in_type};
 ghost use Rattle.fb_netcheck.specs.Networks.{type_network, type_place};
 ghost use Rattle.fb_netcheck.specs.Settings.{place_in};
-ghost use Rattle.fb_faults.specs.Faults.{block_faults, faults_here, faults_of, reported_in, reported_of};
+ghost use Rattle.fb_faults.specs.Faults.{block_faults, faults_here, faults_of, reported_in};
 
 use crate::mappings::report_mappings;
 use fb_ecc::report_charts;
@@ -25,19 +25,13 @@ use std::alloc::{AllocError, Global};
 pub fn faults<V: View>(alloc: Global, view: &V, unit: &Name) -> Result<Vec<Fault>, AllocError>
     ensures { IfOk result (λ faults. faults.items ≡ faults_of (V.sources view.now) unit.now) }
 {
-    let found = reported(alloc, view, unit)?;
-    sorted_faults(alloc, found.as_slice())
-}
-
-/// The faults as the checks find them.
-fn reported<V: View>(alloc: Global, view: &V, unit: &Name) -> Result<Vec<Fault>, AllocError>
-    ensures { IfOk result (λ found. found.items ≡ reported_of (V.sources view.now) unit.now) }
-{
     let mut found = Vec::new(alloc);
-    if let Some(source) = view.get(unit) {
-        report_body(alloc, view, unit, source.body(), &mut found)?;
-    }
-    Ok(found)
+    let source = match view.get(unit) {
+        Some(source) => source,
+        None => return Ok(found),
+    };
+    report_body(alloc, view, unit, source.body(), &mut found)?;
+    sorted_faults(alloc, found.as_slice())
 }
 
 /// Reports the place of a broken text, or the faults of what a text declares.

@@ -22,19 +22,13 @@ pub fn net_faults<V: View>(alloc: Global, view: &V, unit: &Name) -> Result<Vec<F
     ensures { IfOk result
         (λ faults. faults.items ≡ faults_in_order (net_faults_of (V.sources view.now) unit.now)) }
 {
-    let found = reported(alloc, view, unit)?;
-    sorted_faults(alloc, found.as_slice())
-}
-
-/// The faults as they are found.
-fn reported<V: View>(alloc: Global, view: &V, unit: &Name) -> Result<Vec<Fault>, AllocError>
-    ensures { IfOk result (λ faults. faults.items ≡ net_faults_of (V.sources view.now) unit.now) }
-{
     let mut found = Vec::new(alloc);
-    if let Some(decl) = tree_by_name(view, unit) {
-        report_networks(alloc, view, unit, decl, &mut found)?;
-    }
-    Ok(found)
+    let decl = match tree_by_name(view, unit) {
+        Some(decl) => decl,
+        None => return Ok(found),
+    };
+    report_networks(alloc, view, unit, decl, &mut found)?;
+    sorted_faults(alloc, found.as_slice())
 }
 
 /// Reports the faults of the networks of a unit, as they are found.
