@@ -1,7 +1,7 @@
 //! What a workbench shows after the calls of its callers: its records, keys, revisions and what is known of a key.
 use crate::talk::{all_right, new_bench, talk};
 use fb_text::Name;
-use fb_wire::bench::{Asked, Bench, Call, CheckpointRefused, Limits, Reply, Shown};
+use fb_wire::bench::{Bench, Call, CheckpointRefused, Limits, Reply, Shown};
 use fb_wire::jobs::{Key, Kind};
 use std::alloc::Global;
 use std::process::Abort;
@@ -68,7 +68,7 @@ fn is_answer(bench: &Bench, number: u64, turn: u64) -> bool {
         None => false,
         Some(record) => {
             let is_ask = matches!(record.call(), Call::Ask(_));
-            let is_value = matches!(record.reply(), Reply::Asking(Asked::Value(_)));
+            let is_value = matches!(record.reply(), Reply::Value(_));
             record.caller() == 2 && record.turn() == turn && is_ask && is_value
         }
     }

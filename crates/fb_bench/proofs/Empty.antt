@@ -8,7 +8,7 @@ use Rattle.fb_entries.specs.Library.Texts.{Texts}
 use Rattle.fb_entries.specs.Jobs.declared.key.Key.{Key}
 use Rattle.fb_entries.specs.Jobs.Keys.{has_key}
 use Rattle.fb_entries.specs.Jobs.KeyOrder.{key_cmp}
-use Rattle.fb_history.specs.BenchView.{BenchView, empty_origin, new_story, opened, replay, replies}
+use Rattle.fb_history.specs.BenchView.{BenchView, empty_origin, new_bench, opened, replay, replies}
 use Rattle.fb_bench.specs.Kept.{Agrees, IsConsistent, EntryFits}
 use Rattle.fb_entries.specs.Index.Indexed.{Indexed, nothing_indexed}
 use Rattle.fb_entries.proofs.Indexing.{indexed_none}
@@ -27,12 +27,12 @@ agrees_empty most entries no_entries no_keys = record {
   ready_are = λ key. ap (λ ks. list_any (is_at (key_cmp key)) ks) no_keys;
 }
 
-kept_start : (most limit : ℕ) (entries : Keyed) (index : Indexed) → entries.entries ≡ [] → entries.ready ≡ [] → index ≡ nothing_indexed → IsConsistent [] 0 entries index (new_story most limit)
+kept_start : (most limit : ℕ) (entries : Keyed) (index : Indexed) → entries.entries ≡ [] → entries.ready ≡ [] → index ≡ nothing_indexed → IsConsistent [] 0 entries index (new_bench most limit)
 unfolding replay replies
 kept_start most limit entries index no_entries no_keys empty = record { begins = begins_empty most; agrees = agrees_empty most entries no_entries no_keys; replayed = refl; indexed = indexed_none [] index refl empty; few = omega arith }
 
-pub kept_empty : (most limit : ℕ) (units : Texts) (entries : Keyed) (index : Indexed) (story : BenchView) → units ≡ [] → entries.entries ≡ [] → entries.ready ≡ [] → index ≡ nothing_indexed → story ≡ new_story most limit → IsConsistent units 0 entries index story
+pub kept_empty : (most limit : ℕ) (units : Texts) (entries : Keyed) (index : Indexed) (story : BenchView) → units ≡ [] → entries.entries ≡ [] → entries.ready ≡ [] → index ≡ nothing_indexed → story ≡ new_bench most limit → IsConsistent units 0 entries index story
 kept_empty most limit units entries index story no_units no_entries no_keys empty is =
     subst (λ st. IsConsistent units 0 entries index st) (sym is)
-    (subst (λ us. IsConsistent us 0 entries index (new_story most limit)) (sym no_units)
+    (subst (λ us. IsConsistent us 0 entries index (new_bench most limit)) (sym no_units)
     (kept_start most limit entries index no_entries no_keys empty))

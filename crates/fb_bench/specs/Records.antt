@@ -1,7 +1,7 @@
 -- Records of the program as what they say, and the jobs that are handed out.
 use Rattle.std.specs.Prelude.{Option, Some, None}
 use Rattle.fb_entries.specs.Jobs.Reads.{PlainJob}
-pub use Rattle.fb_history.specs.Records.{wanted_job, wanted_job_in, text_edit, text_edits, call_of, shown_in, delivered_in, reply_of, records_in, listed, commit_of}
+pub use Rattle.fb_history.specs.Records.{wanted_job, text_edit, text_edits, call_of, shown_in, reply_of, records_in, listed, commit_of}
 use Rattle.fb_bench.specs.declared.answers.Taken.{Taken}
 use Rattle.fb_bench.specs.declared.answers.Taken.TheVariants.{Job, Nothing}
 

@@ -1,6 +1,6 @@
 -- A workbench as one caller's desk.
 use Rattle.std.specs.Prelude.{◌≡◌, ℕ, ◌≤◌, ◌<◌, length, Result, Ok, Err}
-use Rattle.fb_history.specs.Checkpoints.{KeptUpTo, checking, story_checked}
+use Rattle.fb_history.specs.Checkpoints.{KeptUpTo, checking, bench_checked}
 use Rattle.fb_history.specs.Limits.{Bounds}
 use Rattle.fb_history.specs.Machine.{Call, reply}
 use Rattle.fb_history.specs.BenchView.{BenchView, state_of, recorded}
@@ -19,7 +19,7 @@ IsCallStep caller old call BehindHistory new = ⊥
 
 -- A checkpoint as the workbench has to answer it, and what it leaves. The caller is alone at the workbench.
 abbrev pub IsCheckpointStep : BenchView → Bounds → CheckpointAnswer → BenchView → Type 0
-IsCheckpointStep old limits (Checked it) new = (it ≡ checking limits old) × (new ≡ story_checked it limits old)
+IsCheckpointStep old limits (Checked it) new = (it ≡ checking limits old) × (new ≡ bench_checked it limits old)
 IsCheckpointStep old limits SharedHistory new = ⊥
 
 abbrev pub IsStep : ℕ → BenchView → Exchange → BenchView → Type 0

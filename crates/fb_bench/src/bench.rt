@@ -68,7 +68,7 @@ impl Bench {
     ghost use Rattle.fb_entries.specs.Jobs.Reads.{read_texts};
     ghost use Rattle.fb_entries.specs.Jobs.Values.{all_seen};
     ghost use Rattle.fb_history.specs.declared.answers.Delivered.TheVariants.{Accepted};
-    ghost use Rattle.fb_history.specs.BenchView.{IsOrigin, IsFull, new_story, state_of, reply_at, recorded, record_of, record_numbered, all_turns, last_number, pages_after, calls_of, IsReplay, AreTurns};
+    ghost use Rattle.fb_history.specs.BenchView.{IsOrigin, IsFull, new_bench, state_of, reply_at, recorded, record_of, record_numbered, all_turns, last_number, pages_after, calls_of, IsReplay, AreTurns};
     ghost use Rattle.fb_bench.specs.Records.{call_of, reply_of, shown_in, job_in, commit_of};
     ghost use Rattle.fb_history.specs.Records.{records_in};
     ghost use Rattle.fb_bench.specs.Founds.{HasNetsOf};
@@ -85,7 +85,7 @@ impl Bench {
 
     /// An empty workbench. It keeps the allocator for all its calls.
     pub fn new(alloc: Global, limits: Limits) -> Bench
-        ensures { result ≡ new_story limits.units limits.history }
+        ensures { result ≡ new_bench limits.units limits.history }
     {
         Bench {
             alloc,
@@ -188,22 +188,22 @@ impl Bench {
     }
 
     /// What is known of a key: what is answered, and what is recorded, with a share of the key.
-    fn shown(&self, key: Key) -> Result<(Asked, Asked, Arc<Key>), AllocError>
+    fn shown(&self, key: Key) -> Result<(Asked, Reply, Arc<Key>), AllocError>
         ensures answer { IfOk result (λ made. shown_in made.0 ≡ shown (state_of self.now) key) }
-        ensures stored { IfOk result (λ made. shown_in made.1 ≡ shown (state_of self.now) key) }
+        ensures stored { IfOk result (λ made. reply_of made.1 ≡ OfAsk (shown (state_of self.now) key)) }
         ensures key { IfOk result (λ made. made.2.value ≡ key) }
     {
         let Some(entry) = self.entries.get(&key) else {
             let own = Arc::new(self.alloc, key)?;
-            return Ok((Asked::NoSuchKey, Asked::NoSuchKey, own));
+            return Ok((Asked::NoSuchKey, Reply::NoSuchKey, own));
         };
         let shared = entry.share_of(self.alloc, key)?;
         match &entry.value {
-            None => Ok((Asked::Pending, Asked::Pending, shared)),
+            None => Ok((Asked::Pending, Reply::Pending, shared)),
             Some(value) => {
                 let answer = value.clone()?;
                 let stored = value.clone()?;
-                Ok((Asked::Value(answer), Asked::Value(stored), shared))
+                Ok((Asked::Value(answer), Reply::Value(stored), shared))
             }
         }
     }
@@ -241,9 +241,7 @@ impl Bench {
             return Err(Refused::HistoryFull);
         }
         let (answer, stored, shared) = self.shown(key)?;
-        let share = self
-            .history
-            .push(caller, Call::Ask(shared), Reply::Asking(stored))?;
+        let share = self.history.push(caller, Call::Ask(shared), stored)?;
         Ok((answer, share))
     }
 
@@ -318,7 +316,7 @@ impl Bench {
         }
         match self.next() {
             None => {
-                let share = self.history.push(caller, Call::Take, Reply::Taking(None))?;
+                let share = self.history.push(caller, Call::Take, Reply::Nothing)?;
                 Ok((Taken::Nothing, share))
             }
             Some(key) => {
@@ -498,7 +496,7 @@ impl Bench {
         let value = finished.value().clone()?;
         let derivation = finished.derivation()?;
         let found = shares_of(self.alloc, finished.found())?;
-        let answer = Reply::Delivering(None);
+        let answer = Reply::Accepted;
         let share = self.history.push(caller, call, answer)?;
         let key = finished.key();
         self.entries.keep(&key, value, derivation);
@@ -571,7 +569,7 @@ impl Bench {
         }
         if !self.is_out(&key) {
             let call = self.giving_back(key)?;
-            let answer = Reply::GivingBack(GivenBack::NothingOut);
+            let answer = Reply::GivenBack(GivenBack::NothingOut);
             let share = self.history.push(caller, call, answer)?;
             return Ok((GivenBack::NothingOut, share));
         }
@@ -595,7 +593,7 @@ impl Bench {
     {
         let call = self.giving_back(*key)?;
         self.entries.make_ready(key)?;
-        let answer = Reply::GivingBack(GivenBack::Returned);
+        let answer = Reply::GivenBack(GivenBack::Returned);
         match self.history.push(caller, call, answer) {
             Ok(share) => {
                 self.entries.bring_back(key);
@@ -619,7 +617,7 @@ impl Bench {
         ensures err { OnErr result (self.new ≡ self.old) }
     {
         let call = self.giving_back(*key)?;
-        let answer = Reply::GivingBack(GivenBack::Returned);
+        let answer = Reply::GivenBack(GivenBack::Returned);
         let share = self.history.push(caller, call, answer)?;
         self.entries.bring_back(key);
         Ok(share)

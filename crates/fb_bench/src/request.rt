@@ -37,5 +37,5 @@ pub(crate) fn reply_of_job(alloc: Global, job: &Job) -> Result<Reply, AllocError
         key: job.key(),
         reads: job.texts().clone()?,
     };
-    Ok(Reply::Taking(Some(Box::new(alloc, wanted)?)))
+    Ok(Reply::Job(Box::new(alloc, wanted)?))
 }

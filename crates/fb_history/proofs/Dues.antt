@@ -110,5 +110,5 @@ pub waits_at_origin : (origin : Origin) (k : Key) → IsOrigin origin → IsWait
 waits_at_origin origin k begins = own_pending (has_key origin.units k) ((opened origin).pending k) (begins.waiting k)
 
 -- pending are exactly the keys that are due
-pub pending_is_due : (story : BenchView) (k : Key) → IsOrigin story.origin → (state_of story).pending k ≡ is_due story k
-pending_is_due story k begins = waits_after (opened story.origin) (calls_of story.log) k ((opened story.origin).pending k) (waits_at_origin story.origin k begins)
+pub pending_is_due : (bench : BenchView) (k : Key) → IsOrigin bench.origin → (state_of bench).pending k ≡ is_due bench k
+pending_is_due bench k begins = waits_after (opened bench.origin) (calls_of bench.log) k ((opened bench.origin).pending k) (waits_at_origin bench.origin k begins)

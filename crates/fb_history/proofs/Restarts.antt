@@ -20,7 +20,7 @@ use Rattle.fb_history.specs.BenchView.{BenchView, IsOrigin, opened, replay, call
 use Rattle.fb_history.specs.Checkpoints.{checkpointed, IsUnseen, AreOne, NumbersGoOn}
 use Rattle.fb_history.proofs.Least.{next_passes, of_keys}
 use Rattle.fb_history.proofs.Pages.{on_all}
-use Rattle.fb_history.proofs.Sorted.{rise_story}
+use Rattle.fb_history.proofs.Sorted.{rise_bench}
 
 -- ---- no key is pending or handed out but those of the texts
 
@@ -84,8 +84,8 @@ unfolding replay
 within_replay s [] within = within
 within_replay s (call ∷ calls) within = within_replay (after s call) calls (within_after s call within)
 
-within_story : (story : BenchView) → IsOrigin story.origin → IsWithin (state_of story)
-within_story story begins = within_replay (opened story.origin) (calls_of story.log) (λ key none. (begins.waiting key none, begins.handed key none))
+within_bench : (bench : BenchView) → IsOrigin bench.origin → IsWithin (state_of bench)
+within_bench bench begins = within_replay (opened bench.origin) (calls_of bench.log) (λ key none. (begins.waiting key none, begins.handed key none))
 
 -- ---- the state is as it was
 
@@ -98,23 +98,23 @@ listed_again : (s : State) (marks : Key → Bool) → ((key : Key) → has_key s
 listed_again s marks sound key =
     of_filtered marks key (keys_of s.units) ∙ ap (λ b. b && marks key) (of_keys s.units key) ∙ own (has_key s.units key) (marks key) (sound key)
 
-pub unseen : (limits : Bounds) (story : BenchView) → IsOrigin story.origin → IsUnseen limits story
+pub unseen : (limits : Bounds) (bench : BenchView) → IsOrigin bench.origin → IsUnseen limits bench
 unfolding replay
-unseen limits story begins =
-    let s : State = state_of story in
-    let within = within_story story begins in
+unseen limits bench begins =
+    let s : State = state_of bench in
+    let within = within_bench bench begins in
     let pends = listed_again s s.pending (λ key none. (within key none).0) in
     let outs = listed_again s s.out (λ key none. (within key none).1) in
     λ i. record { most_units = limits.units; units = s.units; commits = s.commits; pending = λ key. pends key i; out = λ key. outs key i }
 
 -- ---- it is where a history may begin
 
-pub goes_on : (limits : Bounds) (story : BenchView) → IsOrigin story.origin → IsOrigin (checkpointed limits story).origin
-goes_on limits story begins =
-    let s : State = state_of story in
-    let within = within_story story begins in
+pub goes_on : (limits : Bounds) (bench : BenchView) → IsOrigin bench.origin → IsOrigin (checkpointed limits bench).origin
+goes_on limits bench begins =
+    let s : State = state_of bench in
+    let within = within_bench bench begins in
     record {
-      rise = rise_story story begins;
+      rise = rise_bench bench begins;
       waiting = λ key none. of_filtered s.pending key (keys_of s.units) ∙ and_right _ _ (within key none).0;
       handed = λ key none. of_filtered s.out key (keys_of s.units) ∙ and_right _ _ (within key none).1;
     }
@@ -125,19 +125,19 @@ no_record : (place : ℕ) → record_at [] place ≡ None
 no_record zero = refl
 no_record (suc place) = refl
 
-pub numbers_go_on : (limits : Bounds) (story : BenchView) → NumbersGoOn limits story
-numbers_go_on limits story = record {
-  last = (let n = last_number story in omega arith);
-  turns = λ caller. (let all = on_all story.origin.pages story.log.records caller in omega (arith, all));
-  none = λ number. no_record (number - last_number story);
+pub numbers_go_on : (limits : Bounds) (bench : BenchView) → NumbersGoOn limits bench
+numbers_go_on limits bench = record {
+  last = (let n = last_number bench in omega arith);
+  turns = λ caller. (let all = on_all bench.origin.pages bench.log.records caller in omega (arith, all));
+  none = λ number. no_record (number - last_number bench);
 }
 
 -- two in a row are the second
-pub are_one : (first second : Bounds) (story : BenchView) → IsOrigin story.origin → AreOne first second story
-are_one first second story begins =
-    let same = unseen first story begins in
-    let s : State = state_of story in
-    let last : last_number (checkpointed first story) ≡ last_number story = (numbers_go_on first story).last in
+pub are_one : (first second : Bounds) (bench : BenchView) → IsOrigin bench.origin → AreOne first second bench
+are_one first second bench begins =
+    let same = unseen first bench begins in
+    let s : State = state_of bench in
+    let last : last_number (checkpointed first bench) ≡ last_number bench = (numbers_go_on first bench).last in
     λ i. record {
       origin = record {
         most_units = second.units;
@@ -146,7 +146,7 @@ are_one first second story begins =
         pending = filter (same i).pending (keys_of (same i).units);
         out = filter (same i).out (keys_of (same i).units);
         before = last i;
-        pages = pages_after story.origin.pages story.log.records;
+        pages = pages_after bench.origin.pages bench.log.records;
       };
       log = record { limit = second.history; records = [] };
     }

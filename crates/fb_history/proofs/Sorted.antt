@@ -123,9 +123,9 @@ rise_replay s (call ∷ calls) rise = rise_replay (after s call) calls (rise_aft
 keys_sorted : (texts : Texts) → Rise texts → IsStrictlySortedBy key_cmp (keys_of texts)
 keys_sorted texts rise = IsStrictlySortedBy-filter key_cmp (has_key texts) (all_keys (names_of texts)) (all_keys_rise (names_of texts) rise)
 
-pub rise_story : (story : BenchView) → IsOrigin story.origin → Rise (state_of story).units
-rise_story story begins = rise_replay (opened story.origin) (calls_of story.log) begins.rise
+pub rise_bench : (bench : BenchView) → IsOrigin bench.origin → Rise (state_of bench).units
+rise_bench bench begins = rise_replay (opened bench.origin) (calls_of bench.log) begins.rise
 
 -- the keys of every workbench rise
-pub keys_rise : (story : BenchView) → IsOrigin story.origin → IsStrictlySortedBy key_cmp (keys_of (state_of story).units)
-keys_rise story begins = keys_sorted (state_of story).units (rise_story story begins)
+pub keys_rise : (bench : BenchView) → IsOrigin bench.origin → IsStrictlySortedBy key_cmp (keys_of (state_of bench).units)
+keys_rise bench begins = keys_sorted (state_of bench).units (rise_bench bench begins)

@@ -27,20 +27,20 @@ replies_pushed : (es : List Record) (e : Record) → map (λ (x : Record). x.rep
 replies_pushed [] e = refl
 replies_pushed (x ∷ xs) e = ap (λ rs. x.reply ∷ rs) (replies_pushed xs e)
 
-pub state_recorded : (story : BenchView) (caller : ℕ) (call : Call) → state_of (recorded story caller call) ≡ after (state_of story) call
-state_recorded story caller call =
-    ap (λ calls. replay (opened story.origin) calls) (calls_more story.log.records _) ∙ replay_more (opened story.origin) (calls_of story.log) call
+pub state_recorded : (bench : BenchView) (caller : ℕ) (call : Call) → state_of (recorded bench caller call) ≡ after (state_of bench) call
+state_recorded bench caller call =
+    ap (λ calls. replay (opened bench.origin) calls) (calls_more bench.log.records _) ∙ replay_more (opened bench.origin) (calls_of bench.log) call
 
-pub replayed_recorded : (story : BenchView) (caller : ℕ) (call : Call) → IsReplay story → IsReplay (recorded story caller call)
-replayed_recorded story caller call so_far =
-    ap (λ calls. replies (opened story.origin) calls) (calls_more story.log.records _)
-    ∙ replies_more (opened story.origin) (calls_of story.log) call
-    ∙ ap (λ rs. rs ++ reply (state_of story) call ∷ []) so_far
-    ∙ sym (replies_pushed story.log.records _)
+pub replayed_recorded : (bench : BenchView) (caller : ℕ) (call : Call) → IsReplay bench → IsReplay (recorded bench caller call)
+replayed_recorded bench caller call so_far =
+    ap (λ calls. replies (opened bench.origin) calls) (calls_more bench.log.records _)
+    ∙ replies_more (opened bench.origin) (calls_of bench.log) call
+    ∙ ap (λ rs. rs ++ reply (state_of bench) call ∷ []) so_far
+    ∙ sym (replies_pushed bench.log.records _)
 
-pub story_pushed : (story now next_story : BenchView) (caller : ℕ) (call : Call) (answer : Reply) → story ≡ now → next_story ≡ logged story caller call answer → answer ≡ reply (state_of story) call → next_story ≡ recorded now caller call
-story_pushed story now next_story caller call answer known is same =
-    is ∙ ap (λ a. logged story caller call a) same ∙ ap (λ st. recorded st caller call) known
+pub bench_pushed : (bench now next_bench : BenchView) (caller : ℕ) (call : Call) (answer : Reply) → bench ≡ now → next_bench ≡ logged bench caller call answer → answer ≡ reply (state_of bench) call → next_bench ≡ recorded now caller call
+bench_pushed bench now next_bench caller call answer known is same =
+    is ∙ ap (λ a. logged bench caller call a) same ∙ ap (λ st. recorded st caller call) known
 
 pub reply_ask : (s : State) (key : Key) → reply s (ToAsk key) ≡ OfAsk (shown s key)
 unfolding reply
@@ -121,5 +121,5 @@ delivered_is s order now key answer same at is =
     ∙ (λ i. after_deliver (sym is i) (sym at i) s)
 
 -- the share of a record shows the event that the call adds
-pub share_pushed : (story now : BenchView) (e : Record) (caller : ℕ) (call : Call) (answer : Reply) → story ≡ now → e ≡ record_after story caller call answer → answer ≡ reply (state_of story) call → e ≡ record_of now caller call
-share_pushed story now e caller call answer known is same = is ∙ ap (λ a. record_after story caller call a) same ∙ ap (λ st. record_of st caller call) known
+pub share_pushed : (bench now : BenchView) (e : Record) (caller : ℕ) (call : Call) (answer : Reply) → bench ≡ now → e ≡ record_after bench caller call answer → answer ≡ reply (state_of bench) call → e ≡ record_of now caller call
+share_pushed bench now e caller call answer known is same = is ∙ ap (λ a. record_after bench caller call a) same ∙ ap (λ st. record_of st caller call) known

@@ -103,37 +103,37 @@ record_at records (suc place) = slice_get records place
 
 -- the number of the last call
 abbrev pub last_number : BenchView → ℕ
-last_number story = story.origin.before + length story.log.records
+last_number bench = bench.origin.before + length bench.log.records
 
 -- the record of this number: none up to the calls before the history begins
 abbrev pub record_numbered : BenchView → ℕ → Option Record
-record_numbered story number = record_at story.log.records (number - story.origin.before)
+record_numbered bench number = record_at bench.log.records (number - bench.origin.before)
 
 -- how many calls of the caller were recorded, those before included
 abbrev pub all_turns : BenchView → ℕ → ℕ
-all_turns story caller = on_page story.origin.pages caller + turns_of caller story.log.records
+all_turns bench caller = on_page bench.origin.pages caller + turns_of caller bench.log.records
 
 -- each turn counts its caller's calls up to there
 abbrev pub AreTurns : BenchView → Type 0
-AreTurns story =
-    (place : ℕ) (it : Record) → record_at story.log.records place ≡ Some it
-    → it.turn ≡ on_page story.origin.pages it.caller + turns_of it.caller (take place story.log.records)
+AreTurns bench =
+    (place : ℕ) (it : Record) → record_at bench.log.records place ≡ Some it
+    → it.turn ≡ on_page bench.origin.pages it.caller + turns_of it.caller (take place bench.log.records)
 
--- one more call and its answer, after those of the story
+-- one more call and its answer, after those of the workbench
 abbrev pub record_after : BenchView → ℕ → Call → Reply → Record
-record_after story caller call answer = record { caller = caller; turn = all_turns story caller + 1; call = call; reply = answer }
+record_after bench caller call answer = record { caller = caller; turn = all_turns bench caller + 1; call = call; reply = answer }
 
--- the story with one more call and its answer
+-- the workbench with one more call and its answer
 abbrev pub logged : BenchView → ℕ → Call → Reply → BenchView
-logged story caller call answer =
+logged bench caller call answer =
     record {
-      origin = story.origin;
-      log = record { limit = story.log.limit; records = story.log.records ++ record_after story caller call answer ∷ [] };
+      origin = bench.origin;
+      log = record { limit = bench.log.limit; records = bench.log.records ++ record_after bench caller call answer ∷ [] };
     }
 
 -- an empty workbench with these limits
-abbrev pub new_story : ℕ → ℕ → BenchView
-new_story most_units limit = record { origin = empty_origin most_units; log = record { limit = limit; records = [] } }
+abbrev pub new_bench : ℕ → ℕ → BenchView
+new_bench most_units limit = record { origin = empty_origin most_units; log = record { limit = limit; records = [] } }
 
 -- as many calls are recorded as may be
 abbrev pub IsFull : Log → Type 0
@@ -141,20 +141,20 @@ IsFull log = log.limit ≤ length log.records
 
 -- where the history has led to
 abbrev pub state_of : BenchView → State
-state_of story = replay (opened story.origin) (calls_of story.log)
+state_of bench = replay (opened bench.origin) (calls_of bench.log)
 
 -- what the machine answers to a call there
 abbrev pub reply_at : BenchView → Call → Reply
-reply_at story call = reply (state_of story) call
+reply_at bench call = reply (state_of bench) call
 
--- the story with one more call, and the answer that the machine gives to it
+-- the workbench with one more call, and the answer that the machine gives to it
 abbrev pub recorded : BenchView → ℕ → Call → BenchView
-recorded story caller call = logged story caller call (reply_at story call)
+recorded bench caller call = logged bench caller call (reply_at bench call)
 
--- the record that a call adds to the story
+-- the record that a call adds to the workbench
 abbrev pub record_of : BenchView → ℕ → Call → Record
-record_of story caller call = record_after story caller call (reply_at story call)
+record_of bench caller call = record_after bench caller call (reply_at bench call)
 
 -- each stored answer is the machine's at its place
 abbrev pub IsReplay : BenchView → Type 0
-IsReplay story = replies (opened story.origin) (calls_of story.log) ≡ replies_of story.log
+IsReplay bench = replies (opened bench.origin) (calls_of bench.log) ≡ replies_of bench.log

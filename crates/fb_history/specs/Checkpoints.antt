@@ -8,9 +8,9 @@ use Rattle.fb_history.specs.BenchView.{BenchView, all_turns, last_number, pages_
 use Rattle.fb_history.specs.declared.answers.CheckpointRefused.{CheckpointRefused}
 use Rattle.fb_history.specs.declared.answers.CheckpointRefused.TheVariants.{UnitsOver, NumbersOver, Memory}
 
--- the story that begins from these texts, commits and marks, after the calls of another
+-- the workbench that begins from these texts, commits and marks, after the calls of another
 abbrev pub restarted : Bounds → Texts → ℕ → List Key → List Key → BenchView → BenchView
-restarted limits units commits pending out story =
+restarted limits units commits pending out bench =
     record {
       origin =
           record {
@@ -19,17 +19,17 @@ restarted limits units commits pending out story =
             commits = commits;
             pending = pending;
             out = out;
-            before = last_number story;
-            pages = pages_after story.origin.pages story.log.records;
+            before = last_number bench;
+            pages = pages_after bench.origin.pages bench.log.records;
           };
       log = record { limit = limits.history; records = [] };
     }
 
--- the story that begins where this one has led to
+-- the workbench that begins where this one has led to
 abbrev pub checkpointed : Bounds → BenchView → BenchView
-checkpointed limits story =
-    let state = state_of story in
-    restarted limits state.units state.commits (filter state.pending (keys_of state.units)) (filter state.out (keys_of state.units)) story
+checkpointed limits bench =
+    let state = state_of bench in
+    restarted limits state.units state.commits (filter state.pending (keys_of state.units)) (filter state.out (keys_of state.units)) bench
 
 -- what a checkpoint comes to, want of memory apart
 pub data Checking : Type 0 where
@@ -39,15 +39,15 @@ pub data Checking : Type 0 where
 
 -- more units than the new limit, a last number beyond 64 bits, or the number of all calls so far
 abbrev pub checking : Bounds → BenchView → Checking
-checking limits story =
-    if nat_lt limits.units (length (state_of story).units) then OverUnits (length (state_of story).units)
-    else (if nat_lt (last_number story + limits.history) (2 ^ 64) then KeptUpTo (last_number story) else OverNumbers)
+checking limits bench =
+    if nat_lt limits.units (length (state_of bench).units) then OverUnits (length (state_of bench).units)
+    else (if nat_lt (last_number bench + limits.history) (2 ^ 64) then KeptUpTo (last_number bench) else OverNumbers)
 
--- the story after a checkpoint that comes to this
-abbrev pub story_checked : Checking → Bounds → BenchView → BenchView
-story_checked (KeptUpTo before) limits story = checkpointed limits story
-story_checked (OverUnits count) limits story = story
-story_checked OverNumbers limits story = story
+-- the workbench after a checkpoint that comes to this
+abbrev pub bench_checked : Checking → Bounds → BenchView → BenchView
+bench_checked (KeptUpTo before) limits bench = checkpointed limits bench
+bench_checked (OverUnits count) limits bench = bench
+bench_checked OverNumbers limits bench = bench
 
 -- The answer says what the checkpoint comes to. Memory may want where nothing else is against it
 abbrev pub ChecksAs : Checking → Result ℕ CheckpointRefused → Type 0
@@ -60,14 +60,14 @@ ChecksAs OverNumbers result = result ≡ Err NumbersOver
 
 -- no later call sees it: where the history begins is the state as it was, but for the most units
 abbrev pub IsUnseen : Bounds → BenchView → Type 0
-IsUnseen limits story = state_of (checkpointed limits story) ≡ record (state_of story) { most_units = limits.units }
+IsUnseen limits bench = state_of (checkpointed limits bench) ≡ record (state_of bench) { most_units = limits.units }
 
 -- two in a row are the second alone
 abbrev pub AreOne : Bounds → Bounds → BenchView → Type 0
-AreOne first second story = checkpointed second (checkpointed first story) ≡ checkpointed second story
+AreOne first second bench = checkpointed second (checkpointed first bench) ≡ checkpointed second bench
 
 -- numbers and the calls of each caller are counted on, and there is no record of an earlier number
-pub record NumbersGoOn (limits : Bounds) (story : BenchView) : Type 0 where
-  pub last : last_number (checkpointed limits story) ≡ last_number story
-  pub turns : (caller : ℕ) → all_turns (checkpointed limits story) caller ≡ all_turns story caller
-  pub none : (number : ℕ) → record_numbered (checkpointed limits story) number ≡ None
+pub record NumbersGoOn (limits : Bounds) (bench : BenchView) : Type 0 where
+  pub last : last_number (checkpointed limits bench) ≡ last_number bench
+  pub turns : (caller : ℕ) → all_turns (checkpointed limits bench) caller ≡ all_turns bench caller
+  pub none : (number : ℕ) → record_numbered (checkpointed limits bench) number ≡ None

@@ -41,4 +41,4 @@ due_from state calls key = (state.pending key && not (settled state calls key)) 
 
 -- a key of the present texts for which no current result has come since the last commit that made or reached it
 abbrev pub is_due : BenchView → Key → Bool
-is_due story key = has_key (state_of story).units key && due_from (opened story.origin) (calls_of story.log) key
+is_due bench key = has_key (state_of bench).units key && due_from (opened bench.origin) (calls_of bench.log) key

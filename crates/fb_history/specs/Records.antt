@@ -1,5 +1,5 @@
 -- Records of the program as what they say.
-use Rattle.std.specs.Prelude.{◌+◌, List, map, take, Option, Some, None, string_bytes}
+use Rattle.std.specs.Prelude.{◌+◌, List, map, take, Some, None, string_bytes}
 use Rattle.fb_jobs.specs.Library.Texts.{Edit, Puts, Removes}
 use Rattle.fb_jobs.specs.Library.declared.change.Change.{Change}
 use Rattle.fb_jobs.specs.Library.Changes.{edits_of}
@@ -10,7 +10,6 @@ use Rattle.fb_history.specs.Machine.{most_changes, ToCommit, ToTake, ToDeliver, 
 use Rattle.fb_history.specs.BenchView.{Record}
 use Rattle.fb_history.specs.declared.answers.Asked.{Asked}
 use Rattle.fb_history.specs.declared.answers.Asked.TheVariants.{Value, Pending, NoSuchKey}
-use Rattle.fb_history.specs.declared.answers.Delivered.{Delivered}
 use Rattle.fb_history.specs.declared.answers.Delivered.TheVariants.{Accepted}
 use Rattle.fb_history.specs.declared.record.Wanted.{Wanted}
 use Rattle.fb_history.specs.declared.record.TextChange.{TextChange}
@@ -18,17 +17,12 @@ use Rattle.fb_history.specs.declared.record.TextChange.TheVariants.{Put, Remove}
 use Rattle.fb_history.specs.declared.record.Call.{Call}
 use Rattle.fb_history.specs.declared.record.Call.TheVariants.{Commit, Take, Deliver, GiveBack, Ask}
 use Rattle.fb_history.specs.declared.record.Reply.{Reply}
-use Rattle.fb_history.specs.declared.record.Reply.TheVariants.{Committing, Taking, Delivering, GivingBack, Asking}
-use Rattle.std.specs.declared.boxed.Box.{Box}
+use Rattle.fb_history.specs.declared.record.Reply.TheVariants as kept
 use Rattle.std.specs.declared.sync.Arc.{Arc}
 use Rattle.std.specs.declared.alloc.Global.{Global}
 
 abbrev pub wanted_job : Wanted → PlainJob
 wanted_job it = record { key = it.key; reads = it.reads.value }
-
-abbrev pub wanted_job_in : Option (Box Wanted Global) → Option PlainJob
-wanted_job_in None = None
-wanted_job_in (Some it) = Some (wanted_job it.value)
 
 abbrev pub text_edit : TextChange → Edit
 text_edit (Put unit base text) = Puts unit base (string_bytes text.value)
@@ -49,17 +43,16 @@ shown_in (Value value) = Finds (finding_of value.value)
 shown_in Pending = Waits
 shown_in NoSuchKey = Unknown
 
--- a record keeps the answer to a delivery that is refused, and none where the result is taken in
-abbrev pub delivered_in : Option (Box Delivered Global) → Delivered
-delivered_in None = Accepted
-delivered_in (Some it) = it.value
-
 abbrev pub reply_of : Reply → machine.Reply
-reply_of (Committing answer) = OfCommit answer.value
-reply_of (Taking order) = OfTake (wanted_job_in order)
-reply_of (Delivering answer) = OfDeliver (delivered_in answer)
-reply_of (GivingBack answer) = OfGiveBack answer
-reply_of (Asking answer) = OfAsk (shown_in answer)
+reply_of (kept.Committed answer) = OfCommit answer.value
+reply_of (kept.Job it) = OfTake (Some (wanted_job it.value))
+reply_of kept.Nothing = OfTake None
+reply_of kept.Accepted = OfDeliver Accepted
+reply_of (kept.NotAccepted refused) = OfDeliver refused.value
+reply_of (kept.GivenBack answer) = OfGiveBack answer
+reply_of (kept.Value value) = OfAsk (Finds (finding_of value.value))
+reply_of kept.Pending = OfAsk Waits
+reply_of kept.NoSuchKey = OfAsk Unknown
 
 abbrev pub records_in : List (Arc Record Global) → List Record
 records_in records = map (λ (it : Arc Record Global). it.value) records

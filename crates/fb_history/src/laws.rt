@@ -12,7 +12,7 @@ ghost use Rattle.fb_history.specs.Laws.{EntriesFollow, RefusalsStay, ReachAnywhe
 pub fn entries_follow_the_texts()
     ensures entries { (origin : Origin) → IsOrigin origin → EntriesFollow origin }
     ensures begins { (most_units : ℕ) → IsOrigin (empty_origin most_units) }
-    ensures goes_on { (limits : Bounds) (story : BenchView) → IsOrigin story.origin → IsOrigin (checkpointed limits story).origin }
+    ensures goes_on { (limits : Bounds) (bench : BenchView) → IsOrigin bench.origin → IsOrigin (checkpointed limits bench).origin }
     ensures refused { (state : State) → RefusalsStay state }
 {}
 
@@ -23,7 +23,7 @@ pub fn reach_before_and_after()
 
 /// A checkpoint is not seen by later calls, but for its limits; two in a row are the second alone; numbers and turns go on.
 pub fn checkpoints_are_unseen()
-    ensures unseen { (limits : Bounds) (story : BenchView) → IsOrigin story.origin → IsUnseen limits story }
-    ensures one { (first second : Bounds) (story : BenchView) → IsOrigin story.origin → AreOne first second story }
-    ensures numbers { (limits : Bounds) (story : BenchView) → NumbersGoOn limits story }
+    ensures unseen { (limits : Bounds) (bench : BenchView) → IsOrigin bench.origin → IsUnseen limits bench }
+    ensures one { (first second : Bounds) (bench : BenchView) → IsOrigin bench.origin → AreOne first second bench }
+    ensures numbers { (limits : Bounds) (bench : BenchView) → NumbersGoOn limits bench }
 {}

@@ -50,12 +50,12 @@ impl History {
     ghost use Rattle.std.specs.Prelude.{◌≡◌, ◌+◌, ◌^◌, ◌<◌, ◌≤◌, ◌↔◌, IsTrue, OnOk, OnErr, IfOk, length};
     ghost use Rattle.std.specs.Option.{option_map};
     ghost use Rattle.fb_history.specs.Checkpoints.{restarted};
-    ghost use Rattle.fb_history.specs.BenchView.{all_turns, last_number, logged, new_story, pages_after, record_after, record_numbered, AreTurns, IsFull};
+    ghost use Rattle.fb_history.specs.BenchView.{all_turns, last_number, logged, new_bench, pages_after, record_after, record_numbered, AreTurns, IsFull};
     ghost use Rattle.fb_history.specs.Records.{call_of, records_in, reply_of};
 
     /// A history of no calls.
     pub fn new(alloc: Global, limits: Limits) -> History
-        ensures { result ≡ new_story limits.units limits.history }
+        ensures { result ≡ new_bench limits.units limits.history }
     {
         History {
             alloc,

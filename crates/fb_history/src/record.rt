@@ -4,10 +4,10 @@ ghost use Rattle.fb_jobs.specs.Library.Changes.{edit_of, edits_of};
 ghost use Rattle.fb_history.specs.Machine.{OfCommit, OfDeliver};
 ghost use Rattle.fb_history.specs.Records.{text_edit, text_edits, reply_of};
 
-use crate::answers::{Asked, Committed, Delivered, GivenBack};
+use crate::answers::{Committed, Delivered, GivenBack};
 use crate::same::{is_same_call, is_same_reply};
 use fb_jobs::library::Change;
-use fb_jobs::{Key, TextReads};
+use fb_jobs::{Key, TextReads, Value};
 use fb_text::Name;
 use std::alloc::{AllocError, Global};
 use std::marker::Model;
@@ -107,24 +107,36 @@ impl Drop for Call {
     }
 }
 
-/// The answer to a recorded call. What is large stands in a box.
+/// The answer to a recorded call, in 16 bytes: what is larger stands in a box, or is shared.
 pub enum Reply {
-    Committing(Box<Committed>),
-    Taking(Option<Box<Wanted>>),
-    /// None where the result was taken in.
-    Delivering(Option<Box<Delivered>>),
-    GivingBack(GivenBack),
-    Asking(Asked),
+    Committed(Box<Committed>),
+    /// The job that is handed out.
+    Job(Box<Wanted>),
+    /// There is no job to hand out.
+    Nothing,
+    /// The result is taken in.
+    Accepted,
+    NotAccepted(Box<Delivered>),
+    GivenBack(GivenBack),
+    /// The value of the key.
+    Value(Arc<Value>),
+    /// The key is pending.
+    Pending,
+    NoSuchKey,
 }
 
 impl Drop for Reply {
     fn drop(self) {
         match self {
-            Self::Committing(_)
-            | Self::Taking(_)
-            | Self::Delivering(_)
-            | Self::GivingBack(_)
-            | Self::Asking(_) => {}
+            Self::Committed(_)
+            | Self::Job(_)
+            | Self::Nothing
+            | Self::Accepted
+            | Self::NotAccepted(_)
+            | Self::GivenBack(_)
+            | Self::Value(_)
+            | Self::Pending
+            | Self::NoSuchKey => {}
         }
     }
 }
@@ -134,7 +146,7 @@ impl Reply {
     pub fn of_commit(alloc: Global, answer: Committed) -> Result<Reply, AllocError>
         ensures { IfOk result (λ it. reply_of it ≡ OfCommit answer) }
     {
-        Ok(Reply::Committing(Box::new(alloc, answer)?))
+        Ok(Reply::Committed(Box::new(alloc, answer)?))
     }
 
     /// Whether a result was taken in.
@@ -142,8 +154,8 @@ impl Reply {
         ensures { IfOk result (λ it. reply_of it ≡ OfDeliver answer) }
     {
         match answer {
-            Delivered::Accepted => Ok(Reply::Delivering(None)),
-            refused => Ok(Reply::Delivering(Some(Box::new(alloc, refused)?))),
+            Delivered::Accepted => Ok(Reply::Accepted),
+            refused => Ok(Reply::NotAccepted(Box::new(alloc, refused)?)),
         }
     }
 }
@@ -168,9 +180,9 @@ impl Drop for Record {
 }
 
 impl Model for Record {
-    ghost use Rattle.fb_history.specs.BenchView as story;
+    ghost use Rattle.fb_history.specs.BenchView as bench;
 
-    ghost Value = { story.Record };
+    ghost Value = { bench.Record };
 
     ghost use Rattle.fb_history.specs.Records.{call_of, reply_of};
 

@@ -1,9 +1,8 @@
 //! Whether two records say the same, by content.
 ghost use Rattle.std.specs.Prelude.{◌≡◌, ◌↔◌, IsTrue, string_bytes};
-ghost use Rattle.fb_jobs.specs.Values.{finding_of};
-ghost use Rattle.fb_history.specs.Records.{wanted_job, wanted_job_in, text_edit, text_edits, call_of, shown_in, delivered_in, reply_of};
+ghost use Rattle.fb_history.specs.Records.{wanted_job, text_edit, text_edits, call_of, reply_of};
 
-use crate::answers::{Asked, Committed, Delivered, GivenBack};
+use crate::answers::{Committed, Delivered, GivenBack};
 use crate::record::{Call, Reply, TextChange, Wanted};
 use fb_jobs::{Key, is_same_value};
 use fb_text::{Name, same_name};
@@ -27,15 +26,17 @@ pub(crate) fn is_same_reply(a: &Reply, b: &Reply) -> bool
     ensures { IsTrue result ↔ (reply_of a.now ≡ reply_of b.now) }
 {
     match (a, b) {
-        (Reply::Committing(a), Reply::Committing(b)) => is_same_end(a, b),
-        (Reply::Taking(None), Reply::Taking(None)) => true,
-        (Reply::Taking(Some(a)), Reply::Taking(Some(b))) => is_same_wanted(a, b),
-        (Reply::Delivering(a), Reply::Delivering(b)) => is_same_delivery(
-            &delivered(a),
-            &delivered(b),
-        ),
-        (Reply::GivingBack(a), Reply::GivingBack(b)) => is_same_return(a, b),
-        (Reply::Asking(a), Reply::Asking(b)) => is_same_asked(a, b),
+        (Reply::Committed(a), Reply::Committed(b)) => is_same_end(a, b),
+        (Reply::Job(a), Reply::Job(b)) => is_same_wanted(a, b),
+        (Reply::Nothing, Reply::Nothing) => true,
+        (Reply::Accepted, Reply::Accepted) => true,
+        (Reply::Accepted, Reply::NotAccepted(b)) => is_same_delivery(&Delivered::Accepted, b),
+        (Reply::NotAccepted(a), Reply::Accepted) => is_same_delivery(a, &Delivered::Accepted),
+        (Reply::NotAccepted(a), Reply::NotAccepted(b)) => is_same_delivery(a, b),
+        (Reply::GivenBack(a), Reply::GivenBack(b)) => is_same_return(a, b),
+        (Reply::Value(a), Reply::Value(b)) => is_same_value(a, b),
+        (Reply::Pending, Reply::Pending) => true,
+        (Reply::NoSuchKey, Reply::NoSuchKey) => true,
         _ => false,
     }
 }
@@ -132,16 +133,6 @@ fn is_same_end(a: &Committed, b: &Committed) -> bool
     }
 }
 
-// the answer that a record keeps
-fn delivered(answer: &Option<Box<Delivered>>) -> Delivered
-    ensures { result ≡ delivered_in answer.now }
-{
-    match answer {
-        None => Delivered::Accepted,
-        Some(refused) => **refused,
-    }
-}
-
 fn is_same_delivery(a: &Delivered, b: &Delivered) -> bool
     ensures { IsTrue result ↔ (a.now ≡ b.now) }
 {
@@ -160,17 +151,6 @@ fn is_same_return(a: &GivenBack, b: &GivenBack) -> bool
     match (a, b) {
         (GivenBack::Returned, GivenBack::Returned) => true,
         (GivenBack::NothingOut, GivenBack::NothingOut) => true,
-        _ => false,
-    }
-}
-
-fn is_same_asked(a: &Asked, b: &Asked) -> bool
-    ensures { IsTrue result ↔ (shown_in a.now ≡ shown_in b.now) }
-{
-    match (a, b) {
-        (Asked::Value(a), Asked::Value(b)) => is_same_value(a, b),
-        (Asked::Pending, Asked::Pending) => true,
-        (Asked::NoSuchKey, Asked::NoSuchKey) => true,
         _ => false,
     }
 }

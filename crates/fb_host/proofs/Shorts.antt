@@ -18,7 +18,7 @@ use Rattle.fb_host.specs.Short.{is_short}
 
 -- one of those that were seen, and short
 abbrev pub short_seen : List ℕ → BenchView → List ReceiptView → ℕ → Bool
-short_seen seen story receipts q = list_any (λ n. n == q) seen && is_short story receipts q
+short_seen seen bench receipts q = list_any (λ n. n == q) seen && is_short bench receipts q
 
 or_false : (b : Bool) → (b || false) ≡ b
 or_false true = refl
@@ -38,11 +38,11 @@ either_short true false false s' same = refl
 either_short false true s s' same = same refl
 either_short false false s s' same = refl
 
-pub short_more : (story : BenchView) (receipts : List ReceiptView) (seen : List (Bor ℕ)) (k : Bor ℕ) (q : ℕ)
-    → short_seen (map deref (seen ++ k ∷ [])) story receipts q ≡ (short_seen (map deref seen) story receipts q || (k.now == q && is_short story receipts k.now))
-short_more story receipts seen k q =
-    ap (λ b. b && is_short story receipts q) (seen_more seen k q)
-    ∙ either_short (list_any (λ (n : ℕ). n == q) (map deref seen)) (k.now == q) (is_short story receipts q) (is_short story receipts k.now) (λ same. ap (is_short story receipts) (sym (eqb-true k.now q same)))
+pub short_more : (bench : BenchView) (receipts : List ReceiptView) (seen : List (Bor ℕ)) (k : Bor ℕ) (q : ℕ)
+    → short_seen (map deref (seen ++ k ∷ [])) bench receipts q ≡ (short_seen (map deref seen) bench receipts q || (k.now == q && is_short bench receipts k.now))
+short_more bench receipts seen k q =
+    ap (λ b. b && is_short bench receipts q) (seen_more seen k q)
+    ∙ either_short (list_any (λ (n : ℕ). n == q) (map deref seen)) (k.now == q) (is_short bench receipts q) (is_short bench receipts k.now) (λ same. ap (is_short bench receipts) (sym (eqb-true k.now q same)))
 
 seen_short : (m s c : Bool) → (m && c) ≡ c → (s ≡ true → c ≡ true) → s ≡ (m && s)
 seen_short true s c called few = refl
@@ -50,13 +50,13 @@ seen_short false true c called few = sym (called ∙ few refl)
 seen_short false false c called few = refl
 
 -- who is short has made a call, and is among the pages of all calls
-pub short_all : (story : BenchView) (receipts : List ReceiptView) (seen : List ℕ) (q : ℕ) → seen ≡ keys_of (pages_after story.origin.pages story.log.records) → is_short story receipts q ≡ short_seen seen story receipts q
-short_all story receipts seen q is =
-    let called : has_called seen story q ≡ nat_lt 0 (all_turns story q) = called_all story seen q is in
-    seen_short (list_any (λ (n : ℕ). n == q) seen) (is_short story receipts q) (nat_lt 0 (all_turns story q)) called (
+pub short_all : (bench : BenchView) (receipts : List ReceiptView) (seen : List ℕ) (q : ℕ) → seen ≡ keys_of (pages_after bench.origin.pages bench.log.records) → is_short bench receipts q ≡ short_seen seen bench receipts q
+short_all bench receipts seen q is =
+    let called : has_called seen bench q ≡ nat_lt 0 (all_turns bench q) = called_all bench seen q is in
+    seen_short (list_any (λ (n : ℕ). n == q) seen) (is_short bench receipts q) (nat_lt 0 (all_turns bench q)) called (
     λ short.
-    let some : receipts_of q receipts < turns_of q story.log.records = grind (arith, nat_tests) in
-    let more : 0 < all_turns story q = omega (arith, some) in
+    let some : receipts_of q receipts < turns_of q bench.log.records = grind (arith, nat_tests) in
+    let more : 0 < all_turns bench q = omega (arith, some) in
     grind (arith, nat_tests)
     )
 
@@ -68,5 +68,5 @@ enough : (few most : ℕ) → nat_lt few most ≡ false → most ≤ few
 enough few most none = grind (arith, nat_tests)
 
 -- where nobody is short, the receipts show all records
-pub all_there : (callers : ℕ) (story : BenchView) (seats : List SeatView) (receipts : List ReceiptView) → AgreesWith callers story seats receipts → IsLeast (is_short story receipts) None → ShowsAll story receipts
-all_there callers story seats receipts agrees none = (agrees.shown, λ q. enough (receipts_of q receipts) (turns_of q story.log.records) (none q))
+pub all_there : (callers : ℕ) (bench : BenchView) (seats : List SeatView) (receipts : List ReceiptView) → AgreesWith callers bench seats receipts → IsLeast (is_short bench receipts) None → ShowsAll bench receipts
+all_there callers bench seats receipts agrees none = (agrees.shown, λ q. enough (receipts_of q receipts) (turns_of q bench.log.records) (none q))

@@ -6,4 +6,4 @@ use Rattle.fb_locked.specs.Seats.{ReceiptView}
 
 -- a caller with fewer receipts than records since the start
 abbrev pub is_short : BenchView → List ReceiptView → ℕ → Bool
-is_short story receipts caller = nat_lt (receipts_of caller receipts) (turns_of caller story.log.records)
+is_short bench receipts caller = nat_lt (receipts_of caller receipts) (turns_of caller bench.log.records)

@@ -20,7 +20,7 @@ pub(crate) fn close<R: Wait>(
     alloc: Global,
     shared: Shared,
     drawer: Drawer,
-    gathered: Results,
+    results: Results,
 ) -> Result<Served, NotServed>
     ensures all { IfOk result
         (λ served. ShowsAll served.closed.bench served.receipts.items) }
@@ -28,7 +28,7 @@ pub(crate) fn close<R: Wait>(
         (λ served. IsBookOf served.closed.counts shared.callers
         served.closed.bench) }
 {
-    let Results { seats, is_whole } = gathered;
+    let Results { seats, is_whole } = results;
     if !is_whole {
         return Err(NotServed);
     }

@@ -3,26 +3,29 @@ ghost use Rattle.std.specs.Prelude.{◌≤◌};
 
 use fb_shared::Receipt;
 use std::alloc::Global;
+use std::mem;
 use std::sync::{Mutex, Wait};
 
 /// The receipts of all calls of one epoch. A history begins anew where it is full and only there, so an epoch has `span` calls, and which one a receipt is
-/// of follows from its number. Behind the first `fresh` receipts are those of the epoch before: each new one takes the place of one of them, so a list that
-/// is full once grows no more.
+/// of follows from its number. Those of the epoch before stay in `past` until they are dropped, two with each new one and the last ones first. The workbench
+/// drops its records so too, so no record outlives its place in the history for long.
 pub struct Epoch {
+    alloc: Global,
     span: u64,
     start: u64,
-    fresh: usize,
     receipts: Vec<Receipt>,
+    past: Vec<Receipt>,
     ghost some: { 1 ≤ span },
 }
 
 impl Drop for Epoch {
     fn drop(self) {
         let Self {
+            alloc: _,
             span: _,
             start: _,
-            fresh: _,
             receipts: _,
+            past: _,
         } = self;
     }
 }
@@ -33,10 +36,11 @@ impl Epoch {
         requires { 1 ≤ span }
     {
         Epoch {
+            alloc,
             span,
             start: 0,
-            fresh: 0,
             receipts: Vec::new(alloc),
+            past: Vec::new(alloc),
         }
     }
 
@@ -48,34 +52,31 @@ impl Epoch {
         let start = last.number().saturating_sub(1) / self.span * self.span;
         if self.start < start {
             self.start = start;
-            self.fresh = 0;
+            let none = Vec::new(self.alloc);
+            self.past = mem::replace(&mut self.receipts, none);
         }
         let start = self.start;
         receipts.retain(|receipt| start < receipt.number());
-        self.replace_past(receipts);
-        if !receipts.is_empty() && self.receipts.append(receipts).is_ok() {
-            self.fresh = self.receipts.len();
-        }
+        self.drop_past(receipts.len().saturating_mul(2));
+        let _added = self.receipts.append(receipts);
     }
 
-    /// Puts receipts in the places of those of the epoch before, as long as there are both.
-    fn replace_past(&mut self, receipts: &mut Vec<Receipt>) {
-        while let Some(past) = self.receipts.get_mut(self.fresh) {
-            let Some(receipt) = receipts.pop() else {
-                return;
-            };
-            *past = receipt;
-            self.fresh += 1;
+    /// Drops so many receipts of the epoch before, if there are as many.
+    fn drop_past(&mut self, count: usize) {
+        self.past.truncate(self.past.len().saturating_sub(count));
+        if self.past.is_empty() {
+            self.past = Vec::new(self.alloc);
         }
     }
 
     /// Those with a number behind this one.
     pub(crate) fn into_receipts(self, before: u64) -> Vec<Receipt> {
         let Epoch {
+            alloc: _,
             span: _,
             start: _,
-            fresh: _,
             receipts,
+            past: _,
         } = self;
         let mut receipts = receipts;
         receipts.retain(|receipt| before < receipt.number());

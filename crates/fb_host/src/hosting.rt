@@ -65,7 +65,7 @@ fn host_sessions<R: Threads + Wait + Clock + Sync, E: Write + Send>(
         idle: terms.idle,
         connections: terms.connections,
     };
-    let gathered = run_house(rt, alloc, listener, &house, secret, errors, seats, workers);
+    let results = run_house(rt, alloc, listener, &house, secret, errors, seats, workers);
     let House {
         shared,
         drawer,
@@ -75,7 +75,7 @@ fn host_sessions<R: Threads + Wait + Clock + Sync, E: Write + Send>(
         idle: _,
         connections: _,
     } = house;
-    close(rt, alloc, shared, drawer, gathered)
+    close(rt, alloc, shared, drawer, results)
 }
 
 /// Prints where it listens, hosts its sessions, and prints that it is closed.

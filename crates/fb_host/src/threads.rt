@@ -99,14 +99,14 @@ pub(crate) fn run_house<R: Threads + Wait + Clock + Sync, E: Write + Send>(
             thread.join(rt);
         }
         house.seats.close(rt);
-        let mut gathered = Results {
+        let mut results = Results {
             seats: Vec::new(alloc),
             is_whole,
         };
-        gathered.add_all(rt, &house.drawer, seated);
+        results.add_all(rt, &house.drawer, seated);
         house.shared.stop(rt);
-        gathered.add_all(rt, &house.drawer, working);
-        gathered
+        results.add_all(rt, &house.drawer, working);
+        results
     })
 }
 

@@ -42,9 +42,9 @@ once_at : (n number t : ℕ) (b : Bool) → number == n ≡ b → (number ≡ n 
 once_at n number t true is new few = let e : t ≡ 0 = new (eqb-true number n is) in omega arith
 once_at n number t false is new few = omega arith
 
-pub right_more : (story : BenchView) (rs : List ReceiptView) (i : ℕ) (r : ReceiptView) → i < length rs → r ≡ get_or rs i r → AreReceiptsRight story (take i rs) → IsReceiptRight story r → times r.number (take i rs) ≡ 0 → AreReceiptsRight story (take (i + 1) rs)
-right_more story rs i r lt is right here new = record {
-  right = All-more (IsReceiptRight story) rs i r lt right.right (subst (IsReceiptRight story) is here);
+pub right_more : (bench : BenchView) (rs : List ReceiptView) (i : ℕ) (r : ReceiptView) → i < length rs → r ≡ get_or rs i r → AreReceiptsRight bench (take i rs) → IsReceiptRight bench r → times r.number (take i rs) ≡ 0 → AreReceiptsRight bench (take (i + 1) rs)
+right_more bench rs i r lt is right here new = record {
+  right = All-more (IsReceiptRight bench) rs i r lt right.right (subst (IsReceiptRight bench) is here);
   once =
       λ n.
       rw (times_more n rs i r lt, ← is) (
@@ -73,16 +73,16 @@ marks_more before rs i r marks lt is one within new n marked =
 
 -- ---- one more seat
 
-wrong_same : (story : BenchView) (caller q turns : ℕ) (b : Bool) → caller == q ≡ b → (b && not (all_turns story q == turns)) ≡ (b && not (all_turns story caller == turns))
-wrong_same story caller q turns true is = ap (λ n. not (all_turns story n == turns)) (sym (eqb-true caller q is))
-wrong_same story caller q turns false is = refl
+wrong_same : (bench : BenchView) (caller q turns : ℕ) (b : Bool) → caller == q ≡ b → (b && not (all_turns bench q == turns)) ≡ (b && not (all_turns bench caller == turns))
+wrong_same bench caller q turns true is = ap (λ n. not (all_turns bench n == turns)) (sym (eqb-true caller q is))
+wrong_same bench caller q turns false is = refl
 
-pub wrong_more : (story : BenchView) (seats : List SeatView) (i : ℕ) (s : SeatView) (q : ℕ) → i < length seats → s ≡ get_or seats i s
-    → has_wrong_seat story (take (i + 1) seats) q ≡ (has_wrong_seat story (take i seats) q || (s.caller == q && not (all_turns story s.caller == s.turns)))
-wrong_more story seats i s q lt is =
-    list_any_more (λ (s : SeatView). s.caller == q && not (all_turns story q == s.turns)) seats i s lt
+pub wrong_more : (bench : BenchView) (seats : List SeatView) (i : ℕ) (s : SeatView) (q : ℕ) → i < length seats → s ≡ get_or seats i s
+    → has_wrong_seat bench (take (i + 1) seats) q ≡ (has_wrong_seat bench (take i seats) q || (s.caller == q && not (all_turns bench s.caller == s.turns)))
+wrong_more bench seats i s q lt is =
+    list_any_more (λ (s : SeatView). s.caller == q && not (all_turns bench q == s.turns)) seats i s lt
     ∙ (
-    rw (← is) (ap (λ b. has_wrong_seat story (take i seats) q || b) (wrong_same story s.caller q s.turns (s.caller == q) refl))
+    rw (← is) (ap (λ b. has_wrong_seat bench (take i seats) q || b) (wrong_same bench s.caller q s.turns (s.caller == q) refl))
     )
 
 -- ---- a number among receipts
@@ -108,9 +108,9 @@ some_times n [] some = let bad : false ≡ true = some in cc
 some_times n (c ∷ cs) some = some_at n c cs (c.number == n) refl some (some_times n cs)
 
 -- a fault of the receipts is the first one, where the seats are right
-pub receipt_fault : (callers : ℕ) (story : BenchView) (seats : List SeatView) (rs : List ReceiptView) (fault : CloseFault) → AreSeated callers story seats → AreSeatsRight story seats → IsReceiptFault story rs fault → IsFirstFault callers story seats rs fault
-receipt_fault callers story seats rs (SeatMissing q) seated right never = absurd never
-receipt_fault callers story seats rs (SeatDiffers q) seated right never = absurd never
-receipt_fault callers story seats rs (ReceiptDiffers n) seated right first = (seated, right, first)
-receipt_fault callers story seats rs (ReceiptTwice n) seated right first = (seated, right, first)
-receipt_fault callers story seats rs Memory seated right never = absurd never
+pub receipt_fault : (callers : ℕ) (bench : BenchView) (seats : List SeatView) (rs : List ReceiptView) (fault : CloseFault) → AreSeated callers bench seats → AreSeatsRight bench seats → IsReceiptFault bench rs fault → IsFirstFault callers bench seats rs fault
+receipt_fault callers bench seats rs (SeatMissing q) seated right never = absurd never
+receipt_fault callers bench seats rs (SeatDiffers q) seated right never = absurd never
+receipt_fault callers bench seats rs (ReceiptDiffers n) seated right first = (seated, right, first)
+receipt_fault callers bench seats rs (ReceiptTwice n) seated right first = (seated, right, first)
+receipt_fault callers bench seats rs Memory seated right never = absurd never

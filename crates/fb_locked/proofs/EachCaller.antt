@@ -39,11 +39,11 @@ seen_more seen k q =
     ap (list_any is_it) (map-append deref seen (k ∷ []))
     ∙ (list_any-append is_it (map deref seen) (k.now ∷ []) ∙ ap (λ b. list_any is_it (map deref seen) || b) (or_false (k.now == q)))
 
-pub called_more : (story : BenchView) (seen : List (Bor ℕ)) (k : Bor ℕ) (q : ℕ) → has_called (map deref (seen ++ k ∷ [])) story q ≡ (has_called (map deref seen) story q || (k.now == q && nat_lt 0 (all_turns story k.now)))
-called_more story seen k q =
+pub called_more : (bench : BenchView) (seen : List (Bor ℕ)) (k : Bor ℕ) (q : ℕ) → has_called (map deref (seen ++ k ∷ [])) bench q ≡ (has_called (map deref seen) bench q || (k.now == q && nat_lt 0 (all_turns bench k.now)))
+called_more bench seen k q =
     let m : Bool = list_any (λ (n : ℕ). n == q) (map deref seen) in
-    let t : Bool = nat_lt 0 (all_turns story q) in
-    let same : (k.now == q && t) ≡ (k.now == q && nat_lt 0 (all_turns story k.now)) = under (k.now == q) t (nat_lt 0 (all_turns story k.now)) (λ e. ap (λ n. nat_lt 0 (all_turns story n)) (sym (eqb-true k.now q e))) in
+    let t : Bool = nat_lt 0 (all_turns bench q) in
+    let same : (k.now == q && t) ≡ (k.now == q && nat_lt 0 (all_turns bench k.now)) = under (k.now == q) t (nat_lt 0 (all_turns bench k.now)) (λ e. ap (λ n. nat_lt 0 (all_turns bench n)) (sym (eqb-true k.now q e))) in
     ap (λ b. b && t) (seen_more seen k q) ∙ (either_called m (k.now == q) t ∙ ap (λ b. (m && t) || b) same)
 
 -- ---- all callers are seen
@@ -62,12 +62,12 @@ all_called true n none = refl
 all_called false n none = sym (ap (nat_lt 0) (none refl))
 
 -- who has made a call is among the pages of all calls
-pub called_all : (story : BenchView) (seen : List ℕ) (q : ℕ) → seen ≡ keys_of (pages_after story.origin.pages story.log.records) → has_called seen story q ≡ nat_lt 0 (all_turns story q)
-called_all story seen q is =
-    all_called (list_any (λ (n : ℕ). n == q) seen) (all_turns story q) (
+pub called_all : (bench : BenchView) (seen : List ℕ) (q : ℕ) → seen ≡ keys_of (pages_after bench.origin.pages bench.log.records) → has_called seen bench q ≡ nat_lt 0 (all_turns bench q)
+called_all bench seen q is =
+    all_called (list_any (λ (n : ℕ). n == q) seen) (all_turns bench q) (
     λ none.
-    let pages = pages_after story.origin.pages story.log.records in
-    sym (on_all story.origin.pages story.log.records q) ∙ no_page pages q (ap (list_any (λ (n : ℕ). n == q)) (sym is) ∙ none)
+    let pages = pages_after bench.origin.pages bench.log.records in
+    sym (on_all bench.origin.pages bench.log.records q) ∙ no_page pages q (ap (list_any (λ (n : ℕ). n == q)) (sym is) ∙ none)
     )
 
 -- ---- the least one, where it is one of those that are seen, or one of the first callers
@@ -92,36 +92,36 @@ either_assoc false b c = refl
 
 -- a caller whose seat is missing: one of the first, or one of those that were seen
 abbrev pub is_unseated : ℕ → List ℕ → BenchView → List SeatView → ℕ → Bool
-is_unseated callers seen story seats q = (is_first callers q || has_called seen story q) && not (has_seat seats q)
+is_unseated callers seen bench seats q = (is_first callers q || has_called seen bench q) && not (has_seat seats q)
 
-pub unseated_none : (callers : ℕ) (story : BenchView) (seats : List SeatView) (q : ℕ) → is_unseated callers [] story seats q ≡ (is_first callers q && not (has_seat seats q))
-unseated_none callers story seats q = ap (λ b. b && not (has_seat seats q)) (or_false (is_first callers q))
+pub unseated_none : (callers : ℕ) (bench : BenchView) (seats : List SeatView) (q : ℕ) → is_unseated callers [] bench seats q ≡ (is_first callers q && not (has_seat seats q))
+unseated_none callers bench seats q = ap (λ b. b && not (has_seat seats q)) (or_false (is_first callers q))
 
-pub unseated_more : (callers : ℕ) (story : BenchView) (seats : List SeatView) (seen : List (Bor ℕ)) (k : Bor ℕ) (q : ℕ)
-    → is_unseated callers (map deref (seen ++ k ∷ [])) story seats q
-    ≡ (is_unseated callers (map deref seen) story seats q || (k.now == q && (nat_lt 0 (all_turns story k.now) && not (has_seat seats k.now))))
-unseated_more callers story seats seen k q =
-    let before : Bool = has_called (map deref seen) story q in
-    let more : Bool = k.now == q && nat_lt 0 (all_turns story k.now) in
-    lacking_more (is_first callers q || has_called (map deref (seen ++ k ∷ [])) story q) (is_first callers q || before) (k.now == q) (nat_lt 0 (all_turns story k.now)) (has_seat seats q) (has_seat seats k.now)
-    (ap (λ b. is_first callers q || b) (called_more story seen k q) ∙ either_assoc (is_first callers q) before more)
+pub unseated_more : (callers : ℕ) (bench : BenchView) (seats : List SeatView) (seen : List (Bor ℕ)) (k : Bor ℕ) (q : ℕ)
+    → is_unseated callers (map deref (seen ++ k ∷ [])) bench seats q
+    ≡ (is_unseated callers (map deref seen) bench seats q || (k.now == q && (nat_lt 0 (all_turns bench k.now) && not (has_seat seats k.now))))
+unseated_more callers bench seats seen k q =
+    let before : Bool = has_called (map deref seen) bench q in
+    let more : Bool = k.now == q && nat_lt 0 (all_turns bench k.now) in
+    lacking_more (is_first callers q || has_called (map deref (seen ++ k ∷ [])) bench q) (is_first callers q || before) (k.now == q) (nat_lt 0 (all_turns bench k.now)) (has_seat seats q) (has_seat seats k.now)
+    (ap (λ b. is_first callers q || b) (called_more bench seen k q) ∙ either_assoc (is_first callers q) before more)
     (λ same. ap (has_seat seats) (sym (eqb-true k.now q same)))
 
-pub unseated_all : (callers : ℕ) (story : BenchView) (seats : List SeatView) (seen : List ℕ) (q : ℕ) → seen ≡ keys_of (pages_after story.origin.pages story.log.records) → is_missing callers story seats q ≡ is_unseated callers seen story seats q
-unseated_all callers story seats seen q is = ap (λ b. (is_first callers q || b) && not (has_seat seats q)) (sym (called_all story seen q is))
+pub unseated_all : (callers : ℕ) (bench : BenchView) (seats : List SeatView) (seen : List ℕ) (q : ℕ) → seen ≡ keys_of (pages_after bench.origin.pages bench.log.records) → is_missing callers bench seats q ≡ is_unseated callers seen bench seats q
+unseated_all callers bench seats seen q is = ap (λ b. (is_first callers q || b) && not (has_seat seats q)) (sym (called_all bench seen q is))
 
 -- a caller that gets no seat, of those that were seen
 abbrev pub is_beyond : List ℕ → BenchView → ℕ → ℕ → Bool
-is_beyond seen story callers q = has_called seen story q && not (is_first callers q)
+is_beyond seen bench callers q = has_called seen bench q && not (is_first callers q)
 
-pub beyond_more : (callers : ℕ) (story : BenchView) (seen : List (Bor ℕ)) (k : Bor ℕ) (q : ℕ) → is_beyond (map deref (seen ++ k ∷ [])) story callers q ≡ (is_beyond (map deref seen) story callers q || (k.now == q && is_left_out story callers k.now))
-beyond_more callers story seen k q =
-    lacking_more (has_called (map deref (seen ++ k ∷ [])) story q) (has_called (map deref seen) story q) (k.now == q) (nat_lt 0 (all_turns story k.now)) (is_first callers q) (is_first callers k.now)
-    (called_more story seen k q)
+pub beyond_more : (callers : ℕ) (bench : BenchView) (seen : List (Bor ℕ)) (k : Bor ℕ) (q : ℕ) → is_beyond (map deref (seen ++ k ∷ [])) bench callers q ≡ (is_beyond (map deref seen) bench callers q || (k.now == q && is_left_out bench callers k.now))
+beyond_more callers bench seen k q =
+    lacking_more (has_called (map deref (seen ++ k ∷ [])) bench q) (has_called (map deref seen) bench q) (k.now == q) (nat_lt 0 (all_turns bench k.now)) (is_first callers q) (is_first callers k.now)
+    (called_more bench seen k q)
     (λ same. ap (is_first callers) (sym (eqb-true k.now q same)))
 
-pub beyond_all : (callers : ℕ) (story : BenchView) (seen : List ℕ) (q : ℕ) → seen ≡ keys_of (pages_after story.origin.pages story.log.records) → is_left_out story callers q ≡ is_beyond seen story callers q
-beyond_all callers story seen q is = ap (λ b. b && not (is_first callers q)) (sym (called_all story seen q is))
+pub beyond_all : (callers : ℕ) (bench : BenchView) (seen : List ℕ) (q : ℕ) → seen ≡ keys_of (pages_after bench.origin.pages bench.log.records) → is_left_out bench callers q ≡ is_beyond seen bench callers q
+beyond_all callers bench seen q is = ap (λ b. b && not (is_first callers q)) (sym (called_all bench seen q is))
 
 -- ---- how many calls each has made
 
@@ -135,18 +135,18 @@ counted_at a' false true t t' old new is same was now = now ∙ (ap Some (same r
 counted_at a' true false t t' old new is same was now = now ∙ (was ∙ ap (λ (x : Bool). cond x (Some t) None) (sym is))
 counted_at a' false false t t' old new is same was now = now ∙ (was ∙ ap (λ (x : Bool). cond x (Some t) None) (sym is))
 
-pub counted_more : (callers : ℕ) (story : BenchView) (seen : List (Bor ℕ)) (k : Bor ℕ) (q : ℕ) (old new : Option ℕ)
-    → old ≡ cond (is_first callers q || has_called (map deref seen) story q) (Some (all_turns story q)) None
-    → new ≡ cond (k.now == q && nat_lt 0 (all_turns story k.now)) (Some (all_turns story k.now)) old
-    → new ≡ cond (is_first callers q || has_called (map deref (seen ++ k ∷ [])) story q) (Some (all_turns story q)) None
-counted_more callers story seen k q old new was now =
-    let before : Bool = has_called (map deref seen) story q in
-    let more : Bool = k.now == q && nat_lt 0 (all_turns story k.now) in
-    counted_at (is_first callers q || has_called (map deref (seen ++ k ∷ [])) story q) (is_first callers q || before) more (all_turns story q) (all_turns story k.now) old new
-    (ap (λ b. is_first callers q || b) (called_more story seen k q) ∙ either_assoc (is_first callers q) before more)
-    (λ both. ap (all_turns story) (eqb-true k.now q (first_true (k.now == q) (nat_lt 0 (all_turns story k.now)) both)))
+pub counted_more : (callers : ℕ) (bench : BenchView) (seen : List (Bor ℕ)) (k : Bor ℕ) (q : ℕ) (old new : Option ℕ)
+    → old ≡ cond (is_first callers q || has_called (map deref seen) bench q) (Some (all_turns bench q)) None
+    → new ≡ cond (k.now == q && nat_lt 0 (all_turns bench k.now)) (Some (all_turns bench k.now)) old
+    → new ≡ cond (is_first callers q || has_called (map deref (seen ++ k ∷ [])) bench q) (Some (all_turns bench q)) None
+counted_more callers bench seen k q old new was now =
+    let before : Bool = has_called (map deref seen) bench q in
+    let more : Bool = k.now == q && nat_lt 0 (all_turns bench k.now) in
+    counted_at (is_first callers q || has_called (map deref (seen ++ k ∷ [])) bench q) (is_first callers q || before) more (all_turns bench q) (all_turns bench k.now) old new
+    (ap (λ b. is_first callers q || b) (called_more bench seen k q) ∙ either_assoc (is_first callers q) before more)
+    (λ both. ap (all_turns bench) (eqb-true k.now q (first_true (k.now == q) (nat_lt 0 (all_turns bench k.now)) both)))
     was now
 
-pub counted_all : (callers : ℕ) (story : BenchView) (seen : List ℕ) (q : ℕ) → seen ≡ keys_of (pages_after story.origin.pages story.log.records)
-    → ◌≡◌ {A = Option ℕ} (cond (is_first callers q || has_called seen story q) (Some (all_turns story q)) None) (cond (is_caller callers story q) (Some (all_turns story q)) None)
-counted_all callers story seen q is = ap (λ (b : Bool). cond (is_first callers q || b) (Some (all_turns story q)) None) (called_all story seen q is)
+pub counted_all : (callers : ℕ) (bench : BenchView) (seen : List ℕ) (q : ℕ) → seen ≡ keys_of (pages_after bench.origin.pages bench.log.records)
+    → ◌≡◌ {A = Option ℕ} (cond (is_first callers q || has_called seen bench q) (Some (all_turns bench q)) None) (cond (is_caller callers bench q) (Some (all_turns bench q)) None)
+counted_all callers bench seen q is = ap (λ (b : Bool). cond (is_first callers q || b) (Some (all_turns bench q)) None) (called_all bench seen q is)

@@ -14,8 +14,8 @@ fits_reply state (ToDeliver order) = tt
 fits_reply state (ToGiveBack key) = tt
 fits_reply state (ToAsk key) = tt
 
-pub answered : (hall : LockedView) (seat : SeatView) (call : Call) (claim : ReceiptView) → claim ≡ next_claim hall seat.caller call → all_turns hall.bench seat.caller ≡ seat.turns → seat.seen ≤ last_number hall.bench → IsReceiptOf seat call claim
-answered hall seat call claim is turns seen =
-    let fits : IsReceiptOf seat call (next_claim hall seat.caller call) =
-    record { caller_is = refl; call_is = refl; turn_is = ap (λ n. n + 1) turns; reply_fits = fits_reply (state_of hall.bench) call; later = omega arith } in
+pub answered : (locked : LockedView) (seat : SeatView) (call : Call) (claim : ReceiptView) → claim ≡ next_claim locked seat.caller call → all_turns locked.bench seat.caller ≡ seat.turns → seat.seen ≤ last_number locked.bench → IsReceiptOf seat call claim
+answered locked seat call claim is turns seen =
+    let fits : IsReceiptOf seat call (next_claim locked seat.caller call) =
+    record { caller_is = refl; call_is = refl; turn_is = ap (λ n. n + 1) turns; reply_fits = fits_reply (state_of locked.bench) call; later = omega arith } in
     subst (IsReceiptOf seat call) (sym is) fits

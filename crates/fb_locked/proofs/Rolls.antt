@@ -7,15 +7,15 @@ use Rattle.fb_bench.specs.History.Limits.{Bounds}
 use Rattle.fb_bench.specs.History.BenchView.{BenchView, IsOrigin, all_turns, last_number, state_of}
 use Rattle.fb_history.proofs.Restarts.{numbers_go_on, unseen}
 use Rattle.fb_locked.specs.Refusals.{refusal_of}
-use Rattle.fb_locked.specs.Rolling.{hall_rolled, IsRollUnseen}
+use Rattle.fb_locked.specs.Rolling.{locked_rolled, IsRollUnseen}
 use Rattle.fb_locked.specs.Seats.{LockedView, SeatView}
 use Rattle.fb_locked.specs.declared.locked.SharedRefused.{SharedRefused}
 use Rattle.fb_locked.specs.declared.locked.SharedRefused.TheVariants.{SeatDiffers, Behind, HistoryFull}
 
-same_state : (limits : Bounds) (story : BenchView) → IsOrigin story.origin → limits.units ≡ story.origin.most_units → state_of (checkpointed limits story) ≡ state_of story
-same_state limits story begins same =
-    let most : limits.units ≡ (state_of story).most_units = same ∙ sym (most_units_of story) in
-    unseen limits story begins ∙ (λ i. record (state_of story) { most_units = most i })
+same_state : (limits : Bounds) (bench : BenchView) → IsOrigin bench.origin → limits.units ≡ bench.origin.most_units → state_of (checkpointed limits bench) ≡ state_of bench
+same_state limits bench begins same =
+    let most : limits.units ≡ (state_of bench).most_units = same ∙ sym (most_units_of bench) in
+    unseen limits bench begins ∙ (λ i. record (state_of bench) { most_units = most i })
 
 -- which cause is first against a call, where the calls and the numbers are these
 abbrev cause_at : (turns seat_turns last seen limit len : ℕ) → Option SharedRefused
@@ -32,21 +32,21 @@ no_cause turns seat_turns last seen limit len more false s room full = absurd (l
 roomy : (limit : ℕ) → 1 ≤ limit → nat_le limit 0 ≡ false
 roomy limit some = grind (arith, nat_tests)
 
-no_refusal : (limits : Bounds) (hall : LockedView) (seat : SeatView) → 1 ≤ limits.history → refusal_of hall seat ≡ Some HistoryFull → refusal_of (hall_rolled limits hall) seat ≡ None
-no_refusal limits hall seat some full =
-    let on = numbers_go_on limits hall.bench in
-    let turns : all_turns (checkpointed limits hall.bench) seat.caller ≡ all_turns hall.bench seat.caller = on.turns seat.caller in
-    let before : ◌≡◌ {A = Option SharedRefused} (cause_at (all_turns hall.bench seat.caller) seat.turns (last_number hall.bench) seat.seen limits.history 0) None =
-    no_cause (all_turns hall.bench seat.caller) seat.turns (last_number hall.bench) seat.seen hall.bench.log.limit (length hall.bench.log.records) limits.history (all_turns hall.bench seat.caller == seat.turns) (nat_lt (last_number hall.bench) seat.seen) (roomy limits.history some) full in
+no_refusal : (limits : Bounds) (locked : LockedView) (seat : SeatView) → 1 ≤ limits.history → refusal_of locked seat ≡ Some HistoryFull → refusal_of (locked_rolled limits locked) seat ≡ None
+no_refusal limits locked seat some full =
+    let on = numbers_go_on limits locked.bench in
+    let turns : all_turns (checkpointed limits locked.bench) seat.caller ≡ all_turns locked.bench seat.caller = on.turns seat.caller in
+    let before : ◌≡◌ {A = Option SharedRefused} (cause_at (all_turns locked.bench seat.caller) seat.turns (last_number locked.bench) seat.seen limits.history 0) None =
+    no_cause (all_turns locked.bench seat.caller) seat.turns (last_number locked.bench) seat.seen locked.bench.log.limit (length locked.bench.log.records) limits.history (all_turns locked.bench seat.caller == seat.turns) (nat_lt (last_number locked.bench) seat.seen) (roomy limits.history some) full in
     (λ i. cause_at (turns i) seat.turns (on.last i) seat.seen limits.history 0) ∙ before
 
-pub roll_unseen : (limits : Bounds) (hall : LockedView) → IsOrigin hall.bench.origin → limits.units ≡ hall.bench.origin.most_units → 1 ≤ limits.history → IsRollUnseen limits hall
-roll_unseen limits hall begins same some =
-    let on = numbers_go_on limits hall.bench in
+pub roll_unseen : (limits : Bounds) (locked : LockedView) → IsOrigin locked.bench.origin → limits.units ≡ locked.bench.origin.most_units → 1 ≤ limits.history → IsRollUnseen limits locked
+roll_unseen limits locked begins same some =
+    let on = numbers_go_on limits locked.bench in
     record {
-      state = same_state limits hall.bench begins same;
+      state = same_state limits locked.bench begins same;
       last = on.last;
       turns = on.turns;
       none = on.none;
-      seats = λ seat full. no_refusal limits hall seat some full;
+      seats = λ seat full. no_refusal limits locked seat some full;
     }

@@ -97,8 +97,8 @@ pub ends_as : (first : Option SharedRefused) (cause : SharedRefused) → Refused
 ends_as None cause is = ap end_of is
 ends_as (Some other) cause is = ap end_of is
 
-pub stays_gives : (cause : SharedRefused) (hall hall' : LockedView) (seat seat' : SeatView) (order : PlainJob) (old new : List ReceiptView) → Stays hall seat old hall' seat' new → GivesUp (end_of cause) hall seat order old hall' seat' new
-stays_gives (refused.SeatDiffers turns book) hall hall' seat seat' order old new stays = stays
-stays_gives (refused.Behind seen len) hall hall' seat seat' order old new stays = stays
-stays_gives refused.HistoryFull hall hall' seat seat' order old new stays = stays
-stays_gives refused.Memory hall hall' seat seat' order old new stays = inr stays
+pub stays_gives : (cause : SharedRefused) (locked locked' : LockedView) (seat seat' : SeatView) (order : PlainJob) (old new : List ReceiptView) → Stays locked seat old locked' seat' new → GivesUp (end_of cause) locked seat order old locked' seat' new
+stays_gives (refused.SeatDiffers turns book) locked locked' seat seat' order old new stays = stays
+stays_gives (refused.Behind seen len) locked locked' seat seat' order old new stays = stays
+stays_gives refused.HistoryFull locked locked' seat seat' order old new stays = stays
+stays_gives refused.Memory locked locked' seat seat' order old new stays = inr stays

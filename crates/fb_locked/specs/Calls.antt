@@ -5,19 +5,19 @@ use Rattle.fb_bench.specs.History.BenchView.{reply_at}
 use Rattle.fb_bench.specs.Requests.{reply_in}
 use Rattle.fb_bench.specs.declared.answers.Answered.{Answered}
 use Rattle.fb_locked.specs.declared.locked.SharedRefused.{SharedRefused}
-use Rattle.fb_locked.specs.Seats.{LockedView, SeatView, ReceiptView, hall_after, next_claim, seat_after, IsReceiptOf}
+use Rattle.fb_locked.specs.Seats.{LockedView, SeatView, ReceiptView, locked_after, next_claim, seat_after, IsReceiptOf}
 use Rattle.fb_locked.specs.Refusals.{refusal_of, RefusedAs, IsRefusalOf}
 
 -- The call is the machine's next step, recorded, and its receipt is that record with its number. Or the first cause refuses it, want
 -- of memory where there is none, and nothing changes.
 abbrev pub Performs : {R : Type 0} → LockedView → SeatView → Call → (R → ReceiptView) → Result R SharedRefused → LockedView → SeatView → Type 0
-Performs hall seat call claim_of (Ok made) hall' seat' =
-    (refusal_of hall seat ≡ None)
-    × (claim_of made ≡ next_claim hall seat.caller call)
-    × (hall' ≡ hall_after hall seat.caller call)
+Performs locked seat call claim_of (Ok made) locked' seat' =
+    (refusal_of locked seat ≡ None)
+    × (claim_of made ≡ next_claim locked seat.caller call)
+    × (locked' ≡ locked_after locked seat.caller call)
     × (seat' ≡ seat_after seat (claim_of made))
-Performs hall seat call claim_of (Err refused) hall' seat' =
-    RefusedAs (refusal_of hall seat) refused × (hall' ≡ hall) × (seat' ≡ seat)
+Performs locked seat call claim_of (Err refused) locked' seat' =
+    RefusedAs (refusal_of locked seat) refused × (locked' ≡ locked) × (seat' ≡ seat)
 
 -- a receipt of the call, which the seat has then seen; or a refusal, and the seat as it was
 abbrev pub Answers : {R : Type 0} → SeatView → Call → (R → ReceiptView) → Result R SharedRefused → SeatView → Type 0
@@ -28,21 +28,21 @@ Answers seat call claim_of (Err refused) seat' = IsRefusalOf seat refused × (se
 
 -- the call is the machine's next step, recorded, and its receipt comes behind those that there were
 abbrev pub Keeps : LockedView → SeatView → Call → List ReceiptView → LockedView → SeatView → List ReceiptView → Type 0
-Keeps hall seat call old hall' seat' new =
-    (refusal_of hall seat ≡ None)
-    × (new ≡ old ++ next_claim hall seat.caller call ∷ [])
-    × (hall' ≡ hall_after hall seat.caller call)
-    × (seat' ≡ seat_after seat (next_claim hall seat.caller call))
+Keeps locked seat call old locked' seat' new =
+    (refusal_of locked seat ≡ None)
+    × (new ≡ old ++ next_claim locked seat.caller call ∷ [])
+    × (locked' ≡ locked_after locked seat.caller call)
+    × (seat' ≡ seat_after seat (next_claim locked seat.caller call))
 
 -- nothing changes
 abbrev pub Stays : LockedView → SeatView → List ReceiptView → LockedView → SeatView → List ReceiptView → Type 0
-Stays hall seat old hall' seat' new = (hall' ≡ hall) × (seat' ≡ seat) × (new ≡ old)
+Stays locked seat old locked' seat' new = (locked' ≡ locked) × (seat' ≡ seat) × (new ≡ old)
 
 -- The call is made and its receipt kept, and the answer is the machine's. Or the first cause refuses it, want of memory where there is none,
 -- and nothing changes.
 abbrev pub PerformsKept : LockedView → SeatView → Call → Result Answered SharedRefused → List ReceiptView → LockedView → SeatView → List ReceiptView → Type 0
-PerformsKept hall seat call (Ok answer) old hall' seat' new = (reply_in answer ≡ reply_at hall.bench call) × Keeps hall seat call old hall' seat' new
-PerformsKept hall seat call (Err refused) old hall' seat' new = RefusedAs (refusal_of hall seat) refused × Stays hall seat old hall' seat' new
+PerformsKept locked seat call (Ok answer) old locked' seat' new = (reply_in answer ≡ reply_at locked.bench call) × Keeps locked seat call old locked' seat' new
+PerformsKept locked seat call (Err refused) old locked' seat' new = RefusedAs (refusal_of locked seat) refused × Stays locked seat old locked' seat' new
 
 -- one receipt more, which is of the call, with its answer, and which the seat has then seen; or a refusal, and all as it was
 abbrev pub AnswersKept : SeatView → Call → Result Answered SharedRefused → List ReceiptView → SeatView → List ReceiptView → Type 0

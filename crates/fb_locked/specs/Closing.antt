@@ -14,23 +14,23 @@ has_seat seats q = list_any (λ s. s.caller == q) seats
 
 -- a seat of this caller is among the seats whose number of calls is not its caller's
 abbrev pub has_wrong_seat : BenchView → List SeatView → ℕ → Bool
-has_wrong_seat story seats q = list_any (λ s. s.caller == q && not (all_turns story q == s.turns)) seats
+has_wrong_seat bench seats q = list_any (λ s. s.caller == q && not (all_turns bench q == s.turns)) seats
 
 -- a caller whose seat is not among the seats
 abbrev pub is_missing : ℕ → BenchView → List SeatView → ℕ → Bool
-is_missing callers story seats q = is_caller callers story q && not (has_seat seats q)
+is_missing callers bench seats q = is_caller callers bench q && not (has_seat seats q)
 
 -- each caller's seat is there
 abbrev pub AreSeated : ℕ → BenchView → List SeatView → Type 0
-AreSeated callers story seats = (q : ℕ) → is_missing callers story seats q ≡ false
+AreSeated callers bench seats = (q : ℕ) → is_missing callers bench seats q ≡ false
 
 -- no seat differs from what its caller has called
 abbrev pub AreSeatsRight : BenchView → List SeatView → Type 0
-AreSeatsRight story seats = (q : ℕ) → has_wrong_seat story seats q ≡ false
+AreSeatsRight bench seats = (q : ℕ) → has_wrong_seat bench seats q ≡ false
 
 -- the record of the receipt's number is the receipt's. A call from before the history begins has no record any more
 abbrev pub IsReceiptRight : BenchView → ReceiptView → Type 0
-IsReceiptRight story claim = record_numbered story claim.number ≡ Some claim.entry
+IsReceiptRight bench claim = record_numbered bench claim.number ≡ Some claim.entry
 
 -- how many of the receipts have this number
 abbrev pub times : ℕ → List ReceiptView → ℕ
@@ -51,56 +51,56 @@ lesser_of None q true = Some q
 lesser_of (Some p) q true = Some (min q p)
 
 -- each receipt is right, and no number comes twice
-pub record AreReceiptsRight (story : BenchView) (receipts : List ReceiptView) : Type 0 where
-  pub right : All (IsReceiptRight story) receipts
+pub record AreReceiptsRight (bench : BenchView) (receipts : List ReceiptView) : Type 0 where
+  pub right : All (IsReceiptRight bench) receipts
   pub once : (number : ℕ) → times number receipts ≤ 1
 
 -- all seats and receipts are right
-pub record AgreesWith (callers : ℕ) (story : BenchView) (seats : List SeatView) (receipts : List ReceiptView) : Type 0 where
-  pub seated : AreSeated callers story seats
-  pub turns : AreSeatsRight story seats
-  pub shown : AreReceiptsRight story receipts
+pub record AgreesWith (callers : ℕ) (bench : BenchView) (seats : List SeatView) (receipts : List ReceiptView) : Type 0 where
+  pub seated : AreSeated callers bench seats
+  pub turns : AreSeatsRight bench seats
+  pub shown : AreReceiptsRight bench receipts
 
 -- numbers rise with the turns of a caller
 abbrev pub NumbersRise : BenchView → Type 0
-NumbersRise story =
-    (m n : ℕ) (earlier later : Record) → record_numbered story m ≡ Some earlier → record_numbered story n ≡ Some later → earlier.caller ≡ later.caller
+NumbersRise bench =
+    (m n : ℕ) (earlier later : Record) → record_numbered bench m ≡ Some earlier → record_numbered bench n ≡ Some later → earlier.caller ≡ later.caller
     → earlier.turn < later.turn → m < n
 
 -- of each record of the caller there is a receipt
 abbrev pub AreShown : ℕ → BenchView → List ReceiptView → Type 0
-AreShown caller story receipts =
-    (number : ℕ) (it : Record) → record_numbered story number ≡ Some it → it.caller ≡ caller → Contains receipts (record { number = number; entry = it })
+AreShown caller bench receipts =
+    (number : ℕ) (it : Record) → record_numbered bench number ≡ Some it → it.caller ≡ caller → Contains receipts (record { number = number; entry = it })
 
 -- a caller whose receipts are as many as its records has shown them all
 abbrev pub EnoughShowAll : BenchView → List ReceiptView → Type 0
-EnoughShowAll story receipts = (caller : ℕ) → receipts_of caller receipts ≡ turns_of caller story.log.records → AreShown caller story receipts
+EnoughShowAll bench receipts = (caller : ℕ) → receipts_of caller receipts ≡ turns_of caller bench.log.records → AreShown caller bench receipts
 
 -- the k-th receipt is the first that is wrong, and has this number
 abbrev pub IsFirstWrong : BenchView → List ReceiptView → ℕ → ℕ → Type 0
-IsFirstWrong story receipts k number =
-    AreReceiptsRight story (take k receipts)
-    × ((claim : ReceiptView) × (slice_get receipts k ≡ Some claim) × (claim.number ≡ number) × (IsReceiptRight story claim → ⊥))
+IsFirstWrong bench receipts k number =
+    AreReceiptsRight bench (take k receipts)
+    × ((claim : ReceiptView) × (slice_get receipts k ≡ Some claim) × (claim.number ≡ number) × (IsReceiptRight bench claim → ⊥))
 
 -- the k-th receipt is right, as are those before it, and one of these has its number
 abbrev pub IsFirstTwice : BenchView → List ReceiptView → ℕ → ℕ → Type 0
-IsFirstTwice story receipts k number =
-    AreReceiptsRight story (take k receipts)
-    × ((claim : ReceiptView) × (slice_get receipts k ≡ Some claim) × (claim.number ≡ number) × IsReceiptRight story claim)
+IsFirstTwice bench receipts k number =
+    AreReceiptsRight bench (take k receipts)
+    × ((claim : ReceiptView) × (slice_get receipts k ≡ Some claim) × (claim.number ≡ number) × IsReceiptRight bench claim)
     × (times number (take k receipts) ≡ 1)
 
 -- the first fault of a list of receipts
 abbrev pub IsReceiptFault : BenchView → List ReceiptView → CloseFault → Type 0
-IsReceiptFault story receipts (SeatMissing q) = ⊥
-IsReceiptFault story receipts (SeatDiffers q) = ⊥
-IsReceiptFault story receipts (ReceiptDiffers number) = (k : ℕ) × IsFirstWrong story receipts k number
-IsReceiptFault story receipts (ReceiptTwice number) = (k : ℕ) × IsFirstTwice story receipts k number
-IsReceiptFault story receipts Memory = ⊥
+IsReceiptFault bench receipts (SeatMissing q) = ⊥
+IsReceiptFault bench receipts (SeatDiffers q) = ⊥
+IsReceiptFault bench receipts (ReceiptDiffers number) = (k : ℕ) × IsFirstWrong bench receipts k number
+IsReceiptFault bench receipts (ReceiptTwice number) = (k : ℕ) × IsFirstTwice bench receipts k number
+IsReceiptFault bench receipts Memory = ⊥
 
 -- each receipt is right and none comes twice, or this is their first fault
 abbrev pub ChecksReceipts : {R : Type 0} → BenchView → List ReceiptView → Result R CloseFault → Type 0
-ChecksReceipts story receipts (Ok done) = AreReceiptsRight story receipts
-ChecksReceipts story receipts (Err fault) = IsReceiptFault story receipts fault
+ChecksReceipts bench receipts (Ok done) = AreReceiptsRight bench receipts
+ChecksReceipts bench receipts (Err fault) = IsReceiptFault bench receipts fault
 
 -- the least number that passes, or none does
 abbrev pub IsLeast : (ℕ → Bool) → Option ℕ → Type 0
@@ -109,18 +109,18 @@ IsLeast test (Some q) = (test q ≡ true) × ((p : ℕ) → p < q → test p ≡
 
 -- The fault stands there, and no earlier one does. Want of memory is no fault of seats or receipts, and comes behind them all.
 abbrev pub IsFirstFault : ℕ → BenchView → List SeatView → List ReceiptView → CloseFault → Type 0
-IsFirstFault callers story seats receipts (SeatMissing q) = IsLeast (is_missing callers story seats) (Some q)
-IsFirstFault callers story seats receipts (SeatDiffers q) = AreSeated callers story seats × IsLeast (has_wrong_seat story seats) (Some q)
-IsFirstFault callers story seats receipts (ReceiptDiffers number) =
-    AreSeated callers story seats × AreSeatsRight story seats × ((k : ℕ) × IsFirstWrong story receipts k number)
-IsFirstFault callers story seats receipts (ReceiptTwice number) =
-    AreSeated callers story seats × AreSeatsRight story seats × ((k : ℕ) × IsFirstTwice story receipts k number)
-IsFirstFault callers story seats receipts Memory = AgreesWith callers story seats receipts
+IsFirstFault callers bench seats receipts (SeatMissing q) = IsLeast (is_missing callers bench seats) (Some q)
+IsFirstFault callers bench seats receipts (SeatDiffers q) = AreSeated callers bench seats × IsLeast (has_wrong_seat bench seats) (Some q)
+IsFirstFault callers bench seats receipts (ReceiptDiffers number) =
+    AreSeated callers bench seats × AreSeatsRight bench seats × ((k : ℕ) × IsFirstWrong bench receipts k number)
+IsFirstFault callers bench seats receipts (ReceiptTwice number) =
+    AreSeated callers bench seats × AreSeatsRight bench seats × ((k : ℕ) × IsFirstTwice bench receipts k number)
+IsFirstFault callers bench seats receipts Memory = AgreesWith callers bench seats receipts
 
 -- all seats and receipts are right, and these are the counts; or this is what stands first against it
 abbrev pub ChecksAll : ℕ → BenchView → List SeatView → List ReceiptView → Result (BTreeMap ℕ ℕ) CloseFault → Type 0
-ChecksAll callers story seats receipts (Ok counts) = AgreesWith callers story seats receipts × IsBookOf counts callers story
-ChecksAll callers story seats receipts (Err fault) = IsFirstFault callers story seats receipts fault
+ChecksAll callers bench seats receipts (Ok counts) = AgreesWith callers bench seats receipts × IsBookOf counts callers bench
+ChecksAll callers bench seats receipts (Err fault) = IsFirstFault callers bench seats receipts fault
 
 -- The workbench and the counts of a close, where seats were made for so many callers: the seats and the receipts agree with it.
 abbrev pub IsCloseOf : ℕ → List SeatView → List ReceiptView → BenchView → BTreeMap ℕ ℕ → Type 0

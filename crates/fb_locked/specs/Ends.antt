@@ -24,7 +24,7 @@ end_of refused.Memory = Memory
 
 -- what ends a worker before a take, whether or not a key is pending: the stop mark, or else the first cause against a call
 abbrev pub end_before_take : LockedView → SeatView → Option WorkEnd
-end_before_take hall seat = if hall.stopped then Some Stopped else option_map end_of (refusal_of hall seat)
+end_before_take locked seat = if locked.stopped then Some Stopped else option_map end_of (refusal_of locked seat)
 
 -- an end that names the seat
 abbrev pub NamesSeat : SeatView → WorkEnd → Type 0
@@ -49,25 +49,25 @@ EndsAs (Some cause) end = end ≡ cause
 -- A look for a job, under the lock. What ends the worker is asked first, whether or not there is a job. Want of memory ends it only where there is one. A
 -- look that takes one is a take whose receipt is kept, and one that takes none changes nothing.
 abbrev pub Looks : LockedView → SeatView → Look → List ReceiptView → LockedView → SeatView → List ReceiptView → Type 0
-Looks hall seat (Ended end) old hall' seat' new =
-    EndsAs (end_before_take hall seat) end × (end_before_take hall seat ≡ None → is_some (next (state_of hall.bench)) ≡ true) × Stays hall seat old hall' seat' new
-Looks hall seat Nothing old hall' seat' new = (end_before_take hall seat ≡ None) × (next (state_of hall.bench) ≡ None) × Stays hall seat old hall' seat' new
-Looks hall seat (Taken job) old hall' seat' new =
-    (end_before_take hall seat ≡ None) × (job_of (reply (state_of hall.bench) ToTake) ≡ Some job) × Keeps hall seat ToTake old hall' seat' new
+Looks locked seat (Ended end) old locked' seat' new =
+    EndsAs (end_before_take locked seat) end × (end_before_take locked seat ≡ None → is_some (next (state_of locked.bench)) ≡ true) × Stays locked seat old locked' seat' new
+Looks locked seat Nothing old locked' seat' new = (end_before_take locked seat ≡ None) × (next (state_of locked.bench) ≡ None) × Stays locked seat old locked' seat' new
+Looks locked seat (Taken job) old locked' seat' new =
+    (end_before_take locked seat ≡ None) × (job_of (reply (state_of locked.bench) ToTake) ≡ Some job) × Keeps locked seat ToTake old locked' seat' new
 
 -- a worker that waits has to look again: it would end, or there is something to take
 abbrev pub calls_workers : LockedView → Bool
-calls_workers hall = hall.stopped || (is_some (next (state_of hall.bench)) || nat_le hall.bench.log.limit (length hall.bench.log.records))
+calls_workers locked = locked.stopped || (is_some (next (state_of locked.bench)) || nat_le locked.bench.log.limit (length locked.bench.log.records))
 
 -- Where memory was wanting, the key of the job is given back, or nothing changes where this is refused too. At another end nothing changes.
 abbrev pub GivesUp : WorkEnd → LockedView → SeatView → PlainJob → List ReceiptView → LockedView → SeatView → List ReceiptView → Type 0
-GivesUp Memory hall seat order old hall' seat' new = Keeps hall seat (ToGiveBack order.key) old hall' seat' new ⊎ Stays hall seat old hall' seat' new
-GivesUp end hall seat order old hall' seat' new = Stays hall seat old hall' seat' new
+GivesUp Memory locked seat order old locked' seat' new = Keeps locked seat (ToGiveBack order.key) old locked' seat' new ⊎ Stays locked seat old locked' seat' new
+GivesUp end locked seat order old locked' seat' new = Stays locked seat old locked' seat' new
 
 -- What a worker does with a job that it holds, under the lock. Its result, if it has one, is delivered, and then the worker goes on, whether or not
 -- it was accepted. Where the delivery is refused it ends under the name of the first cause; where memory was wanting, for the result or for its
 -- delivery, for want of memory.
 abbrev pub SettlesJob : LockedView → SeatView → PlainJob → Bool → Option WorkEnd → List ReceiptView → LockedView → SeatView → List ReceiptView → Type 0
-SettlesJob hall seat order has_result None old hall' seat' new = (has_result ≡ true) × Keeps hall seat (ToDeliver order) old hall' seat' new
-SettlesJob hall seat order has_result (Some end) old hall' seat' new =
-    EndsAs (if has_result then option_map end_of (refusal_of hall seat) else None) end × GivesUp end hall seat order old hall' seat' new
+SettlesJob locked seat order has_result None old locked' seat' new = (has_result ≡ true) × Keeps locked seat (ToDeliver order) old locked' seat' new
+SettlesJob locked seat order has_result (Some end) old locked' seat' new =
+    EndsAs (if has_result then option_map end_of (refusal_of locked seat) else None) end × GivesUp end locked seat order old locked' seat' new

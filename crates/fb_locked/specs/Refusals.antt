@@ -7,11 +7,11 @@ use Rattle.fb_locked.specs.Seats.{LockedView, SeatView}
 
 -- the first cause, want of memory apart
 abbrev pub refusal_of : LockedView → SeatView → Option SharedRefused
-refusal_of hall seat =
-    if all_turns hall.bench seat.caller == seat.turns then (
-    if nat_lt (last_number hall.bench) seat.seen then Some (Behind seat.seen (last_number hall.bench))
-    else if nat_le hall.bench.log.limit (length hall.bench.log.records) then Some HistoryFull else None
-    ) else Some (SeatDiffers seat.turns (all_turns hall.bench seat.caller))
+refusal_of locked seat =
+    if all_turns locked.bench seat.caller == seat.turns then (
+    if nat_lt (last_number locked.bench) seat.seen then Some (Behind seat.seen (last_number locked.bench))
+    else if nat_le locked.bench.log.limit (length locked.bench.log.records) then Some HistoryFull else None
+    ) else Some (SeatDiffers seat.turns (all_turns locked.bench seat.caller))
 
 -- the cause where there is one, and otherwise want of memory
 abbrev pub RefusedAs : Option SharedRefused → SharedRefused → Type 0

@@ -11,14 +11,14 @@ use Rattle.fb_locked.specs.declared.resume.ResumeFault.TheVariants.{CallersFew, 
 
 -- a caller with calls, for whom no seat is made
 abbrev pub is_left_out : BenchView → ℕ → ℕ → Bool
-is_left_out story callers q = nat_lt 0 (all_turns story q) && not (is_first callers q)
+is_left_out bench callers q = nat_lt 0 (all_turns bench q) && not (is_first callers q)
 
 -- why a workbench does not come under a lock: the least such caller, or want of memory where there is none
 abbrev pub IsResumeFault : BenchView → ℕ → ResumeFault → Type 0
-IsResumeFault story callers (CallersFew q) = IsLeast (is_left_out story callers) (Some q)
-IsResumeFault story callers Memory = IsLeast (is_left_out story callers) None
+IsResumeFault bench callers (CallersFew q) = IsLeast (is_left_out bench callers) (Some q)
+IsResumeFault bench callers Memory = IsLeast (is_left_out bench callers) None
 
 -- nothing but a full history, or want of memory, is against the next call with the seat
 abbrev pub IsUpToDate : LockedView → SeatView → Type 0
-IsUpToDate hall seat =
-    ((refusal_of hall seat ≡ None) ⊎ (refusal_of hall seat ≡ Some HistoryFull)) × ((refusal_of hall seat ≡ Some HistoryFull) ↔ IsFull hall.bench.log)
+IsUpToDate locked seat =
+    ((refusal_of locked seat ≡ None) ⊎ (refusal_of locked seat ≡ Some HistoryFull)) × ((refusal_of locked seat ≡ Some HistoryFull) ↔ IsFull locked.bench.log)

@@ -16,12 +16,12 @@ use Rattle.fb_locked.specs.declared.locked.SharedRefused.{SharedRefused}
 use Rattle.fb_locked.specs.declared.locked.SharedRefused.TheVariants.{HistoryFull}
 
 -- the same, with a history that begins where it has led to
-abbrev pub hall_rolled : Bounds → LockedView → LockedView
-hall_rolled limits hall = record hall { bench = checkpointed limits hall.bench }
+abbrev pub locked_rolled : Bounds → LockedView → LockedView
+locked_rolled limits locked = record locked { bench = checkpointed limits locked.bench }
 
 -- A full history begins anew, and any other one stays as it is. A full one stays where the checkpoint is refused.
 abbrev pub MakesRoom : {T : Type 0} → Bounds → LockedView → Result T CheckpointRefused → LockedView → Type 0
-MakesRoom limits old (Ok done) new = (IsFull old.bench.log × (new ≡ hall_rolled limits old)) ⊎ ((IsFull old.bench.log → ⊥) × (new ≡ old))
+MakesRoom limits old (Ok done) new = (IsFull old.bench.log × (new ≡ locked_rolled limits old)) ⊎ ((IsFull old.bench.log → ⊥) × (new ≡ old))
 MakesRoom limits old (Err refused) new = IsFull old.bench.log × ChecksAs (checking limits old.bench) (Err refused) × (new ≡ old)
 
 -- ---- keys that are out since a take
@@ -40,21 +40,21 @@ takes_in key (Some it) = takes key it
 
 -- the record of this number hands the key out
 abbrev pub takes_at : BenchView → Key → ℕ → Bool
-takes_at story key number = takes_in key (record_numbered story number)
+takes_at bench key number = takes_in key (record_numbered bench number)
 
 -- a record behind that of this number hands the key out
 abbrev pub IsTakenAfter : BenchView → Key → ℕ → Type 0
-IsTakenAfter story key since = (number : ℕ) × (since < number) × (takes_at story key number ≡ true)
+IsTakenAfter bench key since = (number : ℕ) × (since < number) × (takes_at bench key number ≡ true)
 
 -- it is handed out, and nobody has taken it after that number
 abbrev pub IsOutSince : BenchView → Key → ℕ → Type 0
-IsOutSince story key since = ((state_of story).out key ≡ true) × (IsTakenAfter story key since → ⊥)
+IsOutSince bench key since = ((state_of bench).out key ≡ true) × (IsTakenAfter bench key since → ⊥)
 
 -- Where it is out since then it is given back, by a recorded call whose receipt is kept, or that is refused as any call. Otherwise nothing changes.
 abbrev pub Returns : {T : Type 0} → ℕ → LockedView → SeatView → Key → Result T SharedRefused → List ReceiptView → LockedView → SeatView → List ReceiptView → Type 0
-Returns since hall seat key (Ok done) old hall' seat' new =
-    (IsOutSince hall.bench key since × Keeps hall seat (ToGiveBack key) old hall' seat' new) ⊎ ((IsOutSince hall.bench key since → ⊥) × Stays hall seat old hall' seat' new)
-Returns since hall seat key (Err refused) old hall' seat' new = IsOutSince hall.bench key since × RefusedAs (refusal_of hall seat) refused × Stays hall seat old hall' seat' new
+Returns since locked seat key (Ok done) old locked' seat' new =
+    (IsOutSince locked.bench key since × Keeps locked seat (ToGiveBack key) old locked' seat' new) ⊎ ((IsOutSince locked.bench key since → ⊥) × Stays locked seat old locked' seat' new)
+Returns since locked seat key (Err refused) old locked' seat' new = IsOutSince locked.bench key since × RefusedAs (refusal_of locked seat) refused × Stays locked seat old locked' seat' new
 
 -- what is said of the seat and its receipts alone: one receipt more, of the key given back; or nothing changes
 abbrev pub MayReturn : {T : Type 0} → SeatView → Key → Result T SharedRefused → List ReceiptView → SeatView → List ReceiptView → Type 0
@@ -66,9 +66,9 @@ MayReturn seat key (Err refused) old seat' new = IsRefusalOf seat refused × (ne
 
 -- Behind a roll the state is the one before it, as are numbers and books; there is no record; and a seat against which nothing but a full history
 -- was is one against which nothing is.
-pub record IsRollUnseen (limits : Bounds) (hall : LockedView) : Type 0 where
-  pub state : state_of (hall_rolled limits hall).bench ≡ state_of hall.bench
-  pub last : last_number (hall_rolled limits hall).bench ≡ last_number hall.bench
-  pub turns : (caller : ℕ) → all_turns (hall_rolled limits hall).bench caller ≡ all_turns hall.bench caller
-  pub none : (number : ℕ) → record_numbered (hall_rolled limits hall).bench number ≡ None
-  pub seats : (seat : SeatView) → refusal_of hall seat ≡ Some HistoryFull → refusal_of (hall_rolled limits hall) seat ≡ None
+pub record IsRollUnseen (limits : Bounds) (locked : LockedView) : Type 0 where
+  pub state : state_of (locked_rolled limits locked).bench ≡ state_of locked.bench
+  pub last : last_number (locked_rolled limits locked).bench ≡ last_number locked.bench
+  pub turns : (caller : ℕ) → all_turns (locked_rolled limits locked).bench caller ≡ all_turns locked.bench caller
+  pub none : (number : ℕ) → record_numbered (locked_rolled limits locked).bench number ≡ None
+  pub seats : (seat : SeatView) → refusal_of locked seat ≡ Some HistoryFull → refusal_of (locked_rolled limits locked) seat ≡ None

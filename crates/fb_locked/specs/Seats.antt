@@ -22,12 +22,12 @@ pub record LockedView : Type 0 where
   pub stopped : Bool
 
 -- after one recorded call
-abbrev pub hall_after : LockedView → ℕ → Call → LockedView
-hall_after hall caller call = record hall { bench = recorded hall.bench caller call }
+abbrev pub locked_after : LockedView → ℕ → Call → LockedView
+locked_after locked caller call = record locked { bench = recorded locked.bench caller call }
 
 -- the receipt of the call that is recorded next
 abbrev pub next_claim : LockedView → ℕ → Call → ReceiptView
-next_claim hall caller call = record { number = last_number hall.bench + 1; entry = record_of hall.bench caller call }
+next_claim locked caller call = record { number = last_number locked.bench + 1; entry = record_of locked.bench caller call }
 
 -- the seat after the call of this receipt
 abbrev pub seat_after : SeatView → ReceiptView → SeatView
@@ -43,11 +43,11 @@ pub record IsReceiptOf (seat : SeatView) (call : Call) (claim : ReceiptView) : T
 
 -- the seat of a caller as a history leaves it
 abbrev pub seat_at : BenchView → ℕ → SeatView
-seat_at story caller = record { caller = caller; turns = all_turns story caller; seen = last_number story }
+seat_at bench caller = record { caller = caller; turns = all_turns bench caller; seen = last_number bench }
 
 -- the seats of callers 1 to n there, in order
 abbrev pub AreSeatsAt : BenchView → ℕ → List SeatView → Type 0
-AreSeatsAt story n seats = (length seats ≡ n) × ((k : ℕ) → k < n → slice_get seats k ≡ Some (seat_at story (k + 1)))
+AreSeatsAt bench n seats = (length seats ≡ n) × ((k : ℕ) → k < n → slice_get seats k ≡ Some (seat_at bench (k + 1)))
 
 -- the seat of a caller that has made no call
 abbrev pub new_seat : ℕ → SeatView

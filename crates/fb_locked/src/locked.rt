@@ -3,11 +3,11 @@ ghost use Rattle.std.specs.Prelude.{◌≡◌, ◌≤◌, ◌+◌, true, false, 
 ghost use Rattle.fb_bench.specs.History.Machine.{ToCommit, ToTake, ToDeliver, ToGiveBack, ToAsk};
 ghost use Rattle.fb_bench.specs.Records.{listed};
 ghost use Rattle.fb_bench.specs.Requests.{call_for, reply_in, job_of};
-ghost use Rattle.fb_bench.specs.History.BenchView.{all_turns, new_story};
+ghost use Rattle.fb_bench.specs.History.BenchView.{all_turns, new_bench};
 ghost use Rattle.fb_locked.specs.Book.{SeatFits};
 ghost use Rattle.fb_locked.specs.Calls.{Answers, AnswersKept, Performs, PerformsKept};
 ghost use Rattle.fb_locked.specs.Refusals.{refusal_of, IsRefusalOf};
-ghost use Rattle.fb_locked.specs.Seats.{hall_after, next_claim, AreFirstSeats, AreSeatsAt};
+ghost use Rattle.fb_locked.specs.Seats.{locked_after, next_claim, AreFirstSeats, AreSeatsAt};
 
 use crate::seat::{Receipt, Seat};
 use fb_bench::jobs::{Finished, Job, Key};
@@ -57,10 +57,10 @@ impl Locked {
         limits: Limits,
         callers: u32,
     ) -> Result<(Locked, Vec<Seat>), AllocError>
-        ensures hall { IfOk result
+        ensures locked { IfOk result
             (λ made. made.0
             ≡ record {
-              bench = new_story limits.units limits.history;
+              bench = new_bench limits.units limits.history;
               callers = callers;
               stopped = false;
             }) }
@@ -156,7 +156,7 @@ impl Locked {
         caller: u32,
         request: &Request<'_>,
     ) -> Result<(Receipt, Answered), AllocError>
-        ensures step { OnOk result (self.new ≡ hall_after self.old caller (call_for request.now)) }
+        ensures step { OnOk result (self.new ≡ locked_after self.old caller (call_for request.now)) }
         ensures receipt { IfOk result
             (λ made. made.0 ≡ next_claim self.old caller (call_for request.now)) }
         ensures answer { IfOk result (λ made. reply_in made.1 ≡ made.0.entry.reply) }

@@ -34,7 +34,7 @@ impl Locked {
         bench: Bench,
         callers: u32,
     ) -> Result<(Locked, Vec<Seat>), NotResumed>
-        ensures hall { IfOk result
+        ensures locked { IfOk result
             (λ made. made.0 ≡ record { bench = bench; callers = callers; stopped = false }) }
         ensures seats { IfOk result (λ made. AreSeatsAt bench callers made.1.items) }
         ensures all_seated { OnOk result (IsLeast (is_left_out bench callers) None) }

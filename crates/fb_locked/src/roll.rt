@@ -3,7 +3,7 @@ ghost use Rattle.std.specs.Prelude.{◌≡◌, ◌↔◌, ◌≤◌, IsTrue, OnO
 ghost use Rattle.fb_bench.specs.History.Checkpoints.{checking, ChecksAs};
 ghost use Rattle.fb_bench.specs.History.Limits.{Bounds};
 ghost use Rattle.fb_bench.specs.History.BenchView.{IsOrigin};
-ghost use Rattle.fb_locked.specs.Rolling.{hall_rolled, takes, takes_at, IsOutSince, IsRollUnseen, IsTakenAfter, MakesRoom, MayReturn, Returns};
+ghost use Rattle.fb_locked.specs.Rolling.{locked_rolled, takes, takes_at, IsOutSince, IsRollUnseen, IsTakenAfter, MakesRoom, MayReturn, Returns};
 ghost use Rattle.fb_locked.specs.Seats.{LockedView};
 
 use crate::locked::{Locked, SharedRefused};
@@ -17,7 +17,7 @@ impl Locked {
     /// itself, and each seat fits as it did. The records so far are kept aside, so that no caller waits until all of them are dropped.
     pub fn roll(&mut self, limits: Limits) -> Result<u64, CheckpointRefused>
         ensures answer { ChecksAs (checking limits self.old.bench) result }
-        ensures kept { OnOk result (self.new ≡ hall_rolled limits self.old) }
+        ensures kept { OnOk result (self.new ≡ locked_rolled limits self.old) }
         ensures err { OnErr result (self.new ≡ self.old) }
     {
         let (before, records) = self.bench.begin_anew(limits)?;
@@ -111,7 +111,7 @@ fn takes(it: &Record, key: &Key) -> bool
     ensures { result ≡ takes key.now it.now }
 {
     match it.reply() {
-        Reply::Taking(Some(wanted)) => wanted.key == *key,
+        Reply::Job(wanted) => wanted.key == *key,
         _ => false,
     }
 }
@@ -119,7 +119,7 @@ fn takes(it: &Record, key: &Key) -> bool
 /// Behind a roll with its own limits a workbench under a lock is as it was, but for its records, and a seat against which nothing but a full history was
 /// is one against which nothing is.
 pub fn rolls_are_unseen()
-    ensures { (limits : Bounds) (hall : LockedView) → IsOrigin hall.bench.origin
-        → limits.units ≡ hall.bench.origin.most_units → 1 ≤ limits.history
-        → IsRollUnseen limits hall }
+    ensures { (limits : Bounds) (locked : LockedView) → IsOrigin locked.bench.origin
+        → limits.units ≡ locked.bench.origin.most_units → 1 ≤ limits.history
+        → IsRollUnseen limits locked }
 {}

@@ -1,6 +1,6 @@
 -- What a run of the program has said.
 use Rattle.std.specs.Prelude.{◌≡◌, ◌≤◌, ◌⊎◌, ℕ, List, []}
-use Rattle.fb_wire.specs.History.BenchView.{new_story}
+use Rattle.fb_wire.specs.History.BenchView.{new_bench}
 use Rattle.fb_wire.specs.Script.{IsFrontOf, script}
 use Rattle.fb_wire.specs.declared.end.RunEnd.{RunEnd}
 use Rattle.fb_wire.specs.declared.end.RunEnd.TheVariants.{End}
@@ -11,7 +11,7 @@ use Rattle.fb_program.specs.declared.program.Outcome.TheVariants.{Ended, Serves,
 
 -- what a new workbench of these limits says to the bytes, to caller 1
 abbrev pub said_to : ℕ → ℕ → List ℕ → List ℕ
-said_to units history bytes = (script 1 (new_story units history) bytes).out
+said_to units history bytes = (script 1 (new_bench units history) bytes).out
 
 -- by the end of the run: a front of it, and all of it at the end of the input
 abbrev pub SaysUntil : RunEnd → ℕ → ℕ → List ℕ → List ℕ → Type 0

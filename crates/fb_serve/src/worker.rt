@@ -73,7 +73,7 @@ fn hold_unsettled(place: &mut Place)
 fn unsettled(receipts: &[Receipt]) -> Option<Held> {
     let receipt = receipts.last()?;
     match receipt.reply() {
-        Reply::Taking(Some(wanted)) => Some(Held {
+        Reply::Job(wanted) => Some(Held {
             key: wanted.key,
             since: receipt.number(),
         }),

@@ -41,7 +41,6 @@ use Rattle.fb_locked.specs.Jobs.contracts.value.Value as Value
 use Rattle.fb_locked.specs.Jobs.contracts.read.Read as Read
 use Rattle.fb_locked.specs.Jobs.contracts.derivation.Derivation as Derivation
 use Rattle.fb_locked.specs.History.contracts.record.Call as Call
-use Rattle.fb_locked.specs.History.contracts.answers.Asked as Asked
 use Rattle.fb_locked.specs.History.contracts.record.Reply as Reply
 use Rattle.fb_locked.specs.History.contracts.record.Record as Record
 use Rattle.fb_locked.specs.contracts.seat.Receipt as Receipt
@@ -395,17 +394,11 @@ call_field_send = search (wanted_send, crosses, maps.crosses, sendable) depth 60
 pub call_field_sync : IsSync (Call.the_field).row
 call_field_sync = search (wanted_sync, crosses, maps.crosses, sendable) depth 60 fits 20000
 
-pub asked_field_send : IsSend (Asked.the_field).row
-asked_field_send = search (value_send, value_sync, crosses, maps.crosses, sendable) depth 60 fits 20000
-
-pub asked_field_sync : IsSync (Asked.the_field).row
-asked_field_sync = search (value_send, value_sync, crosses, maps.crosses, sendable) depth 60 fits 20000
-
 pub reply_field_send : IsSend (Reply.the_field).row
-reply_field_send = search (wanted_send, asked_field_send, crosses, maps.crosses, sendable) depth 60 fits 20000
+reply_field_send = search (wanted_send, value_send, value_sync, crosses, maps.crosses, sendable) depth 60 fits 20000
 
 pub reply_field_sync : IsSync (Reply.the_field).row
-reply_field_sync = search (wanted_sync, asked_field_sync, crosses, maps.crosses, sendable) depth 60 fits 20000
+reply_field_sync = search (wanted_sync, value_send, value_sync, crosses, maps.crosses, sendable) depth 60 fits 20000
 
 pub record_field_send : IsSend (Record.the_field).row
 record_field_send = search (call_field_send, reply_field_send, crosses, maps.crosses, sendable) depth 60 fits 20000

@@ -31,13 +31,13 @@ turns_up : (caller : ℕ) (es : List Record) (m n : ℕ) → m ≤ n → turns_o
 turns_up caller es m n le =
     subst (λ (l : List Record). turns_of caller l ≤ turns_of caller (take n es)) (take-take m n es le) (sum_by-take-le (λ (x : Record). cond (x.caller == caller) 1 0) (take n es) m)
 
-pub numbers_rise : (story : BenchView) (m n : ℕ) (earlier later : Record) → AreTurns story → record_numbered story m ≡ Some earlier → record_numbered story n ≡ Some later → earlier.caller ≡ later.caller → earlier.turn < later.turn → m < n
-numbers_rise story m n earlier later turns at_m at_n same rising =
-    let es = story.log.records in
-    let before : ℕ = story.origin.before in
-    let page : ℕ = on_page story.origin.pages earlier.caller in
+pub numbers_rise : (bench : BenchView) (m n : ℕ) (earlier later : Record) → AreTurns bench → record_numbered bench m ≡ Some earlier → record_numbered bench n ≡ Some later → earlier.caller ≡ later.caller → earlier.turn < later.turn → m < n
+numbers_rise bench m n earlier later turns at_m at_n same rising =
+    let es = bench.log.records in
+    let before : ℕ = bench.origin.before in
+    let page : ℕ = on_page bench.origin.pages earlier.caller in
     let first : earlier.turn ≡ page + turns_of earlier.caller (take (m - before) es) = turns (m - before) earlier at_m in
-    let second : later.turn ≡ page + turns_of earlier.caller (take (n - before) es) = turns (n - before) later at_n ∙ ap (λ q. on_page story.origin.pages q + turns_of q (take (n - before) es)) (sym same) in
+    let second : later.turn ≡ page + turns_of earlier.caller (take (n - before) es) = turns (n - before) later at_n ∙ ap (λ q. on_page bench.origin.pages q + turns_of q (take (n - before) es)) (sym same) in
     less_unless m n (λ le. let up = turns_up earlier.caller es (n - before) (m - before) (omega (arith, le)) in omega (arith, first, second, up, rising))
 
 -- ---- receipts and records up to a number
@@ -70,10 +70,10 @@ next_number before bound =
 
 -- how many records the caller has up to a number
 abbrev turns_to : BenchView → ℕ → ℕ → ℕ
-turns_to story caller bound = turns_of caller (take (bound - story.origin.before) story.log.records)
+turns_to bench caller bound = turns_of caller (take (bound - bench.origin.before) bench.log.records)
 
-turns_numbered : (story : BenchView) (caller bound : ℕ) → turns_to story caller (suc bound) ≡ turns_to story caller bound + cond (is_own caller (record_numbered story (suc bound))) 1 0
-turns_numbered story caller bound = turns_at caller story.log.records (suc bound - story.origin.before) (bound - story.origin.before) (next_number story.origin.before bound)
+turns_numbered : (bench : BenchView) (caller bound : ℕ) → turns_to bench caller (suc bound) ≡ turns_to bench caller bound + cond (is_own caller (record_numbered bench (suc bound))) 1 0
+turns_numbered bench caller bound = turns_at caller bench.log.records (suc bound - bench.origin.before) (bound - bench.origin.before) (next_number bench.origin.before bound)
 
 -- a receipt of the caller with a number up to a bound
 abbrev up_to : ℕ → ℕ → ReceiptView → ℕ
@@ -87,23 +87,23 @@ one_bits false n bound weight here is weighs = omega arith
 one_bits true n bound weight true is weighs = let w : weight ≡ 1 = weighs refl in grind (arith, nat_tests)
 one_bits true n bound weight false is weighs = grind (arith, nat_tests)
 
-one_step : (story : BenchView) (caller bound : ℕ) (c : ReceiptView) → IsReceiptRight story c → up_to caller (suc bound) c ≤ up_to caller bound c + at_number (suc bound) (cond (is_own caller (record_numbered story (suc bound))) 1 0) c
-one_step story caller bound c right =
-    one_bits (c.entry.caller == caller) c.number bound (cond (is_own caller (record_numbered story (suc bound))) 1 0) (c.number == suc bound) refl (
-    λ here. let at : record_numbered story (suc bound) ≡ Some c.entry = ap (record_numbered story) (sym (eqb-true c.number (suc bound) here)) ∙ right in ap (λ o. cond (is_own caller o) 1 0) at
+one_step : (bench : BenchView) (caller bound : ℕ) (c : ReceiptView) → IsReceiptRight bench c → up_to caller (suc bound) c ≤ up_to caller bound c + at_number (suc bound) (cond (is_own caller (record_numbered bench (suc bound))) 1 0) c
+one_step bench caller bound c right =
+    one_bits (c.entry.caller == caller) c.number bound (cond (is_own caller (record_numbered bench (suc bound))) 1 0) (c.number == suc bound) refl (
+    λ here. let at : record_numbered bench (suc bound) ≡ Some c.entry = ap (record_numbered bench) (sym (eqb-true c.number (suc bound) here)) ∙ right in ap (λ o. cond (is_own caller o) 1 0) at
     )
 
-all_steps : (story : BenchView) (caller bound : ℕ) (rs : List ReceiptView) → AllByRecursion (IsReceiptRight story) rs → sum_by (up_to caller (suc bound)) rs ≤ sum_by (up_to caller bound) rs + sum_by (at_number (suc bound) (cond (is_own caller (record_numbered story (suc bound))) 1 0)) rs
-all_steps story caller bound [] right = omega arith
-all_steps story caller bound (c ∷ cs) right =
-    let weight : ℕ = cond (is_own caller (record_numbered story (suc bound))) 1 0 in
+all_steps : (bench : BenchView) (caller bound : ℕ) (rs : List ReceiptView) → AllByRecursion (IsReceiptRight bench) rs → sum_by (up_to caller (suc bound)) rs ≤ sum_by (up_to caller bound) rs + sum_by (at_number (suc bound) (cond (is_own caller (record_numbered bench (suc bound))) 1 0)) rs
+all_steps bench caller bound [] right = omega arith
+all_steps bench caller bound (c ∷ cs) right =
+    let weight : ℕ = cond (is_own caller (record_numbered bench (suc bound))) 1 0 in
     omega (
       arith,
       sum_by-cons (up_to caller (suc bound)) c cs,
       sum_by-cons (up_to caller bound) c cs,
       sum_by-cons (at_number (suc bound) weight) c cs,
-      one_step story caller bound c right.0,
-      all_steps story caller bound cs right.1,
+      one_step bench caller bound c right.0,
+      all_steps bench caller bound cs right.1,
     )
 
 nothing_at : (number : ℕ) (rs : List ReceiptView) → sum_by (at_number number 0) rs ≡ 0
@@ -123,67 +123,67 @@ none_weighed : (number : ℕ) (b : Bool) (rs : List ReceiptView) → times numbe
 none_weighed number true rs none = none
 none_weighed number false rs none = nothing_at number rs
 
-none_first : (story : BenchView) (caller : ℕ) (rs : List ReceiptView) → AllByRecursion (IsReceiptRight story) rs → sum_by (up_to caller 0) rs ≡ 0
-none_first story caller [] right = refl
-none_first story caller (c ∷ cs) right =
-    let there = placed story.log.records (c.number - story.origin.before) c.entry right.0 in
+none_first : (bench : BenchView) (caller : ℕ) (rs : List ReceiptView) → AllByRecursion (IsReceiptRight bench) rs → sum_by (up_to caller 0) rs ≡ 0
+none_first bench caller [] right = refl
+none_first bench caller (c ∷ cs) right =
+    let there = placed bench.log.records (c.number - bench.origin.before) c.entry right.0 in
     let some : 1 ≤ c.number = omega (arith, there.0) in
     let here : up_to caller 0 c ≡ 0 = grind (arith, nat_tests) in
-    omega (arith, sum_by-cons (up_to caller 0) c cs, here, none_first story caller cs right.1)
+    omega (arith, sum_by-cons (up_to caller 0) c cs, here, none_first bench caller cs right.1)
 
-all_at_end : (story : BenchView) (caller : ℕ) (rs : List ReceiptView) → AllByRecursion (IsReceiptRight story) rs → sum_by (up_to caller (last_number story)) rs ≡ receipts_of caller rs
-all_at_end story caller [] right = refl
-all_at_end story caller (c ∷ cs) right =
+all_at_end : (bench : BenchView) (caller : ℕ) (rs : List ReceiptView) → AllByRecursion (IsReceiptRight bench) rs → sum_by (up_to caller (last_number bench)) rs ≡ receipts_of caller rs
+all_at_end bench caller [] right = refl
+all_at_end bench caller (c ∷ cs) right =
     let f : ReceiptView → ℕ = λ x. cond (x.entry.caller == caller) 1 0 in
-    let there = placed story.log.records (c.number - story.origin.before) c.entry right.0 in
-    let within : c.number ≤ last_number story = omega (arith, there.0, there.1) in
-    let here : up_to caller (last_number story) c ≡ f c = let le : nat_le c.number (last_number story) ≡ true = grind (arith, nat_tests) in ap (λ b. cond (c.entry.caller == caller) (cond b 1 0) 0) le in
-    sum_by-cons (up_to caller (last_number story)) c cs ∙ ((λ i. here i + all_at_end story caller cs right.1 i) ∙ sym (sum_by-cons f c cs))
+    let there = placed bench.log.records (c.number - bench.origin.before) c.entry right.0 in
+    let within : c.number ≤ last_number bench = omega (arith, there.0, there.1) in
+    let here : up_to caller (last_number bench) c ≡ f c = let le : nat_le c.number (last_number bench) ≡ true = grind (arith, nat_tests) in ap (λ b. cond (c.entry.caller == caller) (cond b 1 0) 0) le in
+    sum_by-cons (up_to caller (last_number bench)) c cs ∙ ((λ i. here i + all_at_end bench caller cs right.1 i) ∙ sym (sum_by-cons f c cs))
 
-module _ (story : BenchView) (caller : ℕ) (rs : List ReceiptView) (right : AllByRecursion (IsReceiptRight story) rs) (once : (number : ℕ) → times number rs ≤ 1) where
+module _ (bench : BenchView) (caller : ℕ) (rs : List ReceiptView) (right : AllByRecursion (IsReceiptRight bench) rs) (once : (number : ℕ) → times number rs ≤ 1) where
   -- receipts up to a number are at most as many as records up to it
-  fewer : (bound : ℕ) → sum_by (up_to caller bound) rs ≤ turns_to story caller bound
-  fewer zero = omega (arith, none_first story caller rs right)
+  fewer : (bound : ℕ) → sum_by (up_to caller bound) rs ≤ turns_to bench caller bound
+  fewer zero = omega (arith, none_first bench caller rs right)
   fewer (suc bound) =
       omega (
         arith,
-        all_steps story caller bound rs right,
-        weighed (suc bound) (is_own caller (record_numbered story (suc bound))) rs (once (suc bound)),
-        turns_numbered story caller bound,
+        all_steps bench caller bound rs right,
+        weighed (suc bound) (is_own caller (record_numbered bench (suc bound))) rs (once (suc bound)),
+        turns_numbered bench caller bound,
         fewer bound,
       )
 
   -- and fewer, once one is missing
-  missing_at : (n bound : ℕ) → is_own caller (record_numbered story n) ≡ true → times n rs ≡ 0 → n ≡ suc bound → sum_by (up_to caller (suc bound)) rs + 1 ≤ turns_to story caller (suc bound)
+  missing_at : (n bound : ℕ) → is_own caller (record_numbered bench n) ≡ true → times n rs ≡ 0 → n ≡ suc bound → sum_by (up_to caller (suc bound)) rs + 1 ≤ turns_to bench caller (suc bound)
   missing_at n bound own none is =
-      let here : is_own caller (record_numbered story (suc bound)) ≡ true = subst (λ (k : ℕ). is_own caller (record_numbered story k) ≡ true) is own in
+      let here : is_own caller (record_numbered bench (suc bound)) ≡ true = subst (λ (k : ℕ). is_own caller (record_numbered bench k) ≡ true) is own in
       let no : times (suc bound) rs ≡ 0 = subst (λ (k : ℕ). times k rs ≡ 0) is none in
-      let one : ◌≡◌ {A = ℕ} (cond (is_own caller (record_numbered story (suc bound))) 1 0) 1 = ap (λ b. cond b 1 0) here in
+      let one : ◌≡◌ {A = ℕ} (cond (is_own caller (record_numbered bench (suc bound))) 1 0) 1 = ap (λ b. cond b 1 0) here in
       omega (
         arith,
-        all_steps story caller bound rs right,
-        none_weighed (suc bound) (is_own caller (record_numbered story (suc bound))) rs no,
-        turns_numbered story caller bound,
+        all_steps bench caller bound rs right,
+        none_weighed (suc bound) (is_own caller (record_numbered bench (suc bound))) rs no,
+        turns_numbered bench caller bound,
         one,
         fewer bound,
       )
 
-  missing : (n : ℕ) → is_own caller (record_numbered story n) ≡ true → times n rs ≡ 0 → (bound : ℕ) → n ≤ bound → sum_by (up_to caller bound) rs + 1 ≤ turns_to story caller bound
+  missing : (n : ℕ) → is_own caller (record_numbered bench n) ≡ true → times n rs ≡ 0 → (bound : ℕ) → n ≤ bound → sum_by (up_to caller bound) rs + 1 ≤ turns_to bench caller bound
   missing n own none zero le =
       let first : n ≡ 0 = omega (arith, le) in
-      let here : is_own caller (record_numbered story 0) ≡ true = subst (λ (k : ℕ). is_own caller (record_numbered story k) ≡ true) first own in
-      let place : 0 - story.origin.before ≡ 0 = omega arith in
-      let bad : false ≡ true = subst (λ (k : ℕ). is_own caller (record_at story.log.records k) ≡ true) place here in
+      let here : is_own caller (record_numbered bench 0) ≡ true = subst (λ (k : ℕ). is_own caller (record_numbered bench k) ≡ true) first own in
+      let place : 0 - bench.origin.before ≡ 0 = omega arith in
+      let bad : false ≡ true = subst (λ (k : ℕ). is_own caller (record_at bench.log.records k) ≡ true) place here in
       absurd (let no : ⊥ = cc in no)
   missing n own none (suc bound) le =
-      elim (eq-or-lt_of_le le) as (λ _. sum_by (up_to caller (suc bound)) rs + 1 ≤ turns_to story caller (suc bound)) [
+      elim (eq-or-lt_of_le le) as (λ _. sum_by (up_to caller (suc bound)) rs + 1 ≤ turns_to bench caller (suc bound)) [
         | inl is ↦ missing_at n bound own none is
         | inr lt ↦
             omega (
               arith,
-              all_steps story caller bound rs right,
-              weighed (suc bound) (is_own caller (record_numbered story (suc bound))) rs (once (suc bound)),
-              turns_numbered story caller bound,
+              all_steps bench caller bound rs right,
+              weighed (suc bound) (is_own caller (record_numbered bench (suc bound))) rs (once (suc bound)),
+              turns_numbered bench caller bound,
               missing n own none bound (omega (arith, lt)),
             )
       ]
@@ -191,32 +191,32 @@ module _ (story : BenchView) (caller : ℕ) (rs : List ReceiptView) (right : All
 times_cons : (n : ℕ) (c : ReceiptView) (cs : List ReceiptView) → times n (c ∷ cs) ≡ cond (c.number == n) 1 0 + times n cs
 times_cons n c cs = sum_by-cons (λ (x : ReceiptView). cond (x.number == n) 1 0) c cs
 
-found_at : (story : BenchView) (c : ReceiptView) (cs : List ReceiptView) (n : ℕ) (e : Record) (b : Bool) → c.number == n ≡ b → IsReceiptRight story c → record_numbered story n ≡ Some e → (times n (c ∷ cs) ≡ 0 → ⊥) → ((times n cs ≡ 0 → ⊥) → Contains cs (record { number = n; entry = e })) → Contains (c ∷ cs) (record { number = n; entry = e })
-found_at story c cs n e true is right there some rest =
+found_at : (bench : BenchView) (c : ReceiptView) (cs : List ReceiptView) (n : ℕ) (e : Record) (b : Bool) → c.number == n ≡ b → IsReceiptRight bench c → record_numbered bench n ≡ Some e → (times n (c ∷ cs) ≡ 0 → ⊥) → ((times n cs ≡ 0 → ⊥) → Contains cs (record { number = n; entry = e })) → Contains (c ∷ cs) (record { number = n; entry = e })
+found_at bench c cs n e true is right there some rest =
     let at : c.number ≡ n = eqb-true c.number n is in
-    let both : Some c.entry ≡ Some e = sym right ∙ (ap (record_numbered story) at ∙ there) in
+    let both : Some c.entry ≡ Some e = sym right ∙ (ap (record_numbered bench) at ∙ there) in
     let entries : c.entry ≡ e = cc in
     let same : c ≡ record { number = n; entry = e } = λ i. record { number = at i; entry = entries i } in
     (0, omega arith, same)
-found_at story c cs n e false is right there some rest =
+found_at bench c cs n e false is right there some rest =
     Contains-append_right (c ∷ []) cs (record { number = n; entry = e }) (rest (λ none. some (times_cons n c cs ∙ ((λ i. cond (is i) 1 0 + none i)))))
 
-found : (story : BenchView) (rs : List ReceiptView) (n : ℕ) (e : Record) → AllByRecursion (IsReceiptRight story) rs → record_numbered story n ≡ Some e → (times n rs ≡ 0 → ⊥) → Contains rs (record { number = n; entry = e })
-found story [] n e right there some = absurd (some refl)
-found story (c ∷ cs) n e right there some = found_at story c cs n e (c.number == n) refl right.0 there some (found story cs n e right.1 there)
+found : (bench : BenchView) (rs : List ReceiptView) (n : ℕ) (e : Record) → AllByRecursion (IsReceiptRight bench) rs → record_numbered bench n ≡ Some e → (times n rs ≡ 0 → ⊥) → Contains rs (record { number = n; entry = e })
+found bench [] n e right there some = absurd (some refl)
+found bench (c ∷ cs) n e right there some = found_at bench c cs n e (c.number == n) refl right.0 there some (found bench cs n e right.1 there)
 
 -- a receipt for each record of the caller
-pub all_shown : (story : BenchView) (receipts : List ReceiptView) (caller number : ℕ) (it : Record) → AreReceiptsRight story receipts → receipts_of caller receipts ≡ turns_of caller story.log.records → record_numbered story number ≡ Some it → it.caller ≡ caller → Contains receipts (record { number = number; entry = it })
-all_shown story receipts caller number it are count there mine =
-    let right = recursion_from_All (IsReceiptRight story) receipts are.right in
-    let own : is_own caller (record_numbered story number) ≡ true = ap (is_own caller) there ∙ eq-eqb it.caller caller mine in
-    let within = placed story.log.records (number - story.origin.before) it there in
-    found story receipts number it right there (
+pub all_shown : (bench : BenchView) (receipts : List ReceiptView) (caller number : ℕ) (it : Record) → AreReceiptsRight bench receipts → receipts_of caller receipts ≡ turns_of caller bench.log.records → record_numbered bench number ≡ Some it → it.caller ≡ caller → Contains receipts (record { number = number; entry = it })
+all_shown bench receipts caller number it are count there mine =
+    let right = recursion_from_All (IsReceiptRight bench) receipts are.right in
+    let own : is_own caller (record_numbered bench number) ≡ true = ap (is_own caller) there ∙ eq-eqb it.caller caller mine in
+    let within = placed bench.log.records (number - bench.origin.before) it there in
+    found bench receipts number it right there (
     λ none.
-    let less = missing story caller receipts right are.once number own none (last_number story) (omega (arith, within.0, within.1)) in
-    let whole : last_number story - story.origin.before ≡ length story.log.records = omega arith in
-    let all : turns_to story caller (last_number story) ≡ turns_of caller story.log.records = ap (λ n. turns_of caller (take n story.log.records)) whole ∙ ap (turns_of caller) (take-length story.log.records) in
-    omega (arith, less, all, all_at_end story caller receipts right, count)
+    let less = missing bench caller receipts right are.once number own none (last_number bench) (omega (arith, within.0, within.1)) in
+    let whole : last_number bench - bench.origin.before ≡ length bench.log.records = omega arith in
+    let all : turns_to bench caller (last_number bench) ≡ turns_of caller bench.log.records = ap (λ n. turns_of caller (take n bench.log.records)) whole ∙ ap (turns_of caller) (take-length bench.log.records) in
+    omega (arith, less, all, all_at_end bench caller receipts right, count)
     )
 
 -- ---- the seats of a workbench that is resumed
@@ -240,12 +240,12 @@ full_or_none limit len cause is =
     ] refl is
 
 -- nothing but a full history is against a call with the seat of a caller as the history leaves it
-pub up_to_date : (hall : LockedView) (n : ℕ) (seats : List SeatView) (k : ℕ) (seat : SeatView) → AreSeatsAt hall.bench n seats → slice_get seats k ≡ Some seat → IsUpToDate hall seat
-up_to_date hall n seats k seat are at =
+pub up_to_date : (locked : LockedView) (n : ℕ) (seats : List SeatView) (k : ℕ) (seat : SeatView) → AreSeatsAt locked.bench n seats → slice_get seats k ≡ Some seat → IsUpToDate locked seat
+up_to_date locked n seats k seat are at =
     let below : k < n = omega (arith, are.0, slice_get_within seats k seat at) in
-    let here : Some seat ≡ Some (seat_at hall.bench (k + 1)) = sym at ∙ are.1 k below in
-    let is : seat ≡ seat_at hall.bench (k + 1) = cc in
-    let limit : ℕ = hall.bench.log.limit in
-    let len : ℕ = length hall.bench.log.records in
-    subst (IsUpToDate hall) (sym is)
-    (full_or_none limit len (refusal_of hall (seat_at hall.bench (k + 1))) (cause_current (all_turns hall.bench (k + 1)) (last_number hall.bench) limit len))
+    let here : Some seat ≡ Some (seat_at locked.bench (k + 1)) = sym at ∙ are.1 k below in
+    let is : seat ≡ seat_at locked.bench (k + 1) = cc in
+    let limit : ℕ = locked.bench.log.limit in
+    let len : ℕ = length locked.bench.log.records in
+    subst (IsUpToDate locked) (sym is)
+    (full_or_none limit len (refusal_of locked (seat_at locked.bench (k + 1))) (cause_current (all_turns locked.bench (k + 1)) (last_number locked.bench) limit len))

@@ -7,17 +7,17 @@ ghost use Rattle.fb_locked.specs.Seats.{AreSeatsAt, ReceiptView, LockedView, Sea
 
 /// In a history, whose turns count their callers' calls, numbers rise with the turns of a caller.
 pub fn numbers_rise_with_turns()
-    ensures { (story : BenchView) → AreTurns story → NumbersRise story }
+    ensures { (bench : BenchView) → AreTurns bench → NumbersRise bench }
 {}
 
 /// A caller whose receipts are as many as its records since the start has shown them all: of each of these records there is a receipt.
 pub fn all_calls_are_shown()
-    ensures { (story : BenchView) (receipts : List ReceiptView) → AreReceiptsRight story receipts
-        → EnoughShowAll story receipts }
+    ensures { (bench : BenchView) (receipts : List ReceiptView) → AreReceiptsRight bench receipts
+        → EnoughShowAll bench receipts }
 {}
 
 /// The seats that a workbench is resumed with fit it: nothing is against the next call with one of them but a full history, or want of memory.
 pub fn resumed_seats_fit()
-    ensures { (hall : LockedView) (n : ℕ) (seats : List SeatView) → AreSeatsAt hall.bench n seats
-        → (k : ℕ) (seat : SeatView) → slice_get seats k ≡ Some seat → IsUpToDate hall seat }
+    ensures { (locked : LockedView) (n : ℕ) (seats : List SeatView) → AreSeatsAt locked.bench n seats
+        → (k : ℕ) (seat : SeatView) → slice_get seats k ≡ Some seat → IsUpToDate locked seat }
 {}

@@ -15,7 +15,7 @@ use fb_locked::library::Change;
 use fb_locked::{Closed, Locked, NotClosed, NotResumed, Receipt, Seat, SharedRefused, close_for};
 use std::alloc::{AllocError, Global};
 use std::marker::Model;
-use std::sync::{Condvar, Mutex, Wait};
+use std::sync::{Condvar, Mutex, MutexGuard, Wait};
 
 /// A workbench that threads share. Each call holds the lock once. For how many callers seats were made stands beside the lock, and with which limits
 /// a full history begins anew, if it ever does.
@@ -34,6 +34,28 @@ impl Drop for Shared {
             changed: _,
             rolls: _,
         } = self;
+    }
+}
+
+/// A hold of the lock. It is no value that may be dropped: each is ended, or waits.
+pub(crate) struct Hold<'a> {
+    pub(crate) state: MutexGuard<'a, Locked>,
+    changed: &'a Condvar,
+}
+
+impl Hold<'_> {
+    /// Lets the lock go, and wakes the workers that wait, if there is something for them.
+    pub(crate) fn end(self) {
+        let Self { state, changed } = self;
+        if state.calls_workers() {
+            changed.notify_all();
+        }
+    }
+
+    /// Lets the lock go, and waits for a change.
+    pub(crate) fn wait<R: Wait>(self, rt: &R) {
+        let Self { state, changed } = self;
+        drop(changed.wait(rt, state));
     }
 }
 
@@ -107,23 +129,21 @@ impl Shared {
         }
     }
 
-    /// Makes room in a full history, where it ever begins anew. Where memory is wanting for that it stays full.
-    pub(crate) fn make_room(&self, locked: &mut Locked) {
+    /// Takes the lock for one call, and makes room in a full history, where it ever begins anew. Where memory is wanting for that it stays full.
+    pub(crate) fn hold<R: Wait>(&self, rt: &R) -> Hold<'_> {
+        let mut state = self.state.lock(rt);
         if let Some(limits) = self.rolls {
-            let _made = locked.make_room(limits);
+            let _made = state.make_room(limits);
+        }
+        Hold {
+            state,
+            changed: &self.changed,
         }
     }
 
     /// How many calls came before the start of the history.
     pub fn before<R: Wait>(&self, rt: &R) -> u64 {
         self.state.lock(rt).bench().before()
-    }
-
-    /// Wakes the workers that wait, where there is something for them.
-    pub(crate) fn wake(&self, locked: &Locked) {
-        if locked.calls_workers() {
-            self.changed.notify_all();
-        }
     }
 
     /// Changes the texts, or says what is first against it.
@@ -136,10 +156,9 @@ impl Shared {
         ensures { Answers seat.old (ToCommit (listed changes.now))
             (λ claim. claim) result seat.new }
     {
-        let mut state = self.state.lock(rt);
-        self.make_room(&mut *state);
-        let answer = state.commit(seat, changes);
-        self.wake(&state);
+        let mut hold = self.hold(rt);
+        let answer = hold.state.commit(seat, changes);
+        hold.end();
         answer
     }
 
@@ -152,10 +171,9 @@ impl Shared {
         ensures answers { Answers seat.old ToTake (λ made. made.0) result seat.new }
         ensures job { IfOk result (λ made. made.1 ≡ job_of made.0.entry.reply) }
     {
-        let mut state = self.state.lock(rt);
-        self.make_room(&mut *state);
-        let answer = state.take(seat);
-        self.wake(&state);
+        let mut hold = self.hold(rt);
+        let answer = hold.state.take(seat);
+        hold.end();
         answer
     }
 
@@ -168,10 +186,9 @@ impl Shared {
     ) -> Result<Receipt, SharedRefused>
         ensures { Answers seat.old (ToDeliver finished.now) (λ claim. claim) result seat.new }
     {
-        let mut state = self.state.lock(rt);
-        self.make_room(&mut *state);
-        let answer = state.deliver(seat, finished);
-        self.wake(&state);
+        let mut hold = self.hold(rt);
+        let answer = hold.state.deliver(seat, finished);
+        hold.end();
         answer
     }
 
@@ -184,10 +201,9 @@ impl Shared {
     ) -> Result<Receipt, SharedRefused>
         ensures { Answers seat.old (ToGiveBack key) (λ claim. claim) result seat.new }
     {
-        let mut state = self.state.lock(rt);
-        self.make_room(&mut *state);
-        let answer = state.give_back(seat, key);
-        self.wake(&state);
+        let mut hold = self.hold(rt);
+        let answer = hold.state.give_back(seat, key);
+        hold.end();
         answer
     }
 
@@ -195,10 +211,9 @@ impl Shared {
     pub fn ask<R: Wait>(&self, rt: &R, seat: &mut Seat, key: Key) -> Result<Receipt, SharedRefused>
         ensures { Answers seat.old (ToAsk key) (λ claim. claim) result seat.new }
     {
-        let mut state = self.state.lock(rt);
-        self.make_room(&mut *state);
-        let answer = state.ask(seat, key);
-        self.wake(&state);
+        let mut hold = self.hold(rt);
+        let answer = hold.state.ask(seat, key);
+        hold.end();
         answer
     }
 
@@ -213,10 +228,9 @@ impl Shared {
         ensures { AnswersKept seat.old (call_for request.now) result
             receipts.old.items seat.new receipts.new.items }
     {
-        let mut state = self.state.lock(rt);
-        self.make_room(&mut *state);
-        let answer = state.perform_into(seat, receipts, request);
-        self.wake(&state);
+        let mut hold = self.hold(rt);
+        let answer = hold.state.perform_into(seat, receipts, request);
+        hold.end();
         answer
     }
 
@@ -231,10 +245,9 @@ impl Shared {
     ) -> Result<(), SharedRefused>
         ensures { MayReturn seat.old key result receipts.old.items seat.new receipts.new.items }
     {
-        let mut state = self.state.lock(rt);
-        self.make_room(&mut *state);
-        let answer = state.return_held(seat, receipts, key, since);
-        self.wake(&state);
+        let mut hold = self.hold(rt);
+        let answer = hold.state.return_held(seat, receipts, key, since);
+        hold.end();
         answer
     }
 

@@ -77,11 +77,12 @@ fn take_job<R: Wait>(rt: &R, shared: &Shared, seat: &mut Seat, receipts: &mut Ve
     ensures adds { AddsLook result seat.old receipts.old.items receipts.new.items seat.new }
     ensures names { LookNames seat.new result }
 {
-    let mut state = shared.state.lock(rt);
-    shared.make_room(&mut *state);
-    let look = state.look(seat, receipts);
+    let mut hold = shared.hold(rt);
+    let look = hold.state.look(seat, receipts);
     if matches!(&look, Look::Nothing) {
-        drop(shared.changed.wait(rt, state));
+        hold.wait(rt);
+    } else {
+        hold.end();
     }
     look
 }
@@ -120,9 +121,8 @@ fn settle<R: Wait>(
         seat.old receipts.old.items receipts.new.items seat.new result }
     ensures names { IfSome result (NamesSeat seat.new) }
 {
-    let mut state = shared.state.lock(rt);
-    shared.make_room(&mut *state);
-    let end = state.settle(seat, receipts, job, finished);
-    shared.wake(&state);
+    let mut hold = shared.hold(rt);
+    let end = hold.state.settle(seat, receipts, job, finished);
+    hold.end();
     end
 }

@@ -3,7 +3,7 @@ use Rattle.std.proofs.Common.{◌≡◌, ◌<◌, ◌≤◌, ℕ, List, [], ◌�
 use Rattle.std.proofs.lemmas.Bool.Decides.{nat_tests}
 use Rattle.std.proofs.lemmas.List.{take-append-drop}
 use Rattle.serde_json.specs.Data.{Data}
-use Rattle.fb_bench.specs.History.Checkpoints.{story_checked}
+use Rattle.fb_bench.specs.History.Checkpoints.{bench_checked}
 use Rattle.fb_bench.specs.History.Machine.{Call, reply}
 use Rattle.fb_bench.specs.History.Limits.{Bounds}
 use Rattle.fb_bench.specs.Calls.{Answer, Replied, FullHistory, BehindHistory, CheckpointAnswer, Checked, SharedHistory, Exchange, AskedCall, AskedCheckpoint}
@@ -36,7 +36,7 @@ call_is caller story call BehindHistory new step = absurd step
 
 -- a checkpoint gives its answer, and leaves the workbench as it is after it
 pub checkpoint_is : (story : BenchView) (limits : Bounds) (answer : CheckpointAnswer) (new : BenchView) → IsCheckpointStep story limits answer new → (answer ≡ checkpoint_from story limits) × (new ≡ story_anew story limits)
-checkpoint_is story limits (Checked checking) new step = (ap Checked step.0, step.1 ∙ ap (λ c. story_checked c limits story) step.0)
+checkpoint_is story limits (Checked checking) new step = (ap Checked step.0, step.1 ∙ ap (λ c. bench_checked c limits story) step.0)
 checkpoint_is story limits SharedHistory new step = absurd step
 
 -- what a plan asks leads to what it is told

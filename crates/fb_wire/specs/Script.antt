@@ -1,7 +1,7 @@
 -- What a workbench says to the bytes of a script: a function of the two.
 use Rattle.std.specs.Prelude.{◌≡◌, ℕ, List, [], ◌∷◌, ◌++◌, length, nat_lt, if◌then◌else◌}
 use Rattle.serde_json.specs.Data.{Data}
-use Rattle.fb_bench.specs.History.Checkpoints.{checking, story_checked}
+use Rattle.fb_bench.specs.History.Checkpoints.{checking, bench_checked}
 use Rattle.fb_bench.specs.History.Limits.{Bounds}
 use Rattle.fb_bench.specs.History.Machine.{Call, reply}
 use Rattle.fb_bench.specs.History.BenchView.{BenchView, state_of, recorded}
@@ -27,7 +27,7 @@ checkpoint_from story limits = Checked (checking limits story)
 
 -- the workbench after it: the history begins anew, or nothing has changed
 abbrev pub story_anew : BenchView → Bounds → BenchView
-story_anew story limits = story_checked (checking limits story) limits story
+story_anew story limits = bench_checked (checking limits story) limits story
 
 -- what a line has come to: its reply, the jobs that are held and the workbench
 pub record LineResult : Type 0 where

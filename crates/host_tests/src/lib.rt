@@ -6,6 +6,8 @@ mod doors;
 #[cfg(test)]
 mod lines;
 #[cfg(test)]
+mod lodgers;
+#[cfg(test)]
 mod peers;
 #[cfg(test)]
 mod play;

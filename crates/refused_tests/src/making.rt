@@ -59,11 +59,42 @@ impl<T: Owner> Trial for Made<T> {
     }
 }
 
+/// A workbench whose history begins anew, as it is made, with its seats.
+#[derive(Drop)]
+struct Rolling {
+    limits: Limits,
+    made: Option<(Shared, Vec<Seat>)>,
+}
+
+impl Trial for Rolling {
+    type Setting = Limits;
+
+    fn new(_alloc: Global, limits: Limits) -> Result<Rolling, Fail> {
+        Ok(Rolling { limits, made: None })
+    }
+
+    fn call(&mut self, alloc: Global) -> bool {
+        self.made = Shared::rolling(alloc, self.limits, 2).ok();
+        self.made.is_some()
+    }
+
+    fn told(&self, alloc: Global) -> Result<String, Fail> {
+        match &self.made {
+            Some((_, seats)) => {
+                let seats = seats.as_slice();
+                Ok(format!(in alloc; "{seats:?}")?)
+            }
+            None => Ok(String::new(alloc)),
+        }
+    }
+}
+
 #[test]
 fn workbenches_are_made(rt: HostRuntime) -> Result<(), Fail> {
     let limits = Limits::new(5, 100).ok_or("limits")?;
     try_call::<Made<Locked>>(&rt, rt.alloc(), "Locked::new", "", limits)?;
-    try_call::<Made<Shared>>(&rt, rt.alloc(), "Shared::new", "", limits)
+    try_call::<Made<Shared>>(&rt, rt.alloc(), "Shared::new", "", limits)?;
+    try_call::<Rolling>(&rt, rt.alloc(), "Shared::rolling", "", limits)
 }
 
 /// A workbench that comes under a lock with the calls that it has, and then its owner with the seats.

@@ -1,11 +1,13 @@
 //! A history that begins anew, and a key that is given back for a session that ended, of which each allocation is refused in turn.
 use crate::nest::{BEFORE, Given, Which, begun, bench_for, given_for};
-use crate::owners::taken_over;
+use crate::owners::{owner_for, taken_over};
 use crate::told::bench_told;
 use fb_bench::{CheckpointRefused, Limits};
-use fb_shared::{Locked, Receipt, Seat, SharedRefused};
+use fb_shared::{Locked, Receipt, Seat, Shared, SharedRefused};
 use refusing::{Trial, try_call};
 use std::alloc::Global;
+use std::io::Print;
+use std::sync::Wait;
 use std::test::Fail;
 
 /// A workbench whose history is full, and the limits with which it begins anew.
@@ -81,4 +83,102 @@ impl<'a> Trial for Returned<'a> {
 fn a_held_key_is_given_back(rt: HostRuntime) -> Result<(), Fail> {
     let given = given_for(rt.alloc())?;
     try_call::<Returned<'_>>(&rt, rt.alloc(), "Locked::return_held", "", &given)
+}
+
+/// A shared workbench, the seat of a session that ended, whose key is out, and its receipts.
+#[derive(Drop)]
+struct Held<'a, R: Wait> {
+    rt: &'a R,
+    given: &'a Given,
+    shared: Shared,
+    seat: Seat,
+    receipts: Vec<Receipt>,
+}
+
+impl<'a, R: Wait> Trial for Held<'a, R> {
+    type Setting = (&'a R, &'a Given);
+
+    fn new(alloc: Global, setting: (&'a R, &'a Given)) -> Result<Held<'a, R>, Fail> {
+        let (rt, given) = setting;
+        let (shared, mut seats) = owner_for::<Shared>(alloc, Which::GiveBack)?;
+        Ok(Held {
+            rt,
+            given,
+            shared,
+            seat: seats.pop().ok_or("no seat")?,
+            receipts: Vec::new(alloc),
+        })
+    }
+
+    fn call(&mut self, _alloc: Global) -> bool {
+        let answer = self.shared.give_back_held(
+            self.rt,
+            &mut self.seat,
+            &mut self.receipts,
+            self.given.key,
+            BEFORE + 1,
+        );
+        answer != Err(SharedRefused::Memory)
+    }
+
+    fn told(&self, alloc: Global) -> Result<String, Fail> {
+        let (seat, kept) = (&self.seat, self.receipts.len());
+        Ok(format!(in alloc; "{seat:?} {kept}")?)
+    }
+}
+
+/// A shared workbench whose history is full and begins anew with the next call, and its seat.
+#[derive(Drop)]
+struct Anew<'a, R: Wait> {
+    rt: &'a R,
+    given: &'a Given,
+    shared: Shared,
+    seat: Seat,
+}
+
+impl<'a, R: Wait> Trial for Anew<'a, R> {
+    type Setting = (&'a R, &'a Given);
+
+    fn new(alloc: Global, setting: (&'a R, &'a Given)) -> Result<Anew<'a, R>, Fail> {
+        let (rt, given) = setting;
+        let limits = Limits::new(4, 1).ok_or("limits")?;
+        let (shared, mut seats) = Shared::rolling(alloc, limits, 1)?;
+        let mut seat = seats.pop().ok_or("no seat")?;
+        shared.ask(rt, &mut seat, given.key)?;
+        Ok(Anew {
+            rt,
+            given,
+            shared,
+            seat,
+        })
+    }
+
+    /// Without memory to begin anew the history is still full.
+    fn call(&mut self, _alloc: Global) -> bool {
+        self.shared
+            .ask(self.rt, &mut self.seat, self.given.key)
+            .is_ok()
+    }
+
+    fn told(&self, alloc: Global) -> Result<String, Fail> {
+        let seat = &self.seat;
+        Ok(format!(in alloc; "{seat:?}")?)
+    }
+}
+
+fn try_shared<R: Wait + Print>(rt: &R, alloc: Global, given: &Given) -> Result<(), Fail> {
+    try_call::<Held<'_, R>>(rt, alloc, "Shared::give_back_held", "", (rt, given))?;
+    try_call::<Anew<'_, R>>(
+        rt,
+        alloc,
+        "Shared::ask",
+        " of a history that begins anew",
+        (rt, given),
+    )
+}
+
+#[test]
+fn a_shared_history_begins_anew(rt: HostRuntime) -> Result<(), Fail> {
+    let given = given_for(rt.alloc())?;
+    try_shared(&rt, rt.alloc(), &given)
 }

@@ -59,13 +59,15 @@ pub(crate) fn asked_word(answer: &Asked) -> &'static str {
 /// What a call comes to.
 pub(crate) fn reply_word(reply: &Reply) -> &'static str {
     match reply {
-        Reply::Committing(answer) => committed_word(answer),
-        Reply::Taking(Some(_)) => "job",
-        Reply::Taking(None) => "nothing",
-        Reply::Delivering(None) => "accepted",
-        Reply::Delivering(Some(_)) => "not accepted",
-        Reply::GivingBack(answer) => returned_word(answer),
-        Reply::Asking(asked) => asked_word(asked),
+        Reply::Committed(answer) => committed_word(answer),
+        Reply::Job(_) => "job",
+        Reply::Nothing => "nothing",
+        Reply::Accepted => "accepted",
+        Reply::NotAccepted(_) => "not accepted",
+        Reply::GivenBack(answer) => returned_word(answer),
+        Reply::Value(_) => "value",
+        Reply::Pending => "pending",
+        Reply::NoSuchKey => "no key",
     }
 }
 

@@ -17,15 +17,15 @@ struct Jobs {
 }
 
 fn is_taken(reply: &Reply) -> bool {
-    matches!(reply, Reply::Taking(Some(_)))
+    matches!(reply, Reply::Job(_))
 }
 
 fn is_accepted(reply: &Reply) -> bool {
-    matches!(reply, Reply::Delivering(None))
+    matches!(reply, Reply::Accepted)
 }
 
 fn is_returned(reply: &Reply) -> bool {
-    matches!(reply, Reply::GivingBack(GivenBack::Returned))
+    matches!(reply, Reply::GivenBack(GivenBack::Returned))
 }
 
 // what the receipts tell of jobs

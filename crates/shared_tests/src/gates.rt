@@ -34,7 +34,7 @@ impl Gate for Poor {
 fn is_given_back(receipts: &[Receipt]) -> bool {
     match receipts {
         [take, back] => {
-            is_taken(take.reply()) && matches!(back.reply(), Reply::GivingBack(GivenBack::Returned))
+            is_taken(take.reply()) && matches!(back.reply(), Reply::GivenBack(GivenBack::Returned))
         }
         _ => false,
     }
@@ -96,7 +96,7 @@ impl<R: Wait> Gate for Rival<'_, R> {
 
 fn is_refused(receipt: &Receipt) -> bool {
     match receipt.reply() {
-        Reply::Delivering(Some(answer)) => **answer == Delivered::NotPending,
+        Reply::NotAccepted(answer) => **answer == Delivered::NotPending,
         _ => false,
     }
 }

@@ -1,6 +1,6 @@
 //! Calls beside a worker that runs jobs of nets and of plans, which read several units: they are answered while each of them runs.
 use fb_jobs::{Finished, Job, Key, Kind};
-use fb_shared::bench::{Asked, Limits, Reply};
+use fb_shared::bench::{Limits, Reply};
 use fb_shared::library::Change;
 use fb_shared::parse::Source;
 use fb_shared::{Gate, Plain, Receipt, Seat, Shared, WorkEnd, work_on};
@@ -104,7 +104,7 @@ fn work<R: Wait>(
 }
 
 fn has_plan(receipt: &Receipt) -> bool {
-    matches!(receipt.reply(), Reply::Asking(Asked::Value(_)))
+    matches!(receipt.reply(), Reply::Value(_))
 }
 
 // asks for the plan until the worker has ended, and says whether it is known then

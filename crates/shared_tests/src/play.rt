@@ -2,7 +2,7 @@
 //! for its faults, takes the job, runs it, delivers the result, asks again and gives back what is not out.
 use crate::setup::{faults_of, new_locked, new_shared, pair, puts};
 use fb_jobs::{Job, Value};
-use fb_shared::bench::{Asked, Committed, Delivered, GivenBack, Reply};
+use fb_shared::bench::{Committed, Delivered, GivenBack, Reply};
 use fb_shared::{Closed, Locked, NotClosed, Receipt, Seat, Shared, SharedRefused};
 use std::alloc::Global;
 use std::sync::Wait;
@@ -188,19 +188,19 @@ pub(crate) fn played_locked(alloc: Global) -> Option<Played<Locked>> {
 /// Whether it is the first commit.
 pub(crate) fn is_done(reply: &Reply) -> bool {
     match reply {
-        Reply::Committing(answer) => **answer == Committed::Done(1),
+        Reply::Committed(answer) => **answer == Committed::Done(1),
         _ => false,
     }
 }
 
 /// Whether a job was taken.
 pub(crate) fn is_taken(reply: &Reply) -> bool {
-    matches!(reply, Reply::Taking(Some(_)))
+    matches!(reply, Reply::Job(_))
 }
 
 /// Whether a result was taken in.
 pub(crate) fn is_accepted(reply: &Reply) -> bool {
-    matches!(reply, Reply::Delivering(None))
+    matches!(reply, Reply::Accepted)
 }
 
 fn has_no_faults(value: &Value) -> bool {
@@ -213,7 +213,7 @@ fn has_no_faults(value: &Value) -> bool {
 /// Whether a unit is known to have no faults.
 pub(crate) fn is_without_faults(reply: &Reply) -> bool {
     match reply {
-        Reply::Asking(Asked::Value(value)) => has_no_faults(value),
+        Reply::Value(value) => has_no_faults(value),
         _ => false,
     }
 }
@@ -232,11 +232,11 @@ const PLAYED: &[(u64, u32, u64)] = &[
 fn is_played(number: u64, reply: &Reply) -> bool {
     match number {
         1 => is_done(reply),
-        2 => matches!(reply, Reply::Asking(Asked::Pending)),
+        2 => matches!(reply, Reply::Pending),
         3 => is_taken(reply),
         4 => is_accepted(reply),
         5 => is_without_faults(reply),
-        _ => matches!(reply, Reply::GivingBack(GivenBack::NothingOut)),
+        _ => matches!(reply, Reply::GivenBack(GivenBack::NothingOut)),
     }
 }
 

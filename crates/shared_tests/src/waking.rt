@@ -43,7 +43,7 @@ const ROWS: &[Row] = &[
 ];
 
 // an empty workbench with room for one record, or one whose only job is taken, with room for three more records
-fn hall_of<R: Wait>(rt: &R, alloc: Global, is_taken: bool) -> Option<(Shared, Seat, Seat)> {
+fn workbench_of<R: Wait>(rt: &R, alloc: Global, is_taken: bool) -> Option<(Shared, Seat, Seat)> {
     if !is_taken {
         return new_shared(alloc, 1);
     }
@@ -57,17 +57,17 @@ fn hall_of<R: Wait>(rt: &R, alloc: Global, is_taken: bool) -> Option<(Shared, Se
 /// A workbench for each row, with the seats of its caller and of its worker.
 type Halls = (Vec<Shared>, Vec<Seat>, Vec<Seat>);
 
-fn halls_of_rows<R: Wait>(rt: &R, alloc: Global) -> Option<Halls> {
-    let mut halls = Vec::new(alloc);
+fn workbenches_of_rows<R: Wait>(rt: &R, alloc: Global) -> Option<Halls> {
+    let mut workbenches = Vec::new(alloc);
     let mut callers = Vec::new(alloc);
     let mut workers = Vec::new(alloc);
     for (_call, _at_desk, is_taken) in ROWS {
-        let (shared, caller, worker) = hall_of(rt, alloc, *is_taken)?;
-        halls.push(shared).ok()?;
+        let (shared, caller, worker) = workbench_of(rt, alloc, *is_taken)?;
+        workbenches.push(shared).ok()?;
         callers.push(caller).ok()?;
         workers.push(worker).ok()?;
     }
-    Some((halls, callers, workers))
+    Some((workbenches, callers, workers))
 }
 
 // whether a worker ends with a full history: after the job that was given back, or without a call
@@ -96,12 +96,12 @@ fn is_filled<R: Wait>(
 fn work_at_each<R: Wait>(
     rt: &R,
     alloc: Global,
-    halls: &[Shared],
+    workbenches: &[Shared],
     seats: Vec<Seat>,
     ended: &AtomicU64,
 ) -> u64 {
     let mut filled = 0u64;
-    for ((shared, seat), row) in halls.iter().zip(seats).zip(ROWS.iter()) {
+    for ((shared, seat), row) in workbenches.iter().zip(seats).zip(ROWS.iter()) {
         let is_filled = is_filled(rt, alloc, shared, seat, row.2);
         filled = filled.saturating_add(u64::from(is_filled));
         ended.fetch_add(1, Ordering::SeqCst);
@@ -190,14 +190,14 @@ fn wakes<R: Wait + Clock>(
 fn wake_each<R: Wait + Clock>(
     rt: &R,
     alloc: Global,
-    halls: &[Shared],
+    workbenches: &[Shared],
     seats: Vec<Seat>,
     ended: &AtomicU64,
 ) -> u64 {
     let finished = some_result(rt, alloc);
     let mut woken = 0u64;
     let mut is_woken = true;
-    for ((shared, seat), row) in halls.iter().zip(seats).zip(ROWS.iter()) {
+    for ((shared, seat), row) in workbenches.iter().zip(seats).zip(ROWS.iter()) {
         if is_woken {
             is_woken = wakes(
                 rt,
@@ -219,12 +219,12 @@ fn wake_each<R: Wait + Clock>(
 #[test]
 fn each_call_wakes_a_worker_that_waits(rt: HostRuntime) -> Result<(), Fail> {
     let alloc: Global = rt.alloc();
-    let (halls, callers, workers) = halls_of_rows(&rt, alloc).ok_or("workbenches")?;
+    let (workbenches, callers, workers) = workbenches_of_rows(&rt, alloc).ok_or("workbenches")?;
     let ended = AtomicU64::new(0);
     let told = join(
         &rt,
-        || work_at_each(&rt, alloc, &halls, workers, &ended),
-        || wake_each(&rt, alloc, &halls, callers, &ended),
+        || work_at_each(&rt, alloc, &workbenches, workers, &ended),
+        || wake_each(&rt, alloc, &workbenches, callers, &ended),
     );
     assert_eq!(rt; told, (13, 13));
     Ok(())

@@ -10,7 +10,7 @@ pub returns-clause-begins : goal.returns-clause-begins
 returns-clause-begins c = λ most_units. begins_empty most_units
 
 pub returns-clause-goes_on : goal.returns-clause-goes_on
-returns-clause-goes_on c = λ limits story begins. goes_on limits story begins
+returns-clause-goes_on c = λ limits bench begins. goes_on limits bench begins
 
 pub returns-clause-refused : goal.returns-clause-refused
 returns-clause-refused c = λ state call refused. refused_stays state call refused

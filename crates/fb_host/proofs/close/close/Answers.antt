@@ -8,9 +8,9 @@ use Rattle.fb_host.proofs.close.close.Goals as goal
 pub returns-clause-all : goal.returns-clause-all
 returns-clause-all c c' =
     let closed = c'.in-Ok.ensures.closed in
-    let seats = c'.args.gathered.seats.items in
+    let seats = c'.args.results.seats.items in
     let receipts = c'.into_receipts-receipts.result.items in
-    let story = c'.in-Ok.closed.bench in
-    let agrees = subst (λ (l : List ReceiptView). AgreesWith c'.args.shared.callers story seats l) c'.deref.ensures.value closed.0 in
-    let none = nobody (is_short story c'.deref-2.result.now) c'.first_short.result (sym c'.is_some.ensures ∙ c'.if-is_some.false) c'.first_short.ensures in
-    all_there c'.args.shared.callers story seats receipts agrees (subst (λ (l : List ReceiptView). IsLeast (is_short story l) None) c'.deref-2.ensures.value none)
+    let bench = c'.in-Ok.closed.bench in
+    let agrees = subst (λ (l : List ReceiptView). AgreesWith c'.args.shared.callers bench seats l) c'.deref.ensures.value closed.0 in
+    let none = nobody (is_short bench c'.deref-2.result.now) c'.first_short.result (sym c'.is_some.ensures ∙ c'.if-is_some.false) c'.first_short.ensures in
+    all_there c'.args.shared.callers bench seats receipts agrees (subst (λ (l : List ReceiptView). IsLeast (is_short bench l) None) c'.deref-2.ensures.value none)

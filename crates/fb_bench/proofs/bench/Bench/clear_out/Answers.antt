@@ -6,7 +6,7 @@ use Rattle.fb_history.specs.BenchView.{BenchView, logged, record_after, state_of
 use Rattle.fb_bench.specs.Kept.{Agrees}
 use Rattle.fb_bench.proofs.Marks.{agrees_return_kept}
 use Rattle.fb_bench.proofs.Keeping.{kept_pushed}
-use Rattle.fb_history.proofs.Steps.{story_pushed, share_pushed, out_returned, after_returned}
+use Rattle.fb_history.proofs.Steps.{bench_pushed, share_pushed, out_returned, after_returned}
 use Rattle.fb_bench.proofs.bench.Bench.clear_out.Goals as goal
 
 pub invariant_of-self-2 : goal.invariant_of-self-2
@@ -28,7 +28,7 @@ returns c =
     let key = c.args.key.now in
     let out : s.out key ≡ true = ap (λ st. (state_of st).out key) c.self.view_is ∙ c.requires.out in
     record {
-      step = story_pushed story _ _ c.args.caller (ToGiveBack key) _ c.self.view_is (c.in_ok-share.ensures.ok ∙ ap (λ it. logged story c.args.caller it (OfGiveBack Returned)) c.in_ok-call.ensures) (out_returned s key out);
+      step = bench_pushed story _ _ c.args.caller (ToGiveBack key) _ c.self.view_is (c.in_ok-share.ensures.ok ∙ ap (λ it. logged story c.args.caller it (OfGiveBack Returned)) c.in_ok-call.ensures) (out_returned s key out);
       share = share_pushed story _ _ c.args.caller (ToGiveBack key) _ c.self.view_is (c.in_ok-share.ensures.share ∙ ap (λ it. record_after story c.args.caller it (OfGiveBack Returned)) c.in_ok-call.ensures) (out_returned s key out);
       err = tt;
     }

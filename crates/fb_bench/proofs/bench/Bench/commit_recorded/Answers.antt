@@ -10,7 +10,7 @@ use Rattle.fb_bench.specs.Kept.{Agrees, IsConsistent}
 use Rattle.fb_bench.specs.Outcomes.{answer_at}
 use Rattle.fb_entries.specs.Indexed.{IsIndexOf}
 use Rattle.fb_bench.proofs.Keeping.{kept_pushed}
-use Rattle.fb_history.proofs.Steps.{story_pushed, share_pushed}
+use Rattle.fb_history.proofs.Steps.{bench_pushed, share_pushed}
 use Rattle.fb_bench.proofs.Committing.{answer_kept, commits_is, committed_is, agrees_renewed}
 use Rattle.fb_bench.proofs.Renewals.{agrees_back}
 use Rattle.fb_bench.proofs.bench.Bench.commit_recorded.Goals as goal
@@ -40,7 +40,7 @@ returns-in_ok-share-in-Refused c =
     let refused = rw c.in-Refused.is at c.in_ok-outcome.ensures in
     let answer : c.in-Refused.refused ≡ commit_answer s edits = refused.0 ∙ ap (λ m. answer_at m (c.self.inside.commits + 1) c.self.inside.library edits) c.most_units-most_units.ensures ∙ answer_kept story c.self.inside.library c.self.inside.commits edits c.self.invariant.agrees.units_are c.self.invariant.agrees.commits_are in
     record {
-      step = story_pushed story _ _ c.args.caller (ToCommit edits) _ c.self.view_is (c.in_ok-share-in-Refused.ensures.ok ∙ ap (λ it. logged story c.args.caller it (reply_of c.in_ok-stored-in-Refused.stored)) (ap ToCommit c.in_ok-of_changes.ensures)) (c.in_ok-stored-in-Refused.ensures ∙ commits_is s edits edits c.in-Refused.refused refl answer) ∙ ap (λ es. recorded c.args.self.now c.args.caller (ToCommit es)) front;
+      step = bench_pushed story _ _ c.args.caller (ToCommit edits) _ c.self.view_is (c.in_ok-share-in-Refused.ensures.ok ∙ ap (λ it. logged story c.args.caller it (reply_of c.in_ok-stored-in-Refused.stored)) (ap ToCommit c.in_ok-of_changes.ensures)) (c.in_ok-stored-in-Refused.ensures ∙ commits_is s edits edits c.in-Refused.refused refl answer) ∙ ap (λ es. recorded c.args.self.now c.args.caller (ToCommit es)) front;
       answer = commits_is s (listed c.args.changes.now) edits c.in-Refused.refused (sym front) answer ∙ ap (λ st. reply (state_of st) (ToCommit (listed c.args.changes.now))) c.self.view_is;
       share = share_pushed story _ _ c.args.caller (ToCommit edits) _ c.self.view_is (c.in_ok-share-in-Refused.ensures.share ∙ ap (λ it. record_after story c.args.caller it (reply_of c.in_ok-stored-in-Refused.stored)) (ap ToCommit c.in_ok-of_changes.ensures)) (c.in_ok-stored-in-Refused.ensures ∙ commits_is s edits edits c.in-Refused.refused refl answer) ∙ ap (λ es. record_of c.args.self.now c.args.caller (ToCommit es)) front;
       full = search rules;
@@ -91,7 +91,7 @@ returns-in_ok-share-in-Done c =
     let done = rw c.in-Done.is at c.in_ok-outcome.ensures in
     let answer : Done number ≡ commit_answer s edits = done.0 ∙ ap (λ m. answer_at m number c.self.inside.library edits) c.most_units-most_units.ensures ∙ answer_kept story c.self.inside.library c.self.inside.commits edits c.self.invariant.agrees.units_are c.self.invariant.agrees.commits_are in
     record {
-      step = story_pushed story _ _ c.args.caller (ToCommit edits) _ c.self.view_is (c.in_ok-share-in-Done.ensures.logged ∙ ap (λ it. logged story c.args.caller it (reply_of c.in_ok-stored-in-Done.stored)) (ap ToCommit c.in_ok-of_changes.ensures)) (c.in_ok-stored-in-Done.ensures ∙ commits_is s edits edits (Done number) refl answer) ∙ ap (λ es. recorded c.args.self.now c.args.caller (ToCommit es)) front;
+      step = bench_pushed story _ _ c.args.caller (ToCommit edits) _ c.self.view_is (c.in_ok-share-in-Done.ensures.logged ∙ ap (λ it. logged story c.args.caller it (reply_of c.in_ok-stored-in-Done.stored)) (ap ToCommit c.in_ok-of_changes.ensures)) (c.in_ok-stored-in-Done.ensures ∙ commits_is s edits edits (Done number) refl answer) ∙ ap (λ es. recorded c.args.self.now c.args.caller (ToCommit es)) front;
       answer = commits_is s (listed c.args.changes.now) edits (Done number) (sym front) answer ∙ ap (λ st. reply (state_of st) (ToCommit (listed c.args.changes.now))) c.self.view_is;
       share = share_pushed story _ _ c.args.caller (ToCommit edits) _ c.self.view_is (c.in_ok-share-in-Done.ensures.share ∙ ap (λ it. record_after story c.args.caller it (reply_of c.in_ok-stored-in-Done.stored)) (ap ToCommit c.in_ok-of_changes.ensures)) (c.in_ok-stored-in-Done.ensures ∙ commits_is s edits edits (Done number) refl answer) ∙ ap (λ es. record_of c.args.self.now c.args.caller (ToCommit es)) front;
       full = search rules;

@@ -8,7 +8,7 @@ use Rattle.fb_history.specs.BenchView.{BenchView, state_of, logged, record_after
 use Rattle.fb_bench.specs.Kept.{Agrees}
 use Rattle.fb_bench.proofs.Marks.{accepted_fresh, deliver_stays}
 use Rattle.fb_bench.proofs.Keeping.{kept_pushed}
-use Rattle.fb_history.proofs.Steps.{story_pushed, share_pushed, delivers_is, delivered_is}
+use Rattle.fb_history.proofs.Steps.{bench_pushed, share_pushed, delivers_is, delivered_is}
 use Rattle.fb_bench.proofs.bench.Bench.deliver_recorded.Goals as goal
 
 pub take_in-requires : goal.take_in-requires
@@ -51,7 +51,7 @@ returns-in_ok-share-in_default c =
     let judged : ◌≡◌ {A = PlainJob} (record { key = c.key.result; reads = all_seen c.reads.result.now }) now = λ i. record { key = c.key.ensures i; reads = c.reads.ensures.same i } in
     let answer : c.judged-answer.result ≡ deliver_answer s now = c.judged-answer.ensures ∙ (λ i. deliver_answer (state_of (sym c.self.view_is i)) (judged i)) in
     record {
-      step = story_pushed story _ _ c.args.caller (ToDeliver now) _ c.self.view_is
+      step = bench_pushed story _ _ c.args.caller (ToDeliver now) _ c.self.view_is
           (c.in_ok-share-in_default.ensures.ok ∙ (λ i. logged c.self.inside.history c.args.caller (c.in_ok-call.ensures i) (c.in_ok-reply-in_default.ensures i)))
           (delivers_is s now now c.judged-answer.result refl answer);
       share = share_pushed story _ _ c.args.caller (ToDeliver now) _ c.self.view_is

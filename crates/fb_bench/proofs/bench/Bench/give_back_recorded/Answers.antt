@@ -5,7 +5,7 @@ use Rattle.fb_history.specs.declared.answers.GivenBack.TheVariants.{NothingOut}
 use Rattle.fb_history.specs.BenchView.{BenchView, logged, record_after, state_of}
 use Rattle.fb_bench.specs.Kept.{Agrees}
 use Rattle.fb_bench.proofs.Keeping.{kept_pushed}
-use Rattle.fb_history.proofs.Steps.{story_pushed, share_pushed, out_returned, nothing_out, after_nothing_out}
+use Rattle.fb_history.proofs.Steps.{bench_pushed, share_pushed, out_returned, nothing_out, after_nothing_out}
 use Rattle.fb_bench.proofs.bench.Bench.give_back_recorded.Goals as goal
 
 pub invariant_of-self-then-not-is_out : goal.invariant_of-self-then-not-is_out
@@ -22,7 +22,7 @@ returns-then-not-is_out-clause-step c =
     let story : BenchView = c.self.inside.history in
     let s : State = state_of story in
     let free : s.out c.args.key ≡ false = ap (λ st. (state_of st).out c.args.key) c.self.view_is ∙ search rules in
-    story_pushed story _ _ c.args.caller (ToGiveBack c.args.key) _ c.self.view_is (c.in_ok-share.ensures.ok ∙ ap (λ it. logged story c.args.caller it (OfGiveBack NothingOut)) c.in_ok-call.ensures) (nothing_out s c.args.key free)
+    bench_pushed story _ _ c.args.caller (ToGiveBack c.args.key) _ c.self.view_is (c.in_ok-share.ensures.ok ∙ ap (λ it. logged story c.args.caller it (OfGiveBack NothingOut)) c.in_ok-call.ensures) (nothing_out s c.args.key free)
 
 pub returns-then-not-is_out-clause-answer : goal.returns-then-not-is_out-clause-answer
 returns-then-not-is_out-clause-answer c = nothing_out (state_of c.args.self.now) c.args.key (search rules)

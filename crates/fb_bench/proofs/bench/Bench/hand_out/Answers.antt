@@ -7,7 +7,7 @@ use Rattle.fb_bench.specs.Kept.{Agrees}
 use Rattle.fb_history.proofs.Least.{next_passes}
 use Rattle.fb_bench.proofs.Marks.{agrees_take}
 use Rattle.fb_bench.proofs.Keeping.{kept_pushed}
-use Rattle.fb_history.proofs.Steps.{story_pushed, share_pushed, stays_some}
+use Rattle.fb_history.proofs.Steps.{bench_pushed, share_pushed, stays_some}
 use Rattle.fb_bench.proofs.bench.Bench.hand_out.Goals as goal
 
 pub invariant_of-self-2 : goal.invariant_of-self-2
@@ -28,7 +28,7 @@ returns c =
     let s : State = state_of story in
     let answer : reply_of c.args.answer ≡ reply s ToTake = c.requires.answer ∙ ap (λ st. reply (state_of st) ToTake) (sym c.self.view_is) in
     record {
-      step = story_pushed story _ _ c.args.caller ToTake _ c.self.view_is c.in_ok-share.ensures.ok answer;
+      step = bench_pushed story _ _ c.args.caller ToTake _ c.self.view_is c.in_ok-share.ensures.ok answer;
       share = share_pushed story _ _ c.args.caller ToTake _ c.self.view_is c.in_ok-share.ensures.share answer;
       err = tt;
     }

@@ -11,7 +11,7 @@ use Rattle.fb_bench.proofs.Marks.{agrees_deliver}
 use Rattle.fb_bench.specs.Founds.{HasNetsOf}
 use Rattle.fb_bench.proofs.Founds.{founds_right}
 use Rattle.fb_bench.proofs.Keeping.{kept_pushed}
-use Rattle.fb_history.proofs.Steps.{story_pushed, share_pushed, delivers_is, delivered_is}
+use Rattle.fb_history.proofs.Steps.{bench_pushed, share_pushed, delivers_is, delivered_is}
 use Rattle.fb_bench.proofs.bench.Bench.take_in.Goals as goal
 
 pub invariant_of-self-2 : goal.invariant_of-self-2
@@ -37,7 +37,7 @@ returns c =
     let now : PlainJob = c.args.finished.now in
     let accepted : Accepted ≡ deliver_answer s now = c.requires.accepted ∙ ap (λ st. deliver_answer (state_of st) now) (sym c.self.view_is) in
     record {
-      step = story_pushed story _ _ c.args.caller (ToDeliver now) _ c.self.view_is (c.in_ok-share.ensures.ok ∙ ap (λ call. logged c.self.inside.history c.args.caller call (OfDeliver Accepted)) c.requires.call) (delivers_is s now now Accepted refl accepted);
+      step = bench_pushed story _ _ c.args.caller (ToDeliver now) _ c.self.view_is (c.in_ok-share.ensures.ok ∙ ap (λ call. logged c.self.inside.history c.args.caller call (OfDeliver Accepted)) c.requires.call) (delivers_is s now now Accepted refl accepted);
       share = share_pushed story _ _ c.args.caller (ToDeliver now) _ c.self.view_is (c.in_ok-share.ensures.share ∙ ap (λ call. record_after c.self.inside.history c.args.caller call (OfDeliver Accepted)) c.requires.call) (delivers_is s now now Accepted refl accepted);
       err = tt;
     }

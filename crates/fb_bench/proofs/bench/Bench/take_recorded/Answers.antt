@@ -4,7 +4,7 @@ use Rattle.fb_history.specs.Machine.{ToTake, next}
 use Rattle.fb_history.specs.BenchView.{BenchView, state_of}
 use Rattle.fb_bench.specs.Kept.{Agrees}
 use Rattle.fb_bench.proofs.Keeping.{kept_pushed}
-use Rattle.fb_history.proofs.Steps.{story_pushed, share_pushed, take_none, stays_none}
+use Rattle.fb_history.proofs.Steps.{bench_pushed, share_pushed, take_none, stays_none}
 use Rattle.fb_bench.proofs.bench.Bench.take_recorded.Goals as goal
 
 pub invariant_of-self-in-None : goal.invariant_of-self-in-None
@@ -20,7 +20,7 @@ returns-in_ok-share-in-None c =
     let story : BenchView = c.self.inside.history in
     let none : None ≡ next (state_of story) = c.in-None.ensures ∙ ap (λ st. next (state_of st)) (sym c.self.view_is) in
     record {
-      step = story_pushed story _ _ c.args.caller ToTake _ c.self.view_is c.in_ok-share-in-None.ensures.ok (take_none (state_of story) none);
+      step = bench_pushed story _ _ c.args.caller ToTake _ c.self.view_is c.in_ok-share-in-None.ensures.ok (take_none (state_of story) none);
       answer = take_none (state_of c.args.self.now) c.in-None.ensures;
       share = share_pushed story _ _ c.args.caller ToTake _ c.self.view_is c.in_ok-share-in-None.ensures.share (take_none (state_of story) none);
       full = search rules;

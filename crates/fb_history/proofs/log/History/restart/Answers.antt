@@ -13,8 +13,8 @@ invariant_of-self c =
     let none : c.replace-records.new.dest.items ≡ [] = ap (λ v. v.items) c.replace-records.ensures.after ∙ c.new-none.ensures.items in
     let same : c.in_ok-calls.calls.entries ≡ c.self.inside.turns.entries = copied _ _ c.in_ok-calls.ensures.cases in
     let all : c.in_ok-calls.calls.entries ≡ pages_after c.self.inside.start.pages records = same ∙ c.self.invariant.pages_are in
-    let story : BenchView = record { origin = c.self.inside.start; log = record { limit = c.self.inside.limit; records = records } } in
-    let last : c.last_number-before.result ≡ last_number story = c.last_number-before.ensures.last ∙ ap last_number (sym c.self.view_is) in
+    let bench : BenchView = record { origin = c.self.inside.start; log = record { limit = c.self.inside.limit; records = records } } in
+    let last : c.last_number-before.result ≡ last_number bench = c.last_number-before.ensures.last ∙ ap last_number (sym c.self.view_is) in
     record {
       pages_are = sym same ∙ ap (λ rs. pages_after c.in_ok-calls.calls.entries (records_in rs)) (sym none);
       within = grind (arith, rules);
@@ -30,7 +30,7 @@ returns-clause-ok c =
     let none : c.replace-records.new.dest.items ≡ [] = ap (λ v. v.items) c.replace-records.ensures.after ∙ c.new-none.ensures.items in
     let same : c.in_ok-calls.calls.entries ≡ c.self.inside.turns.entries = copied _ _ c.in_ok-calls.ensures.cases in
     let all : c.in_ok-calls.calls.entries ≡ pages_after c.self.inside.start.pages records = same ∙ c.self.invariant.pages_are in
-    let story : BenchView = record { origin = c.self.inside.start; log = record { limit = c.self.inside.limit; records = records } } in
-    let last : c.last_number-before.result ≡ last_number story = c.last_number-before.ensures.last ∙ ap last_number (sym c.self.view_is) in
+    let bench : BenchView = record { origin = c.self.inside.start; log = record { limit = c.self.inside.limit; records = records } } in
+    let last : c.last_number-before.result ≡ last_number bench = c.last_number-before.ensures.last ∙ ap last_number (sym c.self.view_is) in
     (λ i. record { origin = record { most_units = c.units-most_units.ensures.units i; units = c.args.library; commits = c.args.commits; pending = c.args.pending.items; out = c.args.out.items; before = last i; pages = all i }; log = record { limit = c.history-limit.ensures.history i; records = records_in (none i) } })
     ∙ ap (λ st. restarted c.args.limits c.args.library c.args.commits c.args.pending.items c.args.out.items st) c.self.view_is

@@ -8,9 +8,9 @@ use Rattle.fb_locked.proofs.locked.Locked.look.Goals as goal
 
 pub unreachable-requires : goal.unreachable-requires
 unreachable-requires c =
-    let hall = c.args.self.now in
-    let bench : c.self.inside.bench ≡ hall.bench = ap (λ (h : LockedView). h.bench) c.self.view_is in
+    let locked = c.args.self.now in
+    let bench : c.self.inside.bench ≡ locked.bench = ap (λ (h : LockedView). h.bench) c.self.view_is in
     let some : is_some (next (state_of c.self.inside.bench)) ≡ true = grind (arith, c.has_work.ensures, c.if-not-has_work.false) in
     let waits = subst (λ (s : BenchView). is_some (next (state_of s)) ≡ true) bench some in
-    let none : job_of (reply (state_of hall.bench) ToTake) ≡ None = ap job_of (sym c.in-Ok.ensures.performs.0) ∙ (sym c.job_from.ensures ∙ c.in-None.is) in
-    job_waits (state_of hall.bench) waits none
+    let none : job_of (reply (state_of locked.bench) ToTake) ≡ None = ap job_of (sym c.in-Ok.ensures.performs.0) ∙ (sym c.job_from.ensures ∙ c.in-None.is) in
+    job_waits (state_of locked.bench) waits none

@@ -1,0 +1,129 @@
+//! A session of a host of which each allocation is refused in turn, those of a history that begins anew among them. Another session then goes on at its place, and the
+//! workbench closes with the receipts of all calls since the start.
+use fb_host::{Drawer, Lodged, give_back_all, run_lodger};
+use fb_serve::Place;
+use fb_shared::Shared;
+use fb_wire::bench::Limits;
+use fb_wire::{IntoWrite, MemoryFeed, RunEnd};
+use refusing::{Refusals, refuse, report, was_refused};
+use std::alloc::Global;
+use std::sync::Wait;
+use std::test::Fail;
+
+// The calls of these lines are more than the history holds.
+const REQUESTS: &str =
+    r#"{"op":"commit","changes":[{"put":"A","base":0,"text":"FUNCTION_BLOCK A END_FUNCTION_BLOCK"}]}
+{"op":"work","turns":9}
+{"op":"ask","kind":"faults","unit":"A"}
+"#;
+
+const REPLIES: &str = "{\"commit\":1}\n{\"accepted\":1}\n{\"faults\":[]}\n";
+
+const LAST: &str = "{\"faults\":[]}\n";
+
+const HISTORY: u64 = 2;
+
+/// How a session ended, what it replied, and whether an allocation was refused.
+#[derive(Drop)]
+struct Talk {
+    end: RunEnd,
+    output: Vec<u8>,
+    is_refused: bool,
+}
+
+// A session says the lines, of which the allocation of this number is refused; what it leaves in hand goes back. What it writes has room.
+fn talk<R: Wait>(
+    rt: &R,
+    alloc: Global,
+    shared: &Shared,
+    drawer: &Drawer,
+    place: Place,
+    number: u32,
+) -> Result<(Place, Talk), Fail> {
+    let mut output = Vec::with_capacity(alloc, 1000)?;
+    let mut feed = MemoryFeed::new(REQUESTS.as_bytes(), 8192, u64::MAX);
+    let mut sink = IntoWrite::new(&mut output);
+    refuse(alloc, number);
+    let Lodged {
+        end,
+        mut place,
+        told: _,
+    } = run_lodger(rt, alloc, shared, drawer, place, &mut feed, &mut sink, 1000);
+    let is_refused = was_refused(alloc);
+    give_back_all(rt, shared, drawer, &mut place);
+    let talk = Talk {
+        end,
+        output,
+        is_refused,
+    };
+    Ok((place, talk))
+}
+
+// Whether a session may end so.
+fn is_right(talk: &Talk) -> bool {
+    match talk.end {
+        RunEnd::End => talk.output.as_slice() == REPLIES.as_bytes(),
+        RunEnd::Memory => REPLIES.as_bytes().starts_with(talk.output.as_slice()),
+        _ => false,
+    }
+}
+
+// Whether the workbench closes, and each record since its start has its receipt.
+fn is_closed<R: Wait>(
+    rt: &R,
+    alloc: Global,
+    shared: Shared,
+    drawer: Drawer,
+    place: Place,
+) -> Result<bool, Fail> {
+    let receipts = drawer.into_receipts(shared.before(rt));
+    let Place {
+        seat,
+        held: _,
+        receipts: _,
+    } = place;
+    let mut seats = Vec::new(alloc);
+    seats.push(seat)?;
+    match shared.close(alloc, seats, &receipts) {
+        Ok(closed) => Ok(closed.bench.len() == receipts.len()),
+        Err(_) => Ok(false),
+    }
+}
+
+// Two sessions at one place, the first without the allocation of this number.
+fn tried<R: Wait>(rt: &R, alloc: Global, number: u32) -> Result<Talk, Fail> {
+    let limits = Limits::new(4, HISTORY).ok_or("limits")?;
+    let (shared, mut seats) = Shared::rolling(alloc, limits, 1)?;
+    let drawer = Drawer::new(alloc, HISTORY);
+    let place = Place::new(alloc, seats.pop().ok_or("no seat")?);
+    let (place, first) = talk(rt, alloc, &shared, &drawer, place, number)?;
+    let (place, last) = talk(rt, alloc, &shared, &drawer, place, 0)?;
+    let is_done = last.end == RunEnd::End && last.output.ends_with(LAST.as_bytes());
+    let is_closed = is_closed(rt, alloc, shared, drawer, place)?;
+    if !is_done || !is_closed || !is_right(&first) {
+        return Err(Fail::from("another end"));
+    }
+    Ok(first)
+}
+
+fn each_refused<R: Wait>(rt: &R, alloc: Global) -> Result<Refusals, Fail> {
+    let mut memory = 0u32;
+    for number in 1..100_000u32 {
+        let talk = tried(rt, alloc, number)?;
+        if !talk.is_refused {
+            return Ok(Refusals {
+                allocations: number - 1,
+                memory,
+            });
+        }
+        memory = memory.saturating_add(u32::from(talk.end == RunEnd::Memory));
+    }
+    Err(Fail::from("ever more allocations"))
+}
+
+#[test]
+fn each_allocation_of_a_lodger(rt: HostRuntime) -> Result<(), Fail> {
+    let found = each_refused(&rt, rt.alloc())?;
+    report(&rt, "run_lodger", " of three lines", found)?;
+    Ok(())
+}
