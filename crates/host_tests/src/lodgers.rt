@@ -63,7 +63,7 @@ fn talk<R: Wait>(
 fn is_right(talk: &Talk) -> bool {
     match talk.end {
         RunEnd::End => talk.output.as_slice() == REPLIES.as_bytes(),
-        RunEnd::Memory => REPLIES.as_bytes().starts_with(&talk.output),
+        RunEnd::Memory => REPLIES.as_bytes().starts_with(talk.output.as_slice()),
         _ => false,
     }
 }
@@ -77,8 +77,13 @@ fn is_closed<R: Wait>(
     place: Place,
 ) -> Result<bool, Fail> {
     let receipts = drawer.into_receipts(shared.before(rt));
+    let Place {
+        seat,
+        held: _,
+        receipts: _,
+    } = place;
     let mut seats = Vec::new(alloc);
-    seats.push(place.seat)?;
+    seats.push(seat)?;
     match shared.close(alloc, seats, &receipts) {
         Ok(closed) => Ok(closed.bench.len() == receipts.len()),
         Err(_) => Ok(false),

@@ -80,7 +80,10 @@ impl Trial for Rolling {
 
     fn told(&self, alloc: Global) -> Result<String, Fail> {
         match &self.made {
-            Some((_, seats)) => Ok(format!(in alloc; "{seats:?}")?),
+            Some((_, seats)) => {
+                let seats = seats.as_slice();
+                Ok(format!(in alloc; "{seats:?}")?)
+            }
             None => Ok(String::new(alloc)),
         }
     }

@@ -1,5 +1,5 @@
 -- What is kept holds in the reads.
-use Rattle.std.proofs.Common.{◌≡◌, ◌⊎◌, true, List, [], All, Vec, Option, Some, sym, ap, subst, ◌∙◌, rules}
+use Rattle.std.proofs.Common.{◌≡◌, ◌⊎◌, true, List, [], All, Vec, Some, sym, ap, subst, ◌∙◌, rules}
 use Rattle.std.specs.declared.alloc.Global.{Global}
 use Rattle.std.specs.declared.sync.Arc.{Arc}
 use Rattle.std.specs.List.{AllZip}
