@@ -1,7 +1,5 @@
 -- That a key is due, said by places.
-use Rattle.std.proofs.Common.{◌≡◌, ℕ, zero, suc, ◌<◌, Bool, true, false, true≢false, ◌||◌, ◌&&◌, not, ◌⊎◌, inl, inr, List, [], ◌∷◌, Some, None, refl, sym, ap, ◌∙◌, subst, arith}
-use Rattle.std.proofs.lemmas.Bool.{false≢true, or_left, or_right, and_from, and_parts, not-true, or_cases}
-use Rattle.std.proofs.lemmas.Option.{none-some, same_Some}
+use Rattle.fb_laws.proofs.Common.{◌≡◌, ℕ, zero, suc, ◌<◌, Bool, true, false, true≢false, ◌||◌, ◌&&◌, not, ◌⊎◌, inl, inr, List, [], ◌∷◌, Some, refl, sym, ap, ◌∙◌, subst, arith, false≢true, or_left, or_right, and_from, and_parts, not-true, or_cases, none-some, same_Some}
 use Rattle.std.specs.Prelude.{take, slice_get}
 use Rattle.fb_jobs.specs.declared.key.Key.{Key}
 use Rattle.fb_history.specs.Limits.{Bounds}
@@ -83,12 +81,7 @@ marked_last s [] k is = absurd (false≢true is)
 marked_last s (c ∷ cs) k is = split (due (after s c) cs k) refl is (λ e. marked_last (after s c) cs k e) where
   behind : IsMarkedLast (after s c) cs k → IsMarkedLast s (c ∷ cs) k
   behind it =
-      record {
-        place = suc it.place;
-        marked = at_later marks s c cs k it.place it.marked;
-        last = last_one;
-        unsettled = open_one;
-      } where
+      record { place = suc it.place; marked = at_later marks s c cs k it.place it.marked; last = last_one; unsettled = open_one } where
         last_one : (later : ℕ) → suc it.place < later → IsMarkedAt s (c ∷ cs) k later → ⊥
         last_one zero beyond found = absurd (omega (arith, beyond))
         last_one (suc later) beyond found = it.last later (omega (arith, beyond)) (from_later marks s c cs k later found)
@@ -99,12 +92,7 @@ marked_last s (c ∷ cs) k is = split (due (after s c) cs k) refl is (λ e. mark
 
   here : due (after s c) cs k ≡ false → (marks s c k ≡ true) × (settled (after s c) cs k ≡ false) → IsMarkedLast s (c ∷ cs) k
   here none (marks_it, clear) =
-      record {
-        place = 0;
-        marked = at_here marks s c cs k marks_it;
-        last = last_one;
-        unsettled = open_one;
-      } where
+      record { place = 0; marked = at_here marks s c cs k marks_it; last = last_one; unsettled = open_one } where
         last_one : (later : ℕ) → 0 < later → IsMarkedAt s (c ∷ cs) k later → ⊥
         last_one zero beyond found = absurd (omega (arith, beyond))
         last_one (suc later) beyond found =
@@ -135,8 +123,7 @@ due_by_places s cs k = (forth (due s cs k) refl, back) where
 
   back : IsMarkedLast s cs k ⊎ IsLeftPending s cs k → due_from s cs k ≡ true
   back (inl it) = or_right (s.pending k && not (settled s cs k)) _ (due_if_marked s cs k it.place it.marked it.unsettled)
-  back (inr it) =
-      or_left _ (due s cs k) (and_from (s.pending k) (not (settled s cs k)) it.pending (ap not (open_if s cs k (settled s cs k) refl it.unsettled)))
+  back (inr it) = or_left _ (due s cs k) (and_from (s.pending k) (not (settled s cs k)) it.pending (ap not (open_if s cs k (settled s cs k) refl it.unsettled)))
 
 pub due_goes_on : (limits : Bounds) (story : BenchView) → IsOrigin story.origin → DueGoesOn limits story
 due_goes_on limits story begins key =

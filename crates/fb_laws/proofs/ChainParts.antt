@@ -1,6 +1,6 @@
 -- A chain of a clean network, by the connections that it passes.
-use Rattle.std.proofs.Common.{ℕ, ◌≡◌, List, [], ◌∷◌, ◌++◌, map, filter, Some, ◌⊎◌, inl, inr, refl, sym, ◌∙◌, ap, subst}
-use Rattle.fb_laws.proofs.Common.{Sort, Input, PlainNetwork, View, Place, IsInner, IsConnected, Step, Within, IsBorderPlace, IsLeafPlace, Chain, One, More, side_at, IsCleanThroughout, Passed, passed_at, passed_by, StaysInside, nothing_before, border_before, IsAfter, nothing_after, border_after, CrossesOnce, LinksAreComposed, CrossesFrom, BordersAreComposed, LeavesInner, EntersInner}
+use Rattle.fb_laws.proofs.Common.{ℕ, ◌≡◌, List, [], ◌∷◌, ◌++◌, map, Some, ◌⊎◌, inl, inr, refl, sym, ◌∙◌, ap, subst, Sort, Input, PlainNetwork, View, Place, IsInner, IsConnected, Step, Within, IsBorderPlace, IsLeafPlace, Chain, One, More, side_at, IsCleanThroughout, Passed, passed_at, passed_by, StaysInside, nothing_before, border_before, IsAfter, nothing_after, border_after, CrossesOnce, LinksAreComposed, CrossesFrom, BordersAreComposed, LeavesInner, EntersInner}
+use Rattle.std.proofs.Common.{filter}
 use Rattle.fb_wiring.specs.Network.declared.network.End.{End}
 use Rattle.fb_wiring.specs.Network.declared.network.End.TheVariants.{Own, Of}
 use Rattle.fb_wiring.specs.Network.Network.{place_of, Holds}
@@ -178,8 +178,7 @@ step_before {view = view} {sort = sort} {network = network} {b = b} inner name f
 
 -- a connection of the network itself before a chain
 connection_before : {view : View} {sort : Sort} {network : PlainNetwork} {b c : Place} (s d : End) → IsCleanThroughout view network → IsConnected network sort s d → b ≡ place_of d → IsBorderPlace view network b → (rest : Chain view sort network b c) → Across view sort network (place_of s) c (own s d ∷ passed_by rest)
-connection_before {sort = sort} s (Own y) clean k f border rest =
-    absurd (no_chain_from_output y clean rest f (rw f ((here clean).destinations sort _ _ k)))
+connection_before {sort = sort} s (Own y) clean k f border rest = absurd (no_chain_from_output y clean rest f (rw f ((here clean).destinations sort _ _ k)))
 connection_before {view = view} {sort = sort} {network = network} {b = b} {c = c} s (Of j y) clean k f border rest =
     let found = inner_at_border j y border f in
     let on : ChainStays view sort found.0 j (y ∷ []) c (passed_by rest) =
@@ -197,10 +196,8 @@ connection_before {view = view} {sort = sort} {network = network} {b = b} {c = c
 
 -- a chain of a clean network is in parts
 parts : {view : View} {sort : Sort} {network : PlainNetwork} {a b : Place} → IsCleanThroughout view network → (c : Chain view sort network a b) → Parts view sort network a b (passed_by c)
-parts clean (One (Holds s d k e f)) =
-    inr (record { source = s; destination = d; connected = k; before = []; after = []; whole = refl; is_before = at_source e; is_after = at_destination f })
-parts clean (One (Within inner name a' b' i e f s)) =
-    inl (record { name = name; inner = inner; is_inner = i; from = a'; to = b'; from_is = e; to_is = f; chain = One s; whole = refl })
+parts clean (One (Holds s d k e f)) = inr (record { source = s; destination = d; connected = k; before = []; after = []; whole = refl; is_before = at_source e; is_after = at_destination f })
+parts clean (One (Within inner name a' b' i e f s)) = inl (record { name = name; inner = inner; is_inner = i; from = a'; to = b'; from_is = e; to_is = f; chain = One s; whole = refl })
 parts {view = view} {sort = sort} {network = network} {a = a} {b = c} clean (More b (Holds s d k e f) border rest) =
     inr (subst (λ (q : Place). Across view sort network q c (own s d ∷ passed_by rest)) (sym e) (connection_before s d clean k f border rest))
 parts {view = view} {sort = sort} {network = network} {a = a} {b = c} clean (More b (Within inner name a' b' i e f s) border rest) =
@@ -232,17 +229,7 @@ once x =
     ∙ ap (λ (l : List Passed). own x.source x.destination ∷ l) (own_after x.is_after)
 
 crossed : {view : View} {sort : Sort} {network : PlainNetwork} {a b : Place} {list : List Passed} (x : Across view sort network a b list) → IsBefore view sort network a x.source x.before → IsAfter view sort network x.destination b x.after → CrossesOnce view sort network a b list
-crossed x before after = record {
-  source = x.source;
-  destination = x.destination;
-  connected = x.connected;
-  once = once x;
-  before = x.before;
-  after = x.after;
-  whole = x.whole;
-  is_before = before;
-  is_after = after;
-}
+crossed x before after = record { source = x.source; destination = x.destination; connected = x.connected; once = once x; before = x.before; after = x.after; whole = x.whole; is_before = before; is_after = after }
 
 -- ---- chains behind links and borders
 
@@ -258,13 +245,11 @@ no_chain_to_nothing (More b s border rest) g = no_chain_to_nothing rest g
 
 from_leaf : {view : View} {sort : Sort} {network : PlainNetwork} {a : Place} {source : End} {list : List Passed} → IsLeafPlace view network a → Before view sort network a source list → IsBefore view sort network a source list
 from_leaf leaf (at_source e) = nothing_before e
-from_leaf leaf (leaves l) =
-    border_before (record { leaves = l; border = record { leaf = leaf_inside l.from l.is_inner leaf l.from_is; chain = inr l.chain }; behind = refl })
+from_leaf leaf (leaves l) = border_before (record { leaves = l; border = record { leaf = leaf_inside l.from l.is_inner leaf l.from_is; chain = inr l.chain }; behind = refl })
 
 to_leaf : {view : View} {sort : Sort} {network : PlainNetwork} {b : Place} {destination : End} {list : List Passed} → IsLeafPlace view network b → After view sort network destination b list → IsAfter view sort network destination b list
 to_leaf leaf (at_destination e) = nothing_after e
-to_leaf leaf (enters l) =
-    border_after (record { enters = l; border = record { leaf = leaf_inside l.to l.is_inner leaf l.to_is; chain = inl l.chain }; behind = refl })
+to_leaf leaf (enters l) = border_after (record { enters = l; border = record { leaf = leaf_inside l.to l.is_inner leaf l.to_is; chain = inl l.chain }; behind = refl })
 
 -- from and to own ports
 

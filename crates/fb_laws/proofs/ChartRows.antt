@@ -1,9 +1,5 @@
 -- Each code of charts, by what its list of faults has.
-use Rattle.std.proofs.Common.{◌≡◌, ◌≢◌, ℕ, Bool, true, false, List, [], ◌∷◌, Option, Some, None, map, refl, sym, ap, ◌∙◌, subst, true≢false, ◌⊎◌, inl, inr, if◌then◌else◌}
-use Rattle.std.specs.List.{Contains, flat_map, slice_get}
-use Rattle.std.specs.Option.{option_map_or}
-use Rattle.std.proofs.lemmas.List.Elements.{Contains-append_left, Contains-append_right}
-use Rattle.fb_laws.proofs.Common.{NameUse, Span, AlgorithmTree, ChartTree, DeclTree, StateTree, TransitionTree, TypeTree, block_type, Side, Input, Output, End, Role, Plug, Socket, Block, Subapplication, Sources, tree_at, Code, AlgorithmUnknown, EventUnknown, StateUnknown, Fault, DeclaredEvent, DeclaredInstance, fault_at, has_name, stands_for, Meanings, meanings_in_type, same_side, Scope, instance_ports, scope_of_type, usable, contains_cases, contains_flat_map, contains_here, contains_later, contains_map, contains_nothing, contains_single, in_unless, in_written, origin_in_flat_map, origin_in_map, unless, written, chart_faults, chart_faults_in, ecc_faults_of, none_named, not_named, IsAdapter, IsNotJudged, of_unusable}
+use Rattle.fb_laws.proofs.Common.{◌≡◌, ◌≢◌, ℕ, Bool, true, false, List, [], ◌∷◌, Option, Some, None, map, refl, sym, ap, ◌∙◌, subst, true≢false, ◌⊎◌, inl, inr, if◌then◌else◌, Contains, flat_map, slice_get, option_map_or, Contains-append_left, Contains-append_right, NameUse, Span, AlgorithmTree, ChartTree, DeclTree, StateTree, TransitionTree, TypeTree, block_type, Side, Input, Output, End, Role, Plug, Socket, Sources, tree_at, Code, AlgorithmUnknown, EventUnknown, StateUnknown, Fault, DeclaredEvent, DeclaredInstance, fault_at, has_name, stands_for, Meanings, meanings_in_type, same_side, Scope, instance_ports, scope_of_type, usable, contains_cases, contains_flat_map, contains_here, contains_later, contains_map, contains_nothing, contains_single, in_unless, in_written, origin_in_flat_map, origin_in_map, unless, written, chart_faults, chart_faults_in, ecc_faults_of, none_named, not_named, IsAdapter, IsNotJudged, of_unusable}
 use Rattle.fb_tree.specs.declared.chart.Action.{Action}
 use Rattle.fb_ecc.specs.Algorithms.{algorithm_fault, algorithm_faults, algorithm_names, run_faults}
 use Rattle.fb_ecc.specs.declared.events.EventTarget.{EventTarget}
@@ -50,8 +46,7 @@ action_origin f chart fault c =
     record { state = s.origin; listed = s.among; action = a.origin; written = a.among; has = a.has }
 
 action_reported : (f : Action → List Fault) (chart : ChartTree) (s : StateTree) (a : Action) (fault : Fault) → Contains chart.states s → Contains s.actions a → Contains (f a) fault → Contains (flat_map (λ s. flat_map f s.actions) chart.states) fault
-action_reported f chart s a fault listed written has =
-    contains_flat_map (λ (s : StateTree). flat_map f s.actions) chart.states s fault listed (contains_flat_map f s.actions a fault written has)
+action_reported f chart s a fault listed written has = contains_flat_map (λ (s : StateTree). flat_map f s.actions) chart.states s fault listed (contains_flat_map f s.actions a fault written has)
 
 -- events
 

@@ -1,7 +1,5 @@
 -- The parts of transitions and algorithms.
-use Rattle.std.proofs.Common.{arith, ◌≡◌, true, List, [], ◌∷◌, ◌++◌, Option, Some, None}
-use Rattle.std.specs.List.{flat_map}
-use Rattle.fb_laws.proofs.Common.{NameUse, name, is_among, name_kinds, Kind, Name, NameIn, NameOn, NameSt, end, Expression, Statement, End, levels, statement, Part, name_part, name_parts, option_parts, end_parts, expression_parts, statement_parts, condition_parts, transition_parts, algorithm_parts}
+use Rattle.fb_laws.proofs.Common.{arith, ◌≡◌, true, List, [], ◌∷◌, ◌++◌, Option, Some, None, flat_map, NameUse, name, is_among, name_kinds, Kind, Name, NameIn, NameOn, NameSt, end, Expression, Statement, End, levels, statement, Part, name_part, name_parts, option_parts, end_parts, expression_parts, statement_parts, condition_parts, transition_parts, algorithm_parts}
 use Rattle.fb_deploy.specs.Parse.Chart.{bracketed, joined_test, optional_test, on_event_with, event_condition, condition, transition, transitions, structured_text, other_language, algorithm_body, algorithm}
 use Rattle.fb_laws.proofs.Tokens.{Each, each_front}
 use Rattle.fb_laws.proofs.Sound.{Sound, sound_nothing, sound_both, sound_as, sound_either, sound_option, sound_many, sound_behind, sound_before, sound_section, sound_mark, among_more, among_right, sound_name, sound_name_of, sound_same}
@@ -17,8 +15,7 @@ sound_bracketed = sound_behind _ _ expression_parts (sound_before _ _ expression
 
 sound_optional_test : Sound optional_test (option_parts expression_parts)
 unfolding optional_test joined_test
-sound_optional_test =
-    sound_option _ expression_parts (sound_either _ _ expression_parts sound_bracketed (sound_behind _ _ expression_parts (sound_expression levels (omega arith))))
+sound_optional_test = sound_option _ expression_parts (sound_either _ _ expression_parts sound_bracketed (sound_behind _ _ expression_parts (sound_expression levels (omega arith))))
 
 each_on_event : (P : Part → Type 0) (event : End) (test : Option Expression) → Each P (end_parts event ++ option_parts expression_parts test) → Each P (condition_parts (on_event_with event test))
 each_on_event P event None h = each_front P (end_parts event) [] h
@@ -67,8 +64,7 @@ sound_structured_text =
 
 sound_other_language : Sound other_language body_parts
 unfolding other_language
-sound_other_language =
-    sound_both _ _ name_parts (flat_map statement_parts) (sound_name_of (Name ∷ NameIn ∷ NameOn ∷ []) other_is_name) (sound_as _ _ _ (sound_nothing _))
+sound_other_language = sound_both _ _ name_parts (flat_map statement_parts) (sound_name_of (Name ∷ NameIn ∷ NameOn ∷ []) other_is_name) (sound_as _ _ _ (sound_nothing _))
 
 sound_algorithm_body : Sound algorithm_body body_parts
 unfolding algorithm_body

@@ -1,6 +1,5 @@
 -- The class of each expression, by the function of the check.
-use Rattle.std.proofs.Common.{◌≡◌, ◌≢◌, ℕ, Bool, true, false, true≢false, List, Option, Some, None, unwrap_or, refl, sym, ap, ◌∙◌, subst}
-use Rattle.fb_laws.proofs.Common.{ReferenceTree, Expression, literal_expression, reference_expression, unary_expression, row_expression, parentheses, Expressions, Operands, no_operands, operand_then, TypeTree, block_type, BinaryUse, UnaryUse, TypeForm, TypeUse, Sources, tree_at, Class, O, Free, change, pair_class, unary_class, class_in, row_class, Names, names_of_type, class_of_element, class_of_referent, class_with, referent_of, Referent, Variable, Unjudged, NoMember, Changes, HasClass, of_literal, of_variable, of_element, of_no_array, of_no_variable, of_operator, of_broken, of_row, of_parentheses, RowHasClass, IsPairIn, first_pair, later_pair, NamesType}
+use Rattle.fb_laws.proofs.Common.{◌≡◌, ◌≢◌, ℕ, Bool, true, false, true≢false, List, Option, Some, None, unwrap_or, refl, sym, ap, ◌∙◌, subst, ReferenceTree, Expression, literal_expression, reference_expression, unary_expression, row_expression, parentheses, Expressions, Operands, no_operands, operand_then, TypeTree, block_type, BinaryUse, UnaryUse, TypeForm, TypeUse, Sources, tree_at, Class, O, Free, change, pair_class, unary_class, class_in, row_class, Names, names_of_type, class_of_element, class_of_referent, class_with, referent_of, Referent, Variable, Unjudged, NoMember, Changes, HasClass, of_literal, of_variable, of_element, of_no_array, of_no_variable, of_operator, of_broken, of_row, of_parentheses, RowHasClass, IsPairIn, first_pair, later_pair, NamesType}
 use Rattle.fb_tree.specs.declared.interface.TypeForm.TheVariants.{Plain, Sized, Array}
 use Rattle.fb_expr.specs.declared.references.Referent.TheVariants.{Unknown}
 use Rattle.fb_laws.specs.Classes.{at_end, behind}
@@ -11,12 +10,6 @@ use Rattle.fb_laws.proofs.RuleLemmas.{Known, gives, fails, changes, no_change, n
 abbrev is_variable : Referent → Bool
 is_variable (Variable used subscripted) = true
 is_variable other = false
-
-plain_differs : Plain ≢ Array
-plain_differs e = let no : ⊥ = cc in no
-
-sized_differs : Sized ≢ Array
-sized_differs e = let no : ⊥ = cc in no
 
 no_array : (used : TypeUse) (form : TypeForm) → form ≢ Array → class_of_element form used.name.name ≡ O
 no_array used Array other = absurd (other refl)
@@ -29,7 +22,7 @@ module _ (sources : Sources) (unit : List ℕ) (d : TypeTree) (declared : tree_a
   of_type : (r : ReferenceTree) (subscripts : Expressions) (used : TypeUse) (subscripted : Bool) → NamesType sources d r used subscripted → HasClass sources d (reference_expression r subscripts) (class_with used subscripted)
   of_type r subscripts used false n = of_variable used n
   of_type r subscripts used true n =
-      (elim used.form as (λ form. used.form ≡ form → HasClass sources d (reference_expression r subscripts) (class_of_element form used.name.name)) [ Plain ↦ λ is. of_no_array used n (λ array. plain_differs (sym is ∙ array)) | Sized ↦ λ is. of_no_array used n (λ array. sized_differs (sym is ∙ array)) | Array ↦ λ is. of_element used n is ]) refl
+      (elim used.form as (λ form. used.form ≡ form → HasClass sources d (reference_expression r subscripts) (class_of_element form used.name.name)) [ Plain ↦ λ is. of_no_array used n (λ array. let both : Plain ≡ Array = sym is ∙ array in cc both) | Sized ↦ λ is. of_no_array used n (λ array. let both : Sized ≡ Array = sym is ∙ array in cc both) | Array ↦ λ is. of_element used n is ]) refl
 
   names_nothing : (r : ReferenceTree) (t : Referent) → referent_of names r ≡ t → is_variable t ≡ false → (used : TypeUse) (subscripted : Bool) → ¬ NamesType sources d r used subscripted
   names_nothing r t is other used subscripted n = true≢false (ap is_variable (sym (told_type_of sources unit d declared r used subscripted n) ∙ is) ∙ other)
@@ -77,14 +70,11 @@ module _ (sources : Sources) (unit : List ℕ) (d : TypeTree) (declared : tree_a
     pub told_class : (e : Expression) (c : Class) → HasClass sources d e c → class_in names e ≡ c
     told_class (literal_expression l) c of_literal = refl
     told_class (reference_expression r subscripts) c (of_variable used n) = named_class r used false n
-    told_class (reference_expression r subscripts) c (of_element used n array) =
-        named_class r used true n ∙ ap (λ (form : TypeForm). class_of_element form used.name.name) array
+    told_class (reference_expression r subscripts) c (of_element used n array) = named_class r used true n ∙ ap (λ (form : TypeForm). class_of_element form used.name.name) array
     told_class (reference_expression r subscripts) c (of_no_array used n other) = named_class r used true n ∙ no_array used used.form other
     told_class (reference_expression r subscripts) c (of_no_variable none) = free_of r none
-    told_class (unary_expression used x) g (of_operator c has k) =
-        ap (unary_class used.operator) (told_class x c has) ∙ ap (λ (o : Option Class). unwrap_or o Free) (told_change used.operator c g k)
-    told_class (unary_expression used x) g (of_broken c has none) =
-        ap (unary_class used.operator) (told_class x c has) ∙ ap (λ (o : Option Class). unwrap_or o Free) (no_change used.operator c none)
+    told_class (unary_expression used x) g (of_operator c has k) = ap (unary_class used.operator) (told_class x c has) ∙ ap (λ (o : Option Class). unwrap_or o Free) (told_change used.operator c g k)
+    told_class (unary_expression used x) g (of_broken c has none) = ap (unary_class used.operator) (told_class x c has) ∙ ap (λ (o : Option Class). unwrap_or o Free) (no_change used.operator c none)
     told_class (row_expression x operands) g (of_row c has row) = ap (λ k. row_class names k operands) (told_class x c has) ∙ told_row c operands g row
     told_class (parentheses x span) c (of_parentheses has) = told_class x c has
 

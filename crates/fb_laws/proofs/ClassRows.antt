@@ -1,8 +1,7 @@
 -- Rules of classes that are broken, by what the list of faults has.
-use Rattle.std.proofs.Common.{◌≡◌, ℕ, Bool, true, false, List, [], ◌∷◌, Option, Some, None, refl, sym, ap, ◌∙◌, subst, true≢false}
-use Rattle.std.specs.Prelude.{is_some}
-use Rattle.std.specs.List.{Contains}
-use Rattle.fb_laws.proofs.Common.{NameUse, Span, Expression, reference_expression, no_expressions, Statements, count, TypeTree, block_type, TypeUse, Member, Sources, tree_at, class_of_type, stands_for, meanings_in_type, Class as ValueClass, Fault, DeclaredVariable, expr_faults_of, change, combined, join, Demand, suits_operand, suits_operands, suits_place, assigns, code_of_demand, is_met, name_alone, class_in, Names, names_of_type, allows, ClassPlace, Condition, Count, Counter, Fits, HasClass, of_variable, of_element, of_no_array, of_no_variable, IsRunIn, StandsAt, BreaksRule, at_operator, between_operands, at_subscript, at_guard, at_counter, at_assignment, ClassesAreRight, ExpressionsHaveOneClass, HasBrokenRule, Begins, own, GoesOn, at_end, NamesType}
+use Rattle.fb_laws.proofs.Common.{◌≡◌, ℕ, Bool, true, false, List, [], ◌∷◌, Option, Some, refl, sym, ap, ◌∙◌, subst, true≢false, is_some, Contains, NameUse, Span, Expression, reference_expression, no_expressions, Statements, count, TypeTree, block_type, TypeUse, Member, Sources, tree_at, class_of_type, stands_for, meanings_in_type, Class as ValueClass, Fault, DeclaredVariable, expr_faults_of, change, combined, join, Demand, suits_operand, suits_operands, suits_place, assigns, code_of_demand, is_met, name_alone, class_in, Names, names_of_type, allows, ClassPlace, Condition, Count, Counter, Fits, HasClass, of_variable, of_element, of_no_array, of_no_variable, IsRunIn, StandsAt, BreaksRule, at_operator, between_operands, at_subscript, at_guard, at_counter, at_assignment, ClassesAreRight, ExpressionsHaveOneClass, HasBrokenRule, Begins, own, GoesOn, at_end, NamesType}
+use Rattle.fb_laws.specs.Classes.{Joins}
+use Rattle.fb_placing.proofs.TableLemmas.{nothing_there}
 use Rattle.fb_deploy.specs.Iface.declared.code.Code.TheVariants.{Class}
 use Rattle.fb_expr.specs.Demands.{place_of}
 use Rattle.fb_laws.specs.Expressions.{in_statement}
@@ -10,8 +9,8 @@ use Rattle.fb_laws.specs.Variables.{of_adapter}
 use Rattle.fb_laws.proofs.ClassLemmas.{class_of, pair_in, pair_of, told_class}
 use Rattle.fb_laws.proofs.ExpressionLemmas.{IsPairOf}
 use Rattle.fb_laws.proofs.ExpressionPlaces.{stands, told_stands}
-use Rattle.fb_laws.proofs.RuleLemmas.{misfits, no_change, no_join, none_change, none_combined, none_join, not_combined, told_misfit}
-use Rattle.fb_laws.proofs.UnitDemands.{DemandOf, reference, field, behind_for, operator, pair, subscript, test, in_place, of_counter, of_assignment, reported, unmet}
+use Rattle.fb_laws.proofs.RuleLemmas.{misfits, no_change, none_change, none_combined, not_combined, told_misfit, none_of, missing, told_join, joins}
+use Rattle.fb_laws.proofs.UnitDemands.{DemandOf, operator, pair, subscript, test, in_place, of_counter, of_assignment, reported, unmet}
 use Rattle.fb_laws.proofs.VariableRows.{is_class_code}
 
 -- a name alone has the type of the variable
@@ -35,17 +34,7 @@ typed_alone sources d name used subscripted n = by n.first n.at_first n.behind n
     by first at_first behind (of_adapter i m a v at is e data_port) leads = let both = at.second in absurd (let no : ⊥ = cc in no)
 
 alone_typed : (sources : Sources) (d : TypeTree) (name : NameUse) (v : DeclaredVariable) → stands_for (meanings_in_type d).variables name.name ≡ Some v → NamesType sources d (name_alone name) v.type_use false
-alone_typed sources d name v stands = record {
-  first = v.type_use;
-  at_first = false;
-  behind = [];
-  begins = own v stands (λ i m behind at. let both : [] ≡ m ∷ behind = at.second in cc both);
-  leads = at_end;
-}
-
-none_there : (o : Option ValueClass) → is_some o ≡ false → o ≡ None
-none_there None e = refl
-none_there (Some c) e = absurd (true≢false e)
+alone_typed sources d name v stands = record { first = v.type_use; at_first = false; behind = []; begins = own v stands (λ i m behind at. let both : [] ≡ m ∷ behind = at.second in cc both); leads = at_end }
 
 module _ (sources : Sources) (unit : List ℕ) (d : TypeTree) (declared : tree_at sources unit ≡ Some (block_type d)) where
   abbrev names : Names
@@ -63,9 +52,9 @@ module _ (sources : Sources) (unit : List ℕ) (d : TypeTree) (declared : tree_a
   -- a demand on classes that is not met
   broken : (demand : Demand) → DemandOf names d demand → code_of_demand demand ≡ Class → is_met names demand ≡ false → BreaksRule sources d (place_of demand)
   broken demand (operator used x w) class fails =
-      at_operator used x (class_in names x) w (class_of sources unit d declared x) (none_change used.operator (class_in names x) (none_there (change used.operator (class_in names x)) fails))
+      at_operator used x (class_in names x) w (class_of sources unit d declared x) (none_change used.operator (class_in names x) (nothing_there (change used.operator (class_in names x)) fails))
   broken demand (pair first row used before x w is) class fails =
-      between_operands first row (class_in names first) used before x (class_in names x) w (class_of sources unit d declared first) (pair_in sources unit d declared used before x (class_in names first) row is) (class_of sources unit d declared x) (none_combined used.operator before (class_in names x) (none_there (combined used.operator before (class_in names x)) fails))
+      between_operands first row (class_in names first) used before x (class_in names x) w (class_of sources unit d declared first) (pair_in sources unit d declared used before x (class_in names first) row is) (class_of sources unit d declared x) (none_combined used.operator before (class_in names x) (nothing_there (combined used.operator before (class_in names x)) fails))
   broken demand (subscript r subscripts x w one) class fails =
       at_subscript r subscripts x (class_in names x) w one (class_of sources unit d declared x) (misfits Count (class_in names x) fails) (stands x)
   broken demand (test x tested) class fails = at_guard x (class_in names x) tested (class_of sources unit d declared x) (misfits Condition (class_in names x) fails) (stands x)
@@ -76,7 +65,7 @@ module _ (sources : Sources) (unit : List ℕ) (d : TypeTree) (declared : tree_a
       counted name a b step body name_class runs (class_of sources unit d declared (reference_expression (name_alone name) no_expressions)) fails
   broken demand (of_assignment r subscripts place e runs) class fails =
       let variable = reference_expression r subscripts in
-      at_assignment r subscripts place e (class_in names variable) (class_in names e) runs (class_of sources unit d declared variable) (class_of sources unit d declared e) (none_join (class_in names variable) (class_in names e) (none_there (join (class_in names variable) (class_in names e)) fails))
+      at_assignment r subscripts place e (class_in names variable) (class_in names e) runs (class_of sources unit d declared variable) (class_of sources unit d declared e) (none_of (Joins (class_in names variable) (class_in names e)) (join (class_in names variable) (class_in names e)) (told_join (class_in names variable) (class_in names e)) (nothing_there (join (class_in names variable) (class_in names e)) fails))
   broken demand o class fails = absurd (true≢false (sym (ap is_class_code class)))
 
   -- the demand that a broken rule leaves unmet
@@ -131,7 +120,7 @@ module _ (sources : Sources) (unit : List ℕ) (d : TypeTree) (declared : tree_a
         demand = assigns variable place e;
         of_type = of_assignment r subscripts place e runs;
         class = refl;
-        fails = (λ i. is_some (join (told_class sources unit d declared variable a left i) (told_class sources unit d declared e b right i))) ∙ ap is_some (no_join a b none);
+        fails = (λ i. is_some (join (told_class sources unit d declared variable a left i) (told_class sources unit d declared e b right i))) ∙ ap is_some (missing (Joins a b) (join a b) (joins a b) none);
         place = refl;
       }
 
@@ -151,5 +140,4 @@ right sources unit span = (to, λ h. let b = unmet_by sources unit h.block h.dec
         }
 
 pub one_class : ExpressionsHaveOneClass
-one_class sources unit d declared e =
-    (class_in (names_of_type sources unit d) e, class_of sources unit d declared e, λ other has. sym (told_class sources unit d declared e other has))
+one_class sources unit d declared e = (class_in (names_of_type sources unit d) e, class_of sources unit d declared e, λ other has. sym (told_class sources unit d declared e other has))

@@ -1,7 +1,5 @@
 -- The codes that each part of the check gives.
-use Rattle.std.proofs.Common.{ℕ, List, sym, subst}
-use Rattle.std.specs.List.{Contains}
-use Rattle.fb_laws.proofs.Common.{Span, Sources, Code, AlgorithmUnknown, DataType, Duplicate, EventUnknown, Literal, MappedTwice, MixedKind, NameDiffers, NoSuchResource, ParameterUnknown, PassThrough, PortSide, PortUnknown, SecondAdapter, SecondSource, StateUnknown, StructRecursive, UnknownType, WithUnknown, WrongKind, Fault, NetworkTree, Demand, code_of_demand, names_field, names_variable, NetworkPlace, contains_nothing, IsCodeOf, Declarations, Charts, Networks, Mappings, PartsHaveOwnCodes, other_name, duplicate, mixed_kind, unknown_type, wrong_kind, unknown_with, initial_value, recursive_structure, unknown_variable, unknown_member, class, unknown_state, unknown_event, unknown_algorithm, unknown_port, wrong_side, other_type, second_source, second_adapter, passage, unknown_parameter, parameter_value, second_mapping, lost_mapping}
+use Rattle.fb_laws.proofs.Common.{ℕ, List, sym, subst, Contains, Span, Sources, Code, MappedTwice, NameDiffers, PortUnknown, StateUnknown, Fault, NetworkTree, Demand, code_of_demand, names_field, names_variable, NetworkPlace, contains_nothing, IsCodeOf, Declarations, Charts, Networks, Mappings, PartsHaveOwnCodes, other_name, duplicate, mixed_kind, unknown_type, wrong_kind, unknown_with, initial_value, recursive_structure, unknown_variable, unknown_member, class, unknown_state, unknown_event, unknown_algorithm, unknown_port, wrong_side, other_type, second_source, second_adapter, passage, unknown_parameter, parameter_value, second_mapping, lost_mapping}
 use Rattle.fb_laws.specs.UnitParts.{Expressions}
 use Rattle.fb_laws.proofs.ChartRows as charts
 use Rattle.fb_laws.proofs.DeclarationRows as declarations
@@ -15,18 +13,21 @@ nothing h = absurd h
 -- the part of each code
 pub ruleset codes = (other_name, duplicate, mixed_kind, unknown_type, wrong_kind, unknown_with, initial_value, recursive_structure, unknown_variable, unknown_member, class, unknown_state, unknown_event, unknown_algorithm, unknown_port, wrong_side, other_type, second_source, second_adapter, passage, unknown_parameter, parameter_value, second_mapping, lost_mapping)
 
+-- or no code
+ruleset codes_or_none = (codes, nothing, contains_nothing)
+
 module _ (sources : Sources) (unit : List ℕ) (span : Span) where
   declared_code : (code : Code) → declarations.Has code sources unit span → IsCodeOf Declarations code
   declared_code NameDiffers h = other_name
-  declared_code code h = search (codes, nothing)
+  declared_code code h = search codes_or_none
 
   chart_code : (code : Code) → charts.Has code sources unit span → IsCodeOf Charts code
   chart_code StateUnknown h = unknown_state
-  chart_code code h = search (codes, nothing)
+  chart_code code h = search codes_or_none
 
   mapping_code : (code : Code) → mappings.Has code sources unit span → IsCodeOf Mappings code
   mapping_code MappedTwice h = second_mapping
-  mapping_code code h = search (codes, nothing)
+  mapping_code code h = search codes_or_none
 
 demand_code : (demand : Demand) → IsCodeOf Expressions (code_of_demand demand)
 demand_code (names_variable r) = unknown_variable
@@ -35,7 +36,7 @@ demand_code demand = class
 
 network_code : (sources : Sources) (here : NetworkPlace) (n : NetworkTree) (f : Fault) (code : Code) → Contains (part sources here n code) f → IsCodeOf Networks code
 network_code sources here n f PortUnknown c = unknown_port
-network_code sources here n f code c = search (codes, nothing, contains_nothing)
+network_code sources here n f code c = search codes_or_none
 
 pub own_codes : PartsHaveOwnCodes
 own_codes Declarations sources unit f c = declared_code sources unit f.span f.code (declarations.found sources unit f c)

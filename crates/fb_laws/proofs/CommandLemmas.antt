@@ -1,11 +1,6 @@
 -- The commands of a resource, part by part.
-use Rattle.std.proofs.Common.{ℕ, ◌≡◌, Bool, true, false, cond, List, [], ◌∷◌, ◌++◌, Option, Some, None, ◌⊎◌, inl, inr, refl, sym, ◌∙◌, ap, subst, map}
-use Rattle.std.specs.Prelude.{Contains, filter, option_map}
-use Rattle.std.specs.List.{cons_option, filter_map}
-use Rattle.std.specs.Str.{bytes_eq}
-use Rattle.std.proofs.lemmas.List.{map-append}
-use Rattle.std.proofs.lemmas.List.Elements.{filter-append}
-use Rattle.fb_laws.proofs.Common.{contains_cases, contains_here, contains_later, contains_nothing, Link, same_home, nearest, connection_orders, connection_text, line_order, link_resource, start_order, start_text, commands_for, Line, Order}
+use Rattle.fb_laws.proofs.Common.{ℕ, ◌≡◌, Bool, true, false, cond, List, [], ◌∷◌, ◌++◌, Option, Some, None, ◌⊎◌, inl, inr, refl, sym, ◌∙◌, ap, subst, map, filter, option_map, cons_option, filter_map, bytes_eq, map-append, filter-append, contains_cases, contains_here, contains_later, contains_nothing, Link, same_home, nearest, connection_orders, connection_text, line_order, link_resource, start_order, start_text, commands_for, Line, Order}
+use Rattle.std.specs.Prelude.{Contains}
 use Rattle.fb_laws.proofs.HomeLemmas.{bytes_same, same_bytes}
 
 -- ---- what a list gives
@@ -101,5 +96,4 @@ link_on homes l r e = by (nearest homes l.from) (nearest homes l.to) e
     by a b g = absurd (let no : ⊥ = cc in no)
 
 pub on_link : (homes : List ℕ → Option (List ℕ)) (l : Link) (r : List ℕ) → nearest homes l.from ≡ Some r → nearest homes l.to ≡ Some r → link_resource homes l ≡ Some r
-on_link homes l r from to =
-    (λ i. cond (same_home (from i) (to i)) (from i) None) ∙ ap (λ (t : Bool). cond t (Some r) None) (bytes_same r r refl)
+on_link homes l r from to = (λ i. cond (same_home (from i) (to i)) (from i) None) ∙ ap (λ (t : Bool). cond t (Some r) None) (bytes_same r r refl)

@@ -1,11 +1,6 @@
 -- The commands of each resource, in words of their own.
-use Rattle.std.proofs.Common.{ℕ, ◌≡◌, ◌≢◌, Bool, true, false, not, ◌||◌, cond, List, [], ◌∷◌, ◌++◌, Option, Some, None, ◌⊎◌, inl, inr, refl, sym, ◌∙◌, ap, subst, get_or, map, append_assoc, arith, ◌==◌, true≢false}
-use Rattle.std.specs.Prelude.{Contains, filter, option_map, codes}
-use Rattle.std.specs.List.{filter_map, flat_map}
-use Rattle.std.specs.Str.{bytes_eq}
-use Rattle.std.proofs.lemmas.List.Kept.{IsStrictlySortedBy-filter}
-use Rattle.std.proofs.lemmas.Bool.{eqb-false, not-true, or_cases}
-use Rattle.fb_laws.proofs.Common.{in_order-members, in_order-sorted, contains_cases, contains_filter, contains_flat_map, contains_here, contains_later, contains_map, contains_nothing, origin_in_flat_map, origin_in_map, passes_in_filter, ApplicationTree, DeclTree, ParameterTree, Sources, text_or_empty, tree_at, link_cmp, FlatBlock, Link, PlainFlat, home_at, nearest, block_home, PlainStanding, path_names, standing_at, applications_in, devices_in, Home, create_line, create_lines, create_text, home_lines, line_cmp, line_cmp_total, lines_at, write_line, write_lines, write_text, connection_orders, line_order, link_resource, orders_of, start_order, start_text, dotted, PlainResource, commands_for, resource_plan, resource_plans, resources_of, Line, Order, IsPlanned, AllBegin, BeginsWith, BlocksAreMadeAtHome, CommandsAreInOrder, IsInOrder, IsWithin, LinksAreMadeAtHome, MakesBlock, MakesItsBlocks, MakesItsLinks, NoneBegins, ParametersAreSetAtHome, ResourcesHaveTheirCommands, SetsItsParameters, SetsParameter, StandsOnce}
+use Rattle.fb_laws.proofs.Common.{ℕ, ◌≡◌, ◌≢◌, Bool, true, false, not, ◌||◌, cond, List, [], ◌∷◌, ◌++◌, Option, Some, None, inl, inr, refl, sym, ◌∙◌, ap, subst, map, append_assoc, ◌==◌, true≢false, filter, option_map, codes, filter_map, flat_map, bytes_eq, IsStrictlySortedBy-filter, eqb-false, not-true, or_cases, in_order-members, in_order-sorted, contains_cases, contains_filter, contains_flat_map, contains_here, contains_later, contains_map, contains_nothing, origin_in_flat_map, origin_in_map, passes_in_filter, ApplicationTree, DeclTree, ParameterTree, Sources, text_or_empty, tree_at, link_cmp, FlatBlock, Link, PlainFlat, home_at, nearest, block_home, PlainStanding, path_names, standing_at, applications_in, devices_in, Home, create_line, create_lines, create_text, home_lines, line_cmp, line_cmp_total, lines_at, write_line, write_lines, write_text, connection_orders, line_order, link_resource, orders_of, start_order, start_text, dotted, PlainResource, commands_for, resource_plan, resource_plans, resources_of, Line, Order, IsPlanned, AllBegin, BeginsWith, BlocksAreMadeAtHome, CommandsAreInOrder, IsInOrder, IsWithin, LinksAreMadeAtHome, MakesBlock, MakesItsBlocks, MakesItsLinks, NoneBegins, ParametersAreSetAtHome, ResourcesHaveTheirCommands, SetsItsParameters, SetsParameter, StandsOnce}
+use Rattle.std.specs.Prelude.{Contains}
 use Rattle.fb_placing.proofs.LineLemmas.{line_cmp-IsAntisymmetric}
 use Rattle.fb_placing.specs.Written.{written}
 use Rattle.fb_laws.proofs.Joined.{of_either}
@@ -176,14 +171,7 @@ module _ (sources : Sources) (system : List ℕ) (flat : PlainFlat) (cuts : List
       let own = it.homes o.origin o.among in
       let there = home_listed (mapped sources system) flat.blocks o.origin own.on_resource o.among own.home in
       let same : own.on_resource ≡ r = cc in
-      record {
-        block = o.origin;
-        listed = o.among;
-        home = of_nearest (mapped sources system) o.origin.path r (own.home ∙ ap (λ (w : List ℕ). Some w) same);
-        place = is.0;
-        command = is.1;
-        on_home = on;
-      }
+      record { block = o.origin; listed = o.among; home = of_nearest (mapped sources system) o.origin.path r (own.home ∙ ap (λ (w : List ℕ). Some w) same); place = is.0; command = is.1; on_home = on }
 
   same_line : (line : Line) (a b c : List ℕ) → line.place ≡ a → line.command ≡ b → line.resource ≡ c → (let l : Line = record { place = a; command = b; resource = c } in l) ≡ line
   same_line line a b c e f g = λ i. record { place = sym e i; command = sym f i; resource = sym g i }

@@ -26,10 +26,10 @@ pub use Rattle.fb_deploy.specs.Iface.Scope.{Scope, instance_ports, ports_of, sco
 pub use Rattle.fb_deploy.specs.Iface.Sides.{goes_with, is_data_on}
 pub use Rattle.fb_deploy.specs.Iface.Spaces.{chart_spaces, interface_spaces, is_block, network_spaces, parameter_names, resource_names, spaces_of, system_spaces, type_spaces}
 pub use Rattle.fb_deploy.specs.Iface.Types.{instance_faults, instances_of, suits, type_fault, type_faults}
-pub use Rattle.fb_deploy.specs.Iface.declared.classes.Class.{Class}
 pub use Rattle.fb_deploy.specs.Iface.declared.classes.Class.TheVariants.{Any, B, Free, I, Num, O, W}
-pub use Rattle.fb_deploy.specs.Iface.declared.code.Code.{Code}
+pub use Rattle.fb_deploy.specs.Iface.declared.classes.Class.{Class}
 pub use Rattle.fb_deploy.specs.Iface.declared.code.Code.TheVariants.{AlgorithmUnknown, DataType, Duplicate, EventUnknown, Literal, MappedTwice, MemberUnknown, MixedKind, NameDiffers, NoSuchResource, ParameterUnknown, PassThrough, PortSide, PortUnknown, SecondAdapter, SecondSource, StateUnknown, StructRecursive, Syntax, UnknownType, VariableUnknown, WithUnknown, WrongKind}
+pub use Rattle.fb_deploy.specs.Iface.declared.code.Code.{Code}
 pub use Rattle.fb_deploy.specs.Iface.declared.fault.Fault.{Fault}
 pub use Rattle.fb_deploy.specs.Iface.declared.ports.DeclaredEvent.{DeclaredEvent}
 pub use Rattle.fb_deploy.specs.Iface.declared.ports.DeclaredInstance.{DeclaredInstance}
@@ -48,10 +48,10 @@ pub use Rattle.fb_expr.specs.Names.{Names, names_of_type}
 pub use Rattle.fb_expr.specs.References.{class_of_element, class_of_referent, class_with, data_referent, field_referent, fields_behind, fields_named, is_adapter, is_at_adapter, is_before_port, is_data, is_some_count, member_among, own_referent, port_named, port_referent, referent_of, step, unless_judged, variable_named, walk}
 pub use Rattle.fb_expr.specs.Rules.{allows}
 pub use Rattle.fb_expr.specs.Spans.{names_span, span_of, through_second}
-pub use Rattle.fb_expr.specs.declared.references.Referent.{Referent}
 pub use Rattle.fb_expr.specs.declared.references.Referent.TheVariants.{NoMember, Unjudged, Variable}
-pub use Rattle.fb_expr.specs.declared.rules.ClassPlace.{ClassPlace}
+pub use Rattle.fb_expr.specs.declared.references.Referent.{Referent}
 pub use Rattle.fb_expr.specs.declared.rules.ClassPlace.TheVariants.{Condition, Count, Counter, Selector}
+pub use Rattle.fb_expr.specs.declared.rules.ClassPlace.{ClassPlace}
 pub use Rattle.fb_laws.specs.Alone.{ReadsAlone, nearer, nearer_constant, nearer_simple, nearer_span}
 pub use Rattle.fb_laws.specs.Chains.{BordersAreComposed, CrossesFrom, CrossesOnce, EntersInner, FlatBordersAreComposed, FlatLinksAreComposed, FlatUnitsAreClean, HasFlatNet, InnerBordersAreListed, InnerNetsAreFlat, IsAfter, IsOwnNetwork, LeavesInner, LinksAreComposed, Passed, StaysInside, border_after, border_before, nothing_after, nothing_before, passed_at, passed_by}
 pub use Rattle.fb_laws.specs.Classes.{Calculates, Changes, Combines, Compares, Divides, Fits, HasClass, IsArithmetic, IsLogical, IsPairIn, Joins, JoinsTruths, Makes, Results, RowHasClass, Spoils, Takes, first_pair, later_pair, of_broken, of_element, of_literal, of_no_array, of_no_variable, of_operator, of_parentheses, of_row, of_variable}
@@ -85,10 +85,10 @@ pub use Rattle.fb_netcheck.specs.Settings.{NetworkPlace}
 pub use Rattle.fb_netcheck.specs.Sides.{connection_span, end_faults, fault_of, is_own, is_own_port, pass_through_faults}
 pub use Rattle.fb_netcheck.specs.Types.{flows_agree, home_of, joined_types, same_at_ends, targets_agree}
 pub use Rattle.fb_netcheck.specs.declared.ends.Holder.TheVariants.{OfInstance, OfPlug, OfSocket, Own}
-pub use Rattle.fb_netcheck.specs.declared.ends.Position.{Position}
 pub use Rattle.fb_netcheck.specs.declared.ends.Position.TheVariants.{Destination, Source}
-pub use Rattle.fb_netcheck.specs.declared.ends.Target.{Target}
+pub use Rattle.fb_netcheck.specs.declared.ends.Position.{Position}
 pub use Rattle.fb_netcheck.specs.declared.ends.Target.TheVariants.{Found, NotJudged, Unknown}
+pub use Rattle.fb_netcheck.specs.declared.ends.Target.{Target}
 pub use Rattle.fb_placing.specs.Cuts.{cuts_of, home_at, is_cut, same_home}
 pub use Rattle.fb_placing.specs.Firsts.{first_at}
 pub use Rattle.fb_placing.specs.Homes.{astray, block_home, block_homes, homeless, misplaced, unless_faulty}
@@ -102,8 +102,8 @@ pub use Rattle.fb_placing.specs.Standing.{PlainStanding, application_called, inn
 unfoldable pub use Rattle.fb_placing.specs.Standing.{path_names}
 pub use Rattle.fb_placing.specs.Systems.{applications_in, devices_in, mappings_in}
 pub use Rattle.fb_placing.specs.declared.homes.Home.{Home}
-pub use Rattle.fb_placing.specs.declared.homes.Misplaced.{Misplaced}
 pub use Rattle.fb_placing.specs.declared.homes.Misplaced.TheVariants.{NoSuchBlock, Unmapped}
+pub use Rattle.fb_placing.specs.declared.homes.Misplaced.{Misplaced}
 pub use Rattle.fb_placing.specs.declared.lines.Line.{Line}
 pub use Rattle.fb_sections.specs.Constants.{array_of, element_or_sized, in_brackets, number_with, other_literal_kinds, ranges}
 unfoldable pub use Rattle.fb_sections.specs.Constants.{array_type, constant, constant_list, length_of_string, number, plain_type, simple, type_use}
@@ -117,8 +117,8 @@ unfoldable pub use Rattle.fb_structured_text.specs.Forms.Lexemes.{lexeme_of, lex
 pub use Rattle.fb_structured_text.specs.Forms.Literals.{across, literal_kinds}
 pub use Rattle.fb_structured_text.specs.Forms.Words.{before, behind, cons, key, list, optional_list, or_none, separated}
 unfoldable pub use Rattle.fb_structured_text.specs.Forms.Words.{name, names}
-pub use Rattle.fb_structured_text.specs.Forms.declared.kind.Kind.{Kind}
 pub use Rattle.fb_structured_text.specs.Forms.declared.kind.Kind.TheVariants.{Assign, CloseBracket, Name, NameIn, NameOn, NameSt, Of, OpenBracket, Point}
+pub use Rattle.fb_structured_text.specs.Forms.declared.kind.Kind.{Kind}
 pub use Rattle.fb_structured_text.specs.Forms.declared.lexeme.Lexeme.{Lexeme}
 pub use Rattle.fb_structured_text.specs.Operators.{binary_use, signs, strengths, unary_use}
 unfoldable pub use Rattle.fb_structured_text.specs.Statement.{announced, arm, arms, assignment_statement, case, case_statement, cases, enclosed, for_statement, if_statement, nested_statement, otherwise, repeat_statement, simple_statement, statement, while_statement}
@@ -135,30 +135,30 @@ unfoldable pub use Rattle.fb_text.specs.Forms.{form_of, is_number, is_string, is
 unfoldable pub use Rattle.fb_text.specs.Name.{name_of}
 pub use Rattle.fb_text.specs.Order.{name_cmp, names_in_order}
 pub use Rattle.fb_text.specs.Tokens.{FitsIn, IsLongest, IsSpelled, LiesIn, SpansRise, char_len, piece_at, spans_of, tokens_of, with_token}
-pub use Rattle.fb_text.specs.Words.{word_len}
 unfoldable pub use Rattle.fb_text.specs.Words.{is_word}
+pub use Rattle.fb_text.specs.Words.{word_len}
 pub use Rattle.fb_text.specs.declared.name.NameFault.{NameFault}
 pub use Rattle.fb_text.specs.declared.name.NameUse.{NameUse}
 pub use Rattle.fb_text.specs.declared.token.Span.{Span}
 pub use Rattle.fb_text.specs.declared.token.Token.{Token}
+pub use Rattle.fb_text.specs.declared.token.TokenKind.TheVariants.{Other}
 pub use Rattle.fb_text.specs.declared.token.TokenKind.{TokenKind}
-pub use Rattle.fb_text.specs.declared.token.TokenKind.TheVariants.{Other, Word}
 pub use Rattle.fb_tree.specs.Expression.{Expression, Expressions, Operands, ReferenceTree, expression_then, expressions_of, literal_expression, no_expressions, no_operands, operand_then, operands_of, parentheses, reference_expression, row_expression, unary_expression}
 pub use Rattle.fb_tree.specs.Mentions.{instance_types, types_in, unit_kind_of, value_types, variable_types}
 pub use Rattle.fb_tree.specs.Statement.{Arms, Statement, Statements, arm_then, arms_of, assignment, choice, count, empty, exit, no_arms, no_statements, repeat_loop, return, selection, statement_then, statements_of, while_loop}
-pub use Rattle.fb_tree.specs.Tree.{AlgorithmTree, ApplicationTree, ChartTree, ConditionTree, ConstantTree, DeclTree, DeviceTree, EventTree, InstanceTree, InterfaceTree, MappingTree, NetworkTree, ParameterTree, ResourceTree, StateTree, StructureTree, SystemTree, TransitionTree, TypeTree, VariablesTree, adapter_type, always, block_type, constant_span, guard, guarded, on_event, one_value, structure_type, subapplication_type, system_configuration, value_list, value_span}
+pub use Rattle.fb_tree.specs.Tree.{AlgorithmTree, ApplicationTree, ChartTree, ConditionTree, ConstantTree, DeclTree, DeviceTree, EventTree, InstanceTree, InterfaceTree, MappingTree, NetworkTree, ParameterTree, ResourceTree, StateTree, StructureTree, SystemTree, TransitionTree, TypeTree, VariablesTree, adapter_type, block_type, constant_span, guard, guarded, one_value, structure_type, subapplication_type, system_configuration, value_list, value_span}
 pub use Rattle.fb_tree.specs.declared.expression.BinaryUse.{BinaryUse}
 pub use Rattle.fb_tree.specs.declared.expression.UnaryUse.{UnaryUse}
 pub use Rattle.fb_tree.specs.declared.interface.Section.{Section}
-pub use Rattle.fb_tree.specs.declared.interface.Side.{Side}
 pub use Rattle.fb_tree.specs.declared.interface.Side.TheVariants.{Input, Output}
+pub use Rattle.fb_tree.specs.declared.interface.Side.{Side}
 pub use Rattle.fb_tree.specs.declared.interface.TypeForm.{TypeForm}
 pub use Rattle.fb_tree.specs.declared.interface.TypeUse.{TypeUse}
 pub use Rattle.fb_tree.specs.declared.kinds.UnitKind.{UnitKind}
 pub use Rattle.fb_tree.specs.declared.network.Connection.{Connection}
 pub use Rattle.fb_tree.specs.declared.network.End.{End}
-pub use Rattle.fb_tree.specs.declared.network.Role.{Role}
 pub use Rattle.fb_tree.specs.declared.network.Role.TheVariants.{Block, Plug, Socket, Subapplication}
+pub use Rattle.fb_tree.specs.declared.network.Role.{Role}
 pub use Rattle.fb_tree.specs.declared.network.Sort.{Sort}
 pub use Rattle.fb_tree.specs.declared.reference.Member.{Member}
 pub use Rattle.fb_wiring.proofs.Network.NearestLemmas.{is_nearest}
@@ -184,3 +184,18 @@ pub use Rattle.fb_wiring.specs.Network.declared.network.InstanceKind.{InstanceKi
 pub use Rattle.fb_wiring.specs.Networks.{instance_in_role, network_of, plain_instance}
 pub use Rattle.fb_wiring.specs.Units.{AreFlatApplications, Holds, IsFlatApplication, IsUnitFlat, IsWithinLimit, NoApplication, OfSubapplication, OfSystem, ThenApplication, own_instances}
 pub use Rattle.fb_wiring.specs.declared.systems.Application.{Application}
+pub use Rattle.std.proofs.Common.{Bool, Err, IsUtf8, List, None, Ok, Option, Result, Some, [], ap, append-nil, append_assoc, ap₂, arith, cond, drop, false, if◌then◌else◌, inl, inr, length, length-append, length-drop, length-take-le, map, not, refl, subst, suc, sym, take, take-append-drop, true, true≢false, unwrap_or, zero, ℕ, ◌&&◌, ◌++◌, ◌+◌, ◌-◌, ◌<◌, ◌==◌, ◌||◌, ◌↔◌, ◌∙◌, ◌∷◌, ◌≡◌, ◌≢◌, ◌≤◌, ◌⊎◌}
+pub use Rattle.std.proofs.Math.Seq.{drop-append-add, take-append_seam}
+pub use Rattle.std.proofs.lemmas.Bool.{and_from, and_parts, cases_lt, cases_order, eqb-false, eqb-true, false_from_ne_true, false≢true, ltb-false, not-false, not-true, or_cases, or_from, or_left, or_parts, or_right}
+pub use Rattle.std.proofs.lemmas.List.Elements.{All-contains, All-from_recursion, All-map, All-weaker, Contains-append_cases, Contains-append_left, Contains-append_right, filter-append}
+pub use Rattle.std.proofs.lemmas.List.Kept.{IsStrictlySortedBy-filter}
+pub use Rattle.std.proofs.lemmas.List.{append_cancel_left, drop-append-le, drop-drop, drop-take, map-append, nil_from_length, take-append-le, take-take, take_all}
+pub use Rattle.std.proofs.lemmas.Option.{none-some, same_Some, slice_get_read, slice_get_within}
+pub use Rattle.std.specs.Cmp.Lexicographic.{bytes_decides, nat_list_cmp_total, same_text}
+pub use Rattle.std.specs.FinMap.{get, nat_cmp-IsAntisymmetric, slice_cmp-IsAntisymmetric}
+pub use Rattle.std.specs.List.Sorted.{IsStrictlySortedBy}
+pub use Rattle.std.specs.List.{AllByRecursion, Contains, cons_option, enumerate_from, filter_map, flat_map, list_all, slice_get, sum_by}
+pub use Rattle.std.specs.Option.{option_and_then, option_map_or}
+pub use Rattle.std.specs.Prelude.{All, IsOk, codes, filter, find, is_none, is_some, nat_lt, option_map, slice_index_or, slice_range}
+pub use Rattle.std.specs.Str.{IsCharBoundary, bytes_eq, continuation_len, str_to_ascii_uppercase}
+pub use native.Mathlib.Decide.{dec_lt}

@@ -1,11 +1,6 @@
 -- Connections of ports of different types, and through a subapplication, by what the list of faults has.
-use Rattle.std.proofs.Common.{◌≡◌, ◌≢◌, ℕ, Bool, true, false, not, ◌&&◌, ◌||◌, List, ◌++◌, refl, sym, ap, ◌∙◌, subst, true≢false}
-use Rattle.std.specs.Cmp.Lexicographic.{bytes_decides, same_text}
-use Rattle.std.specs.List.{Contains}
-use Rattle.std.proofs.lemmas.List.Elements.{Contains-append_right}
-use Rattle.std.proofs.lemmas.Bool.{false_from_ne_true, and_from, and_parts, or_from, or_parts}
+use Rattle.fb_laws.proofs.Common.{◌≡◌, ◌≢◌, ℕ, Bool, true, false, not, ◌&&◌, ◌||◌, List, ◌++◌, refl, sym, ap, ◌∙◌, subst, true≢false, bytes_decides, same_text, Contains, Contains-append_right, false_from_ne_true, and_from, and_parts, or_from, or_parts, not_true, Span, NetworkTree, TypeForm, TypeUse, UnitKind, Connection, Sources, class_of_type, is_free, first_ones, is_same, instances_in, DataType, PassThrough, Fault, contains_flat_map, contains_nothing, origin_in_flat_map, same_exact, same_itself, Own, Source, Destination, Target, connection_faults, is_right, target, NetworkPlace, connection_span, fault_of, is_own_port, pass_through_faults, flows_agree, joined_types, same_at_ends, targets_agree, IsNetworkOf, NamesRight, Site, DifferInType, IsSameType, of_names, of_sizes, of_arrays, HasOtherType, HasPassThrough, NothingPassesThrough, TypesAgree, data_types, adapter_types}
 use Rattle.fb_laws.proofs.RuleLemmas.{judged, not_free}
-use Rattle.fb_laws.proofs.Common.{not_true, Span, NetworkTree, TypeForm, TypeUse, UnitKind, Connection, Sources, class_of_type, is_free, first_ones, is_same, instances_in, Class, Free, DataType, PassThrough, Fault, contains_flat_map, contains_nothing, origin_in_flat_map, same_exact, same_itself, Own, Source, Destination, Target, connection_faults, is_right, target, net_faults_of, NetworkPlace, connection_span, fault_of, is_own_port, pass_through_faults, flows_agree, joined_types, same_at_ends, targets_agree, IsNetworkOf, NamesRight, Site, DifferInType, IsSameType, of_names, of_sizes, of_arrays, HasOtherType, HasPassThrough, NothingPassesThrough, TypesAgree, data_types, adapter_types}
 use Rattle.fb_tree.specs.declared.interface.TypeForm.TheVariants as forms
 use Rattle.fb_tree.specs.declared.kinds.UnitKind.TheVariants as kinds
 use Rattle.fb_netcheck.specs.declared.ends.Flow.{Flow}
@@ -87,12 +82,6 @@ module _ (sources : Sources) (unit : List ℕ) (here : Site) (n : NetworkTree) (
   own : here.own.instances ≡ first_ones (instances_in n)
   own = own_instances sources unit here n stands
 
-  found_differ : (from : NamesRight sources here c.sort Source c.source) (to : NamesRight sources here c.sort Destination c.destination) → agree ≡ false → DifferInType sources from.unit to.unit from.port.flow to.port.flow
-  found_differ from to apart = known_differ sources from.unit to.unit from.port.flow to.port.flow (sym (agreed sources here n own c from to) ∙ apart)
-
-  differ_found : (from : NamesRight sources here c.sort Source c.source) (to : NamesRight sources here c.sort Destination c.destination) → DifferInType sources from.unit to.unit from.port.flow to.port.flow → agree ≡ false
-  differ_found from to differ = agreed sources here n own c from to ∙ told_differ sources from.unit to.unit from.port.flow to.port.flow differ
-
   type_found : (f : Fault) → Contains (joined_types sources at c) f → HasOtherType sources unit f.span
   type_found f h =
       let test = in_where (both_right && not agree) (fault_of DataType c.destination) f h in
@@ -110,14 +99,14 @@ module _ (sources : Sources) (unit : List ℕ) (here : Site) (n : NetworkTree) (
         listed = listed;
         from = from;
         to = to;
-        differ = found_differ from to apart;
+        differ = known_differ sources from.unit to.unit from.port.flow to.port.flow (sym (agreed sources here n own c from to) ∙ apart);
         place = end_place c.destination;
       })
 
   type_reported : (from : NamesRight sources here c.sort Source c.source) (to : NamesRight sources here c.sort Destination c.destination) → DifferInType sources from.unit to.unit from.port.flow to.port.flow → Contains (joined_types sources at c) (fault_of DataType c.destination)
   type_reported from to differ =
       let sides = and_from (is_right Source source) (is_right Destination destination) (told_end sources here n own c.sort Source c.source from) (told_end sources here n own c.sort Destination c.destination to) in
-      where_passes (both_right && not agree) (fault_of DataType c.destination) (and_from both_right (not agree) sides (ap not (differ_found from to differ)))
+      where_passes (both_right && not agree) (fault_of DataType c.destination) (and_from both_right (not agree) sides (ap not (agreed sources here n own c from to ∙ told_differ sources from.unit to.unit from.port.flow to.port.flow differ)))
 
   abbrev own_source : Bool
   own_source = is_own_port Source source

@@ -1,9 +1,5 @@
 -- Constants that are cut out of their text.
-use Rattle.std.proofs.Common.{◌≡◌, ℕ, inl, inr, List, [], ◌∷◌, map, Option, Some, None, refl, ap, ◌∙◌}
-use Rattle.std.specs.Prelude.{option_map}
-use Rattle.std.proofs.lemmas.List.{map-append}
-use Rattle.std.proofs.lemmas.List.Elements.{All-contains}
-use Rattle.fb_laws.proofs.Common.{Form, one, both, either, option, many, as_value, Spells, SpellsOption, SpellsEach, key, cons, separated, list, name, Kind, Lexeme, number_with, number, other_literal_kinds, simple, in_brackets, constant_list, constant, NameUse, constant_part, tree_parts, constant_span, nearer, nearer_span, nearer_simple, nearer_constant, ReadsAlone, ConstantsReadAlone}
+use Rattle.fb_laws.proofs.Common.{◌≡◌, ℕ, inl, inr, List, [], ◌∷◌, map, Option, Some, None, refl, ap, ◌∙◌, option_map, map-append, All-contains, Form, one, both, either, option, many, as_value, Spells, SpellsOption, SpellsEach, key, cons, separated, list, name, Kind, Lexeme, number_with, number, other_literal_kinds, simple, in_brackets, constant_list, constant, NameUse, constant_part, tree_parts, constant_span, nearer, nearer_span, nearer_simple, nearer_constant, ReadsAlone, ConstantsReadAlone}
 use Rattle.fb_tree.specs.declared.constant.Literal.{Literal}
 use Rattle.fb_laws.proofs.Alone.{parts_read_alone}
 
@@ -33,8 +29,7 @@ module _ (bytes : ℕ) where
 
   moves_each : {A : Type 0} (x : Form A) (f : A → A) → Moves x f → (us : List Lexeme) (vs : List A) → SpellsEach (Spells x) us vs → SpellsEach (Spells x) (map (nearer bytes) us) (map f vs)
   moves_each x f h us [] s = ap (map (nearer bytes)) s
-  moves_each x f h us (v ∷ vs) s =
-      (map (nearer bytes) s.0, map (nearer bytes) s.1, ap (map (nearer bytes)) s.2 ∙ map-append (nearer bytes) s.0 s.1, h.moves s.0 v s.3, moves_each x f h s.1 vs s.4)
+  moves_each x f h us (v ∷ vs) s = (map (nearer bytes) s.0, map (nearer bytes) s.1, ap (map (nearer bytes)) s.2 ∙ map-append (nearer bytes) s.0 s.1, h.moves s.0 v s.3, moves_each x f h s.1 vs s.4)
 
   moves_many : {A : Type 0} (x : Form A) (f : A → A) → Moves x f → Moves (many x) (map f)
   moves_many x f h = record { moves = moves_each x f h }

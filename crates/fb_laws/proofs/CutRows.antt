@@ -1,11 +1,6 @@
 -- The cut links are those between blocks with different homes.
-use Rattle.std.proofs.Common.{ℕ, ◌≡◌, ◌≢◌, Bool, true, false, not, List, Option, refl, sym, ◌∙◌, ap, subst}
+use Rattle.fb_laws.proofs.Common.{ℕ, ◌≡◌, ◌≢◌, true, false, not, List, Option, sym, ◌∙◌, ap, subst, IsStrictlySortedBy, bytes_eq, false≢true, false_from_ne_true, IsStrictlySortedBy-filter, contains_filter, passes_in_filter, Sources, link_cmp, Link, PlainFlat, home_at, is_cut, same_home, PlainResource, IsPlanned, CutsJoinResources, JoinsResources}
 use Rattle.std.specs.Prelude.{Contains}
-use Rattle.std.specs.List.Sorted.{IsStrictlySortedBy}
-use Rattle.std.specs.Str.{bytes_eq}
-use Rattle.std.proofs.lemmas.Bool.{false≢true, false_from_ne_true}
-use Rattle.std.proofs.lemmas.List.Kept.{IsStrictlySortedBy-filter}
-use Rattle.fb_laws.proofs.Common.{contains_filter, passes_in_filter, Sources, link_cmp, Link, PlainFlat, home_at, is_cut, same_home, PlainResource, IsPlanned, CutsJoinResources, JoinsResources}
 use Rattle.fb_laws.proofs.HomeLemmas.{bytes_same, same_bytes, some_home}
 use Rattle.fb_laws.proofs.PlannedLemmas.{Known, home_there, homes_in, known, links_sorted, mapped, stands}
 use Rattle.fb_laws.proofs.PlanEnds.{net_fronts}

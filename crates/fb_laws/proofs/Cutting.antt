@@ -1,10 +1,6 @@
 -- The tokens of a part of a text that begins and ends where tokens do.
-use Rattle.std.proofs.Common.{◌≡◌, ◌≢◌, ℕ, zero, suc, ◌+◌, ◌-◌, ◌<◌, ◌≤◌, List, [], ◌∷◌, ◌++◌, length, take, drop, map, codes, refl, sym, ap, ap₂, ◌∙◌, subst, arith, append_assoc, length-append, length-drop, length-take-le, take-append-drop, Some, None, Result, Ok, Err}
-use Rattle.std.specs.Prelude.{slice_range}
-use Rattle.std.proofs.Math.Seq.{drop-append-add}
-use Rattle.std.specs.Str.{continuation_len}
-use Rattle.std.proofs.lemmas.List.{drop-append-le, drop-drop, nil_from_length, take-append-le}
-use Rattle.fb_laws.proofs.Common.{is_blank, first, is_word_start, form_of, is_number, is_typed, is_string, is_symbol, is_word, IsLongest, char_len, tokens_of, with_token, Span, Token, TokenKind, Other}
+use Rattle.fb_laws.proofs.Common.{◌≡◌, ◌≢◌, ℕ, zero, suc, ◌+◌, ◌-◌, ◌<◌, ◌≤◌, List, [], ◌∷◌, ◌++◌, length, take, drop, map, refl, sym, ap, ap₂, ◌∙◌, subst, arith, append_assoc, length-append, length-drop, length-take-le, take-append-drop, Some, None, Result, Ok, Err, slice_range, drop-append-add, continuation_len, drop-append-le, drop-drop, nil_from_length, take-append-le, is_blank, first, is_word_start, form_of, is_number, is_typed, is_string, is_symbol, is_word, IsLongest, char_len, tokens_of, with_token, Span, Token, TokenKind, Other}
+use Rattle.std.proofs.Common.{codes}
 use Rattle.fb_text.specs.Reads.{AtBlank, AtComment, AtEnd, AtLineComment, AtOpenComment, AtOther, AtToken, BeginsToken, EndsLine, HasNoForm, IsFirstClose, Reads, token_of}
 use Rattle.fb_text.proofs.Relation.{reads-one, reads-tokens}
 
@@ -189,9 +185,6 @@ cut_gap us rest n p d q text xs ys reading t ts behind is e rise c =
       },
     )
 
-char_len_same : (text xs ys : List ℕ) → text ≡ xs ++ ys → 0 < length xs → char_len text ≡ char_len xs
-char_len_same text xs ys e some = ap (λ (b : ℕ). continuation_len b + 1) (ap first e ∙ first_same xs ys some)
-
 pub cut : {q : ℕ} {text : List ℕ} {reading : Result (List Token) Span} → Reads q text reading → (p d : ℕ) (xs ys : List ℕ) (inside behind : List Token) → Cut p d q text reading xs ys inside behind → Alone p d xs inside
 cut {q} (AtEnd e r) p d xs ys [] behind c = cut_none p q xs c.last
 cut (AtEnd e r) p d xs ys (t ∷ ts) behind c = absurd (nothing_read t (ts ++ behind) (sym r ∙ c.tokens))
@@ -225,7 +218,7 @@ cut {q} {text} {reading} (AtOther following begins none more r) p d xs ys (t ∷
     let n = char_len text in
     let next = cut_token Other n p d q text xs ys following t ts behind (omega arith) (rising (AtOther following begins none more r) ((t ∷ ts) ++ behind) c.tokens) (by_reading r c) in
     let some : 0 < length xs = omega (arith, next.0) in
-    let same = char_len_same text xs ys c.parts some in
+    let same = ap (λ (b : ℕ). continuation_len b + 1) (ap first c.parts ∙ first_same xs ys some) in
     AtOther (Ok (map (nearer_token d) ts)) (begins_token xs ys some (subst BeginsToken c.parts begins)) (no_form_in xs ys (subst HasNoForm c.parts none))
     (subst (λ (k : ℕ). Reads (p + k) (drop k xs) (Ok (map (nearer_token d) ts))) same (cut more (p + n) d (drop n xs) ys ts behind next.1))
     (ap (λ (u : Token). Ok (u ∷ map (nearer_token d) ts)) (next.2 ∙ ap (token_of Other p) same))
@@ -246,18 +239,10 @@ reached_gap us rest n q text t others is e h = record {
 }
 
 reached_token : (n q : ℕ) (text : List ℕ) (t : Token) (others : List Token) → Reached (q + n) (drop n text) t others → Reached q text t others
-reached_token n q text t others h = record {
-  len = n + h.len;
-  place = omega (arith, h.place);
-  reads = subst (λ (z : List ℕ). Reads t.span.start z (Ok (t ∷ others))) (drop-drop h.len n text) h.reads;
-}
+reached_token n q text t others h = record { len = n + h.len; place = omega (arith, h.place); reads = subst (λ (z : List ℕ). Reads t.span.start z (Ok (t ∷ others))) (drop-drop h.len n text) h.reads }
 
 reached_here : {q : ℕ} {text : List ℕ} {reading : Result (List Token) Span} → Reads q text reading → (t : Token) (others : List Token) → q ≡ t.span.start → reading ≡ Ok (t ∷ others) → Reached q text t others
-reached_here {q} {text} {reading} h t others e r = record {
-  len = 0;
-  place = omega (arith, e);
-  reads = subst (λ (z : ℕ). Reads z text (Ok (t ∷ others))) e (subst (Reads q text) r h);
-}
+reached_here {q} {text} {reading} h t others e r = record { len = 0; place = omega (arith, e); reads = subst (λ (z : ℕ). Reads z text (Ok (t ∷ others))) e (subst (Reads q text) r h) }
 
 none_before : (before : List Token) (t : Token) (others : List Token) → ◌≡◌ {A = Result (List Token) Span} (Ok []) (Ok (before ++ t ∷ others)) → ⊥
 none_before [] t others e = cc

@@ -1,7 +1,5 @@
 -- The data inputs and outputs of a type.
-use Rattle.std.proofs.Common.{◌≡◌, ◌≢◌, ◌↔◌, ℕ, ◌<◌, Bool, true, List, Some, refl, sym, ap, ◌∙◌, subst, true≢false}
-use Rattle.std.specs.List.{slice_get}
-use Rattle.fb_laws.proofs.Common.{NameUse, InterfaceTree, VariablesTree, Section, Side, TypeUse, DeclaredVariable, first_ones, stands_for, variables_in, variables_together, is_data_on, Cell, IsBefore, IsDataOn, IsFirstVariable, IsVariableIn, data_input, data_output, of_adapter, of_block, of_subapplication, AreExactly, ComeAsDeclared, DataAreDeclared, HaveOwnNames, got_in_map, map_gets}
+use Rattle.fb_laws.proofs.Common.{◌≡◌, ◌≢◌, ◌↔◌, ℕ, ◌<◌, Bool, true, List, Some, refl, sym, ap, ◌∙◌, subst, true≢false, slice_get, NameUse, InterfaceTree, VariablesTree, Section, Side, TypeUse, DeclaredVariable, first_ones, stands_for, variables_in, variables_together, is_data_on, Cell, IsBefore, IsDataOn, IsFirstVariable, IsVariableIn, data_input, data_output, of_adapter, of_block, of_subapplication, AreExactly, ComeAsDeclared, DataAreDeclared, HaveOwnNames, got_in_map, map_gets}
 use Rattle.fb_tree.specs.declared.interface.Section.TheVariants as sections
 use Rattle.fb_tree.specs.declared.interface.Side.TheVariants as sides
 use Rattle.fb_laws.specs.Declared.{StandsAt}
@@ -46,14 +44,7 @@ module _ (i : InterfaceTree) where
       let o = in_rows variables_together i.variables k x e in
       let row = o.is_at.item in
       let n = got_in_map (declared_as row) row.names o.column x o.is_at.there in
-      record {
-        place = record { row = o.row; column = o.column };
-        row = row;
-        spelled = n.0;
-        stands = record { row_there = o.is_at.row_there; name_there = n.1 };
-        is = n.2;
-        numbered = o.number;
-      }
+      record { place = record { row = o.row; column = o.column }; row = row; spelled = n.0; stands = record { row_there = o.is_at.row_there; name_there = n.1 }; is = n.2; numbered = o.number }
 
   abbrev variable_of : (name : List ℕ) (m : DeclaredVariable) (o : IsFirst (variables_in i) name m) → IsVariable o.place (name, m)
   variable_of name m o = variable_at o.place (name, m) o.there
@@ -72,12 +63,7 @@ module _ (i : InterfaceTree) where
   is_variable : (name : List ℕ) (m : DeclaredVariable) → IsFirst (variables_in i) name m → IsVariableIn i m.section name m.type_use
   is_variable name m o =
       let v = variable_of name m o in
-      record {
-        place = v.place;
-        declared = first_of name m o;
-        in_section = ap (λ (x : List ℕ × DeclaredVariable). x.1.section) v.is;
-        typed = ap (λ (x : List ℕ × DeclaredVariable). x.1.type_use) v.is;
-      }
+      record { place = v.place; declared = first_of name m o; in_section = ap (λ (x : List ℕ × DeclaredVariable). x.1.section) v.is; typed = ap (λ (x : List ℕ × DeclaredVariable). x.1.type_use) v.is }
 
   none_before : (name : List ℕ) (place : Cell) → IsFirstVariable i name place → NoneBefore (variables_in i) (number place) name
   none_before name place v k y less at same =
@@ -90,11 +76,7 @@ module _ (i : InterfaceTree) where
   variable_is name m h =
       let v = h.declared in
       let means : meaning_of v.row ≡ m = λ j. record { section = h.in_section j; type_use = h.typed j } in
-      record {
-        place = number h.place;
-        there = listed h.place v.row v.spelled v.there ∙ (λ j. Some (v.named j, means j));
-        first = none_before name h.place v;
-      }
+      record { place = number h.place; there = listed h.place v.row v.spelled v.there ∙ (λ j. Some (v.named j, means j)); first = none_before name h.place v }
 
   pub variables_stand : (name : List ℕ) (m : DeclaredVariable) → stands_for (first_ones (variables_in i)) name ≡ Some m ↔ IsVariableIn i m.section name m.type_use
   variables_stand name m = (λ e. is_variable name m (stands_first (variables_in i) name m e), λ h. first_stands (variables_in i) name m (variable_is name m h))

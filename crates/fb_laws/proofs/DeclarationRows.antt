@@ -1,9 +1,6 @@
 -- Each code of declarations, by what its list of faults has.
-use Rattle.std.proofs.Common.{◌≡◌, ◌≢◌, ℕ, ◌+◌, Bool, true, false, not, ◌&&◌, List, [], ◌∷◌, take, Option, Some, None, refl, sym, ap, ◌∙◌, subst, true≢false, arith}
-use Rattle.std.specs.List.{Contains, enumerate_from, filter, slice_get}
-use Rattle.std.specs.Option.{option_map_or}
-use Rattle.std.proofs.lemmas.Bool.{false_from_ne_true}
-use Rattle.fb_laws.proofs.Common.{not_true, Span, NameUse, unit_kind_of, ConstantTree, DeclTree, InstanceTree, TypeTree, VariablesTree, block_type, adapter_type, subapplication_type, system_configuration, structure_type, one_value, value_list, value_span, Side, TypeForm, TypeUse, UnitKind, Role, Carries, carried_of, Sources, tree_at, type_in, Code, Duplicate, Literal, MixedKind, NameDiffers, StructRecursive, UnknownType, WithUnknown, WrongKind, Fault, DeclaredVariable, class_of_name, class_of_simple, class_of_type, is_free, takes, declaration_faults, declared_name, duplicate_faults, iface_faults_of, literal_faults_of, mixed_faults, name_faults, space_duplicates, variables_of, with_faults_of, fault_at, constant_faults, fits_alone, initial_faults, list_faults, literal_fault, has_name, is_same, stands_for, variables_in, DuplicatesAreReported, HasDuplicate, HasMixedKind, HasOtherName, HasSelfCarrying, HasUnknownType, HasUnknownWith, HasWrongKind, IsDeclaredAt, IsMisfit, MisfitsAreReported, MixedKindsAreReported, OtherNamesAreReported, RecursiveStructuresAreReported, UnknownTypesAreReported, Suits, UnknownWithsAreReported, WrongKindsAreReported, no_array, no_list, AreDeclaredIn, IsType, fields_of_structure, of_adapter, of_block, of_subapplication, variables_of_type, goes_with, spaces_of, instance_faults, instances_of, suits, type_fault, type_faults, contains_filter, contains_flat_map, contains_here, contains_map, contains_nothing, contains_single, origin_in_flat_map, origin_in_map, in_unless, in_written, passes_in_filter, unless, written, IsEarlier, earlier_name, in_places, same_exact, same_itself, carried_is_all, Contains-has, has-Contains}
+use Rattle.fb_laws.proofs.Common.{◌≡◌, ◌≢◌, ℕ, ◌+◌, Bool, true, false, not, ◌&&◌, List, [], ◌∷◌, take, Option, Some, None, refl, sym, ap, ◌∙◌, subst, true≢false, arith, Contains, enumerate_from, slice_get, option_map_or, false_from_ne_true, not_true, Span, NameUse, unit_kind_of, ConstantTree, DeclTree, InstanceTree, TypeTree, VariablesTree, block_type, adapter_type, subapplication_type, system_configuration, structure_type, one_value, value_list, value_span, Side, TypeForm, TypeUse, UnitKind, Role, Carries, carried_of, Sources, tree_at, type_in, Code, Duplicate, Literal, MixedKind, NameDiffers, StructRecursive, UnknownType, WithUnknown, WrongKind, Fault, DeclaredVariable, class_of_name, class_of_simple, class_of_type, is_free, takes, declaration_faults, declared_name, duplicate_faults, iface_faults_of, literal_faults_of, mixed_faults, name_faults, space_duplicates, variables_of, with_faults_of, fault_at, constant_faults, fits_alone, initial_faults, list_faults, literal_fault, has_name, is_same, stands_for, variables_in, DuplicatesAreReported, HasDuplicate, HasMixedKind, HasOtherName, HasSelfCarrying, HasUnknownType, HasUnknownWith, HasWrongKind, IsDeclaredAt, IsMisfit, MisfitsAreReported, MixedKindsAreReported, OtherNamesAreReported, RecursiveStructuresAreReported, UnknownTypesAreReported, Suits, UnknownWithsAreReported, WrongKindsAreReported, no_array, no_list, AreDeclaredIn, IsType, fields_of_structure, of_adapter, of_block, of_subapplication, variables_of_type, goes_with, spaces_of, instance_faults, instances_of, suits, type_fault, type_faults, contains_filter, contains_flat_map, contains_here, contains_map, contains_nothing, contains_single, origin_in_flat_map, origin_in_map, in_unless, in_written, passes_in_filter, unless, written, IsEarlier, earlier_name, in_places, same_exact, same_itself, carried_is_all, Contains-has, has-Contains}
+use Rattle.std.specs.List.{filter}
 use Rattle.fb_tree.specs.declared.constant.Simple.{Simple}
 use Rattle.fb_tree.specs.declared.interface.TypeForm.TheVariants as forms
 use Rattle.fb_tree.specs.declared.kinds.UnitKind.TheVariants as kinds
@@ -138,8 +135,7 @@ carried_by_itself sources unit e =
     subst (λ (u : List ℕ). Carries sources u unit) (sym (contains_single unit some.0 some.1)) some.2
 
 is_found_there : (sources : Sources) (unit : List ℕ) → Carries sources unit unit → carries_itself sources unit ≡ true
-is_found_there sources unit r =
-    has-Contains unit (carried_of sources (unit ∷ [])) (((carried_is_all sources (unit ∷ [])).1 unit).1 (unit, contains_here unit [], r))
+is_found_there sources unit r = has-Contains unit (carried_of sources (unit ∷ [])) (((carried_is_all sources (unit ∷ [])).1 unit).1 (unit, contains_here unit [], r))
 
 -- the faults of a declaration, list by list
 
@@ -188,8 +184,7 @@ module _ (sources : Sources) (unit : List ℕ) where
     type_found f c = let i = origin_in_flat_map (instance_faults sources) (instances_of decl) f c in by i.origin i.among (tree_at sources i.origin.type_name.name) refl i.has
       where
         by : (i : InstanceTree) → Contains (instances_of decl) i → (type : Option DeclTree) → tree_at sources i.type_name.name ≡ type → Contains (type_fault i.role i.type_name type) f → Finds f
-        by i among None e h =
-            subst Finds (contains_single (fault_at UnknownType i.type_name) f h) (record { decl = decl; declared = declared; instance = i; among = among; unknown = e; place = refl })
+        by i among None e h = subst Finds (contains_single (fault_at UnknownType i.type_name) f h) (record { decl = decl; declared = declared; instance = i; among = among; unknown = e; place = refl })
         by i among (Some type) e h =
             let fails = in_unless (suits i.role (unit_kind_of type)) (fault_at WrongKind i.type_name) f h in
             subst Finds fails.1 (record { decl = decl; declared = declared; instance = i; among = among; type = type; known = e; unsuited = not_suited i.role (unit_kind_of type) fails.0; place = refl })

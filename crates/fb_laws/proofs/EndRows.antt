@@ -1,9 +1,5 @@
 -- Ends that name no port, or one of the wrong side, by what the list of faults has.
-use Rattle.std.proofs.Common.{◌≡◌, ℕ, List, [], ◌++◌, refl, sym, ◌∙◌, subst, true≢false}
-use Rattle.std.specs.List.{Contains}
-use Rattle.std.proofs.lemmas.List.Elements.{Contains-append_left, Contains-append_right}
-use Rattle.std.proofs.lemmas.Bool.{false_from_ne_true}
-use Rattle.fb_laws.proofs.Common.{Span, NetworkTree, Connection, End, Sources, first_ones, instances_in, same_side, Code, PortSide, PortUnknown, Fault, contains_flat_map, contains_here, contains_nothing, contains_single, in_unless, origin_in_flat_map, unless, Position, Source, Destination, Target, Unknown, NotJudged, Found, connection_faults, right_side, target, net_faults_of, NetworkPlace, end_faults, fault_of, IsEndOf, IsNetworkOf, Site, place_of, source, destination, HasUnknownPort, HasWrongSide, PortsAreKnown, PortsAreOfRightSides}
+use Rattle.fb_laws.proofs.Common.{◌≡◌, ℕ, List, [], ◌++◌, refl, sym, ◌∙◌, subst, true≢false, Contains, Contains-append_left, Contains-append_right, false_from_ne_true, Span, NetworkTree, Connection, End, Sources, first_ones, instances_in, same_side, Code, PortSide, PortUnknown, Fault, contains_flat_map, contains_here, contains_nothing, contains_single, in_unless, origin_in_flat_map, unless, Position, Source, Destination, Target, Unknown, NotJudged, Found, connection_faults, right_side, target, net_faults_of, NetworkPlace, end_faults, fault_of, IsEndOf, IsNetworkOf, Site, place_of, source, destination, HasUnknownPort, HasWrongSide, PortsAreKnown, PortsAreOfRightSides}
 use Rattle.fb_laws.proofs.NetworkEnds.{known_names, known_right, known_unknown, told_names, told_right, unknown_judged, unknown_names}
 use Rattle.fb_laws.proofs.Joined.{iff, of_either}
 use Rattle.fb_laws.proofs.NetworkLemmas.{at_both, at_destination, at_source, end_place, network_origin, own_instances, part, place_at, reported}

@@ -1,11 +1,6 @@
 -- The homes of blocks are resources of the system.
-use Rattle.std.proofs.Common.{ℕ, ◌≡◌, Bool, true, false, cond, List, [], ◌∷◌, ◌++◌, Option, Some, None, inl, refl, sym, ◌∙◌, ap, subst, map}
-use Rattle.std.specs.Prelude.{Contains, find, option_map}
-use Rattle.std.specs.Option.{option_map_or}
-use Rattle.std.specs.List.{flat_map}
-use Rattle.std.specs.Str.{bytes_eq}
-use Rattle.std.proofs.lemmas.List.Elements.{Contains-append_left, Contains-append_right}
-use Rattle.fb_laws.proofs.Common.{NameUse, contains_flat_map, contains_here, contains_map, contains_nothing, origin_in_map, passes_in_find, named_among, same_exact, those_reported, DeclTree, DeviceTree, MappingTree, ResourceTree, SystemTree, system_configuration, itself, Sources, tree_at, has_name, is_same, stands_for, NoSuchResource, Fault, faults_of, declared_mapping_faults, has_resource, home_faults, home_span, mapping_faults_of, resource_faults, resources_in, second_mappings, dotted, PlainFlat, Link, HasFlat, IsNearest, nearest, mapping_home, mapping_path, applications_in, devices_in, mappings_in, orders_of, PlainResource, device_resources, resource_plan, resources_of, IsPlanned, HomesHaveCommands}
+use Rattle.fb_laws.proofs.Common.{ℕ, ◌≡◌, Bool, true, false, cond, List, [], ◌∷◌, ◌++◌, Option, Some, None, inl, refl, sym, ◌∙◌, ap, subst, map, find, option_map, option_map_or, flat_map, bytes_eq, Contains-append_left, Contains-append_right, NameUse, contains_flat_map, contains_here, contains_map, contains_nothing, origin_in_map, passes_in_find, named_among, same_exact, those_reported, DeclTree, DeviceTree, MappingTree, ResourceTree, SystemTree, system_configuration, itself, Sources, tree_at, has_name, is_same, stands_for, NoSuchResource, Fault, faults_of, declared_mapping_faults, has_resource, home_faults, home_span, mapping_faults_of, resource_faults, resources_in, second_mappings, dotted, PlainFlat, Link, HasFlat, IsNearest, nearest, mapping_home, mapping_path, applications_in, devices_in, mappings_in, orders_of, PlainResource, device_resources, resource_plan, resources_of, IsPlanned, HomesHaveCommands}
+use Rattle.std.specs.Prelude.{Contains}
 use Rattle.fb_laws.proofs.HomeLemmas.{of_nearest}
 use Rattle.fb_laws.proofs.PlannedLemmas.{homes_in, known, mapped, names_in}
 
@@ -79,8 +74,4 @@ pub homes_have : HomesHaveCommands
 homes_have sources system flat cuts resources p block c =
     let own = (known sources system flat cuts resources p).homes block c in
     let entry = entry_named sources system flat cuts resources p own.on_resource (home_named sources system flat p.is_flat block.path own.on_resource own.home) in
-    record {
-      entry = entry.0;
-      listed = entry.1;
-      home = of_nearest (mapped sources system) block.path entry.0.name (own.home ∙ ap (λ (r : List ℕ). Some r) (sym entry.2));
-    }
+    record { entry = entry.0; listed = entry.1; home = of_nearest (mapped sources system) block.path entry.0.name (own.home ∙ ap (λ (r : List ℕ). Some r) (sym entry.2)) }

@@ -1,8 +1,5 @@
 -- What an expression demands, by what occurs in it.
-use Rattle.std.proofs.Common.{◌≡◌, List, [], ◌∷◌, ◌++◌, ◌⊎◌, inl, inr, refl, sym, subst, append-nil, append_assoc}
-use Rattle.std.specs.List.{Contains}
-use Rattle.std.proofs.lemmas.List.Elements.{Contains-append_cases, Contains-append_left, Contains-append_right}
-use Rattle.fb_laws.proofs.Common.{ReferenceTree, Expression, literal_expression, reference_expression, unary_expression, row_expression, parentheses, Expressions, no_expressions, expression_then, Operands, no_operands, operand_then, BinaryUse, UnaryUse, Member, Class as ValueClass, contains_cases, contains_here, contains_later, contains_nothing, contains_single, pair_class, Demand, names_variable, names_field, suits_operand, suits_operands, suits_place, field_demands, reference_demands, demands_in, row_demands, subscript_demands, class_in, Names, Count, IsOneOf, first_one, later_one, IsOperandOf, first_operand, later_operand, OccursIn, in_subscript, behind_operator, in_first, in_operand}
+use Rattle.fb_laws.proofs.Common.{◌≡◌, List, [], ◌∷◌, ◌++◌, ◌⊎◌, inl, inr, refl, sym, subst, append-nil, append_assoc, Contains, Contains-append_cases, Contains-append_left, Contains-append_right, ReferenceTree, Expression, literal_expression, reference_expression, unary_expression, row_expression, parentheses, Expressions, no_expressions, expression_then, Operands, no_operands, operand_then, BinaryUse, UnaryUse, Member, Class as ValueClass, contains_cases, contains_here, contains_later, contains_nothing, contains_single, pair_class, Demand, names_variable, names_field, suits_operand, suits_operands, suits_place, field_demands, reference_demands, demands_in, row_demands, subscript_demands, class_in, Names, Count, IsOneOf, first_one, later_one, IsOperandOf, first_operand, later_operand, OccursIn, in_subscript, behind_operator, in_first, in_operand}
 use Rattle.fb_laws.specs.Occurrences.{itself, in_parentheses}
 
 -- an operator of a row, the class of what stands before it, and the operand behind it
@@ -106,8 +103,7 @@ module _ (names : Names) where
     asked_in (literal_expression l) demand c = absurd (contains_nothing demand c)
     asked_in (reference_expression r subscripts) demand c =
         by_reference r subscripts demand (Contains-append_cases (reference_demands r) (subscript_demands names subscripts) demand c) (asked_of subscripts demand)
-    asked_in (unary_expression used x) demand c =
-        by_operator used x demand (Contains-append_cases (demands_in names x) (suits_operand used x ∷ []) demand c) (asked_in x demand)
+    asked_in (unary_expression used x) demand c = by_operator used x demand (Contains-append_cases (demands_in names x) (suits_operand used x ∷ []) demand c) (asked_in x demand)
     asked_in (row_expression first operands) demand c =
         by_row first operands demand (Contains-append_cases (demands_in names first) (row_demands names (class_in names first) operands) demand c) (asked_in first demand) (asked_behind (class_in names first) operands demand)
     asked_in (parentheses x span) demand c = lifted x (parentheses x span) demand (λ z o. in_parentheses o) (asked_in x demand c)

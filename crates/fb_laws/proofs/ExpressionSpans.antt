@@ -1,8 +1,6 @@
 -- The parts of expressions, at each level.
-use Rattle.std.proofs.Common.{◌≡◌, ℕ, ◌≤◌, arith, zero, suc, true, inl, inr, List, [], ◌∷◌, ◌++◌, map, Option, Some, None, refl, sym, ap, ◌∙◌, subst, append_assoc}
-use Rattle.std.specs.List.{flat_map}
+use Rattle.fb_laws.proofs.Common.{◌≡◌, ℕ, ◌≤◌, arith, zero, suc, true, inl, inr, List, [], ◌∷◌, ◌++◌, map, Option, Some, None, refl, sym, ap, ◌∙◌, subst, append_assoc, flat_map, NameUse, Span, Form, both, either, many, as_value, Spells, SpellsOption, SpellsEach, across, literal_kinds, key, name, is_among, Kind, Point, Lexeme, ReferenceTree, Expression, reference_expression, unary_expression, Expressions, expressions_of, operands_of, BinaryUse, UnaryUse, signs, strengths, unary_use, binary_use, levels, expression, expressions, subscripts, PartTree, part_of, flat_part, deep_part, further_part, parts, member_in, last_end, subscripts_in, reference_in, flat_reference, deep_reference, reference_value, literal, in_parentheses, parenthesized, flat_primary, deep_primary, with_sign, unary, row_of, operand, row, rows, reference, Part, name_part, expression_part, sign_part, operator_part, name_parts, option_parts, reference_parts, expression_parts, expressions_parts, operands_parts, expression_span, span_through, SpellsPart, EndsAt, IsWritten, sign, operator}
 use Rattle.std.proofs.lemmas.List.{append-nil}
-use Rattle.fb_laws.proofs.Common.{NameUse, Span, Form, both, either, many, as_value, Spells, SpellsOption, SpellsEach, across, literal_kinds, key, name, is_among, Kind, Point, Lexeme, ReferenceTree, Expression, reference_expression, unary_expression, Expressions, expressions_of, operands_of, BinaryUse, UnaryUse, signs, strengths, unary_use, binary_use, levels, expression, expressions, subscripts, PartTree, part_of, flat_part, deep_part, further_part, parts, member_in, last_end, subscripts_in, reference_in, flat_reference, deep_reference, reference_value, literal, in_parentheses, parenthesized, flat_primary, deep_primary, with_sign, unary, row_of, operand, row, rows, reference, Part, name_part, expression_part, sign_part, operator_part, name_parts, option_parts, reference_parts, expression_parts, expressions_parts, operands_parts, expression_span, span_through, SpellsPart, EndsAt, IsWritten, sign, operator}
 use Rattle.fb_laws.proofs.Tokens.{Fills, begins_more, ends_more, written_whole, Each, each_append, each_front, each_rest, each_left, each_right}
 use Rattle.fb_laws.proofs.Filling.{Filled, filled_as, filled_either, filled_token, filled_name, Ends, ends_filled, ends_second, ends_behind, filled_across, filled_more, filled_from}
 use Rattle.fb_laws.proofs.Sound.{Sound, sound_nothing, sound_both, sound_first, sound_second, sound_as, sound_either, sound_option, sound_many, sound_behind, sound_separated, sound_own, sound_same, sound_name, each_items, among_more, among_right}
@@ -54,8 +52,7 @@ module _ (part : Form PartTree) (filled : Filled part place_of) where
   -- from where a part begins through the last of those behind it
   fills_parts : (front rest : List Lexeme) (start end : ℕ) (ps : List PartTree) → Fills front (record { start = start; end = end }) → SpellsEach (Spells (further_part part)) rest ps
       → Fills (front ++ rest) (record { start = start; end = last_end end ps })
-  fills_parts front rest start end [] h none =
-      subst (λ (z : List Lexeme). Fills z (record { start = start; end = end })) (sym (ap (λ z. front ++ z) none ∙ append-nil front)) h
+  fills_parts front rest start end [] h none = subst (λ (z : List Lexeme). Fills z (record { start = start; end = end })) (sym (ap (λ z. front ++ z) none ∙ append-nil front)) h
   fills_parts front rest start end (p ∷ ps) h each =
       let first = each.0 in
       let others = each.1 in
@@ -149,16 +146,10 @@ pub record Suits (x : Form Expression) : Type 0 where
   pub filled : Filled x expression_span
   pub sound : IsExpression x → Sound x expression_parts
 
-is_left : (x y : Form Expression) → IsExpression (either x y) → IsExpression x
-is_left x y h = record { spells = λ us e s. h.spells us e (inl s) }
-
-is_right : (x y : Form Expression) → IsExpression (either x y) → IsExpression y
-is_right x y h = record { spells = λ us e s. h.spells us e (inr s) }
-
 suits_either : (x y : Form Expression) → Suits x → Suits y → Suits (either x y)
 suits_either x y h k = record {
   filled = filled_either x y expression_span h.filled k.filled;
-  sound = λ is. sound_either x y expression_parts (h.sound (is_left x y is)) (k.sound (is_right x y is));
+  sound = λ is. sound_either x y expression_parts (h.sound (record { spells = λ us e s. is.spells us e (inl s) })) (k.sound (record { spells = λ us e s. is.spells us e (inr s) }));
 }
 
 -- Operands
@@ -178,10 +169,7 @@ sound_reference_value : (x : Form (ReferenceTree × Expressions)) → Filled x r
 sound_reference_value x filled sound is = sound_own x (λ r. expression_part (reference_value r)) subscripted_parts (λ us r s. is.spells us (reference_value r) (r, s, refl)) filled sound
 
 suits_reference : (x : Form (ReferenceTree × Expressions)) → Filled x reference_span → Sound x subscripted_parts → Suits (as_value reference_value x)
-suits_reference x filled sound = record {
-  filled = filled_as reference_value x expression_span filled;
-  sound = λ is. sound_as reference_value x expression_parts (sound_reference_value x filled sound is);
-}
+suits_reference x filled sound = record { filled = filled_as reference_value x expression_span filled; sound = λ is. sound_as reference_value x expression_parts (sound_reference_value x filled sound is) }
 
 suits_parenthesized : (inner : Form Expression) → Sound inner expression_parts → Suits (parenthesized inner)
 unfolding parenthesized
@@ -242,9 +230,6 @@ module _ (primary : Form Expression) (suits : Suits primary) (is : IsExpression 
   unfolding unary sign
   sound_unary = sound_as _ _ expression_parts (record { stands = λ us v s. written_unary us s.0 s.1 v.0 v.1 s.2 s.3 s.4 })
 
-suits_unary : (primary : Form Expression) → Suits primary → Suits (unary primary)
-suits_unary primary h = record { filled = filled_unary primary h.filled; sound = sound_unary primary h }
-
 -- Rows
 
 module _ (kinds : List Kind) (x : Form Expression) (filled : Filled x expression_span) where
@@ -283,9 +268,6 @@ unfolding rows
 spelled_rows [] x us e s = s
 spelled_rows (kinds ∷ stronger) x us e s = spelled_row kinds (rows stronger x) us e (spelled_rows stronger x us e s)
 
-alone : (kinds : List Kind) (x : Form Expression) → IsExpression (row kinds x) → IsExpression x
-alone kinds x h = record { spells = λ us e s. h.spells us e (spelled_row kinds x us e s) }
-
 -- these are operators
 abbrev AreOperators : List Kind → Type 0
 AreOperators kinds = (k : Kind) → is_among kinds k ≡ true → is_among (flat_map (λ ks. ks) strengths) k ≡ true
@@ -308,7 +290,7 @@ module _ (kinds : List Kind) (x : Form Expression) (are : AreOperators kinds) (s
 
   sound_row_parts : Sound (both x (many (operand kinds x))) (λ v. expression_parts v.0 ++ flat_map operand_parts v.1)
   sound_row_parts =
-      let inner = suits.sound (alone kinds x is) in
+      let inner = suits.sound (record { spells = λ us e s. is.spells us e (spelled_row kinds x us e s) }) in
       sound_both x _ expression_parts (flat_map operand_parts) inner (sound_many (operand kinds x) operand_parts (sound_operand kinds x are inner))
 
   sound_row : Sound (row kinds x) expression_parts
@@ -331,7 +313,7 @@ is_expression : (n : ℕ) → n ≤ levels → IsExpression (expression n)
 is_expression n within = record { spells = λ us e s. (n, within, s) }
 
 suits_level : (primary : Form Expression) → Suits primary → Suits (rows strengths (unary primary))
-suits_level primary h = suits_rows strengths (unary primary) (λ k m. m) (suits_unary primary h)
+suits_level primary h = suits_rows strengths (unary primary) (λ k m. m) (record { filled = filled_unary primary h.filled; sound = sound_unary primary h })
 
 suits_expression : (n : ℕ) → n ≤ levels → Suits (expression n)
 unfolding expression

@@ -1,7 +1,6 @@
 -- Values that keep where the tokens stand that spell them.
-use Rattle.std.proofs.Common.{◌≡◌, inl, inr, List, [], ◌∷◌, ◌++◌, Option, Some, None, refl, sym, subst, ◌∙◌}
+use Rattle.fb_laws.proofs.Common.{◌≡◌, inl, inr, List, ◌++◌, Option, Some, None, refl, sym, subst, ◌∙◌, Span, Form, one, both, either, option, as_value, Spells, SpellsOption, across, behind, name, Kind, Lexeme, BeginsAt, EndsAt}
 use Rattle.std.proofs.lemmas.List.{append-nil}
-use Rattle.fb_laws.proofs.Common.{Span, Form, one, both, either, option, as_value, Spells, SpellsOption, across, behind, name, Kind, Lexeme, BeginsAt, EndsAt}
 use Rattle.fb_laws.proofs.Tokens.{Fills, begins_more, ends_more}
 
 -- the tokens that spell a value begin and end where it stands
@@ -14,11 +13,8 @@ filled_as {B = B} f x span h = record { fills = λ us v s. subst (λ (z : B). Fi
 pub filled_either : {A : Type 0} (x y : Form A) (span : A → Span) → Filled x span → Filled y span → Filled (either x y) span
 filled_either x y span h k = record { fills = λ us v s. elim s [ inl p ↦ h.fills us v p | inr p ↦ k.fills us v p ] }
 
-fills_token : (us : List Lexeme) (l : Lexeme) → us ≡ l ∷ [] → Fills us l.span
-fills_token us l e = subst (λ (z : List Lexeme). Fills z l.span) (sym e) (record { begins = refl; ends = refl })
-
 pub filled_token : (kinds : List Kind) → Filled (one kinds) (λ l. l.span)
-filled_token kinds = record { fills = λ us l s. fills_token us l s.0 }
+filled_token kinds = record { fills = λ us l s. (subst (λ (z : List Lexeme). Fills z l.span) (sym s.0) (record { begins = refl; ends = refl })) }
 
 pub filled_name : Filled name (λ n. n.span)
 unfolding name
@@ -32,38 +28,24 @@ pub ends_filled : {A : Type 0} (x : Form A) (span : A → Span) → Filled x spa
 ends_filled x span h = record { ends = λ us v s. (h.fills us v s).ends }
 
 pub ends_second : {A B : Type 0} (x : Form A) (y : Form B) (span : B → Span) → Ends y span → Ends (both x y) (λ v. span v.1)
-ends_second x y span h = record {
-  ends = λ us v s. subst (λ (z : List Lexeme). EndsAt z (span v.1).end) (sym s.2) (ends_more s.0 s.1 (span v.1).end (h.ends s.1 v.1 s.4));
-}
+ends_second x y span h = record { ends = λ us v s. subst (λ (z : List Lexeme). EndsAt z (span v.1).end) (sym s.2) (ends_more s.0 s.1 (span v.1).end (h.ends s.1 v.1 s.4)) }
 
 pub ends_behind : {A B : Type 0} (x : Form A) (y : Form B) (span : B → Span) → Ends y span → Ends (behind x y) span
-ends_behind {B = B} x y span h = record {
-  ends = λ us v s. subst (λ (z : B). EndsAt us (span z).end) (sym s.2) ((ends_second x y span h).ends us s.0 s.1);
-}
+ends_behind {B = B} x y span h = record { ends = λ us v s. subst (λ (z : B). EndsAt us (span z).end) (sym s.2) ((ends_second x y span h).ends us s.0 s.1) }
 
 -- x y, from where x begins to where y ends
 fills_both : (us front rest : List Lexeme) (s : Span) → us ≡ front ++ rest → BeginsAt front s.start → EndsAt rest s.end → Fills us s
-fills_both us front rest s e begins ends =
-    subst (λ (z : List Lexeme). Fills z s) (sym e) (record { begins = begins_more front rest s.start begins; ends = ends_more front rest s.end ends })
+fills_both us front rest s e begins ends = subst (λ (z : List Lexeme). Fills z s) (sym e) (record { begins = begins_more front rest s.start begins; ends = ends_more front rest s.end ends })
 
 pub filled_across : {A B : Type 0} (x : Form A) (y : Form B) (f : A → Span) (g : B → Span) → Filled x f → Ends y g → Filled (both x y) (λ v. across (f v.0) (g v.1))
-filled_across x y f g h k = record {
-  fills = λ us v s. fills_both us s.0 s.1 (across (f v.0) (g v.1)) s.2 (h.fills s.0 v.0 s.3).begins (k.ends s.1 v.1 s.4);
-}
-
-nothing_behind : (us front rest : List Lexeme) → us ≡ front ++ rest → rest ≡ [] → front ≡ us
-nothing_behind us front rest e none = sym (e ∙ subst (λ (z : List Lexeme). front ++ z ≡ front) (sym none) (append-nil front))
-
-nothing_before : (us front rest : List Lexeme) → us ≡ front ++ rest → front ≡ [] → rest ≡ us
-nothing_before us front rest e none = sym (e ∙ subst (λ (z : List Lexeme). z ++ rest ≡ rest) (sym none) refl)
+filled_across x y f g h k = record { fills = λ us v s. fills_both us s.0 s.1 (across (f v.0) (g v.1)) s.2 (h.fills s.0 v.0 s.3).begins (k.ends s.1 v.1 s.4) }
 
 -- x [y], through y where it is written
 module _ {A B : Type 0} (x : Form A) (y : Form B) (f : A → Span) (g : B → Span) (span : A × Option B → Span) (alone : (a : A) → span (a, None) ≡ f a) (more : (a : A) (b : B) → span (a, Some b) ≡ across (f a) (g b)) where
   fills_more : Filled x f → Ends y g → (us front rest : List Lexeme) (a : A) (b : Option B) → us ≡ front ++ rest → Spells x front a → SpellsOption (Spells y) rest b → Fills us (span (a, b))
   fills_more h k us front rest a None e s none =
-      subst (Fills us) (sym (alone a)) (subst (λ (z : List Lexeme). Fills z (f a)) (nothing_behind us front rest e none) (h.fills front a s))
-  fills_more h k us front rest a (Some b) e s t =
-      subst (Fills us) (sym (more a b)) (fills_both us front rest (across (f a) (g b)) e (h.fills front a s).begins (k.ends rest b t))
+      subst (Fills us) (sym (alone a)) (subst (λ (z : List Lexeme). Fills z (f a)) (sym (e ∙ subst (λ (z : List Lexeme). front ++ z ≡ front) (sym none) (append-nil front))) (h.fills front a s))
+  fills_more h k us front rest a (Some b) e s t = subst (Fills us) (sym (more a b)) (fills_both us front rest (across (f a) (g b)) e (h.fills front a s).begins (k.ends rest b t))
 
   pub filled_more : Filled x f → Ends y g → Filled (both x (option y)) span
   filled_more h k = record { fills = λ us v s. fills_more h k us s.0 s.1 v.0 v.1 s.2 s.3 s.4 }
@@ -72,9 +54,8 @@ module _ {A B : Type 0} (x : Form A) (y : Form B) (f : A → Span) (g : B → Sp
 module _ {A B : Type 0} (x : Form A) (y : Form B) (f : A → Span) (g : B → Span) (span : Option A × B → Span) (alone : (b : B) → span (None, b) ≡ g b) (more : (a : A) (b : B) → span (Some a, b) ≡ across (f a) (g b)) where
   fills_from : Filled x f → Filled y g → (us front rest : List Lexeme) (a : Option A) (b : B) → us ≡ front ++ rest → SpellsOption (Spells x) front a → Spells y rest b → Fills us (span (a, b))
   fills_from h k us front rest None b e none t =
-      subst (Fills us) (sym (alone b)) (subst (λ (z : List Lexeme). Fills z (g b)) (nothing_before us front rest e none) (k.fills rest b t))
-  fills_from h k us front rest (Some a) b e s t =
-      subst (Fills us) (sym (more a b)) (fills_both us front rest (across (f a) (g b)) e (h.fills front a s).begins (k.fills rest b t).ends)
+      subst (Fills us) (sym (alone b)) (subst (λ (z : List Lexeme). Fills z (g b)) (sym (e ∙ subst (λ (z : List Lexeme). z ++ rest ≡ rest) (sym none) refl)) (k.fills rest b t))
+  fills_from h k us front rest (Some a) b e s t = subst (Fills us) (sym (more a b)) (fills_both us front rest (across (f a) (g b)) e (h.fills front a s).begins (k.fills rest b t).ends)
 
   pub filled_from : Filled x f → Filled y g → Filled (both (option x) y) span
   filled_from h k = record { fills = λ us v s. fills_from h k us s.0 s.1 v.0 v.1 s.2 s.3 s.4 }

@@ -1,12 +1,8 @@
 -- The first declarations of their names, by places.
-use Rattle.std.proofs.Common.{◌≡◌, ◌≢◌, zero, suc, ℕ, ◌+◌, ◌<◌, Bool, true, false, cond, List, [], ◌∷◌, length, map, take, Option, Some, None, is_none, refl, sym, ap, ◌∙◌, subst, true≢false, ◌⊎◌, inl, inr, arith}
-use Rattle.std.specs.Prelude.{Contains, filter}
-use Rattle.std.specs.List.{enumerate_from, slice_get}
-use Rattle.std.proofs.lemmas.Bool.{cases_order}
-use Rattle.std.proofs.lemmas.List.{take_all}
+use Rattle.fb_laws.proofs.Common.{◌≡◌, ◌≢◌, zero, suc, ℕ, ◌+◌, ◌<◌, Bool, true, false, cond, List, [], ◌∷◌, length, map, take, Option, Some, None, refl, sym, ap, ◌∙◌, subst, true≢false, inl, inr, arith, filter, enumerate_from, slice_get, cases_order, take_all, slice_get_read, first_ones, is_same, stands_for, same_exact, same_itself, at_place, contains_filter, contains_map}
+use Rattle.std.proofs.Common.{is_none}
+use Rattle.std.specs.Prelude.{Contains}
 use Rattle.std.proofs.lemmas.Map.Entries.{place_from_lookup}
-use Rattle.std.proofs.lemmas.Option.{slice_get_read}
-use Rattle.fb_laws.proofs.Common.{first_ones, is_same, stands_for, same_exact, same_itself, at_place, contains_filter, contains_map}
 use Rattle.fb_laws.proofs.PickLemmas.{IsPicked, picked, picked_in_turn}
 
 pub at_contained : {X : Type 0} (xs : List X) (x : X) (c : Contains xs x) → slice_get xs c.0 ≡ Some x
@@ -66,11 +62,7 @@ module _ {D : Type 0} where
       (p.1 ∙ ap Some o.gives, none_before xs o.place x.0 (none_of (stands_for (take o.place xs) x.0) unknown))
 
   abbrev first_picked : (xs : List (List ℕ × D)) (name : List ℕ) (x : List ℕ × D) → x.0 ≡ name → IsPicked (λ p. p.1) (is_first xs) (enumerate_from 0 xs) x → IsFirst xs name x.1
-  first_picked xs name x e o = record {
-    place = o.place;
-    there = (first_facts xs x o).0 ∙ (λ i. Some (e i, x.1));
-    first = subst (λ (n : List ℕ). NoneBefore xs o.place n) e (first_facts xs x o).1;
-  }
+  first_picked xs name x e o = record { place = o.place; there = (first_facts xs x o).0 ∙ (λ i. Some (e i, x.1)); first = subst (λ (n : List ℕ). NoneBefore xs o.place n) e (first_facts xs x o).1 }
 
   -- the first declaration of a name is among the first ones
   among_first_ones : (xs : List (List ℕ × D)) (name : List ℕ) (m : D) → IsFirst xs name m → Contains (first_ones xs) (name, m)
@@ -128,12 +120,7 @@ module _ {D T : Type 0} (keep : D → Bool) (give : D → T) where
     pub earlier : first.origin.place < second.origin.place
 
   port_at : (xs : List (List ℕ × D)) (port : List ℕ × T) (o : IsPicked named is_kept (first_ones xs) port) (p : IsPicked (λ q. q.1) (is_first xs) (enumerate_from 0 xs) o.item) → IsPort xs port.0 port.1
-  port_at xs port o p = record {
-    meaning = o.item.1;
-    origin = first_picked xs port.0 o.item (ap (λ (q : List ℕ × T). q.0) o.gives) p;
-    kept = o.passed;
-    gives = ap (λ (q : List ℕ × T). q.1) o.gives;
-  }
+  port_at xs port o p = record { meaning = o.item.1; origin = first_picked xs port.0 o.item (ap (λ (q : List ℕ × T). q.0) o.gives) p; kept = o.passed; gives = ap (λ (q : List ℕ × T). q.1) o.gives }
 
   pub is_port : (xs : List (List ℕ × D)) (name : List ℕ) (type : T) → Contains (ports xs) (name, type) → IsPort xs name type
   is_port xs name type c =

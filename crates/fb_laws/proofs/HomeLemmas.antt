@@ -1,13 +1,7 @@
 -- The homes of blocks, and of the ends of links.
-use Rattle.std.proofs.Common.{ℕ, ◌≡◌, ◌<◌, Bool, true, false, cond, List, [], ◌∷◌, Option, Some, None, ◌⊎◌, inl, inr, refl, sym, ◌∙◌, ap, subst, take, length, arith}
-use Rattle.std.specs.Prelude.{Contains, option_map, find}
-use Rattle.std.specs.List.{cons_option}
-use Rattle.std.specs.Str.{bytes_eq}
-use Rattle.std.proofs.Math.Seq.{take-append_seam}
-use Rattle.std.proofs.lemmas.List.{take_all}
+use Rattle.fb_laws.proofs.Common.{ℕ, ◌≡◌, ◌<◌, Bool, true, false, cond, List, [], ◌∷◌, Option, Some, None, ◌⊎◌, inl, inr, refl, sym, ◌∙◌, ap, subst, take, length, arith, option_map, find, cons_option, bytes_eq, take-append_seam, take_all, dec_lt, contains_cases, contains_here, contains_later, contains_nothing, is_nearest, FlatBlock, home_at, first_at, IsFront, IsNearest, nearest, block_homes, Home, IsBlockAt}
+use Rattle.std.specs.Prelude.{Contains}
 use Rattle.std.proofs.lemmas.Slice.Eq.{bytes_eq-Decides}
-use native.Mathlib.Decide.{dec_lt}
-use Rattle.fb_laws.proofs.Common.{contains_cases, contains_here, contains_later, contains_nothing, is_nearest, FlatBlock, home_at, first_at, IsFront, IsNearest, nearest, block_homes, Home, IsBlockAt}
 
 -- ---- what is nearest is one only
 

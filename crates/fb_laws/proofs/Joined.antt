@@ -1,8 +1,5 @@
 -- Members of lists that are joined from others, and of lists with one item where a test passes.
-use Rattle.std.proofs.Common.{zero, suc, ◌≡◌, ℕ, Bool, true, false, cond, List, [], ◌∷◌, ◌++◌, Some, ◌⊎◌, ◌↔◌, inl, inr, refl, sym, subst, true≢false}
-use Rattle.std.specs.List.{Contains, slice_get}
-use Rattle.std.proofs.lemmas.List.Elements.{Contains-append_left, Contains-append_right, Contains-append_cases}
-use Rattle.fb_laws.proofs.Common.{contains_here, contains_nothing, contains_single}
+use Rattle.fb_laws.proofs.Common.{zero, suc, ◌≡◌, ℕ, Bool, true, false, cond, List, [], ◌∷◌, ◌++◌, Some, ◌↔◌, inl, inr, refl, sym, subst, true≢false, Contains, slice_get, Contains-append_left, Contains-append_right, Contains-append_cases, contains_here, contains_nothing, contains_single}
 
 -- what is so of the members of each of two lists
 pub of_either : {X : Type 0} {P : X → Type 0} (a b : List X) → ((y : X) → Contains a y → P y) → ((y : X) → Contains b y → P y) → (y : X) → Contains (a ++ b) y → P y

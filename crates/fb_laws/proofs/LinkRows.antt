@@ -1,9 +1,6 @@
 -- Each link is a cut, or within a resource.
-use Rattle.std.proofs.Common.{ℕ, ◌≡◌, Bool, true, false, not, List, Option, Some, ◌⊎◌, inl, inr, refl, sym, ◌∙◌, ap, subst}
+use Rattle.fb_laws.proofs.Common.{ℕ, ◌≡◌, Bool, true, false, not, List, Option, Some, ◌⊎◌, inl, inr, refl, sym, ◌∙◌, ap, subst, bytes_eq, false≢true, contains_filter, passes_in_filter, Sources, Link, PlainFlat, home_at, is_cut, same_home, nearest, PlainResource, IsPlanned, StandsOn, IsMade, LinksAreCutOrMade}
 use Rattle.std.specs.Prelude.{Contains}
-use Rattle.std.specs.Str.{bytes_eq}
-use Rattle.std.proofs.lemmas.Bool.{false≢true}
-use Rattle.fb_laws.proofs.Common.{contains_filter, passes_in_filter, Sources, Link, PlainFlat, home_at, is_cut, same_home, nearest, PlainResource, IsPlanned, StandsOn, IsMade, LinksAreCutOrMade}
 use Rattle.fb_laws.proofs.HomeLemmas.{bytes_same, nearest_of, same_bytes, some_home}
 use Rattle.fb_laws.proofs.PlannedLemmas.{Known, home_there, homes_in, known, mapped, stands}
 use Rattle.fb_laws.proofs.PlanEnds.{net_fronts}
@@ -52,7 +49,4 @@ module _ (sources : Sources) (system : List ℕ) (flat : PlainFlat) (cuts : List
       false≢true (sym ((λ i. not (same_home (from i) (to i))) ∙ ap not (bytes_same m.entry.name m.entry.name refl)) ∙ kept.passes)
 
 pub cut_or_made : LinksAreCutOrMade
-cut_or_made sources system flat cuts resources p link c = record {
-  either = cut_or sources system flat cuts resources p link c;
-  not_both = no_cut sources system flat cuts resources p link;
-}
+cut_or_made sources system flat cuts resources p link c = record { either = cut_or sources system flat cuts resources p link c; not_both = no_cut sources system flat cuts resources p link }

@@ -1,10 +1,6 @@
 -- What a unit is made of is what it rests on, and what blocks its net is reported there.
-use Rattle.std.proofs.Common.{◌≡◌, ◌≢◌, ℕ, false, List, [], ◌∷◌, filter, Option, Some, None, ◌⊎◌, inl, inr, refl, sym, ap, ◌∙◌, subst}
-use Rattle.std.specs.FinMap.{get}
-use Rattle.std.specs.List.{Contains}
-use Rattle.std.specs.Option.{option_and_then}
-use Rattle.std.proofs.lemmas.List.Elements.{Contains-append_cases}
-use Rattle.fb_laws.proofs.Common.{is_elementary, contains_flat_map, contains_here, contains_map, contains_nothing, origin_in_flat_map, origin_in_map, passes_in_filter, instance_types, types_in, value_types, variable_types, ApplicationTree, DeclTree, InstanceTree, TypeTree, VariablesTree, adapter_type, block_type, structure_type, subapplication_type, system_configuration, Rests, itself, Sources, mentions_at, parts_at, parts_in, tree_at, tree_of, values_at, values_in, variables_of, instances_of, UnknownType, Fault, faults_of, IsNet, IsWhole, PlainNet, blocked, flat_net, recursive, too_large, part_mention, rests_more, value_mention, in_order_has, net_at_is, no_names_sorted, HasUnknownType, IsDeclaredAt, AreDeclaredIn, IsHeldIn, IsType, instance_of_application, instance_of_type, of_adapter, of_block, of_subapplication, Declarations}
+use Rattle.fb_laws.proofs.Common.{◌≡◌, ◌≢◌, ℕ, false, List, [], ◌∷◌, Option, Some, None, inl, inr, refl, sym, ap, ◌∙◌, subst, get, Contains, option_and_then, Contains-append_cases, is_elementary, contains_flat_map, contains_here, contains_map, contains_nothing, origin_in_flat_map, origin_in_map, passes_in_filter, instance_types, types_in, value_types, variable_types, ApplicationTree, DeclTree, InstanceTree, TypeTree, VariablesTree, adapter_type, block_type, structure_type, subapplication_type, system_configuration, Rests, itself, Sources, mentions_at, parts_at, parts_in, tree_at, tree_of, values_at, values_in, variables_of, instances_of, UnknownType, Fault, faults_of, IsNet, IsWhole, PlainNet, blocked, flat_net, recursive, too_large, part_mention, rests_more, value_mention, in_order_has, net_at_is, no_names_sorted, HasUnknownType, IsDeclaredAt, AreDeclaredIn, IsHeldIn, IsType, instance_of_application, instance_of_type, of_adapter, of_block, of_subapplication, Declarations}
+use Rattle.std.proofs.Common.{filter}
 use Rattle.fb_deploy.specs.Library.Rests.{through}
 use Rattle.fb_deploy.specs.Flatten.Blocking.{AreThose, IsBlocking}
 use Rattle.fb_deploy.proofs.Library.Opening.{from_names}
@@ -56,8 +52,7 @@ of_type_held decl type i (of_subapplication d) c = c
 
 held_listed : (decl : DeclTree) (i : InstanceTree) → IsHeldIn decl i → Contains (instances_of decl) i
 held_listed decl i (instance_of_type {type = type} is c) = of_type_held decl type i is c
-held_listed decl i (instance_of_application {s = s} {application = a} among c) =
-    contains_flat_map (λ (b : ApplicationTree). b.network.instances) s.applications a i among c
+held_listed decl i (instance_of_application {s = s} {application = a} among c) = contains_flat_map (λ (b : ApplicationTree). b.network.instances) s.applications a i among c
 
 -- variables or fields of this type
 record HasVariables (decl : DeclTree) (name : List ℕ) : Type 0 where
@@ -148,8 +143,7 @@ module _ (sources : Sources) (unit : List ℕ) where
 
   made_rests : {name : List ℕ} → IsMadeOf sources unit name → Rests sources unit name
   made_rests own_unit = itself
-  made_rests (type_of_part {holder = holder} decl i made is held) =
-      rests_more (made_rests made) (part_mention sources holder i.type_name.name (part_held sources holder decl i is held))
+  made_rests (type_of_part {holder = holder} decl i made is held) = rests_more (made_rests made) (part_mention sources holder i.type_name.name (part_held sources holder decl i is held))
   made_rests (type_of_value {holder = holder} decl v made is declared plain) =
       let type = v.type_use.name.name in
       rests_more (made_rests made) (value_mention sources holder type (value_of sources holder decl is type (type_among decl v declared) plain))
@@ -194,11 +188,7 @@ module _ (sources : Sources) (unit : List ℕ) where
       (elim (faults_of sources name) as (λ found. faults_of sources name ≡ found → faults_of sources name ≡ []) [ [] ↦ λ is. is | f ∷ fs ↦ λ is. let faulty : faults_of sources name ≢ [] = λ none. contains_nothing f (subst (λ (l : List Fault). Contains l f) (sym is ∙ none) (contains_here f fs)) in absurd (contains_nothing name ((whole.members name).1 (made_rests made, inl faulty))) ]) refl
 
   whole_of_none : HasNoFaultsBelow sources unit → IsWhole sources unit
-  whole_of_none none =
-      record {
-        sorted = no_names_sorted;
-        members = λ v. (λ c. absurd (contains_nothing v c), λ b. let found = way_faulty (in_the_way v b.0 b.1) in absurd (found.faulty (none found.name found.below)));
-      }
+  whole_of_none none = record { sorted = no_names_sorted; members = λ v. (λ c. absurd (contains_nothing v c), λ b. let found = way_faulty (in_the_way v b.0 b.1) in absurd (found.faulty (none found.name found.below))) }
 
 -- ---- laws
 

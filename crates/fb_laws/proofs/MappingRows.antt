@@ -1,9 +1,5 @@
 -- Each code of mappings, by what its list of faults has.
-use Rattle.std.proofs.Common.{◌≡◌, ℕ, true, List, ◌∷◌, ◌++◌, map, sym, ap, ◌∙◌, subst, Bool, false, Option, Some, None, ◌⊎◌, inl, inr, refl, true≢false, ◌≢◌, cond, [], length, ◌-◌, arith}
-use Rattle.std.proofs.lemmas.List.Elements.{Contains-append_left, Contains-append_right}
-use Rattle.std.specs.List.{Contains, flat_map, slice_get}
-use Rattle.std.specs.Option.{option_map_or}
-use Rattle.fb_laws.proofs.Common.{NameUse, Span, DeclTree, DeviceTree, MappingTree, ResourceTree, SystemTree, system_configuration, declared_mapping_faults, has_resource, home_faults, home_span, mapping_faults_of, resource_faults, resources_in, second_mappings, system_mapping_faults, has_name, is_same, stands_for, Code, MappedTwice, NoSuchResource, Fault, Sources, tree_at, PathUse, path_of_names, contains_cases, contains_flat_map, contains_here, contains_later, contains_map, contains_nothing, contains_single, origin_in_flat_map, origin_in_map, none_named, not_named, same_exact, same_itself, HasLostMapping, HasSecondMapping, IsFirstDevice, IsLost, IsSystemAt, MappingsHaveHomes, MappingsHaveOwnPaths, no_device, no_resource, last_of, place_of_path}
+use Rattle.fb_laws.proofs.Common.{◌≡◌, ℕ, true, List, ◌∷◌, ◌++◌, map, sym, ap, ◌∙◌, subst, Bool, false, Option, Some, None, ◌⊎◌, inl, inr, refl, true≢false, ◌≢◌, cond, [], length, ◌-◌, arith, Contains-append_left, Contains-append_right, Contains, flat_map, slice_get, option_map_or, NameUse, Span, DeclTree, DeviceTree, MappingTree, ResourceTree, SystemTree, system_configuration, declared_mapping_faults, has_resource, home_faults, home_span, mapping_faults_of, resource_faults, resources_in, second_mappings, system_mapping_faults, has_name, is_same, stands_for, Code, MappedTwice, NoSuchResource, Fault, Sources, tree_at, PathUse, path_of_names, contains_cases, contains_flat_map, contains_here, contains_later, contains_map, contains_nothing, contains_single, origin_in_flat_map, origin_in_map, none_named, not_named, same_exact, same_itself, HasLostMapping, HasSecondMapping, IsFirstDevice, IsLost, IsSystemAt, MappingsHaveHomes, MappingsHaveOwnPaths, no_device, no_resource, last_of, place_of_path}
 use Rattle.fb_laws.proofs.Joined.{iff, of_either}
 use Rattle.fb_laws.proofs.RepeatedPaths.{repeat_origin, repeat_reported}
 
@@ -41,13 +37,7 @@ record FirstOf (devices : List DeviceTree) (name : List ℕ) (names : List NameU
   has : names_in device ≡ names
 
 one_later : (d : DeviceTree) (devices : List DeviceTree) (name : List ℕ) (device : DeviceTree) → is_same d.name.name name ≡ false → IsFirstDevice devices name device → IsFirstDevice (d ∷ devices) name device
-one_later d devices name device other f = record {
-  before = d ∷ f.before;
-  after = f.after;
-  listed = ap (λ l. d ∷ l) f.listed;
-  named = f.named;
-  none_before = λ x c. by x (contains_cases d f.before x c);
-}
+one_later d devices name device other f = record { before = d ∷ f.before; after = f.after; listed = ap (λ l. d ∷ l) f.listed; named = f.named; none_before = λ x c. by x (contains_cases d f.before x c) }
   where
     by : (x : DeviceTree) → (d ≡ x) ⊎ Contains f.before x → x.name.name ≢ name
     by x (inl same) e = true≢false (sym (same_itself d.name.name name (ap (λ (y : DeviceTree). y.name.name) same ∙ e)) ∙ other)

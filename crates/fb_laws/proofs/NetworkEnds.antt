@@ -1,9 +1,5 @@
 -- What ends name, by the tests of the check.
-use Rattle.std.proofs.Common.{◌≡◌, ◌≢◌, ℕ, Bool, true, false, ◌&&◌, List, Option, Some, None, refl, sym, ap, ◌∙◌, subst, true≢false}
-use Rattle.std.specs.Prelude.{option_map}
-use Rattle.std.specs.Option.{option_and_then, option_map_or}
-use Rattle.std.proofs.lemmas.Bool.{and_from, and_parts}
-use Rattle.fb_laws.proofs.Common.{NameUse, NetworkTree, Section, Side, Input, Output, UnitKind, End, Role, Sort, Sources, tree_at, DeclaredEvent, DeclaredInstance, DeclaredVariable, first_ones, stands_for, Meanings, instances_in, same_side, instance_ports, usable, Own, OfInstance, OfPlug, OfSocket, Position, Source, Destination, Target, Unknown, NotJudged, Found, adapter_port, data_port, event_port, holder_of, is_right, port_in, port_in_role, port_in_section, right_side, target, target_held, target_in, target_named, target_of, target_of_instance, NetworkPlace, is_own, is_own_port, home_of, IsPort, IsReached, IsReachedBy, IsRightSide, NamesRight, Site, event, socket, plug, of_block_instance, of_subapplication_instance, of_plug, of_socket, own_port, port_of, own_source, own_destination, instance_source, instance_destination, plug_source, plug_destination, socket_source, socket_destination, IsNotJudged, of_unusable}
+use Rattle.fb_laws.proofs.Common.{◌≡◌, ◌≢◌, ℕ, true, false, List, Option, Some, None, refl, sym, ap, ◌∙◌, subst, true≢false, option_map, option_and_then, option_map_or, and_from, and_parts, NameUse, NetworkTree, Section, Side, Input, Output, UnitKind, End, Role, Sort, Sources, tree_at, DeclaredEvent, DeclaredInstance, DeclaredVariable, first_ones, stands_for, Meanings, instances_in, same_side, instance_ports, usable, Own, OfInstance, OfPlug, OfSocket, Position, Source, Destination, Target, Unknown, NotJudged, Found, adapter_port, data_port, event_port, holder_of, is_right, port_in, port_in_role, port_in_section, right_side, target, target_held, target_in, target_named, target_of, target_of_instance, NetworkPlace, is_own, is_own_port, home_of, IsPort, IsReached, IsReachedBy, IsRightSide, NamesRight, Site, event, socket, plug, of_block_instance, of_subapplication_instance, of_plug, of_socket, own_port, port_of, own_source, own_destination, instance_source, instance_destination, plug_source, plug_destination, socket_source, socket_destination, IsNotJudged, of_unusable}
 use Rattle.fb_tree.specs.declared.interface.Section.TheVariants as sections
 use Rattle.fb_tree.specs.declared.kinds.UnitKind.TheVariants as kinds
 use Rattle.fb_tree.specs.declared.network.Role.TheVariants as roles
@@ -55,12 +51,6 @@ module _ (ports : Meanings) (name : List ℕ) where
 
 -- whose they are
 
-not_adapter_event : sorts.Event ≢ sorts.Adapter
-not_adapter_event e = let fails : ⊥ = cc in fails
-
-not_adapter_data : sorts.Data ≢ sorts.Adapter
-not_adapter_data e = let fails : ⊥ = cc in fails
-
 module _ (here : Site) (sort : Sort) (i : DeclaredInstance) where
   known_holder : (holder : Holder) → holder_of here.kind sort i.role ≡ Some holder → IsReached here sort i holder
   known_holder holder e = by here.kind sort i.role refl refl refl e
@@ -68,10 +58,10 @@ module _ (here : Site) (sort : Sort) (i : DeclaredInstance) where
       by : (kind : UnitKind) (s : Sort) (role : Role) → here.kind ≡ kind → sort ≡ s → i.role ≡ role → holder_of kind s role ≡ Some holder → IsReached here sort i holder
       by kind s roles.Block k t r e = let same : OfInstance ≡ holder = cc in subst (IsReached here sort i) same (of_block_instance r)
       by kind s roles.Subapplication k t r e = let same : OfInstance ≡ holder = cc in subst (IsReached here sort i) same (of_subapplication_instance r)
-      by kinds.Block sorts.Event roles.Plug k t r e = let same : OfPlug ≡ holder = cc in subst (IsReached here sort i) same (of_plug r k (λ a. not_adapter_event (sym t ∙ a)))
-      by kinds.Block sorts.Data roles.Plug k t r e = let same : OfPlug ≡ holder = cc in subst (IsReached here sort i) same (of_plug r k (λ a. not_adapter_data (sym t ∙ a)))
-      by kinds.Block sorts.Event roles.Socket k t r e = let same : OfSocket ≡ holder = cc in subst (IsReached here sort i) same (of_socket r k (λ a. not_adapter_event (sym t ∙ a)))
-      by kinds.Block sorts.Data roles.Socket k t r e = let same : OfSocket ≡ holder = cc in subst (IsReached here sort i) same (of_socket r k (λ a. not_adapter_data (sym t ∙ a)))
+      by kinds.Block sorts.Event roles.Plug k t r e = let same : OfPlug ≡ holder = cc in subst (IsReached here sort i) same (of_plug r k (λ a. let both : sorts.Event ≡ sorts.Adapter = sym t ∙ a in cc both))
+      by kinds.Block sorts.Data roles.Plug k t r e = let same : OfPlug ≡ holder = cc in subst (IsReached here sort i) same (of_plug r k (λ a. let both : sorts.Data ≡ sorts.Adapter = sym t ∙ a in cc both))
+      by kinds.Block sorts.Event roles.Socket k t r e = let same : OfSocket ≡ holder = cc in subst (IsReached here sort i) same (of_socket r k (λ a. let both : sorts.Event ≡ sorts.Adapter = sym t ∙ a in cc both))
+      by kinds.Block sorts.Data roles.Socket k t r e = let same : OfSocket ≡ holder = cc in subst (IsReached here sort i) same (of_socket r k (λ a. let both : sorts.Data ≡ sorts.Adapter = sym t ∙ a in cc both))
       by kind s role k t r e = absurd (let fails : ⊥ = cc in fails)
 
   plug_holder : (s : Sort) → s ≢ sorts.Adapter → holder_of kinds.Block s roles.Plug ≡ Some OfPlug

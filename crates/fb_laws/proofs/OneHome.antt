@@ -1,8 +1,7 @@
 -- What stands at a path has one home.
-use Rattle.std.proofs.Common.{ℕ, List, Some, subst, arith}
+use Rattle.fb_laws.proofs.Common.{ℕ, List, Some, subst, arith, IsHome, BlocksHaveOneHome, EndsHaveOneHome}
 use Rattle.fb_laws.proofs.HomeLemmas.{one_front, one_nearest}
 use Rattle.fb_laws.proofs.PlannedLemmas.{mapped}
-use Rattle.fb_laws.proofs.Common.{IsHome, BlocksHaveOneHome, EndsHaveOneHome}
 
 pub one_home : BlocksHaveOneHome
 one_home sources system path a b p q = let same = one_nearest (mapped sources system) path (Some a) (Some b) p q in cc

@@ -1,7 +1,5 @@
 -- Parameters that stand for no data input, and values that don't fit, by what the list of faults has.
-use Rattle.std.proofs.Common.{◌≡◌, ◌≢◌, ℕ, Bool, true, false, List, [], ◌∷◌, Option, Some, None, refl, sym, ap, ◌∙◌, subst, true≢false}
-use Rattle.std.specs.List.{Contains}
-use Rattle.fb_laws.proofs.Common.{Span, InstanceTree, NetworkTree, ParameterTree, Section, Sources, fault_at, literal_fault, stands_for, Meanings, IsMisfit, Code, Literal, ParameterUnknown, Fault, DeclaredVariable, contains_here, contains_single, net_faults_of, all_parameters, parameter_faults, value_faults, NetworkPlace, IsNetworkOf, Site, IsUsable, HasMisfit, HasUnknownParameter, ParametersAreKnown, ParametersFit}
+use Rattle.fb_laws.proofs.Common.{◌≡◌, ◌≢◌, ℕ, Bool, true, false, List, [], ◌∷◌, Option, Some, None, refl, sym, ap, ◌∙◌, subst, true≢false, Contains, Span, InstanceTree, NetworkTree, ParameterTree, Section, Sources, fault_at, literal_fault, stands_for, Meanings, IsMisfit, Code, Literal, ParameterUnknown, Fault, DeclaredVariable, contains_here, contains_single, net_faults_of, all_parameters, parameter_faults, value_faults, NetworkPlace, IsNetworkOf, Site, IsUsable, HasMisfit, HasUnknownParameter, ParametersAreKnown, ParametersFit}
 use Rattle.fb_tree.specs.declared.interface.Section.TheVariants as sections
 use Rattle.fb_tree.specs.declared.network.Role.TheVariants as roles
 use Rattle.fb_laws.proofs.DeclarationRows.{misfit_origin, misfit_reported}

@@ -1,9 +1,5 @@
 -- Which part of the check has a code, and a fault of a unit.
-use Rattle.std.proofs.Common.{◌≡◌, ◌≢◌, ℕ, Bool, true, false, List, [], ◌∷◌, Some, None, ◌⊎◌, inl, inr, refl, sym, ap, ◌∙◌, subst, true≢false}
-use Rattle.std.specs.List.{Contains, slice_get}
-use Rattle.std.specs.FinMap.{get}
-use Rattle.std.specs.Option.{option_and_then}
-use Rattle.fb_laws.proofs.Common.{Span, BodyTree, BrokenAt, Whole, body_of, Sources, tree_at, tree_in, tree_of, iface_faults_of, Code, Syntax, NameDiffers, Duplicate, MixedKind, UnknownType, WrongKind, WithUnknown, StateUnknown, EventUnknown, AlgorithmUnknown, VariableUnknown, PortUnknown, PortSide, DataType, SecondSource, SecondAdapter, PassThrough, ParameterUnknown, Literal, MappedTwice, NoSuchResource, MemberUnknown, StructRecursive, Fault, expr_faults_of, ecc_faults_of, net_faults_of, mapping_faults_of, body_faults, faults_of, reported_of, syntax_faults_of, text_faults, contains_nothing, contains_single, in_written, those_reported, CodesAreOfTheirParts, ConstantsAreOfTwoParts, HasPart, IsCodeOf, IsOfConstants, IsOfPart, Declarations, Charts, Networks, Mappings, PartsHaveAllOtherCodes, PartsShareOneCode, WholeUnitsHaveFaultsOfParts, faults_by, of_constant, other_name, duplicate, mixed_kind, unknown_type, wrong_kind, unknown_with, initial_value, recursive_structure, unknown_variable, unknown_member, class, unknown_state, unknown_event, unknown_algorithm, unknown_port, wrong_side, other_type, second_source, second_adapter, passage, unknown_parameter, parameter_value, second_mapping, lost_mapping, broken_at}
+use Rattle.fb_laws.proofs.Common.{◌≡◌, ◌≢◌, ℕ, Bool, true, false, List, [], ◌∷◌, Some, None, ◌⊎◌, inl, inr, refl, sym, ap, ◌∙◌, subst, true≢false, Contains, slice_get, get, option_and_then, none-some, Span, BrokenAt, Whole, body_of, Sources, tree_at, tree_in, tree_of, iface_faults_of, Code, Syntax, StateUnknown, EventUnknown, AlgorithmUnknown, VariableUnknown, PortUnknown, PortSide, DataType, SecondSource, SecondAdapter, PassThrough, ParameterUnknown, Literal, MappedTwice, NoSuchResource, MemberUnknown, Fault, expr_faults_of, ecc_faults_of, net_faults_of, mapping_faults_of, body_faults, faults_of, reported_of, syntax_faults_of, text_faults, contains_nothing, contains_single, in_written, those_reported, CodesAreOfTheirParts, ConstantsAreOfTwoParts, HasPart, IsCodeOf, IsOfConstants, Declarations, Charts, Networks, Mappings, PartsHaveAllOtherCodes, PartsShareOneCode, WholeUnitsHaveFaultsOfParts, faults_by, of_constant, parameter_value, broken_at}
 use Rattle.fb_deploy.specs.Iface.declared.code.Code.TheVariants.{Class}
 use Rattle.fb_laws.specs.UnitParts.{Part, Expressions}
 use Rattle.fb_laws.proofs.CodeLemmas.{own_codes, codes}
@@ -114,10 +110,7 @@ pub no_tree : (sources : Sources) (unit : List ℕ) (f : Fault) → TextOrigin s
 no_tree sources unit f o = ap (option_and_then tree_of) o.present ∙ ap tree_in o.broken
 
 pub whole_units : WholeUnitsHaveFaultsOfParts
-whole_units sources unit decl there f = (λ c. (elim (is_found sources unit f c) [ of_text o ↦ absurd (none_is_some (sym (no_tree sources unit f o) ∙ there)) | of_part part h ↦ record { part = part; reported = h } ]), λ o. part_found sources unit f o.part o.reported)
-  where
-    none_is_some : None ≡ Some decl → ⊥
-    none_is_some e = let fails : ⊥ = cc in fails
+whole_units sources unit decl there f = (λ c. (elim (is_found sources unit f c) [ of_text o ↦ absurd (none-some decl (sym (no_tree sources unit f o) ∙ there)) | of_part part h ↦ record { part = part; reported = h } ]), λ o. part_found sources unit f o.part o.reported)
 
 pub of_their_parts : CodesAreOfTheirParts
 of_their_parts part sources unit f code other = (λ c. (elim (is_found sources unit f c) [ of_text o ↦ absurd (no_text_code part f.code code o.code) | of_part q h ↦ subst (λ (p : Part). Contains (faults_by p sources unit) f) (same q (home_of part f.code code).1 (home_of q f.code (own_codes q sources unit f h)).1) h ]), λ h. part_found sources unit f part h)

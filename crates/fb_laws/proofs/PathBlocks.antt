@@ -1,9 +1,6 @@
 -- The blocks of a system's flat network are those that stand at its paths.
-use Rattle.std.proofs.Common.{◌≡◌, ℕ, List, [], ◌∷◌, ◌++◌, Option, Some, None, ◌⊎◌, inl, inr, refl, sym, ap, ◌∙◌, subst, append_assoc}
-use Rattle.std.specs.Prelude.{Contains, map, option_map}
-use Rattle.std.specs.List.{filter_map, flat_map}
-use Rattle.std.proofs.lemmas.List.Elements.{Contains-append_cases, Contains-append_left, Contains-append_right}
-use Rattle.fb_laws.proofs.Common.{contains_cases, contains_flat_map, contains_here, contains_later, contains_map, contains_nothing, origin_in_flat_map, origin_in_map, ApplicationTree, DeclTree, InstanceTree, SystemTree, block_type, adapter_type, subapplication_type, system_configuration, structure_type, unit_kind_of, Role, Sources, tree_at, HasFlat, applications_of, plain_application, declared, instance_in_role, network_of, plain_instance, AreFlatApplications, IsFlatApplication, IsUnitFlat, NoApplication, OfSubapplication, OfSystem, ThenApplication, Application, block_within, AreInstances, Held, NoInstance, ThenBlock, ThenSubapplication, held_as, held_within, leaf_first, leaves_of, View, PlainNetwork, PlainFlat, printed, dotted, IsSystemFlat, application_blocks, FlatApplication, FlatBlock, Instance, InstanceKind, IsSystemAt, IsAtPath, in_application, inside, with_points}
+use Rattle.fb_laws.proofs.Common.{◌≡◌, ℕ, List, [], ◌∷◌, ◌++◌, Option, Some, None, ◌⊎◌, inl, inr, refl, sym, ap, ◌∙◌, subst, append_assoc, option_map, filter_map, flat_map, Contains-append_cases, Contains-append_left, Contains-append_right, contains_cases, contains_flat_map, contains_here, contains_later, contains_map, contains_nothing, origin_in_flat_map, origin_in_map, ApplicationTree, DeclTree, InstanceTree, SystemTree, subapplication_type, unit_kind_of, Role, Sources, tree_at, HasFlat, applications_of, plain_application, declared, instance_in_role, network_of, plain_instance, AreFlatApplications, IsFlatApplication, IsUnitFlat, NoApplication, OfSubapplication, OfSystem, ThenApplication, Application, block_within, AreInstances, Held, NoInstance, ThenBlock, ThenSubapplication, held_as, held_within, leaf_first, leaves_of, View, PlainNetwork, PlainFlat, printed, dotted, IsSystemFlat, application_blocks, FlatApplication, FlatBlock, Instance, InstanceKind, IsSystemAt, IsAtPath, in_application, inside, with_points}
+use Rattle.std.specs.Prelude.{Contains, map}
 use Rattle.fb_tree.specs.declared.network.Role.TheVariants as roles
 use Rattle.fb_wiring.specs.Network.declared.network.InstanceKind.TheVariants.{Block, Subapplication}
 use Rattle.fb_laws.proofs.CommandLemmas.{given, gives_member}
@@ -33,19 +30,11 @@ record IsOfTree (i : InstanceTree) (p : Instance) : Type 0 where
   typed : i.type_name.name ≡ p.type_name
 
 of_tree : (i : InstanceTree) (p : Instance) → plain_instance i ≡ Some p → IsOfTree i p
-of_tree i p e = by i.role refl e
+of_tree i p e =
+    (elim i.role as (λ role. i.role ≡ role → instance_in_role role i.name.name i.type_name.name ≡ Some p → IsOfTree i p) [ roles.Block ↦ λ role g. made Block role (let same : in_plain i Block ≡ p = cc in same) | roles.Subapplication ↦ λ role g. made Subapplication role (let same : in_plain i Subapplication ≡ p = cc in same) | o ↦ λ role g. absurd (let no : ⊥ = cc in no) ]) refl e
   where
     made : (kind : InstanceKind) → i.role ≡ role_of kind → in_plain i kind ≡ p → IsOfTree i p
-    made kind role same = record {
-      named = ap (λ (q : Instance). q.name) same;
-      in_role = role ∙ ap (λ (q : Instance). role_of q.kind) same;
-      typed = ap (λ (q : Instance). q.type_name) same;
-    }
-
-    by : (role : Role) → i.role ≡ role → instance_in_role role i.name.name i.type_name.name ≡ Some p → IsOfTree i p
-    by roles.Block role g = made Block role (let same : in_plain i Block ≡ p = cc in same)
-    by roles.Subapplication role g = made Subapplication role (let same : in_plain i Subapplication ≡ p = cc in same)
-    by o role g = absurd (let no : ⊥ = cc in no)
+    made kind role same = record { named = ap (λ (q : Instance). q.name) same; in_role = role ∙ ap (λ (q : Instance). role_of q.kind) same; typed = ap (λ (q : Instance). q.type_name) same }
 
 -- an instance of a block or a subapplication among the plain ones
 among_plain : (instances : List InstanceTree) (i : InstanceTree) (kind : InstanceKind) → Contains instances i → i.role ≡ role_of kind → Contains (filter_map plain_instance instances) (in_plain i kind)
@@ -99,8 +88,7 @@ module _ (view : View) where
 
       by_part : Contains (map (held_within z.name) own) outer ⊎ Contains others outer → Inside → (Contains others outer → Contains others added) → Contains (held_as z ∷ (map (held_within z.name) own ++ others)) added
       by_part (inl d) deeper later = let o = origin_in_map (held_within z.name) own outer d in in_own (below o.origin o.among o.gives deeper)
-      by_part (inr d) deeper later =
-          contains_later (held_as z) (map (held_within z.name) own ++ others) added (Contains-append_right (map (held_within z.name) own) others added (later d))
+      by_part (inr d) deeper later = contains_later (held_as z) (map (held_within z.name) own ++ others) added (Contains-append_right (map (held_within z.name) own) others added (later d))
 
       by : (held_as z ≡ outer) ⊎ Contains (map (held_within z.name) own ++ others) outer → Inside → (Contains others outer → Contains others added) → Contains (held_as z ∷ (map (held_within z.name) own ++ others)) added
       by (inl same) deeper later = in_own (itself same)
@@ -272,12 +260,7 @@ module _ (sources : Sources) (s : SystemTree) (flats : List FlatApplication) (fl
   each_in a c p cp =
       let g = given plain_instance a.network.instances p cp in
       let t = of_tree g.origin p g.gives in
-      record {
-        instance = g.origin;
-        at = subst (λ (n : List ℕ). IsAtPath sources s (a.name.name ∷ n ∷ []) g.origin) t.named (in_application a g.origin c g.among);
-        in_role = t.in_role;
-        of_type = t.typed;
-      }
+      record { instance = g.origin; at = subst (λ (n : List ℕ). IsAtPath sources s (a.name.name ∷ n ∷ []) g.origin) t.named (in_application a g.origin c g.among); in_role = t.in_role; of_type = t.typed }
 
   block_stands : (b : FlatBlock) → Contains flat.blocks b → BlockStands sources s b
   block_stands b c =

@@ -1,12 +1,6 @@
 -- The units whose texts have what stands at the paths of a sound system: these have no faults, so each name stands for one instance of theirs.
-use Rattle.std.proofs.Common.{◌≡◌, ℕ, Bool, true, false, cond, List, [], ◌∷◌, ◌++◌, Option, Some, refl, sym, ◌∙◌, subst, true≢false}
-use Rattle.std.specs.Prelude.{Contains, find, map, option_map}
-use Rattle.std.specs.List.{flat_map}
-use Rattle.std.specs.Str.{bytes_eq}
-use Rattle.std.specs.Cmp.Lexicographic.{nat_list_cmp_total}
-use Rattle.std.specs.FinMap.{nat_cmp-IsAntisymmetric, slice_cmp-IsAntisymmetric}
-use Rattle.std.proofs.lemmas.List.Elements.{Contains-append_left, Contains-append_right}
-use Rattle.fb_laws.proofs.Common.{NameUse, name_cmp, in_order-members, contains_flat_map, contains_here, contains_later, contains_map, contains_nothing, origin_in_flat_map, instance_types, types_in, unit_kind_of, ApplicationTree, DeclTree, DeviceTree, InstanceTree, SystemTree, TypeTree, block_type, adapter_type, subapplication_type, system_configuration, structure_type, Role, PartRests, on_itself, Sources, parts_at, parts_in, tree_at, is_same, stands_for, chart_spaces, interface_spaces, network_spaces, resource_names, instances_of, suits, WrongKind, Fault, IsSound, same_exact, same_itself, parts_more, unit_faultless, sound_below, first_at, IsSystemAt, IsAtPath, in_application, inside}
+use Rattle.fb_laws.proofs.Common.{◌≡◌, ℕ, Bool, true, false, cond, List, [], ◌∷◌, ◌++◌, Option, Some, refl, sym, ◌∙◌, subst, true≢false, find, option_map, flat_map, bytes_eq, nat_list_cmp_total, nat_cmp-IsAntisymmetric, slice_cmp-IsAntisymmetric, Contains-append_left, Contains-append_right, NameUse, name_cmp, in_order-members, contains_flat_map, contains_here, contains_later, contains_map, contains_nothing, origin_in_flat_map, instance_types, types_in, unit_kind_of, ApplicationTree, DeclTree, DeviceTree, InstanceTree, SystemTree, TypeTree, block_type, adapter_type, subapplication_type, system_configuration, structure_type, Role, PartRests, on_itself, Sources, parts_at, parts_in, tree_at, is_same, stands_for, chart_spaces, interface_spaces, network_spaces, resource_names, instances_of, suits, WrongKind, Fault, IsSound, same_exact, same_itself, parts_more, unit_faultless, sound_below, first_at, IsSystemAt, IsAtPath, in_application, inside}
+use Rattle.std.specs.Prelude.{Contains, map}
 use Rattle.fb_tree.specs.declared.kinds.UnitKind.TheVariants as kinds
 use Rattle.fb_tree.specs.declared.network.Role.TheVariants as roles
 use Rattle.fb_deploy.specs.Flatten.Nothing.{HasNoReport}

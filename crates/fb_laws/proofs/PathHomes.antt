@@ -1,10 +1,6 @@
 -- The home of what stands at a path is the resource of the nearest mapping of it or above it.
-use Rattle.std.proofs.Common.{◌≡◌, ◌≢◌, ℕ, ◌<◌, Bool, true, false, cond, length, List, [], ◌∷◌, ◌++◌, Option, Some, None, ◌⊎◌, inl, inr, refl, sym, ap, ◌∙◌, subst, append_assoc, append-nil, arith}
-use Rattle.std.specs.Prelude.{Contains, find, option_map}
-use Rattle.std.specs.Str.{bytes_eq}
-use native.Mathlib.Decide.{dec_lt}
-use Rattle.fb_laws.proofs.Common.{contains_cases, contains_here, contains_nothing, Span, MappingTree, SystemTree, on_itself, Sources, MappedTwice, Fault, IsSound, IsFront, IsNearest, mapping_home, mapping_path, resource_at, IsSystemAt, place_of_path, IsAbove, IsMappedTo, path_of, with_points}
-use Rattle.std.proofs.lemmas.List.Elements.{Contains-append_right}
+use Rattle.fb_laws.proofs.Common.{◌≡◌, ◌≢◌, ℕ, ◌<◌, Bool, true, false, cond, length, List, [], ◌∷◌, ◌++◌, Option, Some, None, ◌⊎◌, inl, inr, refl, sym, ap, ◌∙◌, subst, append_assoc, append-nil, arith, find, option_map, bytes_eq, dec_lt, Contains-append_right, contains_cases, contains_here, contains_nothing, Span, MappingTree, SystemTree, on_itself, Sources, MappedTwice, Fault, IsSound, IsFront, IsNearest, mapping_home, mapping_path, resource_at, IsSystemAt, place_of_path, IsAbove, IsMappedTo, path_of, with_points}
+use Rattle.std.specs.Prelude.{Contains}
 use Rattle.fb_laws.proofs.HomeLemmas.{bytes_same, same_bytes}
 use Rattle.fb_laws.proofs.MappingRows.{own_paths}
 use Rattle.fb_laws.proofs.PathHolders.{no_report}

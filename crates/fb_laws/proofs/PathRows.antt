@@ -1,11 +1,6 @@
 -- What is made where, and what is misplaced, by what stands at the paths of a system and what its mappings name.
-use Rattle.std.proofs.Common.{◌≡◌, ◌≢◌, ℕ, Bool, true, false, List, [], ◌∷◌, ◌++◌, Option, Some, None, ◌⊎◌, inl, inr, refl, sym, ap, ◌∙◌, subst, map, true≢false}
-use Rattle.std.specs.Prelude.{Contains, filter, is_none, codes, ◌↔◌}
-use Rattle.std.specs.Cmp.Lexicographic.{nat_list_cmp_total}
-use Rattle.std.specs.FinMap.{nat_cmp-IsAntisymmetric, slice_cmp-IsAntisymmetric}
-use Rattle.std.proofs.lemmas.List.{append_cancel_left}
-use Rattle.std.proofs.lemmas.List.Elements.{Contains-append_cases, Contains-append_left, Contains-append_right}
-use Rattle.fb_laws.proofs.Common.{name_cmp, names_in_order, in_order-members, contains_filter, contains_map, contains_nothing, origin_in_map, passes_in_filter, DeclTree, InstanceTree, MappingTree, SystemTree, system_configuration, Sources, tree_at, faulty, planned, planned_by, with_homes, HasFlat, IsNet, IsSound, PlainNet, blocked, flat_net, recursive, too_large, plan_at_is, PlainFlat, FlatBlock, Link, IsNearest, nearest, astray, block_homes, homeless, misplaced, unless_faulty, create_text, mapping_path, names_used, resource_at, PlainResource, leads_nowhere, mappings_in, Home, Misplaced, NoSuchBlock, Unmapped, Line, is_nearest, IsSystemAt, AllBlocksAreMade, BlocksAreMadeWhereMapped, IsAbove, IsAtPath, IsMappedTo, IsMisplaced, IsOfSomething, MakesMapped, MisplacedIsTold, NothingPlannedIsMisplaced, OnlyBlocksAreMade, making, of_nothing, path_of, unmapped, with_points, IsHome, BeginsWith, MakesItsBlocks}
+use Rattle.fb_laws.proofs.Common.{◌≡◌, ◌≢◌, ℕ, Bool, true, false, List, [], ◌∷◌, ◌++◌, Option, Some, None, ◌⊎◌, inl, inr, refl, sym, ap, ◌∙◌, subst, map, true≢false, filter, is_none, codes, nat_list_cmp_total, nat_cmp-IsAntisymmetric, slice_cmp-IsAntisymmetric, append_cancel_left, Contains-append_cases, Contains-append_left, Contains-append_right, name_cmp, names_in_order, in_order-members, contains_filter, contains_map, contains_nothing, origin_in_map, passes_in_filter, DeclTree, InstanceTree, MappingTree, SystemTree, system_configuration, Sources, tree_at, faulty, planned, planned_by, with_homes, HasFlat, IsNet, IsSound, PlainNet, blocked, flat_net, recursive, too_large, plan_at_is, PlainFlat, FlatBlock, Link, IsNearest, nearest, astray, block_homes, homeless, misplaced, unless_faulty, create_text, mapping_path, names_used, resource_at, PlainResource, leads_nowhere, mappings_in, Home, Misplaced, NoSuchBlock, Unmapped, Line, is_nearest, IsSystemAt, AllBlocksAreMade, BlocksAreMadeWhereMapped, IsAbove, IsAtPath, IsMappedTo, IsMisplaced, IsOfSomething, MakesMapped, MisplacedIsTold, NothingPlannedIsMisplaced, OnlyBlocksAreMade, making, of_nothing, path_of, unmapped, with_points, IsHome, BeginsWith, MakesItsBlocks}
+use Rattle.std.specs.Prelude.{Contains, ◌↔◌}
 use Rattle.fb_tree.specs.declared.network.Role.TheVariants as roles
 use Rattle.fb_deploy.specs.Plans.{plan_at}
 use Rattle.fb_laws.specs.Paths.{IsMade}
@@ -53,13 +48,6 @@ flat_faulty sources unit found (flat_net flat) net e = by (misplaced sources uni
         record { flat = flat; is_flat = net; is = is ∙ same; some = λ none. (let empty = same ∙ none in cc) }
 
 module _ (sources : Sources) (unit : List ℕ) (s : SystemTree) (is : IsSystemAt sources unit s) where
-  -- the homes of paths, by the mappings of the system
-  home_of_tree : (path : List ℕ) (r : List ℕ) → IsHome sources unit path r → IsNearest (resource_at s.mappings) path (Some r)
-  home_of_tree path r h = subst (λ (t : Option DeclTree). IsNearest (resource_at (mappings_in t)) path (Some r)) is h
-
-  tree_home : (path : List ℕ) (r : List ℕ) → IsNearest (resource_at s.mappings) path (Some r) → IsHome sources unit path r
-  tree_home path r h = subst (λ (t : Option DeclTree). IsNearest (resource_at (mappings_in t)) path (Some r)) (sym is) h
-
   module _ (flat : PlainFlat) (net : HasFlat sources unit flat) where
     abbrev sound : IsSound sources unit
     sound = net.0
@@ -68,10 +56,10 @@ module _ (sources : Sources) (unit : List ℕ) (s : SystemTree) (is : IsSystemAt
     blocks = system_blocks sources unit s flat is net
 
     mapped : (path : Path) (i : InstanceTree) (r : List ℕ) → IsAtPath sources s path i → IsHome sources unit (with_points path) r → IsMappedTo s path r
-    mapped path i r at h = mapped_to sources unit s is sound path (path_some sources s path i at) (path_plain sources unit s is path i at) r (home_of_tree (with_points path) r h)
+    mapped path i r at h = mapped_to sources unit s is sound path (path_some sources s path i at) (path_plain sources unit s is path i at) r (subst (λ (t : Option DeclTree). IsNearest (resource_at (mappings_in t)) (with_points path) (Some r)) is h)
 
     home : (path : Path) (i : InstanceTree) (r : List ℕ) → IsAtPath sources s path i → IsMappedTo s path r → IsHome sources unit (with_points path) r
-    home path i r at h = tree_home (with_points path) r (home_there sources unit s is sound path (path_some sources s path i at) (path_plain sources unit s is path i at) r h)
+    home path i r at h = subst (λ (t : Option DeclTree). IsNearest (resource_at (mappings_in t)) (with_points path) (Some r)) (sym is) (home_there sources unit s is sound path (path_some sources s path i at) (path_plain sources unit s is path i at) r h)
 
     -- ---- what is made
 

@@ -1,10 +1,6 @@
 -- Where names lead to in a sound system is what stands at their path.
-use Rattle.std.proofs.Common.{◌≡◌, ℕ, Bool, true, false, not, List, [], ◌∷◌, ◌++◌, Option, Some, None, ◌⊎◌, inl, inr, refl, sym, ap, ◌∙◌, subst, append_assoc, append-nil, true≢false}
-use Rattle.std.specs.Prelude.{Contains, find, is_none, option_and_then, option_map}
-use Rattle.std.specs.Option.{option_map_or}
-use Rattle.std.specs.Str.{bytes_eq}
-use Rattle.std.proofs.lemmas.Bool.{not-false}
-use Rattle.fb_laws.proofs.Common.{contains_nothing, passes_in_find, ApplicationTree, DeclTree, InstanceTree, SystemTree, block_type, adapter_type, subapplication_type, system_configuration, structure_type, Role, Sources, tree_at, IsSound, first_at, PlainStanding, application_called, inner_instances, is_placed, leads_nowhere, standing_among, standing_at, standing_beyond, standing_inside, IsSystemAt, IsAtPath, IsOfSomething, in_application, inside, of_application}
+use Rattle.fb_laws.proofs.Common.{◌≡◌, ℕ, Bool, true, false, not, List, [], ◌∷◌, ◌++◌, Option, Some, None, ◌⊎◌, inl, inr, refl, sym, ap, ◌∙◌, subst, append_assoc, append-nil, true≢false, find, is_none, option_map, option_map_or, bytes_eq, not-false, contains_nothing, passes_in_find, ApplicationTree, DeclTree, InstanceTree, SystemTree, subapplication_type, Role, Sources, tree_at, IsSound, first_at, PlainStanding, application_called, inner_instances, is_placed, leads_nowhere, standing_among, standing_at, standing_beyond, standing_inside, IsSystemAt, IsAtPath, IsOfSomething, in_application, inside, of_application}
+use Rattle.std.specs.Prelude.{Contains, option_and_then}
 use Rattle.fb_tree.specs.declared.network.Role.TheVariants as roles
 use Rattle.fb_placing.proofs.StandingLemmas.{beyond_nothing}
 use Rattle.fb_laws.specs.Paths.{of_block, of_subapplication}

@@ -1,8 +1,5 @@
 -- Paths of names without points and blanks, as texts.
-use Rattle.std.proofs.Common.{◌≡◌, ◌≢◌, ℕ, ◌<◌, ◌≤◌, ◌==◌, Bool, true, false, cond, length, List, [], ◌∷◌, ◌++◌, inl, inr, refl, sym, ap, ◌∙◌, append_assoc, append-nil, length-append, arith}
-use Rattle.std.specs.List.{flat_map}
-use Rattle.std.proofs.lemmas.Bool.{eqb-true}
-use Rattle.fb_laws.proofs.Common.{printed, IsFront, on_first, path_names, with_points}
+use Rattle.fb_laws.proofs.Common.{◌≡◌, ◌≢◌, ℕ, ◌<◌, ◌≤◌, ◌==◌, true, false, cond, length, List, [], ◌∷◌, ◌++◌, inl, inr, refl, sym, ap, ◌∙◌, append_assoc, append-nil, length-append, arith, flat_map, eqb-true, printed, IsFront, on_first, path_names, with_points}
 use Rattle.fb_laws.proofs.PlainNames.{AllPlain, IsPlain}
 
 abbrev Path : Type 0
@@ -79,10 +76,8 @@ front_has_name (first ∷ others) some plain (inl e) = not_empty first others pl
 front_has_name (first ∷ others) some plain (inr (rest, e)) = no_point_first first others rest plain.0 e
 
 goes_on_from : (a : List ℕ) (others : Path) (first : List ℕ) (more : Path) → ArePlain (a ∷ others) → ArePlain (first ∷ more) → IsFront (with_points (a ∷ others)) (with_points (first ∷ more)) → (inner : Path) × (first ∷ more ≡ (a ∷ others) ++ inner)
-goes_on_from a others first more plain whole (inl e) =
-    ([], sym (names_of first more whole) ∙ ap path_names e ∙ names_of a others plain ∙ sym (append-nil (a ∷ others)))
-goes_on_from a others first more plain whole (inr (rest, e)) =
-    (path_names rest, sym (names_of first more whole) ∙ ap path_names e ∙ front_names a others rest plain)
+goes_on_from a others first more plain whole (inl e) = ([], sym (names_of first more whole) ∙ ap path_names e ∙ names_of a others plain ∙ sym (append-nil (a ∷ others)))
+goes_on_from a others first more plain whole (inr (rest, e)) = (path_names rest, sym (names_of first more whole) ∙ ap path_names e ∙ front_names a others rest plain)
 
 pub goes_on : (a whole : Path) → a ≢ [] → whole ≢ [] → ArePlain a → ArePlain whole → IsFront (with_points a) (with_points whole) → (inner : Path) × (whole ≡ a ++ inner)
 goes_on [] whole some there plain all front = absurd (some refl)
@@ -143,8 +138,7 @@ no_blank_plain (b ∷ bs) h = (h.1, no_blank_plain bs h.2)
 
 no_blank_points : (first : List ℕ) (others : Path) → ArePlain (first ∷ others) → NoBlank (with_points (first ∷ others))
 no_blank_points first [] h = no_blank_append first [] (no_blank_plain first h.0.bytes) tt
-no_blank_points first (next ∷ others) h =
-    no_blank_append first (46 ∷ with_points (next ∷ others)) (no_blank_plain first h.0.bytes) ((λ e. omega (arith, e)), no_blank_points next others h.1)
+no_blank_points first (next ∷ others) h = no_blank_append first (46 ∷ with_points (next ∷ others)) (no_blank_plain first h.0.bytes) ((λ e. omega (arith, e)), no_blank_points next others h.1)
 
 before_blank : (a b x y : List ℕ) → NoBlank a → NoBlank b → a ++ 32 ∷ x ≡ b ++ 32 ∷ y → a ≡ b
 before_blank [] [] x y h k e = refl

@@ -1,7 +1,5 @@
 -- What stands at the places of a list of those items that pass.
-use Rattle.std.proofs.Common.{◌≡◌, zero, suc, ℕ, ◌<◌, Bool, true, false, cond, List, [], ◌∷◌, map, Some, refl, arith}
-use Rattle.std.specs.Prelude.{filter}
-use Rattle.std.specs.List.{slice_get}
+use Rattle.fb_laws.proofs.Common.{◌≡◌, zero, suc, ℕ, ◌<◌, Bool, true, false, cond, List, [], ◌∷◌, map, Some, refl, arith, filter, slice_get}
 
 -- an item that passes and gives the member
 pub record IsPicked {X Y : Type 0} (f : X → Y) (passes : X → Bool) (xs : List X) (y : Y) : Type 0 where

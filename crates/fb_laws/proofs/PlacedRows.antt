@@ -1,11 +1,6 @@
 -- A system has commands where nothing is misplaced.
-use Rattle.std.proofs.Common.{ℕ, ◌≡◌, Bool, true, false, List, [], ◌∷◌, ◌++◌, Option, refl, sym, ◌∙◌, ap, subst, map}
-use Rattle.std.specs.Prelude.{Contains, filter, is_none}
-use Rattle.std.specs.Cmp.Lexicographic.{nat_list_cmp_total}
-use Rattle.std.specs.FinMap.{nat_cmp-IsAntisymmetric, slice_cmp-IsAntisymmetric}
-use Rattle.std.proofs.lemmas.Bool.{false≢true}
-use Rattle.std.proofs.lemmas.List.Elements.{Contains-append_right}
-use Rattle.fb_laws.proofs.Common.{name_cmp, names_in_order, in_order-members, contains_filter, contains_here, contains_map, contains_nothing, origin_in_map, passes_in_filter, plan_at_is, MappingTree, Sources, tree_at, FlatBlock, PlainFlat, HasFlat, flat_net, cuts_of, home_at, nearest, astray, homeless, misplaced, unless_faulty, mapping_path, names_used, IsSystem, leads_nowhere, applications_in, mappings_in, Misplaced, NoSuchBlock, Unmapped, planned, with_homes, orders_of, resource_plans, HasCommands, IsPlacedWhole, PlacedSystemsHaveCommands}
+use Rattle.fb_laws.proofs.Common.{ℕ, ◌≡◌, Bool, true, false, List, [], ◌∷◌, ◌++◌, Option, refl, sym, ◌∙◌, ap, subst, map, filter, is_none, nat_list_cmp_total, nat_cmp-IsAntisymmetric, slice_cmp-IsAntisymmetric, false≢true, Contains-append_right, name_cmp, names_in_order, in_order-members, contains_filter, contains_here, contains_map, contains_nothing, origin_in_map, passes_in_filter, plan_at_is, MappingTree, Sources, tree_at, FlatBlock, PlainFlat, HasFlat, flat_net, cuts_of, home_at, nearest, astray, homeless, misplaced, unless_faulty, mapping_path, names_used, IsSystem, leads_nowhere, applications_in, mappings_in, Misplaced, NoSuchBlock, Unmapped, planned, with_homes, orders_of, resource_plans, HasCommands, IsPlacedWhole, PlacedSystemsHaveCommands}
+use Rattle.std.specs.Prelude.{Contains}
 use Rattle.fb_laws.proofs.HomeLemmas.{nearest_of, of_nearest}
 use Rattle.fb_laws.proofs.PlannedLemmas.{homes_in, known, mapped, names_in}
 
@@ -67,11 +62,7 @@ module _ (sources : Sources) (system : List ℕ) (flat : PlainFlat) where
           is_flat = net;
           plan = (plan_at_is sources system (planned cuts resources)).1 (
             is,
-            record {
-              net = flat_net flat;
-              is_net = net;
-              plan_is = sym (ap (λ (found : List Misplaced). with_homes sources system flat (unless_faulty found (homes_in sources system flat))) nothing);
-            },
+            record { net = flat_net flat; is_net = net; plan_is = sym (ap (λ (found : List Misplaced). with_homes sources system flat (unless_faulty found (homes_in sources system flat))) nothing) },
           );
         };
       }

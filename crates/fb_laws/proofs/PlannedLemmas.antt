@@ -1,11 +1,6 @@
 -- What is known of a system with a plan.
-use Rattle.std.proofs.Common.{ℕ, ◌≡◌, List, [], ◌∷◌, Option, Some, None, refl, ◌∙◌, ap, subst, map}
-use Rattle.std.specs.Prelude.{Contains, filter, is_none}
-use Rattle.std.specs.List.Sorted.{IsStrictlySortedBy}
-use Rattle.std.specs.Cmp.Lexicographic.{nat_list_cmp_total}
-use Rattle.std.specs.FinMap.{nat_cmp-IsAntisymmetric, slice_cmp-IsAntisymmetric}
-use Rattle.std.proofs.lemmas.List.Elements.{Contains-append_left}
-use Rattle.fb_laws.proofs.Common.{name_cmp, names_in_order, in_order-members, contains_filter, contains_map, contains_nothing, plan_at_is, Sources, tree_at, FlatBlock, Link, PlainFlat, HasFlat, flat_net, IsUnitFlat, OfSubapplication, OfSystem, link_cmp, cuts_of, home_at, nearest, block_homes, homeless, misplaced, unless_faulty, resource_at, IsSystem, applications_in, devices_in, mappings_in, Home, Misplaced, Unmapped, IsPlan, planned, planned_by, with_homes, orders_of, PlainResource, resource_plans, resources_of, IsPlanned, StandsOn}
+use Rattle.fb_laws.proofs.Common.{ℕ, ◌≡◌, List, [], ◌∷◌, Option, Some, None, refl, ◌∙◌, ap, subst, map, filter, is_none, IsStrictlySortedBy, nat_list_cmp_total, nat_cmp-IsAntisymmetric, slice_cmp-IsAntisymmetric, Contains-append_left, name_cmp, names_in_order, in_order-members, contains_filter, contains_map, contains_nothing, plan_at_is, Sources, tree_at, FlatBlock, Link, PlainFlat, HasFlat, flat_net, IsUnitFlat, OfSubapplication, OfSystem, link_cmp, cuts_of, home_at, nearest, block_homes, homeless, misplaced, unless_faulty, resource_at, IsSystem, applications_in, devices_in, mappings_in, Home, Misplaced, Unmapped, IsPlan, planned, planned_by, with_homes, orders_of, PlainResource, resource_plans, resources_of, IsPlanned, StandsOn}
+use Rattle.std.specs.Prelude.{Contains}
 use Rattle.fb_deploy.proofs.Flatten.OneNet.{one_net_only}
 use Rattle.fb_laws.proofs.HomeLemmas.{HasHome, end_home, home_end}
 
@@ -50,13 +45,7 @@ known sources system flat cuts resources p = by (misplaced sources system (tree_
     by_home nothing b c (Some r) e = record { on_resource = r; home = e }
 
     by : (found : List Misplaced) → misplaced sources system (tree_at sources system) flat.blocks ≡ found → planned cuts resources ≡ with_homes sources system flat (unless_faulty found (homes_in sources system flat)) → Known sources system flat cuts resources
-    by [] nothing e = record {
-      system_is = both.0;
-      placed = nothing;
-      homes = λ b c. by_home nothing b c (nearest (mapped sources system) b.path) refl;
-      cuts_are = cc;
-      resources_are = cc;
-    }
+    by [] nothing e = record { system_is = both.0; placed = nothing; homes = λ b c. by_home nothing b c (nearest (mapped sources system) b.path) refl; cuts_are = cc; resources_are = cc }
     by (m ∷ more) found e = absurd (let no : ⊥ = cc in no)
 
 -- the links of a flat network are in order

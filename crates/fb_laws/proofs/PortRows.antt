@@ -1,8 +1,5 @@
 -- Ports once and in order, and internal variables.
-use Rattle.std.proofs.Common.{◌≡◌, ℕ, ◌<◌, List, Some, sym, ap, ◌∙◌, subst, ◌⊎◌, inl, inr}
-use Rattle.std.specs.List.{slice_get}
-use Rattle.std.proofs.lemmas.Bool.{cases_order}
-use Rattle.fb_laws.proofs.Common.{InterfaceTree, TypeTree, VariablesTree, adapter_type, block_type, structure_type, subapplication_type, system_configuration, Section, Side, TypeUse, meanings_in_type, Cell, IsBefore, IsDataOn, IsFirstVariable, IsVariableIn, data_input, data_output, in_earlier_row, of_adapter, of_block, of_subapplication, ComeAsDeclaredEach, HaveOwnNamesEach, InternalVariablesAreNoPorts, NamesStandForFirst, PortsComeAsDeclared, PortsHaveOwnNames, StandForFirst}
+use Rattle.fb_laws.proofs.Common.{◌≡◌, ℕ, List, Some, sym, ap, ◌∙◌, subst, inl, inr, slice_get, cases_order, InterfaceTree, TypeTree, VariablesTree, adapter_type, block_type, structure_type, subapplication_type, system_configuration, Section, Side, TypeUse, meanings_in_type, Cell, IsBefore, IsDataOn, IsFirstVariable, IsVariableIn, data_input, data_output, in_earlier_row, of_adapter, of_block, of_subapplication, ComeAsDeclaredEach, HaveOwnNamesEach, InternalVariablesAreNoPorts, NamesStandForFirst, PortsComeAsDeclared, PortsHaveOwnNames, StandForFirst}
 use Rattle.fb_tree.specs.declared.interface.Section.TheVariants as sections
 use Rattle.fb_laws.proofs.DataRows.{data_declared, data_in_turn, data_once, variables_stand}
 use Rattle.fb_laws.proofs.ItemRows.{adapters_in_turn, adapters_once, events_in_turn, events_once, events_stand, instances_stand}

@@ -1,9 +1,6 @@
 -- What is known of the tokens of a text.
-use Rattle.std.proofs.Common.{◌≡◌, ℕ, zero, suc, ◌+◌, ◌<◌, ◌≤◌, inl, inr, List, [], ◌∷◌, ◌++◌, length, drop, refl, subst, arith, length-drop, Result, Ok, Err, IsUtf8}
-use Rattle.std.specs.Prelude.{All, slice_index_or}
+use Rattle.fb_laws.proofs.Common.{◌≡◌, ℕ, zero, suc, ◌+◌, ◌<◌, ◌≤◌, inl, inr, List, [], ◌∷◌, ◌++◌, length, drop, refl, subst, arith, length-drop, Result, Ok, Err, IsUtf8, All, slice_index_or, cases_lt, piece_at, tokens_of, FitsIn, IsSpelled, LiesIn, SpansRise, spans_of, Span, Token}
 use Rattle.std.proofs.lemmas.Str.{IsUtf8-drop}
-use Rattle.std.proofs.lemmas.Bool.{cases_lt}
-use Rattle.fb_laws.proofs.Common.{piece_at, tokens_of, FitsIn, IsSpelled, LiesIn, SpansRise, spans_of, Span, Token}
 use Rattle.fb_text.specs.declared.scan.Piece.{Piece}
 use Rattle.fb_text.specs.declared.scan.Piece.TheVariants.{Gap, Unclosed, Found}
 use Rattle.fb_text.proofs.Boundaries.{piece-fits}

@@ -1,11 +1,8 @@
 -- What references stand for by the check: what they begin at, and what their further names lead to.
-use Rattle.std.proofs.Common.{◌≡◌, ℕ, Bool, true, false, true≢false, cond, not, ◌&&◌, ◌||◌, List, [], ◌∷◌, ◌++◌, Option, Some, None, ◌⊎◌, inl, inr, refl, sym, ap, subst, ◌∙◌, append-nil, arith}
-use Rattle.std.specs.Option.{option_and_then}
-use Rattle.std.proofs.lemmas.Bool.{ltb-false, or_parts}
-use Rattle.fb_laws.proofs.Common.{has_own_class, is_elementary, type_class_of, Span, ReferenceTree, DeclTree, TypeTree, adapter_type, block_type, structure_type, Section, TypeForm, TypeUse, Role, Plug, Socket, Block, Subapplication, Member, Sources, tree_at, class_of_name, is_free, named_class, Fields, NoFields, HasFields, fields_in, fields_of_tree, first_ones, stands_for, Meanings, meanings_in_type, instance_ports, ports_of, usable, DeclaredInstance, DeclaredVariable, stands_for-first_ones, is_known, referent_through, Names, names_of_type, data_referent, field_referent, fields_behind, fields_named, is_adapter, is_at_adapter, is_before_port, is_data, is_some_count, member_among, own_referent, port_named, port_referent, referent_of, step, unless_judged, variable_named, walk, Referent, Variable, Unjudged, NoMember, IsAdapter, IsUsable, as_plug, as_socket, as_block, as_subapplication, IsData, IsAtPort, Begins, own, IsOfNoAdapter, Shows, plain, element, IsOpen, generic, unknown, HasField, GoesOn, at_end, through, NamesType}
+use Rattle.fb_laws.proofs.Common.{◌≡◌, ℕ, Bool, true, false, true≢false, cond, not, ◌&&◌, List, [], ◌∷◌, ◌++◌, Option, Some, None, ◌⊎◌, inl, inr, refl, sym, ap, subst, ◌∙◌, append-nil, arith, option_and_then, ltb-false, or_parts, has_own_class, is_elementary, type_class_of, Span, ReferenceTree, DeclTree, TypeTree, adapter_type, block_type, structure_type, Section, TypeForm, TypeUse, Role, Plug, Socket, Block, Subapplication, Member, Sources, tree_at, class_of_name, is_free, named_class, Fields, NoFields, HasFields, fields_in, fields_of_tree, first_ones, stands_for, Meanings, meanings_in_type, instance_ports, ports_of, usable, DeclaredInstance, DeclaredVariable, stands_for-first_ones, is_known, referent_through, Names, names_of_type, data_referent, field_referent, fields_behind, fields_named, is_adapter, is_at_adapter, is_before_port, is_data, is_some_count, member_among, own_referent, port_named, port_referent, referent_of, step, unless_judged, variable_named, walk, Referent, Variable, Unjudged, NoMember, IsAdapter, IsUsable, as_plug, as_socket, IsData, IsAtPort, Begins, own, IsOfNoAdapter, Shows, plain, element, IsOpen, generic, unknown, HasField, GoesOn, at_end, through, NamesType}
 use Rattle.fb_text.specs.declared.elementary.TypeClass.{TypeClass}
 use Rattle.fb_text.specs.declared.elementary.TypeClass.TheVariants as types
-use Rattle.fb_tree.specs.declared.interface.Section.TheVariants.{Input, Output, Internal, Field}
+use Rattle.fb_tree.specs.declared.interface.Section.TheVariants.{Input, Output}
 use Rattle.fb_tree.specs.declared.interface.TypeForm.TheVariants as forms
 use Rattle.fb_deploy.specs.Iface.Fields.{NotJudged}
 use Rattle.fb_expr.specs.declared.references.Referent.TheVariants.{Unknown}
@@ -138,13 +135,7 @@ module _ (sources : Sources) (unit : List ℕ) (d : TypeTree) (declared : tree_a
       where
         by_found : (o : Option DeclaredVariable) → stands_for (first_ones (fields_in structure)) m.name.name ≡ o → Looks used s m (field_referent o m)
         by_found None e = is_none
-        by_found (Some v) e = is_found v (record {
-          shown = shows;
-          declared = elementary;
-          structure = structure;
-          is_structure = t;
-          found = sym (stands_for-first_ones (fields_in structure) m.name.name) ∙ e;
-        })
+        by_found (Some v) e = is_found v (record { shown = shows; declared = elementary; structure = structure; is_structure = t; found = sym (stands_for-first_ones (fields_in structure) m.name.name) ∙ e })
     by_tree s true shows elementary (Some (structure_type structure)) t = is_none
     by_tree s on shows elementary (Some decl) t = no_field s on
 
@@ -415,13 +406,7 @@ module _ (sources : Sources) (unit : List ℕ) (d : TypeTree) (declared : tree_a
   names_type r last t e = by_base (start r)
     where
       by_case : (base : Referent) (skipped behind : List Member) → Base r behind base → walk names base behind ≡ Variable last t → NamesType sources d r last t
-      by_case (Variable used s) skipped behind (variable n) w = record {
-        first = used;
-        at_first = s;
-        behind = behind;
-        begins = n;
-        leads = goes used s behind last t (begins_known r used s behind n) w;
-      }
+      by_case (Variable used s) skipped behind (variable n) w = record { first = used; at_first = s; behind = behind; begins = n; leads = goes used s behind last t (begins_known r used s behind n) w }
       by_case Unjudged skipped behind (not_judged_port n) w = let both : Unjudged ≡ Variable last t = sym (open_stays behind) ∙ w in absurd (let no : ⊥ = cc in no)
       by_case (NoMember at) skipped behind none w = elim none [ ]
       by_case Unknown skipped behind nothing w = let both : Unknown ≡ Variable last t = sym (unknown_stays behind) ∙ w in absurd (let no : ⊥ = cc in no)

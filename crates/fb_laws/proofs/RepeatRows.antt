@@ -1,8 +1,6 @@
 -- Ends that stand twice, by what the list of faults has.
-use Rattle.std.proofs.Common.{◌≡◌, List, [], ◌∷◌, ◌++◌, map, Option, Some, None, option_map, ◌⊎◌, inl, inr, refl, sym, ap, ◌∙◌, subst}
-use Rattle.std.specs.List.{Contains, flat_map}
-use Rattle.std.proofs.lemmas.List.Elements.{Contains-append_left, Contains-append_right, Contains-append_cases}
-use Rattle.fb_laws.proofs.Common.{NameUse, NetworkTree, Connection, End, Sort, Code, SecondAdapter, SecondSource, Fault, ComesThrough, contains_cases, contains_flat_map, contains_here, contains_later, contains_nothing, contains_single, origin_in_flat_map, Position, Source, Destination, net_faults_of, Path, fault_at_path, repeated_faults, adapter_ends, data_destination, end_path, path_named, HaveSameNames, IsEndOf, IsNetworkOf, Site, place_of, source, destination, AdaptersHaveOneEnd, DestinationsHaveOneSource, HasSecondAdapter, HasSecondSource, IsTaken, by_earlier, by_source}
+use Rattle.fb_laws.proofs.Common.{◌≡◌, List, [], ◌∷◌, ◌++◌, map, Option, Some, None, ◌⊎◌, inl, inr, refl, sym, ap, ◌∙◌, subst, Contains, flat_map, Contains-append_left, Contains-append_right, Contains-append_cases, NameUse, NetworkTree, Connection, End, Sort, Code, SecondAdapter, SecondSource, Fault, ComesThrough, contains_cases, contains_flat_map, contains_here, contains_later, contains_nothing, contains_single, origin_in_flat_map, Position, Source, Destination, net_faults_of, Path, fault_at_path, repeated_faults, adapter_ends, data_destination, end_path, path_named, HaveSameNames, IsEndOf, IsNetworkOf, Site, place_of, source, destination, AdaptersHaveOneEnd, DestinationsHaveOneSource, HasSecondAdapter, HasSecondSource, IsTaken, by_earlier, by_source}
+use Rattle.std.proofs.Common.{option_map}
 use Rattle.fb_tree.specs.declared.network.Sort.TheVariants as sorts
 use Rattle.fb_laws.proofs.NetworkLemmas.{end_place, fault_at_end, network_origin, reported}
 use Rattle.fb_laws.proofs.RepeatedPaths.{repeat_origin, repeat_reported}
@@ -52,8 +50,7 @@ record SecondOrigin (code : Code) (f : Connection → List End) (connections : L
   is : fault_at_end code end ≡ fault
 
 taken_in : (f : Connection → List End) (earlier : List Connection) (inside : List End) (other : End) → Contains (flat_map f earlier ++ inside) other → ComesThrough f earlier other ⊎ Contains inside other
-taken_in f earlier inside other c =
-    elim (Contains-append_cases (flat_map f earlier) inside other c) [ inl h ↦ inl (origin_in_flat_map f earlier other h) | inr h ↦ inr h ]
+taken_in f earlier inside other c = elim (Contains-append_cases (flat_map f earlier) inside other c) [ inl h ↦ inl (origin_in_flat_map f earlier other h) | inr h ↦ inr h ]
 
 second_origin : (code : Code) (f : Connection → List End) (connections : List Connection) (fault : Fault) → Contains (repeated_faults code (map end_path (flat_map f connections))) fault → SecondOrigin code f connections fault
 second_origin code f connections fault c =

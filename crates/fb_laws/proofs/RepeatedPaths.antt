@@ -1,13 +1,10 @@
 -- Paths that stand twice in a list.
-use Rattle.std.proofs.Common.{◌≡◌, ℕ, ◌+◌, Bool, true, false, ◌||◌, length, List, [], ◌∷◌, ◌++◌, map, take, Some, ◌⊎◌, inl, inr, refl, sym, ap, ◌∙◌, subst, true≢false, arith}
-use Rattle.std.specs.FinMap.{nat_cmp-IsAntisymmetric, slice_cmp-IsAntisymmetric}
-use Rattle.std.specs.List.{Contains, enumerate_from, filter}
+use Rattle.fb_laws.proofs.Common.{◌≡◌, ℕ, ◌+◌, true, false, ◌||◌, length, List, [], ◌∷◌, ◌++◌, map, take, Some, inl, inr, refl, sym, ap, ◌∙◌, subst, true≢false, arith, nat_cmp-IsAntisymmetric, slice_cmp-IsAntisymmetric, Contains, enumerate_from, take-append_seam, Code, Fault, at_place, in_places, contains_cases, contains_filter, contains_here, contains_later, contains_map, contains_nothing, origin_in_map, passes_in_filter, Path, PathUse, fault_at_path, has_path, is_repeated, repeated, repeated_faults, same_path}
+use Rattle.std.specs.List.{filter}
 use Rattle.std.specs.Ordering.{is_eq}
 use Rattle.std.proofs.Math.Bool.{or-true}
-use Rattle.std.proofs.Math.Seq.{take-append_seam}
 use Rattle.std.proofs.lemmas.Cmp.{lists_total, nat_list_cmp_total, tied_itself}
 use Rattle.std.proofs.lemmas.Map.Views.{tells_apart}
-use Rattle.fb_laws.proofs.Common.{Code, Fault, at_place, in_places, contains_cases, contains_filter, contains_here, contains_later, contains_map, contains_nothing, origin_in_map, passes_in_filter, Path, PathUse, fault_at_path, has_path, is_repeated, repeated, repeated_faults, same_path}
 use Rattle.fb_laws.proofs.SplitLemmas.{SplitImages, at_split, images_split, split_at, split_images}
 
 path_exact : (a b : Path) → same_path a b ≡ true → a ≡ b
@@ -40,12 +37,7 @@ is_again paths x c =
     let j = in_places 0 paths p.origin r.among in
     let number : p.origin.0 ≡ j.0 = j.1 ∙ (let e : 0 + j.0 ≡ j.0 = omega arith in e) in
     let s = split_at paths j.0 x (j.2 ∙ ap Some p.gives) in
-    record {
-      before = take j.0 paths;
-      after = s.0;
-      split = s.1;
-      seen = (λ i. has_path (take (sym number i) paths) (sym p.gives i).names) ∙ r.passes;
-    }
+    record { before = take j.0 paths; after = s.0; split = s.1; seen = (λ i. has_path (take (sym number i) paths) (sym p.gives i).names) ∙ r.passes }
 
 again_is : (paths : List PathUse) (x : PathUse) → IsAgain paths x → Contains (repeated paths) x
 again_is paths x h = subst (λ (l : List PathUse). Contains (repeated l) x) (sym h.split) (contains_map (λ (placed : ℕ × PathUse). placed.1) (filter (is_repeated whole) (enumerate_from 0 whole)) (length h.before, x) placed)

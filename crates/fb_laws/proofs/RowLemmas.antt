@@ -1,15 +1,10 @@
 -- Places in a list of rows.
-use Rattle.std.proofs.Common.{◌≡◌, zero, suc, ℕ, ◌+◌, ◌<◌, List, [], ◌∷◌, ◌++◌, length, Some, refl, sym, ap, ◌∙◌, subst, ◌⊎◌, inl, inr, arith}
-use Rattle.std.specs.List.{flat_map, slice_get}
-use Rattle.std.proofs.lemmas.Bool.{cases_order}
-use Rattle.std.proofs.lemmas.Option.{slice_get_within}
-use Rattle.fb_laws.proofs.Common.{Cell, IsBefore, in_earlier_row, in_same_row}
+use Rattle.fb_laws.proofs.Common.{◌≡◌, zero, suc, ℕ, ◌+◌, ◌<◌, List, [], ◌∷◌, ◌++◌, length, Some, refl, sym, ap, ◌∙◌, subst, ◌⊎◌, inl, inr, arith, flat_map, slice_get, cases_order, slice_get_within, Cell, IsBefore, in_earlier_row, in_same_row}
 
 in_either : {Y : Type 0} (xs ys : List Y) (k : ℕ) (y : Y) → slice_get (xs ++ ys) k ≡ Some y → (slice_get xs k ≡ Some y) ⊎ ((j : ℕ) × (k ≡ length xs + j) × (slice_get ys j ≡ Some y))
 in_either [] ys k y e = inr (k, (let start : k ≡ 0 + k = omega arith in start), e)
 in_either (x ∷ xs) ys zero y e = inl e
-in_either (x ∷ xs) ys (suc k) y e =
-    elim (in_either xs ys k y e) [ inl h ↦ inl h | inr o ↦ let number : k ≡ length xs + o.0 = o.1 in inr (o.0, omega (arith, number), o.2) ]
+in_either (x ∷ xs) ys (suc k) y e = elim (in_either xs ys k y e) [ inl h ↦ inl h | inr o ↦ let number : k ≡ length xs + o.0 = o.1 in inr (o.0, omega (arith, number), o.2) ]
 
 in_front : {Y : Type 0} (xs ys : List Y) (k : ℕ) (y : Y) → slice_get xs k ≡ Some y → slice_get (xs ++ ys) k ≡ Some y
 in_front [] ys k y e = absurd (let no : ⊥ = cc in no)
@@ -61,8 +56,7 @@ module _ {X Y : Type 0} (f : X → List Y) where
       let h = o.row_there in
       let here : x ≡ o.item = cc in
       in_front (f x) (flat_map f xs) column y (subst (λ (z : X). slice_get (f z) column ≡ Some y) (sym here) o.there)
-  at_number (x ∷ xs) (suc row) column y o =
-      behind (f x) (flat_map f xs) (number_of xs row column) ∙ at_number xs row column y (record { item = o.item; row_there = o.row_there; there = o.there })
+  at_number (x ∷ xs) (suc row) column y o = behind (f x) (flat_map f xs) (number_of xs row column) ∙ at_number xs row column y (record { item = o.item; row_there = o.row_there; there = o.there })
 
   rows_in_turn : (xs : List X) (row column row' column' : ℕ) (y : Y) → IsAt xs row column y → row < row' → number_of xs row column < number_of xs row' column'
   unfolding number_of
@@ -86,8 +80,7 @@ module _ {X Y : Type 0} (f : X → List Y) where
 
   pub numbers_in_turn : (xs : List X) (a b : Cell) (y : Y) → IsAt xs a.row a.column y → IsBefore a b → number_of xs a.row a.column < number_of xs b.row b.column
   numbers_in_turn xs a b y o (in_earlier_row less) = rows_in_turn xs a.row a.column b.row b.column y o less
-  numbers_in_turn xs a b y o (in_same_row same less) =
-      subst (λ (row : ℕ). number_of xs a.row a.column < number_of xs row b.column) same (columns_in_turn xs a.row a.column b.column less)
+  numbers_in_turn xs a b y o (in_same_row same less) = subst (λ (row : ℕ). number_of xs a.row a.column < number_of xs row b.column) same (columns_in_turn xs a.row a.column b.column less)
 
   pub before_by_numbers : (xs : List X) (a b : Cell) (y : Y) → IsAt xs b.row b.column y → number_of xs a.row a.column < number_of xs b.row b.column → IsBefore a b
   before_by_numbers xs a b y o less = by (cases_order a.row b.row) (cases_order a.column b.column)

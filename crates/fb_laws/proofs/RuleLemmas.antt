@@ -1,12 +1,9 @@
 -- The rules of classes, by the functions of the check.
-use Rattle.std.proofs.Common.{◌≡◌, ◌≢◌, Bool, true, false, Option, Some, None, unwrap_or, refl, sym, ap, ◌∙◌, true≢false}
-use Rattle.std.specs.Option.{option_and_then}
-use Rattle.std.proofs.lemmas.Bool.{false_from_ne_true}
+use Rattle.fb_laws.proofs.Common.{◌≡◌, ◌≢◌, Bool, true, false, Option, Some, None, unwrap_or, refl, sym, ap, ◌∙◌, true≢false, option_and_then, false_from_ne_true, is_free, takes, Class, B, I, W, O, Free, Num, Any, arithmetical, change, class_of_broken, combined, join, logical, operation, pair_class, whole as whole_of, allows, ClassPlace, Condition, Count, Counter, Selector, Joins, Takes, IsLogical, Calculates, Divides, Changes, JoinsTruths, Compares, IsArithmetic, Makes, Combines, Spoils, Results, Fits}
 use Rattle.fb_tree.specs.declared.expression.BinaryOperator.{BinaryOperator}
-use Rattle.fb_tree.specs.declared.expression.BinaryOperator.TheVariants.{Or, Xor, And, Equal, NotEqual, Less, Greater, LessOrEqual, GreaterOrEqual, Add, Subtract, Multiply, Divide, Modulo, Power}
+use Rattle.fb_tree.specs.declared.expression.BinaryOperator.TheVariants.{Modulo}
 use Rattle.fb_tree.specs.declared.expression.UnaryOperator.{UnaryOperator}
 use Rattle.fb_tree.specs.declared.expression.UnaryOperator.TheVariants.{Plus, Minus, Not}
-use Rattle.fb_laws.proofs.Common.{is_free, takes, Class, B, I, W, O, Free, Num, Any, arithmetical, change, class_of_broken, combined, join, logical, operation, pair_class, whole as whole_of, allows, ClassPlace, Condition, Count, Counter, Selector, Joins, Takes, IsLogical, Calculates, Divides, Changes, JoinsTruths, Compares, IsArithmetic, Makes, Combines, Spoils, Results, Fits}
 
 -- a class that comes of a rule, where the check has one
 pub data Known (P : Class → Type 0) : Option Class → Type 0 where
@@ -30,7 +27,7 @@ ruleset known = (fails, gives)
 
 ruleset joined = (Joins.equal, Joins.whole_left, Joins.whole_right, Joins.number_right_whole, Joins.number_right_bits, Joins.number_right_other, Joins.number_left_whole, Joins.number_left_bits, Joins.number_left_other)
 
-joins : (a b : Class) → Known (Joins a b) (join a b)
+pub joins : (a b : Class) → Known (Joins a b) (join a b)
 joins B B = gives (Joins.equal B)
 joins a Free = gives (Joins.free_right a)
 joins Free b = gives (Joins.free_left b)
@@ -61,12 +58,6 @@ told_join a b c (Joins.any_right d) = right_joins d
 told_join a b c (Joins.free_right d) = free_joins d
 told_join a b c is = refl
 
-pub none_join : (a b : Class) → join a b ≡ None → (c : Class) → ¬ Joins a b c
-none_join a b e = none_of (Joins a b) (join a b) (told_join a b) e
-
-pub no_join : (a b : Class) → ((c : Class) → ¬ Joins a b c) → join a b ≡ None
-no_join a b none = missing (Joins a b) (join a b) (joins a b) none
-
 -- constants
 
 ruleset constants = (Takes.truth, Takes.truth_any, Takes.whole, Takes.whole_number, Takes.whole_any, Takes.bits, Takes.bits_number, Takes.bits_any, Takes.other, Takes.other_whole, Takes.other_number, Takes.other_any)
@@ -74,8 +65,7 @@ ruleset constants = (Takes.truth, Takes.truth_any, Takes.whole, Takes.whole_numb
 known_take : (kind constant : Class) → takes kind constant ≡ true → Takes kind constant
 known_take Free constant e = Takes.free_type constant
 known_take kind Free e = Takes.free_constant kind
-known_take kind constant e =
-    first_of (search constants, cc)
+known_take kind constant e = first_of (search constants, cc)
 
 free_taken : (kind : Class) → takes kind Free ≡ true
 free_taken B = refl
@@ -165,9 +155,11 @@ by_logic operator is c = mapped (Keeps c) (Makes operator c) (logical c) (λ g k
 by_arithmetic : (operator : BinaryOperator) → IsArithmetic operator → (c : Class) → Known (Makes operator c) (arithmetical c)
 by_arithmetic operator is c = mapped (Calculates c) (Makes operator c) (arithmetical c) (λ g k. Makes.arithmetic is k) (calculated c)
 
+ruleset made = (by_logic, by_arithmetic, gives, Makes.comparison)
+
 makes : (operator : BinaryOperator) (c : Class) → Known (Makes operator c) (operation operator c)
 makes Modulo c = mapped (Divides c) (Makes Modulo c) (whole_of c) (λ g k. Makes.modulo k) (divided c)
-makes operator c = search (by_logic, by_arithmetic, gives, Makes.comparison, logics, comparisons, calculations)
+makes operator c = search (made, logics, comparisons, calculations)
 
 told_makes : (operator : BinaryOperator) (c g : Class) → Makes operator c g → operation operator c ≡ Some g
 told_makes operator c g (Makes.logic JoinsTruths.or l) = told_logic c l
@@ -270,5 +262,4 @@ pub misfits : (place : ClassPlace) (c : Class) → allows place c ≡ false → 
 misfits place c e f = true≢false (sym (told_fit place c f) ∙ e)
 
 pub told_misfit : (place : ClassPlace) (c : Class) → ¬ Fits place c → allows place c ≡ false
-told_misfit place c none =
-    (elim (allows place c) as (λ b. allows place c ≡ b → b ≡ false) [ true ↦ λ e. absurd (none (fits place c e)) | false ↦ λ e. refl ]) refl
+told_misfit place c none = (elim (allows place c) as (λ b. allows place c ≡ b → b ≡ false) [ true ↦ λ e. absurd (none (fits place c e)) | false ↦ λ e. refl ]) refl

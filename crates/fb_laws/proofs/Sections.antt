@@ -1,7 +1,5 @@
 -- The parts of constants, types, interfaces, networks, states and parts of systems.
-use Rattle.std.proofs.Common.{inl, inr, refl, List, ◌∷◌, ◌++◌, map, Option, Some, None}
-use Rattle.std.specs.List.{flat_map}
-use Rattle.fb_laws.proofs.Common.{NameUse, one, key, behind, list, name, names, OpenBracket, CloseBracket, Of, Lexeme, number, ranges, length_of_string, element_or_sized, plain_type, array_of, array_type, type_use, other_literal_kinds, simple, in_brackets, constant_list, constant, parameter, listed_parameters, parameters, optional_parameters, instance, plugs, sockets, blocks, inner_subapplication, subapplications, end, connection, connections, ParameterTree, one_value, value_span, Section, Side, TypeUse, Role, Sort, Part, name_part, constant_part, type_part, name_parts, names_in, option_parts, simple_parts, constant_parts, type_use_parts, event_parts, variables_parts, parameter_parts, instance_parts, end_parts, connection_parts, action_parts, state_parts, resource_parts, device_parts, mapping_parts}
+use Rattle.fb_laws.proofs.Common.{inl, inr, refl, List, ◌∷◌, ◌++◌, map, Option, Some, None, flat_map, NameUse, one, key, behind, list, name, names, OpenBracket, CloseBracket, Of, Lexeme, number, ranges, length_of_string, element_or_sized, plain_type, array_of, array_type, type_use, other_literal_kinds, simple, in_brackets, constant_list, constant, parameter, listed_parameters, parameters, optional_parameters, instance, plugs, sockets, blocks, inner_subapplication, subapplications, end, connection, connections, ParameterTree, one_value, value_span, Section, Side, TypeUse, Role, Sort, Part, name_part, constant_part, type_part, name_parts, names_in, option_parts, simple_parts, constant_parts, type_use_parts, event_parts, variables_parts, parameter_parts, instance_parts, end_parts, connection_parts, action_parts, state_parts, resource_parts, device_parts, mapping_parts}
 use Rattle.fb_sections.specs.Chart.{sent_event, action, actions, state, states}
 use Rattle.fb_sections.specs.Interface.{with_names, event, events, initial, variables, data_variables, internal_variables, fields}
 use Rattle.fb_sections.specs.SystemParts.{path, mapping, mappings, header, resource, device}
@@ -59,8 +57,7 @@ filled_plain_type =
     (filled_more name length_of_string (λ n. n.span) (λ l. l.span) _ (λ n. refl) (λ n bracket. refl) filled_name ends_length)
 
 ends_element : Ends (behind (key OpenBracket) (behind ranges (behind (key CloseBracket) (behind (key Of) name)))) (λ n. n.span)
-ends_element =
-    ends_behind _ _ (λ n. n.span) (ends_behind _ _ (λ n. n.span) (ends_behind _ _ (λ n. n.span) (ends_behind _ name (λ n. n.span) (ends_filled name (λ n. n.span) filled_name))))
+ends_element = ends_behind _ _ (λ n. n.span) (ends_behind _ _ (λ n. n.span) (ends_behind _ _ (λ n. n.span) (ends_behind _ name (λ n. n.span) (ends_filled name (λ n. n.span) filled_name))))
 
 filled_array_type : Filled array_type (λ t. t.span)
 unfolding array_type
@@ -162,8 +159,7 @@ sound_blocks = sound_section _ _ _ instance_parts (sound_instance _)
 
 sound_subapplication : Sound inner_subapplication instance_parts
 unfolding inner_subapplication
-sound_subapplication =
-    sound_as _ _ instance_parts (sound_both name _ name_parts name_parts sound_name (sound_behind _ _ _ (sound_before name _ name_parts sound_name)))
+sound_subapplication = sound_as _ _ instance_parts (sound_both name _ name_parts name_parts sound_name (sound_behind _ _ _ (sound_before name _ name_parts sound_name)))
 
 pub sound_subapplications : Sound subapplications (flat_map instance_parts)
 unfolding subapplications

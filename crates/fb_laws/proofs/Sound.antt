@@ -1,9 +1,6 @@
 -- The parts of what a form reads are written in the tokens that spell it.
-use Rattle.std.proofs.Common.{refl, ◌≡◌, inl, inr, List, [], ◌∷◌, ◌++◌, map, Option, Some, None, sym, subst}
+use Rattle.fb_laws.proofs.Common.{refl, ◌≡◌, inl, inr, List, [], ◌∷◌, ◌++◌, map, Option, Some, None, sym, subst, flat_map, or_right, NameUse, Form, one, both, either, option, many, as_value, Spells, SpellsOption, SpellsEach, key, before, behind, or_none, optional_list, cons, separated, name, names, is_among, name_kinds, same_kind, name_use, Kind, Lexeme, Part, name_part, mark_part, name_parts, option_parts, part_span, SpellsPart, IsWritten, mark}
 use Rattle.std.specs.Prelude.{Bool, true, false, ◌||◌}
-use Rattle.std.specs.List.{flat_map}
-use Rattle.std.proofs.lemmas.Bool.{or_right}
-use Rattle.fb_laws.proofs.Common.{NameUse, Form, one, both, either, option, many, as_value, Spells, SpellsOption, SpellsEach, key, before, behind, or_none, optional_list, cons, separated, name, names, is_among, name_kinds, same_kind, name_use, Kind, Lexeme, Part, name_part, mark_part, name_parts, option_parts, part_span, SpellsPart, IsWritten, mark}
 use Rattle.fb_sections.specs.Sections.{section, optional_name}
 use Rattle.fb_laws.proofs.Filling.{Filled, filled_as, filled_token, filled_name}
 use Rattle.fb_laws.proofs.Tokens.{Each, each_append, each_front, each_rest, each_left, each_right, written_whole}
@@ -70,8 +67,7 @@ stands_or_none f us None h = tt
 stands_or_none f us (Some vs) h = h
 
 pub sound_optional_list : {A : Type 0} (x : Form (List A)) (f : A → List Part) → Sound x (flat_map f) → Sound (optional_list x) (flat_map f)
-sound_optional_list x f h =
-    sound_as or_none (option x) (flat_map f) (record { stands = λ us v s. stands_or_none f us v (stands_option x (flat_map f) h us v s) })
+sound_optional_list x f h = sound_as or_none (option x) (flat_map f) (record { stands = λ us v s. stands_or_none f us v (stands_option x (flat_map f) h us v s) })
 
 pub sound_separated : {A : Type 0} (kind : Kind) (x : Form A) (f : A → List Part) → Sound x f → Sound (separated kind x) (flat_map f)
 sound_separated kind x f h =
@@ -79,8 +75,7 @@ sound_separated kind x f h =
     (sound_both x (many (behind (key kind) x)) f (flat_map f) h (sound_many (behind (key kind) x) f (sound_behind (key kind) x f h)))
 
 pub sound_section : {A : Type 0} (start : Kind) (x : Form A) (end : Kind) (f : A → List Part) → Sound x f → Sound (section start x end) (flat_map f)
-sound_section start x end f h =
-    sound_behind (key start) (before (many x) (key end)) (flat_map f) (sound_before (many x) (key end) (flat_map f) (sound_many x f h))
+sound_section start x end f h = sound_behind (key start) (before (many x) (key end)) (flat_map f) (sound_before (many x) (key end) (flat_map f) (sound_many x f h))
 
 -- Parts of their own
 
@@ -128,8 +123,7 @@ each_none P ps h = each_append P ps [] h tt
 -- the parts of the items of two lists
 pub each_items : {A : Type 0} (P : Part → Type 0) (f : A → List Part) (xs ys : List A) → Each P (flat_map f xs) → Each P (flat_map f ys) → Each P (flat_map f (xs ++ ys))
 each_items P f [] ys h k = k
-each_items P f (x ∷ xs) ys h k =
-    each_append P (f x) (flat_map f (xs ++ ys)) (each_front P (f x) (flat_map f xs) h) (each_items P f xs ys (each_rest P (f x) (flat_map f xs) h) k)
+each_items P f (x ∷ xs) ys h k = each_append P (f x) (flat_map f (xs ++ ys)) (each_front P (f x) (flat_map f xs) h) (each_items P f xs ys (each_rest P (f x) (flat_map f xs) h) k)
 
 -- Kinds in lists
 

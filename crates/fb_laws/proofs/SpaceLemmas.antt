@@ -1,8 +1,6 @@
 -- Name spaces, by the function of the check.
-use Rattle.std.proofs.Common.{◌≡◌, ℕ, false, List, [], ◌∷◌, ◌++◌, map, flat_map, if◌then◌else◌, Some, None, ◌⊎◌, inl, inr, refl, sym, ap, ◌∙◌, subst}
-use Rattle.std.specs.List.{Contains, slice_get}
-use Rattle.std.proofs.lemmas.List.Elements.{Contains-append_left, Contains-append_right, Contains-append_cases}
-use Rattle.fb_laws.proofs.Common.{NameUse, contains_cases, contains_flat_map, contains_here, contains_later, contains_map, contains_single, origin_in_flat_map, origin_in_map, ApplicationTree, DeclTree, DeviceTree, EventTree, InstanceTree, NetworkTree, ParameterTree, StateTree, AlgorithmTree, StructureTree, SystemTree, TypeTree, VariablesTree, adapter_type, block_type, structure_type, subapplication_type, system_configuration, Role, Block, Plug, Socket, Subapplication, chart_spaces, interface_spaces, is_block, network_spaces, parameter_names, resource_names, spaces_of, system_spaces, type_spaces, IsHeldIn, IsType, instance_of_application, instance_of_type, of_adapter, of_block, of_subapplication}
+use Rattle.fb_laws.proofs.Common.{◌≡◌, ℕ, false, List, [], ◌∷◌, ◌++◌, map, if◌then◌else◌, Some, None, ◌⊎◌, inl, inr, refl, sym, ap, ◌∙◌, subst, Contains, slice_get, Contains-append_left, Contains-append_right, Contains-append_cases, NameUse, contains_cases, contains_flat_map, contains_here, contains_later, contains_map, contains_single, origin_in_flat_map, origin_in_map, ApplicationTree, DeclTree, DeviceTree, EventTree, InstanceTree, NetworkTree, ParameterTree, StateTree, AlgorithmTree, StructureTree, SystemTree, TypeTree, VariablesTree, adapter_type, block_type, structure_type, subapplication_type, system_configuration, Role, Block, Plug, Socket, Subapplication, chart_spaces, interface_spaces, is_block, network_spaces, parameter_names, resource_names, spaces_of, system_spaces, type_spaces, IsHeldIn, IsType, instance_of_application, instance_of_type, of_adapter, of_block, of_subapplication}
+use Rattle.std.proofs.Common.{flat_map}
 use Rattle.fb_laws.specs.Spaces.{IsSpace, algorithms, applications, devices, events, fields, instances, instances_of_application, parameters, resources, states, variables}
 
 abbrev event_names : TypeTree → List NameUse
@@ -106,8 +104,7 @@ module _ (s : SystemTree) where
   told_back space c = Contains-append_right (app_names ∷ app_spaces) (device_names ∷ device_spaces) space c
 
   told_application : (a : ApplicationTree) → Contains s.applications a → (space : List NameUse) → Contains (network_spaces a.network) space → Contains (system_spaces s) space
-  told_application a among space c =
-      told_front space (contains_later app_names app_spaces space (contains_flat_map (λ (x : ApplicationTree). network_spaces x.network) s.applications a space among c))
+  told_application a among space c = told_front space (contains_later app_names app_spaces space (contains_flat_map (λ (x : ApplicationTree). network_spaces x.network) s.applications a space among c))
 
   known_system : (space : List NameUse) → Contains (system_spaces s) space → IsSpaceOrNone (system_configuration s) space
   known_system space c = by (Contains-append_cases (app_names ∷ app_spaces) (device_names ∷ device_spaces) space c)
@@ -126,8 +123,7 @@ known (block_type d) space c = known_type (block_type d) d (of_block d) space c
 known (adapter_type d) space c = known_type (adapter_type d) d (of_adapter d) space c
 known (subapplication_type d) space c = known_type (subapplication_type d) d (of_subapplication d) space c
 known (system_configuration s) space c = known_system s space c
-known (structure_type s) space c =
-    inl (subst (λ (names : List NameUse). IsSpace (structure_type s) names) (contains_single (field_names s) space c) (fields s))
+known (structure_type s) space c = inl (subst (λ (names : List NameUse). IsSpace (structure_type s) names) (contains_single (field_names s) space c) (fields s))
 
 -- what the function lists, where it has a name
 pub known_space : (decl : DeclTree) (space : List NameUse) (place : ℕ) (name : NameUse) → Contains (spaces_of decl) space → slice_get space place ≡ Some name → IsSpace decl space

@@ -1,8 +1,6 @@
 -- Lists that are split at an item.
-use Rattle.std.proofs.Common.{zero, suc, ◌≡◌, ℕ, length, List, [], ◌∷◌, ◌++◌, map, take, Some, ◌⊎◌, inl, inr, refl, sym, ap, ◌∙◌, append_assoc}
-use Rattle.std.specs.List.{flat_map, slice_get}
+use Rattle.fb_laws.proofs.Common.{zero, suc, ◌≡◌, ℕ, length, List, [], ◌∷◌, ◌++◌, map, take, Some, ◌⊎◌, inl, inr, refl, sym, ap, ◌∙◌, append_assoc, flat_map, slice_get, map-append}
 use Rattle.std.proofs.lemmas.Grind.{flat_map-append}
-use Rattle.std.proofs.lemmas.List.{map-append}
 
 -- what stands at a place splits the list
 pub split_at : {A : Type 0} (xs : List A) (j : ℕ) (x : A) → slice_get xs j ≡ Some x → (after : List A) × (xs ≡ take j xs ++ x ∷ after)

@@ -1,10 +1,6 @@
 -- Parts that are written in the tokens as the grammar sees them stand in the text.
-use Rattle.std.proofs.Common.{◌≡◌, ℕ, zero, suc, ◌<◌, ◌≤◌, Bool, true, false, cond, List, [], ◌∷◌, ◌++◌, length, map, refl, sym, ap, ◌∙◌, subst, arith, Result, Ok, Err}
-use Rattle.std.specs.Prelude.{All, Contains, IsOk, nat_lt, slice_index_or, slice_range, ◌==◌}
-use Rattle.std.specs.Str.{IsCharBoundary, str_to_ascii_uppercase}
-use Rattle.std.proofs.lemmas.List.{map-append}
-use Rattle.std.proofs.lemmas.List.Elements.{Contains-append_left, All-contains, All-from_recursion, All-map, All-weaker, Contains-append_right}
-use Rattle.fb_laws.proofs.Common.{name_of, tokens_of, spans_of, IsSpelled, LiesIn, SpansRise, HasForm, is_word, word_len, NameFault, NameUse, Span, Token, TokenKind, Word, name_of-ok, IsBody, IsBodyIn, body_of, Whole, name as name_form, Spells, is_among, name_kinds, lexeme_of, lexemes_in, lexemes_of, name_or, name_use, Lexeme, DeclTree, told, Part, name_part, tree_parts, PartsAreWritten, SpansCoverTokens, SpansLieInText, NamesAreWords, part_span, BeginsAt, EndsAt, IsWritten}
+use Rattle.fb_laws.proofs.Common.{◌≡◌, ℕ, zero, suc, ◌<◌, ◌≤◌, Bool, true, false, cond, List, [], ◌∷◌, ◌++◌, length, map, refl, sym, ap, ◌∙◌, subst, arith, Result, Ok, Err, All, IsOk, nat_lt, slice_index_or, slice_range, IsCharBoundary, str_to_ascii_uppercase, map-append, Contains-append_left, All-contains, All-from_recursion, All-map, All-weaker, Contains-append_right, name_of, tokens_of, spans_of, IsSpelled, LiesIn, SpansRise, HasForm, is_word, word_len, NameFault, NameUse, Span, Token, TokenKind, name_of-ok, IsBody, IsBodyIn, body_of, Whole, name as name_form, Spells, is_among, name_kinds, lexeme_of, lexemes_in, lexemes_of, name_or, name_use, Lexeme, DeclTree, told, Part, name_part, tree_parts, PartsAreWritten, SpansCoverTokens, SpansLieInText, NamesAreWords, part_span, BeginsAt, EndsAt, IsWritten}
+use Rattle.std.specs.Prelude.{Contains, ◌==◌}
 use Rattle.fb_text.specs.declared.name.NameFault.TheVariants.{Empty, BadByte, TooLong}
 use Rattle.fb_structured_text.proofs.Forms.NameWords.{names as names_are_words}
 use Rattle.fb_laws.specs.Standing.{Covers, IsWord}
@@ -51,9 +47,6 @@ unfolding lexeme_of
 same_spans text [] = refl
 same_spans text (t ∷ ts) = ap (λ ss. t.span ∷ ss) (same_spans text ts)
 
-word_bytes : (kind : TokenKind) (bytes : List ℕ) → HasForm kind bytes → kind ≡ Word → is_word bytes ≡ true
-word_bytes kind bytes form e = subst (λ (k : TokenKind). HasForm k bytes) e form
-
 word_stands : (text : List ℕ) (tokens : List Token) (token : Token) (name : NameUse) → AreTokens text tokens → Contains tokens token → is_among name_kinds (lexeme_of text token).kind ≡ true
     → name ≡ name_use (lexeme_of text token) → IsWord text tokens name
 unfolding lexeme_of
@@ -66,7 +59,7 @@ word_stands text tokens token name are among kind same =
       among = among;
       word = word.0;
       span = ap (λ (n : NameUse). n.span) same;
-      spelling = ap (λ (n : NameUse). n.name) same ∙ spelled_word bytes _ (word_bytes token.kind bytes spelled word.0) word.1;
+      spelling = ap (λ (n : NameUse). n.name) same ∙ spelled_word bytes _ (subst (λ (k : TokenKind). HasForm k bytes) word.0 spelled) word.1;
     }
 
 -- the token of a name that is written
@@ -123,12 +116,7 @@ pub record StandsInTokens (text : List ℕ) (tree : DeclTree) : Type 0 where
 
 tree_in : (text : List ℕ) (tree : DeclTree) (r : Result (List Token) Span) → tokens_of text ≡ r → IsBodyIn (length text) (lexemes_in text r) (Whole tree) → StandsInTokens text tree
 tree_in text tree (Err bad) e h = cc
-tree_in text tree (Ok tokens) e h =
-    record {
-      tokens = tokens;
-      are = e;
-      written = All-from_recursion (IsWritten (map (lexeme_of text) tokens)) (tree_parts tree) (sound_unit.stands (map (lexeme_of text) tokens) tree h);
-    }
+tree_in text tree (Ok tokens) e h = record { tokens = tokens; are = e; written = All-from_recursion (IsWritten (map (lexeme_of text) tokens)) (tree_parts tree) (sound_unit.stands (map (lexeme_of text) tokens) tree h) }
 
 pub tree_stands : (text : List ℕ) (tree : DeclTree) → body_of text ≡ Whole tree → StandsInTokens text tree
 unfolding lexemes_of

@@ -1,9 +1,5 @@
 -- What a statement demands, by what stands in it.
-use Rattle.std.proofs.Common.{◌≡◌, List, [], ◌∷◌, ◌++◌, Option, Some, None, ◌⊎◌, inl, inr, refl, sym, subst}
-use Rattle.std.specs.List.{Contains}
-use Rattle.std.specs.Option.{option_map_or}
-use Rattle.std.proofs.lemmas.List.Elements.{Contains-append_cases, Contains-append_left, Contains-append_right}
-use Rattle.fb_laws.proofs.Common.{NameUse, Span, ReferenceTree, Expression, reference_expression, Expressions, no_expressions, Statement, empty, assignment, exit, return, choice, selection, count, while_loop, repeat_loop, Statements, no_statements, statement_then, Arms, no_arms, arm_then, contains_cases, contains_here, contains_later, contains_nothing, contains_single, Demand, names_variable, suits_place, assigns, demands_in, demands_at, name_alone, counter_demands, range_demands, statement_demands, statements_demands, arms_demands, Names, ClassPlace, Condition, Count, Counter, Selector, IsArmOf, first_arm, later_arm, Asks, selector, from, to, by, while_condition, until_condition, HasExpression, in_place, value, this, in_arm, behind_else, in_case, behind_cases, in_for, in_while, in_repeat, IsAmong, in_first_statement, in_later_statement}
+use Rattle.fb_laws.proofs.Common.{◌≡◌, List, [], ◌∷◌, ◌++◌, Option, Some, None, ◌⊎◌, inl, inr, refl, sym, subst, Contains, option_map_or, Contains-append_cases, Contains-append_left, Contains-append_right, NameUse, Span, ReferenceTree, Expression, reference_expression, Expressions, no_expressions, Statement, empty, assignment, exit, return, choice, selection, count, while_loop, repeat_loop, Statements, no_statements, statement_then, Arms, no_arms, arm_then, contains_cases, contains_here, contains_later, contains_nothing, contains_single, Demand, names_variable, suits_place, assigns, demands_in, demands_at, name_alone, counter_demands, range_demands, statement_demands, statements_demands, arms_demands, Names, ClassPlace, Condition, Count, Counter, Selector, IsArmOf, first_arm, later_arm, Asks, selector, from, to, by, while_condition, until_condition, HasExpression, in_place, value, this, in_arm, behind_else, in_case, behind_cases, in_for, in_while, in_repeat, IsAmong, in_first_statement, in_later_statement}
 use Rattle.fb_laws.specs.Occurrences.{arm, destination, IsWithin}
 use Rattle.fb_laws.proofs.ExpressionLemmas.{Asked, asked_in, demanded_in}
 
@@ -38,8 +34,7 @@ data InThree {A : Type 0} (a b c : List A) (x : A) : Type 0 where
   third : Contains c x → InThree a b c x
 
 in_three : {A : Type 0} (a b c : List A) (x : A) → Contains ((a ++ b) ++ c) x → InThree a b c x
-in_three {A = A} a b c x h =
-    elim (Contains-append_cases (a ++ b) c x h) [ inl g ↦ elim (Contains-append_cases a b x g) [ inl g ↦ first g | inr g ↦ second g ] | inr g ↦ third g ]
+in_three {A = A} a b c x h = elim (Contains-append_cases (a ++ b) c x h) [ inl g ↦ elim (Contains-append_cases a b x g) [ inl g ↦ first g | inr g ↦ second g ] | inr g ↦ third g ]
 
 three_in : {A : Type 0} (a b c : List A) (x : A) → InThree a b c x → Contains ((a ++ b) ++ c) x
 three_in a b c x (first h) = Contains-append_left (a ++ b) c x (Contains-append_left a b x h)
@@ -114,8 +109,7 @@ module _ (names : Names) where
   of_arms : (condition : Expression) (body : Statements) (others : Arms) (demand : Demand) → InThree (demands_at Condition names condition) (statements_demands names body) (arms_demands names others) demand → (Contains (statements_demands names body) demand → Among names body demand) → (Contains (arms_demands names others) demand → AmongArms names others demand) → AmongArms names (arm_then condition body others) demand
   of_arms condition body others demand (first h) inner more = of_condition condition body first_arm h
   of_arms condition body others demand (second h) inner more = of_body condition body first_arm (inner h)
-  of_arms condition body others demand (third h) inner more =
-      elim (more h) [ of_condition c b is d ↦ of_condition c b (later_arm is) d | of_body c b is a ↦ of_body c b (later_arm is) a ]
+  of_arms condition body others demand (third h) inner more = elim (more h) [ of_condition c b is d ↦ of_condition c b (later_arm is) d | of_body c b is a ↦ of_body c b (later_arm is) a ]
 
   mutual
     asked_within : (s : Statement) (demand : Demand) → Contains (statement_demands names s) demand → Within names s demand

@@ -1,8 +1,5 @@
 -- Units whose text is broken, that are absent, and that are whole.
-use Rattle.std.proofs.Common.{◌≡◌, List, [], refl, sym, ap, subst}
-use Rattle.std.specs.List.{Contains}
-use Rattle.std.specs.Option.{option_and_then}
-use Rattle.fb_laws.proofs.Common.{BodyTree, BrokenAt, IsBody, tree_of, faults_in_order, Syntax, Fault, all_reported, faults_of, text_faults, contains_here, broken_alone, told, IsOfPart, AbsentUnitsHaveNoFaults, BrokenTextsAreReported, BrokenTextsAreReportedAlone, IsBroken, WholeTextsAreNotReported, broken_at}
+use Rattle.fb_laws.proofs.Common.{◌≡◌, List, [], refl, sym, ap, subst, Contains, option_and_then, BodyTree, BrokenAt, IsBody, tree_of, faults_in_order, Syntax, Fault, all_reported, text_faults, contains_here, broken_alone, told, IsOfPart, AbsentUnitsHaveNoFaults, BrokenTextsAreReported, BrokenTextsAreReportedAlone, IsBroken, WholeTextsAreNotReported, broken_at}
 use Rattle.fb_deploy.proofs.Parse.Bodies.{one}
 use Rattle.fb_laws.proofs.CodeLemmas.{own_codes}
 use Rattle.fb_laws.proofs.PartLemmas.{IsReported, is_found, no_text_code, of_part, of_text, whole_units}

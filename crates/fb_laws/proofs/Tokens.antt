@@ -1,8 +1,6 @@
 -- Parts that are written among tokens.
-use Rattle.std.proofs.Common.{ℕ, List, [], ◌∷◌, ◌++◌, sym, ap, ◌∙◌, append_assoc}
-use Rattle.std.specs.List.{AllByRecursion}
+use Rattle.fb_laws.proofs.Common.{ℕ, List, [], ◌∷◌, ◌++◌, sym, ap, ◌∙◌, append_assoc, AllByRecursion, Span, Lexeme, Part, part_span, BeginsAt, EndsAt, SpellsPart, IsWritten}
 use Rattle.std.proofs.lemmas.List.{append-nil}
-use Rattle.fb_laws.proofs.Common.{Span, Lexeme, Part, part_span, BeginsAt, EndsAt, SpellsPart, IsWritten}
 
 -- Where tokens begin and end
 
@@ -27,8 +25,7 @@ pub record Fills (us : List Lexeme) (span : Span) : Type 0 where
 
 -- the tokens are those of the part
 pub written_whole : (us : List Lexeme) (p : Part) → Fills us (part_span p) → SpellsPart us p → IsWritten us p
-written_whole us p fills spells =
-    record { before = []; inside = us; behind = []; parts = sym (append-nil us); begins = fills.begins; ends = fills.ends; spells = spells }
+written_whole us p fills spells = record { before = []; inside = us; behind = []; parts = sym (append-nil us); begins = fills.begins; ends = fills.ends; spells = spells }
 
 written_left : (us vs : List Lexeme) (p : Part) → IsWritten us p → IsWritten (us ++ vs) p
 written_left us vs p h = record {

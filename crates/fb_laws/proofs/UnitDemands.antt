@@ -1,8 +1,5 @@
 -- What the guards and the algorithms of a block type demand, and the faults of what is not met.
-use Rattle.std.proofs.Common.{◌≡◌, ℕ, false, List, [], ◌∷◌, ◌++◌, Option, Some, None, ◌⊎◌, inl, inr, refl, subst}
-use Rattle.std.specs.List.{Contains, flat_map}
-use Rattle.std.proofs.lemmas.List.Elements.{Contains-append_cases, Contains-append_left, Contains-append_right}
-use Rattle.fb_laws.proofs.Common.{NameUse, Span, ReferenceTree, Expression, reference_expression, unary_expression, row_expression, Expressions, no_expressions, Operands, Statement, assignment, count, Statements, statements_of, ConditionTree, always, on_event, guarded, guard, DeclTree, TypeTree, block_type, adapter_type, BinaryUse, UnaryUse, Member, Sources, tree_at, Class as ValueClass, Fault, contains_flat_map, contains_here, contains_nothing, contains_single, origin_in_flat_map, expr_faults_of, faults_in_unit, Demand, names_variable, names_field, suits_operand, suits_operands, suits_place, assigns, is_met, demands_in, demands_at, name_alone, guard_demands, transition_demands, algorithm_demands, chart_demands, class_in, Names, names_of_type, ClassPlace, Condition, Count, Counter, IsOneOf, OccursIn, Asks, IsGuardOf, with_event, IsRunIn, IsTestedIn, IsWrittenIn, in_guard, in_statement}
+use Rattle.fb_laws.proofs.Common.{◌≡◌, ℕ, false, List, [], ◌∷◌, ◌++◌, Option, Some, None, ◌⊎◌, inl, inr, refl, subst, Contains, flat_map, Contains-append_cases, Contains-append_left, Contains-append_right, NameUse, Span, ReferenceTree, Expression, reference_expression, unary_expression, row_expression, Expressions, no_expressions, Operands, Statement, assignment, count, Statements, statements_of, ConditionTree, guarded, guard, DeclTree, TypeTree, block_type, adapter_type, BinaryUse, UnaryUse, Member, Sources, tree_at, Class as ValueClass, Fault, contains_flat_map, contains_here, contains_nothing, contains_single, origin_in_flat_map, expr_faults_of, faults_in_unit, Demand, names_variable, names_field, suits_operand, suits_operands, suits_place, assigns, is_met, demands_in, demands_at, name_alone, guard_demands, transition_demands, algorithm_demands, chart_demands, class_in, Names, names_of_type, ClassPlace, Condition, Count, Counter, IsOneOf, OccursIn, Asks, IsGuardOf, with_event, IsRunIn, IsTestedIn, IsWrittenIn, in_guard, in_statement}
 use Rattle.fb_expr.specs.Demands.{fault_of}
 use Rattle.fb_expr.proofs.DemandLemmas.{faults_unmet}
 use Rattle.fb_laws.specs.Occurrences.{alone}
@@ -90,8 +87,7 @@ module _ (names : Names) (d : TypeTree) where
   demanded demand (operator used y w) = written_demands (unary_expression used y) demand w (λ x o. of_operator used y o)
   demanded demand (pair first operands used before y w is) = written_demands (row_expression first operands) demand w (λ x o. of_pair first operands used before y o is)
   demanded demand (subscript r subscripts y w one) = written_demands (reference_expression r subscripts) demand w (λ x o. of_subscript r subscripts y o one)
-  demanded demand (test x tested) =
-      tested_demands x demand tested (Contains-append_right (demands_in names x) (suits_place Condition x ∷ []) demand (contains_here (suits_place Condition x) []))
+  demanded demand (test x tested) = tested_demands x demand tested (Contains-append_right (demands_in names x) (suits_place Condition x ∷ []) demand (contains_here (suits_place Condition x) []))
   demanded demand (in_place s place x runs asks) = run_demands s demand runs (placed place x asks)
   demanded demand (of_counter name a b step body runs) = run_demands (count name a b step body) demand runs (counter_class name a b step body refl)
   demanded demand (of_assignment r subscripts place e runs) = run_demands (assignment r subscripts place e) demand runs (assigned r subscripts place e refl)
@@ -117,5 +113,4 @@ unmet sources unit f c = by (tree_at sources unit) refl c
     by o e h = absurd (contains_nothing f h)
 
 pub reported : (sources : Sources) (unit : List ℕ) (f : Fault) → Unmet sources unit f → Contains (expr_faults_of sources unit) f
-reported sources unit f u =
-    (faults_unmet sources unit u.block u.declared f).1 (u.demand, demanded (names_of_type sources unit u.block) u.block u.demand u.of_block, u.fails, u.is)
+reported sources unit f u = (faults_unmet sources unit u.block u.declared f).1 (u.demand, demanded (names_of_type sources unit u.block) u.block u.demand u.of_block, u.fails, u.is)

@@ -1,7 +1,5 @@
 -- The parts of sections that are joined, and of units.
-use Rattle.std.proofs.Common.{List, [], ◌∷◌, ◌++◌}
-use Rattle.std.specs.List.{flat_map}
-use Rattle.fb_laws.proofs.Common.{NameUse, Form, many, name, Kind, blocks, connections, plugs, sockets, subapplications, InterfaceTree, NetworkTree, ChartTree, Part, name_part, name_parts, event_parts, variables_parts, interface_parts, instance_parts, connection_parts, network_parts, state_parts, transition_parts, algorithm_parts, chart_parts, declared_parts, application_parts, device_parts, mapping_parts, system_parts, structure_parts, tree_parts}
+use Rattle.fb_laws.proofs.Common.{List, [], ◌∷◌, ◌++◌, flat_map, NameUse, Form, many, name, Kind, blocks, connections, plugs, sockets, subapplications, InterfaceTree, NetworkTree, ChartTree, Part, name_part, name_parts, event_parts, variables_parts, interface_parts, instance_parts, connection_parts, network_parts, state_parts, transition_parts, algorithm_parts, chart_parts, declared_parts, application_parts, device_parts, mapping_parts, system_parts, structure_parts, tree_parts}
 use Rattle.fb_deploy.specs.Parse.Contents.{ContentsTree, of_events, of_variables, of_adapters, of_instances, of_connections, of_states, of_transitions, of_algorithm, interfaces_merged, networks_merged, charts_merged, merged, joined}
 use Rattle.fb_deploy.specs.Parse.Grammar.{data_section, service_section, interface_section, network_section, chart_section, block_section, adapter_section, application_section, subapplication_section, framed, type_of, block, adapter, subapplication, application_of, application, system_section, system, structure, unit}
 use Rattle.fb_deploy.specs.Parse.SystemContents.{SystemContentsTree, of_application, of_device, of_mappings, system_joined}

@@ -1,7 +1,5 @@
 -- References that begin at no variable, and further names that are no fields, by what the list of faults has.
-use Rattle.std.proofs.Common.{◌≡◌, ℕ, zero, suc, Bool, true, false, true≢false, not, ◌||◌, List, [], ◌∷◌, ◌++◌, Some, refl, sym, ap, subst, ◌∙◌, append_assoc}
-use Rattle.std.specs.List.{Contains}
-use Rattle.fb_laws.proofs.Common.{Span, TypeTree, block_type, ReferenceTree, TypeUse, Member, Sources, tree_at, Code, MemberUnknown, VariableUnknown, Fault, DeclaredVariable, expr_faults_of, Demand, names_field, names_variable, code_of_demand, is_field, is_known, is_met, name_alone, referent_through, Names, names_of_type, referent_of, step, walk, names_span, through_second, Referent, Variable, Unjudged, NoMember, HasUnknownMember, HasUnknownVariable, IsNamedIn, in_reference, behind_for, MembersAreKnown, VariablesAreKnown, alone, subscripted, with_second, Begins, GoesOn, HasField, IsOpen}
+use Rattle.fb_laws.proofs.Common.{◌≡◌, ℕ, zero, suc, Bool, true, false, true≢false, not, ◌||◌, List, [], ◌∷◌, ◌++◌, Some, refl, sym, ap, subst, ◌∙◌, append_assoc, Span, TypeTree, block_type, ReferenceTree, TypeUse, Member, Sources, tree_at, Code, MemberUnknown, VariableUnknown, Fault, DeclaredVariable, Demand, names_field, names_variable, is_field, is_known, is_met, name_alone, referent_through, Names, names_of_type, referent_of, step, walk, names_span, through_second, Referent, Variable, Unjudged, NoMember, HasUnknownMember, HasUnknownVariable, IsNamedIn, in_reference, behind_for, MembersAreKnown, VariablesAreKnown, alone, subscripted, with_second, Begins, GoesOn, HasField, IsOpen}
 use Rattle.fb_deploy.specs.Iface.declared.code.Code.TheVariants.{Class}
 use Rattle.fb_expr.specs.Demands.{fault_of}
 use Rattle.fb_expr.specs.declared.references.Referent.TheVariants.{Unknown}
@@ -23,8 +21,7 @@ begins_there r = by r.members r.subscripts refl refl
     by : (members : List Member) (count : ℕ) → r.members ≡ members → r.subscripts ≡ count → BeginsAt r (names_span r)
     by [] count none n = subst (BeginsAt r) (sym (ap (through_second r.name.span r.subscripts) none)) (alone none)
     by (m ∷ others) zero two n = subst (BeginsAt r) (sym (λ k. through_second r.name.span (n k) (two k))) (with_second m others n two)
-    by (m ∷ others) (suc count) two n =
-        subst (BeginsAt r) (sym (λ k. through_second r.name.span (n k) (two k))) (subscripted (λ none. let both : suc count ≡ 0 = sym n ∙ none in cc both))
+    by (m ∷ others) (suc count) two n = subst (BeginsAt r) (sym (λ k. through_second r.name.span (n k) (two k))) (subscripted (λ none. let both : suc count ≡ 0 = sym n ∙ none in cc both))
 
 told_begins : (r : ReferenceTree) (span : Span) → BeginsAt r span → span ≡ names_span r
 told_begins r span (alone none) = sym (ap (through_second r.name.span r.subscripts) none)
