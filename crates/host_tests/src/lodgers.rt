@@ -32,7 +32,7 @@ struct Talk {
 }
 
 // A session says the lines, of which the allocation of this number is refused; what it leaves in hand goes back. What it writes has room.
-fn talk<R: Wait>(
+fn say_lines<R: Wait>(
     rt: &R,
     alloc: Global,
     shared: &Shared,
@@ -96,8 +96,8 @@ fn tried<R: Wait>(rt: &R, alloc: Global, number: u32) -> Result<Talk, Fail> {
     let (shared, mut seats) = Shared::rolling(alloc, limits, 1)?;
     let drawer = Drawer::new(alloc, HISTORY);
     let place = Place::new(alloc, seats.pop().ok_or("no seat")?);
-    let (place, first) = talk(rt, alloc, &shared, &drawer, place, number)?;
-    let (place, last) = talk(rt, alloc, &shared, &drawer, place, 0)?;
+    let (place, first) = say_lines(rt, alloc, &shared, &drawer, place, number)?;
+    let (place, last) = say_lines(rt, alloc, &shared, &drawer, place, 0)?;
     let is_done = last.end == RunEnd::End && last.output.ends_with(LAST.as_bytes());
     let is_closed = is_closed(rt, alloc, shared, drawer, place)?;
     if !is_done || !is_closed || !is_right(&first) {
