@@ -1,8 +1,8 @@
 -- The limits in a request of a checkpoint.
-use Rattle.std.proofs.Common.{◌≡◌, ◌≤◌, ℕ, Bool, true, false, cond, ◌&&◌, nat_le, Option, Some, None, refl, sym, ap, ap₂, ◌∙◌, arith}
+use Rattle.std.proofs.Common.{◌≡◌, ◌≤◌, ℕ, ◌&&◌, ◌∙◌, Bool, None, Option, Some, ap, ap₂, arith, cond, false, nat_le, refl, sym, true}
 use Rattle.std.proofs.lemmas.Bool.Decides.{nat_tests}
 use Rattle.std.specs.Option.{SomeIff}
-use Rattle.fb_history.specs.Limits.{Bounds, AreLimits}
+use Rattle.fb_history.specs.Limits.{AreLimits, Bounds}
 use Rattle.fb_messages.specs.Requests.{limits_of}
 
 both : (a b : Bool) → a && b ≡ true → (a ≡ true) × (b ≡ true)

@@ -1,9 +1,9 @@
 -- The changes of a commit in a value, one after another.
-use Rattle.std.proofs.Common.{◌≡◌, ◌<◌, ◌+◌, ℕ, List, [], ◌∷◌, ◌++◌, map, take, drop, length, Option, Some, None, option_map, get_or, refl, sym, ap, ◌∙◌}
+use Rattle.std.proofs.Common.{◌≡◌, ◌<◌, ◌+◌, ℕ, [], ◌∷◌, ◌++◌, ◌∙◌, List, None, Option, Some, ap, drop, get_or, length, map, option_map, refl, sym, take}
 use Rattle.std.specs.Prelude.{option_and_then}
-use Rattle.std.proofs.lemmas.List.{take_more, take-append-drop, map-append}
+use Rattle.std.proofs.lemmas.List.{map-append, take-append-drop, take_more}
 use Rattle.serde_json.specs.Data.{Data}
-use Rattle.serde_json.specs.View.{view, items_of}
+use Rattle.serde_json.specs.View.{items_of, view}
 use Rattle.serde_json.specs.declared.value.Value.{Value}
 use Rattle.fb_messages.specs.Requests.{Change, change_in, changes_of}
 
@@ -38,8 +38,8 @@ pub one_no_change : (values : List Value) (i : ℕ) (v : Value) (cs : List Chang
     → changes_of (items_of (map view (take i values))) ≡ Some cs → change_in (view v) ≡ None → changes_of (items_of (map view values)) ≡ None
 one_no_change values i v cs within at before is =
     let here : change_in (view (get_or values i v)) ≡ None = ap (λ x. change_in (view x)) (sym at) ∙ is in
-    let front : changes_of (items_of (map view (take (i + 1) values))) ≡ None =
+    let prefix : changes_of (items_of (map view (take (i + 1) values))) ≡ None =
     ap (λ ds. changes_of (items_of ds)) (views_more values i v within) ∙ changes_of-append (map view (take i values)) (view (get_or values i v) ∷ []) ∙ rw (before, here) refl in
     let whole : map view values ≡ map view (take (i + 1) values) ++ map view (drop (i + 1) values) =
     ap (map view) (sym (take-append-drop (i + 1) values)) ∙ map-append view (take (i + 1) values) (drop (i + 1) values) in
-    ap (λ ds. changes_of (items_of ds)) whole ∙ changes_of-append (map view (take (i + 1) values)) (map view (drop (i + 1) values)) ∙ rw front refl
+    ap (λ ds. changes_of (items_of ds)) whole ∙ changes_of-append (map view (take (i + 1) values)) (map view (drop (i + 1) values)) ∙ rw prefix refl

@@ -1,14 +1,14 @@
 -- Objects, from what was written of them.
-use Rattle.std.proofs.Common.{◌≡◌, List, [], ◌∷◌, ◌++◌, Result, Ok, Err, ap, ◌∙◌, append_assoc}
+use Rattle.std.proofs.Common.{◌≡◌, [], ◌∷◌, ◌++◌, ◌∙◌, Err, List, Ok, Result, ap, append_assoc}
 use Rattle.json.specs.Token.{Token, begin_object, end_object}
-use Rattle.json.specs.Written.{Written, Writes}
+use Rattle.json.specs.Written.{Writes, Written}
 use Rattle.fb_messages.specs.Tokens.{Adds}
 
 -- one writing after another
 after : {E : Type 0} (r : Result (Unit {0}) E) (old mid new : Written) (ts us : List Token)
     → (mid.before ≡ old.before) × (mid.tokens ≡ old.tokens ++ ts) → Adds r mid new us → Adds r old new (ts ++ us)
-after (Ok done) old mid new ts us front rest = (rest.0 ∙ front.0, rest.1 ∙ ap (λ xs. xs ++ us) front.1 ∙ append_assoc old.tokens ts us)
-after (Err e) old mid new ts us front rest = tt
+after (Ok done) old mid new ts us prefix rest = (rest.0 ∙ prefix.0, rest.1 ∙ ap (λ xs. xs ++ us) prefix.1 ∙ append_assoc old.tokens ts us)
+after (Err e) old mid new ts us prefix rest = tt
 
 one_token : {E : Type 0} (r : Result (Unit {0}) E) (old new : Written) (t : Token) → Writes r old new t → Adds r old new (t ∷ [])
 one_token (Ok done) old new t wrote = (wrote.room.0, wrote.ok)

@@ -1,5 +1,5 @@
 -- The request of a line, by what was read of it.
-use Rattle.std.proofs.Common.{◌≡◌, ℕ, List, Bool, true, false, Some, None, refl}
+use Rattle.std.proofs.Common.{◌≡◌, ℕ, Bool, List, None, Some, false, refl, true}
 use Rattle.std.specs.Str.{IsUtf8, is_utf8}
 use Rattle.std.proofs.lemmas.Str.{IsUtf8-from_is_utf8, is_utf8-from_IsUtf8}
 use Rattle.serde_json.specs.Data.{Data}

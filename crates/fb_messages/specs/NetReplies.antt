@@ -1,14 +1,14 @@
 -- Nets, as JSON.
-use Rattle.std.specs.Prelude.{ℕ, List, map, codes}
-use Rattle.serde_json.specs.Data.{Data, string, array, object, Items, no_items, item, no_members, member}
+use Rattle.std.specs.Prelude.{ℕ, List, codes, map}
+use Rattle.serde_json.specs.Data.{Data, Items, array, item, member, no_items, no_members, object, string}
 use Rattle.serde_json.specs.View.{items_of}
 use Rattle.fb_tree.specs.declared.network.Sort.{Sort}
-use Rattle.fb_tree.specs.declared.network.Sort.TheVariants.{Event, Data as DataSort, Adapter}
+use Rattle.fb_tree.specs.declared.network.Sort.TheVariants.{Adapter, Data as DataSort, Event}
 use Rattle.fb_network.specs.declared.flat.FlatBlock.{FlatBlock}
 use Rattle.fb_network.specs.declared.flat.Link.{Link}
 use Rattle.fb_network.specs.declared.flat.Border.{Border}
 use Rattle.fb_network.specs.PlainFlat.{PlainFlat}
-use Rattle.fb_jobs.specs.Flatten.Net.{PlainNet, blocked, recursive, too_large, flat_net}
+use Rattle.fb_jobs.specs.Flatten.Net.{PlainNet, blocked, flat_net, recursive, too_large}
 
 abbrev pub sort_text : Sort → List ℕ
 sort_text Event = codes "event"

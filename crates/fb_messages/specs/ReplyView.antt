@@ -2,9 +2,9 @@
 use Rattle.std.specs.Prelude.{ℕ, List, codes}
 use Rattle.serde_json.specs.Data.{Data}
 use Rattle.fb_jobs.specs.Values.{finding_of}
-use Rattle.fb_messages.specs.Replies.{refused, refused_unit, refused_base, committed, value_said, work_done, work_refused, job_given, no_job, pending_said, delivered, returned, checkpointed}
+use Rattle.fb_messages.specs.Replies.{checkpointed, committed, delivered, job_given, no_job, pending_said, refused, refused_base, refused_unit, returned, value_said, work_done, work_refused}
 use Rattle.fb_messages.specs.declared.reply.Reply.{Reply}
-use Rattle.fb_messages.specs.declared.reply.Reply.TheVariants.{Committed, StaleBase, Pending, Found, Worked, WorkRefused, Job, NoJob, Delivered, GivenBack, Checkpointed, Refused, RefusedUnit}
+use Rattle.fb_messages.specs.declared.reply.Reply.TheVariants.{Checkpointed, Committed, Delivered, Found, GivenBack, Job, NoJob, Pending, Refused, RefusedUnit, StaleBase, WorkRefused, Worked}
 use Rattle.fb_messages.specs.declared.reply.Refusal.{Refusal}
 use Rattle.fb_messages.specs.declared.reply.Refusal.TheVariants as because
 

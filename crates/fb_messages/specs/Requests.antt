@@ -1,12 +1,12 @@
 -- The request that a line is.
-use Rattle.std.specs.Prelude.{ℕ, List, [], ◌∷◌, codes, ◌&&◌, bytes_eq, nat_le, Option, Some, None, option_map, option_and_then, if◌then◌else◌}
+use Rattle.std.specs.Prelude.{ℕ, [], ◌∷◌, ◌&&◌, if◌then◌else◌, List, None, Option, Some, bytes_eq, codes, nat_le, option_and_then, option_map}
 use Rattle.std.specs.Str.{is_utf8}
 use Rattle.fb_history.specs.Limits.{Bounds}
 use Rattle.fb_jobs.specs.declared.key.Kind.{Kind}
-use Rattle.fb_jobs.specs.declared.key.Kind.TheVariants.{Faults, Net, Deploy}
-use Rattle.serde_json.specs.Data.{Data, Items, no_items, item}
+use Rattle.fb_jobs.specs.declared.key.Kind.TheVariants.{Deploy, Faults, Net}
+use Rattle.serde_json.specs.Data.{Data, Items, item, no_items}
 use Rattle.serde_json.specs.Read.{read}
-use Rattle.serde_json.specs.Find.{get, as_array, as_str, as_number, as_u64}
+use Rattle.serde_json.specs.Find.{as_array, as_number, as_str, as_u64, get}
 
 -- a change of a commit, before its name is read
 pub data Change : Type 0 where

@@ -1,7 +1,7 @@
 //! From a JSON value to the request that it is.
-ghost use Rattle.std.specs.Prelude.{◌≡◌, map, codes, option_map, option_and_then, IfOk};
-ghost use Rattle.serde_json.specs.View.{view, items_view};
-ghost use Rattle.fb_messages.specs.Requests.{member_text, number_at, kind_called, kind_at, put_in, remove_in, change_in, changes_of, request_in, request_by, commit_in, ask_in, give_back_in, work_of, deliver, limits_of, checkpoint_in};
+ghost use Rattle.std.specs.Prelude.{◌≡◌, IfOk, codes, map, option_and_then, option_map};
+ghost use Rattle.serde_json.specs.View.{items_view, view};
+ghost use Rattle.fb_messages.specs.Requests.{ask_in, change_in, changes_of, checkpoint_in, commit_in, deliver, give_back_in, kind_at, kind_called, member_text, number_at, put_in, remove_in, request_by, request_in, work_of};
 ghost use Rattle.fb_messages.specs.RequestView.{change_view, request_view};
 
 use fb_history::Limits;
@@ -176,19 +176,12 @@ fn deliver_in(value: &Value) -> Option<Request<'_>>
     Some(Request::Deliver(number_at(value, "job")?))
 }
 
-/// The limits, if both numbers are in their ranges.
-fn limits_of(units: u64, history: u64) -> Option<Limits>
-    ensures { result ≡ limits_of units history }
-{
-    Limits::new(units, history)
-}
-
 fn checkpoint_in(value: &Value) -> Option<Request<'_>>
     ensures { option_map request_view result ≡ checkpoint_in (view value.now) }
 {
     let units = number_at(value, "units")?;
     let history = number_at(value, "history")?;
-    let limits = limits_of(units, history)?;
+    let limits = Limits::new(units, history)?;
     Some(Request::Checkpoint(limits))
 }
 

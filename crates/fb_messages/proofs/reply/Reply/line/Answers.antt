@@ -1,4 +1,4 @@
-use Rattle.std.proofs.Common.{[], ◌∷◌, ◌++◌, ap, ◌∙◌}
+use Rattle.std.proofs.Common.{[], ◌∷◌, ◌++◌, ◌∙◌, ap}
 use Rattle.fb_messages.specs.ReplyView.{data_of}
 use Rattle.fb_messages.proofs.Printed.{text_of}
 use Rattle.fb_messages.proofs.reply.Reply.line.Goals as goal
