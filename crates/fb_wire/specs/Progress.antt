@@ -1,5 +1,5 @@
 -- For private clauses: how far a plan has come on a desk.
-use Rattle.std.specs.Prelude.{[], ◌∷◌, ◌++◌, ⊤, ◌≡◌, ℕ, ◌+◌, Err, List, MatchResult, None, Ok, Option, Result, Some, Vec, false, length, option_map, true}
+use Rattle.std.specs.Prelude.{[], ◌∷◌, ◌++◌, ⊤, ◌≡◌, ℕ, ◌+◌, Err, List, MatchResult, None, Ok, Option, Result, Some, Vec, false, length, option_map}
 use Rattle.std.specs.declared.alloc.AllocError.{AllocError}
 use Rattle.serde_json.specs.Data.{Data}
 use Rattle.fb_bench.specs.History.Checkpoints.{KeptUpTo, OverNumbers, OverUnits}
@@ -21,7 +21,7 @@ use Rattle.fb_wire.specs.Ends.{IsNothing, IsPrefixOfReply, OutputAt}
 use Rattle.fb_wire.specs.declared.end.RunEnd.{RunEnd}
 use Rattle.fb_wire.specs.declared.end.RunEnd.TheVariants as end
 use Rattle.fb_wire.specs.Conversations.{AnswersLine, AnswersLines, Jobs, Leads, Plan, Runs, after_take, asks, held_after, plan_of, says}
-use Rattle.fb_messages.specs.Replies.{reply_line, work_done, work_refused}
+use Rattle.fb_messages.specs.Replies.{work_done, work_refused}
 use Rattle.fb_wire.specs.Said.{said_to}
 use Rattle.fb_messages.specs.ReplyView.{data_of, refusal_text}
 use Rattle.fb_wire.specs.declared.answer.Round.{Round}

@@ -1,4 +1,4 @@
-use Rattle.std.proofs.Common.{refl, sym, ◌∙◌}
+use Rattle.std.proofs.Common.{refl, sym}
 use Rattle.fb_bench.specs.Calls.{Exchanges}
 use Rattle.fb_wire.proofs.Conversations.{blank_said}
 use Rattle.fb_wire.proofs.line.say_line.Goals as goal
