@@ -8,7 +8,7 @@ const MOST_SECRET: usize = 4_096;
 
 /// The first line of a file, where it has 1 to 4,096 bytes.
 pub fn secret_in(bytes: &[u8]) -> Option<&[u8]>
-    ensures front { IfSome result (λ line. line.now ≡ take (length line.now) bytes.now) }
+    ensures prefix { IfSome result (λ line. line.now ≡ take (length line.now) bytes.now) }
     ensures some { IfSome result (λ line. 1 ≤ length line.now) }
     ensures few { IfSome result (λ line. length line.now ≤ 4096) }
 {

@@ -1,17 +1,17 @@
 -- How many receipts there are of a caller.
-use Rattle.std.proofs.Common.{◌≡◌, ◌≤◌, ◌==◌, ◌&&◌, ◌||◌, ℕ, ◌+◌, List, [], ◌∷◌, ◌++◌, Bool, true, false, not, cond, refl, ap, sym, ◌∙◌, subst, arith, nat_lt, nat_le}
-use Rattle.std.proofs.lemmas.Bool.{eqb-true, eq-eqb}
+use Rattle.std.proofs.Common.{◌≡◌, ◌≤◌, ◌==◌, ◌&&◌, ◌||◌, ℕ, ◌+◌, [], ◌∷◌, ◌++◌, ◌∙◌, Bool, List, ap, arith, cond, false, nat_le, nat_lt, not, refl, subst, sym, true}
+use Rattle.std.proofs.lemmas.Bool.{eq-eqb, eqb-true}
 use Rattle.std.proofs.lemmas.Bool.Decides.{nat_tests}
-use Rattle.std.proofs.lemmas.List.Elements.{All-weaker, All-push, recursion_from_All}
+use Rattle.std.proofs.lemmas.List.Elements.{All-push, All-weaker, recursion_from_All}
 use Rattle.std.proofs.lemmas.List.Sums.{sum_by-append, sum_by-cons}
-use Rattle.std.specs.List.{list_any, AllByRecursion}
+use Rattle.std.specs.List.{AllByRecursion, list_any}
 use Rattle.fb_wire.specs.History.BenchView.{BenchView, all_turns, turns_of}
 use Rattle.fb_shared.specs.Locked.Book.{is_caller}
 use Rattle.fb_shared.specs.Locked.Closing.{AgreesWith, has_seat, receipts_of}
 use Rattle.fb_shared.specs.Locked.Runs.{IsRun}
-use Rattle.fb_shared.specs.Locked.Seats.{SeatView, ReceiptView, seat_after}
+use Rattle.fb_shared.specs.Locked.Seats.{ReceiptView, SeatView, seat_after}
 use Rattle.fb_serve.specs.Places.{AddsRun}
-use Rattle.fb_serve.specs.Shown.{IsNew, IsShown, AreShown, ShowsAll}
+use Rattle.fb_serve.specs.Shown.{AreShown, IsNew, IsShown, ShowsAll}
 
 -- 1 for a receipt of this caller
 abbrev own : ℕ → ReceiptView → ℕ
@@ -89,16 +89,16 @@ seated true false none caller = let bad : true ≡ false = none in cc
 seated false false none caller = cc
 
 -- a caller's records are among its calls of all time, which the receipts show
-pub all_shown : (callers : ℕ) (story : BenchView) (seats : List SeatView) (receipts : List ReceiptView) → AgreesWith callers story seats receipts → AreShown receipts seats → ShowsAll story receipts
-all_shown callers story seats receipts agrees shown = (
+pub all_shown : (callers : ℕ) (bench : BenchView) (seats : List SeatView) (receipts : List ReceiptView) → AgreesWith callers bench seats receipts → AreShown receipts seats → ShowsAll bench receipts
+all_shown callers bench seats receipts agrees shown = (
   agrees.shown,
   λ q.
-      let all = by_calls q (nat_lt 0 (all_turns story q)) refl in
+      let all = by_calls q (nat_lt 0 (all_turns bench q)) refl in
       omega (arith, all),
 )
   where
-    by_calls : (q : ℕ) (b : Bool) → nat_lt 0 (all_turns story q) ≡ b → all_turns story q ≤ receipts_of q receipts
-    by_calls q false is = none_fewer (all_turns story q) (receipts_of q receipts) is
+    by_calls : (q : ℕ) (b : Bool) → nat_lt 0 (all_turns bench q) ≡ b → all_turns bench q ≤ receipts_of q receipts
+    by_calls q false is = none_fewer (all_turns bench q) (receipts_of q receipts) is
     by_calls q true is =
-        let caller : is_caller callers story q ≡ true = or_true (nat_lt 0 q && nat_le q callers) _ is in
-        caller_shown (all_turns story q) q receipts seats (seated (is_caller callers story q) (has_seat seats q) (agrees.seated q) caller) (agrees.turns q) (recursion_from_All (IsShown receipts) seats shown)
+        let caller : is_caller callers bench q ≡ true = or_true (nat_lt 0 q && nat_le q callers) _ is in
+        caller_shown (all_turns bench q) q receipts seats (seated (is_caller callers bench q) (has_seat seats q) (agrees.seated q) caller) (agrees.turns q) (recursion_from_All (IsShown receipts) seats shown)

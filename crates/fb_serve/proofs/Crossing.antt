@@ -1,7 +1,7 @@
 -- What threads of a server are given and leave may cross threads.
 use denote.Param.Send.{IsSend, IsSync, sendable}
 use Rattle.std.proofs.Crossing.{crosses}
-use Rattle.fb_shared.proofs.Crossing.{seat_send, receipt_send}
+use Rattle.fb_shared.proofs.Crossing.{receipt_send, seat_send}
 use Rattle.crossbeam_channel.specs.contracts.channel.Sender as Sender
 use Rattle.std.specs.contracts.net.tcp.TcpListener as TcpListener
 use Rattle.std.specs.contracts.net.tcp.TcpStream as TcpStream
@@ -27,11 +27,11 @@ left_field_send = search (seat_send, receipt_send, crosses, sendable) depth 60 f
 pub left_send : IsSend ThreadResult.the_row
 left_send = search (left_field_send, crosses, sendable) depth 60 fits 20000
 
-gathered_field_send : IsSend (Results.the_field).row
-gathered_field_send = search (seat_send, receipt_send, crosses, sendable) depth 60 fits 20000
+results_field_send : IsSend (Results.the_field).row
+results_field_send = search (seat_send, receipt_send, crosses, sendable) depth 60 fits 20000
 
-pub gathered_send : IsSend Results.the_row
-gathered_send = search (gathered_field_send, crosses, sendable) depth 60 fits 20000
+pub results_send : IsSend Results.the_row
+results_send = search (results_field_send, crosses, sendable) depth 60 fits 20000
 
 held_field_send : IsSend (Held.the_field).row
 held_field_send = search (crosses, sendable) depth 60 fits 20000

@@ -1,33 +1,33 @@
--- Fronts of two lines, one behind the other.
-use Rattle.std.proofs.Common.{◌≡◌, ◌<◌, ◌^◌, ℕ, zero, suc, true, false, List, [], ◌∷◌, ◌++◌, length, take, refl, sym, ap, ◌∙◌, append_assoc}
+-- Prefixes of two lines, one behind the other.
+use Rattle.std.proofs.Common.{◌≡◌, ◌<◌, ◌^◌, ℕ, [], ◌∷◌, ◌++◌, ◌∙◌, List, ap, append_assoc, false, length, refl, suc, sym, take, true, zero}
 use Rattle.std.proofs.Math.Seq.{take-length}
-use Rattle.fb_serve.specs.Lines.{greeting, farewell, SaysLines}
+use Rattle.fb_serve.specs.Lines.{SaysLines, farewell, greeting}
 
-front_more : (n : ℕ) (xs ys : List ℕ) → (m : ℕ) × (take n xs ≡ take m (xs ++ ys))
-front_more zero xs ys = (0, refl)
-front_more (suc n) [] ys = (0, refl)
-front_more (suc n) (x ∷ xs) ys =
-    let rest = front_more n xs ys in
+prefix_more : (n : ℕ) (xs ys : List ℕ) → (m : ℕ) × (take n xs ≡ take m (xs ++ ys))
+prefix_more zero xs ys = (0, refl)
+prefix_more (suc n) [] ys = (0, refl)
+prefix_more (suc n) (x ∷ xs) ys =
+    let rest = prefix_more n xs ys in
     (suc rest.0, ap (λ (l : List ℕ). x ∷ l) rest.1)
 
-front_behind : (n : ℕ) (xs ys : List ℕ) → (m : ℕ) × (xs ++ take n ys ≡ take m (xs ++ ys))
-front_behind n [] ys = (n, refl)
-front_behind n (x ∷ xs) ys =
-    let rest = front_behind n xs ys in
+prefix_behind : (n : ℕ) (xs ys : List ℕ) → (m : ℕ) × (xs ++ take n ys ≡ take m (xs ++ ys))
+prefix_behind n [] ys = (n, refl)
+prefix_behind n (x ∷ xs) ys =
+    let rest = prefix_behind n xs ys in
     (suc rest.0, ap (λ (l : List ℕ). x ∷ l) rest.1)
 
--- a front of the first line
+-- a prefix of the first line
 pub greets_in_part : (port n : ℕ) (old new : List ℕ) → port < 2 ^ 16 → new ≡ old ++ take n (greeting port) → SaysLines false old new
 greets_in_part port n old new small is =
-    let front = front_more n (greeting port) farewell in
-    (port, small, (λ is. absurd cc), (front.0, is ∙ ap (λ (l : List ℕ). old ++ l) front.1))
+    let prefix = prefix_more n (greeting port) farewell in
+    (port, small, (λ is. absurd cc), (prefix.0, is ∙ ap (λ (l : List ℕ). old ++ l) prefix.1))
 
--- the first line, and a front of the second
+-- the first line, and a prefix of the second
 pub closes_in_part : (port n : ℕ) (old between new : List ℕ) → port < 2 ^ 16 → between ≡ old ++ greeting port → new ≡ between ++ take n farewell → SaysLines false old new
 closes_in_part port n old between new small first is =
-    let front = front_behind n (greeting port) farewell in
+    let prefix = prefix_behind n (greeting port) farewell in
     let whole : new ≡ old ++ (greeting port ++ take n farewell) = is ∙ ap (λ (l : List ℕ). l ++ take n farewell) first ∙ append_assoc old (greeting port) (take n farewell) in
-    (port, small, (λ is. absurd cc), (front.0, whole ∙ ap (λ (l : List ℕ). old ++ l) front.1))
+    (port, small, (λ is. absurd cc), (prefix.0, whole ∙ ap (λ (l : List ℕ). old ++ l) prefix.1))
 
 -- both lines
 pub closes : (port : ℕ) (old between new : List ℕ) → port < 2 ^ 16 → between ≡ old ++ greeting port → new ≡ between ++ farewell → SaysLines true old new

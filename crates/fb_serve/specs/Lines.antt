@@ -1,5 +1,5 @@
 -- What the server prints.
-use Rattle.std.specs.Prelude.{◌≡◌, ◌<◌, ◌^◌, ℕ, Bool, true, List, [], ◌∷◌, ◌++◌, take, codes}
+use Rattle.std.specs.Prelude.{◌≡◌, ◌<◌, ◌^◌, ℕ, [], ◌∷◌, ◌++◌, Bool, List, codes, take, true}
 use Rattle.std.specs.Fmt.{decimal}
 
 -- where it listens
@@ -9,7 +9,7 @@ greeting port = codes "listening on 127.0.0.1:" ++ (decimal port ++ 10 ∷ [])
 abbrev pub farewell : List ℕ
 farewell = codes "closed" ++ 10 ∷ []
 
--- Of a server that comes to its close both lines, for some port. Otherwise a front of them.
+-- Of a server that comes to its close both lines, for some port. Otherwise a prefix of them.
 abbrev pub SaysLines : (is_closed : Bool) → List ℕ → List ℕ → Type 0
 SaysLines is_closed old new =
     (port : ℕ) × (port < 2 ^ 16)

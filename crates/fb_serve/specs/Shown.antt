@@ -1,8 +1,8 @@
 -- Receipts that show all calls of their callers.
-use Rattle.std.specs.Prelude.{◌≡◌, ◌≤◌, ℕ, List, All}
+use Rattle.std.specs.Prelude.{◌≡◌, ◌≤◌, ℕ, All, List}
 use Rattle.fb_wire.specs.History.BenchView.{BenchView, turns_of}
 use Rattle.fb_shared.specs.Locked.Closing.{AreReceiptsRight, receipts_of}
-use Rattle.fb_shared.specs.Locked.Seats.{SeatView, ReceiptView}
+use Rattle.fb_shared.specs.Locked.Seats.{ReceiptView, SeatView}
 
 -- no call was made with the seat
 abbrev pub IsNew : SeatView → Type 0
@@ -18,4 +18,4 @@ AreShown receipts seats = All (IsShown receipts) seats
 -- Each receipt is the record at its number, none comes twice, and no caller has fewer of them than records: so the receipts are those of all
 -- records, each once.
 abbrev pub ShowsAll : BenchView → List ReceiptView → Type 0
-ShowsAll story receipts = AreReceiptsRight story receipts × ((caller : ℕ) → turns_of caller story.log.records ≤ receipts_of caller receipts)
+ShowsAll bench receipts = AreReceiptsRight bench receipts × ((caller : ℕ) → turns_of caller bench.log.records ≤ receipts_of caller receipts)

@@ -1,6 +1,6 @@
 //! The threads of a server: a session for each connection, and the workers beside them.
 ghost use Rattle.std.specs.Prelude.{◌≡◌, [], if◌then◌else◌, List};
-ghost use Rattle.fb_serve.specs.Shown.{IsNew, IsShown, AreShown};
+ghost use Rattle.fb_serve.specs.Shown.{AreShown, IsNew, IsShown};
 
 use crate::place::Place;
 use crate::say::say_fault;
@@ -115,17 +115,18 @@ pub(crate) fn run_callers<R: Threads + Wait + Clock + Sync, E: Write>(
     sessions: Vec<NewSeat>,
     workers: Vec<NewSeat>,
     faults: Sender<SessionFault>,
-    told: &Receiver<SessionFault>,
+    reported: &Receiver<SessionFault>,
     errors: &mut E,
 ) -> Results {
     thread::scope(thread::scope_env(), rt, |scope| {
         let working = start_workers(scope, rt, alloc, shared, workers);
         let sessions = seats_beside(&working, sessions);
-        let talking = start_door(scope, rt, alloc, listener, shared, sessions, faults);
-        tell(rt, told, errors);
-        let gathered = join_door(rt, alloc, talking);
+        let door = start_door(scope, rt, alloc, listener, shared, sessions, faults);
+        report_faults(rt, reported, errors);
+        let mut results = join_door(rt, alloc, door);
         shared.stop(rt);
-        join_workers(rt, gathered, working)
+        results.add_all(rt, working);
+        results
     })
 }
 
@@ -140,9 +141,9 @@ fn seats_beside(working: &Started, seats: Vec<NewSeat>) -> Vec<NewSeat>
     seats
 }
 
-/// Tells the faults of the sessions as they come, until all have ended.
-fn tell<R: Wait, E: Write>(rt: &R, told: &Receiver<SessionFault>, errors: &mut E) {
-    for it in told.iter(rt) {
+/// Reports the faults of the sessions as they come, until all have ended.
+fn report_faults<R: Wait, E: Write>(rt: &R, reported: &Receiver<SessionFault>, errors: &mut E) {
+    for it in reported.iter(rt) {
         let SessionFault { caller, fault } = it;
         say_fault(errors, caller, fault);
     }
@@ -164,8 +165,8 @@ fn start_door<'s, E, R: Threads + Wait + Sync>(
 }
 
 /// What the sessions left; nothing whole where no connection could be let in.
-fn join_door<R: Threads>(rt: &R, alloc: Global, talking: Option<JoinHandle<Results>>) -> Results {
-    match talking {
+fn join_door<R: Threads>(rt: &R, alloc: Global, door: Option<JoinHandle<Results>>) -> Results {
+    match door {
         Some(thread) => thread.join(rt),
         None => Results::new(alloc, false),
     }
@@ -182,17 +183,11 @@ fn run_sessions<R: Threads + Wait + Sync>(
 ) -> Results {
     let faults = &faults;
     thread::scope(thread::scope_env(), rt, |scope| {
-        let talking = start_sessions(scope, rt, alloc, listener, shared, seats, faults);
-        let mut gathered = Results::new(alloc, true);
-        gathered.add_all(rt, talking);
-        gathered
+        let started = start_sessions(scope, rt, alloc, listener, shared, seats, faults);
+        let mut results = Results::new(alloc, true);
+        results.add_all(rt, started);
+        results
     })
-}
-
-fn join_workers<R: Threads>(rt: &R, gathered: Results, working: Started) -> Results {
-    let mut gathered = gathered;
-    gathered.add_all(rt, working);
-    gathered
 }
 
 fn start_workers<'s, E, R: Threads + Wait + Clock + Sync>(
@@ -209,7 +204,7 @@ fn start_workers<'s, E, R: Threads + Wait + Clock + Sync>(
             is_whole = false;
             break;
         }
-        match scope.spawn(move || work(rt, alloc, shared, seat)) {
+        match scope.spawn(move || worker_thread(rt, alloc, shared, seat)) {
             Ok(thread) => threads.push_reserved(thread),
             Err(_) => {
                 is_whole = false;
@@ -241,7 +236,7 @@ fn start_sessions<'s, E, R: Threads + Wait + Sync>(
             is_whole = false;
             break;
         }
-        match scope.spawn(move || talk(rt, alloc, shared, seat, stream, faults)) {
+        match scope.spawn(move || session_thread(rt, alloc, shared, seat, stream, faults)) {
             Ok(thread) => threads.push_reserved(thread),
             Err(_) => {
                 is_whole = false;
@@ -253,7 +248,12 @@ fn start_sessions<'s, E, R: Threads + Wait + Sync>(
 }
 
 /// A worker's thread.
-fn work<R: Wait + Clock>(rt: &R, alloc: Global, shared: &Shared, seat: NewSeat) -> ThreadResult {
+fn worker_thread<R: Wait + Clock>(
+    rt: &R,
+    alloc: Global,
+    shared: &Shared,
+    seat: NewSeat,
+) -> ThreadResult {
     let NewSeat { seat } = seat;
     let mut place = Place::new(alloc, seat);
     let _end = keep_working(rt, alloc, shared, &mut place, TURNS);
@@ -265,8 +265,8 @@ fn work<R: Wait + Clock>(rt: &R, alloc: Global, shared: &Shared, seat: NewSeat) 
     ThreadResult::of(seat, receipts)
 }
 
-/// A session's thread, which owns its stream. It tells a fault before it ends.
-fn talk<R: Wait>(
+/// A session's thread, which owns its stream. It reports a fault before it ends.
+fn session_thread<R: Wait>(
     rt: &R,
     alloc: Global,
     shared: &Shared,

@@ -1,5 +1,5 @@
 //! The server, on the listener that it is given.
-ghost use Rattle.std.specs.Prelude.{◌≡◌, ◌+◌, All, IfOk, OnOk, is_ok, if◌then◌else◌, true, false};
+ghost use Rattle.std.specs.Prelude.{◌≡◌, ◌+◌, if◌then◌else◌, All, IfOk, OnOk, false, is_ok, true};
 ghost use Rattle.fb_shared.specs.Locked.Book.{IsBookOf};
 ghost use Rattle.fb_serve.specs.Lines.{SaysLines};
 ghost use Rattle.fb_serve.specs.Shown.{IsNew, ShowsAll};
@@ -82,26 +82,26 @@ pub fn serve_sessions<R: Threads + Wait + Clock + Sync, E: Write>(
     rt: &R,
     alloc: Global,
     listener: &TcpListener,
-    numbers: ServerConfig,
+    config: ServerConfig,
     errors: &mut E,
 ) -> Result<Served, NotServed>
     // The receipts are those of all records of the workbench, each once; each caller is counted with its calls.
     ensures all { IfOk result
         (λ served. ShowsAll served.closed.bench served.receipts.items) }
     ensures counts { IfOk result
-        (λ served. IsBookOf served.closed.counts (numbers.sessions + numbers.workers)
+        (λ served. IsBookOf served.closed.counts (config.sessions + config.workers)
         served.closed.bench) }
 {
-    let callers = u32::from(numbers.sessions) + u32::from(numbers.workers);
-    let (shared, mut seats) = Shared::new(alloc, numbers.limits, callers)?;
-    let workers = seats.split_off(usize::from(numbers.sessions))?;
+    let callers = u32::from(config.sessions) + u32::from(config.workers);
+    let (shared, mut seats) = Shared::new(alloc, config.limits, callers)?;
+    let workers = seats.split_off(usize::from(config.sessions))?;
     let workers = new_seats(alloc, workers)?;
     let sessions = new_seats(alloc, seats)?;
-    let (faults, told) = bounded(alloc, usize::from(numbers.sessions))?;
-    let gathered = run_callers(
-        rt, alloc, listener, &shared, sessions, workers, faults, &told, errors,
+    let (faults, reported) = bounded(alloc, usize::from(config.sessions))?;
+    let results = run_callers(
+        rt, alloc, listener, &shared, sessions, workers, faults, &reported, errors,
     );
-    close(alloc, shared, gathered)
+    close(alloc, shared, results)
 }
 
 /// The seats of a new workbench.
@@ -116,7 +116,7 @@ fn new_seats(alloc: Global, seats: Vec<Seat>) -> Result<Vec<NewSeat>, AllocError
 }
 
 /// Closes with all that the threads left.
-fn close(alloc: Global, shared: Shared, gathered: Results) -> Result<Served, NotServed>
+fn close(alloc: Global, shared: Shared, results: Results) -> Result<Served, NotServed>
     ensures all { IfOk result
         (λ served. ShowsAll served.closed.bench served.receipts.items) }
     ensures counts { IfOk result
@@ -127,7 +127,7 @@ fn close(alloc: Global, shared: Shared, gathered: Results) -> Result<Served, Not
         seats,
         receipts,
         is_whole,
-    } = gathered;
+    } = results;
     if !is_whole {
         return Err(NotServed);
     }
@@ -142,7 +142,7 @@ fn serve_and_close<R: Threads + Wait + Clock + Sync, S: Sink, E: Write>(
     rt: &R,
     alloc: Global,
     listener: &TcpListener,
-    numbers: ServerConfig,
+    config: ServerConfig,
     out: &mut S,
     errors: &mut E,
 ) -> Result<Served, NotServed>
@@ -150,7 +150,7 @@ fn serve_and_close<R: Threads + Wait + Clock + Sync, S: Sink, E: Write>(
     ensures all { IfOk result
         (λ served. ShowsAll served.closed.bench served.receipts.items) }
     ensures counts { IfOk result
-        (λ served. IsBookOf served.closed.counts (numbers.sessions + numbers.workers)
+        (λ served. IsBookOf served.closed.counts (config.sessions + config.workers)
         served.closed.bench) }
     ensures said { SaysLines (is_ok result) (S.held out.old) (S.held out.new) }
     ensures flushed { OnOk result (S.is_flushed out.new ≡ true) }
@@ -158,7 +158,7 @@ fn serve_and_close<R: Threads + Wait + Clock + Sync, S: Sink, E: Write>(
     let Ok(()) = greet(alloc, listener, out) else {
         return Err(NotServed);
     };
-    let Ok(served) = serve_sessions(rt, alloc, listener, numbers, errors) else {
+    let Ok(served) = serve_sessions(rt, alloc, listener, config, errors) else {
         return Err(NotServed);
     };
     match write_all(out, b"closed\n") {
@@ -173,7 +173,7 @@ pub fn serve_on<R: Threads + Wait + Clock + Sync, S: Sink, E: Write>(
     rt: &R,
     alloc: Global,
     listener: &TcpListener,
-    numbers: ServerConfig,
+    config: ServerConfig,
     out: &mut S,
     errors: &mut E,
 ) -> Ended
@@ -181,13 +181,13 @@ pub fn serve_on<R: Threads + Wait + Clock + Sync, S: Sink, E: Write>(
     ensures all { IfOk result.served
         (λ served. ShowsAll served.closed.bench served.receipts.items) }
     ensures counts { IfOk result.served
-        (λ served. IsBookOf served.closed.counts (numbers.sessions + numbers.workers)
+        (λ served. IsBookOf served.closed.counts (config.sessions + config.workers)
         served.closed.bench) }
     ensures said { SaysLines (is_ok result.served) (S.held out.old) (S.held out.new) }
     ensures flushed { OnOk result.served (S.is_flushed out.new ≡ true) }
     ensures status { result.status ≡ (if is_ok result.served then 0 else 1) }
 {
-    Ended::of(serve_and_close(rt, alloc, listener, numbers, out, errors))
+    Ended::of(serve_and_close(rt, alloc, listener, config, out, errors))
 }
 
 /// Serves as `serve_on` does, on this port of 127.0.0.1; any free one for 0.
@@ -195,19 +195,19 @@ pub fn serve<
     R: Net<Listener = TcpListener, Stream = TcpStream> + Threads + Wait + Clock + Sync,
     S: Sink,
     E: Write,
->(rt: &R, alloc: Global, port: u16, numbers: ServerConfig, out: &mut S, errors: &mut E) -> Ended
+>(rt: &R, alloc: Global, port: u16, config: ServerConfig, out: &mut S, errors: &mut E) -> Ended
     requires { S.has_failed out.old ≡ false }
     ensures all { IfOk result.served
         (λ served. ShowsAll served.closed.bench served.receipts.items) }
     ensures counts { IfOk result.served
-        (λ served. IsBookOf served.closed.counts (numbers.sessions + numbers.workers)
+        (λ served. IsBookOf served.closed.counts (config.sessions + config.workers)
         served.closed.bench) }
     ensures said { SaysLines (is_ok result.served) (S.held out.old) (S.held out.new) }
     ensures flushed { OnOk result.served (S.is_flushed out.new ≡ true) }
     ensures status { result.status ≡ (if is_ok result.served then 0 else 1) }
 {
     match TcpListener::bind(rt, ("127.0.0.1", port)) {
-        Ok(listener) => serve_on(rt, alloc, &listener, numbers, out, errors),
+        Ok(listener) => serve_on(rt, alloc, &listener, config, out, errors),
         Err(_) => Ended::of(Err(NotServed)),
     }
 }

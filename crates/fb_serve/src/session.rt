@@ -1,5 +1,5 @@
 //! One session.
-ghost use Rattle.std.specs.Prelude.{◌≡◌, [], map, false};
+ghost use Rattle.std.specs.Prelude.{◌≡◌, [], false, map};
 ghost use Rattle.fb_wire.specs.Ends.{IsConversation, streams};
 ghost use Rattle.fb_wire.specs.Conversations.{Runs};
 ghost use Rattle.fb_shared.specs.Locked.Runs.{IsRun};
@@ -33,13 +33,13 @@ pub fn run_session<R: Wait, F: Feed, S: Sink>(
     requires open { F.has_ended reader.old ≡ false }
     requires writer { S.has_failed writer.old ≡ false }
     // The calls and their answers are those of the seat's desk, from no receipts on. The calls that were answered, with their replies, are those of the receipts.
-    ensures talk { (talk : IsConversation result.end turns
+    ensures conversation { (conversation : IsConversation result.end turns
         (streams F.given F.left F.reads F.has_failed S.held S.is_flushed S.has_failed reader.old
         writer.old)
         (streams F.given F.left F.reads F.has_failed S.held S.is_flushed S.has_failed reader.new
         writer.new))
-        × (answered_in talk.pairs ≡ map call_shown result.receipts.items)
-        × Runs SitterStep (record { seat = seat; receipts = [] }) talk.pairs
+        × (answered_in conversation.pairs ≡ map call_shown result.receipts.items)
+        × Runs SitterStep (record { seat = seat; receipts = [] }) conversation.pairs
         (record { seat = result.seat; receipts = result.receipts.items }) }
     // The receipts are of calls with this seat, one after another.
     ensures run { IsRun seat result.receipts.items result.seat }

@@ -1,9 +1,9 @@
 -- The changes of a commit, with their names and texts read, one after another.
-use Rattle.std.proofs.Common.{◌≡◌, ◌<◌, ◌+◌, ℕ, List, [], ◌∷◌, ◌++◌, map, take, drop, length, Result, Ok, Err, get_or, refl, sym, ap, ◌∙◌}
-use Rattle.std.proofs.lemmas.List.{take_more, take-append-drop, map-append}
+use Rattle.std.proofs.Common.{◌≡◌, ◌<◌, ◌+◌, ℕ, [], ◌∷◌, ◌++◌, ◌∙◌, Err, List, Ok, Result, ap, drop, get_or, length, map, refl, sym, take}
+use Rattle.std.proofs.lemmas.List.{map-append, take-append-drop, take_more}
 use Rattle.fb_library.specs.Texts.{Edit}
 use Rattle.fb_messages.specs.Requests.{Change}
-use Rattle.fb_wire.specs.Conversations.{edit_in, edits_in, edits_from}
+use Rattle.fb_wire.specs.Conversations.{edit_in, edits_from, edits_in}
 
 -- some edits and those behind them
 abbrev pub edits_then : Result (List Edit) (List ℕ) → Result (List Edit) (List ℕ) → Result (List Edit) (List ℕ)
@@ -37,8 +37,8 @@ module _ {X : Type 0} (f : X → Change) where
   pub one_refused : (xs : List X) (i : ℕ) (d : X) (edits : List Edit) (reason : List ℕ) → i < length xs
       → edits_in (map f (take i xs)) ≡ Ok edits → edit_in (f (get_or xs i d)) ≡ Err reason → edits_in (map f xs) ≡ Err reason
   one_refused xs i d edits reason within before is =
-      let front : edits_in (map f (take (i + 1) xs)) ≡ Err reason =
+      let prefix : edits_in (map f (take (i + 1) xs)) ≡ Err reason =
       ap edits_in (changes_more xs i d within) ∙ edits_in-append (map f (take i xs)) (f (get_or xs i d) ∷ []) ∙ rw (before, is) refl in
       let whole : map f xs ≡ map f (take (i + 1) xs) ++ map f (drop (i + 1) xs) =
       ap (map f) (sym (take-append-drop (i + 1) xs)) ∙ map-append f (take (i + 1) xs) (drop (i + 1) xs) in
-      ap edits_in whole ∙ edits_in-append (map f (take (i + 1) xs)) (map f (drop (i + 1) xs)) ∙ rw front refl
+      ap edits_in whole ∙ edits_in-append (map f (take (i + 1) xs)) (map f (drop (i + 1) xs)) ∙ rw prefix refl

@@ -1,28 +1,28 @@
 -- Plans, runs and talks, one after another.
-use Rattle.std.proofs.Common.{Option, ap₂, suc, ◌-◌, arith, nat_le, length, ◌+◌, ◌<◌, ◌≡◌, ℕ, List, [], ◌∷◌, ◌++◌, Some, None, Result, Ok, Err, true, false, option_map, refl, sym, ap, ◌∙◌, subst, append-nil}
+use Rattle.std.proofs.Common.{◌-◌, ◌+◌, ◌<◌, ◌≡◌, ℕ, [], ◌∷◌, ◌++◌, ◌∙◌, Err, List, None, Ok, Option, Result, Some, ap, append-nil, ap₂, arith, false, length, nat_le, option_map, refl, subst, suc, sym, true}
 use Rattle.std.specs.declared.alloc.AllocError.{AllocError}
-use Rattle.fb_bench.specs.History.Checkpoints.{KeptUpTo, OverUnits, OverNumbers}
+use Rattle.fb_bench.specs.History.Checkpoints.{KeptUpTo, OverNumbers, OverUnits}
 use Rattle.fb_bench.specs.History.Limits.{Bounds}
-use Rattle.fb_bench.specs.History.Machine.{Call, ToTake, ToDeliver, OfTake, OfDeliver, Reply as MachineReply}
+use Rattle.fb_bench.specs.History.Machine.{Call, OfDeliver, OfTake, Reply as MachineReply, ToDeliver, ToTake}
 use Rattle.fb_bench.specs.Solo.{IsStep, SoloStep}
 use Rattle.fb_bench.specs.declared.desk.Solo.{Solo}
-use Rattle.fb_bench.specs.Calls.{Answer, Replied, FullHistory, BehindHistory, CheckpointAnswer, Checked, SharedHistory, Exchange, AskedCall, AskedCheckpoint, Exchanges, Serves, ServesCheckpoint, take_reply}
+use Rattle.fb_bench.specs.Calls.{Answer, AskedCall, AskedCheckpoint, BehindHistory, Checked, CheckpointAnswer, Exchange, Exchanges, FullHistory, Replied, Serves, ServesCheckpoint, SharedHistory, take_reply}
 use Rattle.fb_messages.specs.Jobs.Reads.{PlainJob}
 use Rattle.std.specs.Result.{result_ok}
 use Rattle.fb_bench.specs.declared.answers.Taken.{Taken}
 use Rattle.fb_bench.specs.History.declared.answers.Delivered.{Delivered}
 use Rattle.fb_wire.specs.declared.answer.Round.{Round}
 use Rattle.fb_bench.specs.declared.desk.DeskRefused.{DeskRefused}
-use Rattle.fb_bench.specs.declared.desk.DeskRefused.TheVariants.{HistoryFull, Behind, Memory}
+use Rattle.fb_bench.specs.declared.desk.DeskRefused.TheVariants.{Behind, HistoryFull, Memory}
 use Rattle.fb_bench.specs.declared.desk.DeskCheckpointRefused.{DeskCheckpointRefused}
 use Rattle.fb_bench.specs.declared.desk.DeskCheckpointRefused.TheVariants as checkpoint
 use Rattle.serde_json.specs.Data.{Data}
 use Rattle.fb_wire.specs.Lines.{is_blank}
 use Rattle.fb_messages.specs.Replies.{refused, work_done, work_refused}
-use Rattle.fb_wire.specs.Said.{said_to, checkpoint_said}
+use Rattle.fb_wire.specs.Said.{checkpoint_said, said_to}
 use Rattle.fb_messages.specs.ReplyView.{data_of, refusal_text}
-use Rattle.fb_wire.specs.Progress.{ProgressTo, LineSaid, Progress, RoundProgress, KeepsTaken, left_after, unrecorded, answer_in, checked_in, refusal_for, data_in}
-use Rattle.fb_wire.specs.Conversations.{Jobs, Plan, says, asks, checks, Leads, Runs, call_once, checkpoint_once, take_plan, held_after, after_take, after_deliver, work_plan}
+use Rattle.fb_wire.specs.Progress.{KeepsTaken, LineSaid, Progress, ProgressTo, RoundProgress, answer_in, checked_in, data_in, left_after, refusal_for, unrecorded}
+use Rattle.fb_wire.specs.Conversations.{Jobs, Leads, Plan, Runs, after_deliver, after_take, asks, call_once, checkpoint_once, checks, held_after, says, take_plan, work_plan}
 use Rattle.fb_messages.specs.declared.reply.Refusal.{Refusal}
 use Rattle.fb_messages.specs.declared.reply.Reply.{Reply}
 

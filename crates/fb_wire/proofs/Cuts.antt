@@ -1,8 +1,8 @@
 -- The lines of bytes that come in pieces.
-use Rattle.std.proofs.Common.{◌≡◌, ◌≢◌, ◌<◌, ◌+◌, ℕ, List, [], ◌∷◌, ◌++◌, Bool, true, false, cond, ◌==◌, length, take, refl, ap, ◌∙◌, get_or, arith}
+use Rattle.std.proofs.Common.{◌≡◌, ◌≢◌, ◌<◌, ◌+◌, ℕ, [], ◌∷◌, ◌++◌, ◌==◌, ◌∙◌, Bool, List, ap, arith, cond, false, get_or, length, refl, take, true}
 use Rattle.std.proofs.lemmas.Bool.Decides.{nat_tests}
 use Rattle.std.proofs.lemmas.List.{take_more}
-use Rattle.fb_wire.specs.Lines.{lines_of, onto_first, IsLine}
+use Rattle.fb_wire.specs.Lines.{IsLine, lines_of, onto_first}
 
 -- the last of the first lines and the first of the others are one line
 abbrev pub joined : List (List ℕ) → List (List ℕ) → List (List ℕ)
@@ -60,15 +60,15 @@ lines_of-part [] h = refl
 lines_of-part (b ∷ bs) h = rw (h.0, lines_of-part bs h.1) refl
 
 -- more of the last line, and its line feed
-pub after_line : (given partial front rest : List ℕ) (lines : List (List ℕ)) → lines_of given ≡ lines ++ partial ∷ [] → IsLine front
-    → lines_of (given ++ (front ++ 10 ∷ rest)) ≡ lines ++ (partial ++ front) ∷ lines_of rest
-after_line given partial front rest lines is line =
-    lines_of-append given (front ++ 10 ∷ rest) ∙ rw (is, lines_of-line front rest line) (joined-last lines partial front (lines_of rest))
+pub after_line : (given partial prefix rest : List ℕ) (lines : List (List ℕ)) → lines_of given ≡ lines ++ partial ∷ [] → IsLine prefix
+    → lines_of (given ++ (prefix ++ 10 ∷ rest)) ≡ lines ++ (partial ++ prefix) ∷ lines_of rest
+after_line given partial prefix rest lines is line =
+    lines_of-append given (prefix ++ 10 ∷ rest) ∙ rw (is, lines_of-line prefix rest line) (joined-last lines partial prefix (lines_of rest))
 
-pub after_part : (given partial front : List ℕ) (lines : List (List ℕ)) → lines_of given ≡ lines ++ partial ∷ [] → IsLine front
-    → lines_of (given ++ front) ≡ lines ++ (partial ++ front) ∷ []
-after_part given partial front lines is line =
-    lines_of-append given front ∙ rw (is, lines_of-part front line) (joined-last lines partial front [])
+pub after_part : (given partial prefix : List ℕ) (lines : List (List ℕ)) → lines_of given ≡ lines ++ partial ∷ [] → IsLine prefix
+    → lines_of (given ++ prefix) ≡ lines ++ (partial ++ prefix) ∷ []
+after_part given partial prefix lines is line =
+    lines_of-append given prefix ∙ rw (is, lines_of-part prefix line) (joined-last lines partial prefix [])
 
 IsLine-append : (xs ys : List ℕ) → IsLine xs → IsLine ys → IsLine (xs ++ ys)
 IsLine-append [] ys h k = k

@@ -1,5 +1,5 @@
 -- Which ends may come where.
-use Rattle.std.proofs.Common.{◌≡◌, Bool, true, false, IsTrue, ◌↔◌, Result, Ok, Err, refl}
+use Rattle.std.proofs.Common.{◌≡◌, ◌↔◌, Bool, Err, IsTrue, Ok, Result, false, refl, true}
 use Rattle.std.specs.Prelude.{⊤}
 use Rattle.fb_wire.specs.Progress.{StopsInside}
 use Rattle.fb_wire.specs.Turns.{StopsAtEnd}

@@ -1,5 +1,5 @@
 -- The jobs that are held, by their numbers.
-use Rattle.std.proofs.Common.{◌≡◌, ◌<◌, ◌-◌, ℕ, zero, suc, refl, arith}
+use Rattle.std.proofs.Common.{◌≡◌, ◌<◌, ◌-◌, ℕ, arith, refl, suc, zero}
 use Rattle.std.specs.List.{slice_get}
 use Rattle.fb_wire.specs.Conversations.{Jobs, job_at}
 

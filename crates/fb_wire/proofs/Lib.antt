@@ -2,9 +2,8 @@ pub mod Changes
 pub mod Cuts
 pub mod Ends
 pub mod HeldJobs
-pub mod OneTalk
+pub mod OneConversation
 pub mod Pieces
-pub mod Replied
 pub mod Scripts
 pub mod Takings
-pub mod Talks
+pub mod Conversations

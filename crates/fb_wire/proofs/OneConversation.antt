@@ -1,16 +1,16 @@
 -- A conversation is decided by its bytes and by what decides its answers.
-use Rattle.std.proofs.Common.{◌≡◌, inl, inr, ℕ, List, [], ◌∷◌, ◌++◌, Bool, true, false, MatchBool, refl, sym, ap, ap₂, ◌∙◌, subst, arith}
+use Rattle.std.proofs.Common.{◌≡◌, ℕ, [], ◌∷◌, ◌++◌, ◌∙◌, Bool, List, MatchBool, ap, ap₂, arith, false, inl, inr, refl, subst, sym, true}
 use Rattle.serde_json.specs.Data.{Data}
 use Rattle.fb_bench.specs.History.Limits.{Bounds}
 use Rattle.fb_bench.specs.History.Machine.{Call}
-use Rattle.fb_bench.specs.Calls.{Answer, CheckpointAnswer, Exchange, AskedCall, AskedCheckpoint}
+use Rattle.fb_bench.specs.Calls.{Answer, AskedCall, AskedCheckpoint, CheckpointAnswer, Exchange}
 use Rattle.fb_bench.specs.Solo.{IsCallStep, IsCheckpointStep, IsStep}
 use Rattle.fb_bench.specs.History.BenchView.{BenchView}
 use Rattle.fb_wire.specs.Lines.{Fits, IsTooLong, is_blank, lines_of}
 use Rattle.fb_messages.specs.Requests.{request_of}
 use Rattle.fb_messages.specs.Replies.{reply_line}
 use Rattle.fb_wire.specs.Ends.{AnsweredAll, AnsweredEnded, IsBetweenLines, OutputAt}
-use Rattle.fb_wire.specs.Conversations.{Jobs, Plan, says, asks, checks, Leads, AnswersLines, Runs, answers_of, plan_of}
+use Rattle.fb_wire.specs.Conversations.{AnswersLines, Jobs, Leads, Plan, Runs, answers_of, asks, checks, plan_of, says}
 use Rattle.fb_wire.specs.declared.end.RunEnd.{RunEnd}
 use Rattle.fb_wire.specs.declared.end.RunEnd.TheVariants as end
 use Rattle.fb_wire.proofs.Scripts.{call_is, checkpoint_is}
@@ -59,15 +59,15 @@ module _ (Agrees : List Exchange → List Exchange → Type 0)
       let same = same_plan plan ps qs more others t.0 u.0 after last t.1 u.1 e in
       (same.0, t.2 ∙ ap reply_line same.1 ∙ sym u.2, same.2, same.3)
 
-  same_talk : (lines : List (List ℕ)) (held : Jobs) (ps qs : List Exchange) (out written : List ℕ) (after last : Jobs)
+  same_conversation : (lines : List (List ℕ)) (held : Jobs) (ps qs : List Exchange) (out written : List ℕ) (after last : Jobs)
       → AnswersLines lines held ps out after → AnswersLines lines held qs written last → Agrees ps qs → (ps ≡ qs) × (out ≡ written) × (after ≡ last)
-  same_talk [] held ps qs out written after last t u e = (t.0 ∙ sym u.0, t.1 ∙ sym u.1, t.2 ∙ sym u.2)
-  same_talk (line ∷ lines) held ps qs out written after last t u e =
+  same_conversation [] held ps qs out written after last t u e = (t.0 ∙ sym u.0, t.1 ∙ sym u.1, t.2 ∙ sym u.2)
+  same_conversation (line ∷ lines) held ps qs out written after last t u e =
       let P : List Exchange → Type 0 = λ xs. Agrees xs qs in
       let Q : List Exchange → Type 0 = λ xs. Agrees (t.0 ++ t.1) xs in
       let line_same = same_line_by (is_blank line) (plan_of held (request_of line)) held t.0 u.0 t.1 u.1 t.2 u.2 t.4 u.4 t.8 u.8 (subst Q u.5 (subst P t.5 e)) in
       let R : Jobs → Type 0 = λ jobs. AnswersLines lines jobs u.1 u.3 last in
-      let rest = same_talk lines t.4 t.1 u.1 t.3 u.3 after last t.9 (subst R (sym line_same.2) u.9) line_same.3 in
+      let rest = same_conversation lines t.4 t.1 u.1 t.3 u.3 after last t.9 (subst R (sym line_same.2) u.9) line_same.3 in
       (t.5 ∙ ap₂ (λ xs ys. xs ++ ys) line_same.0 rest.0 ∙ sym u.5, t.6 ∙ ap₂ (λ xs ys. xs ++ ys) line_same.1 rest.1 ∙ sym u.6, rest.2)
 
 -- ---- by the answers
@@ -87,7 +87,7 @@ one_by_lines : (lines : List (List ℕ)) (pairs others : List Exchange) (out wri
     → answers_of pairs ≡ answers_of others → (pairs ≡ others) × (out ≡ written)
 unfolding AnswersAgree
 one_by_lines lines pairs others out written after last t u e =
-    let same = same_talk AnswersAgree first_call_answers first_checkpoint_answers lines [] pairs others out written after last t u e in
+    let same = same_conversation AnswersAgree first_call_answers first_checkpoint_answers lines [] pairs others out written after last t u e in
     (same.0, same.1)
 
 none_behind : (ys : List (List ℕ)) (b : List ℕ) → [] ≡ ys ++ b ∷ [] → ⊥
@@ -199,6 +199,6 @@ pub one_by_steps : (caller : ℕ) (bytes : List ℕ) (pairs others : List Exchan
     → (pairs ≡ others) × (out ≡ written) × (left ≡ right)
 unfolding RunsAgree
 one_by_steps caller bytes pairs others out written start left right t r u s =
-    let same = same_talk (RunsAgree caller left right) (first_call_runs caller left right) (first_checkpoint_runs caller left right) (lines_of bytes) [] pairs others out written t.0 u.0 t.1 u.1 (start, r, s) in
+    let same = same_conversation (RunsAgree caller left right) (first_call_runs caller left right) (first_checkpoint_runs caller left right) (lines_of bytes) [] pairs others out written t.0 u.0 t.1 u.1 (start, r, s) in
     let P : List Exchange → Type 0 = λ ps. Runs (IsStep caller) start ps right in
     (same.0, same.1, one_run caller start left right pairs r (subst P (sym same.0) s))

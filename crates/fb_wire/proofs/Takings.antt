@@ -1,17 +1,17 @@
--- Talks that go on by a line, and pieces of the bytes.
+-- Conversations that go on by a line, and pieces of the bytes.
 use Rattle.std.proofs.Math.Seq.{take-add}
-use Rattle.std.proofs.lemmas.List.{take_rest, take-append-drop}
-use Rattle.std.proofs.Common.{Bool, true, false, MatchBool, take, drop, ◌-◌, ◌≡◌, ◌+◌, ℕ, List, [], ◌∷◌, ◌++◌, length, Result, Ok, Err, refl, sym, ap, ◌∙◌, subst, append_assoc, append-nil, arith}
+use Rattle.std.proofs.lemmas.List.{take-append-drop, take_rest}
+use Rattle.std.proofs.Common.{◌-◌, ◌≡◌, ◌+◌, ℕ, [], ◌∷◌, ◌++◌, ◌∙◌, Bool, Err, List, MatchBool, Ok, Result, ap, append-nil, append_assoc, arith, drop, false, length, refl, subst, sym, take, true}
 use Rattle.fb_bench.specs.Calls.{Exchange}
-use Rattle.fb_wire.specs.Lines.{Fits, lines_of, is_blank, IsLine}
+use Rattle.fb_wire.specs.Lines.{Fits, IsLine, is_blank, lines_of}
 use Rattle.fb_messages.specs.Requests.{request_of}
-use Rattle.fb_wire.specs.Ends.{OutputAt, AnsweredEnded, IsNothing}
-use Rattle.fb_wire.specs.Progress.{LineSaid, ConversationAt, PieceTaken, Extends}
-use Rattle.fb_wire.specs.Conversations.{Jobs, Plan, plan_of, Leads, AnswersLine, AnswersLines, Runs}
+use Rattle.fb_wire.specs.Ends.{AnsweredEnded, IsNothing, OutputAt}
+use Rattle.fb_wire.specs.Progress.{ConversationAt, Extends, LineSaid, PieceTaken}
+use Rattle.fb_wire.specs.Conversations.{AnswersLine, AnswersLines, Jobs, Leads, Plan, Runs, plan_of}
 use Rattle.fb_wire.specs.declared.end.RunEnd.{RunEnd}
 use Rattle.fb_wire.specs.declared.end.RunEnd.TheVariants as end
 use Rattle.fb_wire.proofs.Cuts.{after_line, after_part}
-use Rattle.fb_wire.proofs.Talks.{Runs-append}
+use Rattle.fb_wire.proofs.Conversations.{Runs-append}
 
 pub none_fits : Fits []
 none_fits = omega arith
@@ -40,30 +40,30 @@ nothing_yet true plan = (refl, refl)
 nothing_yet false plan = (plan, refl, refl)
 
 -- the rest of a line and its line feed, and what is behind them
-line_at : (given partial front behind : List ℕ) (lines : List (List ℕ)) → lines_of given ≡ lines ++ partial ∷ [] → IsLine front
-    → lines_of (given ++ ((front ++ 10 ∷ []) ++ behind)) ≡ lines ++ (partial ++ front) ∷ lines_of behind
-line_at given partial front behind lines is whole =
-    ap (λ xs. lines_of (given ++ xs)) (append_assoc front (10 ∷ []) behind) ∙ after_line given partial front behind lines is whole
+line_at : (given partial prefix behind : List ℕ) (lines : List (List ℕ)) → lines_of given ≡ lines ++ partial ∷ [] → IsLine prefix
+    → lines_of (given ++ ((prefix ++ 10 ∷ []) ++ behind)) ≡ lines ++ (partial ++ prefix) ∷ lines_of behind
+line_at given partial prefix behind lines is whole =
+    ap (λ xs. lines_of (given ++ xs)) (append_assoc prefix (10 ∷ []) behind) ∙ after_line given partial prefix behind lines is whole
 
 module _ {S : Type 0} (Step : S → Exchange → S → Type 0) where
   -- The run stops at a line of which nothing was asked or said: it is too long, or memory ran out for it.
-  stops_at : (start old : S) (given bytes line new_line front : List ℕ) (others : List (List ℕ)) (jobs : Jobs) (held out : List ℕ) (stop : RunEnd) (st : ConversationAt Step start given line jobs out old)
-      → lines_of (given ++ bytes) ≡ st.0 ++ (line ++ front) ∷ others → Extends line front (Err stop) new_line
+  stops_at : (start old : S) (given bytes line new_line prefix : List ℕ) (others : List (List ℕ)) (jobs : Jobs) (held out : List ℕ) (stop : RunEnd) (st : ConversationAt Step start given line jobs out old)
+      → lines_of (given ++ bytes) ≡ st.0 ++ (line ++ prefix) ∷ others → Extends line prefix (Err stop) new_line
       → (more : List ℕ) × (pairs : List Exchange) × (held ≡ held ++ more) × Runs Step start pairs old × OutputAt stop (given ++ bytes) pairs (out ++ more)
-  stops_at start old given bytes line new_line front others jobs held out end.LineTooLong st split long =
-      ([], st.1, sym (append-nil held), st.5, (st.0, others, line ++ front, jobs, split, long, rw (append-nil out) st.4))
-  stops_at start old given bytes line new_line front others jobs held out end.Memory st split fits =
-      let part = nothing_yet (is_blank (line ++ front)) (plan_of jobs (request_of (line ++ front))) in
-      ([], st.1, sym (append-nil held), st.5, (st.0, others, line ++ front, st.1, [], out, [], jobs, split, fits, sym (append-nil st.1), refl, st.4, part))
-  stops_at start old given bytes line new_line front others jobs held out end.End st split bad = absurd bad
-  stops_at start old given bytes line new_line front others jobs held out end.ReadFailed st split bad = absurd bad
-  stops_at start old given bytes line new_line front others jobs held out end.WriteFailed st split bad = absurd bad
-  stops_at start old given bytes line new_line front others jobs held out end.TurnsOver st split bad = absurd bad
+  stops_at start old given bytes line new_line prefix others jobs held out end.LineTooLong st split long =
+      ([], st.1, sym (append-nil held), st.5, (st.0, others, line ++ prefix, jobs, split, long, rw (append-nil out) st.4))
+  stops_at start old given bytes line new_line prefix others jobs held out end.Memory st split fits =
+      let part = nothing_yet (is_blank (line ++ prefix)) (plan_of jobs (request_of (line ++ prefix))) in
+      ([], st.1, sym (append-nil held), st.5, (st.0, others, line ++ prefix, st.1, [], out, [], jobs, split, fits, sym (append-nil st.1), refl, st.4, part))
+  stops_at start old given bytes line new_line prefix others jobs held out end.End st split bad = absurd bad
+  stops_at start old given bytes line new_line prefix others jobs held out end.ReadFailed st split bad = absurd bad
+  stops_at start old given bytes line new_line prefix others jobs held out end.WriteFailed st split bad = absurd bad
+  stops_at start old given bytes line new_line prefix others jobs held out end.TurnsOver st split bad = absurd bad
 
-  pub line_stops : (old : S) (line new_line front behind : List ℕ) (jobs : Jobs) (held : List ℕ) (stop : RunEnd) → IsLine front → Extends line front (Err stop) new_line
-      → PieceTaken Step old line jobs held (front ++ 10 ∷ []) behind (Err stop) old new_line jobs held
-  line_stops old line new_line front behind jobs held stop whole bad = λ start given out st.
-      stops_at start old given ((front ++ 10 ∷ []) ++ behind) line new_line front (lines_of behind) jobs held out stop st (line_at given line front behind st.0 st.2 whole) bad
+  pub line_stops : (old : S) (line new_line prefix behind : List ℕ) (jobs : Jobs) (held : List ℕ) (stop : RunEnd) → IsLine prefix → Extends line prefix (Err stop) new_line
+      → PieceTaken Step old line jobs held (prefix ++ 10 ∷ []) behind (Err stop) old new_line jobs held
+  line_stops old line new_line prefix behind jobs held stop whole bad = λ start given out st.
+      stops_at start old given ((prefix ++ 10 ∷ []) ++ behind) line new_line prefix (lines_of behind) jobs held out stop st (line_at given line prefix behind st.0 st.2 whole) bad
 
   part_stops : (old : S) (line new_line part : List ℕ) (jobs : Jobs) (held : List ℕ) (stop : RunEnd) → IsLine part → Extends line part (Err stop) new_line
       → PieceTaken Step old line jobs held part [] (Err stop) old new_line jobs held
@@ -72,43 +72,43 @@ module _ {S : Type 0} (Step : S → Exchange → S → Type 0) where
       stops_at start old given (part ++ []) line new_line part [] jobs held out stop st split bad
 
   -- the line was answered
-  pub line_ends : (old new : S) (line front behind : List ℕ) (old_jobs jobs : Jobs) (old_held held : List ℕ) → IsLine front → Fits (line ++ front)
-      → LineSaid Step (line ++ front) old_jobs old old_held (Ok tt) jobs new held → PieceTaken Step old line old_jobs old_held (front ++ 10 ∷ []) behind (Ok tt) new [] jobs held
-  line_ends old new line front behind old_jobs jobs old_held held whole fits said = λ start given out st.
-      let split = after_line given line front [] st.0 st.2 whole in (
+  pub line_ends : (old new : S) (line prefix behind : List ℕ) (old_jobs jobs : Jobs) (old_held held : List ℕ) → IsLine prefix → Fits (line ++ prefix)
+      → LineSaid Step (line ++ prefix) old_jobs old old_held (Ok tt) jobs new held → PieceTaken Step old line old_jobs old_held (prefix ++ 10 ∷ []) behind (Ok tt) new [] jobs held
+  line_ends old new line prefix behind old_jobs jobs old_held held whole fits said = λ start given out st.
+      let split = after_line given line prefix [] st.0 st.2 whole in (
         said.1,
         said.4,
         (
-          st.0 ++ (line ++ front) ∷ [],
+          st.0 ++ (line ++ prefix) ∷ [],
           st.1 ++ said.0,
-          split ∙ sym (append_assoc st.0 ((line ++ front) ∷ []) ([] ∷ [])),
+          split ∙ sym (append_assoc st.0 ((line ++ prefix) ∷ []) ([] ∷ [])),
           none_fits,
-          AnswersLines-snoc st.0 (line ++ front) [] old_jobs jobs st.1 said.0 out said.1 st.4 fits said.2,
+          AnswersLines-snoc st.0 (line ++ prefix) [] old_jobs jobs st.1 said.0 out said.1 st.4 fits said.2,
           Runs-append Step start old new st.1 said.0 st.5 said.3,
         ),
       )
 
   -- the reply was not written whole
-  pub line_cut : (old new : S) (line new_line front behind : List ℕ) (old_jobs jobs : Jobs) (old_held held : List ℕ) (stop : RunEnd) → IsLine front → Fits (line ++ front)
-      → LineSaid Step (line ++ front) old_jobs old old_held (Err stop) jobs new held → PieceTaken Step old line old_jobs old_held (front ++ 10 ∷ []) behind (Err stop) new new_line jobs held
-  line_cut old new line new_line front behind old_jobs jobs old_held held end.WriteFailed whole fits said = λ start given out st. (
+  pub line_cut : (old new : S) (line new_line prefix behind : List ℕ) (old_jobs jobs : Jobs) (old_held held : List ℕ) (stop : RunEnd) → IsLine prefix → Fits (line ++ prefix)
+      → LineSaid Step (line ++ prefix) old_jobs old old_held (Err stop) jobs new held → PieceTaken Step old line old_jobs old_held (prefix ++ 10 ∷ []) behind (Err stop) new new_line jobs held
+  line_cut old new line new_line prefix behind old_jobs jobs old_held held end.WriteFailed whole fits said = λ start given out st. (
     said.1,
     st.1 ++ said.0,
     said.6,
     Runs-append Step start old new st.1 said.0 st.5 said.5,
-    (st.0, lines_of behind, line ++ front, st.1, said.0, out, said.1, old_jobs, line_at given line front behind st.0 st.2 whole, fits, refl, refl, st.4, rw said.3 (said.2, said.4, said.7)),
+    (st.0, lines_of behind, line ++ prefix, st.1, said.0, out, said.1, old_jobs, line_at given line prefix behind st.0 st.2 whole, fits, refl, refl, st.4, rw said.3 (said.2, said.4, said.7)),
   )
-  line_cut old new line new_line front behind old_jobs jobs old_held held end.Memory whole fits said = λ start given out st. (
+  line_cut old new line new_line prefix behind old_jobs jobs old_held held end.Memory whole fits said = λ start given out st. (
     said.1,
     st.1 ++ said.0,
     said.6,
     Runs-append Step start old new st.1 said.0 st.5 said.5,
-    (st.0, lines_of behind, line ++ front, st.1, said.0, out, said.1, old_jobs, line_at given line front behind st.0 st.2 whole, fits, refl, refl, st.4, rw said.3 (said.2, said.4, said.7)),
+    (st.0, lines_of behind, line ++ prefix, st.1, said.0, out, said.1, old_jobs, line_at given line prefix behind st.0 st.2 whole, fits, refl, refl, st.4, rw said.3 (said.2, said.4, said.7)),
   )
-  line_cut old new line new_line front behind old_jobs jobs old_held held end.End whole fits said = absurd said.7
-  line_cut old new line new_line front behind old_jobs jobs old_held held end.ReadFailed whole fits said = absurd said.7
-  line_cut old new line new_line front behind old_jobs jobs old_held held end.LineTooLong whole fits said = absurd said.7
-  line_cut old new line new_line front behind old_jobs jobs old_held held end.TurnsOver whole fits said = absurd said.7
+  line_cut old new line new_line prefix behind old_jobs jobs old_held held end.End whole fits said = absurd said.7
+  line_cut old new line new_line prefix behind old_jobs jobs old_held held end.ReadFailed whole fits said = absurd said.7
+  line_cut old new line new_line prefix behind old_jobs jobs old_held held end.LineTooLong whole fits said = absurd said.7
+  line_cut old new line new_line prefix behind old_jobs jobs old_held held end.TurnsOver whole fits said = absurd said.7
 
   -- bytes with no line feed
   pub part_comes : (old : S) (line part : List ℕ) (jobs : Jobs) (held : List ℕ) → IsLine part → Fits (line ++ part) → PieceTaken Step old line jobs held part [] (Ok tt) old (line ++ part) jobs held
@@ -179,10 +179,10 @@ module _ {S : Type 0} (Step : S → Exchange → S → Type 0) where
   pub last_ends : (old new : S) (line new_line : List ℕ) (old_jobs jobs : Jobs) (old_held held : List ℕ) → LineSaid Step line old_jobs old old_held (Ok tt) jobs new held
       → PieceTaken Step old line old_jobs old_held [] [] (Err end.End) new new_line jobs held
   last_ends old new line new_line old_jobs jobs old_held held said = λ start given out st.
-      let talk = AnswersLines-snoc st.0 line [] old_jobs jobs st.1 said.0 out said.1 st.4 st.3 said.2 in
+      let conversation = AnswersLines-snoc st.0 line [] old_jobs jobs st.1 said.0 out said.1 st.4 st.3 said.2 in
       let P : List (List ℕ) → Type 0 = λ ls. AnswersLines ls [] (st.1 ++ said.0) (out ++ said.1) jobs in
       let all : st.0 ++ line ∷ [] ≡ lines_of (given ++ []) = sym (ap lines_of (append-nil given) ∙ st.2) in
-      (said.1, st.1 ++ said.0, said.4, Runs-append Step start old new st.1 said.0 st.5 said.3, (jobs, subst P all talk))
+      (said.1, st.1 ++ said.0, said.4, Runs-append Step start old new st.1 said.0 st.5 said.3, (jobs, subst P all conversation))
 
   -- the last line was not answered whole
   pub last_cut : (old new : S) (line new_line : List ℕ) (old_jobs jobs : Jobs) (old_held held : List ℕ) (stop : RunEnd) → LineSaid Step line old_jobs old old_held (Err stop) jobs new held

@@ -1,14 +1,14 @@
 -- How a run ends, and what it has said and done by then.
-use Rattle.std.specs.Prelude.{◌≡◌, ◌↔◌, ◌≤◌, ◌+◌, ℕ, Bool, List, [], ◌∷◌, ◌++◌, length, take, Option, IsTrue}
+use Rattle.std.specs.Prelude.{◌≡◌, ◌↔◌, ◌≤◌, ◌+◌, ℕ, [], ◌∷◌, ◌++◌, Bool, IsTrue, List, Option, length, take}
 use Rattle.std.specs.Io.KnownBytes.{Consumes, IsAtEnd}
 use Rattle.fb_streams.specs.Streams.{StaysFlushed}
 use Rattle.serde_json.specs.Data.{Data}
 use Rattle.fb_bench.specs.Calls.{Exchange}
 use Rattle.fb_wire.specs.Lines.{Fits, IsTooLong, lines_of}
 use Rattle.fb_messages.specs.Replies.{reply_line}
-use Rattle.fb_wire.specs.Conversations.{Jobs, LinePart, Plan, says, AnswersLines}
+use Rattle.fb_wire.specs.Conversations.{AnswersLines, Jobs, LinePart, Plan, says}
 use Rattle.fb_wire.specs.declared.end.RunEnd.{RunEnd}
-use Rattle.fb_wire.specs.declared.end.RunEnd.TheVariants.{End, LineTooLong, ReadFailed, WriteFailed, TurnsOver, Memory}
+use Rattle.fb_wire.specs.declared.end.RunEnd.TheVariants.{End, LineTooLong, Memory, ReadFailed, TurnsOver, WriteFailed}
 
 -- every line was answered, the last one too; so none is too long
 abbrev pub AnsweredAll : List ℕ → List Exchange → List ℕ → Type 0
@@ -32,9 +32,9 @@ AnsweredPart IsPart bytes pairs out =
     × (lines_of bytes ≡ lines ++ line ∷ more) × Fits line × (pairs ≡ first ++ begun) × (out ≡ said ++ part)
     × AnswersLines lines [] first said held × LinePart IsPart line held begun part
 
--- a front of the reply's line
-abbrev pub IsFrontOfReply : Plan → List ℕ → Type 0
-IsFrontOfReply rest part = (reply : Data) × (held : Jobs) × (n : ℕ) × (rest ≡ says reply held) × (part ≡ take n (reply_line reply))
+-- a prefix of the reply's line
+abbrev pub IsPrefixOfReply : Plan → List ℕ → Type 0
+IsPrefixOfReply rest part = (reply : Data) × (held : Jobs) × (n : ℕ) × (rest ≡ says reply held) × (part ≡ take n (reply_line reply))
 
 abbrev pub IsNothing : Plan → List ℕ → Type 0
 IsNothing rest part = part ≡ []
@@ -45,7 +45,7 @@ OutputAt End bytes pairs out = AnsweredAll bytes pairs out
 OutputAt ReadFailed bytes pairs out = AnsweredEnded bytes pairs out
 OutputAt TurnsOver bytes pairs out = AnsweredEnded bytes pairs out
 OutputAt LineTooLong bytes pairs out = AnsweredBefore bytes pairs out
-OutputAt WriteFailed bytes pairs out = AnsweredPart IsFrontOfReply bytes pairs out
+OutputAt WriteFailed bytes pairs out = AnsweredPart IsPrefixOfReply bytes pairs out
 OutputAt Memory bytes pairs out = AnsweredPart IsNothing bytes pairs out
 
 -- the ends that come between two lines: each line that was begun was answered whole

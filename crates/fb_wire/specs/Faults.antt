@@ -1,5 +1,5 @@
 -- Why a run fails.
-use Rattle.std.specs.Prelude.{Option, Some, None}
+use Rattle.std.specs.Prelude.{None, Option, Some}
 use Rattle.fb_wire.specs.declared.end.RunEnd.{RunEnd}
 use Rattle.fb_wire.specs.declared.end.RunEnd.TheVariants as end
 use Rattle.fb_wire.specs.declared.fault.Fault.{Fault}

@@ -1,12 +1,12 @@
 -- For private clauses: how far a plan has come on a desk.
-use Rattle.std.specs.Prelude.{[], ◌∷◌, ◌++◌, true, false, ⊤, Vec, MatchResult, ◌≡◌, ℕ, ◌+◌, List, length, option_map, Option, Some, None, Result, Ok, Err}
+use Rattle.std.specs.Prelude.{[], ◌∷◌, ◌++◌, ⊤, ◌≡◌, ℕ, ◌+◌, Err, List, MatchResult, None, Ok, Option, Result, Some, Vec, false, length, option_map}
 use Rattle.std.specs.declared.alloc.AllocError.{AllocError}
 use Rattle.serde_json.specs.Data.{Data}
-use Rattle.fb_bench.specs.History.Checkpoints.{KeptUpTo, OverUnits, OverNumbers}
-use Rattle.fb_bench.specs.History.Machine.{ToTake, OfTake, Reply as MachineReply}
-use Rattle.fb_bench.specs.Calls.{Answer, Replied, FullHistory, BehindHistory, CheckpointAnswer, Checked, SharedHistory, Exchange}
+use Rattle.fb_bench.specs.History.Checkpoints.{KeptUpTo, OverNumbers, OverUnits}
+use Rattle.fb_bench.specs.History.Machine.{OfTake, Reply as MachineReply, ToTake}
+use Rattle.fb_bench.specs.Calls.{Answer, BehindHistory, Checked, CheckpointAnswer, Exchange, FullHistory, Replied, SharedHistory}
 use Rattle.fb_bench.specs.declared.desk.DeskRefused.{DeskRefused}
-use Rattle.fb_bench.specs.declared.desk.DeskRefused.TheVariants.{HistoryFull, Behind, Memory}
+use Rattle.fb_bench.specs.declared.desk.DeskRefused.TheVariants.{Behind, HistoryFull, Memory}
 use Rattle.fb_bench.specs.declared.desk.DeskCheckpointRefused.{DeskCheckpointRefused}
 use Rattle.fb_bench.specs.declared.desk.DeskCheckpointRefused.TheVariants as checkpoint
 use Rattle.std.specs.declared.alloc.Global.{Global}
@@ -15,13 +15,13 @@ use Rattle.fb_library.specs.Changes.{edit_of, edits_of}
 use Rattle.fb_library.specs.declared.change.Change.{Change}
 use Rattle.fb_wire.specs.declared.change.ChangeFault.{ChangeFault}
 use Rattle.fb_wire.specs.declared.change.ChangeFault.TheVariants as fault
-use Rattle.fb_wire.specs.Lines.{Fits, IsTooLong, lines_of, is_blank}
+use Rattle.fb_wire.specs.Lines.{Fits, IsTooLong, is_blank, lines_of}
 use Rattle.fb_messages.specs.Requests.{request_of}
-use Rattle.fb_wire.specs.Ends.{IsFrontOfReply, IsNothing, OutputAt}
+use Rattle.fb_wire.specs.Ends.{IsNothing, IsPrefixOfReply, OutputAt}
 use Rattle.fb_wire.specs.declared.end.RunEnd.{RunEnd}
 use Rattle.fb_wire.specs.declared.end.RunEnd.TheVariants as end
-use Rattle.fb_wire.specs.Conversations.{plan_of, AnswersLine, AnswersLines, Jobs, Plan, says, asks, Leads, Runs, after_take, held_after}
-use Rattle.fb_messages.specs.Replies.{work_done, work_refused, reply_line}
+use Rattle.fb_wire.specs.Conversations.{AnswersLine, AnswersLines, Jobs, Leads, Plan, Runs, after_take, asks, held_after, plan_of, says}
+use Rattle.fb_messages.specs.Replies.{work_done, work_refused}
 use Rattle.fb_wire.specs.Said.{said_to}
 use Rattle.fb_messages.specs.ReplyView.{data_of, refusal_text}
 use Rattle.fb_wire.specs.declared.answer.Round.{Round}
@@ -30,7 +30,7 @@ use Rattle.fb_messages.specs.declared.reply.Reply.{Reply}
 use Rattle.fb_messages.specs.declared.reply.Refusal.{Refusal}
 use Rattle.fb_messages.specs.declared.reply.Refusal.TheVariants as because
 use Rattle.fb_wire.specs.declared.answer.Taking.{Taking}
-use Rattle.fb_wire.specs.declared.answer.Taking.TheVariants.{Job, Ended}
+use Rattle.fb_wire.specs.declared.answer.Taking.TheVariants.{Ended, Job}
 
 -- some calls and checkpoints of the plan lead the desk from old to new, and this is left of it
 abbrev pub ProgressTo : {S : Type 0} → (S → Exchange → S → Type 0) → Plan → S → Plan → S → Type 0
@@ -96,17 +96,9 @@ KeepsTaken old (Some answer) (Some reply) new = (reply ≡ said_to (length old +
 
 -- ---- lines
 
--- what was said to a line: nothing to a blank one
-abbrev pub LineProgress : {S : Type 0} → (S → Exchange → S → Type 0) → List ℕ → Jobs → S → Result (Option (Vec ℕ Global)) AllocError → Jobs → S → Type 0
-LineProgress Step line old_jobs old (Ok None) jobs new = (is_blank line ≡ true) × (jobs ≡ old_jobs) × (new ≡ old)
-LineProgress Step line old_jobs old (Ok (Some out)) jobs new =
-    (is_blank line ≡ false) × (reply : Data) × ProgressTo Step (plan_of old_jobs (request_of line)) old (says reply jobs) new × (out.items ≡ reply_line reply)
-LineProgress Step line old_jobs old (Err e) jobs new =
-    (is_blank line ≡ false) × (rest : Plan) × ProgressTo Step (plan_of old_jobs (request_of line)) old rest new
-
 -- what of a reply's line was written where the run stops
 abbrev pub IsPartAt : RunEnd → Plan → List ℕ → Type 0
-IsPartAt end.WriteFailed rest part = IsFrontOfReply rest part
+IsPartAt end.WriteFailed rest part = IsPrefixOfReply rest part
 IsPartAt end.Memory rest part = IsNothing rest part
 IsPartAt _ rest part = ⊥
 

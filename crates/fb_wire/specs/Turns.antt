@@ -1,5 +1,5 @@
 -- For private clauses: what one read comes to.
-use Rattle.std.specs.Prelude.{⊤, List, ℕ, Result}
+use Rattle.std.specs.Prelude.{⊤, ℕ, List, Result}
 use Rattle.fb_bench.specs.Calls.{Exchange}
 use Rattle.fb_wire.specs.Progress.{PieceTaken}
 use Rattle.fb_wire.specs.declared.end.RunEnd.{RunEnd}
@@ -8,8 +8,8 @@ use Rattle.fb_wire.specs.declared.line.Conversation.{Conversation}
 
 -- the conversation takes a piece of the bytes, by its line and its jobs
 abbrev pub TakesPiece : {S : Type 0} → (S → Exchange → S → Type 0) → S → Conversation → List ℕ → List ℕ → List ℕ → Result ⊤ RunEnd → S → Conversation → List ℕ → Type 0
-TakesPiece Step old old_talk old_held piece behind result new talk held =
-    PieceTaken Step old old_talk.line.items old_talk.held.items old_held piece behind result new talk.line.items talk.held.items held
+TakesPiece Step old old_conversation old_held piece behind result new conversation held =
+    PieceTaken Step old old_conversation.line.items old_conversation.held.items old_held piece behind result new conversation.line.items conversation.held.items held
 
 -- the ends that may come at the end of the input
 abbrev pub StopsAtEnd : RunEnd → Type 0

@@ -1,17 +1,17 @@
 //! What is asked of a desk for a request, and what is said.
-ghost use Rattle.std.specs.Prelude.{◌≡◌, ℕ, Some, option_map, length, map};
+ghost use Rattle.std.specs.Prelude.{◌≡◌, ℕ, Some, length, map, option_map};
 ghost use Rattle.std.specs.Option.{option_copied};
 ghost use Rattle.std.specs.Result.{result_ok};
 ghost use Rattle.fb_text.specs.Name.{name_of};
 ghost use Rattle.fb_bench.specs.Calls.{Exchanges, take_reply};
-ghost use Rattle.fb_bench.specs.History.Machine.{ToCommit, ToDeliver, ToGiveBack, ToAsk, OfDeliver};
+ghost use Rattle.fb_bench.specs.History.Machine.{OfDeliver, ToAsk, ToCommit, ToDeliver, ToGiveBack};
 ghost use Rattle.fb_bench.specs.Requests.{call_for, reply_in};
 ghost use Rattle.fb_bench.specs.Records.{listed};
 ghost use Rattle.fb_messages.specs.ReplyView.{data_of};
-ghost use Rattle.fb_wire.specs.Said.{commit_said, deliver_said, reply_said, said_to, checkpoint_said};
+ghost use Rattle.fb_wire.specs.Said.{checkpoint_said, commit_said, deliver_said, reply_said, said_to};
 ghost use Rattle.fb_messages.specs.RequestView.{change_view, request_view};
-ghost use Rattle.fb_wire.specs.Progress.{Progress, RoundProgress, KeepsTaken, Takes, left_after, unrecorded, answer_in, checked_in, refusal_for, data_in};
-ghost use Rattle.fb_wire.specs.Conversations.{plan_of, with_name, commit_plan, edits_in, Jobs, Plan, after_deliver, call_once, checkpoint_once, job_at, take_plan, deliver_plan, work_plan};
+ghost use Rattle.fb_wire.specs.Progress.{KeepsTaken, Progress, RoundProgress, Takes, answer_in, checked_in, data_in, left_after, refusal_for, unrecorded};
+ghost use Rattle.fb_wire.specs.Conversations.{Jobs, Plan, after_deliver, call_once, checkpoint_once, commit_plan, deliver_plan, edits_in, job_at, plan_of, take_plan, with_name, work_plan};
 
 use crate::change::{ChangeFault, changes_of};
 use fb_bench::{
@@ -97,10 +97,7 @@ fn call_reply(performed: Result<Answered, DeskRefused>) -> Result<Reply, AllocEr
 fn refused_reply(refused: DeskRefused) -> Result<Reply, AllocError>
     ensures { (n : ℕ) → option_map (said_to n) (unrecorded refused) ≡ data_in result }
 {
-    match refusal_of(refused) {
-        Ok(refusal) => Ok(Reply::Refused(refusal)),
-        Err(e) => Err(e),
-    }
+    Ok(Reply::Refused(refusal_of(refused)?))
 }
 
 fn checkpoint_reply(checked: Result<u64, DeskCheckpointRefused>) -> Result<Reply, AllocError>
@@ -126,16 +123,6 @@ fn answer_call<D: Desk>(desk: &mut D, call: &fb_bench::Request<'_>) -> Result<Re
     call_reply(performed)
 }
 
-/// Asks for a commit of changes that were read.
-fn answer_changes<D: Desk>(desk: &mut D, changes: &[Change]) -> Result<Reply, AllocError>
-    ensures { (held : Jobs)
-        → Progress (Exchanges D.step D.checkpoint_step)
-        (call_once held (ToCommit (listed changes.now))) desk.old result held desk.new }
-{
-    let _finished: Option<&Finished> = None;
-    answer_call(desk, &fb_bench::Request::Commit(changes))
-}
-
 fn answer_commit<D: Desk>(
     alloc: Global,
     desk: &mut D,
@@ -145,8 +132,9 @@ fn answer_commit<D: Desk>(
         → Progress (Exchanges D.step D.checkpoint_step)
         (commit_plan held (edits_in (map change_view asked.now))) desk.old result held desk.new }
 {
+    let _finished: Option<&Finished> = None;
     match changes_of(alloc, asked) {
-        Ok(changes) => answer_changes(desk, &changes),
+        Ok(changes) => answer_call(desk, &fb_bench::Request::Commit(&changes)),
         Err(ChangeFault::Refused(refusal)) => Ok(Reply::Refused(refusal)),
         Err(ChangeFault::Memory) => Err(AllocError),
     }
@@ -158,15 +146,6 @@ fn answer_checkpoint<D: Desk>(desk: &mut D, limits: Limits) -> Result<Reply, All
 {
     let checked = desk.checkpoint(limits);
     checkpoint_reply(checked)
-}
-
-fn answer_deliver<D: Desk>(desk: &mut D, finished: &Finished) -> Result<Reply, AllocError>
-    ensures { (held : Jobs)
-        → Progress (Exchanges D.step D.checkpoint_step)
-        (call_once held (ToDeliver finished.now)) desk.old result held desk.new }
-{
-    let _changes: &[Change] = &[];
-    answer_call(desk, &fb_bench::Request::Deliver(finished))
 }
 
 /// Keeps a taken job with those that are held.
@@ -214,10 +193,9 @@ fn answer_job<D: Desk>(alloc: Global, desk: &mut D, job: &Job) -> Result<Reply, 
     ensures { (held : Jobs)
         → Progress (Exchanges D.step D.checkpoint_step) (call_once held (ToDeliver job.now)) desk.old result held desk.new }
 {
-    match job.run(alloc) {
-        Ok(finished) => answer_deliver(desk, &finished),
-        Err(e) => Err(e),
-    }
+    let _changes: &[Change] = &[];
+    let finished = job.run(alloc)?;
+    answer_call(desk, &fb_bench::Request::Deliver(&finished))
 }
 
 fn answer_number<D: Desk>(
@@ -257,10 +235,7 @@ fn job_or_round(taken: Result<Taken, DeskRefused>) -> Result<Taking, AllocError>
     match taken {
         Ok(Taken::Job(job)) => Ok(Taking::Job(job)),
         Ok(Taken::Nothing) => Ok(Taking::Ended(Round::Nothing)),
-        Err(refused) => match refusal_of(refused) {
-            Ok(refusal) => Ok(Taking::Ended(Round::Stopped(refusal))),
-            Err(e) => Err(e),
-        },
+        Err(refused) => Ok(Taking::Ended(Round::Stopped(refusal_of(refused)?))),
     }
 }
 
@@ -274,10 +249,7 @@ fn round_by(delivered: Result<Delivered, DeskRefused>) -> Result<Round, AllocErr
         Ok(Delivered::NoSuchKey) => Ok(Round::Refused),
         Ok(Delivered::NotPending) => Ok(Round::Refused),
         Ok(Delivered::Stale(_)) => Ok(Round::Refused),
-        Err(refused) => match refusal_of(refused) {
-            Ok(refusal) => Ok(Round::Stopped(refusal)),
-            Err(e) => Err(e),
-        },
+        Err(refused) => Ok(Round::Stopped(refusal_of(refused)?)),
     }
 }
 
@@ -350,27 +322,6 @@ fn answer_back_named<D: Desk>(desk: &mut D, kind: Kind, unit: &str) -> Result<Re
     }
 }
 
-fn answer_request<D: Desk>(
-    alloc: Global,
-    desk: &mut D,
-    held: &mut Vec<Job>,
-    request: &Request<'_>,
-) -> Result<Reply, AllocError>
-    ensures { Progress (Exchanges D.step D.checkpoint_step)
-        (plan_of held.old.items
-        (Some (request_view request.now))) desk.old result held.new.items desk.new }
-{
-    match request {
-        Request::Commit(changes) => answer_commit(alloc, desk, changes),
-        Request::Ask { kind, unit } => answer_ask_named(desk, *kind, unit),
-        Request::Work(turns) => answer_work(alloc, desk, *turns),
-        Request::Take => answer_take(desk, held),
-        Request::Deliver(number) => answer_number(alloc, desk, held, *number),
-        Request::GiveBack { kind, unit } => answer_back_named(desk, *kind, unit),
-        Request::Checkpoint(limits) => answer_checkpoint(desk, *limits),
-    }
-}
-
 /// Makes the calls of a request, or its checkpoint, and gives the reply.
 pub(crate) fn answer<D: Desk>(
     alloc: Global,
@@ -384,6 +335,12 @@ pub(crate) fn answer<D: Desk>(
 {
     match request {
         None => Ok(Reply::Refused(Refusal::BadRequest)),
-        Some(request) => answer_request(alloc, desk, held, request),
+        Some(Request::Commit(changes)) => answer_commit(alloc, desk, changes),
+        Some(Request::Ask { kind, unit }) => answer_ask_named(desk, *kind, unit),
+        Some(Request::Work(turns)) => answer_work(alloc, desk, *turns),
+        Some(Request::Take) => answer_take(desk, held),
+        Some(Request::Deliver(number)) => answer_number(alloc, desk, held, *number),
+        Some(Request::GiveBack { kind, unit }) => answer_back_named(desk, *kind, unit),
+        Some(Request::Checkpoint(limits)) => answer_checkpoint(desk, *limits),
     }
 }

@@ -8,7 +8,7 @@ ghost use Rattle.fb_wire.specs.Conversations.{Runs, answers_of};
 ghost use Rattle.fb_wire.specs.declared.end.RunEnd.{RunEnd};
 
 /// The bytes and the answers decide which calls and checkpoints are made and what is written, at each end that comes between two lines.
-pub fn one_talk()
+pub fn one_conversation()
     ensures { (stop : RunEnd) (bytes : List ℕ) (pairs others : List Exchange) (out written : List ℕ)
         → IsBetweenLines stop → OutputAt stop bytes pairs out → OutputAt stop bytes others written
         → answers_of pairs ≡ answers_of others → (pairs ≡ others) × (out ≡ written) }

@@ -13,7 +13,7 @@ mod run;
 pub use end::RunEnd;
 pub use fault::{Fault, fault_of};
 pub use fb_streams::{Failed, Feed, FromRead, IntoWrite, MemoryFeed, MemorySink, Sink};
-pub use laws::{one_script, one_talk};
+pub use laws::{one_conversation, one_script};
 pub use line::write_all;
 pub use run::{run_lines, run_script};
 

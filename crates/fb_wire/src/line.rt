@@ -1,11 +1,11 @@
 //! What is said to one line.
-ghost use Rattle.std.specs.Prelude.{◌≡◌, ◌↔◌, [], IsTrue, IfOk, IfErr, true, false, is_err};
+ghost use Rattle.std.specs.Prelude.{◌≡◌, ◌↔◌, [], IfErr, IfOk, IsTrue, false, is_err, true};
 ghost use Rattle.fb_bench.specs.Calls.{Exchanges};
 ghost use Rattle.fb_wire.specs.Lines.{is_blank};
 ghost use Rattle.serde_json.specs.View.{view};
 ghost use Rattle.fb_messages.specs.Requests.{request_in, request_of};
-ghost use Rattle.fb_wire.specs.Progress.{Progress, LineProgress, LineSaid, StopsInside};
-ghost use Rattle.fb_streams.specs.Streams.{WritesAll, StaysFlushed};
+ghost use Rattle.fb_wire.specs.Progress.{LineSaid, Progress, StopsInside};
+ghost use Rattle.fb_streams.specs.Streams.{StaysFlushed, WritesAll};
 ghost use Rattle.fb_wire.specs.Conversations.{plan_of};
 
 use crate::answer::answer;
@@ -25,23 +25,8 @@ fn is_blank(line: &[u8]) -> bool
         .all(|b| *b == b' ' || (*b == b'\t' || *b == b'\r'))
 }
 
-fn answer_value<D: Desk>(
-    alloc: Global,
-    desk: &mut D,
-    held: &mut Vec<Job>,
-    value: &Value,
-) -> Result<Reply, AllocError>
-    ensures { Progress (Exchanges D.step D.checkpoint_step)
-        (plan_of held.old.items
-        (request_in (view value.now))) desk.old result held.new.items desk.new }
-{
-    match request_in(alloc, value) {
-        Ok(request) => answer(alloc, desk, held, &request),
-        Err(e) => Err(e),
-    }
-}
-
-fn answer_bytes<D: Desk>(
+/// The reply to a line, which is a request or none.
+fn answer_line<D: Desk>(
     alloc: Global,
     desk: &mut D,
     held: &mut Vec<Job>,
@@ -51,7 +36,10 @@ fn answer_bytes<D: Desk>(
         (plan_of held.old.items (request_of line.now)) desk.old result held.new.items desk.new }
 {
     match Value::from_slice(alloc, line) {
-        Ok(value) => answer_value(alloc, desk, held, &value),
+        Ok(value) => {
+            let request = request_in(alloc, &value)?;
+            answer(alloc, desk, held, &request)
+        }
         Err(e) => {
             if e.is_memory() {
                 Err(AllocError)
@@ -59,28 +47,6 @@ fn answer_bytes<D: Desk>(
                 answer(alloc, desk, held, &None)
             }
         }
-    }
-}
-
-/// The line of the reply, which takes this room, or none for a blank line.
-fn answer_line<D: Desk>(
-    alloc: Global,
-    desk: &mut D,
-    held: &mut Vec<Job>,
-    room: Vec<u8>,
-    line: &[u8],
-) -> Result<Option<Vec<u8>>, AllocError>
-    ensures { LineProgress (Exchanges D.step D.checkpoint_step) line.now held.old.items desk.old result held.new.items desk.new }
-{
-    if is_blank(line) {
-        return Ok(None);
-    }
-    match answer_bytes(alloc, desk, held, line) {
-        Ok(reply) => match reply.line(room) {
-            Ok(text) => Ok(Some(text)),
-            Err(e) => Err(e),
-        },
-        Err(e) => Err(e),
     }
 }
 
@@ -129,27 +95,32 @@ impl Conversation {
 pub(crate) fn say_line<D: Desk, S: Sink>(
     alloc: Global,
     desk: &mut D,
-    talk: &mut Conversation,
+    conversation: &mut Conversation,
     writer: &mut S,
 ) -> Result<(), RunEnd>
     requires { S.has_failed writer.old ≡ false }
-    ensures said { LineSaid (Exchanges D.step D.checkpoint_step) talk.old.line.items talk.old.held.items desk.old
-        (S.held writer.old) result talk.new.held.items desk.new (S.held writer.new) }
+    ensures said { LineSaid (Exchanges D.step D.checkpoint_step) conversation.old.line.items conversation.old.held.items desk.old
+        (S.held writer.old) result conversation.new.held.items desk.new (S.held writer.new) }
     ensures flushed { StaysFlushed (S.is_flushed writer.old) (S.has_failed writer.new)
         (S.is_flushed writer.new) }
     ensures failed { IsTrue (S.has_failed writer.new) ↔ (result ≡ Err RunEnd.WriteFailed) }
     ensures inside { IfErr result StopsInside }
 {
-    let room = mem::replace(&mut talk.room, Vec::new(alloc));
-    match answer_line(alloc, desk, &mut talk.held, room, &talk.line) {
-        Ok(None) => Ok(()),
-        Ok(Some(text)) => match write_all(writer, &text) {
-            Ok(()) => {
-                talk.room = text;
-                Ok(())
-            }
-            Err(_) => Err(RunEnd::WriteFailed),
-        },
-        Err(_) => Err(RunEnd::Memory),
+    if is_blank(&conversation.line) {
+        return Ok(());
+    }
+    let Ok(reply) = answer_line(alloc, desk, &mut conversation.held, &conversation.line) else {
+        return Err(RunEnd::Memory);
+    };
+    let room = mem::replace(&mut conversation.room, Vec::new(alloc));
+    let Ok(text) = reply.line(room) else {
+        return Err(RunEnd::Memory);
+    };
+    match write_all(writer, &text) {
+        Ok(()) => {
+            conversation.room = text;
+            Ok(())
+        }
+        Err(_) => Err(RunEnd::WriteFailed),
     }
 }

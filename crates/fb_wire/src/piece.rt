@@ -1,5 +1,5 @@
 //! Bytes as they come, and the lines in them.
-ghost use Rattle.std.specs.Prelude.{◌≡◌, ◌↔◌, ◌≤◌, ◌<◌, ◌+◌, ◌==◌, ℕ, List, ◌∷◌, [], ◌++◌, length, take, IsTrue, false, MatchOption, MatchResult, IfErr};
+ghost use Rattle.std.specs.Prelude.{◌≡◌, ◌↔◌, ◌≤◌, ◌<◌, ◌+◌, ◌==◌, ℕ, ◌∷◌, [], ◌++◌, IfErr, IsTrue, List, MatchOption, MatchResult, false, length, take};
 ghost use Rattle.fb_bench.specs.Calls.{Exchanges};
 ghost use Rattle.fb_streams.specs.Streams.{StaysFlushed};
 ghost use Rattle.fb_wire.specs.Lines.{IsLine};
@@ -48,28 +48,28 @@ fn extend_line(line: &mut Vec<u8>, bytes: &[u8]) -> Result<(), RunEnd>
 fn end_line<D: Desk, S: Sink>(
     alloc: Global,
     desk: &mut D,
-    talk: &mut Conversation,
+    conversation: &mut Conversation,
     writer: &mut S,
-    front: &[u8],
+    prefix: &[u8],
 ) -> Result<(), RunEnd>
     requires open { S.has_failed writer.old ≡ false }
-    requires line { IsLine front.now }
+    requires line { IsLine prefix.now }
     // whatever comes behind them
     ensures taken { (behind : List ℕ)
-        → TakesPiece (Exchanges D.step D.checkpoint_step) desk.old talk.old (S.held writer.old)
-        (front.now ++ 10 ∷ []) behind result desk.new talk.new (S.held writer.new) }
+        → TakesPiece (Exchanges D.step D.checkpoint_step) desk.old conversation.old (S.held writer.old)
+        (prefix.now ++ 10 ∷ []) behind result desk.new conversation.new (S.held writer.new) }
     ensures flushed { StaysFlushed (S.is_flushed writer.old) (S.has_failed writer.new)
         (S.is_flushed writer.new) }
     ensures failed { IsTrue (S.has_failed writer.new) ↔ (result ≡ Err RunEnd.WriteFailed) }
     ensures inside { IfErr result StopsInside }
 {
-    match extend_line(&mut talk.line, front) {
+    match extend_line(&mut conversation.line, prefix) {
         Ok(()) => {}
         Err(end) => return Err(end),
     }
-    match say_line(alloc, desk, talk, writer) {
+    match say_line(alloc, desk, conversation, writer) {
         Ok(()) => {
-            talk.line.clear();
+            conversation.line.clear();
             Ok(())
         }
         Err(end) => Err(end),
@@ -80,13 +80,13 @@ fn end_line<D: Desk, S: Sink>(
 pub(crate) fn take_piece<D: Desk, S: Sink>(
     alloc: Global,
     desk: &mut D,
-    talk: &mut Conversation,
+    conversation: &mut Conversation,
     writer: &mut S,
     piece: &[u8],
 ) -> Result<(), RunEnd>
     requires { S.has_failed writer.old ≡ false }
-    ensures taken { TakesPiece (Exchanges D.step D.checkpoint_step) desk.old talk.old
-        (S.held writer.old) piece.now [] result desk.new talk.new (S.held writer.new) }
+    ensures taken { TakesPiece (Exchanges D.step D.checkpoint_step) desk.old conversation.old
+        (S.held writer.old) piece.now [] result desk.new conversation.new (S.held writer.new) }
     ensures flushed { StaysFlushed (S.is_flushed writer.old) (S.has_failed writer.new)
         (S.is_flushed writer.new) }
     ensures failed { IsTrue (S.has_failed writer.new) ↔ (result ≡ Err RunEnd.WriteFailed) }
@@ -97,9 +97,9 @@ pub(crate) fn take_piece<D: Desk, S: Sink>(
         let rest = &piece[at..];
         let len = line_len(rest);
         if len == rest.len() {
-            return extend_line(&mut talk.line, rest);
+            return extend_line(&mut conversation.line, rest);
         }
-        match end_line(alloc, desk, talk, writer, &rest[..len]) {
+        match end_line(alloc, desk, conversation, writer, &rest[..len]) {
             Ok(()) => at += len + 1,
             Err(end) => return Err(end),
         }

@@ -1,5 +1,5 @@
 //! The whole conversation.
-ghost use Rattle.std.specs.Prelude.{◌≡◌, ◌↔◌, ◌≤◌, ◌<◌, ◌+◌, ℕ, List, [], ◌++◌, length, IsTrue, IfErr, OnOk, Ok, Err, false};
+ghost use Rattle.std.specs.Prelude.{◌≡◌, ◌↔◌, ◌≤◌, ◌<◌, ◌+◌, ℕ, [], ◌++◌, Err, IfErr, IsTrue, List, Ok, OnOk, false, length};
 ghost use Rattle.std.specs.Io.KnownBytes.{Consumes, IsAtEnd};
 ghost use Rattle.fb_bench.specs.Calls.{Exchanges};
 ghost use Rattle.fb_bench.specs.Solo.{IsStep};
@@ -20,21 +20,21 @@ use std::alloc::Global;
 const READ_SIZE: usize = 8_192;
 
 /// Answers the last line, which has no line feed, and ends the conversation.
-fn end_talk<D: Desk, S: Sink>(
+fn end_conversation<D: Desk, S: Sink>(
     alloc: Global,
     desk: &mut D,
-    talk: &mut Conversation,
+    conversation: &mut Conversation,
     writer: &mut S,
 ) -> RunEnd
     requires { S.has_failed writer.old ≡ false }
-    ensures taken { TakesPiece (Exchanges D.step D.checkpoint_step) desk.old talk.old (S.held writer.old) [] []
-        (Err result) desk.new talk.new (S.held writer.new) }
+    ensures taken { TakesPiece (Exchanges D.step D.checkpoint_step) desk.old conversation.old (S.held writer.old) [] []
+        (Err result) desk.new conversation.new (S.held writer.new) }
     ensures flushed { StaysFlushed (S.is_flushed writer.old) (S.has_failed writer.new)
         (S.is_flushed writer.new) }
     ensures failed { IsTrue (S.has_failed writer.new) ↔ (result ≡ RunEnd.WriteFailed) }
     ensures end { StopsAtEnd result }
 {
-    match say_line(alloc, desk, talk, writer) {
+    match say_line(alloc, desk, conversation, writer) {
         Ok(()) => RunEnd::End,
         Err(end) => end,
     }
@@ -46,7 +46,7 @@ fn take_turn<F: Feed, S: Sink, D: Desk>(
     reader: &mut F,
     writer: &mut S,
     desk: &mut D,
-    talk: &mut Conversation,
+    conversation: &mut Conversation,
     buffer: &mut [u8],
 ) -> Result<(), RunEnd>
     requires reader { F.has_failed reader.old ≡ false }
@@ -56,7 +56,7 @@ fn take_turn<F: Feed, S: Sink, D: Desk>(
     ensures taken { (bytes : List ℕ)
         × (F.given reader.new ≡ F.given reader.old ++ bytes)
         × Consumes (F.left reader.old) (F.left reader.new) bytes
-        × TakesPiece (Exchanges D.step D.checkpoint_step) desk.old talk.old (S.held writer.old) bytes [] result desk.new talk.new
+        × TakesPiece (Exchanges D.step D.checkpoint_step) desk.old conversation.old (S.held writer.old) bytes [] result desk.new conversation.new
         (S.held writer.new) }
     ensures whole { result ≡ Err RunEnd.End → IsAtEnd (F.left reader.new) }
     ensures turn { F.reads reader.new ≡ F.reads reader.old + 1 }
@@ -71,9 +71,9 @@ fn take_turn<F: Feed, S: Sink, D: Desk>(
     match reader.read(buffer) {
         Ok(count) => {
             if count == 0 {
-                Err(end_talk(alloc, desk, talk, writer))
+                Err(end_conversation(alloc, desk, conversation, writer))
             } else {
-                take_piece(alloc, desk, talk, writer, &buffer[..count])
+                take_piece(alloc, desk, conversation, writer, &buffer[..count])
             }
         }
         Err(_) => Err(RunEnd::ReadFailed),
@@ -92,45 +92,23 @@ pub fn run_lines<F: Feed, S: Sink, D: Desk>(
     requires reader { F.has_failed reader.old ≡ false }
     requires open { F.has_ended reader.old ≡ false }
     requires writer { S.has_failed writer.old ≡ false }
-    ensures talk { (talk : IsConversation result turns
+    ensures conversation { (conversation : IsConversation result turns
         (streams F.given F.left F.reads F.has_failed S.held S.is_flushed S.has_failed reader.old
         writer.old)
         (streams F.given F.left F.reads F.has_failed S.held S.is_flushed S.has_failed reader.new
         writer.new))
-        × Runs (Exchanges D.step D.checkpoint_step) desk.old talk.pairs desk.new }
+        × Runs (Exchanges D.step D.checkpoint_step) desk.old conversation.pairs desk.new }
     ensures open { result ≡ RunEnd.TurnsOver → F.has_ended reader.new ≡ false }
 {
-    let mut talk = Conversation::new(alloc);
+    let mut conversation = Conversation::new(alloc);
     let mut buffer = [0; READ_SIZE];
     for _turn in 0..turns {
-        match take_turn(alloc, reader, writer, desk, &mut talk, &mut buffer) {
+        match take_turn(alloc, reader, writer, desk, &mut conversation, &mut buffer) {
             Ok(()) => {}
             Err(end) => return end,
         }
     }
     RunEnd::TurnsOver
-}
-
-fn run_solo<F: Feed, S: Sink>(
-    alloc: Global,
-    reader: &mut F,
-    writer: &mut S,
-    solo: &mut Solo<'_>,
-    turns: u64,
-) -> RunEnd
-    requires reader { F.has_failed reader.old ≡ false }
-    requires open { F.has_ended reader.old ≡ false }
-    requires writer { S.has_failed writer.old ≡ false }
-    ensures run { (talk : IsConversation result turns
-        (streams F.given F.left F.reads F.has_failed S.held S.is_flushed S.has_failed reader.old
-        writer.old)
-        (streams F.given F.left F.reads F.has_failed S.held S.is_flushed S.has_failed reader.new
-        writer.new))
-        × Runs (IsStep solo.old.caller) solo.old.bench.now talk.pairs solo.new.bench.now
-        × SaysBy result solo.old.caller solo.old.bench.now talk.bytes talk.out solo.new.bench.now }
-    ensures same_reference { solo.new.bench.ghost_name ≡ solo.old.bench.ghost_name }
-{
-    run_lines(alloc, reader, writer, solo, turns)
 }
 
 /// Runs the conversation on a workbench, as this caller.
@@ -145,15 +123,15 @@ pub fn run_script<F: Feed, S: Sink>(
     requires reader { F.has_failed reader.old ≡ false }
     requires open { F.has_ended reader.old ≡ false }
     requires writer { S.has_failed writer.old ≡ false }
-    // Each answer is the machine's, from the state before on: what is written is the script's output, or a front of it.
-    ensures { (talk : IsConversation result turns
+    // Each answer is the machine's, from the state before on: what is written is the script's output, or a prefix of it.
+    ensures { (conversation : IsConversation result turns
         (streams F.given F.left F.reads F.has_failed S.held S.is_flushed S.has_failed reader.old
         writer.old)
         (streams F.given F.left F.reads F.has_failed S.held S.is_flushed S.has_failed reader.new
         writer.new))
-        × Runs (IsStep caller) bench.old talk.pairs bench.new
-        × SaysBy result caller bench.old talk.bytes talk.out bench.new }
+        × Runs (IsStep caller) bench.old conversation.pairs bench.new
+        × SaysBy result caller bench.old conversation.bytes conversation.out bench.new }
 {
     let mut solo = Solo::new(bench, caller);
-    run_solo(alloc, reader, writer, &mut solo, turns)
+    run_lines(alloc, reader, writer, &mut solo, turns)
 }

@@ -1,7 +1,7 @@
 use denote.Param.Send.{sendable}
 use Rattle.std.proofs.Crossing.{crosses}
 use Rattle.fb_shared.proofs.Crossing.{shared_sync}
-use Rattle.fb_serve.proofs.Crossing.{new_seat_send, left_send}
+use Rattle.fb_serve.proofs.Crossing.{left_send, new_seat_send}
 use Rattle.fb_serve.proofs.callers.start_workers.Goals as goal
 
 pub spawn-requires-send-F : goal.spawn-requires-send-F

@@ -1,4 +1,4 @@
-use Rattle.fb_serve.proofs.Prints.{greets, greets_in_part, closes, closes_in_part}
+use Rattle.fb_serve.proofs.Prints.{closes, closes_in_part, greets, greets_in_part}
 use Rattle.fb_serve.proofs.server.serve_and_close.Goals as goal
 
 pub returns-in_default-clause-said : goal.returns-in_default-clause-said

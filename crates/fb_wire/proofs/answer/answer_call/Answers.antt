@@ -1,5 +1,5 @@
 use Rattle.fb_bench.specs.Requests.{reply_in}
-use Rattle.fb_wire.proofs.Talks.{call_served}
+use Rattle.fb_wire.proofs.Conversations.{call_served}
 use Rattle.fb_wire.proofs.answer.answer_call.Goals as goal
 
 pub returns : goal.returns

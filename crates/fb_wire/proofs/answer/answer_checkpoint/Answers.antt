@@ -1,4 +1,4 @@
-use Rattle.fb_wire.proofs.Talks.{checkpoint_served}
+use Rattle.fb_wire.proofs.Conversations.{checkpoint_served}
 use Rattle.fb_wire.proofs.answer.answer_checkpoint.Goals as goal
 
 pub returns : goal.returns

@@ -1,5 +1,5 @@
 use Rattle.fb_bench.specs.Calls.{Exchanges}
-use Rattle.fb_wire.proofs.Talks.{reaches_itself}
+use Rattle.fb_wire.proofs.Conversations.{reaches_itself}
 use Rattle.fb_wire.proofs.answer.answer_number.Goals as goal
 
 pub returns-in-None : goal.returns-in-None

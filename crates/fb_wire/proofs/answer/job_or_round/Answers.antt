@@ -1,9 +1,12 @@
-use Rattle.std.proofs.Common.{Ok, Err}
-use Rattle.fb_wire.proofs.Talks.{refused_memory, refused_take}
+use Rattle.std.proofs.Common.{Ok}
+use Rattle.std.proofs.lemmas.Result.{err_from_is_err_and}
+use Rattle.fb_wire.proofs.Conversations.{refused_memory, refused_take}
 use Rattle.fb_wire.proofs.answer.job_or_round.Goals as goal
 
-pub returns-in-Ok : goal.returns-in-Ok
-returns-in-Ok c = rw c.in-Err.is (λ held count more. refused_take held count more c.in-Err.refused (Ok c.in-Ok.refusal) (rw c.in-Ok.is at c.refusal_of.ensures))
+pub returns-in_ok-refusal_of-in-Err : goal.returns-in_ok-refusal_of-in-Err
+returns-in_ok-refusal_of-in-Err c = rw c.in-Err.is (λ held count more. refused_take held count more c.in-Err.refused (Ok c.in_ok-refusal_of-in-Err.field-0) c.in_ok-refusal_of-in-Err.ensures)
 
-pub returns-in-Err-refusal_of : goal.returns-in-Err-refusal_of
-returns-in-Err-refusal_of c = rw c.in-Err.is (refused_memory c.in-Err.refused (rw c.in-Err-refusal_of.is at c.refusal_of.ensures))
+pub returns-in_err-refusal_of-in-Err : goal.returns-in_err-refusal_of-in-Err
+returns-in_err-refusal_of-in-Err c =
+    let p = err_from_is_err_and c.from_residual.result c.from_residual.ensures.1 in
+    rw (p.1, c.in-Err.is) (refused_memory c.in-Err.refused c.in_err-refusal_of-in-Err.ensures)

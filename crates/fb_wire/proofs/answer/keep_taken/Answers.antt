@@ -1,4 +1,4 @@
-use Rattle.fb_wire.proofs.Talks.{refused_kept}
+use Rattle.fb_wire.proofs.Conversations.{refused_kept}
 use Rattle.fb_wire.proofs.answer.keep_taken.Goals as goal
 
 pub returns-in-Err : goal.returns-in-Err

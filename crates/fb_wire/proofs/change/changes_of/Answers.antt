@@ -1,4 +1,4 @@
-use Rattle.std.proofs.Common.{◌≡◌, ◌<◌, ℕ, List, [], ◌∷◌, map, take, length, get_or, Ok, Err, sym, ap, ◌∙◌}
+use Rattle.std.proofs.Common.{◌≡◌, ◌<◌, ℕ, [], ◌∷◌, ◌∙◌, Err, List, Ok, ap, get_or, length, map, sym, take}
 use Rattle.std.proofs.lemmas.List.{map-append}
 use Rattle.fb_library.specs.Texts.{Edit}
 use Rattle.fb_library.specs.Changes.{edit_of, edits_of}

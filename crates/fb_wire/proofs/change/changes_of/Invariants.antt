@@ -1,4 +1,4 @@
-use Rattle.std.proofs.Common.{◌≡◌, map, take, Ok}
+use Rattle.std.proofs.Common.{◌≡◌, Ok, map, take}
 use Rattle.fb_library.specs.Changes.{edits_of}
 use Rattle.fb_messages.specs.RequestView.{change_view}
 use Rattle.fb_wire.specs.Conversations.{edits_in}

@@ -1,8 +1,9 @@
+use Rattle.std.proofs.Common.{refl, sym}
 use Rattle.fb_bench.specs.Calls.{Exchanges}
-use Rattle.fb_wire.proofs.Talks.{blank_said}
+use Rattle.fb_wire.proofs.Conversations.{blank_said}
 use Rattle.fb_wire.proofs.line.say_line.Goals as goal
 
-pub returns-in-Ok-None-clause-said : goal.returns-in-Ok-None-clause-said
-returns-in-Ok-None-clause-said g c =
-    let served = rw (c.deref.ensures.value, c.in-Ok-None.is, c.in-Ok-None.field-0-is) at c.answer_line.ensures in
-    blank_said (Exchanges g.D.Desk.step g.D.Desk.checkpoint_step) c.args.talk.now.line.items _ _ _ _ _ served.0 served.1 served.2
+pub returns-then-is_blank-clause-said : goal.returns-then-is_blank-clause-said
+returns-then-is_blank-clause-said g c =
+    let blank = rw (c.deref.ensures.value, c.if-is_blank.true) at (sym c.is_blank.ensures) in
+    blank_said (Exchanges g.D.Desk.step g.D.Desk.checkpoint_step) c.args.conversation.now.line.items _ _ _ _ _ blank refl refl

@@ -11,7 +11,7 @@ pub returns-then-count-eq0-clause-taken : goal.returns-then-count-eq0-clause-tak
 returns-then-count-eq0-clause-taken g c =
     let given = rw c.if-count-eq0.true at c.in-Ok.ensures.given in
     let left = rw c.if-count-eq0.true at c.in-Ok.ensures.left in
-    ([], given, left, c.end_talk.ensures.taken)
+    ([], given, left, c.end_conversation.ensures.taken)
 
 pub returns-else-count-eq0-clause-taken : goal.returns-else-count-eq0-clause-taken
 returns-else-count-eq0-clause-taken g c =

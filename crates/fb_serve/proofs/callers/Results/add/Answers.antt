@@ -1,5 +1,5 @@
-use Rattle.std.proofs.Common.{◌≡◌, List, [], ◌∷◌, ◌++◌, ap, sym, ◌∙◌, subst}
-use Rattle.fb_shared.specs.Locked.Seats.{SeatView, ReceiptView}
+use Rattle.std.proofs.Common.{◌≡◌, [], ◌∷◌, ◌++◌, ◌∙◌, List, ap, subst, sym}
+use Rattle.fb_shared.specs.Locked.Seats.{ReceiptView, SeatView}
 use Rattle.fb_serve.specs.Shown.{AreShown}
 use Rattle.fb_serve.proofs.Counts.{shown_with}
 use Rattle.fb_serve.proofs.callers.Results.add.Goals as goal

@@ -1,7 +1,7 @@
-use Rattle.std.proofs.Common.{ap, ◌∙◌}
+use Rattle.std.proofs.Common.{◌∙◌, ap}
 use Rattle.fb_shared.specs.Locked.Seats.{SeatView}
 use Rattle.fb_serve.proofs.Counts.{adds_shown}
-use Rattle.fb_serve.proofs.callers.work.Goals as goal
+use Rattle.fb_serve.proofs.callers.worker_thread.Goals as goal
 
 pub of-requires : goal.of-requires
 of-requires g c =
