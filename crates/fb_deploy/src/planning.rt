@@ -3,14 +3,13 @@ ghost use Rattle.std.specs.Prelude.{◌≡◌, IfOk, Some};
 ghost use Rattle.fb_mapping.specs.Flatten.Hints.{AreRightHints};
 ghost use Rattle.fb_mapping.specs.Flatten.Net.{plain_net};
 ghost use Rattle.fb_mapping.specs.Flatten.Nets.{net_at};
-ghost use Rattle.fb_mapping.specs.Library.View.{tree_at};
 ghost use Rattle.fb_mapping.specs.Placed.{IsSystem};
-ghost use Rattle.fb_deploy.specs.Deploy.{IsPlan, flat_plan, plain_deploy, tree_plan};
+ghost use Rattle.fb_deploy.specs.Deploy.{IsPlan, flat_plan, plain_deploy};
 ghost use Rattle.fb_deploy.specs.Plans.{plan_at};
 
 use fb_mapping::flatten::{Hints, Net, NoHints, net_with};
 use fb_mapping::library::View;
-use fb_mapping::placing::{Home, Homes, Misplaced, Plan, homes_of, plan_of};
+use fb_mapping::placing::{Homes, Misplaced, Plan, homes_of, plan_of};
 use fb_mapping::plain::Flat;
 use fb_mapping::text::Name;
 use std::alloc::{AllocError, Global};
@@ -26,22 +25,6 @@ pub enum Deploy {
     Plan(Plan),
 }
 
-/// The plan of a system whose blocks have these homes.
-fn plan_homes<V: View>(
-    alloc: Global,
-    view: &V,
-    system: &Name,
-    flat: &Flat,
-    homes: &[Home],
-) -> Result<Deploy, AllocError>
-    ensures { IfOk result (λ deploy. plain_deploy deploy
-        ≡ tree_plan (V.sources view.now) system.now
-        (tree_at (V.sources view.now) system.now) flat.now homes.now) }
-{
-    let plan = plan_of(alloc, view, system, flat, homes)?;
-    Ok(Deploy::Plan(plan))
-}
-
 /// The plan of a system by its flat network.
 fn plan_flat<V: View>(
     alloc: Global,
@@ -54,7 +37,10 @@ fn plan_flat<V: View>(
 {
     match homes_of(alloc, view, system, flat)? {
         Homes::Faulty(found) => Ok(Deploy::Faulty(found)),
-        Homes::On(homes) => plan_homes(alloc, view, system, flat, homes.as_slice()),
+        Homes::On(homes) => {
+            let plan = plan_of(alloc, view, system, flat, homes.as_slice())?;
+            Ok(Deploy::Plan(plan))
+        }
     }
 }
 

@@ -6,7 +6,7 @@ use fb_flatten::library::View;
 use fb_flatten::text::Name;
 use fb_flatten::{Net, net};
 use fb_placing::plain::{Flat, Link};
-use fb_placing::{Home, Homes, Misplaced, cuts_of, home_table, homes_of};
+use fb_placing::{Home, Homes, Misplaced, cuts_of, homes_of};
 use std::alloc::{AllocError, Global};
 
 /// Where the blocks of a system stand.
@@ -33,8 +33,7 @@ fn place_flat<V: View>(
     match homes_of(alloc, view, system, flat)? {
         Homes::Faulty(found) => Ok(Placed::Faulty(found)),
         Homes::On(homes) => {
-            let table = home_table(alloc, homes.as_slice())?;
-            let cuts = cuts_of(alloc, &table, flat)?;
+            let cuts = cuts_of(alloc, homes.as_slice(), flat)?;
             Ok(Placed::On { homes, cuts })
         }
     }

@@ -1,17 +1,28 @@
 -- Instances with their unit, and where names lead to from them.
-use Rattle.std.proofs.Common.{ℕ, suc, ◌≡◌, ◌<◌, List, [], ◌∷◌, ◌++◌, Option, Some, None, refl, ◌∙◌, ap, drop, get_or, length, map, arith}
+use Rattle.std.proofs.Common.{ℕ, suc, ◌≡◌, ◌<◌, List, [], ◌∷◌, ◌++◌, Option, Some, None, refl, sym, ◌∙◌, ap, drop, get_or, length, map, arith}
 use Rattle.std.proofs.Math.Seq.{drop-cons}
 use Rattle.std.specs.Borrow.{Bor}
 use Rattle.std.specs.Prelude.{find, is_none, is_some, not, option_and_then, option_map}
+use Rattle.std.specs.Option.{option_map_or}
 use Rattle.std.specs.Str.{bytes_eq}
 use Rattle.fb_tree.specs.Tree.{ApplicationTree, InstanceTree}
 use Rattle.fb_library.specs.View.{Sources}
-use Rattle.fb_placing.specs.Standing.{PlainStanding, application_called, instance_called, leads_nowhere, standing_among, standing_at, standing_beyond, standing_from, standing_inside}
+use Rattle.fb_placing.specs.Standing.{PlainStanding, application_called, instance_called, leads_nowhere, path_names, standing_among, standing_at, standing_beyond, standing_from, standing_in, standing_inside}
 use Rattle.fb_placing.specs.Tables.{Instances, instance_at, instances_called}
+use Rattle.fb_placing.proofs.InstanceLemmas.{among_called}
 
 pub beyond_nothing : (sources : Sources) (names : List (List ℕ)) → standing_beyond sources None names ≡ None
 beyond_nothing sources [] = refl
 beyond_nothing sources (name ∷ names) = beyond_nothing sources names
+
+-- no instance stands at an empty path
+pub nothing_at : (sources : Sources) (system : List ℕ) (applications : List ApplicationTree) (path : List ℕ) → path ≡ [] → standing_at sources system applications (path_names path) ≡ None
+unfolding path_names
+nothing_at sources system applications path e = ap (λ (p : List ℕ). standing_at sources system applications (path_names p)) e ∙ by (application_called applications [])
+  where
+    by : (o : Option ApplicationTree) → option_and_then (λ (it : ApplicationTree). standing_from sources system it.network.instances []) o ≡ None
+    by None = refl
+    by (Some it) = refl
 
 -- nothing stands under the next name
 pub beyond_stops : (sources : Sources) (names : List (Bor (List ℕ))) (i : ℕ) (d : Bor (List ℕ)) (s : PlainStanding) → i < length names → standing_inside sources (get_or names i d).now s ≡ None → standing_beyond sources (Some s) (map (λ n. n.now) (drop i names)) ≡ None
@@ -52,3 +63,23 @@ at_more sources system applications (a ∷ names) name s e = by_application (app
     by_application : (o : Option ApplicationTree) → option_and_then (λ (it : ApplicationTree). standing_from sources system it.network.instances names) o ≡ Some s → option_and_then (λ (it : ApplicationTree). standing_from sources system it.network.instances (names ++ name ∷ [])) o ≡ standing_inside sources name s
     by_application None f = absurd (let no : ⊥ = cc in no)
     by_application (Some it) f = from_more it.network.instances names f
+
+-- the first two names lead to an instance, and the others on from there
+pub at_begins : (sources : Sources) (system : List ℕ) (applications : List ApplicationTree) (a name : List ℕ) (names : List (List ℕ)) → standing_at sources system applications (a ∷ (name ∷ names)) ≡ standing_beyond sources (standing_at sources system applications (a ∷ (name ∷ []))) names
+at_begins sources system applications a name names = by (application_called applications a)
+  where
+    by : (o : Option ApplicationTree) → option_and_then (λ (it : ApplicationTree). standing_from sources system it.network.instances (name ∷ names)) o ≡ standing_beyond sources (option_and_then (λ (it : ApplicationTree). standing_from sources system it.network.instances (name ∷ [])) o) names
+    by None = sym (beyond_nothing sources names)
+    by (Some it) = refl
+
+-- an instance of an application, by the table of its instances
+pub begin_at : (sources : Sources) (system : List ℕ) (applications : List ApplicationTree) (a name : List ℕ) (o : Option Instances) → option_map instance_at o ≡ instances_called applications a → option_and_then (λ (table : Instances). option_map (standing_in system) (instance_at table name)) o ≡ standing_at sources system applications (a ∷ (name ∷ []))
+begin_at sources system applications a name o e = by (find (λ (it : ApplicationTree). bytes_eq it.name.name a) applications) o e
+  where
+    by : (p : Option ApplicationTree) (o : Option Instances) → option_map instance_at o ≡ option_map (λ (it : ApplicationTree). instance_called it.network.instances) p → option_and_then (λ (table : Instances). option_map (standing_in system) (instance_at table name)) o ≡ option_and_then (λ (it : ApplicationTree). standing_from sources system it.network.instances (name ∷ [])) (option_map (λ (it : ApplicationTree). it) p)
+    by None None f = refl
+    by (Some it) None f = absurd (cc)
+    by None (Some table) f = absurd (cc)
+    by (Some it) (Some table) f =
+        ap (λ (q : Option (List ℕ → Option InstanceTree)). option_map_or (λ (at : List ℕ → Option InstanceTree). option_map (standing_in system) (at name)) q None) f
+        ∙ sym (among_called system it.network.instances name)

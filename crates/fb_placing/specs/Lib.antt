@@ -5,7 +5,7 @@ pub mod Systems
 pub mod Mappings
 pub mod Standing
 pub mod Tables
-pub mod Near
+pub mod Resolver
 pub mod Homes
 pub mod Cuts
 pub mod Spots

@@ -5,7 +5,7 @@ use Rattle.fb_tree.specs.Tree.{ApplicationTree, DeclTree, InstanceTree, block_ty
 use Rattle.fb_tree.specs.declared.network.Role.{Role}
 use Rattle.fb_tree.specs.declared.network.Role.TheVariants as roles
 use Rattle.fb_library.specs.View.{Sources, tree_at}
-use Rattle.fb_placing.specs.declared.standing.Standing.{Standing}
+use Rattle.fb_placing.specs.declared.paths.resolver.Standing.{Standing}
 use Rattle.fb_placing.specs.Firsts.{first_at}
 
 abbrev pub on_first : ℕ → List (List ℕ) → List (List ℕ)

@@ -1,5 +1,5 @@
 //! What is to be done on each resource of a system, and the links that are left.
-ghost use Rattle.std.specs.Prelude.{◌≡◌, ◌++◌, IfOk, IsTrue, List, OnOk, map, ℕ};
+ghost use Rattle.std.specs.Prelude.{◌≡◌, ◌++◌, IfOk, List, OnOk, map, ℕ};
 ghost use Rattle.fb_library.specs.View.{tree_at};
 ghost use Rattle.fb_network.specs.Numbered.{link_numbered};
 ghost use Rattle.fb_network.specs.PlainFlat.{PlainFlat};
@@ -9,7 +9,6 @@ ghost use Rattle.fb_placing.specs.Items.{plain_order, plain_resource};
 ghost use Rattle.fb_placing.specs.Lines.{create_lines};
 ghost use Rattle.fb_placing.specs.Lists.{AreListed, items_at};
 ghost use Rattle.fb_placing.specs.Orders.{connection_orders, line_order, start_order};
-ghost use Rattle.fb_placing.specs.Points.{AreApart};
 ghost use Rattle.fb_placing.specs.Resources.{resource_plan, resource_plans};
 ghost use Rattle.fb_placing.specs.Spots.{spot_at};
 
@@ -21,7 +20,7 @@ use crate::lists::{items_from, lists_of};
 use crate::orders::{Numbered, push_creates, push_links, push_starts, push_writes};
 use crate::plan::Plan;
 use crate::resources::resources_of;
-use crate::spots::{Spots, are_apart, spots_of};
+use crate::spots::{HomeTable, home_table};
 use fb_library::View;
 use fb_network::{Flat, Path};
 use fb_tree::text::Name;
@@ -31,28 +30,26 @@ use std::alloc::{AllocError, Global};
 /// that are cut.
 fn orders_of<'a>(
     alloc: Global,
-    homes: &Spots<'a>,
-    apart: bool,
+    homes: &HomeTable<'a>,
     lines: &'a [Line],
     resources: &'a [Path],
     flat: &Flat,
     cuts: &mut Vec<u32>,
 ) -> Result<Vec<Numbered<'a>>, AllocError>
-    requires { IsTrue apart → AreApart (spot_at homes.now) }
     ensures cuts { OnOk result (map (link_numbered flat.now) cuts.new.items
         ≡ map (link_numbered flat.now) cuts.old.items
-        ++ cuts_of (spot_at homes.now) flat.now.links) }
+        ++ cuts_of (spot_at homes.now.by_path) flat.now.links) }
     ensures orders { IfOk result (λ orders.
         map (plain_order flat.now (map (λ l. l.command) lines.now)) orders.items
-        ≡ map line_order (create_lines (spot_at homes.now) flat.now.blocks)
+        ≡ map line_order (create_lines (spot_at homes.now.by_path) flat.now.blocks)
         ++ map line_order lines.now
-        ++ connection_orders (spot_at homes.now) flat.now.links
+        ++ connection_orders (spot_at homes.now.by_path) flat.now.links
         ++ map start_order resources.now) }
 {
     let mut orders = Vec::new(alloc);
     push_creates(alloc, homes, flat, &mut orders)?;
     push_writes(lines, &mut orders)?;
-    push_links(alloc, homes, apart, flat, cuts, &mut orders)?;
+    push_links(alloc, homes, flat, cuts, &mut orders)?;
     push_starts(resources, &mut orders)?;
     Ok(orders)
 }
@@ -96,26 +93,24 @@ fn resources_of_orders(
 /// Each resource with all commands that are for it. Adds the links that are cut.
 fn resources_with_items(
     alloc: Global,
-    homes: &Spots<'_>,
-    apart: bool,
+    homes: &HomeTable<'_>,
     lines: &[Line],
     names: &[Path],
     flat: &Flat,
     cuts: &mut Vec<u32>,
 ) -> Result<Vec<ResourceItems>, AllocError>
-    requires { IsTrue apart → AreApart (spot_at homes.now) }
     ensures cuts { OnOk result (map (link_numbered flat.now) cuts.new.items
         ≡ map (link_numbered flat.now) cuts.old.items
-        ++ cuts_of (spot_at homes.now) flat.now.links) }
+        ++ cuts_of (spot_at homes.now.by_path) flat.now.links) }
     ensures resources { IfOk result (λ all.
         map (plain_resource flat.now (map (λ l. l.command) lines.now)) all.items
         ≡ resource_plans
-        (map line_order (create_lines (spot_at homes.now) flat.now.blocks)
+        (map line_order (create_lines (spot_at homes.now.by_path) flat.now.blocks)
         ++ map line_order lines.now
-        ++ connection_orders (spot_at homes.now) flat.now.links
+        ++ connection_orders (spot_at homes.now.by_path) flat.now.links
         ++ map start_order names.now) names.now) }
 {
-    let orders = orders_of(alloc, homes, apart, lines, names, flat, cuts)?;
+    let orders = orders_of(alloc, homes, lines, names, flat, cuts)?;
     resources_of_orders(alloc, &orders, names)
 }
 
@@ -144,11 +139,10 @@ pub fn plan_of<V: View>(
         (tree_at (V.sources view.now) system.now) flat.now homes.now) }
 {
     let names = resources_of(alloc, view, system)?;
-    let spots = spots_of(alloc, homes)?;
-    let apart = are_apart(&spots, homes);
+    let table = home_table(alloc, homes)?;
     let lines = write_lines(alloc, view, system, homes)?;
     let mut cuts = Vec::new(alloc);
-    let resources = resources_with_items(alloc, &spots, apart, &lines, &names, flat, &mut cuts)?;
+    let resources = resources_with_items(alloc, &table, &lines, &names, flat, &mut cuts)?;
     let writes = commands_of_lines(alloc, lines)?;
     let flat = flat.share()?;
     Ok(Plan::new(flat, writes, cuts, resources))

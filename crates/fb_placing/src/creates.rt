@@ -11,7 +11,7 @@ ghost use Rattle.fb_placing.specs.Spots.{spot_at};
 
 use crate::numbers::number;
 use crate::parts::write_both;
-use crate::spots::{Spots, spot};
+use crate::spots::{HomeTable, spot};
 use fb_network::{Flat, Path, compare_parts};
 use std::alloc::{AllocError, Global};
 use std::cmp::Ordering;
@@ -25,22 +25,22 @@ pub(crate) struct Created<'a> {
 
 /// The home of a block. The text is written anew.
 fn home_of_block<'a>(
-    homes: &Spots<'a>,
+    homes: &HomeTable<'a>,
     flat: &Flat,
     block: u32,
     text: &mut String,
 ) -> Result<Option<&'a Path>, AllocError>
     ensures { IfOk result (λ home. option_copied home
-        ≡ spot_at homes.now (block_numbered flat.now block).path) }
+        ≡ spot_at homes.now.by_path (block_numbered flat.now block).path) }
 {
     let (start, end) = flat.block_path(block);
     write_both(text, start, end)?;
-    Ok(spot(homes, text.as_str()))
+    Ok(spot(&homes.by_path, text.as_str()))
 }
 
 /// Adds a block, if it has a home.
 fn push_created<'a>(
-    homes: &Spots<'a>,
+    homes: &HomeTable<'a>,
     flat: &Flat,
     block: u32,
     text: &mut String,
@@ -48,7 +48,7 @@ fn push_created<'a>(
 ) -> Result<(), AllocError>
     ensures { OnOk result (map (created_line flat.now) created.new.items
         ≡ map (created_line flat.now) created.old.items
-        ++ cons_option (create_line (spot_at homes.now) (block_numbered flat.now block)) []) }
+        ++ cons_option (create_line (spot_at homes.now.by_path) (block_numbered flat.now block)) []) }
 {
     if let Some(resource) = home_of_block(homes, flat, block, text)? {
         created.push(Created { block, resource })?;
@@ -59,11 +59,11 @@ fn push_created<'a>(
 /// The blocks that have homes, in the order of the text.
 fn all_created<'a>(
     alloc: Global,
-    homes: &Spots<'a>,
+    homes: &HomeTable<'a>,
     flat: &Flat,
 ) -> Result<Vec<Created<'a>>, AllocError>
     ensures { IfOk result (λ created. map (created_line flat.now) created.items
-        ≡ filter_map (create_line (spot_at homes.now)) flat.now.blocks) }
+        ≡ filter_map (create_line (spot_at homes.now.by_path)) flat.now.blocks) }
 {
     let count = number(flat.block_count())?;
     let mut text = String::new(alloc);
@@ -126,11 +126,11 @@ fn sort_created(flat: &Flat, created: &mut Vec<Created<'_>>) -> Result<(), Alloc
 /// The blocks that have homes, by the bytes of their paths.
 pub(crate) fn created_in_order<'a>(
     alloc: Global,
-    homes: &Spots<'a>,
+    homes: &HomeTable<'a>,
     flat: &Flat,
 ) -> Result<Vec<Created<'a>>, AllocError>
     ensures { IfOk result (λ created. map (created_line flat.now) created.items
-        ≡ create_lines (spot_at homes.now) flat.now.blocks) }
+        ≡ create_lines (spot_at homes.now.by_path) flat.now.blocks) }
 {
     let mut created = all_created(alloc, homes, flat)?;
     sort_created(flat, &mut created)?;

@@ -1,34 +1,24 @@
 //! The homes of the ends of links. Those of links beside each other are often in one block.
-ghost use Rattle.std.specs.Prelude.{◌≡◌, ◌++◌, IfOk, IsTrue, None, OnOk, option_copied, string_bytes};
+ghost use Rattle.std.specs.Prelude.{◌≡◌, ◌++◌, IfOk, IsTrue, option_copied, string_bytes};
 ghost use Rattle.fb_network.specs.Fronts.{nearest};
-ghost use Rattle.fb_placing.specs.Points.{AreApart, IsInside};
+ghost use Rattle.fb_placing.specs.Points.{IsInside};
 ghost use Rattle.fb_placing.specs.Spots.{IsKnown, spot_at};
 
-use crate::parted::parted;
 use crate::parts::write_both;
-use crate::spots::{Spots, nearest_spot, spot};
+use crate::paths::split::parted;
+use crate::spots::{HomeTable, nearest_spot, spot};
 use fb_network::Path;
 use std::alloc::{AllocError, Global};
 
-/// The block in which an end was found last, and its home. Behind them is the text of the path of the last end that was looked for.
+/// Finds the homes of the ends of links. It keeps the block in which an end was found last, with its home, and the text of the path that it
+/// looked for last.
 #[derive(Drop)]
-pub(crate) struct LastBlock<'a> {
+pub(crate) struct EndFinder<'a, 't> {
+    pub homes: &'t HomeTable<'a>,
     path: String,
     home: Option<&'a Path>,
     text: String,
-}
-
-impl<'a> LastBlock<'a> {
-    /// None yet.
-    pub(crate) fn new(alloc: Global) -> LastBlock<'a>
-        ensures { result.home ≡ None }
-    {
-        LastBlock {
-            path: String::new(alloc),
-            home: None,
-            text: String::new(alloc),
-        }
-    }
+    ghost known: { IsKnown homes.now.by_path (string_bytes path) home },
 }
 
 /// Whether a path, of which these are the bytes of the two parts, stands in a block.
@@ -46,61 +36,55 @@ fn stands_in(start: &[u8], end: &[u8], block: &[u8]) -> bool
     first == name && rest[0] == b'.'
 }
 
-/// The home of an end whose path was not looked for before. Where no block stands inside another one, it is that of the block in front
-/// of the last point, which is kept.
-fn home_of_path<'a>(
-    spots: &Spots<'a>,
-    apart: bool,
-    path: &str,
-    known: &mut String,
-    home: &mut Option<&'a Path>,
-) -> Result<Option<&'a Path>, AllocError>
-    requires apart { IsTrue apart → AreApart (spot_at spots.now) }
-    requires known { IsKnown spots.now (string_bytes known.old) home.old }
-    ensures known { OnOk result (IsKnown spots.now (string_bytes known.new) home.new) }
-    ensures found { IfOk result
-        (λ found. option_copied found ≡ nearest (spot_at spots.now) path.now) }
-{
-    if apart {
-        if let Some((outer, _)) = parted(path) {
-            if let Some(found) = spot(spots, outer) {
-                known.clear();
-                known.push_str(outer)?;
-                *home = Some(found);
-                return Ok(Some(found));
-            }
+impl<'a, 't> EndFinder<'a, 't> {
+    /// No end was found yet.
+    pub(crate) fn new(alloc: Global, homes: &'t HomeTable<'a>) -> EndFinder<'a, 't>
+        ensures { result.homes.now ≡ homes.now }
+    {
+        EndFinder {
+            homes,
+            path: String::new(alloc),
+            home: None,
+            text: String::new(alloc),
         }
     }
-    Ok(nearest_spot(spots, path))
-}
 
-/// The home of an end, whose path has two parts.
-pub(crate) fn home_of_end<'a>(
-    spots: &Spots<'a>,
-    apart: bool,
-    start: &str,
-    end: &str,
-    last: &mut LastBlock<'a>,
-) -> Result<Option<&'a Path>, AllocError>
-    requires apart { IsTrue apart → AreApart (spot_at spots.now) }
-    requires known { IsKnown spots.now (string_bytes last.old.path) last.old.home }
-    ensures known { OnOk result (IsKnown spots.now (string_bytes last.new.path) last.new.home) }
-    ensures found { IfOk result (λ home. option_copied home
-        ≡ nearest (spot_at spots.now) (start.now ++ end.now)) }
-{
-    if apart {
-        if let Some(home) = last.home {
-            if stands_in(start.as_bytes(), end.as_bytes(), last.path.as_bytes()) {
-                return Ok(Some(home));
+    /// The home of the end whose path was not looked for before. Where no block stands inside another one, it is that of the block in front
+    /// of the last point, which is kept.
+    fn look_up(&mut self) -> Result<Option<&'a Path>, AllocError>
+        ensures homes { self.new.homes.now ≡ self.old.homes.now }
+        ensures found { IfOk result (λ found. option_copied found
+            ≡ nearest (spot_at self.old.homes.now.by_path) (string_bytes self.old.text)) }
+    {
+        let homes = self.homes;
+        if homes.apart {
+            if let Some((outer, _)) = parted(self.text.as_str()) {
+                if let Some(found) = spot(&homes.by_path, outer) {
+                    self.home = None;
+                    self.path.clear();
+                    self.path.push_str(outer)?;
+                    self.home = Some(found);
+                    return Ok(Some(found));
+                }
             }
         }
+        Ok(nearest_spot(&homes.by_path, self.text.as_str()))
     }
-    write_both(&mut last.text, start, end)?;
-    home_of_path(
-        spots,
-        apart,
-        last.text.as_str(),
-        &mut last.path,
-        &mut last.home,
-    )
+
+    /// The home of an end, whose path has two parts.
+    pub(crate) fn home(&mut self, start: &str, end: &str) -> Result<Option<&'a Path>, AllocError>
+        ensures homes { self.new.homes.now ≡ self.old.homes.now }
+        ensures found { IfOk result (λ home. option_copied home
+            ≡ nearest (spot_at self.old.homes.now.by_path) (start.now ++ end.now)) }
+    {
+        if self.homes.apart {
+            if let Some(home) = self.home {
+                if stands_in(start.as_bytes(), end.as_bytes(), self.path.as_bytes()) {
+                    return Ok(Some(home));
+                }
+            }
+        }
+        write_both(&mut self.text, start, end)?;
+        self.look_up()
+    }
 }

@@ -1,8 +1,6 @@
 //! The homes of the blocks of a system.
 ghost use Rattle.std.specs.Prelude.{◌≡◌, [], ◌∷◌, ◌++◌, length, List, map, IfOk, OnOk};
-ghost use Rattle.std.specs.BTreeMap.{get};
 ghost use Rattle.std.specs.HashMap.{get_by_text};
-ghost use Rattle.fb_tree.specs.Text.Order.{name_cmp};
 ghost use Rattle.fb_tree.specs.Tree.{mapping_tree};
 ghost use Rattle.fb_library.specs.View.{tree_at};
 ghost use Rattle.fb_network.specs.Numbered.{block_numbered};
@@ -10,20 +8,17 @@ ghost use Rattle.fb_network.specs.declared.flat.FlatBlock.{FlatBlock};
 ghost use Rattle.fb_placing.specs.Homes.{astray, block_home, block_homes, homeless, homes_of, misplaced, plain_homes};
 ghost use Rattle.fb_placing.specs.Mappings.{names_used, resource_at};
 ghost use Rattle.fb_placing.specs.Systems.{applications_in, mappings_in};
-ghost use Rattle.fb_placing.specs.Tables.{AreApplications, AreUnits};
 ghost use Rattle.fb_placing.specs.declared.homes.Misplaced.TheVariants.{NoSuchBlock, Unmapped};
 
 use crate::mappings::{mapping_table, path_of_names};
 use crate::numbers::number;
+use crate::paths::resolver::Resolver;
 use crate::sorted::sorted_paths;
-use crate::standing::leads_nowhere;
-use crate::tables::{Applications, Units, applications_in};
 use fb_library::{View, tree_by_name};
 use fb_network::{Flat, FlatBlock, Path, PathTable, nearest};
 use fb_tree::text::{Name, NameUse};
 use fb_tree::{Decl, Mapping};
 use std::alloc::{AllocError, Global};
-use std::collections::BTreeMap;
 
 /// The path of a block, and the resource on which it stands, as `DEVICE.RESOURCE`.
 #[derive(Debug)]
@@ -154,29 +149,22 @@ fn names_of(alloc: Global, names: &[NameUse]) -> Result<Vec<&str>, AllocError>
 }
 
 /// Adds the path of a mapping if it is of nothing.
-fn push_astray<'a, V: View>(
+fn push_astray<V: View>(
     alloc: Global,
-    view: &'a V,
-    system: &Name,
+    resolver: &mut Resolver<'_, V>,
     mapping: &Mapping,
-    applications: &Applications<'a>,
-    units: &mut Units<'a>,
     paths: &mut Vec<Path>,
 ) -> Result<(), AllocError>
-    requires applications { AreApplications
-        (applications_in (tree_at (V.sources view.now) system.now))
-        (get_by_text applications.now) }
-    requires units { AreUnits (V.sources view.now) (get name_cmp units.old) }
-    ensures right { OnOk result (AreUnits (V.sources view.now) (get name_cmp units.new)) }
+    ensures same { resolver.new ≡ resolver.old }
     ensures paths { OnOk result (paths.new.items ≡ paths.old.items
-        ++ astray (V.sources view.now) system.now
-        (applications_in (tree_at (V.sources view.now) system.now))
+        ++ astray resolver.old.sources resolver.old.system
+        (applications_in (tree_at resolver.old.sources resolver.old.system))
         (mapping_tree mapping.now ∷ [])) }
 {
     let path = mapping.path.as_slice();
     let names = names_of(alloc, path)?;
     if let Some((first, others)) = path.split_first() {
-        let nowhere = leads_nowhere(alloc, view, system, &names, applications, units)?;
+        let nowhere = resolver.leads_nowhere(&names)?;
         if nowhere {
             paths.push(path_of_names(alloc, first, others)?)?;
         }
@@ -196,19 +184,10 @@ fn astray<V: View>(
         (applications_in (tree_at (V.sources view.now) system.now))
         (map mapping_tree mappings.now)) }
 {
-    let applications = applications_in(alloc, view, system)?;
-    let mut units = BTreeMap::new(alloc);
+    let mut resolver = Resolver::new(alloc, view, system)?;
     let mut paths = Vec::new(alloc);
     for mapping in mappings {
-        push_astray(
-            alloc,
-            view,
-            system,
-            mapping,
-            &applications,
-            &mut units,
-            &mut paths,
-        )?;
+        push_astray(alloc, &mut resolver, mapping, &mut paths)?;
     }
     Ok(paths)
 }

@@ -14,28 +14,25 @@ mod laws;
 mod lines;
 mod lists;
 mod mappings;
-mod near;
 mod numbers;
 mod orders;
-mod parted;
 mod parts;
+mod paths;
 mod plan;
 mod resources;
 mod same;
 mod sorted;
 mod spots;
-mod standing;
-mod tables;
 mod written;
 
 pub use command::Command;
 pub use commands::plan_of;
-pub use cuts::{cuts_of, home_table, is_cut};
+pub use cuts::cuts_of;
 pub use homes::{Home, Homes, Misplaced, homes_of};
 pub use laws::homes_are_nearest;
+pub use paths::names::path_names;
 pub use plan::Plan;
 pub use resources::ResourcePlan;
-pub use standing::path_names;
 
 /// Of `fb_network`, for the crates above.
 pub mod plain {

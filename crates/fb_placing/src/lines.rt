@@ -1,32 +1,25 @@
 //! Commands in the order of the places that they are about.
-ghost use Rattle.std.specs.Prelude.{◌≡◌, ◌++◌, IfOk, OnOk, map, Some, refl, string_bytes};
-ghost use Rattle.std.specs.BTreeMap.{get};
-ghost use Rattle.std.specs.HashMap.{get_by_text};
+ghost use Rattle.std.specs.Prelude.{◌≡◌, ◌++◌, IfOk, OnOk, map, Some, refl};
 ghost use Rattle.std.specs.List.{flat_map};
 ghost use Rattle.std.specs.Ordering.{eq_by_cmp, as_partial_cmp};
 ghost use Rattle.std.specs.Cmp.{eq_by_cmp_equiv, partial_equiv_from_equiv, partial_order_from_total};
 ghost use Rattle.fb_tree.specs.Text.Order.{in_order, name_cmp};
 ghost use Rattle.fb_tree.specs.Tree.{parameter_tree};
 ghost use Rattle.fb_library.specs.View.{tree_at};
-ghost use Rattle.fb_placing.specs.Near.{IsNear};
 ghost use Rattle.fb_placing.specs.Standing.{plain_standing};
 ghost use Rattle.fb_placing.specs.Systems.{applications_in};
 ghost use Rattle.fb_placing.specs.Lines.{home_lines, line_cmp, line_cmp_total, lines_at, write_line, write_lines};
-ghost use Rattle.fb_placing.specs.Tables.{AreApplications, AreUnits};
 
 use crate::command::Command;
 use crate::homes::Home;
-use crate::near::{Near, standing_near};
-use crate::standing::Standing;
-use crate::tables::{Applications, Units, applications_in};
+use crate::paths::resolver::{Resolver, Standing};
 use crate::written::written;
-use fb_library::{View, text_by_name};
+use fb_library::View;
 use fb_network::{Path, sort_once};
 use fb_tree::Parameter;
 use fb_tree::text::Name;
 use std::alloc::{AllocError, Global};
 use std::cmp::Ordering;
-use std::collections::BTreeMap;
 
 /// A command, the place that it is about, and the resource that it is for. Lines are ordered by the bytes of their places.
 #[derive(Debug, Drop)]
@@ -127,51 +120,36 @@ fn push_write_lines(
 /// Adds the commands that set the parameters of what stands at a home's path.
 fn push_lines_of<V: View>(
     alloc: Global,
-    view: &V,
+    resolver: &Resolver<'_, V>,
     home: &Home,
     it: &Standing<'_>,
     lines: &mut Vec<Line>,
 ) -> Result<(), AllocError>
     ensures { OnOk result (lines.new.items
         ≡ lines.old.items
-        ++ lines_at (V.sources view.now) home.now (Some (plain_standing it.now))) }
+        ++ lines_at resolver.now.sources home.now (Some (plain_standing it.now))) }
 {
     let parameters = it.instance.parameters.as_slice();
     if parameters.is_empty() {
         return Ok(());
     }
-    push_write_lines(alloc, text_by_name(view, &it.unit), home, parameters, lines)
+    push_write_lines(alloc, resolver.text(it), home, parameters, lines)
 }
 
 /// Adds the commands that set the parameters of a block.
-fn push_home_lines<'a, V: View>(
+fn push_home_lines<V: View>(
     alloc: Global,
-    view: &'a V,
-    system: &Name,
+    resolver: &mut Resolver<'_, V>,
     home: &Home,
-    applications: &Applications<'a>,
-    units: &mut Units<'a>,
-    near: &mut Near<'a>,
     lines: &mut Vec<Line>,
 ) -> Result<(), AllocError>
-    requires applications { AreApplications
-        (applications_in (tree_at (V.sources view.now) system.now))
-        (get_by_text applications.now) }
-    requires units { AreUnits (V.sources view.now) (get name_cmp units.old) }
-    requires near { IsNear (V.sources view.now) system.now
-        (applications_in (tree_at (V.sources view.now) system.now))
-        (string_bytes near.old.path) near.old.standing }
-    ensures right { OnOk result (AreUnits (V.sources view.now) (get name_cmp units.new)) }
-    ensures near { OnOk result (IsNear (V.sources view.now) system.now
-        (applications_in (tree_at (V.sources view.now) system.now))
-        (string_bytes near.new.path) near.new.standing) }
+    ensures same { resolver.new ≡ resolver.old }
     ensures lines { OnOk result (lines.new.items ≡ lines.old.items
-        ++ home_lines (V.sources view.now) system.now
-        (applications_in (tree_at (V.sources view.now) system.now)) home.now) }
+        ++ home_lines resolver.old.sources resolver.old.system
+        (applications_in (tree_at resolver.old.sources resolver.old.system)) home.now) }
 {
-    let path = home.path.as_str();
-    match standing_near(alloc, view, system, path, applications, units, near) {
-        Ok(Some(it)) => push_lines_of(alloc, view, home, &it, lines),
+    match resolver.resolve(home.path.as_str()) {
+        Ok(Some(it)) => push_lines_of(alloc, resolver, home, &it, lines),
         Ok(None) => Ok(()),
         Err(error) => Err(error),
     }
@@ -189,21 +167,10 @@ fn all_home_lines<V: View>(
         (home_lines (V.sources view.now) system.now
         (applications_in (tree_at (V.sources view.now) system.now))) homes.now) }
 {
-    let applications = applications_in(alloc, view, system)?;
-    let mut units = BTreeMap::new(alloc);
-    let mut near = Near::new(alloc);
+    let mut resolver = Resolver::new(alloc, view, system)?;
     let mut lines = Vec::new(alloc);
     for home in homes {
-        push_home_lines(
-            alloc,
-            view,
-            system,
-            home,
-            &applications,
-            &mut units,
-            &mut near,
-            &mut lines,
-        )?;
+        push_home_lines(alloc, &mut resolver, home, &mut lines)?;
     }
     Ok(lines)
 }

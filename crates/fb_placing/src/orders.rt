@@ -1,5 +1,5 @@
 //! The commands of a system by numbers, each with the resource that it is for.
-ghost use Rattle.std.specs.Prelude.{◌≡◌, [], ◌∷◌, ◌++◌, IfOk, IsTrue, OnOk, List, ℕ, map, option_copied, string_bytes};
+ghost use Rattle.std.specs.Prelude.{◌≡◌, [], ◌∷◌, ◌++◌, IfOk, OnOk, List, ℕ, map, option_copied};
 ghost use Rattle.std.specs.List.{cons_option};
 ghost use Rattle.fb_network.specs.Numbered.{link_numbered};
 ghost use Rattle.fb_network.specs.PlainFlat.{PlainFlat};
@@ -8,16 +8,15 @@ ghost use Rattle.fb_placing.specs.Cuts.{cuts_of};
 ghost use Rattle.fb_placing.specs.Items.{plain_order};
 ghost use Rattle.fb_placing.specs.Lines.{create_lines};
 ghost use Rattle.fb_placing.specs.Orders.{connection_orders, line_order, order_on, start_order};
-ghost use Rattle.fb_placing.specs.Points.{AreApart};
-ghost use Rattle.fb_placing.specs.Spots.{IsKnown, spot_at};
+ghost use Rattle.fb_placing.specs.Spots.{spot_at};
 
 use crate::creates::{Created, created_in_order};
 use crate::cuts::same_home;
-use crate::ends::{LastBlock, home_of_end};
+use crate::ends::EndFinder;
 use crate::items::Item;
 use crate::lines::Line;
 use crate::numbers::number;
-use crate::spots::Spots;
+use crate::spots::HomeTable;
 use fb_network::{Flat, Path};
 use std::alloc::{AllocError, Global};
 
@@ -50,14 +49,14 @@ fn push_created<'a>(
 /// Adds the commands that make blocks, by the bytes of their paths.
 pub(crate) fn push_creates<'a>(
     alloc: Global,
-    homes: &Spots<'a>,
+    homes: &HomeTable<'a>,
     flat: &Flat,
     orders: &mut Vec<Numbered<'a>>,
 ) -> Result<(), AllocError>
     ensures { OnOk result ((writes : List (List ℕ))
         → map (plain_order flat.now writes) orders.new.items
         ≡ map (plain_order flat.now writes) orders.old.items
-        ++ map line_order (create_lines (spot_at homes.now) flat.now.blocks)) }
+        ++ map line_order (create_lines (spot_at homes.now.by_path) flat.now.blocks)) }
 {
     let created = created_in_order(alloc, homes, flat)?;
     push_created(&created, orders)
@@ -106,34 +105,28 @@ fn push_connection<'a>(
 
 /// Adds a link to those that are cut, or the command that makes it.
 fn push_link<'a>(
-    homes: &Spots<'a>,
-    apart: bool,
     flat: &Flat,
     link: u32,
-    last_from: &mut LastBlock<'a>,
-    last_to: &mut LastBlock<'a>,
+    froms: &mut EndFinder<'a, '_>,
+    tos: &mut EndFinder<'a, '_>,
     cuts: &mut Vec<u32>,
     orders: &mut Vec<Numbered<'a>>,
 ) -> Result<(), AllocError>
-    requires apart { IsTrue apart → AreApart (spot_at homes.now) }
-    requires from { IsKnown homes.now (string_bytes last_from.old.path) last_from.old.home }
-    requires to { IsKnown homes.now (string_bytes last_to.old.path) last_to.old.home }
-    ensures from { OnOk result
-        (IsKnown homes.now (string_bytes last_from.new.path) last_from.new.home) }
-    ensures to { OnOk result
-        (IsKnown homes.now (string_bytes last_to.new.path) last_to.new.home) }
+    requires { froms.old.homes.now ≡ tos.old.homes.now }
+    ensures homes { (froms.new.homes.now ≡ froms.old.homes.now)
+        × (tos.new.homes.now ≡ tos.old.homes.now) }
     ensures cuts { OnOk result (map (link_numbered flat.now) cuts.new.items
         ≡ map (link_numbered flat.now) cuts.old.items
-        ++ cuts_of (spot_at homes.now) (link_numbered flat.now link ∷ [])) }
+        ++ cuts_of (spot_at froms.old.homes.now.by_path) (link_numbered flat.now link ∷ [])) }
     ensures orders { OnOk result ((writes : List (List ℕ))
         → map (plain_order flat.now writes) orders.new.items
         ≡ map (plain_order flat.now writes) orders.old.items
-        ++ connection_orders (spot_at homes.now) (link_numbered flat.now link ∷ [])) }
+        ++ connection_orders (spot_at froms.old.homes.now.by_path) (link_numbered flat.now link ∷ [])) }
 {
     let (start, end) = flat.link_from(link);
-    let from = home_of_end(homes, apart, start, end, last_from)?;
+    let from = froms.home(start, end)?;
     let (start, end) = flat.link_to(link);
-    let to = home_of_end(homes, apart, start, end, last_to)?;
+    let to = tos.home(start, end)?;
     if same_home(from, to) {
         push_connection(flat, link, from, orders)
     } else {
@@ -145,36 +138,25 @@ fn push_link<'a>(
 /// Adds the links that are cut, and the commands that make the others.
 pub(crate) fn push_links<'a>(
     alloc: Global,
-    homes: &Spots<'a>,
-    apart: bool,
+    homes: &HomeTable<'a>,
     flat: &Flat,
     cuts: &mut Vec<u32>,
     orders: &mut Vec<Numbered<'a>>,
 ) -> Result<(), AllocError>
-    requires { IsTrue apart → AreApart (spot_at homes.now) }
     ensures cuts { OnOk result (map (link_numbered flat.now) cuts.new.items
         ≡ map (link_numbered flat.now) cuts.old.items
-        ++ cuts_of (spot_at homes.now) flat.now.links) }
+        ++ cuts_of (spot_at homes.now.by_path) flat.now.links) }
     ensures orders { OnOk result ((writes : List (List ℕ))
         → map (plain_order flat.now writes) orders.new.items
         ≡ map (plain_order flat.now writes) orders.old.items
-        ++ connection_orders (spot_at homes.now) flat.now.links) }
+        ++ connection_orders (spot_at homes.now.by_path) flat.now.links) }
 {
     let count = number(flat.link_count())?;
     orders.reserve(flat.link_count())?;
-    let mut last_from = LastBlock::new(alloc);
-    let mut last_to = LastBlock::new(alloc);
+    let mut froms = EndFinder::new(alloc, homes);
+    let mut tos = EndFinder::new(alloc, homes);
     for link in 0..count {
-        push_link(
-            homes,
-            apart,
-            flat,
-            link,
-            &mut last_from,
-            &mut last_to,
-            cuts,
-            orders,
-        )?;
+        push_link(flat, link, &mut froms, &mut tos, cuts, orders)?;
     }
     Ok(())
 }

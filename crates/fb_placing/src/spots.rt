@@ -8,13 +8,21 @@ ghost use Rattle.fb_placing.specs.Points.{AreApart};
 ghost use Rattle.fb_placing.specs.Spots.{spot_at};
 
 use crate::homes::Home;
-use crate::parted::parted;
+use crate::paths::split::parted;
 use fb_network::Path;
 use std::alloc::{AllocError, Global};
 use std::collections::HashMap;
 
 /// Resources by the paths of the blocks that stand on them.
 pub(crate) type Spots<'a> = HashMap<&'a str, &'a Path>;
+
+/// The same, and whether no block of these stands inside another one.
+#[derive(Drop)]
+pub(crate) struct HomeTable<'a> {
+    pub by_path: Spots<'a>,
+    pub apart: bool,
+    ghost are_apart: { IsTrue apart → AreApart (spot_at by_path) },
+}
 
 /// Adds what a path stands for, where it stands for nothing yet.
 fn add_spot<'a>(spots: &mut Spots<'a>, path: &'a str, resource: &'a Path) -> Result<(), AllocError>
@@ -29,7 +37,7 @@ fn add_spot<'a>(spots: &mut Spots<'a>, path: &'a str, resource: &'a Path) -> Res
 }
 
 /// The homes of blocks by their paths.
-pub(crate) fn spots_of<'a>(alloc: Global, homes: &'a [Home]) -> Result<Spots<'a>, AllocError>
+fn spots_of<'a>(alloc: Global, homes: &'a [Home]) -> Result<Spots<'a>, AllocError>
     ensures { IfOk result (λ spots. spot_at spots ≡ home_at homes.now) }
 {
     let mut spots = HashMap::new(alloc);
@@ -68,7 +76,7 @@ pub(crate) fn nearest_spot<'a>(spots: &Spots<'a>, path: &str) -> Option<&'a Path
 }
 
 /// Whether no block of these stands inside another one. A path in front of several blocks beside each other is looked at once.
-pub(crate) fn are_apart(spots: &Spots<'_>, homes: &[Home]) -> bool
+fn are_apart(spots: &Spots<'_>, homes: &[Home]) -> bool
     requires { spot_at spots.now ≡ home_at homes.now }
     ensures { IsTrue result → AreApart (spot_at spots.now) }
 {
@@ -87,4 +95,13 @@ pub(crate) fn are_apart(spots: &Spots<'_>, homes: &[Home]) -> bool
         }
     }
     true
+}
+
+/// The homes of blocks by their paths.
+pub(crate) fn home_table<'a>(alloc: Global, homes: &'a [Home]) -> Result<HomeTable<'a>, AllocError>
+    ensures { IfOk result (λ table. spot_at table.by_path ≡ home_at homes.now) }
+{
+    let by_path = spots_of(alloc, homes)?;
+    let apart = are_apart(&by_path, homes);
+    Ok(HomeTable { by_path, apart })
 }

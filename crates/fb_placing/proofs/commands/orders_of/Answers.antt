@@ -10,7 +10,7 @@ use Rattle.fb_placing.proofs.commands.orders_of.Goals as goal
 pub returns-clause-orders : goal.returns-clause-orders
 returns-clause-orders c =
     let flat = c.args.flat.now in
-    let homes = spot_at c.args.homes.now in
+    let homes = spot_at c.args.homes.now.by_path in
     let lines = c.args.lines.now in
     let writes = map (λ line. line.command) lines in
     let say = map (plain_order flat writes) in

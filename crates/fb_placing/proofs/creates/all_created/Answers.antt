@@ -13,7 +13,7 @@ use Rattle.fb_placing.proofs.creates.all_created.Goals as goal
 pub loop-block-preserved : goal.loop-block-preserved
 loop-block-preserved c =
     let flat = c.args.flat.now in
-    let line = create_line (spot_at c.args.homes.now) in
+    let line = create_line (spot_at c.args.homes.now.by_path) in
     let n = c.loop-block.block in
     let x = block_numbered flat n in
     let lt : n < length flat.blocks = omega (arith, c.loop-block-test.true, c.in_ok-count.ensures.same, c.block_count.ensures) in
@@ -24,4 +24,4 @@ pub returns : goal.returns
 returns c =
     let flat = c.args.flat.now in
     c.loop-block.invariant
-    ∙ ap (filter_map (create_line (spot_at c.args.homes.now))) (take_all c.loop-block.block flat.blocks (omega (arith, c.loop-block-test.false, c.in_ok-count.ensures.same, c.block_count.ensures)))
+    ∙ ap (filter_map (create_line (spot_at c.args.homes.now.by_path))) (take_all c.loop-block.block flat.blocks (omega (arith, c.loop-block-test.false, c.in_ok-count.ensures.same, c.block_count.ensures)))

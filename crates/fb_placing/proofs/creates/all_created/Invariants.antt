@@ -7,4 +7,4 @@ use Rattle.fb_placing.specs.Lines.{create_line}
 use Rattle.fb_placing.proofs.creates.all_created.Given as goal
 
 abbrev pub invariant-loop-block : goal.invariant-loop-block
-invariant-loop-block l = map (created_line l.flat) l.created.items ≡ filter_map (create_line (spot_at l.homes)) (take l.block l.flat.blocks)
+invariant-loop-block l = map (created_line l.flat) l.created.items ≡ filter_map (create_line (spot_at l.homes.by_path)) (take l.block l.flat.blocks)

@@ -1,17 +1,15 @@
 -- The paths of the mappings passed so far that are of nothing.
 use Rattle.std.proofs.Common.{◌≡◌, take, map}
-use Rattle.std.specs.BTreeMap.{get}
-use Rattle.fb_tree.specs.Text.Order.{name_cmp}
 use Rattle.fb_tree.specs.Tree.{mapping_tree}
 use Rattle.fb_library.specs.View.{tree_at}
 use Rattle.fb_placing.specs.Homes.{astray}
+use Rattle.fb_placing.specs.Resolver.{resolver_of}
 use Rattle.fb_placing.specs.Systems.{applications_in}
-use Rattle.fb_placing.specs.Tables.{AreUnits}
 use Rattle.fb_placing.proofs.homes.astray.Given as goal
 
 abbrev pub invariant-loop-mapping : goal.invariant-loop-mapping
 invariant-loop-mapping g l = record {
-  right : AreUnits (g.V.View.sources l.view) (get name_cmp l.units);
+  resolves : l.resolver ≡ resolver_of (g.V.View.sources l.view) l.system;
   paths : l.paths.items
       ≡ astray (g.V.View.sources l.view) l.system (applications_in (tree_at (g.V.View.sources l.view) l.system)) (map mapping_tree (take l.mapping-index l.mappings));
 }
