@@ -31,7 +31,7 @@ fn words(rt: &HostRuntime) -> io::Result<Vec<String>> {
     Ok(words?)
 }
 
-/// The bytes of the file of the secret: none where no file is named, or none can be read.
+/// The bytes of the file of the secret: none if no file is named, or none can be read.
 fn secret_bytes(rt: &HostRuntime, path: Option<&str>) -> Vec<u8> {
     let Some(path) = path else {
         return Vec::new(rt.alloc());

@@ -25,7 +25,7 @@ enum Step<'a> {
     /// The record of this number is of this turn of caller 2, who asked and was given a value.
     Answer(u64, u64),
     NoRecord(u64),
-    /// A checkpoint with these limits comes to this.
+    /// A checkpoint with these limits has this result.
     Checkpoint(u64, u64, Result<u64, CheckpointRefused>),
     /// How many calls came before the start.
     Before(u64),

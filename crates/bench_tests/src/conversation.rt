@@ -37,7 +37,7 @@ pub(crate) const GOOD: Streams = Streams {
     turns: 1_000_000,
 };
 
-/// How a run ended, what it wrote, whether a read came to the end, and whether a read or a write has failed.
+/// How a run ended, what it wrote, whether a read reached the end, and whether a read or a write has failed.
 #[derive(Drop)]
 pub(crate) struct Run {
     pub(crate) end: RunEnd,
@@ -130,7 +130,7 @@ fn alike(a: &str, b: &str) -> Option<usize> {
     Some(place.unwrap_or(0))
 }
 
-/// What is said to a caller with these requests, in a run that comes to its end.
+/// The replies to a caller with these requests, in a run that reaches its end.
 pub(crate) fn said(
     alloc: Global,
     bench: &mut Bench,
@@ -144,8 +144,8 @@ pub(crate) fn said(
     }
 }
 
-/// Has a caller say the requests of a conversation. Where the replies are not those that stand there, it gives how many at
-/// the front are.
+/// Has a caller say the requests of a conversation. Where the replies are not those that are there, it gives how many at
+/// the start are.
 pub(crate) fn converse(
     alloc: Global,
     bench: &mut Bench,
@@ -174,7 +174,7 @@ pub(crate) fn converse_alone(alloc: Global, text: &str) -> Result<Option<usize>,
     converse_within(alloc, 1024, 100_000, text)
 }
 
-/// Fails where there is a wrong place, as a reply or a step.
+/// Fails if there is a wrong place, as a reply or a step.
 pub(crate) fn all_right(rt: &impl Abort, wrong: Option<usize>, about: &str) {
     assert_eq!(rt; wrong, None, "{about}");
 }

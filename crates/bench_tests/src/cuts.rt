@@ -24,17 +24,17 @@ pub(crate) const LATE: &str = r#"
 {"op":"deliver","job":1} => {"refused":"NotPending"}
 "#;
 
-/// How many calls are recorded once so many of its lines are answered. The work takes three times, and delivers twice.
+/// How many calls are recorded once this number of its lines are answered. The work takes three times, and delivers twice.
 pub(crate) const LATE_CALLS: &[usize] = &[0, 1, 2, 3, 3, 4, 5, 6, 7, 12, 13];
 
-/// What fails once so many of its kind were good.
+/// What fails once this number of its kind were good.
 #[derive(Clone, Copy)]
 enum Fault {
-    /// A read, where each gives at most so many bytes.
+    /// A read, where each gives at most this number of bytes.
     Read(usize),
-    /// A write, where each takes at most so many bytes.
+    /// A write, where each takes at most this number of bytes.
     Write(usize),
-    /// A write, which takes nothing and tells no error.
+    /// A write, which takes nothing and shows no error.
     EmptyWrite(usize),
     Flush,
 }
@@ -42,7 +42,7 @@ enum Fault {
 /// More bytes than a line of the conversation has.
 const LONG: usize = 8192;
 
-/// Bytes that come in reads of at most `piece`, of which so many are good.
+/// Bytes that come in reads of at most `piece`, of which this number of are good.
 #[derive(Drop)]
 struct Source<'a> {
     bytes: &'a [u8],
@@ -64,7 +64,7 @@ impl Read for Source<'_> {
     }
 }
 
-/// What is written in writes of at most `piece` bytes, of which so many are good, and so many flushes.
+/// What is written in writes of at most `piece` bytes, of which this number of are good, and this number of flushes.
 #[derive(Drop)]
 struct Store {
     held: Vec<u8>,
@@ -193,7 +193,7 @@ pub(crate) fn lines_in(bytes: &[u8]) -> usize {
     bytes.iter().filter(|byte| **byte == b'\n').count()
 }
 
-/// The text behind so many of its lines.
+/// The text after this number of its lines.
 pub(crate) fn behind(text: &str, lines: usize) -> &str {
     let mut rest = text;
     for _line in 0..lines {

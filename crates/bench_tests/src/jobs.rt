@@ -97,7 +97,7 @@ pub(crate) fn is_accepted(bench: &mut Bench, finished: &Finished) -> Result<bool
     Ok(bench.deliver(1, finished)? == Delivered::Accepted)
 }
 
-/// A commit, a key, what a job for it reads, and what is said of it then.
+/// A commit, a key, what a job for it reads, and the reply about it then.
 type Row = (
     &'static str,
     Kind,

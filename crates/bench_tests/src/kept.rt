@@ -1,4 +1,4 @@
-//! Which kept nets jobs take along.
+//! Which kept nets are passed to jobs.
 use crate::conversation::{converse, new_bench};
 use crate::jobs::{bench_after, is_accepted, job_for, key_of};
 use fb_wire::bench::{Bench, Taken};

@@ -1,4 +1,4 @@
-//! Nets and plans that a change of a block type leaves as they were, and those that it does not.
+//! Nets and plans that a change of a block type leaves unchanged, and those that it does not.
 use crate::conversation::compare;
 use std::test::Fail;
 

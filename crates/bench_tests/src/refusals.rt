@@ -1,4 +1,4 @@
-//! Lines that are no request or that are refused, by their form, by the limits or by what there is.
+//! Lines that are no request or that are refused, by their form, by the limits or by the state of the workbench.
 use crate::conversation::{all_right, compare, converse_alone, converse_within};
 use std::alloc::{AllocError, Global};
 use std::test::Fail;

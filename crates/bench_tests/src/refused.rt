@@ -1,5 +1,5 @@
-//! Conversations of which each allocation is refused in turn. One that ends for want of memory has made the calls of the lines that it answered, and none,
-//! some or all of one more. Where no line names a job of another line, it goes on with the lines that were not answered.
+//! Conversations of which each allocation is refused in turn. One that ends for lack of memory has made the calls of the lines that it answered, and none,
+//! some or all of one more. If no line names a job of another line, it continues with the lines that were not answered.
 use crate::conversation::{ALWAYS, GOOD, new_bench, replies_in, requests_in, run_over, said};
 use crate::cuts::{Conversation, LATE, LATE_CALLS, behind, is_front, lines_in};
 use fb_wire::bench::Bench;
@@ -88,7 +88,7 @@ fn is_front_of(bench: &Bench, conversation: &Conversation<'_>, output: &[u8]) ->
 /// Which conversation it is.
 #[derive(Clone, Copy)]
 enum Which {
-    /// That of the lines here, which can be said again in another run.
+    /// That of the lines here, which can be stated again in another run.
     Lines,
     /// A late result, of a job that another run does not hold.
     Late,
@@ -138,7 +138,7 @@ fn is_right(
     }
 }
 
-/// Whether an allocation was refused, whether the run ended for want of memory, and whether it is right.
+/// Whether an allocation was refused, whether the run ended for lack of memory, and whether it is right.
 #[derive(Clone, Copy)]
 struct Ended {
     is_refused: bool,

@@ -1,4 +1,4 @@
-//! Runs over streams that come to their end, stop or fail.
+//! Runs over streams that reach their end, stop or fail.
 use crate::conversation::{ALWAYS, GOOD, Run, Streams, new_bench, run_over};
 use fb_wire::bench::Bench;
 use fb_wire::{Failed, Feed, FromRead, IntoWrite, RunEnd, Sink, run_script};

@@ -1,4 +1,4 @@
-//! Structures in conversations: what is judged anew when one changes, and what blocks a net.
+//! Structures in conversations: what is checked again when one changes, and what blocks a net.
 use crate::conversation::compare;
 use std::test::Fail;
 

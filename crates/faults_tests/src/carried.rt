@@ -115,7 +115,7 @@ fn library(alloc: Global, rows: &[(&str, &str, &str)]) -> Result<Library, Fail> 
     Ok(Library::new(alloc).edited(1, changes.as_slice())?)
 }
 
-/// Names, each with a blank behind it.
+/// Names, each with a blank after it.
 fn told(alloc: Global, names: &[Name]) -> Result<String, AllocError> {
     let mut told = String::new(alloc);
     for name in names {

@@ -179,7 +179,7 @@ fn faults_of_algorithms(rt: HostRuntime) -> Result<(), Fail> {
     compare(&rt, rt.alloc(), (HEAD, FOOT), KNOWN, &STATEMENTS)
 }
 
-/// Compares the faults of statements that stand within others, which open and close so.
+/// Compares the faults of statements that are within others, which open and close so.
 fn compare_within(
     rt: &impl Abort,
     alloc: Global,

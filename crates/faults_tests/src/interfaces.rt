@@ -1,5 +1,5 @@
-//! The ports that `interface` gives, told as six lists: event inputs, event outputs, data inputs, data outputs, plugs and sockets. Behind each
-//! name stands its type, where it has one.
+//! The ports that `interface` gives, written as six lists: event inputs, event outputs, data inputs, data outputs, plugs and sockets. After each
+//! name is its type, if it has one.
 use fb_iface::{Ports, interface, is_beside, is_same_role, is_same_side};
 use fb_library::parse::Source;
 use fb_tree::text::{Name, WideUse};
@@ -46,7 +46,7 @@ fn tell_port(told: &mut String, name: &Name, type_name: Option<&Name>) -> Result
     }
 }
 
-/// Tells one port more of a list.
+/// Writes one more port of a list.
 fn list_port(told: &mut String, name: &Name, type_name: Option<&Name>) -> Result<(), AllocError> {
     let is_first = told.is_empty();
     tell_blank(told, is_first)?;

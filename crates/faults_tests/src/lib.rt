@@ -1,6 +1,6 @@
 //! Tests of libraries and of the faults of units.
 //!
-//! A row of a table is a text, or a part of one, with its faults, as `plant` tells them.
+//! A row of a table is a text, or a part of one, with its faults, as `plant` writes them.
 #![tactic(auto)]
 
 #[cfg(test)]

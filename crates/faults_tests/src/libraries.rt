@@ -16,7 +16,7 @@ static RECURSIVE: [(&str, &str); 3] = [
     ("B", "FUNCTION_BLOCK B FBS Y:A; END_FBS END_FUNCTION_BLOCK"),
 ];
 
-/// Names, each with a blank behind it.
+/// Names, each with a blank after it.
 fn told(alloc: Global, names: &[Name]) -> Result<String, AllocError> {
     let mut told = String::new(alloc);
     for name in names {
@@ -222,7 +222,7 @@ fn codes_have_words_and_numbers(rt: HostRuntime) -> Result<(), Fail> {
     Ok(())
 }
 
-/// The numbers that stand for two names, where X is declared twice, and how many names there are.
+/// The numbers that mean two names, where X is declared twice, and how many names there are.
 fn first_numbers(alloc: Global, x: Name, y: Name) -> Result<([Option<i32>; 2], usize), AllocError> {
     let table = first_declared(alloc, [(x, 1), (y, 2), (x, 3)].as_slice())?;
     let numbers = [table.get(&x).copied(), table.get(&y).copied()];

@@ -1,4 +1,4 @@
-//! References with further names: the fields of structures, and what is not judged.
+//! References with further names: the fields of structures, and what is not checked.
 use crate::structures::compare_places;
 use std::alloc::Global;
 use std::process::Abort;

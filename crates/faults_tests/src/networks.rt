@@ -136,7 +136,7 @@ static IN_BLOCKS: [(&str, &str); 23] = [
     ),
 ];
 
-/// Compares the ends of instances, and others, in a network that stands between these texts.
+/// Compares the ends of instances, and others, in a network that is between these texts.
 fn compare_ends(
     rt: &impl Abort,
     alloc: Global,

@@ -1,7 +1,7 @@
 //! CLASS at operators: what each makes of all pairs of classes.
 //!
-//! The class of an expression shows in the statements where it may stand: B and Any as a truth value, I, Num and Any as a subscript, W, Num
-//! and Any as a string of bits, and what is not judged before `MOD TRUE` too.
+//! The class of an expression shows in the statements that may contain it: B and Any as a truth value, I, Num and Any as a subscript, W, Num
+//! and Any as a string of bits, and what is not checked before `MOD TRUE` too.
 use crate::plant::{faults_of, library};
 use fb_iface::Code;
 use fb_library::Library;
@@ -44,7 +44,7 @@ static PAIRS: [(&str, &str); 15] = [
 
 static SINGLES: [(&str, &str); 3] = [("NOT", "B-W-FNA"), ("+", "-I-OFNN"), ("-", "-I-OFNN")];
 
-/// Whether an expression may stand in a statement. Where it may not, a rule of classes is the one fault.
+/// Whether an expression may be in a statement. If it may not, a rule of classes is the one fault.
 fn may_stand(
     alloc: Global,
     none: &Library,
@@ -79,7 +79,7 @@ static LETTERS: [(&str, &str); 7] = [
     ("+++-", "A"),
 ];
 
-/// In which of the statements an expression may stand.
+/// In which of the statements an expression may be.
 fn stands(alloc: Global, none: &Library, expression: &str) -> Result<String, Fail> {
     let mut found = String::new(alloc);
     for (open, close) in &STATEMENTS {
@@ -101,7 +101,7 @@ fn letter(alloc: Global, none: &Library, expression: &str) -> Result<&'static st
     Ok(known.map_or("?", |(_, letter)| *letter))
 }
 
-/// Adds the letters of an operator behind an operand, which may be absent, and before each operand.
+/// Adds the letters of an operator after an operand, which may be absent, and before each operand.
 fn say_row(
     alloc: Global,
     none: &Library,

@@ -1,6 +1,6 @@
-//! The units that the texts of the tables speak of, and the notation of faults.
+//! The units that the texts of the tables name, and the notation of faults.
 //!
-//! Faults are told as `CODE words; CODE words`, the words being those at the place of the fault. Where they stand there for the second time
+//! Faults are written as `CODE words; CODE words`, the words being those at the place of the fault. If they occur for the second time
 //! in the text, `#2` follows, and so on. The faults of each text of a table are compared with those that the checkers find together, too.
 use crate::checkers::are_found_together;
 use fb_faults::faults;
@@ -113,7 +113,7 @@ fn is_in_word(b: u8) -> bool {
     b.is_ascii_alphanumeric() || b == b'_'
 }
 
-/// Whether these words stand at a place of the text, and are no part of longer ones.
+/// Whether these words are at a place of the text, and are no part of longer ones.
 fn stands_at(text: &[u8], at: usize, words: &[u8]) -> bool {
     let (Some(before), Some(rest)) = (text.get(..at), text.get(at..)) else {
         return false;
@@ -126,14 +126,14 @@ fn stands_at(text: &[u8], at: usize, words: &[u8]) -> bool {
     }
 }
 
-/// How often these words stand between two places of the text.
+/// How often these words are between two places of the text.
 fn count(text: &str, words: &str, from: usize, to: usize) -> usize {
     (from..to)
         .filter(|at| stands_at(text.as_bytes(), *at, words.as_bytes()))
         .count()
 }
 
-/// Adds a fault to what has been told. Its words are counted from a place of the text.
+/// Adds a fault to what was written. Its words are counted from a place of the text.
 fn tell(text: &str, from: usize, fault: &Fault, told: &mut String) -> Result<(), AllocError> {
     let Span { start, end } = fault.span;
     let between = if told.is_empty() { "" } else { "; " };
@@ -157,7 +157,7 @@ pub fn all_told(alloc: Global, text: &str, faults: &[Fault]) -> Result<String, A
     Ok(told)
 }
 
-/// The faults of a text: those at its head, which ends at this place, and those behind.
+/// The faults of a text: those at its head, which ends at this place, and those after.
 fn told(
     alloc: Global,
     library: &Library,
@@ -190,7 +190,7 @@ fn compare_told(
     Ok(())
 }
 
-/// Compares the faults of a text with those that are known of its head, those that are expected behind, and those of the checkers.
+/// Compares the faults of a text with those that are known of its head, those that are expected after, and those of the checkers.
 fn compare_text(
     rt: &impl Abort,
     alloc: Global,
@@ -203,7 +203,7 @@ fn compare_text(
     Ok(())
 }
 
-/// Compares the faults of each row of a table, with what stands before and behind it.
+/// Compares the faults of each row of a table, with what is before and after it.
 fn compare_rows(
     rt: &impl Abort,
     alloc: Global,
@@ -220,7 +220,7 @@ fn compare_rows(
     Ok(())
 }
 
-/// Compares the faults of each row of a table, with what stands before and behind it, with those that it names. What stands before it has
+/// Compares the faults of each row of a table, with what is before and after it, with those that it names. What is before it has
 /// the faults that are known.
 pub fn compare(
     rt: &impl Abort,

@@ -178,7 +178,7 @@ fn library(alloc: Global, rows: &[(&str, &str, &str)]) -> Result<Library, Fail> 
     Ok(Library::new(alloc).edited(1, changes.as_slice())?)
 }
 
-/// Faults with their places, each with a blank behind it.
+/// Faults with their places, each with a blank after it.
 fn places(alloc: Global, faults: &[Fault]) -> Result<String, AllocError> {
     let mut told = String::new(alloc);
     for fault in faults {

@@ -11,13 +11,13 @@ use Rattle.fb_bench.specs.declared.desk.DeskRefused.TheVariants.{HistoryFull, Be
 use Rattle.fb_bench.specs.declared.desk.DeskCheckpointRefused.{DeskCheckpointRefused}
 use Rattle.fb_bench.specs.declared.desk.DeskCheckpointRefused.TheVariants as refused
 
--- what a desk answers to a call: a reply, or that the history is full or the desk is behind it
+-- what a desk answers to a call: a reply, or that the history is full, or `Behind`
 pub data Answer : Type 0 where
   Replied : (reply : Reply) → Answer
   FullHistory : Answer
   BehindHistory : Answer
 
--- what a desk answers to a checkpoint: what it comes to, or that the desk shares its workbench with others
+-- what a desk answers to a checkpoint: its result, or that the desk shares its workbench with others
 pub data CheckpointAnswer : Type 0 where
   Checked : (checking : Checking) → CheckpointAnswer
   SharedHistory : CheckpointAnswer
@@ -49,14 +49,14 @@ take_reply taken = OfTake (job_in taken)
 abbrev pub ask_reply : Asked → Reply
 ask_reply asked = OfAsk (shown_in asked)
 
--- The call was answered, or refused as an answer says. For want of memory nothing changed.
+-- The call was answered, or refused as an answer says. For lack of memory nothing changed.
 abbrev pub Serves : {D R : Type 0} → (D → Call → Answer → D → Type 0) → D → Call → (R → Reply) → Result R DeskRefused → D → Type 0
 Serves Step old call reply_of (Ok answer) new = Step old call (Replied (reply_of answer)) new
 Serves Step old call reply_of (Err HistoryFull) new = Step old call FullHistory new
 Serves Step old call reply_of (Err Behind) new = Step old call BehindHistory new
 Serves Step old call reply_of (Err Memory) new = new ≡ old
 
--- The checkpoint was made, or refused as an answer says. For want of memory nothing changed.
+-- The checkpoint was made, or refused as an answer says. For lack of memory nothing changed.
 abbrev pub ServesCheckpoint : {D : Type 0} → (D → Bounds → CheckpointAnswer → D → Type 0) → D → Bounds → Result ℕ DeskCheckpointRefused → D → Type 0
 ServesCheckpoint Step old limits (Ok before) new = Step old limits (Checked (KeptUpTo before)) new
 ServesCheckpoint Step old limits (Err (refused.UnitsOver count)) new = Step old limits (Checked (OverUnits count)) new

@@ -4,6 +4,6 @@ use Rattle.fb_history.specs.BenchView.{Log, IsFull}
 use Rattle.fb_history.specs.declared.answers.Refused.{Refused}
 use Rattle.fb_history.specs.declared.answers.Refused.TheVariants as bench
 
--- refused for want of room, exactly where as many calls are recorded as may be
+-- refused for lack of room, if and only if the history has the number of calls that it may have
 abbrev pub IsFullRefusal : {R : Type 0} → Log → Result R Refused → Type 0
 IsFullRefusal log result = (result ≡ Err bench.HistoryFull) ↔ IsFull log

@@ -11,7 +11,7 @@ use Rattle.fb_bench.specs.declared.desk.DeskCheckpointRefused.{DeskCheckpointRef
 use Rattle.fb_bench.specs.declared.desk.DeskCheckpointRefused.TheVariants as unmade
 use Rattle.fb_bench.specs.declared.desk.Solo.{Solo}
 
--- The machine's reply, recorded, where the history has room. Where it has none, nothing changes. A workbench is never behind.
+-- The machine's reply, recorded, if the history has room. If it has none, nothing changes. The answer is never `Behind`.
 abbrev pub IsCallStep : ℕ → BenchView → Call → Answer → BenchView → Type 0
 IsCallStep caller old call (Replied answer) new = (length old.log.records < old.log.limit) × (answer ≡ reply (state_of old) call) × (new ≡ recorded old caller call)
 IsCallStep caller old call FullHistory new = (old.log.limit ≤ length old.log.records) × (new ≡ old)

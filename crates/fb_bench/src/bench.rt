@@ -270,7 +270,7 @@ impl Bench {
         }
     }
 
-    /// The revision of a unit, or 0 where it is absent.
+    /// The revision of a unit, or 0 if it is absent.
     pub fn revision(&self, unit: &Name) -> u64
         ensures { result ≡ revision_of (held (state_of self.now).units unit.now) }
     {
@@ -278,7 +278,7 @@ impl Bench {
     }
 
     /// What the units of the present texts mention, by which a commit finds what it reaches. Units that are gone may be in it too, without mentions: it
-    /// names such a unit where one asks for what is near it.
+    /// names such a unit if one asks for what is near it.
     pub fn index(&self) -> &Index
         ensures { IsIndexOf (state_of self.now).units result.now }
     {
@@ -425,7 +425,7 @@ impl Bench {
         }
     }
 
-    /// Takes a result in, if its key waits for one and all that it has read is as it was.
+    /// Takes a result in, if its key waits for one and all that it has read is unchanged.
     #[tactic(auto, using(crate::proofs::Headline::leaves_state))]
     pub fn deliver(&mut self, caller: u32, finished: &Finished) -> Result<Delivered, Refused>
         ensures step { OnOk result (self.new ≡ recorded self.old caller (ToDeliver finished.now)) }

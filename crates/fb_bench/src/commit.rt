@@ -1,4 +1,4 @@
-//! What a commit comes to, and its record.
+//! The result of a commit, and its record.
 ghost use Rattle.std.specs.Prelude.{◌≡◌, ◌+◌, ◌<◌, length, map, take, IfOk, OnOk, OnErr};
 ghost use Rattle.fb_entries.specs.Library.Texts.{unit_of};
 ghost use Rattle.fb_entries.specs.Library.Changes.{edit_of, edits_of};
@@ -107,7 +107,7 @@ pub(crate) fn refusal(library: &Library, changes: &[Change]) -> Option<Committed
     }
 }
 
-/// What a commit comes to, found before anything is written.
+/// The result of a commit, found before anything is written.
 #[derive(Drop)]
 pub(crate) enum Outcome {
     Refused(Committed),
@@ -115,7 +115,7 @@ pub(crate) enum Outcome {
     Done { library: Library, found: Found },
 }
 
-/// What the changes come to; `number` is that of the commit, if it is done.
+/// The result of the changes; `number` is that of the commit, if it is done.
 pub(crate) fn outcome_of(
     alloc: Global,
     most_units: u64,
@@ -143,7 +143,7 @@ pub(crate) fn outcome_of(
     })
 }
 
-/// Records a commit that is done, with room for the entries and marks that it brings, or leaves all as it was.
+/// Records a commit that is done, with room for the entries and marks that it brings, or leaves all unchanged.
 pub(crate) fn record_with_room(
     alloc: Global,
     entries: &mut Entries,

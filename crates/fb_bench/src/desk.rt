@@ -22,7 +22,7 @@ pub enum DeskRefused {
 /// Why a desk does not make the present state the start of its history.
 #[derive(Clone, Copy, PartialEq, Eq, Debug)]
 pub enum DeskCheckpointRefused {
-    /// So many units are present, more than the new limit.
+    /// This number of units is present, more than the new limit.
     UnitsOver(u64),
     /// The last number and the new limit of the history together are no `u64`.
     NumbersOver,
@@ -80,7 +80,7 @@ pub trait Desk {
         }
     }
 
-    /// Takes a result in, if its key waits for one and all that it has read is as it was.
+    /// Takes a result in, if its key waits for one and all that it has read is unchanged.
     fn deliver(&mut self, finished: &Finished) -> Result<Delivered, DeskRefused>
         ensures { Serves step self.old (ToDeliver finished.now) OfDeliver result self.new }
     {
@@ -116,7 +116,7 @@ pub trait Desk {
     }
 }
 
-/// A workbench as the desk of one caller. It is never behind.
+/// A workbench as the desk of one caller. It never refuses a call as `Behind`.
 #[derive(Drop)]
 pub struct Solo<'a> {
     pub bench: &'a mut Bench,

@@ -22,7 +22,7 @@ pub data PlainDeploy : Type 0 where
   faulty : List Misplaced → PlainDeploy
   planned : List Link → List PlainResource → PlainDeploy
 
--- the same without where it lies in memory
+-- the same without its place in memory
 abbrev pub plain_deploy : Deploy → PlainDeploy
 plain_deploy (deploy.Stopped net) = stopped (plain_net net)
 plain_deploy (deploy.Faulty found) = faulty found.items
@@ -47,7 +47,7 @@ planned_by sources system (recursive names) = stopped (recursive names)
 planned_by sources system too_large = stopped too_large
 planned_by sources system (flat_net flat) = flat_plan sources system flat
 
--- the plan of a system: its net where that is not flat, what is misplaced if anything is, or its cut links and the commands of each
+-- the plan of a system: its net if that is not flat, what is misplaced if anything is, or its cut links and the commands of each
 -- resource
 pub record IsPlan (sources : Sources) (system : List ℕ) (plan : PlainDeploy) : Type 0 where
   pub net : PlainNet

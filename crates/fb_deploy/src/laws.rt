@@ -7,12 +7,12 @@ pub fn one_plan()
     ensures { OnePlan }
 {}
 
-/// The plan of a system depends on the texts alone that the system rests on.
+/// The plan of a system depends only on the texts that the system rests on.
 pub fn plan_is_local()
     ensures { PlanIsLocal }
 {}
 
-/// Whether a unit has a plan is told by its own text.
+/// Whether a unit has a plan follows from its own text.
 pub fn has_plan_by_text()
     ensures { HasPlanByText }
 {}
@@ -27,12 +27,12 @@ pub fn plan_at_is_plan()
     ensures { PlanAtIsPlan }
 {}
 
-/// It depends on the texts alone that the unit rests on.
+/// It depends only on the texts that the unit rests on.
 pub fn plan_at_is_local()
     ensures { PlanAtIsLocal }
 {}
 
-/// Texts that leave the net of a system as it was leave its plan so.
+/// Texts that leave the net of a system unchanged leave its plan so.
 pub fn plan_is_unchanged()
     ensures { PlanIsLeft }
 {}

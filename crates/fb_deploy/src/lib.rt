@@ -1,4 +1,4 @@
-//! What is to be done on the resources of a system to run it there (IEC 61499-1, clause 7: system configurations).
+//! The commands that make each resource of a system run its part of it (IEC 61499-1, clause 7: system configurations).
 #![tactic(auto)]
 
 mod laws;

@@ -14,7 +14,7 @@ use fb_mapping::plain::Flat;
 use fb_mapping::text::Name;
 use std::alloc::{AllocError, Global};
 
-/// What is to be done on each resource of a system.
+/// The commands for each resource of a system.
 #[derive(Drop)]
 pub enum Deploy {
     /// There is no flat network.

@@ -36,11 +36,11 @@ abbrev pub event_on : Side → Option DeclaredEvent → EventTarget
 event_on side None = Unknown
 event_on side (Some event) = if same_side event.side side then Found else Unknown
 
--- what a name stands for among ports, where an event of this side is wanted
+-- what a name means among ports, where an event of this side is wanted
 abbrev pub event_among : Side → Meanings → List ℕ → EventTarget
 event_among side ports name = event_on side (stands_for ports.events name)
 
--- the same at an adapter; one whose type is not usable is not judged
+-- the same at an adapter; one whose type is not usable is not checked
 abbrev pub event_of_adapter : Option Meanings → List ℕ → Side → EventTarget
 event_of_adapter None name side = NotJudged
 event_of_adapter (Some ports) name side = event_among side ports name

@@ -29,7 +29,7 @@ pub fn ecc_faults<V: View>(alloc: Global, view: &V, unit: &Name) -> Result<Vec<F
     sorted_faults(alloc, found.as_slice())
 }
 
-/// Reports the faults of a block type. Where it has no chart, what names stand for isn't read.
+/// Reports the faults of a block type. If it has no chart, what names mean isn't read.
 fn report_block<V: View>(
     alloc: Global,
     view: &V,

@@ -130,7 +130,7 @@ fn target_of(scope: &Scope, side: Side, event: &End) -> EventTarget
     }
 }
 
-/// What a name stands for among ports.
+/// What a name means among ports.
 fn target_among(ports: &Ports, side: Side, name: &Name) -> EventTarget
     ensures { result ≡ event_among side ports.now name.now }
 {
@@ -159,7 +159,7 @@ fn target_behind(
     }
 }
 
-/// What a port of an adapter is. One whose type is not usable is not judged.
+/// What a port of an adapter is. One whose type is not usable is not checked.
 fn target_of_adapter(ports: Option<&Ports>, side: Side, name: &Name) -> EventTarget
     ensures { result ≡ event_of_adapter (option_map (λ p. p.now) ports.entry) name.now side }
 {

@@ -1,4 +1,6 @@
 //! What a workbench knows of its keys.
+//! Beside the entries there is only the set of keys that can be taken: `key_at` and `pending_count` walk, since they are called rarely, and each
+//! further list would cost every commit.
 ghost use Rattle.std.specs.Prelude.{◌≡◌, [], None, true, false, IfOk, OnOk, OnErr, count_by, length, slice_get};
 ghost use Rattle.std.specs.Option.{option_copied};
 ghost use Rattle.std.specs.List.Sorted.{IsStrictlySortedBy};
@@ -191,7 +193,7 @@ impl Entries {
         })
     }
 
-    /// Makes room for new entries and marks, or leaves all as it was.
+    /// Makes room for new entries and marks, or leaves all unchanged.
     pub fn make_room(&mut self, alloc: Global, renewal: &Renewal) -> Result<(), AllocError>
         ensures ok { OnOk result (HasRoom renewal.now self.old self.new) }
         ensures err { OnErr result (IsTakenBack renewal.now self.old self.new) }
@@ -242,7 +244,7 @@ impl Entries {
         mark_out(&mut self.by_key, key, false);
     }
 
-    /// Lets a key be taken, or leaves all as it was.
+    /// Lets a key be taken, or leaves all unchanged.
     pub fn make_ready(&mut self, key: &Key) -> Result<(), AllocError>
         ensures entries { self.new.entries ≡ self.old.entries }
         ensures ok { OnOk result (MarksKey key.now true (can_take self.old) (can_take self.new)) }

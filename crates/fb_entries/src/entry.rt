@@ -1,4 +1,5 @@
 //! What is kept of a key.
+//! That an entry has the key that it is found under is no invariant: `share_of` compares the two keys, which costs less.
 ghost use Rattle.std.specs.Prelude.{◌≡◌, true, false, IfOk, OnOk, OnErr};
 ghost use Rattle.std.specs.BTreeMap as tree;
 ghost use Rattle.std.specs.BTreeSet as set;
@@ -20,7 +21,7 @@ pub struct Entry {
     pub out: bool,
     /// Of a pending key its value, where a job for another key computed it on the way.
     pub found: Option<Arc<Value>>,
-    /// The value that it had last, with the texts that gave it: it is shared where it comes out again.
+    /// The value that it had last, with the texts that gave it: a result that equals it shares it.
     pub previous: Option<Derivation>,
 }
 
@@ -50,7 +51,7 @@ impl Entry {
         }
     }
 
-    /// A share of the key: the entry's own where that is the same.
+    /// A share of the key: the entry's own if that is the same.
     pub fn share_of(&self, alloc: Global, key: Key) -> Result<Arc<Key>, AllocError>
         ensures { IfOk result (λ shared. shared.value ≡ key) }
     {

@@ -42,7 +42,7 @@ pub(crate) fn reindexed(
     Ok(index)
 }
 
-/// What the unit mentions; nothing where it is absent.
+/// What the unit mentions; nothing if it is absent.
 fn mentions_or<'a>(library: &'a Library, unit: &Name, none: &'a Mentions) -> &'a Mentions
     requires nothing { mentioned none.now ≡ nothing_mentioned }
     ensures { mentioned result.now ≡ mentioned_at (sources_of library.now) unit.now }

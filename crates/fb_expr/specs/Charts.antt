@@ -11,7 +11,7 @@ use Rattle.fb_expr.specs.Names.{Names, names_of_type}
 use Rattle.fb_expr.specs.declared.rules.ClassPlace.TheVariants.{Condition}
 use Rattle.fb_expr.specs.Statements.{faults_at_place, statements_faults}
 
--- the guard of a transition, where it has one
+-- the guard of a transition, if it has one
 abbrev pub guard_faults : Names → ConditionTree → List Fault
 guard_faults names (always span) = []
 guard_faults names (on_event event) = []

@@ -34,7 +34,7 @@ abbrev mutual
   faults_in names (row_expression e operands) = faults_in names e ++ row_faults names (class_in names e) operands
   faults_in names (parentheses e span) = faults_in names e
 
-  -- those behind the first operand of a row, by the class of what stands before
+  -- those after the first operand of a row, by the class of what is before
   pub row_faults : Names → Class → Operands → List Fault
   row_faults names left no_operands = []
   row_faults names left (operand_then used e operands) =

@@ -10,7 +10,7 @@ use Rattle.fb_expr.specs.declared.names.Names as kept
 
 pub record Names : Type 0 where
   pub scope : Scope
-  -- what may be named behind a plain type of this name
+  -- what may be named after a plain type of this name
   pub fields : List ℕ → Fields
 
 -- in the expressions of a block type

@@ -25,7 +25,7 @@ use Rattle.fb_expr.specs.Names.{Names}
 use Rattle.fb_expr.specs.declared.references.Referent.{Referent}
 use Rattle.fb_expr.specs.declared.references.Referent.TheVariants.{Variable, Unjudged, Unknown, NoMember}
 
--- whether subscripts stand there
+-- whether subscripts are there
 abbrev pub is_some_count : ℕ → Bool
 is_some_count count = nat_lt 0 count
 
@@ -46,7 +46,7 @@ abbrev pub data_referent : Option DeclaredVariable → Bool → Referent
 data_referent None subscripted = Unknown
 data_referent (Some variable) subscripted = if is_data variable.section then Variable variable.type_use subscripted else Unknown
 
--- what a name stands for at a plug or a socket, by the ports of its type; not judged where the type is not usable
+-- what a name means at a plug or a socket, by the ports of its type; not checked where the type is not usable
 abbrev pub port_referent : Option Meanings → List ℕ → Bool → Referent
 port_referent None name subscripted = Unjudged
 port_referent (Some ports) name subscripted = data_referent (stands_for ports.variables name) subscripted
@@ -57,7 +57,7 @@ is_adapter roles.Socket = true
 is_adapter roles.Block = false
 is_adapter roles.Subapplication = false
 
--- whether a name stands for a plug or a socket
+-- whether a name means a plug or a socket
 abbrev pub is_at_adapter : Option DeclaredInstance → Bool
 is_at_adapter None = false
 is_at_adapter (Some instance) = is_adapter instance.role
@@ -70,17 +70,17 @@ variable_named scope name subscripted = own_referent (stands_for scope.own.varia
 abbrev pub port_named : Scope → List ℕ → Member → Referent
 port_named scope name m = port_referent (ports_of scope name) m.name.name (is_some_count m.subscripts)
 
--- behind a plain type of this name; behind one of class Free no name is judged
+-- after a plain type of this name; after one of class Free no name is checked
 abbrev pub fields_named : (List ℕ → Fields) → List ℕ → Fields
 fields_named fields name = if is_free (class_of_name name) then NotJudged else fields name
 
--- with a subscript on what is no array: where names are judged there are no fields
+-- with a subscript on what is no array: where names are checked there are no fields
 abbrev pub unless_judged : Fields → Fields
 unless_judged NotJudged = NotJudged
 unless_judged NoFields = NoFields
 unless_judged (HasFields found) = NoFields
 
--- behind a type of this form and name, without or with a subscript
+-- after a type of this form and name, without or with a subscript
 abbrev pub fields_behind : (List ℕ → Fields) → TypeForm → List ℕ → Bool → Fields
 fields_behind fields forms.Plain name false = fields_named fields name
 fields_behind fields forms.Plain name true = unless_judged (fields_named fields name)
@@ -98,7 +98,7 @@ member_among NotJudged m = Unjudged
 member_among NoFields m = NoMember m.name.span
 member_among (HasFields found) m = field_referent (stands_for found m.name.name) m
 
--- one further name; behind one that is unknown or not judged none is judged
+-- one further name; after one that is unknown or not checked none is checked
 abbrev pub step : Names → Referent → Member → Referent
 step names (Variable used subscripted) m = member_among (fields_behind names.fields used.form used.name.name subscripted) m
 step names Unjudged m = Unjudged
@@ -110,11 +110,11 @@ abbrev pub walk : Names → Referent → List Member → Referent
 walk names base [] = base
 walk names base (m ∷ ms) = walk names (step names base m) ms
 
--- whether a name, with so many subscripts behind it and a further name behind these, is that of an own plug or socket
+-- whether a name, with this number of subscripts after it and a further name after these, is that of an own plug or socket
 abbrev pub is_before_port : Scope → List ℕ → ℕ → Bool
 is_before_port scope name count = not (is_some_count count) && is_at_adapter (stands_for scope.own.instances name)
 
--- What a name stands for with so many subscripts and these further names behind it: they begin at data of a plug or a socket where the second name
+-- What a name means with this number of subscripts and these further names after it: they begin at data of a plug or a socket where the second name
 -- directly follows that of one, or else at the first name alone.
 abbrev pub referent_from : Names → List ℕ → ℕ → List Member → Referent
 referent_from names name count [] = variable_named names.scope name (is_some_count count)
@@ -123,7 +123,7 @@ referent_from names name count (m ∷ ms) =
     then walk names (port_named names.scope name m) ms
     else walk names (variable_named names.scope name (is_some_count count)) (m ∷ ms)
 
--- what a reference stands for
+-- what a reference means
 abbrev pub referent_of : Names → ReferenceTree → Referent
 referent_of names r = referent_from names r.name.name r.subscripts r.members
 
@@ -138,7 +138,7 @@ abbrev pub class_with : TypeUse → Bool → Class
 class_with used false = class_of_type used
 class_with used true = class_of_element used.form used.name.name
 
--- the class of a reference; one that is unknown or not judged meets every rule
+-- the class of a reference; one that is unknown or not checked meets every rule
 abbrev pub class_of_referent : Referent → Class
 class_of_referent (Variable used subscripted) = class_with used subscripted
 class_of_referent Unjudged = Free

@@ -8,13 +8,13 @@ use Rattle.fb_tree.specs.Expression.{ReferenceTree, Expression, literal_expressi
 abbrev pub across : Span → Span → Span
 across first last = record { start = first.start; end = last.end }
 
--- the first name, through the second one where that follows it directly
+-- the first name, through the second one if that follows it directly
 abbrev pub through_second : Span → ℕ → List Member → Span
 through_second first count [] = first
 through_second first zero (m ∷ others) = across first m.name.span
 through_second first (suc count) (m ∷ others) = first
 
--- the names of a reference that stand for a variable
+-- the names of a reference that mean a variable
 abbrev pub names_span : ReferenceTree → Span
 names_span r = through_second r.name.span r.subscripts r.members
 

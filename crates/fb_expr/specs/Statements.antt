@@ -30,7 +30,7 @@ counter_faults names name =
     reference_faults (variable_named names.scope name.name false) name.span
     ++ class_faults (allows Counter (class_of_referent (variable_named names.scope name.name false))) name.span
 
--- where a FOR begins, where it ends, and its step
+-- the first value of a FOR, its last one, and its step
 abbrev pub range_faults : Names → Expression → Expression → Option Expression → List Fault
 range_faults names from to by =
     faults_at_place Count names from ++ faults_at_place Count names to ++ option_map_or (faults_at_place Count names) by []
@@ -53,7 +53,7 @@ abbrev mutual
   statements_faults names no_statements = []
   statements_faults names (statement_then s others) = statement_faults names s ++ statements_faults names others
 
-  -- each condition, and what is done where it holds
+  -- each condition, and what is done if it holds
   pub arms_faults : Names → Arms → List Fault
   arms_faults names no_arms = []
   arms_faults names (arm_then condition body others) =

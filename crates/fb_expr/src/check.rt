@@ -66,7 +66,7 @@ fn report_transitions(
     Ok(())
 }
 
-/// Reports the faults of a guard, where there is one.
+/// Reports the faults of a guard, if there is one.
 fn report_guard(
     names: Names<'_>,
     condition: &Condition,

@@ -81,7 +81,7 @@ fn judge_subscripts(
     Ok(())
 }
 
-/// Reports the faults in an expression, and one that may not stand in its place.
+/// Reports the faults in an expression, and the expression itself if its place requires another class.
 #[cycle(judge)]
 pub fn judge_at(
     place: ClassPlace,
@@ -98,7 +98,7 @@ pub fn judge_at(
     report_class(place.is_for(class), span_of(expr), found)
 }
 
-/// The class of a row of operators, from the left, by the class of what stands before them.
+/// The class of a row of operators, from the left, by the class of what is before them.
 #[cycle(judge)]
 fn judge_row(
     names: Names<'_>,

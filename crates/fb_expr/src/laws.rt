@@ -2,7 +2,7 @@
 ghost use Rattle.fb_expr.specs.Charts.{ExprFaultsAreLocal};
 ghost use Rattle.fb_expr.specs.Demands.{FaultsAreUnmet};
 
-/// The faults of the expressions and statements of a unit depend on the texts of what is near it alone.
+/// The faults of the expressions and statements of a unit depend only on the texts of what is near it.
 pub fn expr_faults_are_local()
     ensures { ExprFaultsAreLocal }
 {}

@@ -1,4 +1,4 @@
-//! What the names of expressions stand for.
+//! What the names of expressions mean.
 
 use fb_iface::{Scope, Structures};
 

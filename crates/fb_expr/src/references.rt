@@ -1,4 +1,4 @@
-//! What references stand for (IEC 61499-1, 5.2.2: algorithms; 5.5: adapters).
+//! What references mean (IEC 61499-1, 5.2.2: algorithms; 5.5: adapters).
 ghost use Rattle.std.specs.Prelude.{◌≡◌, [], ◌∷◌, ◌++◌, OnOk};
 ghost use Rattle.std.specs.Option.{option_copied};
 ghost use Rattle.fb_tree.specs.Expression.{reference_tree};
@@ -36,21 +36,21 @@ use fb_tree::text::{Name, Span};
 use fb_tree::{Member, Reference, Role, Section, TypeForm, WideTypeUse};
 use std::alloc::AllocError;
 
-/// What a reference stands for.
+/// What a reference means.
 #[derive(Clone, Copy, Debug)]
 pub enum Referent {
-    /// A variable or a field of this type, and whether subscripts stand behind its name.
+    /// A variable or a field of this type, and whether subscripts are after its name.
     Variable(WideTypeUse, bool),
-    /// Data of a plug or a socket whose type is not usable, or a name behind a type that is not
+    /// Data of a plug or a socket whose type is not usable, or a name after a type that is not
     /// known.
     Unjudged,
     /// No variable.
     Unknown,
-    /// A further name that is no field. It stands here.
+    /// A further name that is no field. It is here.
     NoMember(Span),
 }
 
-/// What a reference stands for.
+/// What a reference means.
 pub fn referred(names: Names<'_>, reference: &Reference) -> Referent
     ensures { result ≡ referent_of (names_in names.entry) (reference_tree reference.now) }
 {
@@ -69,7 +69,7 @@ pub fn referred(names: Names<'_>, reference: &Reference) -> Referent
     }
 }
 
-/// What a name stands for alone: a variable of the unit.
+/// What a name means alone: a variable of the unit.
 pub fn referred_variable(scope: &Scope, name: &Name, subscripted: bool) -> Referent
     ensures { result ≡ variable_named (scope_in scope.now) name.now subscripted }
 {
@@ -79,7 +79,7 @@ pub fn referred_variable(scope: &Scope, name: &Name, subscripted: bool) -> Refer
     }
 }
 
-/// Whether a name stands for a plug or a socket.
+/// Whether a name means a plug or a socket.
 fn names_adapter(own: &Ports, name: &Name) -> bool
     ensures { result ≡ is_at_adapter (stands_for own.now.instances name.now) }
 {
@@ -98,7 +98,7 @@ fn is_for_adapters(role: Role) -> bool
     }
 }
 
-/// What a name stands for behind that of a plug or a socket.
+/// What a name means after that of a plug or a socket.
 fn referred_port(scope: &Scope, name: &Name, member: &Member) -> Referent
     ensures { result ≡ port_named (scope_in scope.now) name.now member.now }
 {
@@ -108,7 +108,7 @@ fn referred_port(scope: &Scope, name: &Name, member: &Member) -> Referent
     }
 }
 
-/// What a name stands for among the data of an adapter type.
+/// What a name means among the data of an adapter type.
 fn referred_data(ports: &Ports, name: &Name, subscripted: bool) -> Referent
     ensures { result ≡ data_referent (stands_for ports.now.variables name.now) subscripted }
 {
@@ -130,7 +130,7 @@ fn is_port(section: Section) -> bool
     }
 }
 
-/// What is referred to by further names behind what these names begin at.
+/// What is referred to by further names after what these names begin at.
 fn referred_behind(names: Names<'_>, base: Referent, members: &[Member]) -> Referent
     ensures { result ≡ walk (names_in names.entry) base members.now }
 {
@@ -141,8 +141,8 @@ fn referred_behind(names: Names<'_>, base: Referent, members: &[Member]) -> Refe
     referent
 }
 
-/// What is referred to by one further name. Behind one that is unknown or not judged none is
-/// judged.
+/// What is referred to by one further name. After one that is unknown or not checked none is
+/// checked.
 fn referred_member(names: Names<'_>, referent: Referent, member: &Member) -> Referent
     ensures { result ≡ step (names_in names.entry) referent member.now }
 {
@@ -154,7 +154,7 @@ fn referred_member(names: Names<'_>, referent: Referent, member: &Member) -> Ref
     }
 }
 
-/// What may be named behind a type, without or with a subscript.
+/// What may be named after a type, without or with a subscript.
 fn behind<'a>(structures: &'a Structures, used: &WideTypeUse, subscripted: bool) -> Behind<'a>
     ensures { fields_shown result
         ≡ fields_behind (structures_in structures.now) used.now.form used.now.name.name
@@ -169,7 +169,7 @@ fn behind<'a>(structures: &'a Structures, used: &WideTypeUse, subscripted: bool)
     }
 }
 
-/// What may be named behind a plain type of this name. Behind one of class Free no name is judged.
+/// What may be named after a plain type of this name. After one of class Free no name is checked.
 fn behind_named<'a>(structures: &'a Structures, name: &Name) -> Behind<'a>
     ensures { fields_shown result ≡ fields_named (structures_in structures.now) name.now }
 {
@@ -190,7 +190,7 @@ fn without_fields(behind: Behind<'_>) -> Behind<'_>
     }
 }
 
-/// What a name stands for among these fields.
+/// What a name means among these fields.
 fn referred_field(behind: Behind<'_>, member: &Member) -> Referent
     ensures { result ≡ member_among (fields_shown behind.entry) member.now }
 {
@@ -201,7 +201,7 @@ fn referred_field(behind: Behind<'_>, member: &Member) -> Referent
     }
 }
 
-/// What a name stands for by the field that it names.
+/// What a name means by the field that it names.
 fn field_referent(field: Option<&DeclaredVariable>, member: &Member) -> Referent
     ensures { result ≡ field_referent (option_copied field.entry) member.now }
 {
@@ -212,7 +212,7 @@ fn field_referent(field: Option<&DeclaredVariable>, member: &Member) -> Referent
 }
 
 impl Referent {
-    /// Its class. What is unknown or not judged meets every rule.
+    /// Its class. What is unknown or not checked meets every rule.
     pub fn class(&self) -> Class
         ensures { result ≡ class_of_referent self.now }
     {
@@ -234,7 +234,7 @@ fn class_of_use(used: &WideTypeUse, subscripted: bool) -> Class
     }
 }
 
-/// The class of the elements of an array. A type that is none has other values.
+/// The class of the elements of an array. A type that is no array has other values.
 fn element_class(used: &WideTypeUse) -> Class
     ensures { result ≡ class_of_element used.now.form used.now.name.name }
 {
@@ -245,7 +245,7 @@ fn element_class(used: &WideTypeUse) -> Class
 }
 
 /// Reports a name that is no variable, or a further one that is no field. `span` is that of the
-/// names that stand for a variable.
+/// names that mean a variable.
 pub fn report_reference(
     referent: &Referent,
     span: Span,

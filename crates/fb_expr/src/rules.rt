@@ -9,9 +9,9 @@ use std::alloc::AllocError;
 /// A place of an algorithm that asks for certain classes.
 #[derive(Clone, Copy, Debug, PartialEq, Eq)]
 pub enum ClassPlace {
-    /// Behind `IF`, `ELSIF`, `WHILE` and `UNTIL`, and the guard of a transition.
+    /// After `IF`, `ELSIF`, `WHILE` and `UNTIL`, and the guard of a transition.
     Condition,
-    /// Where a `FOR` begins, where it ends, and its step; a subscript.
+    /// The first value of a `FOR`, its last one, and its step; a subscript.
     Count,
     /// The variable of a `FOR`.
     Counter,
@@ -20,7 +20,7 @@ pub enum ClassPlace {
 }
 
 impl ClassPlace {
-    /// Whether this class may stand there. One that is not judged may stand anywhere.
+    /// Whether this class may be there. One that is not checked may be anywhere.
     pub fn is_for(self, class: Class) -> bool
         ensures { result ≡ allows self class }
     {

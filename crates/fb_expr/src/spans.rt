@@ -1,4 +1,4 @@
-//! Where references and expressions stand.
+//! Where references and expressions are.
 ghost use Rattle.std.specs.Prelude.{◌≡◌};
 ghost use Rattle.fb_tree.specs.Expression.{expression_tree, reference_tree};
 ghost use Rattle.fb_expr.specs.Spans.{across, names_span, span_of};
@@ -16,8 +16,8 @@ fn across(first: Span, last: Span) -> Span
     }
 }
 
-/// Where the names of a reference stand that name a variable: the first one, through the second
-/// one where that follows it directly.
+/// Where the names of a reference are that name a variable: the first one, through the second
+/// one if that follows it directly.
 pub fn span_of_names(reference: &Reference) -> Span
     ensures { result ≡ names_span (reference_tree reference.now) }
 {
@@ -28,7 +28,7 @@ pub fn span_of_names(reference: &Reference) -> Span
     }
 }
 
-/// Where an expression stands, with the parentheses and the subscripts that belong to it.
+/// Where an expression is, with the parentheses and the subscripts that belong to it.
 pub fn span_of(expr: &Expr) -> Span
     ensures { result ≡ span_of (expression_tree expr.now) }
 {

@@ -117,7 +117,7 @@ fn report_counting(
     report_range(names, &counting.from, &counting.to, &counting.by, found)
 }
 
-/// Reports a variable of a `FOR` that is none, or no whole number.
+/// Reports the name after `FOR` if it is no variable, or no whole number.
 fn report_counter(
     names: Names<'_>,
     name: &NameUse,
@@ -135,7 +135,7 @@ fn report_counter(
     )
 }
 
-/// Reports the faults of where a `FOR` begins, where it ends, and its step.
+/// Reports the faults of the first value of a `FOR`, its last one, and its step.
 fn report_range(
     names: Names<'_>,
     from: &Expr,

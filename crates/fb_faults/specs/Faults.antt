@@ -33,7 +33,7 @@ text_faults text = option_map_or (λ t. body_faults (body_of t)) text []
 abbrev pub syntax_faults_of : Sources → List ℕ → List Fault
 syntax_faults_of sources unit = text_faults (get sources unit)
 
--- what the checks report of a declaration, behind what is reported of its text
+-- what the checks report of a declaration, after what is reported of its text
 abbrev pub all_reported : Sources → List ℕ → List Fault → Option DeclTree → List Fault
 all_reported sources unit syntax tree =
     syntax

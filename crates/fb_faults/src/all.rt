@@ -82,7 +82,7 @@ fn report_declared<V: View>(
     }
 }
 
-/// Where the network of a type of this kind stands, by the ports of the type.
+/// Where the network of a type of this kind is, by the ports of the type.
 fn setting_of<V: View>(
     alloc: Global,
     view: &V,
@@ -117,7 +117,7 @@ fn report_block<V: View>(
     report_here(alloc, view, &here, declared, found)
 }
 
-/// Reports the faults of the chart and of the network of a type, where the network stands here.
+/// Reports the faults of the chart and of the network of a type, where the network is here.
 fn report_here<V: View>(
     alloc: Global,
     view: &V,

@@ -1,12 +1,12 @@
 //! Laws of faults.
 ghost use Rattle.fb_faults.specs.Faults.{BrokenTextsHaveOneFault, FaultsAreInOrder, FaultsAreLocal, FaultsAreThoseReported};
 
-/// The faults of a unit depend on the texts of what is near it alone.
+/// The faults of a unit depend only on the texts of what is near it.
 pub fn faults_are_local()
     ensures { FaultsAreLocal }
 {}
 
-/// Each fault stands below those after it, by place and then by the number of its code.
+/// Each fault is below those after it, by place and then by the number of its code.
 pub fn faults_are_in_order()
     ensures { FaultsAreInOrder }
 {}

@@ -29,7 +29,7 @@ pub fn report_mappings(
     report_homes(&resources, mappings, found)
 }
 
-/// Each resource with its device. The name of a device stands for its first declaration.
+/// Each resource with its device. The name of a device means its first declaration.
 fn resources_of(alloc: Global, devices: &[Device]) -> Result<BTreeSet<(Name, Name)>, AllocError>
     ensures { IfOk result (λ resources. (device resource : List ℕ)
         → contains pair_cmp resources (device, resource)

@@ -26,7 +26,7 @@ abbrev pub is_some_name : List (List ℕ) → Bool
 is_some_name [] = false
 is_some_name (x ∷ xs) = true
 
--- the same as a test, where `is_part` tells which names are parts of what the unit rests on
+-- the same as a test, where `is_part` shows which names are parts of what the unit rests on
 abbrev pub is_blocking : Sources → (List ℕ → Bool) → List ℕ → Bool
 is_blocking sources is_part name = is_some_fault (faults_of sources name) || (is_none (get sources name) && is_part name)
 

@@ -41,7 +41,7 @@ fn alone(alloc: Global, net: Net) -> Computed
 }
 
 /// The net of a unit, where the nets of some units are kept and some units are known to be there without faults, and nets of units that it
-/// rests on. Of what a unit rests on whose kept net tells that it is flat or too large nothing is judged or composed.
+/// rests on. Nothing is checked or composed of what a unit rests on whose kept net is flat or too large.
 pub fn compute<V: View, K: Hints + Known>(
     alloc: Global,
     view: &V,
@@ -75,7 +75,7 @@ pub fn compute<V: View, K: Hints + Known>(
     }
 }
 
-/// All names that the unit rests on by parts, each after its own parts. None where one of the suspects, or of these names, reaches itself.
+/// All names that the unit rests on by parts, each after its own parts. None if one of the suspects, or of these names, reaches itself.
 fn order_of<V: View>(
     alloc: Global,
     view: &V,
@@ -98,7 +98,7 @@ fn order_of<V: View>(
     inner_first(alloc, view, unit)
 }
 
-/// The same where nothing blocks the unit, and what is left to look at stands in an order with inner types first.
+/// The same if nothing blocks the unit, and what is left to look at is in an order with inner types first.
 fn compute_in_order<V: View, H: Hints>(
     alloc: Global,
     view: &V,

@@ -17,7 +17,7 @@ pub struct Inner {
     pub net: Net,
 }
 
-/// Whether a type is counted, and holds no more instances than the limit.
+/// Whether a type is counted, and its instances are within the limit.
 fn is_within(counts: &Counts, name: &Name) -> bool
     ensures { result ≡ true → IsCountedWithin (get name_cmp counts.now) name.now }
 {
@@ -27,7 +27,7 @@ fn is_within(counts: &Counts, name: &Name) -> bool
     }
 }
 
-/// The nets of the types that have these flat networks and hold no more instances than the limit.
+/// The nets of the types that have these flat networks and whose instances are within the limit.
 pub(crate) fn inner_nets(
     alloc: Global,
     flats: BTreeMap<Name, Flat>,

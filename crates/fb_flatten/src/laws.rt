@@ -5,7 +5,7 @@ ghost use Rattle.fb_flatten.specs.Laws.{NetIsLocal, OneNet};
 ghost use Rattle.fb_flatten.specs.Locality.{FlatNetworksAreLocal};
 ghost use Rattle.fb_flatten.specs.Nets.{HasNetByText, NetAtIsLocal, NetAtIsNet};
 
-/// The flat network of a network, and the number of its instances, depend on the networks alone that it rests on.
+/// The flat network of a network, and the number of its instances, depend only on the networks that it rests on.
 pub fn flat_networks_are_local()
     ensures { FlatNetworksAreLocal }
 {}
@@ -15,7 +15,7 @@ pub fn one_net()
     ensures { OneNet }
 {}
 
-/// The net of a unit depends on the texts alone that the unit rests on.
+/// The net of a unit depends only on the texts that the unit rests on.
 pub fn net_is_local()
     ensures { NetIsLocal }
 {}
@@ -25,12 +25,12 @@ pub fn far_is_all()
     ensures { FarIsAll }
 {}
 
-/// They depend on the texts alone that the unit rests on.
+/// They depend only on the texts that the unit rests on.
 pub fn far_of_is_local()
     ensures { FarOfIsLocal }
 {}
 
-/// Whether a unit has a net is told by its own text.
+/// Whether a unit has a net follows from its own text.
 pub fn has_net_by_text()
     ensures { HasNetByText }
 {}
@@ -40,12 +40,12 @@ pub fn net_at_is_net()
     ensures { NetAtIsNet }
 {}
 
-/// It depends on the texts alone that the unit rests on.
+/// It depends only on the texts that the unit rests on.
 pub fn net_at_is_local()
     ensures { NetAtIsLocal }
 {}
 
-/// Texts that say the same to networks as those before, and mention the same, leave a net as it was to which nothing was in the way, where
+/// Texts that say the same to networks as those before, and mention the same, leave a net unchanged to which nothing was in the way, where
 /// all that its unit rests on is without faults.
 pub fn net_is_unchanged()
     ensures { NetIsLeft }

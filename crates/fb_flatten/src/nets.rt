@@ -1,4 +1,6 @@
-//! The nets of units alone.
+//! The nets of units, without those that are found on the way.
+//! Composition follows parts, blocking follows mentions of both sorts: so there are two searches for an order. The call has a file of its own, since
+//! Rattle makes a module for each file and item, and `net` would meet the type `Net` there.
 ghost use Rattle.std.specs.Prelude.{◌≡◌, IfOk, Some};
 ghost use Rattle.fb_wiring.specs.Units.{HasNet};
 ghost use Rattle.fb_flatten.specs.Hints.{AreRightHints};
@@ -21,8 +23,8 @@ pub fn net<V: View>(alloc: Global, view: &V, unit: Name) -> Result<Net, AllocErr
     net_with(alloc, view, unit, &NoHints)
 }
 
-/// The same, where the nets of some units are kept. Of what a unit rests on whose kept net tells that it is flat or too large nothing is
-/// judged or composed.
+/// The same, if the nets of some units are kept. What a unit rests on whose kept net is flat or too large is neither
+/// checked nor composed.
 pub fn net_with<V: View, H: Hints>(
     alloc: Global,
     view: &V,

@@ -1,4 +1,4 @@
-//! The names among which those that block a unit, or reach themselves, are looked for.
+//! The names that can block a unit or reach themselves.
 ghost use Rattle.std.specs.Prelude.{◌≡◌, ℕ, List, None, ◌||◌, Contains, IfOk, OnOk, is_none};
 ghost use Rattle.std.specs.FinMap.{get};
 ghost use Rattle.std.specs.List.{list_any};
@@ -13,7 +13,7 @@ use std::alloc::{AllocError, Global};
 use std::collections::BTreeSet;
 
 /// Names that the unit rests on, in order, each once, among them all that block it or reach themselves: the unit itself and what is found
-/// from it without going below units whose kept nets tell that nothing blocks them and none of what they rest on reaches itself.
+/// from it without going below units whose kept nets show that nothing blocks them and none of what they rest on reaches itself.
 pub(crate) fn suspects<V: View, H: Hints>(
     alloc: Global,
     view: &V,
@@ -53,7 +53,7 @@ fn open<V: View, H: Hints>(
     open_new(value_mentions(view, name), seen, pending)
 }
 
-/// Of these names, where one of them is absent, the parts of all of which no kept net tells that they are whole. Where none is absent, they
+/// If one of these names is absent, the parts of all of them that no kept net shows to be whole. If none is absent, they
 /// are not wanted.
 pub(crate) fn parts_where_absent<V: View, K: Hints + Known>(
     alloc: Global,
@@ -101,7 +101,7 @@ fn is_absent<V: View, K: Hints + Known>(view: &V, known: &K, name: &Name) -> boo
     view.get(name).is_none()
 }
 
-/// The parts of all of the names of which no kept net tells that they are whole.
+/// The parts of all of the names that no kept net shows to be whole.
 fn all_parts<V: View, H: Hints>(
     alloc: Global,
     view: &V,

@@ -26,7 +26,7 @@ pub record Log : Type 0 where
 
 -- ---- pages: a list of callers, each with its number of calls, by rising caller
 
--- how many calls stand on the page of a caller
+-- how many calls are on the page of a caller
 abbrev pub on_page : List (ℕ × ℕ) → ℕ → ℕ
 on_page pages caller = unwrap_or (lookup (is_at (nat_cmp caller)) pages) 0
 
@@ -62,7 +62,7 @@ opened origin =
       out = λ key. list_any (same_key key) origin.out;
     }
 
--- its texts stand by rising names, and no key is pending or handed out but theirs
+-- its texts are by rising names, and no key is pending or handed out but theirs
 pub record IsOrigin (origin : Origin) : Type 0 where
   pub rise : IsStrictlySortedBy name_cmp (names_of origin.units)
   pub waiting : (key : Key) → has_key origin.units key ≡ false → (opened origin).pending key ≡ false

@@ -31,7 +31,7 @@ checkpointed limits bench =
     let state = state_of bench in
     restarted limits state.units state.commits (filter state.pending (keys_of state.units)) (filter state.out (keys_of state.units)) bench
 
--- what a checkpoint comes to, want of memory apart
+-- the result of a checkpoint, lack of memory apart
 pub data Checking : Type 0 where
   KeptUpTo : (before : ℕ) → Checking
   OverUnits : (count : ℕ) → Checking

@@ -1,4 +1,4 @@
-//! What the five recorded calls come to.
+//! The results of the five recorded calls.
 ghost use Rattle.std.specs.Prelude.{◌≡◌};
 ghost use Rattle.fb_history.specs.declared.answers.Refused.TheVariants.{Memory};
 ghost use Rattle.fb_history.specs.declared.answers.CheckpointRefused.TheVariants as checkpoint;
@@ -8,7 +8,7 @@ use fb_text::Name;
 use std::alloc::AllocError;
 use std::sync::Arc;
 
-/// What a commit comes to: its number, or the first reason against it.
+/// The result of a commit: its number, or the first reason against it.
 #[derive(Clone, Copy, PartialEq, Eq)]
 pub enum Committed {
     /// The count of good commits, this one included, which is the revision of the units put.
@@ -18,7 +18,7 @@ pub enum Committed {
     TooManyChanges,
     /// The unit of the first change whose unit came before.
     SameUnitTwice(Name),
-    /// `current` is the unit's revision, 0 where it is absent.
+    /// `current` is the unit's revision, 0 if it is absent.
     StaleBase { unit: Name, current: u64 },
     NoSuchUnit(Name),
     /// More units after all changes than the limits allow.
@@ -31,7 +31,7 @@ pub enum Delivered {
     Accepted,
     NoSuchKey,
     NotPending,
-    /// The least name that was read and is not as it was.
+    /// The least name that was read and has changed.
     Stale(Name),
 }
 
@@ -68,7 +68,7 @@ impl From<AllocError> for Refused {
 /// Why the present state is not made the start of a history. Nothing is changed then.
 #[derive(Clone, Copy, PartialEq, Eq, Debug)]
 pub enum CheckpointRefused {
-    /// So many units are present, more than the new limit.
+    /// This number of units is present, more than the new limit.
     UnitsOver(u64),
     /// The last number and the new limit of the history together are no `u64`.
     NumbersOver,

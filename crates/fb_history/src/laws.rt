@@ -21,7 +21,7 @@ pub fn reach_before_and_after()
     ensures { (changed : List (List ℕ)) → ReachAnywhere changed }
 {}
 
-/// A checkpoint is not seen by later calls, but for its limits; two in a row are the second alone; numbers and turns go on.
+/// A checkpoint is not seen by later calls, but for its limits; two in a row are the second alone; numbers and turns continue.
 pub fn checkpoints_are_unseen()
     ensures unseen { (limits : Bounds) (bench : BenchView) → IsOrigin bench.origin → IsUnseen limits bench }
     ensures one { (first second : Bounds) (bench : BenchView) → IsOrigin bench.origin → AreOne first second bench }

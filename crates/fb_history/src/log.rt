@@ -169,7 +169,7 @@ impl History {
         }
     }
 
-    /// Begins anew from this state, with these limits, and gives the number of all calls so far, and their records: to drop a million of them takes a tenth
+    /// Begins again from this state, with these limits, and gives the number of all calls so far, and their records: to drop a million of them takes a tenth
     /// of a second.
     pub fn restart(
         &mut self,

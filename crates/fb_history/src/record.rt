@@ -1,4 +1,6 @@
 //! The records of a history. They keep texts, and no trees.
+//! A tree takes twenty times its text, and a history keeps every text until the next checkpoint. A recorded question shares the key of its entry:
+//! two pointers rather than 66 bytes.
 ghost use Rattle.std.specs.Prelude.{◌≡◌, IfOk};
 ghost use Rattle.fb_jobs.specs.Library.Changes.{edit_of, edits_of};
 ghost use Rattle.fb_history.specs.Machine.{OfCommit, OfDeliver};
@@ -90,7 +92,7 @@ impl TextChange {
     }
 }
 
-/// A recorded call, in 16 bytes: what is larger stands in a box, or is shared with what the workbench keeps of the key.
+/// A recorded call, in 16 bytes: what is larger is in a box, or is shared with what the workbench keeps of the key.
 pub enum Call {
     Commit(Box<Vec<TextChange>>),
     Take,
@@ -142,7 +144,7 @@ impl Drop for Reply {
 }
 
 impl Reply {
-    /// What a commit comes to.
+    /// The result of a commit.
     pub fn of_commit(alloc: Global, answer: Committed) -> Result<Reply, AllocError>
         ensures { IfOk result (λ it. reply_of it ≡ OfCommit answer) }
     {

@@ -1,4 +1,4 @@
-//! Whether two records say the same, by content.
+//! Whether two records have the same content.
 ghost use Rattle.std.specs.Prelude.{◌≡◌, ◌↔◌, IsTrue, string_bytes};
 ghost use Rattle.fb_history.specs.Records.{wanted_job, text_edit, text_edits, call_of, reply_of};
 

@@ -72,7 +72,7 @@ fn count_of(receipts: &[Receipt], caller: u32) -> u64
         .count() as u64
 }
 
-/// The caller, where it is wrong and below the one that was found, and else that one.
+/// The caller, if it is wrong and below the one that was found, and else that one.
 fn lesser(least: Option<u32>, caller: u32, wrong: bool) -> Option<u32>
     ensures { result ≡ lesser_of least caller wrong }
 {

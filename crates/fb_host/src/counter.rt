@@ -3,7 +3,7 @@ use crate::guest::Guest;
 use std::alloc::Global;
 use std::sync::{Condvar, Mutex, Wait};
 
-/// Threads that take guests. A guest is handed over only where one is free, so there are never more guests than threads.
+/// Threads that take guests. A guest is handed over only if one is free, so there are never more guests than threads.
 pub(crate) struct Counter {
     state: Mutex<Waiting>,
     changed: Condvar,
@@ -42,7 +42,7 @@ impl Waiting {
 }
 
 impl Counter {
-    /// For so many threads, which are free.
+    /// For this number of threads, which are free.
     pub(crate) fn new(alloc: Global, threads: u64) -> Counter {
         let waiting = Waiting {
             guests: Vec::new(alloc),
@@ -55,7 +55,7 @@ impl Counter {
         }
     }
 
-    /// Hands a guest over, or gives it back where no thread is free.
+    /// Hands a guest over, or gives it back if no thread is free.
     pub(crate) fn hand<R: Wait>(&self, rt: &R, guest: Guest) -> Option<Guest> {
         let back = self.state.lock(rt).put(guest);
         if back.is_none() {
@@ -74,7 +74,7 @@ impl Counter {
         self.state.lock(rt).free_one();
     }
 
-    /// Waits for a guest. None where no further one comes.
+    /// Waits for a guest. None if no further one comes.
     pub(crate) fn next<R: Wait>(&self, rt: &R) -> Option<Guest> {
         let mut state = self.state.lock(rt);
         for _ in rt.forever() {

@@ -1,4 +1,4 @@
-//! Doors: what a connection says first, and whether it is let in.
+//! Doors: the first line of a connection, and whether it is admitted.
 use crate::counter::Counter;
 use crate::guest::Guest;
 use crate::head::{is_secret, speaks_http};
@@ -58,7 +58,7 @@ fn receive<R: Wait + Clock>(
     }
 }
 
-/// Whether the head is let in: by the secret in its first line, or, where there is none, since it is not HTTP.
+/// Whether the head is admitted: by the secret in its first line, or, if there is none, since it is not HTTP.
 fn is_welcome(head: &mut Vec<u8>, secret: &[u8]) -> bool {
     if secret.is_empty() {
         return !speaks_http(head);

@@ -1,4 +1,4 @@
-//! Where the receipts of an epoch lie.
+//! The receipts of an epoch.
 ghost use Rattle.std.specs.Prelude.{◌≤◌};
 
 use fb_shared::Receipt;
@@ -6,7 +6,7 @@ use std::alloc::Global;
 use std::mem;
 use std::sync::{Mutex, Wait};
 
-/// The receipts of all calls of one epoch. A history begins anew where it is full and only there, so an epoch has `span` calls, and which one a receipt is
+/// The receipts of all calls of one epoch. A history begins again if it is full and only there, so an epoch has `span` calls, and which one a receipt is
 /// of follows from its number. Those of the epoch before stay in `past` until they are dropped, two with each new one and the last ones first. The workbench
 /// drops its records so too, so no record outlives its place in the history for long.
 pub struct Epoch {
@@ -31,7 +31,7 @@ impl Drop for Epoch {
 }
 
 impl Epoch {
-    /// No receipts, of the first so many calls.
+    /// No receipts, of an epoch of this number of calls.
     pub(crate) fn new(alloc: Global, span: u64) -> Epoch
         requires { 1 ≤ span }
     {
@@ -44,7 +44,7 @@ impl Epoch {
         }
     }
 
-    /// Takes the receipts in. Those that come too late are dropped. Where there is no room, the others stay.
+    /// Takes the receipts in. Those that come too late are dropped. If there is no room, the others stay.
     pub(crate) fn add(&mut self, receipts: &mut Vec<Receipt>) {
         let Some(last) = receipts.last() else {
             return;
@@ -69,7 +69,7 @@ impl Epoch {
         }
     }
 
-    /// Those with a number behind this one.
+    /// Those with a number after this one.
     pub(crate) fn into_receipts(self, before: u64) -> Vec<Receipt> {
         let Epoch {
             alloc: _,
@@ -104,12 +104,12 @@ impl Drawer {
         }
     }
 
-    /// Takes the receipts in, or as many as there is room for. The others stay, and come along the next time.
+    /// Takes the receipts in, up to the room that there is. The others stay, and follow the next time.
     pub fn add<R: Wait>(&self, rt: &R, receipts: &mut Vec<Receipt>) {
         self.state.lock(rt).add(receipts);
     }
 
-    /// Those with a number behind this one.
+    /// Those with a number after this one.
     pub fn into_receipts(self, before: u64) -> Vec<Receipt> {
         let Drawer { state } = self;
         state.into_inner().into_receipts(before)

@@ -20,7 +20,7 @@ impl Guest {
     }
 }
 
-/// First these bytes, and then those of the stream. It tells whether a read waited too long.
+/// First these bytes, and then those of the stream. It records whether a read waited too long.
 #[derive(Drop)]
 pub(crate) struct Rest<'a> {
     head: &'a [u8],

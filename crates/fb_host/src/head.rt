@@ -1,4 +1,4 @@
-//! What a connection says first.
+//! The first line of a connection.
 ghost use Rattle.std.specs.Prelude.{◌≡◌, ◌↔◌, IsTrue};
 ghost use Rattle.fb_host.specs.Heads.{SpeaksHttp};
 

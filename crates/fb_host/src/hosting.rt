@@ -1,4 +1,4 @@
-//! The host, on the listener that it is given.
+//! The host, on the listener that it gets.
 ghost use Rattle.std.specs.Prelude.{◌≡◌, ◌+◌, IfOk, OnOk, is_ok, if◌then◌else◌, true, false};
 ghost use Rattle.fb_locked.specs.Book.{IsBookOf};
 ghost use Rattle.fb_serve.specs.Lines.{SaysLines};
@@ -30,14 +30,14 @@ pub struct Terms {
     pub limits: Limits,
     /// How many milliseconds a connection may take to send its first line.
     pub patience: u64,
-    /// How many milliseconds a session may be silent, or 0 where it may be so for ever.
+    /// How many milliseconds a session may be silent, or 0 if it may be so forever.
     pub idle: u64,
     /// After how many connections it closes.
     pub connections: u64,
 }
 
-/// Lets connections in, each to a free seat, if its first line is the secret or there is none, with workers beside them, and closes after so many connections, when all sessions have ended. A fault of a
-/// session is told on `errors` at once.
+/// Lets connections in, each to a free seat, if its first line is the secret or there is none, with workers beside them, and closes after this number of connections, when all sessions have ended. A fault of a
+/// session is printed on `errors` at once.
 fn host_sessions<R: Threads + Wait + Clock + Sync, E: Write + Send>(
     rt: &R,
     alloc: Global,
@@ -78,7 +78,7 @@ fn host_sessions<R: Threads + Wait + Clock + Sync, E: Write + Send>(
     close(rt, alloc, shared, drawer, results)
 }
 
-/// Prints where it listens, hosts its sessions, and prints that it is closed.
+/// Prints its address, hosts its sessions, and prints that it is closed.
 fn host_and_close<R: Threads + Wait + Clock + Sync, S: Sink, E: Write + Send>(
     rt: &R,
     alloc: Global,
@@ -109,7 +109,7 @@ fn host_and_close<R: Threads + Wait + Clock + Sync, S: Sink, E: Write + Send>(
     }
 }
 
-/// Prints where it listens, hosts its sessions, and prints that it is closed.
+/// Prints its address, hosts its sessions, and prints that it is closed.
 pub fn host_on<R: Threads + Wait + Clock + Sync, S: Sink, E: Write + Send>(
     rt: &R,
     alloc: Global,

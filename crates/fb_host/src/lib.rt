@@ -1,4 +1,4 @@
-//! A server that stays: sessions over TCP come and go, each with a free seat of one shared workbench, whose history begins anew where it is full.
+//! A server that stays: sessions over TCP come and go, each with a free seat of one shared workbench, whose history begins again once it is full.
 #![tactic(auto)]
 
 mod close;

@@ -14,8 +14,8 @@ use fb_shared::{Seated, Shared};
 use std::marker::Model;
 use std::sync::Wait;
 
-/// A shared workbench as the desk of one seat, whose receipts go to the drawer. It never says that the history is full: want of memory alone keeps
-/// a full one from beginning anew.
+/// A shared workbench as the desk of one seat, whose receipts go to the drawer. It never says that the history is full: lack of memory alone keeps
+/// a full one from beginning again.
 #[derive(Drop)]
 pub struct Lodger<'a, R: Wait> {
     pub(crate) seated: Seated<'a, R>,
@@ -114,7 +114,7 @@ fn note(held: &mut Vec<Held>, request: &Request<'_>, answer: &Answered, number: 
     }
 }
 
-/// The key that is settled where this is done.
+/// The key that is settled if this is done.
 fn settled(request: &Request<'_>) -> Option<Key> {
     match request {
         Request::Deliver(finished) => Some(finished.key()),

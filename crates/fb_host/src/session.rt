@@ -72,7 +72,7 @@ pub fn run_lodger<R: Wait, F: Feed, S: Sink>(
     Lodged { end, place, told }
 }
 
-/// Gives back the keys that are still out since they were taken, as far as memory reaches; the others stay in hand. The receipts go to the drawer.
+/// Gives back the keys that are still out since they were taken, as far as memory reaches; the others stay held. The receipts go to the drawer.
 #[tactic(auto, using(crate::proofs::Lodgings::leads))]
 pub fn give_back_all<R: Wait>(rt: &R, shared: &Shared, drawer: &Drawer, place: &mut Place)
     // The seat goes on where the calls lead.

@@ -247,7 +247,7 @@ fn keep_seat<R: Wait, E: Write>(
     unreachable!()
 }
 
-/// A session. It tells a fault before it ends.
+/// A session. It reports a fault before it ends.
 #[tactic(auto, using(crate::proofs::Lodgings::leads))]
 fn talk<R: Wait, E: Write>(
     rt: &R,

@@ -42,12 +42,12 @@ class_of_literal (literals.Typed class) = named_class class
 class_of_literal literals.Text = O
 class_of_literal literals.Truth = B
 
--- the class of a constant; a name is not judged
+-- the class of a constant; a name is not checked
 abbrev pub class_of_simple : Simple → Class
 class_of_simple (constants.Literal literal) = class_of_literal literal.form
 class_of_simple (constants.Name name) = Free
 
--- whether it is the class that is not judged
+-- whether it is the class that is not checked
 abbrev pub is_free : Class → Bool
 is_free Free = true
 is_free class = false

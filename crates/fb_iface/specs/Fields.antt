@@ -9,7 +9,7 @@ use Rattle.fb_iface.specs.Names.{first_ones}
 use Rattle.fb_iface.specs.Ports.{variables_together}
 use Rattle.fb_iface.specs.declared.ports.DeclaredVariable.{DeclaredVariable}
 
--- what a further name may name behind a plain type
+-- what a further name may name after a plain type
 pub data Fields : Type 0 where
   NotJudged : Fields
   NoFields : Fields
@@ -19,7 +19,7 @@ pub data Fields : Type 0 where
 abbrev pub fields_in : StructureTree → List (List ℕ × DeclaredVariable)
 fields_in s = flat_map variables_together s.fields
 
--- a type that is absent or broken is not judged
+-- a type that is absent or broken is not checked
 abbrev pub fields_of_tree : Option DeclTree → Fields
 fields_of_tree None = NotJudged
 fields_of_tree (Some (block_type d)) = NoFields
@@ -28,10 +28,10 @@ fields_of_tree (Some (subapplication_type d)) = NoFields
 fields_of_tree (Some (system_configuration s)) = NoFields
 fields_of_tree (Some (structure_type s)) = HasFields (first_ones (fields_in s))
 
--- behind one of these types; there is nothing behind any other
+-- after one of these types; there is nothing after any other
 abbrev pub fields_among : Sources → List (List ℕ) → List ℕ → Fields
 fields_among sources types name = if has_name types name then fields_of_tree (tree_at sources name) else NoFields
 
--- behind the types that the unit and its parts carry
+-- after the types that the unit and its parts carry
 abbrev pub fields_near : Sources → List ℕ → List ℕ → Fields
 fields_near sources unit = fields_among sources (carried_of sources (bases_at sources unit))

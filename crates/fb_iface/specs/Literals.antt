@@ -20,13 +20,13 @@ literal_fault span = record { code = Literal; span = span }
 abbrev pub misfits : Class → List Simple → List Fault
 misfits class values = map (λ v. literal_fault (value_span v)) (filter (λ v. not (takes class (class_of_simple v))) values)
 
--- an array takes no constant that stands alone, but one that is not judged
+-- an array takes no constant that is alone, but one that is not checked
 abbrev pub fits_alone : TypeForm → Class → Class → Bool
 fits_alone forms.Plain class constant = takes class constant
 fits_alone forms.Sized class constant = takes class constant
 fits_alone forms.Array class constant = is_free constant
 
--- a list fits an array, element by element, and a type that is not judged
+-- a list fits an array, element by element, and a type that is not checked
 abbrev pub list_faults : TypeForm → TypeUse → List Simple → Span → List Fault
 list_faults forms.Array used values span = misfits (class_of_name used.name.name) values
 list_faults forms.Plain used values span = if is_free (class_of_type used) then [] else literal_fault span ∷ []

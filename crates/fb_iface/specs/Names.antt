@@ -10,7 +10,7 @@ use Rattle.fb_tree.specs.Text.declared.name.NameUse.{NameUse}
 abbrev pub is_same : List ℕ → List ℕ → Bool
 is_same a b = is_at (name_cmp a) b
 
--- what a name stands for: its first declaration
+-- what a name means: its first declaration
 abbrev pub stands_for : {D : Type 0} → List (List ℕ × D) → List ℕ → Option D
 stands_for declarations name = lookup (λ declared. is_same declared name) declarations
 
@@ -34,6 +34,6 @@ is_repeated names = passes_there (λ before n. has_name before n.name) names
 abbrev pub repeated : List NameUse → List NameUse
 repeated names = passing_there (λ before n. has_name before n.name) names
 
--- the first declaration of each name, in the order of the text: where the name stands for nothing before its place
+-- the first declaration of each name, in the order of the text: where the name means nothing before its place
 abbrev pub first_ones : {D : Type 0} → List (List ℕ × D) → List (List ℕ × D)
 first_ones declarations = passing_there (λ before d. is_none (stands_for before d.0)) declarations

@@ -31,7 +31,7 @@ variables_in i = flat_map variables_together i.variables
 abbrev pub instances_in : NetworkTree → List (List ℕ × DeclaredInstance)
 instances_in n = map (λ i. (i.name.name, record { role = i.role; type_name = i.type_name })) n.instances
 
--- what names stand for, by their name spaces, in the order of the text
+-- what names mean, by their name spaces, in the order of the text
 pub record Meanings : Type 0 where
   pub events : List (List ℕ × DeclaredEvent)
   pub variables : List (List ℕ × DeclaredVariable)
@@ -72,7 +72,7 @@ same_role roles.Block roles.Block = true
 same_role roles.Subapplication roles.Subapplication = true
 same_role a b = false
 
--- the events of a side, each with its type where one is written
+-- the events of a side, each with its type if one is written
 abbrev pub events_on : Side → Meanings → List (List ℕ × Option NameUse)
 events_on side m = map (λ e. (e.0, e.1.type_name)) (filter (λ e. same_side e.1.side side) m.events)
 

@@ -15,7 +15,7 @@ use Rattle.fb_iface.specs.declared.ports.DeclaredInstance.{DeclaredInstance}
 abbrev pub ports_where : Role → UnitKind → Meanings → Option Meanings
 ports_where role kind ports = if suits role kind then Some ports else None
 
--- the ports of a type, where it is usable in this role: present, not broken, and of the kind that the section wants
+-- the ports of a type, if it is usable in this role: present, not broken, and of the kind that the section wants
 abbrev pub usable : Role → Option DeclTree → Option Meanings
 usable role None = None
 usable role (Some decl) = ports_where role (unit_kind_of decl) (meanings_in decl)
@@ -24,7 +24,7 @@ usable role (Some decl) = ports_where role (unit_kind_of decl) (meanings_in decl
 abbrev pub mentioned_type : Sources → List InstanceTree → List ℕ → Option DeclTree
 mentioned_type sources instances name = if has_name (map (λ i. i.type_name) instances) name then tree_at sources name else None
 
--- the unit's own names, and for each role the ports of each type that an instance has, where it is usable in this role
+-- the unit's own names, and for each role the ports of each type that an instance has, if it is usable in this role
 pub record Scope : Type 0 where
   pub own : Meanings
   pub type_ports : Role → List ℕ → Option Meanings
@@ -46,6 +46,6 @@ scope_of_network sources network = record {
 abbrev pub instance_ports : Scope → DeclaredInstance → Option Meanings
 instance_ports scope instance = scope.type_ports instance.role instance.type_name.name
 
--- the ports of what a name stands for among the instances, plugs and sockets
+-- the ports of what a name means among the instances, plugs and sockets
 abbrev pub ports_of : Scope → List ℕ → Option Meanings
 ports_of scope name = option_and_then (instance_ports scope) (stands_for scope.own.instances name)

@@ -18,7 +18,7 @@ interface_spaces i = map (λ e. e.name) i.events ∷ flat_map (λ v. v.names) i.
 abbrev pub chart_spaces : ChartTree → List (List NameUse)
 chart_spaces c = map (λ s. s.name) c.states ∷ map (λ a. a.name) c.algorithms ∷ []
 
--- the parameters of a block instance; those of others are not judged
+-- the parameters of a block instance; those of others are not checked
 abbrev pub parameter_names : InstanceTree → List NameUse
 parameter_names i = if is_block i.role then map (λ p. p.name) i.parameters else []
 

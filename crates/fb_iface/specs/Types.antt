@@ -29,7 +29,7 @@ suits roles.Block kinds.Block = true
 suits roles.Subapplication kinds.Subapplication = true
 suits role kind = false
 
--- the type of an instance, where this is declared under its name
+-- the type of an instance, if this is declared under its name
 abbrev pub type_fault : Role → NameUse → Option DeclTree → List Fault
 type_fault role name None = fault_at UnknownType name ∷ []
 type_fault role name (Some decl) = if suits role (unit_kind_of decl) then [] else fault_at WrongKind name ∷ []

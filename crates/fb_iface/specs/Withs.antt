@@ -11,12 +11,12 @@ use Rattle.fb_iface.specs.Fault.{faults_at}
 use Rattle.fb_iface.specs.Names.{stands_for}
 use Rattle.fb_iface.specs.Sides.{goes_with}
 
--- whether what a name stands for goes along with an event of this side
+-- whether what a name means goes along with an event of this side
 abbrev pub goes_along : Side → Option DeclaredVariable → Bool
 goes_along side None = false
 goes_along side (Some variable) = goes_with side variable.section
 
--- the names behind WITH that don't go along with the event, by the variables that names stand for
+-- the names after WITH that don't go along with the event, by the variables that names mean
 abbrev pub event_withs : (List ℕ → Option DeclaredVariable) → EventTree → List Fault
 event_withs variable event =
     faults_at WithUnknown (filter (λ w. not (goes_along event.side (variable w.name))) event.with)

@@ -16,7 +16,7 @@ pub enum Class {
     W,
     /// All other values.
     O,
-    /// What is not judged.
+    /// What is not checked.
     Free,
     /// A number, which is a whole number or a string of bits.
     Num,
@@ -104,7 +104,7 @@ pub fn is_taken(kind: Class, constant: Class) -> bool
 }
 
 impl Class {
-    /// Whether it is not judged.
+    /// Whether it is not checked.
     pub fn is_free(self) -> bool
         ensures { result ≡ is_free self }
     {

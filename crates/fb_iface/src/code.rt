@@ -17,7 +17,7 @@ pub enum Code {
     UnknownType,
     /// The type of an instance, a plug or a socket is of another kind.
     WrongKind,
-    /// A name behind `WITH` is no data input of an input event, no data output of an output event.
+    /// A name after `WITH` is no data input of an input event, no data output of an output event.
     WithUnknown,
     /// A state of a transition is not declared.
     StateUnknown,

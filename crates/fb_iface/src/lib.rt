@@ -1,4 +1,4 @@
-//! Faults, the interfaces of units, what names stand for in networks, and the check of what a unit declares.
+//! Faults, the interfaces of units, what names mean in networks, and the check of what a unit declares.
 #![tactic(auto)]
 
 mod classes;

@@ -26,7 +26,7 @@ pub fn report_constant(
     }
 }
 
-/// Reports a constant that stands alone.
+/// Reports a constant that is alone.
 fn report_alone(
     used: &WideTypeUse,
     value: &Simple,

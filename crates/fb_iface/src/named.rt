@@ -9,7 +9,7 @@ use fb_tree::{Algorithm, Application, Device, Event, Instance, Parameter, Resour
 pub trait Named {
     ghost name_of: { Self → Use };
 
-    /// The name where it is declared.
+    /// The name with the place of its declaration.
     fn name(&self) -> WideUse
         ensures { result ≡ name_of self.now };
 }

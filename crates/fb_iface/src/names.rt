@@ -8,7 +8,7 @@ use fb_tree::text::Name;
 use indexmap::IndexMap;
 use std::alloc::{AllocError, Global};
 
-/// What each name stands for, in the order of the text: its first declaration.
+/// What each name means, in the order of the text: its first declaration.
 pub fn first_declared<D: Copy>(
     alloc: Global,
     declarations: &[(Name, D)],

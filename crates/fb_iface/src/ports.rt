@@ -15,7 +15,7 @@ use indexmap::IndexMap;
 use std::alloc::{AllocError, Global};
 use std::marker::Model;
 
-/// An event of an interface, with its type where one is written.
+/// An event of an interface, with its type if one is written.
 #[derive(Clone, Copy, Debug)]
 pub struct DeclaredEvent {
     pub side: Side,
@@ -37,7 +37,7 @@ pub struct DeclaredInstance {
 }
 
 /// What the events, variables and instances of a unit are, by their names, in the order of the text. A name that is declared more than once
-/// stands for its first declaration: an internal variable or an instance may hide a port of that name.
+/// means its first declaration: an internal variable or an instance may hide a port of that name.
 pub struct Ports {
     events: IndexMap<Name, DeclaredEvent>,
     variables: IndexMap<Name, DeclaredVariable>,
@@ -106,7 +106,7 @@ impl Ports {
         })
     }
 
-    /// The event that the name stands for.
+    /// The event that the name means.
     #[tactic(auto, using(crate::proofs::TableLemmas::found_by_name))]
     pub fn event(&self, name: &Name) -> Option<&DeclaredEvent>
         ensures { option_copied result ≡ stands_for self.now.events name.now }
@@ -114,7 +114,7 @@ impl Ports {
         self.events.get(name)
     }
 
-    /// The variable that the name stands for, an internal one too.
+    /// The variable that the name means, an internal one too.
     #[tactic(auto, using(crate::proofs::TableLemmas::found_by_name))]
     pub fn variable(&self, name: &Name) -> Option<&DeclaredVariable>
         ensures { option_copied result ≡ stands_for self.now.variables name.now }
@@ -122,7 +122,7 @@ impl Ports {
         self.variables.get(name)
     }
 
-    /// The instance, plug or socket that the name stands for.
+    /// The instance, plug or socket that the name means.
     #[tactic(auto, using(crate::proofs::TableLemmas::found_by_name))]
     pub fn instance(&self, name: &Name) -> Option<&DeclaredInstance>
         ensures { option_copied result ≡ stands_for self.now.instances name.now }

@@ -119,7 +119,7 @@ fn report_in_network(
     Ok(())
 }
 
-/// Reports those among the parameters of a block instance. Parameters of others are not judged.
+/// Reports those among the parameters of a block instance. Parameters of others are not checked.
 fn report_in_instance(
     alloc: Global,
     instance: &Instance,
@@ -179,7 +179,7 @@ fn report_in_devices(
     Ok(())
 }
 
-/// Reports each declaration of one name space whose name stands before it.
+/// Reports each declaration of one name space whose name is before it.
 fn report_repeated<T: Named>(
     alloc: Global,
     declarations: &[T],

@@ -1,4 +1,4 @@
-//! What names stand for in a network: the unit's own names, and the ports of the types of its instances.
+//! What names mean in a network: the unit's own names, and the ports of the types of its instances.
 ghost use Rattle.std.specs.Prelude.{◌≡◌, IfOk, List, map, ℕ, nat_eq, OnOk};
 ghost use Rattle.std.specs.Cmp.Lexicographic.{pointwise};
 ghost use Rattle.std.specs.Option.{option_map};
@@ -24,7 +24,7 @@ struct TypePorts {
     ports: Ports,
 }
 
-/// What names stand for in a network. The ports of each type are read once, however many instances have it.
+/// What names mean in a network. The ports of each type are read once, however many instances have it.
 pub struct Scope {
     own: Ports,
     types: HashMap<Name, TypePorts>,
@@ -37,7 +37,7 @@ impl Drop for Scope {
 }
 
 impl Scope {
-    /// What names stand for in a network, by the unit's own names.
+    /// What names mean in a network, by the unit's own names.
     pub fn new<V: View>(
         alloc: Global,
         view: &V,
@@ -55,7 +55,7 @@ impl Scope {
         Ok(Scope { own, types })
     }
 
-    /// What names stand for in a type.
+    /// What names mean in a type.
     pub fn of_type<V: View>(
         alloc: Global,
         view: &V,
@@ -69,7 +69,7 @@ impl Scope {
         Scope::new(alloc, view, own, &declared.network)
     }
 
-    /// What names stand for in the network of an application.
+    /// What names mean in the network of an application.
     pub fn of_network<V: View>(
         alloc: Global,
         view: &V,
@@ -90,7 +90,7 @@ impl Scope {
         &self.own
     }
 
-    /// The ports of a type that an instance of the network has, where it is usable in this role: present, not broken and of the
+    /// The ports of a type that an instance of the network has, if it is usable in this role: present, not broken and of the
     /// kind that the section of the instance wants.
     pub fn type_ports(&self, role: Role, type_name: &Name) -> Option<&Ports>
         ensures { option_map (λ p. p.now) result
@@ -109,7 +109,7 @@ impl Scope {
         self.type_ports(instance.role, instance.type_name.name())
     }
 
-    /// The ports of what the name stands for among the instances, plugs and sockets.
+    /// The ports of what the name means among the instances, plugs and sockets.
     pub fn ports_of(&self, name: &Name) -> Option<&Ports>
         ensures { option_map (λ p. p.now) result ≡ ports_of (scope_in self.now) name.now }
     {
@@ -137,7 +137,7 @@ fn types_of<V: View>(
     Ok(types)
 }
 
-/// Adds a type, where it is present and not broken and isn't there yet.
+/// Adds a type, if it is present and not broken and isn't there yet.
 fn add_type<V: View>(
     alloc: Global,
     view: &V,

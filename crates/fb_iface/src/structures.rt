@@ -19,7 +19,7 @@ use std::alloc::{AllocError, Global};
 use std::collections::HashMap;
 use std::marker::Model;
 
-/// The fields of a structure by name, in the order of the text. A name that is declared more than once stands for its first
+/// The fields of a structure by name, in the order of the text. A name that is declared more than once means its first
 /// declaration.
 pub struct FieldTable {
     by_name: IndexMap<Name, DeclaredVariable>,
@@ -54,7 +54,7 @@ impl FieldTable {
         Ok(FieldTable { by_name })
     }
 
-    /// The field that the name stands for.
+    /// The field that the name means.
     #[tactic(auto, using(crate::proofs::TableLemmas::found_by_name))]
     pub fn field(&self, name: &Name) -> Option<&DeclaredVariable>
         ensures { option_copied result ≡ stands_for self.now name.now }
@@ -63,7 +63,7 @@ impl FieldTable {
     }
 }
 
-/// What is kept of a carried type that a further name may stand behind.
+/// What is kept of a carried type that a further name may be after.
 #[derive(Drop)]
 enum KeptFields {
     /// The type is absent or broken.
@@ -72,9 +72,9 @@ enum KeptFields {
     Known(FieldTable),
 }
 
-/// What a further name may name behind a plain type.
+/// What a further name may name after a plain type.
 pub enum Behind<'a> {
-    /// Nothing is known of the type, so no name is judged.
+    /// Nothing is known of the type, so no name is checked.
     NotJudged,
     /// The type is known and has no fields.
     NoFields,
@@ -106,7 +106,7 @@ impl Structures {
         Ok(Structures { by_name })
     }
 
-    /// What may be named behind a plain type of this name.
+    /// What may be named after a plain type of this name.
     pub fn get(&self, name: &Name) -> Behind<'_>
         ensures { fields_shown result ≡ structures_in self.now name.now }
     {
@@ -147,7 +147,7 @@ fn kept_types<V: View>(
     Ok(types)
 }
 
-/// What is kept of a type; nothing where it is known and no structure.
+/// What is kept of a type; nothing if it is known and no structure.
 fn kept_type<V: View>(
     alloc: Global,
     view: &V,

@@ -1,4 +1,4 @@
-//! Names behind `WITH` (IEC 61499-1, 5.2: the data that go along with an event).
+//! Names after `WITH` (IEC 61499-1, 5.2: the data that go along with an event).
 ghost use Rattle.std.specs.Prelude.{◌≡◌, ◌++◌, OnOk};
 ghost use Rattle.fb_tree.specs.Tree.{decl_tree, event_tree, interface_tree};
 ghost use Rattle.fb_iface.specs.Declarations.{with_faults_of};
@@ -13,7 +13,7 @@ use fb_tree::text::NameUse;
 use fb_tree::{Decl, Event, Interface, Side};
 use std::alloc::AllocError;
 
-/// Reports the names behind `WITH` that are no data of the event's side. The unit has these ports.
+/// Reports the names after `WITH` that are no data of the event's side. The unit has these ports.
 pub fn report_withs(own: &Ports, decl: &Decl, found: &mut Vec<Fault>) -> Result<(), AllocError>
     requires { own.now ≡ meanings_in (decl_tree decl.now) }
     ensures { OnOk result
@@ -56,7 +56,7 @@ fn report_event(own: &Ports, event: &Event, found: &mut Vec<Fault>) -> Result<()
     Ok(())
 }
 
-/// Whether what the name stands for goes along with an event of this side.
+/// Whether what the name means goes along with an event of this side.
 fn goes_along(own: &Ports, side: Side, name: &NameUse) -> bool
     ensures { result ≡ goes_along side (stands_for own.now.variables name.now.name) }
 {

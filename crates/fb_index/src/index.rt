@@ -1,4 +1,5 @@
 //! The index of the units by what they mention.
+//! A removed or broken unit stays indexed, without mentions: it marks nothing, since a commit marks only keys of the new texts.
 ghost use Rattle.std.specs.Prelude.{◌≡◌, ◌↔◌, true, List, ℕ, IfOk, OnOk, OnErr};
 ghost use Rattle.std.specs.List.Sorted.{IsStrictlySortedBy};
 ghost use Rattle.fb_text.specs.Order.{name_cmp};
@@ -56,7 +57,7 @@ impl Index {
         Ok(Index { tables })
     }
 
-    /// Indexes the unit with its new mentions in the place of the old ones. If there is no memory, the index stays as it was.
+    /// Indexes the unit with its new mentions in the place of the old ones. If there is no memory, the index stays unchanged.
     pub fn replace(
         &mut self,
         alloc: Global,

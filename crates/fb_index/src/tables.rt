@@ -72,7 +72,7 @@ impl Tables {
         })
     }
 
-    /// Indexes the unit with its new mentions in the place of the old ones. For want of memory nothing is changed.
+    /// Indexes the unit with its new mentions in the place of the old ones. For lack of memory nothing is changed.
     pub(crate) fn replace(
         &mut self,
         alloc: Global,
@@ -201,7 +201,7 @@ impl Tables {
         names_of(alloc, &seen)
     }
 
-    /// The units that carry on what this one carries: where it is a structure, its users.
+    /// The units that carry on what this one carries: if it is a structure, its users.
     fn carrying_on(&self, alloc: Global, unit: &Name) -> Result<Vec<Name>, AllocError>
         ensures { IfOk result (λ units. units.items ≡ carrying_on self.now unit.now) }
     {

@@ -59,7 +59,7 @@ same_found (Some a) (Some b) = same_held a b
 abbrev pub is_current : Texts → Seen → Bool
 is_current texts it = same_found (held texts it.name) it.found
 
--- the first read that is not current; the least one, where the reads stand by rising name
+-- the first read that is not current; the least one, where the reads are by rising name
 abbrev pub stale : Texts → List Seen → Option (List ℕ)
 stale texts reads = option_map (λ (it : Seen). it.name) (find (λ it. not (is_current texts it)) reads)
 

@@ -25,6 +25,6 @@ pub trait Cache {
         ensures { option_map (λ it. finding_of it.value) (option_copied result)
             ≡ found self.now key.now };
 
-    /// A value that the key had once, with the reads that gave it: it is shared where it comes out again.
+    /// A value that the key had once, with the reads that gave it: a result that equals it shares it.
     fn previous(&self, key: &Key) -> Option<&Derivation>;
 }

@@ -1,4 +1,4 @@
-//! What a job knows beside its reads: the nets of its hints, its unit's own net, and units without faults.
+//! What a job knows beside its reads: the nets of its hints, the net of its own unit, and which units have no faults.
 ghost use Rattle.std.specs.Prelude.{◌≡◌, ◌⊎◌, ℕ, List, true, false, [], None, Some, option_map, option_copied, get_or, IfOk, IfSome, OnOk};
 ghost use Rattle.std.specs.List.{AllZip};
 ghost use Rattle.std.specs.BTreeMap as tree;
@@ -142,7 +142,7 @@ pub(crate) fn nets_of(
     Ok(nets)
 }
 
-/// The net of a key's own unit, where it is kept or was computed by a job for another key.
+/// The net of a key's own unit, if it is kept or was computed by a job for another key.
 pub(crate) fn own_net<K: Cache>(kept: &K, key: &Key) -> Result<Option<Arc<Value>>, AllocError>
     ensures { IfOk result (IsOwnNet (K.kept kept.now) (K.found kept.now) key.now.unit) }
 {

@@ -1,4 +1,4 @@
-//! Values with what gives them.
+//! Values with the reads that gave them.
 ghost use Rattle.std.specs.Prelude.{◌≡◌, IfOk};
 ghost use Rattle.fb_jobs.specs.Finished.{plain_job};
 ghost use Rattle.fb_jobs.specs.Keys.{scratch};

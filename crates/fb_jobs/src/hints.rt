@@ -1,4 +1,4 @@
-//! The nets of other subapplications that a job is given along.
+//! Hints: nets of other subapplications, passed to a job.
 ghost use Rattle.std.specs.Prelude.{◌≡◌, All, IfOk, OnOk};
 ghost use Rattle.std.specs.Option.{option_and_then};
 ghost use Rattle.fb_deploy.specs.Flatten.Tables.{is_subapplication_in, is_subapplication_tree};
@@ -59,7 +59,7 @@ fn is_subapplication(read: &Read) -> bool
     }
 }
 
-/// Adds the net that is kept of what was read, where that is another subapplication.
+/// Adds the net that is kept of what was read, if that is another subapplication.
 fn add_hint<K: Cache>(
     kept: &K,
     unit: &Name,

@@ -1,4 +1,6 @@
 //! Jobs.
+//! A job gets no earlier value of a key as a hint: `run` gives the previous value of its own key only if all that the key reads leaves it
+//! unchanged, or if the new value equals it.
 ghost use Rattle.std.specs.Prelude.{◌≡◌, true, IfOk, IfErr, IfSome, All};
 ghost use Rattle.std.specs.Option.{option_map};
 ghost use Rattle.std.specs.FinMap as map;
@@ -70,8 +72,8 @@ impl Model for Job {
 }
 
 impl Job {
-    /// Reads for the key what it needs, sharing the sources, and takes along the nets of these other subapplications, which are not
-    /// computed anew. A key for faults takes none.
+    /// Reads for the key what it needs, sharing the sources, and passes the nets of these other subapplications, which are not
+    /// computed again. A key for faults takes none.
     pub fn make(
         alloc: Global,
         library: &Library,
@@ -160,14 +162,14 @@ impl Job {
         &self.texts
     }
 
-    /// The nets of other subapplications that are taken along.
+    /// The nets of other subapplications that are passed.
     pub fn hints(&self) -> &[Hint]
         ensures { AreHints (read_texts self.now.reads) self.now.key result.now }
     {
         &self.cached.hints
     }
 
-    /// The value that the key had before, where what is read leaves it as it was: a net to which nothing was in the way, or a plan by one, of a
+    /// The value that the key had before, where what is read leaves it unchanged: a net to which nothing was in the way, or a plan by one, of a
     /// unit whose own text is the same, and which rests on units without faults that say to networks what they said.
     fn reusable(&self, alloc: Global) -> Result<Option<&Arc<Value>>, AllocError>
         ensures { IfOk result (λ left. IfSome left
@@ -188,7 +190,7 @@ impl Job {
         Ok(None)
     }
 
-    /// Computes the value that the reads give, with what is taken along.
+    /// Computes the value that the reads give, with what is passed.
     fn computed(&self, alloc: Global) -> Result<Worked, AllocError>
         ensures { IfOk result
             (IsWork self.now.key.kind (sources_of (read_texts self.now.reads)) self.now.key.unit) }
@@ -218,7 +220,7 @@ impl Job {
         }
     }
 
-    /// Computes the value that the reads give. What is taken along is not computed anew, nor is a net or a plan that what is read leaves as it was.
+    /// Computes the value that the reads give. What is passed is not computed again, nor is a net or a plan that what is read leaves unchanged.
     pub fn run(&self, alloc: Global) -> Result<Finished, AllocError>
         ensures { IfOk result (λ finished. finished ≡ self.now) }
     {
@@ -228,7 +230,7 @@ impl Job {
         Ok(Finished::of_reads(self.key, reads, texts, work))
     }
 
-    /// Where a name stands among the reads, or where it would go.
+    /// The place of a name among the reads, or the one at which it would be inserted.
     fn place(&self, name: &Name) -> Result<usize, usize>
         ensures found { IfOk result (IsAt (read_names self.now.reads) name.now) }
         ensures absent { IfErr result (IsGapFor (read_names self.now.reads) name.now) }

@@ -14,7 +14,7 @@ ghost use Rattle.fb_jobs.specs.Kinds.{all_kinds};
 ghost use Rattle.fb_jobs.specs.Keys.{has_key, needs, scratch};
 ghost use Rattle.fb_jobs.specs.Reads.{Agree, PlainJob, IsLeastStale, IsRight, read_names, read_texts, stale};
 
-/// Each kind is one of all kinds, and these stand in order, each once.
+/// Each kind is one of all kinds, and these are in order, each once.
 pub fn kinds_in_order()
     ensures all { (kind : Kind) → Contains all_kinds kind }
     ensures order { IsStrictlySortedBy kind_cmp all_kinds }
@@ -42,7 +42,7 @@ pub fn current_nets()
         → IsFoundFor (read_texts it.reads) it.key hint → IsNetOf texts hint }
 {}
 
-/// What a key needs, and so what is read for it, stands in order, each name once.
+/// What a key needs, and so what is read for it, is in order, each name once.
 pub fn needs_in_order()
     ensures needs { (texts : Texts) (key : Key) → IsStrictlySortedBy name_cmp (needs texts key) }
     ensures reads { (it : PlainJob) → IsRight it

@@ -71,7 +71,7 @@ pub(crate) fn reads_anew(
     Ok((reads, texts))
 }
 
-/// What is read now under the names of earlier reads, and what is kept of that. None where one of the names mentions something else now.
+/// What is read now under the names of earlier reads, and what is kept of that. None if one of the names mentions something else now.
 fn read_again(
     alloc: Global,
     library: &Library,
@@ -113,7 +113,7 @@ fn reads_as_before(
     read_again(alloc, library, derivation.reads())
 }
 
-/// What a job for the key reads, and what is kept of that. What was read for it before spares the walk where its mentions are as they were.
+/// What a job for the key reads, and what is kept of that. What was read for it before spares the walk where its mentions are unchanged.
 pub(crate) fn reads_of(
     alloc: Global,
     library: &Library,

@@ -17,7 +17,7 @@ use std::alloc::AllocError;
 use std::marker::Model;
 use std::sync::Arc;
 
-/// What a job came to: its value is that of its own reads.
+/// The result of a job: its value is that of its own reads.
 pub struct Finished {
     key: Key,
     reads: Arc<Vec<Read>>,

@@ -1,4 +1,4 @@
-//! Whether what is read leaves a value as it was, which is told without computing it.
+//! Decides, without computing, whether the previous value still holds for what was read.
 ghost use Rattle.std.specs.Prelude.{◌≡◌, ℕ, List, Bool, true, IfOk};
 ghost use Rattle.fb_deploy.specs.Library.View.{mentions_of_tree, tree_of};
 ghost use Rattle.fb_deploy.specs.Flatten.Hints.{is_whole_net};
@@ -59,7 +59,7 @@ fn is_still_text(
     has_same_interface(alloc, before, now)
 }
 
-/// Whether what is read under a name says what was read before, where it is told whether its unit is known to be without faults.
+/// Whether what is read under a name is what was read before, given whether its unit is known to have no faults.
 fn is_still_read(
     alloc: Global,
     unit: &Name,

@@ -1,4 +1,4 @@
-//! Whether two values say the same, by content.
+//! Whether two values have the same content.
 ghost use Rattle.std.specs.Prelude.{◌≡◌, ◌↔◌, IsTrue, map};
 ghost use Rattle.fb_deploy.specs.Flatten.Net.{plain_net};
 ghost use Rattle.fb_deploy.specs.Deploy.{plain_deploy, planned};

@@ -1,4 +1,5 @@
 //! What a history keeps of reads.
+//! Absent names are a list of their own, so that thousands of them take no allocation each.
 ghost use Rattle.std.specs.Prelude.{◌≡◌, count_by, is_none};
 
 use crate::same::{are_equal, are_same_texts};
@@ -52,7 +53,7 @@ impl TextReads {
     ghost use Rattle.fb_jobs.specs.Texts.{seen_under, text_of};
     ghost use Rattle.fb_jobs.specs.Values.{text_seen};
 
-    /// None yet, with room for so many.
+    /// None yet, with room for this number.
     pub(crate) fn with_capacity(alloc: Global, count: usize) -> Result<TextReads, AllocError>
         ensures { IfOk result (λ texts. texts ≡ []) }
     {
@@ -62,7 +63,7 @@ impl TextReads {
         })
     }
 
-    /// These, and behind them what was read under a name.
+    /// These, and after them what was read under a name.
     pub(crate) fn with(
         self,
         name: Name,

@@ -1,4 +1,4 @@
-//! Laws of flat nets: how the chains behind links and borders are composed of those of inner nets.
+//! Laws of flat nets: how the chains of links and borders are composed of those of inner nets.
 ghost use Rattle.fb_laws.specs.Chains.{FlatBordersAreComposed, FlatLinksAreComposed, FlatUnitsAreClean, InnerBordersAreListed, InnerNetsAreFlat};
 
 /// Where the net of a unit is flat, its own network, or that of each application of a system, is clean, and so are those of its
@@ -7,8 +7,8 @@ pub fn flat_units_are_clean()
     ensures { FlatUnitsAreClean }
 {}
 
-/// Where the net of a unit is flat, a chain behind a link lies inside one subapplication instance, where it is behind a link, or it passes
-/// exactly one connection of the unit's own network, and before and after that nothing or a border of an inner network. A chain behind a
+/// If the net of a unit is flat, a chain of a link is inside one subapplication instance, and a chain of a link there, or it passes
+/// exactly one connection of the unit's own network, and before and after that nothing or a border of an inner network. A chain of a
 /// border passes exactly one, with the same before and after it.
 pub fn flat_chains_are_composed()
     ensures links { FlatLinksAreComposed }

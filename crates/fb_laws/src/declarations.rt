@@ -1,7 +1,7 @@
 //! Laws of the faults of declarations: where each code is reported.
 ghost use Rattle.fb_laws.specs.Declarations.{DuplicatesAreReported, MisfitsAreReported, MixedKindsAreReported, OtherNamesAreReported, RecursiveStructuresAreReported, UnknownTypesAreReported, UnknownWithsAreReported, WrongKindsAreReported};
 
-/// The declared name is a fault where it is not the unit's.
+/// The declared name is a fault if it is not the unit's.
 pub fn other_names_are_reported()
     ensures { OtherNamesAreReported }
 {}
@@ -16,22 +16,22 @@ pub fn mixed_kinds_are_reported()
     ensures { MixedKindsAreReported }
 {}
 
-/// The type of an instance, plug or socket is a fault where it is absent or broken.
+/// The type of an instance, plug or socket is a fault if it is absent or broken.
 pub fn unknown_types_are_reported()
     ensures { UnknownTypesAreReported }
 {}
 
-/// The type of an instance, plug or socket is a fault where it is there and is of another kind.
+/// The type of an instance, plug or socket is a fault if it is there and is of another kind.
 pub fn wrong_kinds_are_reported()
     ensures { WrongKindsAreReported }
 {}
 
-/// A name behind `WITH` is a fault where it stands for no data of the event's side.
+/// A name after `WITH` is a fault if it means no data of the event's side.
 pub fn unknown_withs_are_reported()
     ensures { UnknownWithsAreReported }
 {}
 
-/// A constant, or an element of a list, is a fault where it does not fit the type that it is the initial value of.
+/// A constant, or an element of a list, is a fault if it does not fit the type that it is the initial value of.
 pub fn misfits_are_reported()
     ensures { MisfitsAreReported }
 {}

@@ -1,5 +1,5 @@
-//! Laws in words of their own, for readers: the definitions that contracts cite, said a second time in other words. Where the parts of a
-//! tree stand; which ports a unit has; where each fault is reported; how chains of flat nets are composed; what a plan has; when a key waits.
+//! Laws for readers: the definitions that contracts cite, stated a second time in other words. Where the parts of a
+//! tree are; which ports a unit has; where each fault is reported; how chains of flat nets are composed; what a plan has; when a key waits.
 #![tactic(auto)]
 
 mod chains;

@@ -12,7 +12,7 @@ pub fn blocks_have_one_home()
     ensures { BlocksHaveOneHome }
 {}
 
-/// An end of a link stands on one resource.
+/// An end of a link is on one resource.
 pub fn ends_have_one_home()
     ensures { EndsHaveOneHome }
 {}
@@ -32,7 +32,7 @@ pub fn parameters_are_set_at_home()
     ensures { ParametersAreSetAtHome }
 {}
 
-/// A resource makes the links both of whose ends stand on it, each once, in the order of the flat network, and no other link.
+/// A resource makes the links both of whose ends are on it, each once, in the order of the flat network, and no other link.
 pub fn links_are_made_at_home()
     ensures { LinksAreMadeAtHome }
 {}
@@ -65,8 +65,8 @@ pub fn blocks_are_made_where_mapped()
     ensures only { OnlyBlocksAreMade }
 {}
 
-/// Where something is misplaced, a plan tells exactly this: the blocks, of all depths, with no mapping of their path or above it, and the mappings at
-/// whose path no application, block or subapplication instance stands. Where a plan has commands, nothing is misplaced.
+/// If something is misplaced, a plan names exactly this: the blocks, of all depths, with no mapping of their path or above it, and the mappings at
+/// whose path there is no application, block or subapplication instance. If a plan has commands, nothing is misplaced.
 pub fn misplaced_is_told()
     ensures told { MisplacedIsTold }
     ensures planned { NothingPlannedIsMisplaced }

@@ -1,7 +1,7 @@
 //! Laws of the ports of units: which ports there are, and in which order.
 ghost use Rattle.fb_laws.specs.Ports.{AdaptersAreDeclared, DataAreDeclared, EventsAreDeclared, InstancesStandForFirst, InternalVariablesAreNoPorts, NamesStandForFirst, PortsComeAsDeclared, PortsHaveOwnNames, StructuresHaveNoPorts, SystemsHaveNoPorts, WholeTextsHaveInterfaces};
 
-/// A text has an interface where it spells a unit: the ports of what it declares.
+/// A text has an interface if it spells a unit: the ports of what it declares.
 pub fn whole_texts_have_interfaces()
     ensures { WholeTextsHaveInterfaces }
 {}
@@ -26,12 +26,12 @@ pub fn internal_variables_are_no_ports()
     ensures { InternalVariablesAreNoPorts }
 {}
 
-/// A name stands for its first declaration in its name space.
+/// A name means its first declaration in its name space.
 pub fn names_stand_for_first()
     ensures { NamesStandForFirst }
 {}
 
-/// In the network of an application a name stands for its first instance.
+/// In the network of an application a name means its first instance.
 pub fn instances_stand_for_first()
     ensures { InstancesStandForFirst }
 {}

@@ -1,12 +1,12 @@
-//! Laws of the parts of trees that keep where they stand.
+//! Laws of the parts of trees that keep their places.
 ghost use Rattle.fb_laws.specs.Spans.{ConstantsReadAlone, NamesAreWords, PartsAreWritten, PartsReadAlone, SpansCoverTokens, SpansLieInText, SubscriptsAreCounted};
 
-/// Each part is what the tokens from where it begins to where it ends spell, so a constant, a type or an expression reads as itself there.
+/// Each part is what the tokens from its first byte to its last one spell, so a constant, a type or an expression reads as itself there.
 pub fn parts_are_written()
     ensures { PartsAreWritten }
 {}
 
-/// The span of each part begins where a token begins, and ends where that token or a later one ends.
+/// The span of each part begins at the beginning of a token, and ends at the end of that token or of a later one.
 pub fn spans_cover_tokens()
     ensures { SpansCoverTokens }
 {}
@@ -16,7 +16,7 @@ pub fn spans_lie_in_text()
     ensures { SpansLieInText }
 {}
 
-/// Each name is a word of the text in upper case, and stands where that word stands.
+/// Each name is a word of the text in upper case, and has the place of that word.
 pub fn names_stand_as_words()
     ensures { NamesAreWords }
 {}
@@ -31,7 +31,7 @@ pub fn constants_read_alone()
     ensures { ConstantsReadAlone }
 {}
 
-/// The names of a reference count its subscripts, which stand beside it in one list.
+/// The names of a reference count its subscripts, which are beside it in one list.
 pub fn subscripts_are_counted()
     ensures { SubscriptsAreCounted }
 {}

@@ -28,7 +28,7 @@ pub fn whole_units_have_faults_of_parts()
     ensures { WholeUnitsHaveFaultsOfParts }
 {}
 
-/// A unit has a fault of a code that one part has exactly where this part reports it.
+/// A unit has a fault of a code that one part has if and only if this part reports it.
 pub fn codes_are_of_their_parts()
     ensures { CodesAreOfTheirParts }
 {}

@@ -17,7 +17,7 @@ LedFrom next starts v = (u : List ℕ) × Contains starts u × Leads next u v
 abbrev pub opened : (List ℕ → List (List ℕ)) → List (List ℕ) → List (List ℕ)
 opened next names = names_in_order (flat_map next names ++ names)
 
--- opened so many times
+-- opened this number of times
 abbrev pub opened_times : ℕ → (List ℕ → List (List ℕ)) → List (List ℕ) → List (List ℕ)
 opened_times zero next names = names
 opened_times (suc times) next names = opened_times times next (opened next names)

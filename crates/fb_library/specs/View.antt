@@ -11,7 +11,7 @@ use Rattle.fb_parse.specs.Body.{BodyTree, Whole, BrokenAt, body_of}
 abbrev pub Sources : Type 0
 Sources = FinMap name_cmp (List ℕ)
 
--- the text of a unit, empty where it is absent
+-- the text of a unit, empty if it is absent
 abbrev pub text_or_empty : Sources → List ℕ → List ℕ
 text_or_empty sources unit = unwrap_or (get sources unit) []
 
@@ -19,7 +19,7 @@ abbrev pub tree_in : BodyTree → Option DeclTree
 tree_in (Whole decl) = Some decl
 tree_in (BrokenAt span) = None
 
--- the declaration that a text spells, where it is not broken
+-- the declaration that a text spells, if it is not broken
 abbrev pub tree_of : List ℕ → Option DeclTree
 tree_of text = tree_in (body_of text)
 
@@ -39,7 +39,7 @@ type_in (structure_type s) = None
 abbrev pub declaration_at : Sources → List ℕ → Option TypeTree
 declaration_at sources unit = option_and_then type_in (tree_at sources unit)
 
--- what a declaration mentions; nothing where there is none
+-- what a declaration mentions; nothing if there is none
 abbrev pub mentions_of_tree : Option DeclTree → Mentioned
 mentions_of_tree None = nothing_mentioned
 mentions_of_tree (Some decl) = all_mentions_of decl
@@ -59,7 +59,7 @@ values_in tree = (mentions_of_tree tree).of_values
 abbrev pub mentions_in : Option DeclTree → List (List ℕ)
 mentions_in tree = parts_in tree ++ values_in tree
 
--- what a unit mentions; nothing where it is absent or broken
+-- what a unit mentions; nothing if it is absent or broken
 abbrev pub mentioned_at : Sources → List ℕ → Mentioned
 mentioned_at sources unit = mentions_of_tree (tree_at sources unit)
 

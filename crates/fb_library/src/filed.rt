@@ -1,4 +1,5 @@
 //! What is filed under the name of a unit.
+//! Text and revision are shared apart from the source, so that jobs and histories keep them without the tree, 16 bytes a read.
 ghost use Rattle.std.specs.Prelude.{◌≡◌, IfOk};
 ghost use Rattle.fb_library.specs.Filed.{filed_text};
 

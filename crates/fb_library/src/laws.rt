@@ -6,7 +6,7 @@ pub fn carried_is_all()
     ensures { CarriedIsAll }
 {}
 
-/// What units carry depends on the texts of these and of what they carry alone.
+/// What units carry depends only on the texts of these and of what they carry.
 pub fn carried_is_local()
     ensures { CarriedIsLocal }
 {}
@@ -16,12 +16,12 @@ pub fn near_is_all()
     ensures { NearIsAll }
 {}
 
-/// The names near a unit depend on the texts under these names alone.
+/// The names near a unit depend only on the texts under these names.
 pub fn near_is_local()
     ensures { NearIsLocal }
 {}
 
-/// What a unit rests on depends on the texts that it rests on alone.
+/// What a unit rests on depends only on the texts that it rests on.
 pub fn far_is_local()
     ensures { FarIsLocal }
 {}

@@ -98,7 +98,7 @@ impl Library {
         }
     }
 
-    /// The number of the commit that put the unit, 0 where it is absent.
+    /// The number of the commit that put the unit, 0 if it is absent.
     pub fn revision(&self, unit: &Name) -> u64
         ensures { result ≡ revision_of (held self.now unit.now) }
     {
@@ -157,7 +157,7 @@ impl Library {
         Ok(after)
     }
 
-    /// Makes a commit's changes, in order. Where there was no memory the library stays as it was.
+    /// Makes a commit's changes, in order. If there was no memory the library stays unchanged.
     pub fn apply(&mut self, commit: u64, changes: &[Change]) -> Result<(), AllocError>
         ensures ok { OnOk result (self.new ≡ all_edited commit (edits_of changes.now) self.old) }
         ensures err { OnErr result (self.new ≡ self.old) }

@@ -19,7 +19,7 @@ pub trait View {
         ensures own { IfSome result (λ it. it.now.unit ≡ unit.now) };
 }
 
-/// The text of a unit, empty where it is absent.
+/// The text of a unit, empty if it is absent.
 pub fn text_by_name<'a, V: View>(view: &'a V, unit: &Name) -> &'a str
     ensures { result.now ≡ text_or_empty (V.sources view.now) unit.now }
 {
@@ -29,7 +29,7 @@ pub fn text_by_name<'a, V: View>(view: &'a V, unit: &Name) -> &'a str
     }
 }
 
-/// The declaration that a source spells, where it is not broken.
+/// The declaration that a source spells, if it is not broken.
 fn tree(source: &Source) -> Option<&Decl>
     ensures { option_map (λ d. decl_tree d.now) result ≡ tree_of source.now.text }
 {
@@ -39,7 +39,7 @@ fn tree(source: &Source) -> Option<&Decl>
     }
 }
 
-/// The type that is declared, where it is no system and no structure.
+/// The type that is declared, if it is no system and no structure.
 fn declared_type(decl: &Decl) -> Option<&TypeDeclaration>
     ensures { option_map (λ d. type_tree d.now) result ≡ type_in (decl_tree decl.now) }
 {

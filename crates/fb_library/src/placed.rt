@@ -134,7 +134,7 @@ fn copied<V: Drop>(alloc: Global, places: &[Placed<V>]) -> Result<Places<V>, All
     Ok(Places { places: copy })
 }
 
-/// Where the name is, or where it would go.
+/// The place of the name, or the one at which it would be inserted.
 fn place<V>(places: &[Placed<V>], name: &Name) -> Result<usize, usize>
     requires { IsStrictlySortedBy name_cmp (names_in places.now) }
     ensures found { IfOk result (IsAt (names_in places.now) name.now) }

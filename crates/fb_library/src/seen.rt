@@ -8,7 +8,7 @@ use fb_parse::text::Name;
 use std::alloc::{AllocError, Global};
 use std::collections::BTreeSet;
 
-/// Sees each name, and opens it where it is new.
+/// Sees each name, and opens it if it is new.
 pub fn open_new(
     names: &[Name],
     seen: &mut BTreeSet<Name>,

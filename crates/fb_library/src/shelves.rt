@@ -289,7 +289,7 @@ fn halve<V: Drop, E: Entries<V>>(shelves: &mut Vec<Shelf<E>>, at: usize) -> Resu
     Ok(())
 }
 
-/// Has the shelves reach a name that all of them end below: the last one, or a new one where that is
+/// Has the shelves reach a name that all of them end below: the last one, or a new one if that is
 /// full.
 fn reach<V: Drop, E: Entries<V>>(shelves: &mut Vec<Shelf<E>>, name: Name) -> Result<(), AllocError>
     requires order { AreShelves (shelves_of E.entries shelves.old.items) }

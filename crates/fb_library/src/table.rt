@@ -1,4 +1,6 @@
 //! Values by name.
+//! A table is shelves of 16 to 32 names in rooms of 16 to 32 shelves, each under an `Arc`: a changed copy costs one count for each room, and nothing
+//! needs to be undone if memory runs out. A tree of pointers would copy less and look up more slowly.
 ghost use Rattle.std.specs.Prelude.{◌≡◌, [], IfOk, OnOk, OnErr, length, slice_get, map};
 ghost use Rattle.std.specs.Option.{option_map};
 ghost use Rattle.std.specs.List.Sorted.{IsStrictlySortedBy};
@@ -91,8 +93,8 @@ impl<V: Drop> Table<V> {
         Ok(Table { rooms })
     }
 
-    /// Puts a value under a name, in place of what was there. Where there was no memory the table
-    /// stays as it was.
+    /// Puts a value under a name, in place of what was there. If there was no memory the table
+    /// stays unchanged.
     pub fn put(&mut self, name: Name, value: Arc<V>) -> Result<(), AllocError>
         ensures ok { OnOk result (self.new ≡ insert_entry name_cmp self.old name value.value) }
         ensures err { OnErr result (self.new ≡ self.old) }
@@ -100,7 +102,7 @@ impl<V: Drop> Table<V> {
         self.rooms.put(name, value)
     }
 
-    /// Removes what is under a name. Where there was no memory the table stays as it was.
+    /// Removes what is under a name. If there was no memory the table stays unchanged.
     pub fn remove(&mut self, name: &Name) -> Result<(), AllocError>
         ensures ok { OnOk result (self.new ≡ remove_entry (is_at (name_cmp name.now)) self.old) }
         ensures err { OnErr result (self.new ≡ self.old) }

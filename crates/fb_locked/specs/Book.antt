@@ -14,7 +14,7 @@ is_first callers q = nat_lt 0 q && nat_le q callers
 abbrev pub is_caller : ℕ → BenchView → ℕ → Bool
 is_caller callers bench q = is_first callers q || nat_lt 0 (all_turns bench q)
 
--- what stands on a caller's page: the number of its calls
+-- what is on a caller's page: the number of its calls
 abbrev pub page_of : ℕ → BenchView → ℕ → Option ℕ
 page_of callers bench q = if is_caller callers bench q then Some (all_turns bench q) else None
 

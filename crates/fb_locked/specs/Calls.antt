@@ -19,7 +19,7 @@ Performs locked seat call claim_of (Ok made) locked' seat' =
 Performs locked seat call claim_of (Err refused) locked' seat' =
     RefusedAs (refusal_of locked seat) refused × (locked' ≡ locked) × (seat' ≡ seat)
 
--- a receipt of the call, which the seat has then seen; or a refusal, and the seat as it was
+-- a receipt of the call, which the seat has then seen; or a refusal, and the seat unchanged
 abbrev pub Answers : {R : Type 0} → SeatView → Call → (R → ReceiptView) → Result R SharedRefused → SeatView → Type 0
 Answers seat call claim_of (Ok made) seat' = IsReceiptOf seat call (claim_of made) × (seat' ≡ seat_after seat (claim_of made))
 Answers seat call claim_of (Err refused) seat' = IsRefusalOf seat refused × (seat' ≡ seat)

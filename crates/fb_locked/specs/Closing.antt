@@ -107,7 +107,7 @@ abbrev pub IsLeast : (ℕ → Bool) → Option ℕ → Type 0
 IsLeast test None = (q : ℕ) → test q ≡ false
 IsLeast test (Some q) = (test q ≡ true) × ((p : ℕ) → p < q → test p ≡ false)
 
--- The fault stands there, and no earlier one does. Want of memory is no fault of seats or receipts, and comes behind them all.
+-- The fault applies, and no earlier one does. Lack of memory is no fault of seats or receipts, and comes after them all.
 abbrev pub IsFirstFault : ℕ → BenchView → List SeatView → List ReceiptView → CloseFault → Type 0
 IsFirstFault callers bench seats receipts (SeatMissing q) = IsLeast (is_missing callers bench seats) (Some q)
 IsFirstFault callers bench seats receipts (SeatDiffers q) = AreSeated callers bench seats × IsLeast (has_wrong_seat bench seats) (Some q)
@@ -122,7 +122,7 @@ abbrev pub ChecksAll : ℕ → BenchView → List SeatView → List ReceiptView 
 ChecksAll callers bench seats receipts (Ok counts) = AgreesWith callers bench seats receipts × IsBookOf counts callers bench
 ChecksAll callers bench seats receipts (Err fault) = IsFirstFault callers bench seats receipts fault
 
--- The workbench and the counts of a close, where seats were made for so many callers: the seats and the receipts agree with it.
+-- The workbench and the counts of a close, where seats were made for this number of callers: the seats and the receipts agree with it.
 abbrev pub IsCloseOf : ℕ → List SeatView → List ReceiptView → BenchView → BTreeMap ℕ ℕ → Type 0
 IsCloseOf callers seats receipts bench counts =
     AgreesWith callers bench seats receipts × IsBookOf counts callers bench

@@ -13,7 +13,7 @@ use Rattle.fb_locked.specs.declared.resume.ResumeFault.TheVariants.{CallersFew, 
 abbrev pub is_left_out : BenchView → ℕ → ℕ → Bool
 is_left_out bench callers q = nat_lt 0 (all_turns bench q) && not (is_first callers q)
 
--- why a workbench does not come under a lock: the least such caller, or want of memory where there is none
+-- why a workbench does not come under a lock: the least such caller, or lack of memory if there is none
 abbrev pub IsResumeFault : BenchView → ℕ → ResumeFault → Type 0
 IsResumeFault bench callers (CallersFew q) = IsLeast (is_left_out bench callers) (Some q)
 IsResumeFault bench callers Memory = IsLeast (is_left_out bench callers) None

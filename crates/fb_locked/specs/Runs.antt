@@ -14,7 +14,7 @@ abbrev pub IsRun : SeatView → List ReceiptView → SeatView → Type 0
 IsRun seat [] after = after ≡ seat
 IsRun seat (claim ∷ claims) after = IsReceiptOf seat claim.entry.call claim × IsRun (seat_after seat claim) claims after
 
--- what a worker has in hand between two calls: no job; a job that it has taken; or it has given one back, and is done
+-- what a worker holds between two calls: no job; a job that it has taken; or it has given one back, and is done
 pub data Hand : Type 0 where
   Empty : Hand
   Holds : PlainJob → Hand
@@ -24,7 +24,7 @@ abbrev pub hand_with : Option PlainJob → Hand
 hand_with None = Empty
 hand_with (Some order) = Holds order
 
--- what it has in hand after a call with this reply
+-- what it holds after a call with this reply
 abbrev pub hand_after : Call → Reply → Hand
 hand_after ToTake answer = hand_with (job_of answer)
 hand_after (ToGiveBack key) answer = Gave
@@ -42,18 +42,18 @@ Settles order (ToDeliver result) = result ≡ order
 Settles order (ToGiveBack key) = key ≡ order.key
 Settles order _ = ⊥
 
--- the calls that a worker makes: with nothing in hand it takes, and a job that it holds it settles before it takes the next one
+-- the calls that a worker makes: if it holds nothing it takes, and a job that it holds it settles before it takes the next one
 abbrev pub Follows : Hand → Call → Type 0
 Follows Empty call = IsTake call
 Follows (Holds order) call = Settles order call
 Follows Gave call = ⊥
 
--- the receipts are of a worker's calls, which lead from what it had in hand to what it has now
+-- the receipts are of a worker's calls, which lead from what it held to what it holds now
 abbrev pub IsWork : Hand → List ReceiptView → Hand → Type 0
 IsWork hand [] now = now ≡ hand
 IsWork hand (claim ∷ claims) now = Follows hand claim.entry.call × IsWork (hand_after claim.entry.call claim.entry.reply) claims now
 
--- Receipts of calls with the seat, as a worker makes them, are added at the end, at most so many.
+-- Receipts of calls with the seat, as a worker makes them, are added at the end, at most this number.
 pub record AddsWork (hand : Hand) (most : ℕ) (seat : SeatView) (old new : List ReceiptView) (after : SeatView) (now : Hand) : Type 0 where
   pub added : List ReceiptView
   pub behind : new ≡ old ++ added
@@ -70,18 +70,18 @@ IsRefusal (Behind seen len) = Unit {0}
 IsRefusal HistoryFull = Unit {0}
 IsRefusal Memory = Unit {0}
 
--- What a worker may have in hand where it ends: a job only where a call was refused, and it has given one back only for want of memory.
+-- What a worker may hold at its end: a job only if a call was refused, and it has given one back only for lack of memory.
 abbrev pub EndsWith : Hand → WorkEnd → Type 0
 EndsWith Empty end = Unit {0}
 EndsWith (Holds order) end = IsRefusal end
 EndsWith Gave end = end ≡ Memory
 
--- a worker that goes on has nothing in hand
+-- a worker that continues holds nothing
 abbrev pub GoesOnWith : Hand → Option WorkEnd → Type 0
 GoesOnWith hand None = hand ≡ Empty
 GoesOnWith hand (Some end) = EndsWith hand end
 
--- a worker's calls up to where it ends, or goes on
+-- a worker's calls up to its end, or to the point from which it continues
 abbrev pub Works : Hand → ℕ → SeatView → List ReceiptView → List ReceiptView → SeatView → Option WorkEnd → Type 0
 Works hand most seat old new after end = (now : Hand) × AddsWork hand most seat old new after now × GoesOnWith now end
 

@@ -62,7 +62,7 @@ impl Locked {
     }
 }
 
-/// Ends the calls, where seats were made for so many callers: for a holder that knows by itself how many there are.
+/// Ends the calls, where seats were made for this number of callers: for a holder that knows by itself how many there are.
 pub fn close_for(
     locked: Locked,
     alloc: Global,
@@ -101,7 +101,7 @@ pub fn close_for(
     }
 }
 
-/// The counts of the calls, or what is first against seats and receipts. Want of memory comes last.
+/// The counts of the calls, or what is first against seats and receipts. Lack of memory comes last.
 fn check(
     alloc: Global,
     bench: &Bench,

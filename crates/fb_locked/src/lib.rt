@@ -1,4 +1,4 @@
-//! What lies under the lock of a shared workbench, with its calls; the seats of its callers, and the receipts of their calls.
+//! What is under the lock of a shared workbench, with its calls; the seats of its callers, and the receipts of their calls.
 #![tactic(auto)]
 
 mod callers;

@@ -1,4 +1,4 @@
-//! What lies under the lock, and the calls on it.
+//! What is under the lock, and the calls on it.
 ghost use Rattle.std.specs.Prelude.{◌≡◌, ◌≤◌, ◌+◌, true, false, IfOk, IfErr, OnOk, OnErr, None, Some, vec_len, vec_capacity};
 ghost use Rattle.fb_bench.specs.History.Machine.{ToCommit, ToTake, ToDeliver, ToGiveBack, ToAsk};
 ghost use Rattle.fb_bench.specs.Records.{listed};
@@ -29,7 +29,7 @@ pub enum SharedRefused {
     Memory,
 }
 
-/// What lies under the lock: a workbench, for how many callers seats were made, and the stop mark. The book of a caller is the
+/// What is under the lock: a workbench, for how many callers seats were made, and the stop mark. The book of a caller is the
 /// number of its calls, those before the start of the history included. Records from before a roll stay in `past` until they are dropped, some at
 /// each later call.
 #[derive(Drop)]
@@ -72,7 +72,7 @@ impl Locked {
         Ok((locked, seats))
     }
 
-    /// The workbench, with seats for so many callers, and no stop mark.
+    /// The workbench, with seats for this number of callers, and no stop mark.
     pub(crate) fn of(alloc: Global, bench: Bench, callers: u32) -> Locked
         ensures { result ≡ record { bench = bench; callers = callers; stopped = false } }
     {
@@ -171,7 +171,7 @@ impl Locked {
         }
     }
 
-    /// As `perform`, with its receipt behind those that are kept. Want of room for it refuses the call where nothing else does.
+    /// As `perform`, with its receipt after those that are kept. Lack of room for it refuses the call if nothing else does.
     pub fn perform_into(
         &mut self,
         seat: &mut Seat,
@@ -218,7 +218,7 @@ impl Locked {
         Ok((receipt, job_from(answer)))
     }
 
-    /// Takes a result in, if its key waits for one and all that it has read is as it was.
+    /// Takes a result in, if its key waits for one and all that it has read is unchanged.
     pub fn deliver(
         &mut self,
         seat: &mut Seat,

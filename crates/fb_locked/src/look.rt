@@ -63,7 +63,7 @@ impl Locked {
         }
     }
 
-    /// A look of a worker for a job. Where it takes one, there is room for the receipt by which that is settled.
+    /// A look of a worker for a job. If it takes one, there is room for the receipt by which that is settled.
     pub fn look(&mut self, seat: &mut Seat, receipts: &mut Vec<Receipt>) -> Look
         ensures looks { Looks self.old seat.old result receipts.old.items self.new seat.new
             receipts.new.items }
@@ -91,8 +91,8 @@ impl Locked {
         }
     }
 
-    /// Settles a job that was taken: its result is delivered, or its key given back where there is no result, or no memory to
-    /// deliver it. It tells what ends the worker; a result that is not accepted does not.
+    /// Settles a job that was taken: its result is delivered, or its key given back if there is no result, or no memory to
+    /// deliver it. It gives what ends the worker; a result that is not accepted does not.
     pub fn settle(
         &mut self,
         seat: &mut Seat,

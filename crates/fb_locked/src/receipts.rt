@@ -1,4 +1,5 @@
-//! Receipts against the records of a workbench.
+//! Receipts compared with the records of a workbench.
+//! A mark for each record finds receipts that come twice; without memory for marks all pairs are compared. So a lack of memory hides no fault.
 ghost use Rattle.std.specs.Prelude.{◌≡◌, ◌↔◌, false, length, replicate, IfOk, IsTrue};
 ghost use Rattle.fb_locked.specs.Closing.{IsReceiptRight, ChecksReceipts, has_number};
 

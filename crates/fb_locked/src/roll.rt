@@ -1,4 +1,4 @@
-//! A workbench under a lock whose history begins anew where it is full, and keys that are out since a take.
+//! A workbench under a lock whose history begins again once it is full, and keys that are out since a take.
 ghost use Rattle.std.specs.Prelude.{◌≡◌, ◌↔◌, ◌≤◌, IsTrue, OnOk, OnErr};
 ghost use Rattle.fb_bench.specs.History.Checkpoints.{checking, ChecksAs};
 ghost use Rattle.fb_bench.specs.History.Limits.{Bounds};
@@ -82,7 +82,7 @@ impl Locked {
         }
     }
 
-    /// Gives a key back, where it is out since the take of this number, and keeps the receipt. Otherwise nothing changes.
+    /// Gives a key back, if it is out since the take of this number, and keeps the receipt. Otherwise nothing changes.
     pub fn return_held(
         &mut self,
         seat: &mut Seat,
@@ -116,7 +116,7 @@ fn takes(it: &Record, key: &Key) -> bool
     }
 }
 
-/// Behind a roll with its own limits a workbench under a lock is as it was, but for its records, and a seat against which nothing but a full history was
+/// After a roll with its own limits a workbench under a lock is unchanged, but for its records, and a seat against which nothing but a full history was
 /// is one against which nothing is.
 pub fn rolls_are_unseen()
     ensures { (limits : Bounds) (locked : LockedView) → IsOrigin locked.bench.origin

@@ -23,7 +23,7 @@ pub data PlainPlaced : Type 0 where
   faulty : List Misplaced → PlainPlaced
   on : List Home → List Link → PlainPlaced
 
--- the same without where it lies in memory
+-- the same without its place in memory
 abbrev pub plain_placed : Placed → PlainPlaced
 plain_placed (placed.Stopped net) = stopped (plain_net net)
 plain_placed (placed.Faulty found) = faulty found.items
@@ -43,7 +43,7 @@ placed_by sources system (recursive names) = stopped (recursive names)
 placed_by sources system too_large = stopped too_large
 placed_by sources system (flat_net flat) = flat_placed sources system flat
 
--- the placement of a system: its net where that is not flat, what is misplaced if anything is, or the homes of its blocks and the links
+-- the placement of a system: its net if that is not flat, what is misplaced if anything is, or the homes of its blocks and the links
 -- between blocks with different homes
 pub record IsPlaced (sources : Sources) (system : List ℕ) (placed : PlainPlaced) : Type 0 where
   pub net : PlainNet

@@ -6,7 +6,7 @@ pub fn one_place()
     ensures { OnePlace }
 {}
 
-/// The placement of a system depends on the texts alone that the system rests on.
+/// The placement of a system depends only on the texts that the system rests on.
 pub fn place_is_local()
     ensures { PlaceIsLocal }
 {}

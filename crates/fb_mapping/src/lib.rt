@@ -1,4 +1,4 @@
-//! Where the blocks of a system stand (IEC 61499-1, clause 7: system configurations).
+//! On which resource each block of a system is (IEC 61499-1, clause 7: system configurations).
 #![tactic(auto)]
 
 mod laws;

@@ -9,7 +9,7 @@ use fb_placing::plain::{Flat, Link};
 use fb_placing::{Home, Homes, Misplaced, cuts_of, homes_of};
 use std::alloc::{AllocError, Global};
 
-/// Where the blocks of a system stand.
+/// On which resource each block of a system is.
 #[derive(Drop)]
 pub enum Placed {
     /// There is no flat network.
@@ -39,7 +39,7 @@ fn place_flat<V: View>(
     }
 }
 
-/// The resource on which each block of a system stands, by the longest path of a mapping that is the block's or in front of it, and the
+/// The resource on which each block of a system is, by the longest path of a mapping that is the block's or a prefix of it, and the
 /// links between resources; or why there is no flat network, or what is misplaced.
 pub fn place<V: View>(alloc: Global, view: &V, system: Name) -> Result<Placed, AllocError>
     requires { IsSystem (V.sources view.now) system }

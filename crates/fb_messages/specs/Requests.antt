@@ -50,7 +50,7 @@ put_in d =
 abbrev pub remove_in : Data → Option Change
 remove_in d = option_and_then (λ unit. option_map (removes unit) (number_at (codes "base") d)) (member_text (codes "remove") d)
 
--- by what stands under `put` and under `remove`: one of them alone
+-- by what is under `put` and under `remove`: one of them alone
 abbrev pub change_by : Option Data → Option Data → Data → Option Change
 change_by None None d = None
 change_by None (Some removed) d = remove_in d

@@ -38,7 +38,7 @@ pub enum Refusal {
     NotAlone,
 }
 
-/// What is said to a line.
+/// The reply to a line.
 pub enum Reply {
     Committed(u64),
     StaleBase { unit: Name, current: u64 },
@@ -200,7 +200,7 @@ impl ToJson for Reply {
 }
 
 impl Reply {
-    /// The reply's line, with its line feed, written over what `room` holds. Fails where there is no memory for it.
+    /// The reply's line, with its line feed, written over what `room` holds. Fails if there is no memory for it.
     pub fn line(&self, mut room: Vec<u8>) -> Result<Vec<u8>, AllocError>
         ensures { IfOk result (λ line. line.items ≡ reply_line (data_of self.now)) }
     {

@@ -212,8 +212,8 @@ fn request_by<'a>(
     }
 }
 
-/// The request that a value is, None where it is none: where its op is unknown, or a member is missing, is of another kind or out of its
-/// range. Fails where there is no memory for the changes of a commit.
+/// The request that a value is, or None: its op is unknown, or a member is missing, is of another kind or out of its
+/// range. Fails if there is no memory for the changes of a commit.
 #[tactic(auto, unfolding(crate::specs::Requests::request_in))]
 pub fn request_in(alloc: Global, value: &Value) -> Result<Option<Request<'_>>, AllocError>
     ensures { IfOk result (λ found. option_map request_view found ≡ request_in (view value.now)) }

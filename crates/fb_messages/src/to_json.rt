@@ -1,4 +1,5 @@
 //! What is written as JSON, token by token. The writer places the quotes, the colons and the commas.
+//! A reply is defined as the text of a JSON value (`reply_line`). Such a value in the code would cost a `String` for each path of a network.
 ghost use Rattle.std.specs.Prelude.{map};
 ghost use Rattle.serde_json.specs.Data.{Data, array, boolean, string};
 ghost use Rattle.serde_json.specs.View.{items_of};

@@ -75,7 +75,7 @@ port_in_role roles.Subapplication type_name = None
 abbrev pub adapter_port : DeclaredInstance → Option Port
 adapter_port i = port_in_role i.role i.type_name
 
--- the port of this sort that a name stands for
+-- the port of this sort that a name means
 abbrev pub port_in : Sort → Meanings → List ℕ → Option Port
 port_in sorts.Event m name = option_map event_port (stands_for m.events name)
 port_in sorts.Data m name = option_and_then data_port (stands_for m.variables name)
@@ -85,7 +85,7 @@ abbrev pub target_of : Holder → Option Port → Target
 target_of holder None = Unknown
 target_of holder (Some port) = Found holder port
 
--- a port of a type; what rests on a type that is not usable is not judged
+-- a port of a type; what rests on a type that is not usable is not checked
 abbrev pub target_in : Holder → Sort → Option Meanings → List ℕ → Target
 target_in holder sort None name = NotJudged
 target_in holder sort (Some m) name = target_of holder (port_in sort m name)
@@ -112,11 +112,11 @@ is_right position Unknown = false
 is_right position NotJudged = false
 is_right position (Found holder port) = same_side port.side (right_side position holder)
 
--- the name behind the point, or else the one before it
+-- the name after the point, or else the one before it
 abbrev pub last_name : NameUse → Option NameUse → NameUse
 last_name name None = name
 last_name name (Some port) = port
 
--- where an end stands
+-- the place of an end
 abbrev pub end_span : End → Span
 end_span end = record { start = end.name.span.start; end = (last_name end.name end.port).span.end }

@@ -18,7 +18,7 @@ abbrev pub network_faults : Sources → NetworkPlace → NetworkTree → List Fa
 network_faults sources here n =
     flat_map (connection_faults here) n.connections ++ flat_map (joined_types sources here) n.connections ++ second_sources n.connections ++ second_adapters n.connections ++ all_parameters here.scope n.instances
 
--- the network of a type, where it stands
+-- the network of a type, with its setting
 abbrev pub type_place : Sources → List ℕ → UnitKind → TypeTree → NetworkPlace × NetworkTree
 type_place sources unit kind d = (record { unit = unit; kind = kind; scope = scope_of_type sources d }, d.network)
 
@@ -35,7 +35,7 @@ networks_in sources unit (Some (subapplication_type d)) = type_place sources uni
 networks_in sources unit (Some (system_configuration s)) = map (application_place sources unit) s.applications
 networks_in sources unit (Some (structure_type s)) = []
 
--- the faults of a network, where it stands
+-- the faults of a network, with its setting
 abbrev pub placed_faults : Sources → NetworkPlace × NetworkTree → List Fault
 placed_faults sources placed = network_faults sources placed.0 placed.1
 

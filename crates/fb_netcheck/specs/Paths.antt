@@ -15,7 +15,7 @@ use Rattle.fb_iface.specs.declared.fault.Fault.{Fault}
 abbrev pub Path : Type 0
 Path = List (List ℕ)
 
--- a path where it stands
+-- a path with its place
 pub record PathUse : Type 0 where
   pub names : Path
   pub span : Span
@@ -50,6 +50,6 @@ repeated paths = passing_there (λ before p. has_path before p.names) paths
 abbrev pub fault_at_path : Code → PathUse → Fault
 fault_at_path code path = record { code = code; span = path.span }
 
--- a fault at each path that stands before its place too
+-- a fault at each path that is before its place too
 abbrev pub repeated_faults : Code → List PathUse → List Fault
 repeated_faults code paths = map (fault_at_path code) (repeated paths)

@@ -15,7 +15,7 @@ abbrev pub path_named : NameUse → Option NameUse → Path
 path_named name None = name.name ∷ []
 path_named name (Some port) = name.name ∷ port.name ∷ []
 
--- the names of an end, where it stands
+-- the names of an end, with its place
 abbrev pub end_path : End → PathUse
 end_path end = record { names = path_named end.name end.port; span = end_span end }
 

@@ -5,7 +5,7 @@ use Rattle.fb_iface.specs.Kept.{scope_in}
 use Rattle.fb_iface.specs.Scope.{Scope}
 use Rattle.fb_netcheck.specs.declared.setting.Setting.{Setting}
 
--- the unit, what it is, and what names stand for in the network
+-- the unit, what it is, and what names mean in the network
 pub record NetworkPlace : Type 0 where
   pub unit : List ℕ
   pub kind : UnitKind

@@ -13,7 +13,7 @@ use Rattle.fb_iface.specs.Library.Parts.{part}
 use Rattle.fb_iface.specs.Library.View.{Sources, text_or_empty}
 use Rattle.fb_iface.specs.Names.{is_same}
 
--- a token in upper case, with a blank behind it
+-- a token in upper case, with a blank after it
 abbrev pub word : List ℕ → Token → List ℕ
 word text t = str_to_ascii_uppercase (slice_range text t.span.start t.span.end) ++ 32 ∷ []
 
@@ -21,7 +21,7 @@ abbrev pub words_of : List ℕ → Result (List Token) Span → List ℕ
 words_of text (Ok tokens) = flat_map (word text) tokens
 words_of text (Err bad) = []
 
--- the tokens of a text in upper case, each with a blank behind it
+-- the tokens of a text in upper case, each with a blank after it
 abbrev pub words : List ℕ → List ℕ
 words text = words_of text (tokens_of text)
 

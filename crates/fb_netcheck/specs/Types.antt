@@ -28,7 +28,7 @@ home_of here name (Some port) = option_map_or (λ i. i.type_name.name) (stands_f
 abbrev pub home : NetworkPlace → End → List ℕ
 home here end = home_of here end.name end.port
 
--- whether what flows is of one type, where two types are compared by the test; a type that is not judged goes with each
+-- whether what flows is of one type, if two types are compared by the test; a type that is not checked goes with each
 abbrev pub flows_agree : (TypeUse → TypeUse → Bool) → Flow → Flow → Bool
 flows_agree same (Data a) (Data b) = is_free (class_of_type a) || is_free (class_of_type b) || same a b
 flows_agree same (Adapter a) (Adapter b) = is_same a.name b.name

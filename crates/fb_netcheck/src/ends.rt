@@ -10,7 +10,7 @@ use fb_iface::{DeclaredEvent, DeclaredInstance, DeclaredVariable, Ports, is_same
 use fb_tree::text::{Name, NameUse, Span, WideUse};
 use fb_tree::{End, Role, Section, Side, Sort, UnitKind, WideTypeUse};
 
-/// Where an end stands in its connection.
+/// The side of an end in its connection.
 #[derive(Clone, Copy, Debug, PartialEq, Eq)]
 pub enum Position {
     Source,
@@ -73,7 +73,7 @@ pub fn is_right_target(position: Position, target: &Target) -> bool
     }
 }
 
-/// Where an end stands.
+/// The place of an end.
 pub fn span_of(end: &End) -> Span
     ensures { result ≡ end_span end.now }
 {
@@ -137,7 +137,7 @@ fn held_by(kind: UnitKind, sort: Sort, role: Role) -> Option<Holder>
     }
 }
 
-/// A port of a type, where this is usable.
+/// A port of a type, if this is usable.
 fn target_at_type(holder: Holder, sort: Sort, ports: Option<&Ports>, name: &Name) -> Target
     ensures { result ≡ target_in holder sort (option_map (λ p. p.now) ports.entry) name.now }
 {
@@ -156,7 +156,7 @@ fn found(holder: Holder, port: Option<Port>) -> Target
     }
 }
 
-/// The port of this sort that a name stands for.
+/// The port of this sort that a name means.
 fn port_by_name(sort: Sort, ports: &Ports, name: &Name) -> Option<Port>
     ensures { result ≡ port_in sort ports.now name.now }
 {

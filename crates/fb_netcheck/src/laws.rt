@@ -2,14 +2,14 @@
 ghost use Rattle.fb_netcheck.specs.Clean.{ConnectionsAreRight, FaultlessNetworksAreClean};
 ghost use Rattle.fb_netcheck.specs.Local.{NetFaultsAreLocal};
 
-/// The faults of the networks of a unit depend on the texts of what is near it alone.
+/// The faults of the networks of a unit depend only on the texts of what is near it.
 pub fn net_faults_are_local()
     ensures { NetFaultsAreLocal }
 {}
 
 /// Where the networks of a unit have no faults, each connection joins ports of the right sides that are of one type, no own port of a
 /// subapplication is joined to another, each data destination has one source and each adapter end one other end. What rests on a type
-/// that is not usable is not judged.
+/// that is not usable is not checked.
 pub fn faultless_networks_are_clean()
     ensures { FaultlessNetworksAreClean }
 {}

@@ -46,7 +46,7 @@ fn report_in_instance(
     }
 }
 
-/// Reports the parameters of an instance whose type has these ports, where it is usable.
+/// Reports the parameters of an instance whose type has these ports, if it is usable.
 fn report_typed(
     ports: Option<&Ports>,
     parameters: &[Parameter],

@@ -1,4 +1,4 @@
-//! Paths that stand twice.
+//! Paths that occur twice.
 ghost use Rattle.std.specs.Prelude.{◌≡◌, ◌++◌, IfOk, OnOk, map};
 ghost use Rattle.fb_netcheck.specs.Paths.{PathUse, repeated_faults};
 
@@ -7,7 +7,7 @@ use fb_tree::text::{Name, Span};
 use std::alloc::{AllocError, Global};
 use std::collections::BTreeSet;
 
-/// What has a path, names with points between, where it stands.
+/// What has a path, names with points between, with its place.
 pub trait Placed {
     ghost path_of: { Self → PathUse };
 
@@ -15,12 +15,12 @@ pub trait Placed {
     fn path(&self, alloc: Global) -> Result<Vec<Name>, AllocError>
         ensures { IfOk result (λ path. path.items ≡ (path_of self.now).names) };
 
-    /// Where it stands.
+    /// Its place.
     fn place(&self) -> Span
         ensures { result ≡ (path_of self.now).span };
 }
 
-/// Reports each path that stands before its place too.
+/// Reports each path that is before its place too.
 pub fn report_repeated<T: Placed>(
     alloc: Global,
     code: Code,

@@ -1,10 +1,10 @@
-//! Where a network stands.
+//! The setting of a network.
 
 use fb_iface::Scope;
 use fb_tree::UnitKind;
 use fb_tree::text::Name;
 
-/// Where a network stands: the unit, what it is, and what names stand for in the network.
+/// The setting of a network: the unit, its kind, and what names mean in the network.
 pub struct Setting {
     pub unit: Name,
     pub kind: UnitKind,

@@ -70,7 +70,7 @@ fn key_of(unit: &Name, span: Span) -> (Name, (usize, usize))
     (*unit, (span.start, span.end))
 }
 
-/// The tokens of a part of a unit's text in upper case, each with a blank behind it.
+/// The tokens of a part of a unit's text in upper case, each with a blank after it.
 fn words_of_unit<V: View>(
     alloc: Global,
     view: &V,
@@ -108,7 +108,7 @@ fn is_spelled_alike<V: View>(
     }
 }
 
-/// The tokens of a text in upper case, each with a blank behind it.
+/// The tokens of a text in upper case, each with a blank after it.
 fn words_in(alloc: Global, text: &str) -> Result<Vec<u8>, AllocError>
     ensures { IfOk result (λ spelling. spelling.items ≡ words text.now) }
 {
@@ -130,7 +130,7 @@ fn spelled(alloc: Global, text: &str, tokens: &[Token]) -> Result<Vec<u8>, Alloc
     Ok(spelling)
 }
 
-/// Adds a token in upper case, with a blank behind it.
+/// Adds a token in upper case, with a blank after it.
 fn push_word(token: &str, spelling: &mut Vec<u8>) -> Result<(), AllocError>
     ensures { OnOk result
         (spelling.new.items ≡ spelling.old.items ++ (str_to_ascii_uppercase token.now ++ 32 ∷ [])) }

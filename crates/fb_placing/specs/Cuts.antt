@@ -16,8 +16,8 @@ same_home None (Some b) = false
 same_home (Some a) None = false
 same_home (Some a) (Some b) = bytes_eq a b
 
--- Whether the homes of the two ends differ, where blocks have these homes. The home of an end is that of its block, whose path stands
--- in front of it.
+-- Whether the homes of the two ends differ, where blocks have these homes. The home of an end is that of its block, whose path is
+-- a prefix of it.
 abbrev pub is_cut : (List ℕ → Option (List ℕ)) → Link → Bool
 is_cut homes link = not (same_home (nearest homes link.from) (nearest homes link.to))
 

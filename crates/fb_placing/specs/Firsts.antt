@@ -2,6 +2,6 @@
 use Rattle.std.specs.Prelude.{ℕ, List, Option, option_map, find}
 use Rattle.std.specs.Str.{bytes_eq}
 
--- what a text stands for: the value of the first item that has the text as its key
+-- what a text means: the value of the first item that has the text as its key
 abbrev pub first_at : {X Y : Type 0} → (X → List ℕ) → (X → Y) → List X → List ℕ → Option Y
 first_at key value items text = option_map value (find (λ item. bytes_eq (key item) text) items)

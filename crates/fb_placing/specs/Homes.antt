@@ -20,7 +20,7 @@ pub data PlainHomes : Type 0 where
   faulty_homes : List Misplaced → PlainHomes
   all_homes : List Home → PlainHomes
 
--- the same without where it lies in memory
+-- the same without its place in memory
 abbrev pub plain_homes : Homes → PlainHomes
 plain_homes (homes.Faulty found) = faulty_homes found.items
 plain_homes (homes.On list) = all_homes list.items
@@ -51,7 +51,7 @@ abbrev pub unless_faulty : List Misplaced → List Home → PlainHomes
 unless_faulty [] list = all_homes list
 unless_faulty (m ∷ ms) list = faulty_homes (m ∷ ms)
 
--- the homes of the blocks of a system, where nothing is misplaced
+-- the homes of the blocks of a system, if nothing is misplaced
 abbrev pub homes_of : Sources → List ℕ → List FlatBlock → PlainHomes
 homes_of sources system blocks =
     unless_faulty (misplaced sources system (tree_at sources system) blocks) (block_homes (resource_at (mappings_in (tree_at sources system))) blocks)

@@ -18,7 +18,7 @@ mapping_path m = printed (names_used m.path)
 abbrev pub mapping_home : MappingTree → List ℕ
 mapping_home m = dotted m.device.name m.resource.name
 
--- the resource of the mapping with that path, of the first one where there are several
+-- the resource of the mapping with that path, of the first one if there are several
 abbrev pub resource_at : List MappingTree → List ℕ → Option (List ℕ)
 resource_at mappings path = first_at mapping_path mapping_home mappings path
 

@@ -19,7 +19,7 @@ line_order l = record { resource = l.resource; command = l.command }
 abbrev pub connection_text : List ℕ → List ℕ → List ℕ
 connection_text from to = codes "CREATE CONNECTION " ++ from ++ 32 ∷ to
 
--- the resource on which both ends of a link stand, where blocks have these homes
+-- the resource on which both ends of a link are, where blocks have these homes
 abbrev pub link_resource : (List ℕ → Option (List ℕ)) → Link → Option (List ℕ)
 link_resource homes link = if same_home (nearest homes link.from) (nearest homes link.to) then nearest homes link.from else None
 

@@ -12,7 +12,7 @@ abbrev pub on_first : ℕ → List (List ℕ) → List (List ℕ)
 on_first b [] = []
 on_first b (name ∷ names) = (b ∷ name) ∷ names
 
--- the names of a path: what stands between its points
+-- the names of a path: what is between its points
 unfoldable pub path_names : List ℕ → List (List ℕ)
 path_names [] = [] ∷ []
 path_names (b ∷ bs) = if b == 46 then [] ∷ path_names bs else on_first b (path_names bs)
@@ -22,7 +22,7 @@ pub record PlainStanding : Type 0 where
   pub unit : List ℕ
   pub instance : InstanceTree
 
--- the same without where it lies in memory
+-- the same without its place in memory
 abbrev pub plain_standing : Standing → PlainStanding
 plain_standing s = record { unit = s.unit; instance = instance_tree s.instance.now }
 

@@ -1,4 +1,4 @@
-//! What is to be done on each resource of a system, and the links that are left.
+//! The commands for each resource of a system, and the links that are left.
 ghost use Rattle.std.specs.Prelude.{◌≡◌, ◌++◌, IfOk, List, OnOk, map, ℕ};
 ghost use Rattle.fb_library.specs.View.{tree_at};
 ghost use Rattle.fb_network.specs.Numbered.{link_numbered};

@@ -23,7 +23,7 @@ pub(crate) struct Created<'a> {
     pub resource: &'a Path,
 }
 
-/// The home of a block. The text is written anew.
+/// The home of a block. The text is written again.
 fn home_of_block<'a>(
     homes: &HomeTable<'a>,
     flat: &Flat,

@@ -1,4 +1,6 @@
 //! The homes of the ends of links. Those of links beside each other are often in one block.
+//! If no block is inside another one, which is looked up once for each plan, an end has the home of the block before its last point; otherwise each
+//! prefix is looked up, the longest first. Definitions allow any homes.
 ghost use Rattle.std.specs.Prelude.{◌≡◌, ◌++◌, IfOk, IsTrue, option_copied, string_bytes};
 ghost use Rattle.fb_network.specs.Fronts.{nearest};
 ghost use Rattle.fb_placing.specs.Points.{IsInside};
@@ -21,7 +23,7 @@ pub(crate) struct EndFinder<'a, 't> {
     ghost known: { IsKnown homes.now.by_path (string_bytes path) home },
 }
 
-/// Whether a path, of which these are the bytes of the two parts, stands in a block.
+/// Whether a path, of which these are the bytes of the two parts, is in a block.
 fn stands_in(start: &[u8], end: &[u8], block: &[u8]) -> bool
     ensures { IsTrue result → IsInside (start.now ++ end.now) block.now }
 {
@@ -50,7 +52,7 @@ impl<'a, 't> EndFinder<'a, 't> {
     }
 
     /// The home of the end whose path was not looked for before. Where no block stands inside another one, it is that of the block in front
-    /// of the last point, which is kept.
+    /// the last point, which is kept.
     fn look_up(&mut self) -> Result<Option<&'a Path>, AllocError>
         ensures homes { self.new.homes.now ≡ self.old.homes.now }
         ensures found { IfOk result (λ found. option_copied found

@@ -1,4 +1,4 @@
-//! Tables of what texts stand for, where the first of several counts.
+//! Tables of what texts mean, where the first of several counts.
 ghost use Rattle.std.specs.Prelude.{◌≡◌, ℕ, List, Some, None, if◌then◌else◌, OnOk, string_bytes};
 ghost use Rattle.std.specs.HashMap.{get_by_text};
 ghost use Rattle.std.specs.Option.{option_or};
@@ -7,7 +7,7 @@ ghost use Rattle.std.specs.Str.{bytes_eq};
 use std::alloc::AllocError;
 use std::collections::HashMap;
 
-/// Adds what a text stands for, where it stands for nothing yet.
+/// Adds the meaning of a text, if it has none yet.
 pub(crate) fn add_first<X: Drop>(
     table: &mut HashMap<String, X>,
     text: String,

@@ -20,7 +20,7 @@ use fb_tree::text::{Name, NameUse};
 use fb_tree::{Decl, Mapping};
 use std::alloc::{AllocError, Global};
 
-/// The path of a block, and the resource on which it stands, as `DEVICE.RESOURCE`.
+/// The path of a block, and the resource on which it is, as `DEVICE.RESOURCE`.
 #[derive(Debug)]
 pub struct Home {
     pub path: Path,
@@ -119,7 +119,7 @@ fn homeless(alloc: Global, table: &PathTable, blocks: &[FlatBlock]) -> Result<Ve
     Ok(paths)
 }
 
-/// The same of a flat network whose blocks have so many homes. Where each has one, none is looked for.
+/// The same of a flat network whose blocks have this number of homes. If each has one, no home is looked up.
 fn homeless_blocks(
     alloc: Global,
     table: &PathTable,

@@ -30,7 +30,7 @@ pub(crate) struct ResourceItems {
     pub items: Vec<Item>,
 }
 
-/// The command of that number. Behind the last one there is no text.
+/// The command of that number. After the last one there is no text.
 fn write_text(writes: &[Command], number: u32) -> &str
     ensures { result.now ≡ text_or_nothing (slice_get writes.now number) }
 {

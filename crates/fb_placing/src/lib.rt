@@ -1,4 +1,4 @@
-//! The resources on which the blocks of a system stand, the links between resources, and the commands of each resource (IEC 61499-1,
+//! The resource of each block of a system, the links between resources, and the commands of each resource (IEC 61499-1,
 //! clause 7: system configurations).
 #![tactic(auto)]
 

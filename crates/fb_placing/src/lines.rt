@@ -117,7 +117,7 @@ fn push_write_lines(
     Ok(())
 }
 
-/// Adds the commands that set the parameters of what stands at a home's path.
+/// Adds the commands that set the parameters of what is at a home's path.
 fn push_lines_of<V: View>(
     alloc: Global,
     resolver: &Resolver<'_, V>,

@@ -45,7 +45,7 @@ fn push_item(lists: &mut [Vec<Item>], place: usize, item: Item) -> Result<(), Al
     Ok(())
 }
 
-/// So many lists without items.
+/// This number of lists without items.
 fn empty_lists(alloc: Global, count: usize) -> Result<Vec<Vec<Item>>, AllocError>
     ensures items { IfOk result (λ lists. (k : ℕ) → k < count → items_at lists.items k ≡ Some []) }
     ensures count { IfOk result (λ lists. length lists.items ≡ count) }

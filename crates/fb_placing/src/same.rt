@@ -1,4 +1,4 @@
-//! Whether two plans say the same. It takes no memory.
+//! Whether two plans have the same content. It takes no memory.
 ghost use Rattle.std.specs.Prelude.{◌≡◌, ◌↔◌, IsTrue, map};
 ghost use Rattle.fb_tree.specs.Text.Order.{name_cmp};
 ghost use Rattle.fb_network.specs.LinkOrder.{link_cmp};
@@ -18,7 +18,7 @@ pub(crate) struct Subject<'a> {
     pub writes: &'a [Command],
 }
 
-/// The order of the paths where two links begin, each of a flat network of its own.
+/// The order of the paths at which two links begin, each of a flat network of its own.
 fn compare_froms(flat: &Flat, a: u32, other: &Flat, b: u32) -> Ordering
     ensures { result
         ≡ name_cmp (link_numbered flat.now a).from (link_numbered other.now b).from }
@@ -28,7 +28,7 @@ fn compare_froms(flat: &Flat, a: u32, other: &Flat, b: u32) -> Ordering
     compare_parts(start, end, other_start, other_end)
 }
 
-/// The order of the paths where two links end, each of a flat network of its own.
+/// The order of the paths at which two links end, each of a flat network of its own.
 fn compare_tos(flat: &Flat, a: u32, other: &Flat, b: u32) -> Ordering
     ensures { result ≡ name_cmp (link_numbered flat.now a).to (link_numbered other.now b).to }
 {

@@ -1,4 +1,5 @@
 //! Homes by the paths of blocks, none of which is copied.
+//! `nearest_spot` reads borrowed texts, and `nearest` of `fb_network` owned ones: a trait for both would be longer than their nine lines.
 ghost use Rattle.std.specs.Prelude.{◌≡◌, ℕ, List, IfOk, IsTrue, OnOk, Some, None, if◌then◌else◌, option_copied};
 ghost use Rattle.std.specs.Option.{option_or};
 ghost use Rattle.std.specs.Str.{bytes_eq};
@@ -13,7 +14,7 @@ use fb_network::Path;
 use std::alloc::{AllocError, Global};
 use std::collections::HashMap;
 
-/// Resources by the paths of the blocks that stand on them.
+/// Resources by the paths of the blocks that are on them.
 pub(crate) type Spots<'a> = HashMap<&'a str, &'a Path>;
 
 /// The same, and whether no block of these stands inside another one.
@@ -24,7 +25,7 @@ pub(crate) struct HomeTable<'a> {
     ghost are_apart: { IsTrue apart → AreApart (spot_at by_path) },
 }
 
-/// Adds what a path stands for, where it stands for nothing yet.
+/// Adds the meaning of a path, if it has none yet.
 fn add_spot<'a>(spots: &mut Spots<'a>, path: &'a str, resource: &'a Path) -> Result<(), AllocError>
     ensures { OnOk result ((q : List ℕ) → spot_at spots.new q
         ≡ option_or (spot_at spots.old q)
@@ -48,7 +49,7 @@ fn spots_of<'a>(alloc: Global, homes: &'a [Home]) -> Result<Spots<'a>, AllocErro
     Ok(spots)
 }
 
-/// What a path stands for.
+/// What a path means.
 pub(crate) fn spot<'a>(spots: &Spots<'a>, path: &str) -> Option<&'a Path>
     ensures { option_copied result ≡ spot_at spots.now path.now }
 {
@@ -58,7 +59,7 @@ pub(crate) fn spot<'a>(spots: &Spots<'a>, path: &str) -> Option<&'a Path>
     }
 }
 
-/// What the longest front of the path stands for, of those that stand for something.
+/// What the longest front of the path means, of those that mean something.
 pub(crate) fn nearest_spot<'a>(spots: &Spots<'a>, path: &str) -> Option<&'a Path>
     ensures { option_copied result ≡ nearest (spot_at spots.now) path.now }
 {
@@ -75,7 +76,7 @@ pub(crate) fn nearest_spot<'a>(spots: &Spots<'a>, path: &str) -> Option<&'a Path
     None
 }
 
-/// Whether no block of these stands inside another one. A path in front of several blocks beside each other is looked at once.
+/// Whether no block of these is inside another one. A path before several blocks beside each other is looked at once.
 fn are_apart(spots: &Spots<'_>, homes: &[Home]) -> bool
     requires { spot_at spots.now ≡ home_at homes.now }
     ensures { IsTrue result → AreApart (spot_at spots.now) }

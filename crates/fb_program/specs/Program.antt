@@ -1,6 +1,6 @@
 -- What a run of the program has said.
 use Rattle.std.specs.Prelude.{◌≡◌, ◌≤◌, ◌⊎◌, ℕ, [], List}
-use Rattle.fb_wire.specs.History.BenchView.{new_story}
+use Rattle.fb_wire.specs.History.BenchView.{new_bench}
 use Rattle.fb_wire.specs.Script.{IsPrefixOf, script}
 use Rattle.fb_wire.specs.History.Limits.{Bounds}
 use Rattle.fb_program.specs.Words.{Asks}
@@ -10,7 +10,7 @@ use Rattle.fb_program.specs.declared.program.Outcome.TheVariants.{Ended, Hosts, 
 
 -- what a new workbench of these limits says to the bytes, to caller 1
 abbrev pub said_to : Bounds → List ℕ → List ℕ
-said_to limits bytes = (script 1 (new_story limits.units limits.history) bytes).out
+said_to limits bytes = (script 1 (new_bench limits.units limits.history) bytes).out
 
 -- by status: all of it, or a prefix of it
 abbrev pub BenchSays : Bounds → ℕ → List ℕ → List ℕ → Type 0

@@ -1,4 +1,4 @@
-//! The program's words.
+//! The program's arguments.
 ghost use Rattle.std.specs.Prelude.{◌≡◌, ◌≤◌, IfOk, IfSome, List, codes, false, map, true};
 ghost use Rattle.clap.specs.Words.{app_of, found_of, rows_of, rule_of, subcommand_rows_of};
 ghost use Rattle.fb_program.specs.Words.{AreLimitsIn, Asks, IsAsked, IsHost, IsNumberIn, IsScript, IsServe, bench_app, history_option, idle_option, number_option, port_option, secret_option, units_option, workers_option};

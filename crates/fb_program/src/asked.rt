@@ -5,11 +5,11 @@ use fb_wire::bench::Limits;
 /// What a server is asked to be.
 #[derive(Clone, Copy)]
 pub struct ServerSettings {
-    /// Where it listens, or 0 for any free port.
+    /// The port that it listens on, or 0 for any free one.
     pub port: u16,
     /// How many workers there are.
     pub workers: u8,
-    /// How many connections are let in.
+    /// The number of connections after which it closes.
     pub sessions: u8,
     /// How many units there may be, and how many calls may be recorded.
     pub limits: Limits,
@@ -18,7 +18,7 @@ pub struct ServerSettings {
 /// What a server that stays is asked to be.
 #[derive(Clone, Copy)]
 pub struct HostSettings<'a> {
-    /// Where it listens, or 0 for any free port.
+    /// The port that it listens on, or 0 for any free one.
     pub port: u16,
     /// How many workers there are.
     pub workers: u8,
@@ -28,7 +28,7 @@ pub struct HostSettings<'a> {
     pub limits: Limits,
     /// The file whose first line connections have to say first.
     pub secret: Option<&'a str>,
-    /// How many minutes a session may be silent, or 0 where it may be so for ever.
+    /// How many minutes a session may be silent, or 0 if it may be so forever.
     pub idle: u64,
     /// After how many connections it closes.
     pub connections: u64,

@@ -1,4 +1,4 @@
-//! The words of the program, as what they ask for, and what the program does over the streams that it is given.
+//! The arguments of the program, and what it does with the streams that it gets.
 #![tactic(auto)]
 
 mod arguments;

@@ -1,4 +1,4 @@
-//! The program, over the streams that it is given.
+//! The program, over the streams that it gets.
 ghost use Rattle.std.specs.Prelude.{◌≡◌, ◌≢◌, ◌<◌, ◌≤◌, ◌++◌, ℕ, List, false, map};
 ghost use Rattle.std.specs.Io.KnownBytes.{IsAtEnd};
 ghost use Rattle.std.specs.declared.io.ErrorKind.TheVariants.{InvalidData};
@@ -26,7 +26,7 @@ const FAILED: u8 = 1;
 /// The words ask for nothing that the program does, or for help.
 const MISUSED: u8 = 2;
 
-/// What a run comes to.
+/// The result of a run.
 #[derive(Clone, Copy)]
 pub enum Outcome<'a> {
     /// It is over, with this status of the program.
@@ -69,7 +69,7 @@ fn script<F: Feed, S: Sink, E: Write>(
     }
 }
 
-/// Refuses words that ask for nothing, with the text of the command line reader. Where memory ran out for them nothing is said.
+/// Refuses words that ask for nothing, with the text of the command line reader. If memory ran out for them nothing is printed.
 fn refuse<E: Write>(error: &Error, errors: &mut E) -> u8
     ensures some { 0 < result }
     ensures status { result ≤ 2 }
@@ -82,7 +82,7 @@ fn refuse<E: Write>(error: &Error, errors: &mut E) -> u8
     MISUSED
 }
 
-/// Refuses words that could not be read, since one of them is no UTF-8, or memory ran out, of which nothing is said.
+/// Refuses words that could not be read, since one of them is no UTF-8, or memory ran out, and then nothing is printed.
 pub fn refuse_words<E: Write>(kind: io::ErrorKind, errors: &mut E) -> u8
     ensures text { kind ≡ InvalidData → result ≡ 2 }
     ensures memory { kind ≢ InvalidData → result ≡ 1 }

@@ -1,4 +1,4 @@
-//! The secret that connections have to say first.
+//! The secret that connections must send first.
 ghost use Rattle.std.specs.Prelude.{◌≡◌, ◌≤◌, IfSome, length, take};
 
 use std::io::Write;
@@ -6,7 +6,7 @@ use std::io::Write;
 /// How many bytes a secret may have.
 const MOST_SECRET: usize = 4_096;
 
-/// The first line of a file, where it has 1 to 4,096 bytes.
+/// The first line of a file, if it has 1 to 4,096 bytes.
 pub fn secret_in(bytes: &[u8]) -> Option<&[u8]>
     ensures prefix { IfSome result (λ line. line.now ≡ take (length line.now) bytes.now) }
     ensures some { IfSome result (λ line. 1 ≤ length line.now) }

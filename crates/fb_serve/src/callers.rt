@@ -20,7 +20,7 @@ use std::time::Clock;
 /// How many reads a session, and how many looks a worker may make.
 const TURNS: u64 = 1_000_000_000;
 
-/// A session that did not come to the end of its input.
+/// A session that did not reach the end of its input.
 #[derive(Clone, Copy)]
 pub(crate) struct SessionFault {
     pub(crate) caller: u32,
@@ -106,7 +106,7 @@ struct Started {
 }
 
 /// Runs the sessions of the connections that come, one for each seat, with workers beside them, and
-/// joins them all. Once a thread is not started, no further connection is let in. A fault of a session is told at once.
+/// joins them all. Once a thread is not started, no further connection is admitted. A fault of a session is printed at once.
 pub(crate) fn run_callers<R: Threads + Wait + Clock + Sync, E: Write>(
     rt: &R,
     alloc: Global,
@@ -164,7 +164,7 @@ fn start_door<'s, E, R: Threads + Wait + Sync>(
         .ok()
 }
 
-/// What the sessions left; nothing whole where no connection could be let in.
+/// What the sessions left; nothing whole if no connection could be let in.
 fn join_door<R: Threads>(rt: &R, alloc: Global, door: Option<JoinHandle<Results>>) -> Results {
     match door {
         Some(thread) => thread.join(rt),

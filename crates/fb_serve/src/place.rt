@@ -1,4 +1,4 @@
-//! The place of a caller: its seat, the receipts of its calls, and the keys that it is to give back.
+//! The place of a caller: its seat, the receipts of its calls, and the keys that it must give back.
 ghost use Rattle.std.specs.Prelude.{◌≡◌, []};
 ghost use Rattle.fb_serve.specs.Places.{AddsRun};
 
@@ -14,7 +14,7 @@ pub struct Held {
     pub since: u64,
 }
 
-/// A seat, the keys that were taken there and are to be given back, and the receipts of its calls that nobody else keeps.
+/// A seat, the keys that were taken there and must be given back, and the receipts of its calls that nobody else keeps.
 #[derive(Drop)]
 pub struct Place {
     pub seat: Seat,
@@ -49,7 +49,7 @@ pub fn forget(held: &mut Vec<Held>, key: &Key) {
     held.retain(|it| it.key != *key);
 }
 
-/// Gives back the last key that is held, if it is still out since it was taken. If the call is refused, the key stays held. It tells whether to go on.
+/// Gives back the last key that is held, if it is still out since it was taken. If the call is refused, the key stays held. The result is whether to continue.
 #[tactic(auto, using(crate::proofs::Places::adds))]
 fn give_back_last<R: Wait>(rt: &R, shared: &Shared, place: &mut Place) -> bool
     ensures { AddsRun place.old.seat place.old.receipts.items

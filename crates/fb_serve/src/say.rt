@@ -8,7 +8,7 @@ use std::alloc::Global;
 use std::io::Write;
 use std::net::TcpListener;
 
-/// Tells where the server listens. It fails where this is not known or not written.
+/// Prints the address of the server. It fails if this is not known or not written.
 pub fn greet<S: Sink>(alloc: Global, listener: &TcpListener, out: &mut S) -> Result<(), Failed>
     requires { S.has_failed out.old ≡ false }
     ensures held { (port : ℕ) × (port < 2 ^ 16)
@@ -25,7 +25,7 @@ pub fn greet<S: Sink>(alloc: Global, listener: &TcpListener, out: &mut S) -> Res
     write_all(out, line.as_bytes())
 }
 
-/// Tells the fault of a session.
+/// Prints the fault of a session.
 pub fn say_fault<E: Write>(errors: &mut E, caller: u32, fault: Fault) {
     let _ = writeln!(errors, "session {caller}: {fault}");
 }

@@ -1,4 +1,4 @@
-//! The server, on the listener that it is given.
+//! The server, on the listener that it gets.
 ghost use Rattle.std.specs.Prelude.{◌≡◌, ◌+◌, if◌then◌else◌, All, IfOk, OnOk, false, is_ok, true};
 ghost use Rattle.fb_shared.specs.Locked.Book.{IsBookOf};
 ghost use Rattle.fb_serve.specs.Lines.{SaysLines};
@@ -17,7 +17,7 @@ use std::sync::Wait;
 use std::thread::Threads;
 use std::time::Clock;
 
-/// How many callers of each sort a server has, and the limits of its workbench. Callers 1 to `sessions` are sessions, those behind them workers.
+/// How many callers of each sort a server has, and the limits of its workbench. Callers 1 to `sessions` are sessions, those after them workers.
 #[derive(Clone, Copy)]
 pub struct ServerConfig {
     pub workers: u8,
@@ -40,7 +40,7 @@ impl Drop for Served {
     }
 }
 
-/// A server that did not come to its close, since the listener, a thread, a printed line, memory or the close failed.
+/// A server that did not reach its close, since the listener, a thread, a printed line, memory or the close failed.
 #[derive(Clone, Copy, Debug, PartialEq, Eq)]
 pub struct NotServed;
 
@@ -50,7 +50,7 @@ impl From<AllocError> for NotServed {
     }
 }
 
-/// How a server ended: the status of the program, 0 if it came to its close and 1 if not, and the close.
+/// How a server ended: the status of the program, 0 if it reached its close and 1 if not, and the close.
 pub struct Ended {
     pub status: u8,
     pub served: Result<Served, NotServed>,
@@ -66,7 +66,7 @@ impl Drop for Ended {
 }
 
 impl Ended {
-    /// The end of a server that came to this.
+    /// The end of a server with this result.
     pub fn of(served: Result<Served, NotServed>) -> Ended
         ensures served { result.served ≡ served }
         ensures status { result.status ≡ (if is_ok served then 0 else 1) }
@@ -77,7 +77,7 @@ impl Ended {
 }
 
 /// Lets in as many connections as there are sessions, with workers beside them, and closes when all sessions have ended. Where a thread or
-/// a connection fails, it lets no further one in. A fault of a session is told on `errors` at once, and the others go on.
+/// a connection fails, it lets no further one in. A fault of a session is printed on `errors` at once, and the others continue.
 pub fn serve_sessions<R: Threads + Wait + Clock + Sync, E: Write>(
     rt: &R,
     alloc: Global,
@@ -137,7 +137,7 @@ fn close(alloc: Global, shared: Shared, results: Results) -> Result<Served, NotS
     }
 }
 
-/// Prints where it listens, serves its sessions, and prints that it is closed.
+/// Prints its address, serves its sessions, and prints that it is closed.
 fn serve_and_close<R: Threads + Wait + Clock + Sync, S: Sink, E: Write>(
     rt: &R,
     alloc: Global,
@@ -167,7 +167,7 @@ fn serve_and_close<R: Threads + Wait + Clock + Sync, S: Sink, E: Write>(
     }
 }
 
-/// Prints where it listens, serves its sessions, and prints that it is closed. Where something fails it comes back once the sessions that run
+/// Prints its address, serves its sessions, and prints that it is closed. If something fails it returns once the sessions that run
 /// have ended and the workers are stopped and joined.
 pub fn serve_on<R: Threads + Wait + Clock + Sync, S: Sink, E: Write>(
     rt: &R,

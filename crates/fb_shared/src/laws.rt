@@ -10,13 +10,13 @@ pub fn numbers_rise_with_turns()
     ensures { (bench : BenchView) → AreTurns bench → NumbersRise bench }
 {}
 
-/// A caller whose receipts are as many as its records since the start has shown them all: of each of these records there is a receipt.
+/// A caller with one receipt for each of its records since the start has shown them all: each of these records has a receipt.
 pub fn all_calls_are_shown()
     ensures { (bench : BenchView) (receipts : List ReceiptView) → AreReceiptsRight bench receipts
         → EnoughShowAll bench receipts }
 {}
 
-/// The seats that a workbench is resumed with fit it: nothing is against the next call with one of them but a full history, or want of memory.
+/// The seats that a workbench is resumed with fit it: nothing is against the next call with one of them but a full history, or lack of memory.
 pub fn resumed_seats_fit()
     ensures { (locked : LockedView) (n : ℕ) (seats : List SeatView) → AreSeatsAt locked.bench n seats
         → (k : ℕ) (seat : SeatView) → slice_get seats k ≡ Some seat → IsUpToDate locked seat }

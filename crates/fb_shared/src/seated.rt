@@ -5,7 +5,7 @@ use fb_locked::{Receipt, Seat, SharedRefused};
 use std::marker::Model;
 use std::sync::Wait;
 
-/// A shared workbench as the desk of one seat. Each call that is answered adds its receipt behind those that there are.
+/// A shared workbench as the desk of one seat. Each call that is answered adds its receipt after those that there are.
 #[derive(Drop)]
 pub struct Seated<'a, R: Wait> {
     pub rt: &'a R,

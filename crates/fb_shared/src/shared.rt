@@ -1,4 +1,4 @@
-//! The workbench that threads share, behind its lock.
+//! The workbench that threads share, under its lock.
 ghost use Rattle.std.specs.Prelude.{◌≡◌, None, IfErr, IfOk, OnOk};
 ghost use Rattle.fb_locked.specs.History.Machine.{ToCommit, ToTake, ToDeliver, ToGiveBack, ToAsk};
 ghost use Rattle.fb_locked.specs.Bench.Records.{listed};
@@ -17,8 +17,8 @@ use std::alloc::{AllocError, Global};
 use std::marker::Model;
 use std::sync::{Condvar, Mutex, MutexGuard, Wait};
 
-/// A workbench that threads share. Each call holds the lock once. For how many callers seats were made stands beside the lock, and with which limits
-/// a full history begins anew, if it ever does.
+/// A workbench that threads share. Each call holds the lock once. For how many callers seats were made is beside the lock, and with which limits
+/// a full history begins again, if it ever does.
 pub struct Shared {
     pub(crate) state: Mutex<Locked>,
     pub(crate) callers: u32,
@@ -87,7 +87,7 @@ impl Shared {
         Ok((shared, seats))
     }
 
-    /// As `new`, with a history that begins anew where it is full: before each call a full one is made what has led to it, with the same limits.
+    /// As `new`, with a history that begins again if it is full: before each call a full one is made what has led to it, with the same limits.
     pub fn rolling(
         alloc: Global,
         limits: Limits,
@@ -177,7 +177,7 @@ impl Shared {
         answer
     }
 
-    /// Takes a result in, if its key waits for one and all that it has read is as it was.
+    /// Takes a result in, if its key waits for one and all that it has read is unchanged.
     pub fn deliver<R: Wait>(
         &self,
         rt: &R,
@@ -217,7 +217,7 @@ impl Shared {
         answer
     }
 
-    /// Makes a call, and keeps its receipt behind the others.
+    /// Makes a call, and keeps its receipt after the others.
     pub(crate) fn perform_into<R: Wait>(
         &self,
         rt: &R,
@@ -234,7 +234,7 @@ impl Shared {
         answer
     }
 
-    /// Gives a key back, if it is out since the take of this number, and keeps the receipt behind the others.
+    /// Gives a key back, if it is out since the take of this number, and keeps the receipt after the others.
     pub fn give_back_held<R: Wait>(
         &self,
         rt: &R,

@@ -28,9 +28,9 @@ impl Gate for Plain {
 }
 
 /// Takes jobs, runs each by the gate with no lock held, and delivers the result, at most as often as there are turns. A turn is one look for a
-/// job; where there is nothing to take it waits for a change. Before each take the first of these ends it: no turn left, the stop
+/// job; if there is nothing to take it waits for a change. Before each take the first of these ends it: no turn left, the stop
 /// mark, a seat that differs, a seat that has seen more than there is, a full history. A result that is not accepted does not
-/// end it; want of memory does, and then it gives the key back where it can.
+/// end it; lack of memory does, and then it gives the key back if it can.
 pub fn work_on<R: Wait, G: Gate>(
     rt: &R,
     alloc: Global,
@@ -53,7 +53,7 @@ pub fn work_on<R: Wait, G: Gate>(
     WorkEnd::TurnsOver
 }
 
-/// One look for a job and, where there is one, its run.
+/// One look for a job and, if there is one, its run.
 fn work_turn<R: Wait, G: Gate>(
     rt: &R,
     alloc: Global,
@@ -72,7 +72,7 @@ fn work_turn<R: Wait, G: Gate>(
     }
 }
 
-/// Takes a job under one hold of the lock; where there is none, it waits for a change.
+/// Takes a job under one hold of the lock; if there is none, it waits for a change.
 fn take_job<R: Wait>(rt: &R, shared: &Shared, seat: &mut Seat, receipts: &mut Vec<Receipt>) -> Look
     ensures adds { AddsLook result seat.old receipts.old.items receipts.new.items seat.new }
     ensures names { LookNames seat.new result }
@@ -107,7 +107,7 @@ fn finish<R: Wait, G: Gate>(
     }
 }
 
-/// Delivers a result, or gives the key of the job back where there is none, or no memory for it.
+/// Delivers a result, or gives the key of the job back if there is none, or no memory for it.
 fn settle<R: Wait>(
     rt: &R,
     shared: &Shared,

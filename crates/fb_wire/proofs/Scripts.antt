@@ -36,7 +36,7 @@ call_is caller bench call BehindHistory new step = absurd step
 
 -- a checkpoint gives its answer, and leaves the workbench as it is after it
 pub checkpoint_is : (bench : BenchView) (limits : Bounds) (answer : CheckpointAnswer) (new : BenchView) → IsCheckpointStep bench limits answer new → (answer ≡ checkpoint_from bench limits) × (new ≡ bench_anew bench limits)
-checkpoint_is bench limits (Checked checking) new step = (ap Checked step.0, step.1 ∙ ap (λ c. story_checked c limits bench) step.0)
+checkpoint_is bench limits (Checked checking) new step = (ap Checked step.0, step.1 ∙ ap (λ c. bench_checked c limits bench) step.0)
 checkpoint_is bench limits SharedHistory new step = absurd step
 
 -- what a plan asks leads to what it is told

@@ -114,7 +114,7 @@ job_at held (suc place) = slice_get held place
 abbrev pub deliver_plan : Jobs → ℕ → Plan
 deliver_plan held number = deliver_held held (job_at held number)
 
--- after an answer to a delivery: the count of accepted results goes on, or the work is refused
+-- after an answer to a delivery: the count of accepted results continues, or the work is refused
 abbrev pub after_deliver : Jobs → ℕ → (ℕ → Plan) → Answer → Plan
 after_deliver held count more (Replied (OfDeliver Accepted)) = more (count + 1)
 after_deliver held count more (Replied _) = more count
@@ -128,7 +128,7 @@ after_take held count more (Replied _) = says (work_done count) held
 after_take held count more FullHistory = says (work_refused count (refusal_text because.HistoryFull)) held
 after_take held count more BehindHistory = says (work_refused count (refusal_text because.Behind)) held
 
--- take, run and deliver, at most so many times; this many results were accepted before
+-- take, run and deliver, at most this number of times; this many results were accepted before
 unfoldable pub work_plan : Jobs → ℕ → ℕ → Plan
 work_plan held zero count = says (work_done count) held
 work_plan held (suc turns) count = asks ToTake (after_take held count (work_plan held turns))
@@ -145,13 +145,13 @@ plan_of held (Some (asked.checkpoint limits)) = checkpoint_once held limits
 
 -- ---- lines
 
--- what one line asks and is told, with the jobs that are held before it and after it
+-- what one line asks and gets, with the jobs that are held before it and after it
 abbrev pub AnswersLine : List ℕ → Jobs → List Exchange → List ℕ → Jobs → Type 0
 AnswersLine line held pairs out after =
     MatchBool (is_blank line) ((pairs ≡ []) × (out ≡ []) × (after ≡ held))
     ((reply : Data) × Leads (plan_of held (request_of line)) pairs (says reply after) × (out ≡ reply_line reply))
 
--- some of what one line asks, and the part of its reply that was written; a blank line asks and is told nothing
+-- some of what one line asks, and the part of its reply that was written; a blank line asks and gets nothing
 abbrev pub LinePart : (Plan → List ℕ → Type 0) → List ℕ → Jobs → List Exchange → List ℕ → Type 0
 LinePart IsPart line held begun part =
     MatchBool (is_blank line) ((begun ≡ []) × (part ≡ []))

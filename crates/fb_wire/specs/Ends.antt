@@ -39,7 +39,7 @@ IsPrefixOfReply rest part = (reply : Data) × (held : Jobs) × (n : ℕ) × (res
 abbrev pub IsNothing : Plan → List ℕ → Type 0
 IsNothing rest part = part ≡ []
 
--- what stands at each end, by the bytes that were read, the calls and checkpoints with their answers, and what was written
+-- what holds at each end, by the bytes that were read, the calls and checkpoints with their answers, and what was written
 abbrev pub OutputAt : RunEnd → List ℕ → List Exchange → List ℕ → Type 0
 OutputAt End bytes pairs out = AnsweredAll bytes pairs out
 OutputAt ReadFailed bytes pairs out = AnsweredEnded bytes pairs out
@@ -56,7 +56,7 @@ IsBetweenLines _ = Unit {0}
 
 -- ---- what is said and done by an end
 
--- what a reader and a writer tell: what was read and is left, how often was read, what was written, and what has failed or is flushed
+-- what a reader and a writer show: what was read and is left, the number of reads, what was written, and what has failed or is flushed
 pub record Streams : Type 0 where
   pub given : List ℕ
   pub left : Option (List ℕ)
@@ -78,7 +78,7 @@ streams given left reads read_has_failed held is_flushed write_has_failed reader
   write_has_failed = write_has_failed writer;
 }
 
--- At the end of the input nothing is left. No more was read than the turns, and as often where these are over. Each read gave something but for the
+-- At the end of the input nothing is left. The reads are at most the turns, and equal to them if these are over. Each read gave something but for the
 -- last one, after which nothing is read; where the turns are over, that one too. A read or a write has failed exactly where the end says so, and else
 -- all that was written is flushed, if it was before.
 pub record ShowsEnd (end : RunEnd) (turns : ℕ) (old new : Streams) : Type 0 where
@@ -91,7 +91,7 @@ pub record ShowsEnd (end : RunEnd) (turns : ℕ) (old new : Streams) : Type 0 wh
   pub flushed : StaysFlushed old.is_flushed new.write_has_failed new.is_flushed
   pub write_failed : IsTrue new.write_has_failed ↔ (end ≡ WriteFailed)
 
--- what was read, asked and written is what stands at this end, which the reader and the writer show
+-- what was read, asked and written is what holds at this end, as the reader and the writer show it
 pub record IsConversation (end : RunEnd) (turns : ℕ) (old new : Streams) : Type 0 where
   pub bytes : List ℕ
   pub pairs : List Exchange

@@ -56,13 +56,13 @@ checking_said (KeptUpTo before) = checkpointed before
 checking_said (OverUnits units) = refused (refusal_text because.UnitsOver)
 checking_said OverNumbers = refused (refusal_text because.NumbersOver)
 
--- what is said to an answer; a job gets this number
+-- the reply to an answer; a job gets this number
 abbrev pub said_to : ℕ → Answer → Data
 said_to n (Replied reply) = reply_said n reply
 said_to n FullHistory = refused (refusal_text because.HistoryFull)
 said_to n BehindHistory = refused (refusal_text because.Behind)
 
--- what is said to the answer to a checkpoint
+-- the reply to the answer to a checkpoint
 abbrev pub checkpoint_said : CheckpointAnswer → Data
 checkpoint_said (Checked checking) = checking_said checking
 checkpoint_said SharedHistory = refused (refusal_text because.NotAlone)

@@ -21,15 +21,15 @@ answer_from bench call = if nat_lt (length bench.log.records) bench.log.limit th
 abbrev pub bench_after : ℕ → BenchView → Call → BenchView
 bench_after caller bench call = if nat_lt (length bench.log.records) bench.log.limit then recorded bench caller call else bench
 
--- the answer to a checkpoint: what it comes to
+-- the answer to a checkpoint: its result
 abbrev pub checkpoint_from : BenchView → Bounds → CheckpointAnswer
 checkpoint_from bench limits = Checked (checking limits bench)
 
--- the workbench after it: the history begins anew, or nothing has changed
+-- the workbench after it: the history begins again, or nothing has changed
 abbrev pub bench_anew : BenchView → Bounds → BenchView
-bench_anew bench limits = story_checked (checking limits bench) limits bench
+bench_anew bench limits = bench_checked (checking limits bench) limits bench
 
--- what a line has come to: its reply, the jobs that are held and the workbench
+-- the result of a line: its reply, the jobs that are held and the workbench
 pub record LineResult : Type 0 where
   pub reply : Data
   pub held : Jobs
@@ -46,7 +46,7 @@ pub record Script : Type 0 where
   pub out : List ℕ
   pub bench : BenchView
 
--- a reply, and what is said to the lines behind its line
+-- a reply, and the replies to the lines after its line
 abbrev pub reply_before : LineResult → (Jobs → BenchView → Script) → Script
 reply_before line more = let rest = more line.held line.bench in record { out = reply_line line.reply ++ rest.out; bench = rest.bench }
 
@@ -57,14 +57,14 @@ script_from caller (line ∷ lines) held bench =
     if is_blank line then script_from caller lines held bench
     else reply_before (line_result caller (plan_of held (request_of line)) bench) (script_from caller lines)
 
--- all that is said to the bytes, and the workbench then
+-- all replies to the bytes, and the workbench then
 unfoldable pub script : ℕ → BenchView → List ℕ → Script
 script caller bench bytes = script_from caller (lines_of bytes) [] bench
 
 abbrev pub IsPrefixOf : List ℕ → List ℕ → Type 0
 IsPrefixOf prefix all = (rest : List ℕ) × (all ≡ prefix ++ rest)
 
--- A prefix of what the script says was said; at the end of the input all of it, and the workbench is as after it.
+-- A prefix of what the script gives was written; at the end of the input all of it, and the workbench is as after it.
 abbrev pub SaysBy : RunEnd → ℕ → BenchView → List ℕ → List ℕ → BenchView → Type 0
 SaysBy stop caller bench bytes out new =
     IsPrefixOf out (script caller bench bytes).out

@@ -1,4 +1,4 @@
-//! What is asked of a desk for a request, and what is said.
+//! The calls of a desk for a request, and the reply.
 ghost use Rattle.std.specs.Prelude.{◌≡◌, ℕ, Some, length, map, option_map};
 ghost use Rattle.std.specs.Option.{option_copied};
 ghost use Rattle.std.specs.Result.{result_ok};
@@ -27,7 +27,7 @@ use std::alloc::{AllocError, Global};
 /// How many jobs a run may hold.
 const MOST_HELD: usize = 64;
 
-/// The word for why a desk does not record a call, or want of memory.
+/// The word for why a desk does not record a call, or lack of memory.
 fn refusal_of(refused: DeskRefused) -> Result<Refusal, AllocError>
     ensures { result_ok result ≡ refusal_for refused }
 {
@@ -216,7 +216,7 @@ fn answer_number<D: Desk>(
 #[derive(Clone, Copy)]
 pub(crate) enum Round {
     Accepted,
-    /// The result was refused as any result may be, and the work goes on.
+    /// The result was refused as any result may be, and the work continues.
     Refused,
     /// There was nothing to take.
     Nothing,

@@ -1,11 +1,12 @@
 //! Why a run fails.
+//! The texts are here because `fb_program` and `fb_serve` both print them.
 ghost use Rattle.std.specs.Prelude.{◌≡◌};
 ghost use Rattle.fb_wire.specs.Faults.{fault_of};
 
 use crate::end::RunEnd;
 use thiserror::Error;
 
-/// Why a run did not come to the end of its input.
+/// Why a run did not reach the end of its input.
 #[derive(Clone, Copy, Debug, PartialEq, Eq, Error)]
 pub enum Fault {
     #[error("line too long")]

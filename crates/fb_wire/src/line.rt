@@ -1,4 +1,4 @@
-//! What is said to one line.
+//! The reply to one line.
 ghost use Rattle.std.specs.Prelude.{◌≡◌, ◌↔◌, [], IfErr, IfOk, IsTrue, false, is_err, true};
 ghost use Rattle.fb_bench.specs.Calls.{Exchanges};
 ghost use Rattle.fb_wire.specs.Lines.{is_blank};

@@ -15,7 +15,7 @@ use std::alloc::Global;
 /// How long a line may be.
 const MAX_LINE: usize = 1_048_576;
 
-/// How many bytes stand before the first line feed.
+/// How many bytes are before the first line feed.
 #[tactic(auto, using(crate::proofs::Cuts::is_line_more, crate::proofs::Cuts::take_feed))]
 fn line_len(bytes: &[u8]) -> usize
     ensures within { result ≤ length bytes.now }

@@ -81,7 +81,7 @@ fn take_turn<F: Feed, S: Sink, D: Desk>(
 }
 
 /// Answers the lines of the reader, in order, by the calls of the desk, and writes the replies. A turn is one
-/// read. If the turns are over before the end of the input, the reader can go on.
+/// read. If the turns are over before the end of the input, the reader can continue.
 pub fn run_lines<F: Feed, S: Sink, D: Desk>(
     alloc: Global,
     reader: &mut F,

@@ -11,7 +11,7 @@ pub data PlainNet : Type 0 where
   too_large : PlainNet
   flat_net : PlainFlat → PlainNet
 
--- a net without where it lies in memory
+-- a net without its place in memory
 abbrev pub plain_net : Net → PlainNet
 plain_net (Blocked names) = blocked names.items
 plain_net (Recursive names) = recursive names.items

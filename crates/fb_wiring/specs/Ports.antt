@@ -19,7 +19,7 @@ plain_data side variable = record { sort = Data; side = side; name = variable.0;
 abbrev pub plain_adapter : Side → List ℕ × NameUse → Port
 plain_adapter side adapter = record { sort = Adapter; side = side; name = adapter.0; adapter = Some adapter.1.name }
 
--- Events and data, then plugs, which are outputs, and sockets, which are inputs; each name stands for its first declaration.
+-- Events and data, then plugs, which are outputs, and sockets, which are inputs; each name means its first declaration.
 -- Internal variables are no ports.
 abbrev pub plain_ports : Meanings → List Port
 plain_ports m =

@@ -56,13 +56,13 @@ pub record IsTooLarge (sources : Sources) (unit : List ℕ) : Type 0 where
   pub holds : Holds sources unit held
   pub more : INSTANCE_LIMIT < length held
 
--- no more instances than the limit
+-- the instances are within the limit
 pub record IsWithinLimit (sources : Sources) (unit : List ℕ) : Type 0 where
   pub held : List Held
   pub holds : Holds sources unit held
   pub within : length held ≤ INSTANCE_LIMIT
 
--- under the name of the application stands the flat network of its network
+-- under the name of the application is the flat network of its network
 pub record IsFlatApplication (view : View) (application : Application) (flat : FlatApplication) : Type 0 where
   pub name : flat.name ≡ application.name
   pub net : IsFlat view application.network flat.flat

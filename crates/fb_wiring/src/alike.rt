@@ -88,7 +88,7 @@ fn mention_the_same(a: &Mentions, b: &Mentions) -> bool
     are_same_names(&a.parts, &b.parts) && are_same_names(&a.of_values, &b.of_values)
 }
 
-/// Whether both texts declare a block type, with the same ports and the same mentions. Then no net of what rests on one of them tells which
+/// Whether both texts declare a block type, with the same ports and the same mentions. Then no net of what rests on one of them shows which
 /// of them it is. Of other units it is not looked at.
 pub fn has_same_interface(alloc: Global, a: &Source, b: &Source) -> Result<bool, AllocError>
     ensures { IfOk result (λ is. is ≡ true

@@ -31,7 +31,7 @@ fn count_at(counts: &Counts, name: &Name) -> u32
     }
 }
 
-/// A count, with one more instance and those that stand in it.
+/// A count, with one more instance and those that are in it.
 fn counted_up(so_far: u32, inside: u32) -> u32
     ensures { result ≡ min (so_far + 1 + inside) (limits.INSTANCE_LIMIT + 1) }
 {
@@ -58,7 +58,7 @@ fn count_instance(counts: &Counts, so_far: u32, instance: &Instance) -> u32
     }
 }
 
-/// A count, with these instances and those that stand in them.
+/// A count, with these instances and those that are in them.
 fn count_instances(counts: &Counts, so_far: u32, instances: &[Instance]) -> u32
     ensures { CountsOn (get name_cmp counts.now) so_far
         (plain_instances (map instance_tree instances.now)) result }

@@ -1,4 +1,5 @@
 //! The names of a graph that reach themselves.
+//! They are found as strongly connected components, in n log n steps. The proof holds for any order of the names.
 ghost use Rattle.std.specs.Prelude.{◌≡◌, ℕ, List, [], true, false, ◌||◌, if◌then◌else◌, filter, Contains, ◌↔◌, IfOk, OnOk};
 ghost use Rattle.std.specs.Ordering.{eq_by_cmp};
 ghost use Rattle.fb_tree.specs.Text.Order.{name_cmp};
@@ -133,7 +134,7 @@ fn walk(
     Ok(seen)
 }
 
-/// Sees each name that is in the set, and opens it where it is new.
+/// Sees each name that is in the set, and opens it if it is new.
 fn open_new(
     names: &[Name],
     within: &BTreeSet<Name>,

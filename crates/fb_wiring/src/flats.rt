@@ -28,7 +28,7 @@ pub fn flat_of_type<N: Nets>(
 }
 
 /// Whether the flat network of a type has to be composed for that of the unit: it is a subapplication below the unit, and its kept net, if
-/// there is one, does not tell.
+/// there is one, does not show it.
 pub fn is_missing<V: View, H: Hints>(view: &V, hints: &H, unit: &Name, name: &Name) -> bool
     ensures { result ≡ is_missing (V.sources view.now) (H.hints hints.now) unit.now name.now }
 {

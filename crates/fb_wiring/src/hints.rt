@@ -21,7 +21,7 @@ pub trait Hints {
         ensures { option_map plain_net (option_copied result) ≡ hints self.now name.now };
 }
 
-/// Where no net is kept.
+/// If no net is kept.
 #[derive(Clone, Copy)]
 pub struct NoHints;
 
@@ -91,7 +91,7 @@ impl<H: Hints> Nets for KnownFlats<'_, H> {
     }
 }
 
-/// Whether the kept net of the unit tells that it is not blocked, and that none of what it rests on reaches itself.
+/// Whether the kept net of the unit shows that it is not blocked, and that none of what it rests on reaches itself.
 pub fn is_known_whole<H: Hints>(hints: &H, name: &Name) -> bool
     ensures { result ≡ is_whole_hint (H.hints hints.now name.now) }
 {

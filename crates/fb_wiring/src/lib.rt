@@ -1,5 +1,5 @@
-//! What the trees of units say as networks in plain; which types reach themselves, and an order in which inner types come first; and
-//! what the nets of units are made of: networks and counts of types, kept nets, flat networks of types and applications.
+//! The networks that trees of units declare; which types reach themselves, and an order with inner types first; and what nets are made
+//! of: counts of instances, stored nets, flat networks of types and applications.
 #![tactic(auto)]
 
 mod alike;

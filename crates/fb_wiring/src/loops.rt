@@ -36,7 +36,7 @@ fn recursive_part<V: View>(alloc: Global, view: &V, names: &[Name]) -> Result<Ve
     by_cycles(alloc, view, names)
 }
 
-/// Goes by the cycles among all that the names rest on.
+/// Depends on the cycles among all that the names rest on.
 fn by_cycles<V: View>(alloc: Global, view: &V, names: &[Name]) -> Result<Vec<Name>, AllocError>
     ensures { IfOk result (λ found. RecursivePart (V.sources view.now) names.now found.items) }
 {

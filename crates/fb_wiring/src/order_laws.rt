@@ -1,7 +1,7 @@
 //! Laws of recursion and order.
 ghost use Rattle.fb_wiring.specs.LocalOrder.{OrderedIsNotRecursive, RecursionIsLocal};
 
-/// Which of the types that a unit rests on reach themselves depends on the texts that it rests on alone.
+/// Which of the types that a unit rests on reach themselves depends only on the texts that it rests on.
 pub fn recursion_is_local()
     ensures { RecursionIsLocal }
 {}

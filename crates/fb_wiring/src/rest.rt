@@ -9,7 +9,7 @@ use fb_iface::library::View;
 use fb_iface::parse::Source;
 use fb_tree::text::{Name, same_name};
 
-/// The sources that have to be looked at for the net of a unit: none of other units whose kept nets tell that they are not blocked
+/// The sources that have to be looked at for the net of a unit: none of other units whose kept nets show that they are not blocked
 /// and that none of what they rest on reaches itself.
 #[derive(Clone, Copy)]
 pub struct Rest<'a, V, H> {

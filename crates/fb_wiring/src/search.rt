@@ -17,7 +17,7 @@ pub(crate) enum Step {
     Leave(Name),
 }
 
-/// All names that the unit rests on by parts, itself included, each after its own parts. None where one of them reaches itself.
+/// All names that the unit rests on by parts, itself included, each after its own parts. None if one of them reaches itself.
 pub fn inner_first<V: View>(
     alloc: Global,
     view: &V,
@@ -33,7 +33,7 @@ pub fn inner_first<V: View>(
     all_inner_first(alloc, view, &[unit])
 }
 
-/// All names that some of these rest on by parts, each after its own parts. None where one of them reaches itself.
+/// All names that some of these rest on by parts, each after its own parts. None if one of them reaches itself.
 pub fn all_inner_first<V: View>(
     alloc: Global,
     view: &V,

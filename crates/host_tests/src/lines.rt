@@ -1,4 +1,4 @@
-//! What peers say, and what they are told.
+//! What peers send, and what they get.
 
 pub(crate) const ASK: &str = "{\"op\":\"ask\",\"kind\":\"net\",\"unit\":\"A\"}\n";
 

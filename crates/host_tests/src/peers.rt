@@ -1,4 +1,4 @@
-//! What a peer does, and what it is told then.
+//! What a peer does, and what it gets then.
 use crate::lines::{ASK_LAST, PENDING};
 use std::alloc::Global;
 use std::io;
@@ -6,7 +6,7 @@ use std::io::{ErrorKind, Read, Write};
 use std::net::{Net, OpenStream, Shutdown, TcpListener, TcpStream};
 use std::time::{Clock, Duration, Instant};
 
-/// How many milliseconds a peer waits for what it is to be told, and for a worker.
+/// How many milliseconds a peer waits for what it must get, and for a worker.
 const BOUND: u64 = 20_000;
 
 /// How many milliseconds pass from one byte to the next where a peer sends one now and then, and how many bytes it sends.
@@ -14,7 +14,7 @@ const NOW_AND_THEN: u64 = 20;
 
 const BYTES: u32 = 500;
 
-/// How often a peer asks at most until a worker has judged a unit.
+/// How often a peer asks at most until a worker has checked a unit.
 const LOOKS: u32 = 200_000;
 
 /// A peer that has connected.
@@ -87,7 +87,7 @@ fn commit_units(alloc: Global, stream: &TcpStream, count: u32) -> io::Result<()>
     Ok(())
 }
 
-/// Commits so many units, from 10 to 99, and asks for the last of them, U9, until a worker has judged it. It gives what is said of it then.
+/// Commits this number of units, from 10 to 99, and asks for the last of them, U9, until a worker has checked it. It gives the reply about it then.
 pub(crate) fn commit_all<R: Clock>(
     rt: &R,
     alloc: Global,
@@ -107,7 +107,7 @@ pub(crate) fn commit_all<R: Clock>(
     Ok(known)
 }
 
-/// Sends a blank now and then, until its stream ends. It gives what it was told, or that the stream is still open.
+/// Sends a blank now and then, until its stream ends. It gives what it got, or that the stream is still open.
 pub(crate) fn drip(alloc: Global, stream: &TcpStream) -> io::Result<String> {
     stream.set_read_timeout(Some(Duration::from_millis(NOW_AND_THEN)))?;
     for _ in 0..BYTES {
@@ -128,13 +128,13 @@ fn is_open(stream: &TcpStream) -> bool {
     }
 }
 
-/// Says that it has no more to say, and reads all that it is told.
+/// Ends its sending, and reads all that it gets.
 pub(crate) fn leave(alloc: Global, stream: &TcpStream) -> io::Result<String> {
     let _ = stream.shutdown(Shutdown::Write);
     rest(alloc, stream)
 }
 
-/// Reads all that it is told. Where the other side closes before it has read all, that is the end too.
+/// Reads all that it gets. If the other side closes before it has read all, that is the end too.
 pub(crate) fn rest(alloc: Global, stream: &TcpStream) -> io::Result<String> {
     let mut stream = stream;
     let mut told = String::new(alloc);

@@ -24,8 +24,8 @@ const LOOKS: u32 = 10_000;
 
 const PAUSE: u64 = 2;
 
-/// A host, the steps of its peers, and what it comes to: what it has said on its errors, how many calls were made, and how many of them since the
-/// start. Where workers make calls these numbers are not told.
+/// A host, the steps of its peers, and its result: what it printed on its errors, how many calls were made, and how many of them since the
+/// start. If workers make calls these numbers are left out.
 #[derive(Drop)]
 pub(crate) struct Play<'a> {
     pub(crate) sessions: u8,

@@ -1,4 +1,4 @@
-//! Sessions that follow one another at a seat, over a history that begins anew.
+//! Sessions that follow one another at a seat, over a history that begins again.
 use crate::lines::{
     ASK, ASK_FAULTS, ASK_LAST, COMMIT, COMMIT_AGAIN, EIGHTY_FIRST, FIRST, JOB_A, KNOWN, NO_JOB,
     NO_KEY, NO_SEAT, SECOND, TAKE,

@@ -8,34 +8,34 @@ use std::net::{Net, TcpListener, TcpStream};
 use std::sync::{Mutex, Wait};
 use std::time::{Clock, Duration, Instant};
 
-/// What a peer does, and what it is told then. Peers are numbered as they come, from 0.
+/// What a peer does, and what it gets then. Peers are numbered as they come, from 0.
 pub(crate) enum Step<'a> {
-    /// So many peers connect.
+    /// This number of peers connect.
     Connect(usize),
     /// It sends this.
     Say(usize, &'a str),
-    /// It sends a line, and is told one.
+    /// It sends a line, and gets one.
     Ask(usize, &'a str, &'a str),
-    /// The same, so many times.
+    /// The same, this number of times.
     Repeat(usize, u32, &'a str, &'a str),
-    /// It commits so many units, from 10 to 99, and waits until workers have judged all of them.
+    /// It commits this number of units, from 10 to 99, and waits until workers have checked all of them.
     CommitAll(usize, u32),
     /// It sends a byte now and then, until it is closed.
     Drip(usize),
-    /// It says that it has no more to say, and is told this to the end.
+    /// It ends its sending, and gets this to the end.
     Leave(usize, &'a str),
-    /// The same of all peers from one number on and below another, who are told nothing.
+    /// The same of all peers from one number on and below another, who get nothing.
     LeaveAll(usize, usize),
-    /// It is told this to the end.
+    /// It gets this to the end.
     Rest(usize, &'a str),
     /// This is what the host has said on its errors.
     Errors(&'a str),
-    /// At least so many milliseconds have passed since the first step.
+    /// At least this number of milliseconds have passed since the first step.
     Passed(u64),
 }
 
 impl<'a> Step<'a> {
-    /// What is to be told.
+    /// What it must get.
     fn wanted(&self) -> &'a str {
         match self {
             Step::Ask(_, _, told)
@@ -143,14 +143,14 @@ fn told<R: Net<Listener = TcpListener, Stream = TcpStream> + Wait + Clock>(
     }
 }
 
-/// The place of a step, and what was told there.
+/// The place of a step, and what was got there.
 #[derive(Drop)]
 pub(crate) struct Wrong {
     pub(crate) place: usize,
     pub(crate) told: String,
 }
 
-/// Makes the steps, up to the first at which other things are told.
+/// Makes the steps, up to the first at which something else comes.
 pub(crate) fn first_wrong<R: Net<Listener = TcpListener, Stream = TcpStream> + Wait + Clock>(
     rt: &R,
     alloc: Global,

@@ -1,4 +1,4 @@
-//! Jobs that take a net of the caller's choice along. What their contract does not let in is told apart before they are made.
+//! Jobs to which the caller passes a net of its choice. What their contract does not admit is found before they are made.
 ghost use Rattle.std.specs.Prelude.{◌≡◌, true, IfOk};
 ghost use Rattle.fb_library.specs.Texts.{sources_of};
 ghost use Rattle.fb_library.specs.View.{tree_at};
@@ -66,7 +66,7 @@ fn job_with(alloc: Global, library: &Library, key: Key, hint: Hint) -> Result<Jo
     Job::make(alloc, library, key, hints)
 }
 
-/// A job for the net of the first unit that takes the net of the second along, or None where it may not.
+/// A job for the net of the first unit with the net of the second as a hint, or None if this is not allowed.
 pub(crate) fn job_taking(
     alloc: Global,
     library: &Library,
@@ -101,7 +101,7 @@ fn taking_told(
     }
 }
 
-/// A unit, one whose net is taken along, and the job and its result.
+/// A unit, one whose net is passed, and the job and its result.
 type Row = (&'static str, &'static str, &'static str, &'static str);
 
 // Also the unit itself and those that it does not rest on, whose nets may not be taken along.

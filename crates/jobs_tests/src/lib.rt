@@ -1,4 +1,4 @@
-//! Tests of jobs that are made of a library: what they take along, what is kept of their reads, calls of which each allocation is refused in turn, and a plant
+//! Tests of jobs that are made from a library: their hints, what is kept of their reads, calls of which each allocation is refused in turn, and a plant
 //! through the calls of all crates below.
 #![tactic(auto)]
 

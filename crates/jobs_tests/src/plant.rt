@@ -248,7 +248,7 @@ fn reads_told(alloc: Global, library: &Library) -> Result<String, Fail> {
     Ok(told)
 }
 
-/// What is told of the plant.
+/// What is known of the plant.
 #[derive(Clone, Copy, Debug)]
 enum Part {
     Interface,

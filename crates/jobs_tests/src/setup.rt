@@ -54,14 +54,14 @@ pub(crate) fn library_of(alloc: Global, texts: &[&str]) -> Result<Library, Fail>
     Ok(Library::new(alloc).edited(1, &changes)?)
 }
 
-/// A job that takes nothing along.
+/// A job without hints.
 pub(crate) fn make(alloc: Global, library: &Library, key: Key) -> Result<Job, AllocError>
     requires { has_key library.now key ≡ true }
 {
     Job::make(alloc, library, key, Vec::new(alloc))
 }
 
-/// The same, where there is the key.
+/// The same, if there is the key.
 pub(crate) fn job_for(alloc: Global, library: &Library, key: Key) -> Result<Job, Fail> {
     if !has_key(library, key) {
         return Err(Fail::from("no such key"));

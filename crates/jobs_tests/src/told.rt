@@ -56,7 +56,7 @@ fn say_value(told: &mut String, alloc: Global, value: &Value) -> Result<(), Allo
     }
 }
 
-/// What a job reads and takes along.
+/// What a job reads, and its hints.
 pub(crate) fn job_told(alloc: Global, job: &Job) -> Result<String, AllocError> {
     let mut told = String::new(alloc);
     write!(told, "{} reads, taking", job.reads().len())?;

@@ -100,7 +100,7 @@ fn those_that_reach_themselves_stand_as_given(rt: HostRuntime) -> Result<(), Fai
     compare_recursive(&rt, rt.alloc(), &library)
 }
 
-/// Adds the change that puts U0 or one of those behind it, each of which holds the next.
+/// Adds the change that puts U0 or one of those after it, each of which holds the next.
 fn put_link(alloc: Global, changes: &mut Vec<Change>, number: u32) -> Result<(), Fail> {
     let inner = number.saturating_add(1);
     let text = format!(in alloc;

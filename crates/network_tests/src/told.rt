@@ -41,7 +41,7 @@ pub fn names_in(alloc: Global, text: &str) -> Result<Vec<Name>, Fail> {
     Ok(names)
 }
 
-/// A word, and names behind it.
+/// A word, and names after it.
 fn names_behind(alloc: Global, word: &str, names: &[Name]) -> Result<String, Fail> {
     let mut told = String::from_str(alloc, word)?;
     for name in names {

@@ -1,4 +1,4 @@
-//! Tests of the words of the program, of its secret, of its runs, of sessions, and of servers.
+//! Tests of the program's arguments, its secret, its runs, sessions and servers.
 #![tactic(auto)]
 
 #[cfg(test)]

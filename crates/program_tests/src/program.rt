@@ -26,7 +26,7 @@ const AMPLE: Room = Room {
     turns: 1000,
 };
 
-/// What a run wrote, what it said on its errors, and its status, or none where it asks for a server.
+/// What a run wrote, what it said on its errors, and its status, or none if it asks for a server.
 #[derive(Drop)]
 struct Ended {
     output: Vec<u8>,
@@ -326,7 +326,7 @@ const RUNS: &[Script] = &[
     (TAKE, 0, ONE_TURN, 1, NO_JOB, "bench61499: too many reads\n"),
 ];
 
-/// A request, and so many spaces behind it.
+/// A request, and this number of spaces after it.
 fn input_with(alloc: Global, request: &[u8], spaces: usize) -> Result<Vec<u8>, AllocError> {
     let mut input = request.to_vec(alloc)?;
     input.extend_from_slice(&vec![in alloc; b' '; spaces]?)?;

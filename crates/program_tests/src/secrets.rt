@@ -1,4 +1,4 @@
-//! The secret in a file, and how it is said that there is none.
+//! The secret in a file, and the message if there is none.
 use fb_program::{refuse_secret, secret_in};
 use std::alloc::{AllocError, Global};
 use std::process::Abort;

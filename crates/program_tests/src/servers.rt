@@ -57,7 +57,7 @@ const OVER: &str =
 const OVER_TOLD: &str = "{\"refused\":\"TooManyUnits\"}\n{\"refused\":\"NoSuchKey\"}\n\
     {\"refused\":\"NoSuchKey\"}\n{\"refused\":\"NoSuchKey\"}\n{\"refused\":\"HistoryFull\"}\n";
 
-/// What a server printed, what it said on its errors, and whether its status says that it came to its close.
+/// What a server printed, what it printed on its errors, and whether its status says that it reached its close.
 #[derive(Drop)]
 struct Served {
     output: Vec<u8>,
@@ -65,7 +65,7 @@ struct Served {
     is_closed: bool,
 }
 
-/// The same, without the line that tells where it listens, and what its clients were told.
+/// The same, without the line with its address, and what its clients got.
 #[derive(Drop)]
 struct Ended {
     printed: String,
@@ -141,7 +141,7 @@ struct Play<'a> {
     texts: &'a [&'a str],
 }
 
-/// What the clients are told, what the server prints behind its greeting and says on its errors, and whether it comes to its close.
+/// What the clients get, what the server prints after its greeting and on its errors, and whether it reaches its close.
 #[derive(Clone, Copy)]
 struct Wanted<'a> {
     told: &'a str,

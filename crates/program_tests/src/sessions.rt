@@ -1,4 +1,4 @@
-//! A session of which each allocation is refused in turn. Where it ends for want of memory, another one goes on with its seat, and the
+//! A session of which each allocation is refused in turn. If it ends for lack of memory, another one continues with its seat, and the
 //! workbench closes with the receipts of both.
 use fb_serve::{Session, run_session};
 use fb_shared::{Receipt, Seat, Shared};
@@ -75,7 +75,7 @@ fn behind(text: &str, lines: usize) -> &str {
     rest
 }
 
-/// How a session goes on: what is said first, which lines then, and the reply to what is said first.
+/// How a session continues: what is sent first, which lines then, and the reply to what is sent first.
 #[derive(Clone, Copy)]
 struct Rest {
     first: &'static str,
@@ -129,7 +129,7 @@ fn is_closed(alloc: Global, shared: Shared, seat: Seat, receipts: &[Receipt]) ->
     }
 }
 
-/// Whether an allocation was refused, whether the session ended for want of memory, and whether all is right.
+/// Whether an allocation was refused, whether the session ended for lack of memory, and whether all is right.
 #[derive(Clone, Copy)]
 struct Ended {
     is_refused: bool,

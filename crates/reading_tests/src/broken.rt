@@ -1,4 +1,4 @@
-//! Texts that are broken, and the places where they are. These were worked out by another reader, one that follows all spellings at once.
+//! Texts that are broken, and the places where they are. These were found by another reader, one that follows all spellings at once.
 use fb_library::parse::{Body, ReadFault, Source};
 use fb_text::Name;
 use std::alloc::Global;
@@ -102,7 +102,7 @@ fn the_longest_texts(rt: HostRuntime) -> Result<(), Fail> {
     Ok(())
 }
 
-/// A whole text, and what breaks it: words that stand in it once, what is written in their place, and where it is broken then.
+/// A whole text, and what breaks it: words that occur in it once, what is written in their place, and the place of the fault then.
 type Breaks = (
     &'static str,
     &'static [(&'static str, &'static str, &'static str)],
@@ -361,7 +361,7 @@ static REFERENCES: Breaks = (
     ],
 );
 
-/// The text with other words in the place of these, which stand in it once.
+/// The text with other words in the place of these, which are in it once.
 fn broken(alloc: Global, whole: &str, old: &str, new: &str) -> Result<String, Fail> {
     if whole.matches(old).count() != 1 {
         return Err(format!(in alloc; "{old} does not stand once in {whole}")?.into());

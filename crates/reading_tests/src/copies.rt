@@ -34,7 +34,7 @@ fn fill(library: &mut Library, alloc: Global) -> Result<(), Fail> {
     put(library, alloc, 2, "E_SPLIT", TYPE)
 }
 
-/// The text of a unit, empty where it is absent.
+/// The text of a unit, empty if it is absent.
 fn text_of<'a>(library: &'a Library, unit: &Name) -> &'a str {
     match View::get(library, unit) {
         Some(source) => source.text(),
@@ -42,7 +42,7 @@ fn text_of<'a>(library: &'a Library, unit: &Name) -> &'a str {
     }
 }
 
-/// Whether this unit stands at the place, with this revision and this text.
+/// Whether this unit is at the place, with this revision and this text.
 fn stands_at(library: &Library, place: usize, unit: &str, revision: u64, text: &str) -> bool {
     match library.name_at(place) {
         Some(name) => {

@@ -1,7 +1,7 @@
 //! Tests of reading and of libraries: names and tokens, the parts of declarations, the texts of units, tables by name, and the index of
 //! units by what they mention.
 //!
-//! A row of a table of texts is a text with what is read of it, in words as `told` tells them, or with the place where it is broken.
+//! A row of a table of texts is a text with what is read of it, in words as `told` writes them, or with its fault if it is broken.
 #![tactic(auto)]
 
 #[cfg(test)]

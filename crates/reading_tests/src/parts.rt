@@ -330,7 +330,7 @@ fn form_of(alloc: Global, text: &str) -> Result<LiteralForm, Fail> {
     }
 }
 
-/// The variable that a text is, in words: its first name with its place and how many subscripts it has, where the variable stands, and the
+/// The variable that a text is, in words: its first name with its place and how many subscripts it has, where the variable is, and the
 /// further names in the same way.
 fn variable_told(alloc: Global, text: &str) -> Result<String, Fail> {
     let tokens = grammar_tokens(alloc, text)?;

@@ -35,7 +35,7 @@ pub enum Part {
     Statements,
 }
 
-/// What was read, or `stops`, and how many tokens stand behind it, or from the one that does not go on.
+/// What was read, or `stops`, and how many tokens are after it, or from the one that does not continue.
 fn told<T: Tell + Drop>(
     alloc: Global,
     read: Result<(T, &[Lexeme]), Stop>,

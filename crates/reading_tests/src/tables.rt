@@ -20,7 +20,7 @@ fn put(alloc: Global, table: &mut Table<usize>, number: usize, value: usize) -> 
     Ok(table.put(name(alloc, number)?, Arc::new(alloc, value)?)?)
 }
 
-/// A table of `MANY` names, from a number on in steps of so many and round. Each has its number.
+/// A table of `MANY` names, from a number on in steps of this size and round. Each has its number.
 fn table(alloc: Global, first: usize, step: usize) -> Result<Table<usize>, Fail> {
     let mut table = Table::new(alloc);
     let mut number = first;
@@ -77,7 +77,7 @@ fn compare_whole(rt: &impl Abort, alloc: Global, table: &Table<usize>) -> Result
     compare_all(rt, alloc, table, &names)
 }
 
-/// Compares what is before and behind all names, and behind them.
+/// Compares what is at, before and after all names.
 fn compare_absent(rt: &impl Abort, table: &Table<usize>) -> Result<(), Fail> {
     let [before, behind] = [Name::read("N")?, Name::read("Z")?];
     assert_eq!(rt; table.name_at(MANY), None, "behind all");
@@ -190,7 +190,7 @@ fn compare_changed(rt: &impl Abort, alloc: Global, table: &Table<usize>) -> Resu
     Ok(())
 }
 
-/// Removes the odd numbers too, and puts 1 anew.
+/// Removes the odd numbers too, and puts 1 again.
 fn compare_emptied(rt: &impl Abort, alloc: Global, table: &mut Table<usize>) -> Result<(), Fail> {
     remove_from(alloc, table, 1)?;
     assert_eq!(rt; table.len(), 0, "length");

@@ -40,7 +40,7 @@ static TOKENS: [(&str, &str); 19] = [
     ("'\"a\"", "Other 0..1; String 1..4"),
 ];
 
-/// The texts of the tokens of a text, each with a blank behind it.
+/// The texts of the tokens of a text, each with a blank after it.
 fn parts(alloc: Global, text: &str) -> Result<String, Fail> {
     let mut found = String::new(alloc);
     for token in &tokens(alloc, text)? {
@@ -161,7 +161,7 @@ fn names_in(alloc: Global, text: &str) -> Result<Vec<Name>, Fail> {
     Ok(names)
 }
 
-/// Names in order, each with a blank behind it.
+/// Names in order, each with a blank after it.
 fn sorted_told(alloc: Global, names: &[Name]) -> Result<String, AllocError> {
     let sorted = sorted_names(alloc, names)?;
     names_told(alloc, sorted.as_slice())

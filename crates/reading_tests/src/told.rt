@@ -1,4 +1,4 @@
-//! What is read, told in words: of a list one part after the other, and a place as `3..5`, from the first byte up to the one behind.
+//! What is read, in words: of a list one part after the other, and a place as `3..5`, from the first byte up to the one after.
 use fb_library::parse::{Body, Source};
 use fb_text::{Name, NameUse, Place, Span, Token, TokenFault};
 use fb_tree::{
@@ -8,9 +8,9 @@ use fb_tree::{
 };
 use std::alloc::{AllocError, Global};
 
-/// What can be told in words.
+/// What can be written in words.
 pub trait Tell {
-    /// Adds the words to what has been told.
+    /// Adds the words to what was written.
     fn tell(&self, told: &mut String) -> Result<(), AllocError>;
 }
 
@@ -72,7 +72,7 @@ impl Tell for NameUse {
     }
 }
 
-/// Names, each with a blank behind it.
+/// Names, each with a blank after it.
 pub fn names_told(alloc: Global, names: &[Name]) -> Result<String, AllocError> {
     let mut told = String::new(alloc);
     for name in names {
@@ -95,7 +95,7 @@ fn tell_names(
     Ok(())
 }
 
-/// A name, where there is one, with a mark before it.
+/// A name, if there is one, with a mark before it.
 fn tell_name(mark: &str, name: &Option<NameUse>, told: &mut String) -> Result<(), AllocError> {
     if let Some(name) = name {
         told.push_str(mark)?;
@@ -414,7 +414,7 @@ fn tell_expression(expression: &Expr, told: &mut String) -> Result<(), AllocErro
     }
 }
 
-/// A reference, with its subscripts behind the names that have them, each in brackets. One that is of no name has a `+` before it.
+/// A reference, with its subscripts after the names that have them, each in brackets. One that is of no name has a `+` before it.
 #[cycle(tell_expression)]
 fn tell_reference(
     reference: &Reference,
@@ -436,8 +436,8 @@ fn tell_reference(
     Ok(())
 }
 
-/// Adds names, each behind a point, up to one that has subscripts, where none are left of the names before. Gives how many are left then, and
-/// the names behind.
+/// Adds names, each after a point, up to one that has subscripts, if none are left of the names before. Gives how many are left then, and
+/// the names after.
 fn tell_members<'a>(
     left: usize,
     members: &'a [Member],
@@ -455,7 +455,7 @@ fn tell_members<'a>(
     Ok((0, &[]))
 }
 
-/// What is done stands in parentheses behind the condition.
+/// What is done is in parentheses after the condition.
 #[cycle(tell_statement)]
 fn tell_statement(statement: &Stmt, told: &mut String) -> Result<(), AllocError> {
     match statement {
@@ -494,13 +494,13 @@ fn tell_statement(statement: &Stmt, told: &mut String) -> Result<(), AllocError>
     }
 }
 
-/// An expression behind a mark.
+/// An expression after a mark.
 fn tell_value(mark: &str, value: &Expr, told: &mut String) -> Result<(), AllocError> {
     told.push_str(mark)?;
     tell_expression(value, told)
 }
 
-/// Statements in parentheses behind a mark.
+/// Statements in parentheses after a mark.
 #[cycle(tell_statement)]
 fn tell_body(mark: &str, body: &[Stmt], told: &mut String) -> Result<(), AllocError> {
     write!(told, "{mark} (")?;

@@ -154,7 +154,7 @@ fn workbenches_are_resumed(rt: HostRuntime) -> Result<(), Fail> {
 /// How many records there are, and how many of them the callers 1 and 2 have.
 type Counts = (usize, Option<u64>, Option<u64>);
 
-/// A workbench that is to be closed with these receipts, or its counts.
+/// A workbench that must be closed with these receipts, or its counts.
 #[derive(Drop)]
 struct Over<T: Owner> {
     receipts: Vec<Receipt>,

@@ -30,7 +30,7 @@ const NEST: &[Row] = &[
     ),
 ];
 
-/// Two blocks of which nothing is said.
+/// Two blocks without faults.
 pub(crate) const PLAIN: &[Row] = &[
     ("A", "FUNCTION_BLOCK A END_FUNCTION_BLOCK"),
     ("B", "FUNCTION_BLOCK B END_FUNCTION_BLOCK"),
@@ -39,7 +39,7 @@ pub(crate) const PLAIN: &[Row] = &[
 // The innermost type without its event.
 const CHANGED: &[Row] = &[("T", "FUNCTION_BLOCK T END_FUNCTION_BLOCK")];
 
-/// So many calls come before: the commit, and two for each of the five jobs. The nets of the outer subapplication and of the system, and
+/// This number of calls come before: the commit, and two for each of the five jobs. The nets of the outer subapplication and of the system, and
 /// the plan, are left.
 pub(crate) const BEFORE: u64 = 11;
 
@@ -53,7 +53,7 @@ fn put(alloc: Global, changes: &mut Vec<Change>, base: u64, row: &Row) -> Result
     Ok(())
 }
 
-/// Changes that put units, which stand at this revision.
+/// Changes that put units, which are at this revision.
 pub(crate) fn puts(alloc: Global, base: u64, rows: &[Row]) -> Result<Vec<Change>, Fail> {
     let mut changes = Vec::new(alloc);
     for row in rows {
@@ -93,7 +93,7 @@ fn begin(alloc: Global, bench: &mut Bench) -> Result<(), Fail> {
     Ok(())
 }
 
-/// A workbench with the nest half done, and with room for so many records.
+/// A workbench with the nest half done, and with room for this number of records.
 pub(crate) fn begun(alloc: Global, history: u64) -> Result<Bench, Fail> {
     let limits = Limits::new(5, history).ok_or("limits")?;
     let mut bench = Bench::new(alloc, limits);
@@ -123,7 +123,7 @@ pub(crate) const CALLS: &[Call] = &[
     (Which::Ask, " of a question"),
 ];
 
-/// A workbench for such a call, where a key is handed out if it is to be given back.
+/// A workbench for such a call, where a key is handed out if it must be given back.
 pub(crate) fn bench_for(alloc: Global, which: Which) -> Result<Bench, Fail> {
     let mut bench = begun(alloc, 100)?;
     if let Which::GiveBack = which {

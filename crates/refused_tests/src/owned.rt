@@ -8,7 +8,7 @@ use std::io::Print;
 use std::sync::Wait;
 use std::test::Fail;
 
-/// A call, the workbench that it is made on, the seats, and what it came to.
+/// A call, the workbench that it is made on, the seats, and its result.
 #[derive(Drop)]
 struct Called<'a, R: Wait, T: Owner> {
     rt: &'a R,

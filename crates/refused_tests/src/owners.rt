@@ -134,7 +134,7 @@ pub(crate) fn pair(alloc: Global, first: Seat, second: Seat) -> Option<Vec<Seat>
     Some(seats)
 }
 
-/// What a call came to: the number, caller and turn of its receipt and the sort of its reply, or why it was refused.
+/// The result of a call: the number, caller and turn of its receipt and the sort of its reply, or why it was refused.
 pub(crate) type Outcome = Result<(u64, u32, u64, &'static str), SharedRefused>;
 
 fn outcome_of(made: Result<Receipt, SharedRefused>) -> Outcome {

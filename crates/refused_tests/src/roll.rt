@@ -1,4 +1,4 @@
-//! A history that begins anew, and a key that is given back for a session that ended, of which each allocation is refused in turn.
+//! A history that begins again, and a key that is given back for a session that ended, of which each allocation is refused in turn.
 use crate::nest::{BEFORE, Given, Which, begun, bench_for, given_for};
 use crate::owners::{owner_for, taken_over};
 use crate::told::bench_told;
@@ -10,7 +10,7 @@ use std::io::Print;
 use std::sync::Wait;
 use std::test::Fail;
 
-/// A workbench whose history is full, and the limits with which it begins anew.
+/// A workbench whose history is full, and the limits with which it begins again.
 #[derive(Drop)]
 struct Rolled {
     locked: Locked,

@@ -31,7 +31,7 @@ fn call_word(call: &Call) -> &'static str {
     }
 }
 
-/// What a commit comes to.
+/// The result of a commit.
 pub(crate) fn committed_word(answer: &Committed) -> &'static str {
     match answer {
         Committed::Done(_) => "done",
@@ -39,7 +39,7 @@ pub(crate) fn committed_word(answer: &Committed) -> &'static str {
     }
 }
 
-/// What a key that is given back comes to.
+/// The result of a key that is given back.
 pub(crate) fn returned_word(answer: &GivenBack) -> &'static str {
     match answer {
         GivenBack::Returned => "returned",
@@ -56,7 +56,7 @@ pub(crate) fn asked_word(answer: &Asked) -> &'static str {
     }
 }
 
-/// What a call comes to.
+/// The result of a call.
 pub(crate) fn reply_word(reply: &Reply) -> &'static str {
     match reply {
         Reply::Committed(answer) => committed_word(answer),

@@ -15,7 +15,7 @@ pub(crate) enum Way {
     AtDesk,
 }
 
-/// What a call answers, in a word, with how many units a job has read and how many nets it takes along.
+/// What a call answers, in a word, with how many units a job has read and how many hints it has.
 pub(crate) type Answer = (&'static str, usize, usize);
 
 fn taken_answer(taken: &Taken) -> Answer {

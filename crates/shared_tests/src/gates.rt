@@ -1,4 +1,4 @@
-//! Workers whose jobs come to nothing, each by itself.
+//! Workers whose jobs give nothing, each by itself.
 use crate::play::{is_accepted, is_taken};
 use crate::setup::{both_of, new_shared, put_again, puts};
 use fb_jobs::{Finished, Job};

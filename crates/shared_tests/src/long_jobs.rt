@@ -26,7 +26,7 @@ const UNITS: &[(&str, &str)] = &[
 /// Three of faults, two of nets and one of a plan.
 const JOBS: u64 = 6;
 
-/// Holds each job until two calls were answered behind its begin: the second of them began behind it too. What is out of looks is late, and
+/// Holds each job until two calls were answered after its begin: the second of them began after it too. What is out of looks is late, and
 /// holds no further job.
 #[derive(Drop)]
 struct Answered {

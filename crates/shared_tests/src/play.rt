@@ -100,7 +100,7 @@ fn play_shared<R: Wait>(
     Some(receipts)
 }
 
-/// The conversation on a new workbench with room for so many records.
+/// The conversation on a new workbench with room for this number of records.
 pub(crate) fn played_shared<R: Wait>(
     rt: &R,
     alloc: Global,

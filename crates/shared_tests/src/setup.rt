@@ -41,7 +41,7 @@ pub(crate) fn put_again(alloc: Global, base: u64) -> Option<Vec<Change>> {
     Some(changes)
 }
 
-/// Lets a while pass, in which a worker comes to wait.
+/// Lets a while pass, in which a worker begins to wait.
 pub(crate) fn pause<R: Clock>(rt: &R) {
     thread::sleep(rt, Duration::from_millis(20));
 }
@@ -49,7 +49,7 @@ pub(crate) fn pause<R: Clock>(rt: &R) {
 /// How often a count is looked at, each time after a millisecond.
 const MOST_LOOKS: u32 = 10_000;
 
-/// Looks until a count has come to this number; false where it is out of looks.
+/// Looks until a count has reached this number; false if it is out of looks.
 pub(crate) fn comes_to<R: Clock>(rt: &R, count: &AtomicU64, number: u64) -> bool {
     for _ in 0..MOST_LOOKS {
         if number <= count.load(Ordering::SeqCst) {
@@ -68,7 +68,7 @@ pub(crate) fn both_of(seats: Vec<Seat>) -> Option<(Seat, Seat)> {
     Some((first, second))
 }
 
-/// A shared workbench with room for so many records, and the seats of its two callers.
+/// A shared workbench with room for this number of records, and the seats of its two callers.
 pub(crate) fn new_shared(alloc: Global, history: u64) -> Option<(Shared, Seat, Seat)> {
     let (shared, seats) = Shared::new(alloc, Limits::new(4, history)?, 2).ok()?;
     let (first, second) = both_of(seats)?;

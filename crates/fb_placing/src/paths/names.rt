@@ -4,7 +4,7 @@ ghost use Rattle.fb_placing.specs.Standing.{path_names};
 
 use std::alloc::{AllocError, Global};
 
-/// The names of a path: what stands between its points.
+/// The names of a path: what is between its points.
 pub fn path_names<'a>(alloc: Global, path: &'a str) -> Result<Vec<&'a str>, AllocError>
     ensures { IfOk result (λ names. map (λ n. n.now) names.items ≡ path_names path.now) }
 {

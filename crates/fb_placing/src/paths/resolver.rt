@@ -1,4 +1,4 @@
-//! What stands at the paths of a system.
+//! What is at the paths of a system.
 ghost use Rattle.std.specs.Prelude.{◌≡◌, [], ◌∷◌, map, IfOk, Some, option_map};
 ghost use Rattle.fb_library.specs.View.{text_or_empty};
 ghost use Rattle.fb_placing.specs.Resolver.{resolved, resolver_of};

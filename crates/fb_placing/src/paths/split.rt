@@ -2,7 +2,7 @@
 ghost use Rattle.std.specs.Prelude.{IfNone, IfSome};
 ghost use Rattle.fb_placing.specs.Points.{HasNoPoint, IsParted};
 
-/// A path up to its last point, and the name behind it.
+/// A path up to its last point, and the name after it.
 pub(crate) fn parted(path: &str) -> Option<(&str, &str)>
     ensures parts { IfSome result (λ parts. IsParted path.now parts.0.now parts.1.now) }
     ensures alone { IfNone result (HasNoPoint path.now) }
