@@ -10,7 +10,7 @@ use Rattle.fb_mapping.specs.Flatten.Tables.{is_system_tree}
 use Rattle.fb_mapping.specs.Placed.{IsSystem}
 use Rattle.fb_mapping.proofs.Flatten.ComputedNets.{net_at_is, net_at_local}
 use Rattle.fb_mapping.proofs.KindLemmas.{no_system, system_kind}
-use Rattle.fb_mapping.proofs.Placing.StandingLocal.{own_tree, same_standings}
+use Rattle.fb_mapping.proofs.Placing.ResolvedLocal.{own_tree, same_instances}
 use Rattle.fb_deploy.specs.Deploy.{PlainDeploy, IsPlan, planned_by}
 use Rattle.fb_deploy.specs.Plans.{HasPlanByText, PlanAtIsLocal, PlanAtIsPlan, PlanAtOfSystems, has_plan_in, plan_at}
 use Rattle.fb_deploy.proofs.PlanLocal.{one_plan_only, planned_same}
@@ -93,5 +93,5 @@ pub plan_at_local : PlanAtIsLocal
 unfolding plan_at
 plan_at_local a b unit agree =
     ap (λ (n : Option PlainNet). if has_plan_in (tree_at a unit) then option_map (planned_by a unit) n else None) (net_at_local a b unit agree)
-    ∙ ap (λ (f : PlainNet → PlainDeploy). if has_plan_in (tree_at a unit) then option_map f (net_at b unit) else None) (λ i net. planned_same a b unit (same_standings a b unit agree) net i)
-    ∙ ap (λ (t : Option DeclTree). if has_plan_in t then option_map (planned_by b unit) (net_at b unit) else None) (own_tree a b unit (same_standings a b unit agree))
+    ∙ ap (λ (f : PlainNet → PlainDeploy). if has_plan_in (tree_at a unit) then option_map f (net_at b unit) else None) (λ i net. planned_same a b unit (same_instances a b unit agree) net i)
+    ∙ ap (λ (t : Option DeclTree). if has_plan_in t then option_map (planned_by b unit) (net_at b unit) else None) (own_tree a b unit (same_instances a b unit agree))

@@ -14,8 +14,8 @@ use Rattle.fb_mapping.specs.Flatten.Nets.{net_at}
 use Rattle.fb_mapping.specs.Flatten.Wiring.Local.{SaysSame}
 use Rattle.fb_mapping.specs.Flatten.Wiring.ByName.{kind_at}
 use Rattle.fb_mapping.proofs.Flatten.NetLeft.{net_left}
-use Rattle.fb_mapping.specs.Placing.Standing.{inner_instances}
-use Rattle.fb_mapping.proofs.Placing.StandingLocal.{SameStandings, own_tree}
+use Rattle.fb_mapping.specs.Placing.Resolved.{inner_instances}
+use Rattle.fb_mapping.proofs.Placing.ResolvedLocal.{SameInstances, own_tree}
 use Rattle.fb_deploy.specs.Deploy.{PlainDeploy, planned_by}
 use Rattle.fb_deploy.specs.Plans.{PlanIsLeft, has_plan_in, is_whole_plan, plan_at}
 use Rattle.fb_deploy.proofs.PlanLocal.{planned_same}
@@ -41,7 +41,7 @@ module _ (a b : Sources) (unit : List ℕ) (leaves : LeavesNet a b unit) where
   text_same v i (inl e) c = e
   text_same v i (inr block) c = absurd (contains_nothing i (subst (λ (is : List InstanceTree). Contains is i) (no_inner (tree_at a v) block) c))
 
-  standings : SameStandings a b unit
+  standings : SameInstances a b unit
   standings = record {
     own = leaves.own;
     instances = λ v r. inner_same v (leaves.still v r).text (leaves.still v r).says;

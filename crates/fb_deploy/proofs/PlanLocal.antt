@@ -12,25 +12,25 @@ use Rattle.fb_mapping.specs.Placing.Homes.{PlainHomes, faulty_homes, all_homes, 
 use Rattle.fb_mapping.specs.Placing.Systems.{devices_in}
 use Rattle.fb_mapping.specs.Placing.declared.homes.Home.{Home}
 use Rattle.fb_mapping.proofs.Placing.HomesLocal.{homes_same}
-use Rattle.fb_mapping.proofs.Placing.StandingLocal.{SameStandings, own_tree, same_standings}
-use Rattle.fb_mapping.proofs.Placing.LinesLocal.{write_lines_same}
+use Rattle.fb_mapping.proofs.Placing.ResolvedLocal.{SameInstances, own_tree, same_instances}
+use Rattle.fb_mapping.proofs.Placing.WritesLocal.{write_commands_same}
 use Rattle.fb_deploy.specs.Deploy.{planned, planned_by, tree_plan, with_homes}
 use Rattle.fb_deploy.specs.Laws.{OnePlan, PlanIsLocal}
-use Rattle.fb_mapping.specs.Placing.Orders.{connection_orders, line_order, start_order}
-use Rattle.fb_mapping.specs.Placing.Lines.{create_lines}
+use Rattle.fb_mapping.specs.Placing.SystemCommands.{connection_commands, without_place, start_command}
+use Rattle.fb_mapping.specs.Placing.PlacedCommands.{create_commands}
 use Rattle.fb_mapping.specs.Placing.Resources.{resource_plans, resources_of}
-use Rattle.fb_mapping.specs.Placing.declared.lines.Line.{Line}
+use Rattle.fb_mapping.specs.Placing.declared.plan.write_commands.PlacedCommand.{PlacedCommand}
 
 pub one_plan_only : OnePlan
 one_plan_only sources system a b p q =
     p.plan_is ∙ ap (planned_by sources system) (one_net_only sources system p.net q.net p.is_net q.is_net) ∙ sym q.plan_is
 
-module _ (a b : Sources) (system : List ℕ) (same : SameStandings a b system) where
+module _ (a b : Sources) (system : List ℕ) (same : SameInstances a b system) where
   tree_plan_same : (flat : PlainFlat) (homes : List Home) → tree_plan a system (tree_at a system) flat homes ≡ tree_plan b system (tree_at a system) flat homes
   tree_plan_same flat homes =
-      ap (λ (lines : List Line). planned (cuts_of (home_at homes) flat.links)
-      (resource_plans (map line_order (create_lines (home_at homes) flat.blocks) ++ map line_order lines ++ connection_orders (home_at homes) flat.links ++ map start_order (resources_of (devices_in (tree_at a system)))) (resources_of (devices_in (tree_at a system)))))
-      (write_lines_same a b system same homes)
+      ap (λ (lines : List PlacedCommand). planned (cuts_of (home_at homes) flat.links)
+      (resource_plans (map without_place (create_commands (home_at homes) flat.blocks) ++ map without_place lines ++ connection_commands (home_at homes) flat.links ++ map start_command (resources_of (devices_in (tree_at a system)))) (resources_of (devices_in (tree_at a system)))))
+      (write_commands_same a b system same homes)
 
   with_homes_same : (flat : PlainFlat) (homes : PlainHomes) → with_homes a system flat homes ≡ with_homes b system flat homes
   with_homes_same flat (faulty_homes found) = refl
@@ -47,5 +47,5 @@ pub plan_local : PlanIsLocal
 plan_local a b system agree plan p = record {
   net = p.net;
   is_net = net_local a b system agree p.net p.is_net;
-  plan_is = p.plan_is ∙ planned_same a b system (same_standings a b system agree) p.net;
+  plan_is = p.plan_is ∙ planned_same a b system (same_instances a b system agree) p.net;
 }

@@ -10,7 +10,7 @@ use Rattle.fb_mapping.specs.Placing.Homes.{PlainHomes, faulty_homes, all_homes, 
 use Rattle.fb_mapping.specs.Placing.Systems.{applications_in, devices_in}
 use Rattle.fb_mapping.specs.Placing.declared.homes.Home.{Home}
 use Rattle.fb_mapping.specs.Placing.declared.homes.Misplaced.{Misplaced}
-use Rattle.fb_mapping.specs.Placing.Orders.{orders_of}
+use Rattle.fb_mapping.specs.Placing.SystemCommands.{system_commands}
 use Rattle.fb_mapping.specs.Placing.PlainResource.{PlainResource}
 use Rattle.fb_mapping.specs.Placing.Resources.{resource_plans, resources_of}
 use Rattle.fb_deploy.specs.declared.planning.Deploy.{Deploy}
@@ -31,7 +31,7 @@ plain_deploy (deploy.Plan plan) = planned plan.cuts plan.resources
 abbrev pub tree_plan : Sources → List ℕ → Option DeclTree → PlainFlat → List Home → PlainDeploy
 tree_plan sources system tree flat homes =
     planned (cuts_of (home_at homes) flat.links)
-    (resource_plans (orders_of sources system (applications_in tree) (resources_of (devices_in tree)) flat homes) (resources_of (devices_in tree)))
+    (resource_plans (system_commands sources system (applications_in tree) (resources_of (devices_in tree)) flat homes) (resources_of (devices_in tree)))
 
 abbrev pub with_homes : Sources → List ℕ → PlainFlat → PlainHomes → PlainDeploy
 with_homes sources system flat (faulty_homes found) = faulty found

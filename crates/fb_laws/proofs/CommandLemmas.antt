@@ -1,5 +1,5 @@
 -- The commands of a resource, part by part.
-use Rattle.fb_laws.proofs.Common.{ℕ, ◌≡◌, Bool, true, false, cond, List, [], ◌∷◌, ◌++◌, Option, Some, None, ◌⊎◌, inl, inr, refl, sym, ◌∙◌, ap, subst, map, filter, option_map, cons_option, filter_map, bytes_eq, map-append, filter-append, contains_cases, contains_here, contains_later, contains_nothing, Link, same_home, nearest, connection_orders, connection_text, line_order, link_resource, start_order, start_text, commands_for, Line, Order}
+use Rattle.fb_laws.proofs.Common.{ℕ, ◌≡◌, Bool, true, false, cond, List, [], ◌∷◌, ◌++◌, Option, Some, None, ◌⊎◌, inl, inr, refl, sym, ◌∙◌, ap, subst, map, filter, option_map, cons_option, filter_map, bytes_eq, map-append, filter-append, contains_cases, contains_here, contains_later, contains_nothing, Link, same_home, nearest, connection_commands, connection_text, without_place, link_resource, start_command, start_text, commands_for, PlacedCommand, ResourceCommand}
 use Rattle.std.specs.Prelude.{Contains}
 use Rattle.fb_laws.proofs.HomeLemmas.{bytes_same, same_bytes}
 
@@ -32,19 +32,19 @@ gives_member {X = X} {Y = Y} h (z ∷ zs) x y c e = by_case (contains_cases z zs
 
 -- ---- the parts of the commands for a resource
 
-pub commands_append : (a b : List Order) (r : List ℕ) → commands_for (a ++ b) r ≡ commands_for a r ++ commands_for b r
+pub commands_append : (a b : List ResourceCommand) (r : List ℕ) → commands_for (a ++ b) r ≡ commands_for a r ++ commands_for b r
 commands_append a b r =
-    ap (λ (l : List Order). map (λ (o : Order). o.command) l) (filter-append (λ (o : Order). bytes_eq r o.resource) a b)
-    ∙ map-append (λ (o : Order). o.command) (filter (λ (o : Order). bytes_eq r o.resource) a) (filter (λ (o : Order). bytes_eq r o.resource) b)
+    ap (λ (l : List ResourceCommand). map (λ (o : ResourceCommand). o.command) l) (filter-append (λ (o : ResourceCommand). bytes_eq r o.resource) a b)
+    ∙ map-append (λ (o : ResourceCommand). o.command) (filter (λ (o : ResourceCommand). bytes_eq r o.resource) a) (filter (λ (o : ResourceCommand). bytes_eq r o.resource) b)
 
-abbrev pub lines_on : List ℕ → List Line → List Line
-lines_on r lines = filter (λ (l : Line). bytes_eq r l.resource) lines
+abbrev pub lines_on : List ℕ → List PlacedCommand → List PlacedCommand
+lines_on r lines = filter (λ (l : PlacedCommand). bytes_eq r l.resource) lines
 
-pub for_lines : (lines : List Line) (r : List ℕ) → commands_for (map line_order lines) r ≡ map (λ (l : Line). l.command) (lines_on r lines)
+pub for_lines : (lines : List PlacedCommand) (r : List ℕ) → commands_for (map without_place lines) r ≡ map (λ (l : PlacedCommand). l.command) (lines_on r lines)
 for_lines [] r = refl
 for_lines (l ∷ ls) r = by_test (bytes_eq r l.resource) (for_lines ls r)
   where
-    by_test : (t : Bool) → commands_for (map line_order ls) r ≡ map (λ (l : Line). l.command) (lines_on r ls) → map (λ (o : Order). o.command) (cond t (line_order l ∷ filter (λ (o : Order). bytes_eq r o.resource) (map line_order ls)) (filter (λ (o : Order). bytes_eq r o.resource) (map line_order ls))) ≡ map (λ (l : Line). l.command) (cond t (l ∷ lines_on r ls) (lines_on r ls))
+    by_test : (t : Bool) → commands_for (map without_place ls) r ≡ map (λ (l : PlacedCommand). l.command) (lines_on r ls) → map (λ (o : ResourceCommand). o.command) (cond t (without_place l ∷ filter (λ (o : ResourceCommand). bytes_eq r o.resource) (map without_place ls)) (filter (λ (o : ResourceCommand). bytes_eq r o.resource) (map without_place ls))) ≡ map (λ (l : PlacedCommand). l.command) (cond t (l ∷ lines_on r ls) (lines_on r ls))
     by_test true h = ap (λ (w : List (List ℕ)). l.command ∷ w) h
     by_test false h = h
 
@@ -65,23 +65,23 @@ link_command l = connection_text l.from l.to
 abbrev pub links_on : (List ℕ → Option (List ℕ)) → List ℕ → List Link → List Link
 links_on homes r links = filter (λ (l : Link). is_resource r (link_resource homes l)) links
 
-pub for_links : (homes : List ℕ → Option (List ℕ)) (links : List Link) (r : List ℕ) → commands_for (connection_orders homes links) r ≡ map link_command (links_on homes r links)
+pub for_links : (homes : List ℕ → Option (List ℕ)) (links : List Link) (r : List ℕ) → commands_for (connection_commands homes links) r ≡ map link_command (links_on homes r links)
 for_links homes [] r = refl
 for_links homes (l ∷ ls) r = by_given (link_resource homes l) (for_links homes ls r)
   where
-    by_test : (q : List ℕ) (t : Bool) → commands_for (connection_orders homes ls) r ≡ map link_command (links_on homes r ls) → map (λ (o : Order). o.command) (cond t (record { resource = q; command = link_command l } ∷ filter (λ (o : Order). bytes_eq r o.resource) (connection_orders homes ls)) (filter (λ (o : Order). bytes_eq r o.resource) (connection_orders homes ls))) ≡ map link_command (cond t (l ∷ links_on homes r ls) (links_on homes r ls))
+    by_test : (q : List ℕ) (t : Bool) → commands_for (connection_commands homes ls) r ≡ map link_command (links_on homes r ls) → map (λ (o : ResourceCommand). o.command) (cond t (record { resource = q; command = link_command l } ∷ filter (λ (o : ResourceCommand). bytes_eq r o.resource) (connection_commands homes ls)) (filter (λ (o : ResourceCommand). bytes_eq r o.resource) (connection_commands homes ls))) ≡ map link_command (cond t (l ∷ links_on homes r ls) (links_on homes r ls))
     by_test q true h = ap (λ (w : List (List ℕ)). link_command l ∷ w) h
     by_test q false h = h
 
-    by_given : (o : Option (List ℕ)) → commands_for (connection_orders homes ls) r ≡ map link_command (links_on homes r ls) → commands_for (cons_option (option_map (λ (q : List ℕ). (let it : Order = record { resource = q; command = link_command l } in it)) o) (connection_orders homes ls)) r ≡ map link_command (cond (is_resource r o) (l ∷ links_on homes r ls) (links_on homes r ls))
+    by_given : (o : Option (List ℕ)) → commands_for (connection_commands homes ls) r ≡ map link_command (links_on homes r ls) → commands_for (cons_option (option_map (λ (q : List ℕ). (let it : ResourceCommand = record { resource = q; command = link_command l } in it)) o) (connection_commands homes ls)) r ≡ map link_command (cond (is_resource r o) (l ∷ links_on homes r ls) (links_on homes r ls))
     by_given None h = h
     by_given (Some q) h = by_test q (bytes_eq r q) h
 
-pub for_starts : (names : List (List ℕ)) (r : List ℕ) → commands_for (map start_order names) r ≡ map start_text (filter (λ (n : List ℕ). bytes_eq r n) names)
+pub for_starts : (names : List (List ℕ)) (r : List ℕ) → commands_for (map start_command names) r ≡ map start_text (filter (λ (n : List ℕ). bytes_eq r n) names)
 for_starts [] r = refl
 for_starts (n ∷ ns) r = by_test (bytes_eq r n) (for_starts ns r)
   where
-    by_test : (t : Bool) → commands_for (map start_order ns) r ≡ map start_text (filter (λ (n : List ℕ). bytes_eq r n) ns) → map (λ (o : Order). o.command) (cond t (start_order n ∷ filter (λ (o : Order). bytes_eq r o.resource) (map start_order ns)) (filter (λ (o : Order). bytes_eq r o.resource) (map start_order ns))) ≡ map start_text (cond t (n ∷ filter (λ (n : List ℕ). bytes_eq r n) ns) (filter (λ (n : List ℕ). bytes_eq r n) ns))
+    by_test : (t : Bool) → commands_for (map start_command ns) r ≡ map start_text (filter (λ (n : List ℕ). bytes_eq r n) ns) → map (λ (o : ResourceCommand). o.command) (cond t (start_command n ∷ filter (λ (o : ResourceCommand). bytes_eq r o.resource) (map start_command ns)) (filter (λ (o : ResourceCommand). bytes_eq r o.resource) (map start_command ns))) ≡ map start_text (cond t (n ∷ filter (λ (n : List ℕ). bytes_eq r n) ns) (filter (λ (n : List ℕ). bytes_eq r n) ns))
     by_test true h = ap (λ (w : List (List ℕ)). start_text n ∷ w) h
     by_test false h = h
 

@@ -1,8 +1,8 @@
 -- The commands of each resource, in words of their own.
-use Rattle.fb_laws.proofs.Common.{ℕ, ◌≡◌, ◌≢◌, Bool, true, false, not, ◌||◌, cond, List, [], ◌∷◌, ◌++◌, Option, Some, None, inl, inr, refl, sym, ◌∙◌, ap, subst, map, append_assoc, ◌==◌, true≢false, filter, option_map, codes, filter_map, flat_map, bytes_eq, IsStrictlySortedBy-filter, eqb-false, not-true, or_cases, in_order-members, in_order-sorted, contains_cases, contains_filter, contains_flat_map, contains_here, contains_later, contains_map, contains_nothing, origin_in_flat_map, origin_in_map, passes_in_filter, ApplicationTree, DeclTree, ParameterTree, Sources, text_or_empty, tree_at, link_cmp, FlatBlock, Link, PlainFlat, home_at, nearest, block_home, PlainStanding, path_names, standing_at, applications_in, devices_in, Home, create_line, create_lines, create_text, home_lines, line_cmp, line_cmp_total, lines_at, write_line, write_lines, write_text, connection_orders, line_order, link_resource, orders_of, start_order, start_text, dotted, PlainResource, commands_for, resource_plan, resource_plans, resources_of, Line, Order, IsPlanned, AllBegin, BeginsWith, BlocksAreMadeAtHome, CommandsAreInOrder, IsInOrder, IsWithin, LinksAreMadeAtHome, MakesBlock, MakesItsBlocks, MakesItsLinks, NoneBegins, ParametersAreSetAtHome, ResourcesHaveTheirCommands, SetsItsParameters, SetsParameter, StandsOnce}
+use Rattle.fb_laws.proofs.Common.{ℕ, ◌≡◌, ◌≢◌, Bool, true, false, not, ◌||◌, cond, List, [], ◌∷◌, ◌++◌, Option, Some, None, inl, inr, refl, sym, ◌∙◌, ap, subst, map, append_assoc, ◌==◌, true≢false, filter, option_map, codes, filter_map, flat_map, bytes_eq, IsStrictlySortedBy-filter, eqb-false, not-true, or_cases, in_order-members, in_order-sorted, contains_cases, contains_filter, contains_flat_map, contains_here, contains_later, contains_map, contains_nothing, origin_in_flat_map, origin_in_map, passes_in_filter, ApplicationTree, DeclTree, ParameterTree, Sources, text_or_empty, tree_at, link_cmp, FlatBlock, Link, PlainFlat, home_at, nearest, block_home, PlainResolved, path_names, resolved_at, applications_in, devices_in, Home, create_command, create_commands, create_text, home_commands, command_cmp, command_cmp_total, commands_at, write_command, write_commands, write_text, connection_commands, without_place, link_resource, system_commands, start_command, start_text, dotted, PlainResource, commands_for, resource_plan, resource_plans, resources_of, PlacedCommand, ResourceCommand, IsPlanned, AllBegin, BeginsWith, BlocksAreMadeAtHome, CommandsAreInOrder, IsInOrder, IsWithin, LinksAreMadeAtHome, MakesBlock, MakesItsBlocks, MakesItsLinks, NoneBegins, ParametersAreSetAtHome, ResourcesHaveTheirCommands, SetsItsParameters, SetsParameter, StandsOnce}
 use Rattle.std.specs.Prelude.{Contains}
-use Rattle.fb_placing.proofs.LineLemmas.{line_cmp-IsAntisymmetric}
-use Rattle.fb_placing.specs.Written.{written}
+use Rattle.fb_placing.proofs.PlacedLemmas.{command_cmp-IsAntisymmetric}
+use Rattle.fb_placing.specs.ConstantTexts.{written}
 use Rattle.fb_laws.proofs.Joined.{of_either}
 use Rattle.fb_laws.proofs.HomeLemmas.{bytes_same, home_listed, nearest_of, of_nearest, same_bytes}
 use Rattle.fb_laws.proofs.PlannedLemmas.{Known, home_there, homes_in, known, links_sorted, mapped, names_in, stands}
@@ -33,11 +33,11 @@ module _ (sources : Sources) (system : List ℕ) (flat : PlainFlat) where
   homes = home_at (homes_in sources system flat)
 
   module _ (r : List ℕ) where
-    abbrev makes : List Line
-    makes = lines_on r (create_lines homes flat.blocks)
+    abbrev makes : List PlacedCommand
+    makes = lines_on r (create_commands homes flat.blocks)
 
-    abbrev writes : List Line
-    writes = lines_on r (write_lines sources system (applications_in (tree_at sources system)) (homes_in sources system flat))
+    abbrev writes : List PlacedCommand
+    writes = lines_on r (write_commands sources system (applications_in (tree_at sources system)) (homes_in sources system flat))
 
     abbrev joins : List Link
     joins = links_on homes r flat.links
@@ -46,54 +46,54 @@ module _ (sources : Sources) (system : List ℕ) (flat : PlainFlat) where
     starts = map start_text (filter (λ (n : List ℕ). bytes_eq r n) (names_in sources system))
 
     abbrev commands : List (List ℕ)
-    commands = commands_for (orders_of sources system (applications_in (tree_at sources system)) (names_in sources system) flat (homes_in sources system flat)) r
+    commands = commands_for (system_commands sources system (applications_in (tree_at sources system)) (names_in sources system) flat (homes_in sources system flat)) r
 
-    parts : commands ≡ map (λ (l : Line). l.command) makes ++ map (λ (l : Line). l.command) writes ++ map link_command joins ++ starts
+    parts : commands ≡ map (λ (l : PlacedCommand). l.command) makes ++ map (λ (l : PlacedCommand). l.command) writes ++ map link_command joins ++ starts
     parts =
-        let a = map line_order (create_lines homes flat.blocks) in
-        let b = map line_order (write_lines sources system (applications_in (tree_at sources system)) (homes_in sources system flat)) in
-        let c = connection_orders homes flat.links in
-        let d = map start_order (names_in sources system) in
+        let a = map without_place (create_commands homes flat.blocks) in
+        let b = map without_place (write_commands sources system (applications_in (tree_at sources system)) (homes_in sources system flat)) in
+        let c = connection_commands homes flat.links in
+        let d = map start_command (names_in sources system) in
         commands_append (a ++ b ++ c) d r
         ∙ ap (λ (l : List (List ℕ)). l ++ commands_for d r) (commands_append (a ++ b) c r ∙ ap (λ (l : List (List ℕ)). l ++ commands_for c r) (commands_append a b r))
-        ∙ (λ i. for_lines (create_lines homes flat.blocks) r i ++ for_lines (write_lines sources system (applications_in (tree_at sources system)) (homes_in sources system flat)) r i ++ for_links homes flat.links r i ++ for_starts (names_in sources system) r i)
+        ∙ (λ i. for_lines (create_commands homes flat.blocks) r i ++ for_lines (write_commands sources system (applications_in (tree_at sources system)) (homes_in sources system flat)) r i ++ for_links homes flat.links r i ++ for_starts (names_in sources system) r i)
 
     -- each line that makes a block
 
-    create_given : (b : FlatBlock) (o : Option (List ℕ)) (line : Line) → homes b.path ≡ o → option_map (λ (q : List ℕ). (let it : Line = record { place = b.path; command = create_text b.path b.type_name; resource = q } in it)) o ≡ Some line → (line.place ≡ b.path) × (line.command ≡ create_text b.path b.type_name) × (homes b.path ≡ Some line.resource)
+    create_given : (b : FlatBlock) (o : Option (List ℕ)) (line : PlacedCommand) → homes b.path ≡ o → option_map (λ (q : List ℕ). (let it : PlacedCommand = record { place = b.path; command = create_text b.path b.type_name; resource = q } in it)) o ≡ Some line → (line.place ≡ b.path) × (line.command ≡ create_text b.path b.type_name) × (homes b.path ≡ Some line.resource)
     create_given b None line e g = absurd (let no : ⊥ = cc in no)
     create_given b (Some q) line e g =
-        let same : (let it : Line = record { place = b.path; command = create_text b.path b.type_name; resource = q } in it) ≡ line = cc in
-        (sym (ap (λ (l : Line). l.place) same), sym (ap (λ (l : Line). l.command) same), e ∙ ap (λ (l : Line). Some l.resource) same)
+        let same : (let it : PlacedCommand = record { place = b.path; command = create_text b.path b.type_name; resource = q } in it) ≡ line = cc in
+        (sym (ap (λ (l : PlacedCommand). l.place) same), sym (ap (λ (l : PlacedCommand). l.command) same), e ∙ ap (λ (l : PlacedCommand). Some l.resource) same)
 
-    made_text : (line : Line) → Contains makes line → BeginsWith (codes "CREATE FB ") line.command
+    made_text : (line : PlacedCommand) → Contains makes line → BeginsWith (codes "CREATE FB ") line.command
     made_text line c =
-        let kept = passes_in_filter (λ (l : Line). bytes_eq r l.resource) (create_lines homes flat.blocks) line c in
-        let o = given (create_line homes) flat.blocks line ((in_order-members line_cmp line_cmp_total line_cmp-IsAntisymmetric (filter_map (create_line homes) flat.blocks) line).0 kept.among) in
+        let kept = passes_in_filter (λ (l : PlacedCommand). bytes_eq r l.resource) (create_commands homes flat.blocks) line c in
+        let o = given (create_command homes) flat.blocks line ((in_order-members command_cmp command_cmp_total command_cmp-IsAntisymmetric (filter_map (create_command homes) flat.blocks) line).0 kept.among) in
         let is = create_given o.origin (homes o.origin.path) line refl o.gives in
         (o.origin.path ++ 32 ∷ o.origin.type_name, is.1)
 
-    all_made : AllBegin (codes "CREATE FB ") (map (λ (l : Line). l.command) makes)
+    all_made : AllBegin (codes "CREATE FB ") (map (λ (l : PlacedCommand). l.command) makes)
     all_made command c =
-        let o = origin_in_map (λ (l : Line). l.command) makes command c in
+        let o = origin_in_map (λ (l : PlacedCommand). l.command) makes command c in
         subst (λ (t : List ℕ). BeginsWith (codes "CREATE FB ") t) o.gives (made_text o.origin o.among)
 
     -- each line that sets a parameter
 
-    lines_begin : (home : Home) (o : Option PlainStanding) (line : Line) → Contains (lines_at sources home o) line → BeginsWith (codes "WRITE ") line.command
+    lines_begin : (home : Home) (o : Option PlainResolved) (line : PlacedCommand) → Contains (commands_at sources home o) line → BeginsWith (codes "WRITE ") line.command
     lines_begin home None line c = absurd (contains_nothing line c)
     lines_begin home (Some s) line c =
-        let o = origin_in_map (write_line (text_or_empty sources s.unit) home) s.instance.parameters line c in
-        subst (λ (l : Line). BeginsWith (codes "WRITE ") l.command) o.gives (_, refl)
+        let o = origin_in_map (write_command (text_or_empty sources s.unit) home) s.instance.parameters line c in
+        subst (λ (l : PlacedCommand). BeginsWith (codes "WRITE ") l.command) o.gives (_, refl)
 
-    all_set : AllBegin (codes "WRITE ") (map (λ (l : Line). l.command) writes)
+    all_set : AllBegin (codes "WRITE ") (map (λ (l : PlacedCommand). l.command) writes)
     all_set command c =
         let applications = applications_in (tree_at sources system) in
-        let o = origin_in_map (λ (l : Line). l.command) writes command c in
-        let kept = passes_in_filter (λ (l : Line). bytes_eq r l.resource) (write_lines sources system applications (homes_in sources system flat)) o.origin o.among in
-        let lines = flat_map (home_lines sources system applications) (homes_in sources system flat) in
-        let w = origin_in_flat_map (home_lines sources system applications) (homes_in sources system flat) o.origin ((in_order-members line_cmp line_cmp_total line_cmp-IsAntisymmetric lines o.origin).0 kept.among) in
-        subst (λ (t : List ℕ). BeginsWith (codes "WRITE ") t) o.gives (lines_begin w.origin (standing_at sources system applications (path_names w.origin.path)) o.origin w.has)
+        let o = origin_in_map (λ (l : PlacedCommand). l.command) writes command c in
+        let kept = passes_in_filter (λ (l : PlacedCommand). bytes_eq r l.resource) (write_commands sources system applications (homes_in sources system flat)) o.origin o.among in
+        let lines = flat_map (home_commands sources system applications) (homes_in sources system flat) in
+        let w = origin_in_flat_map (home_commands sources system applications) (homes_in sources system flat) o.origin ((in_order-members command_cmp command_cmp_total command_cmp-IsAntisymmetric lines o.origin).0 kept.among) in
+        subst (λ (t : List ℕ). BeginsWith (codes "WRITE ") t) o.gives (lines_begin w.origin (resolved_at sources system applications (path_names w.origin.path)) o.origin w.has)
 
     -- each command that makes a link
 
@@ -153,7 +153,7 @@ module _ (sources : Sources) (system : List ℕ) (flat : PlainFlat) (cuts : List
 
   entry_of : (entry : PlainResource) → Contains resources entry → IsEntry entry
   entry_of entry c =
-      let orders = orders_of sources system (applications_in (tree_at sources system)) (names_in sources system) flat (homes_in sources system flat) in
+      let orders = system_commands sources system (applications_in (tree_at sources system)) (names_in sources system) flat (homes_in sources system flat) in
       let o = origin_in_map (resource_plan orders) (names_in sources system) entry (subst (λ (l : List PlainResource). Contains l entry) it.resources_are c) in
       record { name = o.origin; listed = o.among; is = o.gives }
 
@@ -162,10 +162,10 @@ module _ (sources : Sources) (system : List ℕ) (flat : PlainFlat) (cuts : List
 
   -- blocks
 
-  make_to : (r : List ℕ) (line : Line) → Contains (makes sources system flat r) line → MakesBlock sources system flat r line
+  make_to : (r : List ℕ) (line : PlacedCommand) → Contains (makes sources system flat r) line → MakesBlock sources system flat r line
   make_to r line c =
-      let kept = passes_in_filter (λ (l : Line). bytes_eq r l.resource) (create_lines (homes sources system flat) flat.blocks) line c in
-      let o = given (create_line (homes sources system flat)) flat.blocks line ((in_order-members line_cmp line_cmp_total line_cmp-IsAntisymmetric (filter_map (create_line (homes sources system flat)) flat.blocks) line).0 kept.among) in
+      let kept = passes_in_filter (λ (l : PlacedCommand). bytes_eq r l.resource) (create_commands (homes sources system flat) flat.blocks) line c in
+      let o = given (create_command (homes sources system flat)) flat.blocks line ((in_order-members command_cmp command_cmp_total command_cmp-IsAntisymmetric (filter_map (create_command (homes sources system flat)) flat.blocks) line).0 kept.among) in
       let is = create_given sources system flat r o.origin (homes sources system flat o.origin.path) line refl o.gives in
       let on : line.resource ≡ r = sym (same_bytes r line.resource kept.passes) in
       let own = it.homes o.origin o.among in
@@ -173,24 +173,24 @@ module _ (sources : Sources) (system : List ℕ) (flat : PlainFlat) (cuts : List
       let same : own.on_resource ≡ r = cc in
       record { block = o.origin; listed = o.among; home = of_nearest (mapped sources system) o.origin.path r (own.home ∙ ap (λ (w : List ℕ). Some w) same); place = is.0; command = is.1; on_home = on }
 
-  same_line : (line : Line) (a b c : List ℕ) → line.place ≡ a → line.command ≡ b → line.resource ≡ c → (let l : Line = record { place = a; command = b; resource = c } in l) ≡ line
+  same_line : (line : PlacedCommand) (a b c : List ℕ) → line.place ≡ a → line.command ≡ b → line.resource ≡ c → (let l : PlacedCommand = record { place = a; command = b; resource = c } in l) ≡ line
   same_line line a b c e f g = λ i. record { place = sym e i; command = sym f i; resource = sym g i }
 
-  make_from : (r : List ℕ) (line : Line) → MakesBlock sources system flat r line → Contains (makes sources system flat r) line
+  make_from : (r : List ℕ) (line : PlacedCommand) → MakesBlock sources system flat r line → Contains (makes sources system flat r) line
   make_from r line m =
       let at : homes sources system flat m.block.path ≡ Some r = home_listed (mapped sources system) flat.blocks m.block r m.listed (nearest_of (mapped sources system) m.block.path r m.home) in
-      let gives : create_line (homes sources system flat) m.block ≡ Some line =
-      ap (λ (o : Option (List ℕ)). option_map (λ (q : List ℕ). (let l : Line = record { place = m.block.path; command = create_text m.block.path m.block.type_name; resource = q } in l)) o) at
-      ∙ ap (λ (l : Line). Some l) (same_line line m.block.path (create_text m.block.path m.block.type_name) r m.place m.command m.on_home) in
-      let among = gives_member (create_line (homes sources system flat)) flat.blocks m.block line m.listed gives in
-      contains_filter (λ (l : Line). bytes_eq r l.resource) (create_lines (homes sources system flat) flat.blocks) line
-      ((in_order-members line_cmp line_cmp_total line_cmp-IsAntisymmetric (filter_map (create_line (homes sources system flat)) flat.blocks) line).1 among)
+      let gives : create_command (homes sources system flat) m.block ≡ Some line =
+      ap (λ (o : Option (List ℕ)). option_map (λ (q : List ℕ). (let l : PlacedCommand = record { place = m.block.path; command = create_text m.block.path m.block.type_name; resource = q } in l)) o) at
+      ∙ ap (λ (l : PlacedCommand). Some l) (same_line line m.block.path (create_text m.block.path m.block.type_name) r m.place m.command m.on_home) in
+      let among = gives_member (create_command (homes sources system flat)) flat.blocks m.block line m.listed gives in
+      contains_filter (λ (l : PlacedCommand). bytes_eq r l.resource) (create_commands (homes sources system flat) flat.blocks) line
+      ((in_order-members command_cmp command_cmp_total command_cmp-IsAntisymmetric (filter_map (create_command (homes sources system flat)) flat.blocks) line).1 among)
       (bytes_same r line.resource (sym m.on_home))
 
   made_at : (r : List ℕ) → MakesItsBlocks sources system flat (record { name = r; commands = commands sources system flat r })
   made_at r =
-      let a = map (λ (l : Line). l.command) (makes sources system flat r) in
-      let b = map (λ (l : Line). l.command) (writes sources system flat r) in
+      let a = map (λ (l : PlacedCommand). l.command) (makes sources system flat r) in
+      let b = map (λ (l : PlacedCommand). l.command) (writes sources system flat r) in
       let c = map link_command (joins sources system flat r) in
       let d = starts sources system flat r in
       record {
@@ -198,7 +198,7 @@ module _ (sources : Sources) (system : List ℕ) (flat : PlainFlat) (cuts : List
         others = b ++ c ++ d;
         commands = parts sources system flat r ∙ ap (λ (l : List (List ℕ)). l ++ d) (append_assoc a b c) ∙ append_assoc a (b ++ c) d;
         members = λ line. (make_to r line, make_from r line);
-        in_order = IsStrictlySortedBy-filter line_cmp (λ (l : Line). bytes_eq r l.resource) (create_lines (homes sources system flat) flat.blocks) (in_order-sorted line_cmp line_cmp_total (filter_map (create_line (homes sources system flat)) flat.blocks));
+        in_order = IsStrictlySortedBy-filter command_cmp (λ (l : PlacedCommand). bytes_eq r l.resource) (create_commands (homes sources system flat) flat.blocks) (in_order-sorted command_cmp command_cmp_total (filter_map (create_command (homes sources system flat)) flat.blocks));
         no_others =
             of_either (b ++ c) d
             (of_either b c
@@ -230,55 +230,55 @@ module _ (sources : Sources) (system : List ℕ) (flat : PlainFlat) (cuts : List
           let same : (let h : Home = record { path = b.path; resource = q } in h) ≡ home = cc in
           record { block = b; listed = among; placed = sym (ap (λ (h : Home). h.path) same); is_home = e ∙ ap (λ (h : Home). Some h.resource) same }
 
-  setting : (r : List ℕ) (line : Line) (home : Home) (block : FlatBlock) (s : PlainStanding) (parameter : ParameterTree) → Contains flat.blocks block → home.path ≡ block.path → nearest (mapped sources system) block.path ≡ Some home.resource → standing_at sources system applications (path_names home.path) ≡ Some s → Contains s.instance.parameters parameter → write_line (text_or_empty sources s.unit) home parameter ≡ line → line.resource ≡ r → SetsParameter sources system flat r line
+  setting : (r : List ℕ) (line : PlacedCommand) (home : Home) (block : FlatBlock) (s : PlainResolved) (parameter : ParameterTree) → Contains flat.blocks block → home.path ≡ block.path → nearest (mapped sources system) block.path ≡ Some home.resource → resolved_at sources system applications (path_names home.path) ≡ Some s → Contains s.instance.parameters parameter → write_command (text_or_empty sources s.unit) home parameter ≡ line → line.resource ≡ r → SetsParameter sources system flat r line
   setting r line home block s parameter listed placed is_home stands among gives on =
-      let same : home.resource ≡ r = ap (λ (l : Line). l.resource) gives ∙ on in
+      let same : home.resource ≡ r = ap (λ (l : PlacedCommand). l.resource) gives ∙ on in
       record {
         block = block;
         listed = listed;
         home = of_nearest (mapped sources system) block.path r (is_home ∙ ap (λ (w : List ℕ). Some w) same);
         standing = s;
-        stands = ap (λ (t : List ℕ). standing_at sources system applications (path_names t)) (sym placed) ∙ stands;
+        stands = ap (λ (t : List ℕ). resolved_at sources system applications (path_names t)) (sym placed) ∙ stands;
         parameter = parameter;
         given = among;
-        place = sym (ap (λ (l : Line). l.place) gives) ∙ ap (λ (t : List ℕ). dotted t parameter.name.name) placed;
-        command = sym (ap (λ (l : Line). l.command) gives) ∙ ap (λ (t : List ℕ). write_text (dotted t parameter.name.name) (written (text_or_empty sources s.unit) parameter.value)) placed;
+        place = sym (ap (λ (l : PlacedCommand). l.place) gives) ∙ ap (λ (t : List ℕ). dotted t parameter.name.name) placed;
+        command = sym (ap (λ (l : PlacedCommand). l.command) gives) ∙ ap (λ (t : List ℕ). write_text (dotted t parameter.name.name) (written (text_or_empty sources s.unit) parameter.value)) placed;
         on_home = on;
       }
 
-  set_to : (r : List ℕ) (line : Line) → Contains (writes sources system flat r) line → SetsParameter sources system flat r line
+  set_to : (r : List ℕ) (line : PlacedCommand) → Contains (writes sources system flat r) line → SetsParameter sources system flat r line
   set_to r line c =
-      let kept = passes_in_filter (λ (l : Line). bytes_eq r l.resource) (write_lines sources system applications (homes_in sources system flat)) line c in
-      let lines = flat_map (home_lines sources system applications) (homes_in sources system flat) in
-      let w = origin_in_flat_map (home_lines sources system applications) (homes_in sources system flat) line ((in_order-members line_cmp line_cmp_total line_cmp-IsAntisymmetric lines line).0 kept.among) in
-      by w.origin (of_block w.origin w.among) (sym (same_bytes r line.resource kept.passes)) (standing_at sources system applications (path_names w.origin.path)) refl w.has
+      let kept = passes_in_filter (λ (l : PlacedCommand). bytes_eq r l.resource) (write_commands sources system applications (homes_in sources system flat)) line c in
+      let lines = flat_map (home_commands sources system applications) (homes_in sources system flat) in
+      let w = origin_in_flat_map (home_commands sources system applications) (homes_in sources system flat) line ((in_order-members command_cmp command_cmp_total command_cmp-IsAntisymmetric lines line).0 kept.among) in
+      by w.origin (of_block w.origin w.among) (sym (same_bytes r line.resource kept.passes)) (resolved_at sources system applications (path_names w.origin.path)) refl w.has
     where
-      by : (home : Home) → IsHomeOfBlock home → line.resource ≡ r → (o : Option PlainStanding) → standing_at sources system applications (path_names home.path) ≡ o → Contains (lines_at sources home o) line → SetsParameter sources system flat r line
+      by : (home : Home) → IsHomeOfBlock home → line.resource ≡ r → (o : Option PlainResolved) → resolved_at sources system applications (path_names home.path) ≡ o → Contains (commands_at sources home o) line → SetsParameter sources system flat r line
       by home b on None e d = absurd (contains_nothing line d)
       by home b on (Some s) e d =
-          let o = origin_in_map (write_line (text_or_empty sources s.unit) home) s.instance.parameters line d in
+          let o = origin_in_map (write_command (text_or_empty sources s.unit) home) s.instance.parameters line d in
           setting r line home b.block s o.origin b.listed b.placed b.is_home e o.among o.gives on
 
-  set_from : (r : List ℕ) (line : Line) → SetsParameter sources system flat r line → Contains (writes sources system flat r) line
+  set_from : (r : List ℕ) (line : PlacedCommand) → SetsParameter sources system flat r line → Contains (writes sources system flat r) line
   set_from r line m =
       let home : Home = record { path = m.block.path; resource = r } in
       let is_home : block_home (mapped sources system) m.block ≡ Some home =
       ap (λ (o : Option (List ℕ)). option_map (λ (q : List ℕ). (let h : Home = record { path = m.block.path; resource = q } in h)) o) (nearest_of (mapped sources system) m.block.path r m.home) in
       let at = gives_member (block_home (mapped sources system)) flat.blocks m.block home m.listed is_home in
-      let line_is : write_line (text_or_empty sources m.standing.unit) home m.parameter ≡ line = same_line line _ _ r m.place m.command m.on_home in
-      let here : Contains (lines_at sources home (Some m.standing)) line =
-      subst (λ (l : Line). Contains (lines_at sources home (Some m.standing)) l) line_is (contains_map (write_line (text_or_empty sources m.standing.unit) home) m.standing.instance.parameters m.parameter m.given) in
-      let has : Contains (home_lines sources system applications home) line = subst (λ (o : Option PlainStanding). Contains (lines_at sources home o) line) (sym m.stands) here in
-      let lines = flat_map (home_lines sources system applications) (homes_in sources system flat) in
-      let among = contains_flat_map (home_lines sources system applications) (homes_in sources system flat) home line at has in
-      contains_filter (λ (l : Line). bytes_eq r l.resource) (write_lines sources system applications (homes_in sources system flat)) line
-      ((in_order-members line_cmp line_cmp_total line_cmp-IsAntisymmetric lines line).1 among)
+      let line_is : write_command (text_or_empty sources m.standing.unit) home m.parameter ≡ line = same_line line _ _ r m.place m.command m.on_home in
+      let here : Contains (commands_at sources home (Some m.standing)) line =
+      subst (λ (l : PlacedCommand). Contains (commands_at sources home (Some m.standing)) l) line_is (contains_map (write_command (text_or_empty sources m.standing.unit) home) m.standing.instance.parameters m.parameter m.given) in
+      let has : Contains (home_commands sources system applications home) line = subst (λ (o : Option PlainResolved). Contains (commands_at sources home o) line) (sym m.stands) here in
+      let lines = flat_map (home_commands sources system applications) (homes_in sources system flat) in
+      let among = contains_flat_map (home_commands sources system applications) (homes_in sources system flat) home line at has in
+      contains_filter (λ (l : PlacedCommand). bytes_eq r l.resource) (write_commands sources system applications (homes_in sources system flat)) line
+      ((in_order-members command_cmp command_cmp_total command_cmp-IsAntisymmetric lines line).1 among)
       (bytes_same r line.resource (sym m.on_home))
 
   set_at : (r : List ℕ) → SetsItsParameters sources system flat (record { name = r; commands = commands sources system flat r })
   set_at r =
-      let a = map (λ (l : Line). l.command) (makes sources system flat r) in
-      let b = map (λ (l : Line). l.command) (writes sources system flat r) in
+      let a = map (λ (l : PlacedCommand). l.command) (makes sources system flat r) in
+      let b = map (λ (l : PlacedCommand). l.command) (writes sources system flat r) in
       let c = map link_command (joins sources system flat r) in
       let d = starts sources system flat r in
       record {
@@ -287,7 +287,7 @@ module _ (sources : Sources) (system : List ℕ) (flat : PlainFlat) (cuts : List
         behind = c ++ d;
         commands = parts sources system flat r ∙ append_assoc (a ++ b) c d;
         members = λ line. (set_to r line, set_from r line);
-        in_order = IsStrictlySortedBy-filter line_cmp (λ (l : Line). bytes_eq r l.resource) (write_lines sources system applications (homes_in sources system flat)) (in_order-sorted line_cmp line_cmp_total (flat_map (home_lines sources system applications) (homes_in sources system flat)));
+        in_order = IsStrictlySortedBy-filter command_cmp (λ (l : PlacedCommand). bytes_eq r l.resource) (write_commands sources system applications (homes_in sources system flat)) (in_order-sorted command_cmp command_cmp_total (flat_map (home_commands sources system applications) (homes_in sources system flat)));
         none_before = none_of (codes "WRITE ") (codes "CREATE FB ") a refl (all_made sources system flat r);
         none_behind =
             of_either c d
@@ -310,8 +310,8 @@ module _ (sources : Sources) (system : List ℕ) (flat : PlainFlat) (cuts : List
 
   joined_at : (r : List ℕ) → MakesItsLinks sources system flat (record { name = r; commands = commands sources system flat r })
   joined_at r =
-      let a = map (λ (l : Line). l.command) (makes sources system flat r) in
-      let b = map (λ (l : Line). l.command) (writes sources system flat r) in
+      let a = map (λ (l : PlacedCommand). l.command) (makes sources system flat r) in
+      let b = map (λ (l : PlacedCommand). l.command) (writes sources system flat r) in
       let d = starts sources system flat r in
       record {
         before = a ++ b;
@@ -329,19 +329,19 @@ module _ (sources : Sources) (system : List ℕ) (flat : PlainFlat) (cuts : List
 
   -- names and order
 
-  plan_names : (orders : List Order) (names : List (List ℕ)) → map (λ (r : PlainResource). r.name) (resource_plans orders names) ≡ names
+  plan_names : (orders : List ResourceCommand) (names : List (List ℕ)) → map (λ (r : PlainResource). r.name) (resource_plans orders names) ≡ names
   plan_names orders [] = refl
   plan_names orders (n ∷ ns) = ap (λ (l : List (List ℕ)). n ∷ l) (plan_names orders ns)
 
   pub names_are : map (λ (r : PlainResource). r.name) resources ≡ names_in sources system
   names_are =
       ap (map (λ (r : PlainResource). r.name)) it.resources_are
-      ∙ plan_names (orders_of sources system (applications_in (tree_at sources system)) (names_in sources system) flat (homes_in sources system flat)) (names_in sources system)
+      ∙ plan_names (system_commands sources system (applications_in (tree_at sources system)) (names_in sources system) flat (homes_in sources system flat)) (names_in sources system)
 
   ordered_at : (r : List ℕ) → Contains (names_in sources system) r → IsInOrder (map (λ (r : PlainResource). r.name) resources) (record { name = r; commands = commands sources system flat r })
   ordered_at r c = record {
-    blocks = map (λ (l : Line). l.command) (makes sources system flat r);
-    parameters = map (λ (l : Line). l.command) (writes sources system flat r);
+    blocks = map (λ (l : PlacedCommand). l.command) (makes sources system flat r);
+    parameters = map (λ (l : PlacedCommand). l.command) (writes sources system flat r);
     links = map link_command (joins sources system flat r);
     starts = starts sources system flat r;
     commands = parts sources system flat r;

@@ -90,21 +90,21 @@ pub use Rattle.fb_netcheck.specs.declared.ends.Position.{Position}
 pub use Rattle.fb_netcheck.specs.declared.ends.Target.TheVariants.{Found, NotJudged, Unknown}
 pub use Rattle.fb_netcheck.specs.declared.ends.Target.{Target}
 pub use Rattle.fb_placing.specs.Cuts.{cuts_of, home_at, is_cut, same_home}
-pub use Rattle.fb_placing.specs.Firsts.{first_at}
-pub use Rattle.fb_placing.specs.Homes.{astray, block_home, block_homes, homeless, misplaced, unless_faulty}
-pub use Rattle.fb_placing.specs.Lines.{create_line, create_lines, create_text, home_lines, line_cmp, line_cmp_total, lines_at, write_line, write_lines, write_text}
+pub use Rattle.fb_placing.specs.FirstEntry.{first_at}
+pub use Rattle.fb_placing.specs.Homes.{unmatched, block_home, block_homes, homeless, misplaced, unless_faulty}
+pub use Rattle.fb_placing.specs.PlacedCommands.{create_command, create_commands, create_text, home_commands, command_cmp, command_cmp_total, commands_at, write_command, write_commands, write_text}
 pub use Rattle.fb_placing.specs.Mappings.{mapping_home, mapping_path, names_used, resource_at}
-pub use Rattle.fb_placing.specs.Order.{Order}
-pub use Rattle.fb_placing.specs.Orders.{connection_orders, connection_text, line_order, link_resource, orders_of, start_order, start_text}
+pub use Rattle.fb_placing.specs.ResourceCommand.{ResourceCommand}
+pub use Rattle.fb_placing.specs.SystemCommands.{connection_commands, connection_text, without_place, link_resource, system_commands, start_command, start_text}
 pub use Rattle.fb_placing.specs.PlainResource.{PlainResource}
 pub use Rattle.fb_placing.specs.Resources.{commands_for, device_resources, resource_plan, resource_plans, resources_of}
-pub use Rattle.fb_placing.specs.Standing.{PlainStanding, application_called, inner_instances, is_placed, leads_nowhere, on_first, standing_among, standing_at, standing_beyond, standing_inside}
-unfoldable pub use Rattle.fb_placing.specs.Standing.{path_names}
+pub use Rattle.fb_placing.specs.Resolved.{PlainResolved, application_called, inner_instances, is_placed, leads_nowhere, on_first, resolved_among, resolved_at, resolved_beyond, resolved_inside}
+unfoldable pub use Rattle.fb_placing.specs.Resolved.{path_names}
 pub use Rattle.fb_placing.specs.Systems.{applications_in, devices_in, mappings_in}
 pub use Rattle.fb_placing.specs.declared.homes.Home.{Home}
 pub use Rattle.fb_placing.specs.declared.homes.Misplaced.TheVariants.{NoSuchBlock, Unmapped}
 pub use Rattle.fb_placing.specs.declared.homes.Misplaced.{Misplaced}
-pub use Rattle.fb_placing.specs.declared.lines.Line.{Line}
+pub use Rattle.fb_placing.specs.declared.plan.write_commands.PlacedCommand.{PlacedCommand}
 pub use Rattle.fb_sections.specs.Constants.{array_of, element_or_sized, in_brackets, number_with, other_literal_kinds, ranges}
 unfoldable pub use Rattle.fb_sections.specs.Constants.{array_type, constant, constant_list, length_of_string, number, plain_type, simple, type_use}
 unfoldable pub use Rattle.fb_sections.specs.Network.{blocks, connection, connections, end, inner_subapplication, instance, listed_parameters, optional_parameters, parameter, parameters, plugs, sockets, subapplications}

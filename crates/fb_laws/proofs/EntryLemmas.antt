@@ -1,5 +1,5 @@
 -- The homes of blocks are resources of the system.
-use Rattle.fb_laws.proofs.Common.{ℕ, ◌≡◌, Bool, true, false, cond, List, [], ◌∷◌, ◌++◌, Option, Some, None, inl, refl, sym, ◌∙◌, ap, subst, map, find, option_map, option_map_or, flat_map, bytes_eq, Contains-append_left, Contains-append_right, NameUse, contains_flat_map, contains_here, contains_map, contains_nothing, origin_in_map, passes_in_find, named_among, same_exact, those_reported, DeclTree, DeviceTree, MappingTree, ResourceTree, SystemTree, system_configuration, itself, Sources, tree_at, has_name, is_same, stands_for, NoSuchResource, Fault, faults_of, declared_mapping_faults, has_resource, home_faults, home_span, mapping_faults_of, resource_faults, resources_in, second_mappings, dotted, PlainFlat, Link, HasFlat, IsNearest, nearest, mapping_home, mapping_path, applications_in, devices_in, mappings_in, orders_of, PlainResource, device_resources, resource_plan, resources_of, IsPlanned, HomesHaveCommands}
+use Rattle.fb_laws.proofs.Common.{ℕ, ◌≡◌, Bool, true, false, cond, List, [], ◌∷◌, ◌++◌, Option, Some, None, inl, refl, sym, ◌∙◌, ap, subst, map, find, option_map, option_map_or, flat_map, bytes_eq, Contains-append_left, Contains-append_right, NameUse, contains_flat_map, contains_here, contains_map, contains_nothing, origin_in_map, passes_in_find, named_among, same_exact, those_reported, DeclTree, DeviceTree, MappingTree, ResourceTree, SystemTree, system_configuration, itself, Sources, tree_at, has_name, is_same, stands_for, NoSuchResource, Fault, faults_of, declared_mapping_faults, has_resource, home_faults, home_span, mapping_faults_of, resource_faults, resources_in, second_mappings, dotted, PlainFlat, Link, HasFlat, IsNearest, nearest, mapping_home, mapping_path, applications_in, devices_in, mappings_in, system_commands, PlainResource, device_resources, resource_plan, resources_of, IsPlanned, HomesHaveCommands}
 use Rattle.std.specs.Prelude.{Contains}
 use Rattle.fb_laws.proofs.HomeLemmas.{of_nearest}
 use Rattle.fb_laws.proofs.PlannedLemmas.{homes_in, known, mapped, names_in}
@@ -67,7 +67,7 @@ module _ (sources : Sources) (system : List ℕ) (flat : PlainFlat) (is : HasFla
 pub entry_named : (sources : Sources) (system : List ℕ) (flat : PlainFlat) (cuts : List Link) (resources : List PlainResource) → IsPlanned sources system flat cuts resources → (r : List ℕ) → Contains (names_in sources system) r → (entry : PlainResource) × Contains resources entry × (entry.name ≡ r)
 entry_named sources system flat cuts resources p r named =
     let k = known sources system flat cuts resources p in
-    let plans = resource_plan (orders_of sources system (applications_in (tree_at sources system)) (names_in sources system) flat (homes_in sources system flat)) in
+    let plans = resource_plan (system_commands sources system (applications_in (tree_at sources system)) (names_in sources system) flat (homes_in sources system flat)) in
     (plans r, subst (λ (l : List PlainResource). Contains l (plans r)) (sym k.resources_are) (contains_map plans (names_in sources system) r named), refl)
 
 pub homes_have : HomesHaveCommands

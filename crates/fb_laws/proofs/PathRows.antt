@@ -1,5 +1,5 @@
 -- What is made where, and what is misplaced, by what stands at the paths of a system and what its mappings name.
-use Rattle.fb_laws.proofs.Common.{◌≡◌, ◌≢◌, ℕ, Bool, true, false, List, [], ◌∷◌, ◌++◌, Option, Some, None, ◌⊎◌, inl, inr, refl, sym, ap, ◌∙◌, subst, map, true≢false, filter, is_none, codes, nat_list_cmp_total, nat_cmp-IsAntisymmetric, slice_cmp-IsAntisymmetric, append_cancel_left, Contains-append_cases, Contains-append_left, Contains-append_right, name_cmp, names_in_order, in_order-members, contains_filter, contains_map, contains_nothing, origin_in_map, passes_in_filter, DeclTree, InstanceTree, MappingTree, SystemTree, system_configuration, Sources, tree_at, faulty, planned, planned_by, with_homes, HasFlat, IsNet, IsSound, PlainNet, blocked, flat_net, recursive, too_large, plan_at_is, PlainFlat, FlatBlock, Link, IsNearest, nearest, astray, block_homes, homeless, misplaced, unless_faulty, create_text, mapping_path, names_used, resource_at, PlainResource, leads_nowhere, mappings_in, Home, Misplaced, NoSuchBlock, Unmapped, Line, is_nearest, IsSystemAt, AllBlocksAreMade, BlocksAreMadeWhereMapped, IsAbove, IsAtPath, IsMappedTo, IsMisplaced, IsOfSomething, MakesMapped, MisplacedIsTold, NothingPlannedIsMisplaced, OnlyBlocksAreMade, making, of_nothing, path_of, unmapped, with_points, IsHome, BeginsWith, MakesItsBlocks}
+use Rattle.fb_laws.proofs.Common.{◌≡◌, ◌≢◌, ℕ, Bool, true, false, List, [], ◌∷◌, ◌++◌, Option, Some, None, ◌⊎◌, inl, inr, refl, sym, ap, ◌∙◌, subst, map, true≢false, filter, is_none, codes, nat_list_cmp_total, nat_cmp-IsAntisymmetric, slice_cmp-IsAntisymmetric, append_cancel_left, Contains-append_cases, Contains-append_left, Contains-append_right, name_cmp, names_in_order, in_order-members, contains_filter, contains_map, contains_nothing, origin_in_map, passes_in_filter, DeclTree, InstanceTree, MappingTree, SystemTree, system_configuration, Sources, tree_at, faulty, planned, planned_by, with_homes, HasFlat, IsNet, IsSound, PlainNet, blocked, flat_net, recursive, too_large, plan_at_is, PlainFlat, FlatBlock, Link, IsNearest, nearest, unmatched, block_homes, homeless, misplaced, unless_faulty, create_text, mapping_path, names_used, resource_at, PlainResource, leads_nowhere, mappings_in, Home, Misplaced, NoSuchBlock, Unmapped, PlacedCommand, is_nearest, IsSystemAt, AllBlocksAreMade, BlocksAreMadeWhereMapped, IsAbove, IsAtPath, IsMappedTo, IsMisplaced, IsOfSomething, MakesMapped, MisplacedIsTold, NothingPlannedIsMisplaced, OnlyBlocksAreMade, making, of_nothing, path_of, unmapped, with_points, IsHome, BeginsWith, MakesItsBlocks}
 use Rattle.std.specs.Prelude.{Contains, ◌↔◌}
 use Rattle.fb_tree.specs.declared.network.Role.TheVariants as roles
 use Rattle.fb_deploy.specs.Plans.{plan_at}
@@ -69,12 +69,12 @@ module _ (sources : Sources) (unit : List ℕ) (s : SystemTree) (is : IsSystemAt
 
       -- a command that makes a block
       made_line : (command : List ℕ) → Contains entry.commands command → BeginsWith (codes "CREATE FB ") command → MakesMapped sources s entry.name command
-      made_line command c begins = by (Contains-append_cases (map (λ (l : Line). l.command) makes.lines) makes.others command (subst (λ (l : List (List ℕ)). Contains l command) makes.commands c))
+      made_line command c begins = by (Contains-append_cases (map (λ (l : PlacedCommand). l.command) makes.lines) makes.others command (subst (λ (l : List (List ℕ)). Contains l command) makes.commands c))
         where
-          by : Contains (map (λ (l : Line). l.command) makes.lines) command ⊎ Contains makes.others command → MakesMapped sources s entry.name command
+          by : Contains (map (λ (l : PlacedCommand). l.command) makes.lines) command ⊎ Contains makes.others command → MakesMapped sources s entry.name command
           by (inr d) = absurd (makes.no_others command d begins)
           by (inl d) =
-              let o = origin_in_map (λ (l : Line). l.command) makes.lines command d in
+              let o = origin_in_map (λ (l : PlacedCommand). l.command) makes.lines command d in
               let m = (makes.members o.origin).0 o.among in
               let b = blocks.stands m.block m.listed in
               let at_path : IsHome sources unit (with_points b.path) entry.name = subst (λ (p : List ℕ). IsHome sources unit p entry.name) (sym b.place) m.home in
@@ -97,10 +97,10 @@ module _ (sources : Sources) (unit : List ℕ) (s : SystemTree) (is : IsSystemAt
       made_from : (path : Path) (i : InstanceTree) → IsAtPath sources s path i → i.role ≡ roles.Block → IsMappedTo s path entry.name → Contains entry.commands (making path i)
       made_from path i at role h =
           let block : FlatBlock = record { path = with_points path; type_name = i.type_name.name } in
-          let line : Line = record { place = with_points path; command = making path i; resource = entry.name } in
+          let line : PlacedCommand = record { place = with_points path; command = making path i; resource = entry.name } in
           let c = (makes.members line).1 (record { block = block; listed = blocks.listed path i at role; home = home path i entry.name at h; place = refl; command = refl; on_home = refl }) in
           subst (λ (l : List (List ℕ)). Contains l (making path i)) (sym makes.commands)
-          (Contains-append_left (map (λ (l : Line). l.command) makes.lines) makes.others (making path i) (contains_map (λ (l : Line). l.command) makes.lines line c))
+          (Contains-append_left (map (λ (l : PlacedCommand). l.command) makes.lines) makes.others (making path i) (contains_map (λ (l : PlacedCommand). l.command) makes.lines line c))
 
     is_made : (cuts : List Link) (resources : List PlainResource) → plan_at sources unit ≡ Some (planned cuts resources) → (path : Path) (i : InstanceTree) → IsAtPath sources s path i → i.role ≡ roles.Block → IsMade s resources path i
     is_made cuts resources plan path i at role =
@@ -117,7 +117,7 @@ module _ (sources : Sources) (unit : List ℕ) (s : SystemTree) (is : IsSystemAt
     homeless_in = homeless (resource_at s.mappings) flat.blocks
 
     abbrev astray_in : List (List ℕ)
-    astray_in = astray sources unit s.applications s.mappings
+    astray_in = unmatched sources unit s.applications s.mappings
 
     abbrev told : List Misplaced
     told = misplaced sources unit (Some (system_configuration s)) flat.blocks

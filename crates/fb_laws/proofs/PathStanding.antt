@@ -1,8 +1,8 @@
 -- Where names lead to in a sound system is what stands at their path.
-use Rattle.fb_laws.proofs.Common.{◌≡◌, ℕ, Bool, true, false, not, List, [], ◌∷◌, ◌++◌, Option, Some, None, ◌⊎◌, inl, inr, refl, sym, ap, ◌∙◌, subst, append_assoc, append-nil, true≢false, find, is_none, option_map, option_map_or, bytes_eq, not-false, contains_nothing, passes_in_find, ApplicationTree, DeclTree, InstanceTree, SystemTree, subapplication_type, Role, Sources, tree_at, IsSound, first_at, PlainStanding, application_called, inner_instances, is_placed, leads_nowhere, standing_among, standing_at, standing_beyond, standing_inside, IsSystemAt, IsAtPath, IsOfSomething, in_application, inside, of_application}
+use Rattle.fb_laws.proofs.Common.{◌≡◌, ℕ, Bool, true, false, not, List, [], ◌∷◌, ◌++◌, Option, Some, None, ◌⊎◌, inl, inr, refl, sym, ap, ◌∙◌, subst, append_assoc, append-nil, true≢false, find, is_none, option_map, option_map_or, bytes_eq, not-false, contains_nothing, passes_in_find, ApplicationTree, DeclTree, InstanceTree, SystemTree, subapplication_type, Role, Sources, tree_at, IsSound, first_at, PlainResolved, application_called, inner_instances, is_placed, leads_nowhere, resolved_among, resolved_at, resolved_beyond, resolved_inside, IsSystemAt, IsAtPath, IsOfSomething, in_application, inside, of_application}
 use Rattle.std.specs.Prelude.{Contains, option_and_then}
 use Rattle.fb_tree.specs.declared.network.Role.TheVariants as roles
-use Rattle.fb_placing.proofs.StandingLemmas.{beyond_nothing}
+use Rattle.fb_placing.proofs.ResolvedLemmas.{beyond_nothing}
 use Rattle.fb_laws.specs.Paths.{of_block, of_subapplication}
 use Rattle.fb_laws.proofs.HomeLemmas.{same_bytes}
 use Rattle.fb_laws.proofs.PathHolders.{applications_apart, first_own, holder_of, instances_apart, is_subapplication, type_apart, type_below}
@@ -35,46 +35,46 @@ module _ (sources : Sources) (unit : List ℕ) (s : SystemTree) (is : IsSystemAt
       subst (λ (n : List ℕ). IsAtPath sources s (path ++ n ∷ []) j) named (inside d j at role there c)
   step_in path i at name j o there c named = absurd (contains_nothing j c)
 
-  next_at : (path : Path) (st : PlainStanding) → IsAtPath sources s path st.instance → (name : List ℕ) (next : PlainStanding) → standing_inside sources name st ≡ Some next → IsAtPath sources s (path ++ name ∷ []) next.instance
+  next_at : (path : Path) (st : PlainResolved) → IsAtPath sources s path st.instance → (name : List ℕ) (next : PlainResolved) → resolved_inside sources name st ≡ Some next → IsAtPath sources s (path ++ name ∷ []) next.instance
   next_at path st at name next e =
       let type = st.instance.type_name.name in
-      let f = found_in (λ (i : InstanceTree). i.name.name) (λ (i : InstanceTree). (let it : PlainStanding = record { unit = type; instance = i } in it)) (inner_instances (tree_at sources type)) name next e in
-      subst (λ (i : InstanceTree). IsAtPath sources s (path ++ name ∷ []) i) (ap (λ (t : PlainStanding). t.instance) f.gives)
+      let f = found_in (λ (i : InstanceTree). i.name.name) (λ (i : InstanceTree). (let it : PlainResolved = record { unit = type; instance = i } in it)) (inner_instances (tree_at sources type)) name next e in
+      subst (λ (i : InstanceTree). IsAtPath sources s (path ++ name ∷ []) i) (ap (λ (t : PlainResolved). t.instance) f.gives)
       (step_in path st.instance at name f.item (tree_at sources type) refl f.among f.named)
 
-  beyond_at : (names : Path) (path : Path) (st end : PlainStanding) → IsAtPath sources s path st.instance → standing_beyond sources (Some st) names ≡ Some end → IsAtPath sources s (path ++ names) end.instance
+  beyond_at : (names : Path) (path : Path) (st end : PlainResolved) → IsAtPath sources s path st.instance → resolved_beyond sources (Some st) names ≡ Some end → IsAtPath sources s (path ++ names) end.instance
   beyond_at [] path st end at e =
       let same : st ≡ end = cc in
-      subst (λ (p : Path). IsAtPath sources s p end.instance) (sym (append-nil path)) (subst (λ (t : PlainStanding). IsAtPath sources s path t.instance) same at)
-  beyond_at (name ∷ names) path st end at e = by (standing_inside sources name st) refl e (λ next f. beyond_at names (path ++ name ∷ []) next end (next_at path st at name next f))
+      subst (λ (p : Path). IsAtPath sources s p end.instance) (sym (append-nil path)) (subst (λ (t : PlainResolved). IsAtPath sources s path t.instance) same at)
+  beyond_at (name ∷ names) path st end at e = by (resolved_inside sources name st) refl e (λ next f. beyond_at names (path ++ name ∷ []) next end (next_at path st at name next f))
     where
-      by : (o : Option PlainStanding) → standing_inside sources name st ≡ o → standing_beyond sources o names ≡ Some end → ((next : PlainStanding) → standing_inside sources name st ≡ Some next → standing_beyond sources (Some next) names ≡ Some end → IsAtPath sources s ((path ++ name ∷ []) ++ names) end.instance) → IsAtPath sources s (path ++ name ∷ names) end.instance
+      by : (o : Option PlainResolved) → resolved_inside sources name st ≡ o → resolved_beyond sources o names ≡ Some end → ((next : PlainResolved) → resolved_inside sources name st ≡ Some next → resolved_beyond sources (Some next) names ≡ Some end → IsAtPath sources s ((path ++ name ∷ []) ++ names) end.instance) → IsAtPath sources s (path ++ name ∷ names) end.instance
       by None f g more = absurd (let none = sym (beyond_nothing sources names) ∙ g in let no : ⊥ = cc in no)
       by (Some next) f g more = subst (λ (p : Path). IsAtPath sources s p end.instance) (append_assoc path (name ∷ []) names) (more next f g)
 
-  pub lead_to : (a name : List ℕ) (names : Path) (end : PlainStanding) → standing_at sources unit s.applications (a ∷ name ∷ names) ≡ Some end → IsAtPath sources s (a ∷ name ∷ names) end.instance
+  pub lead_to : (a name : List ℕ) (names : Path) (end : PlainResolved) → resolved_at sources unit s.applications (a ∷ name ∷ names) ≡ Some end → IsAtPath sources s (a ∷ name ∷ names) end.instance
   lead_to a name names end e = by_application (application_called s.applications a) refl e
     where
-      by_instance : (it : ApplicationTree) → Contains s.applications it → it.name.name ≡ a → (o : Option PlainStanding) → standing_among unit it.network.instances name ≡ o → standing_beyond sources o names ≡ Some end → IsAtPath sources s (a ∷ name ∷ names) end.instance
+      by_instance : (it : ApplicationTree) → Contains s.applications it → it.name.name ≡ a → (o : Option PlainResolved) → resolved_among unit it.network.instances name ≡ o → resolved_beyond sources o names ≡ Some end → IsAtPath sources s (a ∷ name ∷ names) end.instance
       by_instance it c named None f g = absurd (let none = sym (beyond_nothing sources names) ∙ g in let no : ⊥ = cc in no)
       by_instance it c named (Some st) f g =
-          let i = found_in (λ (i : InstanceTree). i.name.name) (λ (i : InstanceTree). (let it : PlainStanding = record { unit = unit; instance = i } in it)) it.network.instances name st f in
-          let here = subst (λ (j : InstanceTree). IsAtPath sources s (it.name.name ∷ i.item.name.name ∷ []) j) (ap (λ (t : PlainStanding). t.instance) i.gives) (in_application it i.item c i.among) in
+          let i = found_in (λ (i : InstanceTree). i.name.name) (λ (i : InstanceTree). (let it : PlainResolved = record { unit = unit; instance = i } in it)) it.network.instances name st f in
+          let here = subst (λ (j : InstanceTree). IsAtPath sources s (it.name.name ∷ i.item.name.name ∷ []) j) (ap (λ (t : PlainResolved). t.instance) i.gives) (in_application it i.item c i.among) in
           let there : IsAtPath sources s (a ∷ name ∷ []) st.instance = subst (λ (n : List ℕ). IsAtPath sources s (n ∷ name ∷ []) st.instance) named (subst (λ (n : List ℕ). IsAtPath sources s (it.name.name ∷ n ∷ []) st.instance) i.named here) in
           beyond_at names (a ∷ name ∷ []) st end there g
 
-      by_application : (o : Option ApplicationTree) → application_called s.applications a ≡ o → option_and_then (λ (it : ApplicationTree). standing_beyond sources (standing_among unit it.network.instances name) names) o ≡ Some end → IsAtPath sources s (a ∷ name ∷ names) end.instance
+      by_application : (o : Option ApplicationTree) → application_called s.applications a ≡ o → option_and_then (λ (it : ApplicationTree). resolved_beyond sources (resolved_among unit it.network.instances name) names) o ≡ Some end → IsAtPath sources s (a ∷ name ∷ names) end.instance
       by_application None f g = absurd (let no : ⊥ = cc in no)
       by_application (Some it) f g =
           let found = found_in (λ (x : ApplicationTree). x.name.name) (λ (x : ApplicationTree). x) s.applications a it f in
           let named : it.name.name ≡ a = ap (λ (x : ApplicationTree). x.name.name) (sym found.gives) ∙ found.named in
-          by_instance it (subst (λ (x : ApplicationTree). Contains s.applications x) found.gives found.among) named (standing_among unit it.network.instances name) refl g
+          by_instance it (subst (λ (x : ApplicationTree). Contains s.applications x) found.gives found.among) named (resolved_among unit it.network.instances name) refl g
 
   -- ---- and back
 
-  beyond_push : (o : Option PlainStanding) (names : Path) (name : List ℕ) → standing_beyond sources o (names ++ name ∷ []) ≡ option_and_then (standing_inside sources name) (standing_beyond sources o names)
+  beyond_push : (o : Option PlainResolved) (names : Path) (name : List ℕ) → resolved_beyond sources o (names ++ name ∷ []) ≡ option_and_then (resolved_inside sources name) (resolved_beyond sources o names)
   beyond_push o [] name = refl
-  beyond_push o (first ∷ names) name = beyond_push (option_and_then (standing_inside sources first) o) names name
+  beyond_push o (first ∷ names) name = beyond_push (option_and_then (resolved_inside sources first) o) names name
 
   -- the application and the names behind it, and where these lead to
   pub record Leads (path : Path) (i : InstanceTree) : Type 0 where
@@ -84,7 +84,7 @@ module _ (sources : Sources) (unit : List ℕ) (s : SystemTree) (is : IsSystemAt
     pub others : Path
     pub is_path : path ≡ application.name.name ∷ first ∷ others
     pub holder : List ℕ
-    pub leads : standing_beyond sources (standing_among unit application.network.instances first) others ≡ Some (record { unit = holder; instance = i })
+    pub leads : resolved_beyond sources (resolved_among unit application.network.instances first) others ≡ Some (record { unit = holder; instance = i })
 
   pub leads_at : (path : Path) (i : InstanceTree) → IsAtPath sources s path i → Leads path i
   leads_at path end (in_application a i ca ci) = record {
@@ -94,13 +94,13 @@ module _ (sources : Sources) (unit : List ℕ) (s : SystemTree) (is : IsSystemAt
     others = [];
     is_path = refl;
     holder = unit;
-    leads = first_own (λ (j : InstanceTree). j.name) (λ (j : InstanceTree). (let it : PlainStanding = record { unit = unit; instance = j } in it)) a.network.instances (instances_apart sources unit sound s is a ca) i ci;
+    leads = first_own (λ (j : InstanceTree). j.name) (λ (j : InstanceTree). (let it : PlainResolved = record { unit = unit; instance = j } in it)) a.network.instances (instances_apart sources unit sound s is a ca) i ci;
   }
   leads_at path end (inside {path = before} {outer = outer} type i at role there ci) =
       let o = leads_at before outer at in
       let below = type_below sources unit outer (holder_of sources unit s is before outer at) in
       let name = outer.type_name.name in
-      let own = first_own (λ (j : InstanceTree). j.name) (λ (j : InstanceTree). (let it : PlainStanding = record { unit = name; instance = j } in it)) type.network.instances (type_apart sources unit sound name type below there) i ci in
+      let own = first_own (λ (j : InstanceTree). j.name) (λ (j : InstanceTree). (let it : PlainResolved = record { unit = name; instance = j } in it)) type.network.instances (type_apart sources unit sound name type below there) i ci in
       record {
         application = o.application;
         listed = o.listed;
@@ -109,20 +109,20 @@ module _ (sources : Sources) (unit : List ℕ) (s : SystemTree) (is : IsSystemAt
         is_path = ap (λ (p : Path). p ++ i.name.name ∷ []) o.is_path;
         holder = name;
         leads =
-            beyond_push (standing_among unit o.application.network.instances o.first) o.others i.name.name
-            ∙ ap (option_and_then (standing_inside sources i.name.name)) o.leads
-            ∙ ap (λ (t : Option DeclTree). standing_among name (inner_instances t) i.name.name) there ∙ own;
+            beyond_push (resolved_among unit o.application.network.instances o.first) o.others i.name.name
+            ∙ ap (option_and_then (resolved_inside sources i.name.name)) o.leads
+            ∙ ap (λ (t : Option DeclTree). resolved_among name (inner_instances t) i.name.name) there ∙ own;
       }
 
   called : (a : ApplicationTree) → Contains s.applications a → application_called s.applications a.name.name ≡ Some a
   called a c = first_own (λ (x : ApplicationTree). x.name) (λ (x : ApplicationTree). x) s.applications (applications_apart sources unit sound s is) a c
 
-  pub led_to : (path : Path) (i : InstanceTree) → IsAtPath sources s path i → (holder : List ℕ) × (standing_at sources unit s.applications path ≡ Some (record { unit = holder; instance = i }))
+  pub led_to : (path : Path) (i : InstanceTree) → IsAtPath sources s path i → (holder : List ℕ) × (resolved_at sources unit s.applications path ≡ Some (record { unit = holder; instance = i }))
   led_to path i at =
       let o = leads_at path i at in (
         o.holder,
-        ap (standing_at sources unit s.applications) o.is_path
-            ∙ ap (option_and_then (λ (it : ApplicationTree). standing_beyond sources (standing_among unit it.network.instances o.first) o.others)) (called o.application o.listed)
+        ap (resolved_at sources unit s.applications) o.is_path
+            ∙ ap (option_and_then (λ (it : ApplicationTree). resolved_beyond sources (resolved_among unit it.network.instances o.first) o.others)) (called o.application o.listed)
             ∙ o.leads,
       )
 
@@ -145,9 +145,9 @@ module _ (sources : Sources) (unit : List ℕ) (s : SystemTree) (is : IsSystemAt
       by (Some it) f g =
           let found = found_in (λ (x : ApplicationTree). x.name.name) (λ (x : ApplicationTree). x) s.applications first it f in
           subst (λ (n : List ℕ). IsOfSomething sources s (n ∷ [])) found.named (of_application found.item found.among)
-  somewhere first (name ∷ names) e = by (standing_at sources unit s.applications (first ∷ name ∷ names)) refl e
+  somewhere first (name ∷ names) e = by (resolved_at sources unit s.applications (first ∷ name ∷ names)) refl e
     where
-      by : (o : Option PlainStanding) → standing_at sources unit s.applications (first ∷ name ∷ names) ≡ o → option_map_or (λ (t : PlainStanding). not (is_placed t.instance.role)) o true ≡ false → IsOfSomething sources s (first ∷ name ∷ names)
+      by : (o : Option PlainResolved) → resolved_at sources unit s.applications (first ∷ name ∷ names) ≡ o → option_map_or (λ (t : PlainResolved). not (is_placed t.instance.role)) o true ≡ false → IsOfSomething sources s (first ∷ name ∷ names)
       by None f g = absurd (true≢false g)
       by (Some st) f g = elim (placed_role st.instance.role (not-false (is_placed st.instance.role) g)) [ inl role ↦ of_block st.instance (lead_to first name names st f) role | inr role ↦ of_subapplication st.instance (lead_to first name names st f) role ]
 
@@ -157,8 +157,8 @@ module _ (sources : Sources) (unit : List ℕ) (s : SystemTree) (is : IsSystemAt
       let o = leads_at path i at in
       let there = led_to path i at in
       let long = o.application.name.name ∷ o.first ∷ o.others in
-      let leads : standing_at sources unit s.applications long ≡ Some (record { unit = there.0; instance = i }) = ap (standing_at sources unit s.applications) (sym o.is_path) ∙ there.1 in
-      ap nowhere o.is_path ∙ ap (λ (t : Option PlainStanding). option_map_or (λ (t : PlainStanding). not (is_placed t.instance.role)) t true) leads ∙ ap not placed
+      let leads : resolved_at sources unit s.applications long ≡ Some (record { unit = there.0; instance = i }) = ap (resolved_at sources unit s.applications) (sym o.is_path) ∙ there.1 in
+      ap nowhere o.is_path ∙ ap (λ (t : Option PlainResolved). option_map_or (λ (t : PlainResolved). not (is_placed t.instance.role)) t true) leads ∙ ap not placed
 
   -- and those of something do
   pub of_something : (path : Path) → IsOfSomething sources s path → nowhere path ≡ false

@@ -1,5 +1,5 @@
 -- A system has commands where nothing is misplaced.
-use Rattle.fb_laws.proofs.Common.{ℕ, ◌≡◌, Bool, true, false, List, [], ◌∷◌, ◌++◌, Option, refl, sym, ◌∙◌, ap, subst, map, filter, is_none, nat_list_cmp_total, nat_cmp-IsAntisymmetric, slice_cmp-IsAntisymmetric, false≢true, Contains-append_right, name_cmp, names_in_order, in_order-members, contains_filter, contains_here, contains_map, contains_nothing, origin_in_map, passes_in_filter, plan_at_is, MappingTree, Sources, tree_at, FlatBlock, PlainFlat, HasFlat, flat_net, cuts_of, home_at, nearest, astray, homeless, misplaced, unless_faulty, mapping_path, names_used, IsSystem, leads_nowhere, applications_in, mappings_in, Misplaced, NoSuchBlock, Unmapped, planned, with_homes, orders_of, resource_plans, HasCommands, IsPlacedWhole, PlacedSystemsHaveCommands}
+use Rattle.fb_laws.proofs.Common.{ℕ, ◌≡◌, Bool, true, false, List, [], ◌∷◌, ◌++◌, Option, refl, sym, ◌∙◌, ap, subst, map, filter, is_none, nat_list_cmp_total, nat_cmp-IsAntisymmetric, slice_cmp-IsAntisymmetric, false≢true, Contains-append_right, name_cmp, names_in_order, in_order-members, contains_filter, contains_here, contains_map, contains_nothing, origin_in_map, passes_in_filter, plan_at_is, MappingTree, Sources, tree_at, FlatBlock, PlainFlat, HasFlat, flat_net, cuts_of, home_at, nearest, unmatched, homeless, misplaced, unless_faulty, mapping_path, names_used, IsSystem, leads_nowhere, applications_in, mappings_in, Misplaced, NoSuchBlock, Unmapped, planned, with_homes, system_commands, resource_plans, HasCommands, IsPlacedWhole, PlacedSystemsHaveCommands}
 use Rattle.std.specs.Prelude.{Contains}
 use Rattle.fb_laws.proofs.HomeLemmas.{nearest_of, of_nearest}
 use Rattle.fb_laws.proofs.PlannedLemmas.{homes_in, known, mapped, names_in}
@@ -16,7 +16,7 @@ module _ (sources : Sources) (system : List ℕ) (flat : PlainFlat) where
   mappings = mappings_in (tree_at sources system)
 
   abbrev lost : List (List ℕ)
-  lost = astray sources system (applications_in (tree_at sources system)) mappings
+  lost = unmatched sources system (applications_in (tree_at sources system)) mappings
 
   -- a mapping that leads nowhere is misplaced
   is_astray : (m : MappingTree) → Contains mappings m → nowhere m ≡ true → misplaced sources system (tree_at sources system) flat.blocks ≡ [] → ⊥
@@ -52,7 +52,7 @@ module _ (sources : Sources) (system : List ℕ) (flat : PlainFlat) where
   pub commands_of : IsSystem sources system → HasFlat sources system flat → IsPlacedWhole sources system flat → HasCommands sources system flat
   commands_of is net w =
       let cuts = cuts_of (home_at (homes_in sources system flat)) flat.links in
-      let resources = resource_plans (orders_of sources system (applications_in (tree_at sources system)) (names_in sources system) flat (homes_in sources system flat)) (names_in sources system) in
+      let resources = resource_plans (system_commands sources system (applications_in (tree_at sources system)) (names_in sources system) flat (homes_in sources system flat)) (names_in sources system) in
       let nothing : misplaced sources system (tree_at sources system) flat.blocks ≡ [] =
       (λ i. map (λ (p : List ℕ). Unmapped p) (names_in_order (none_homeless w i)) ++ map (λ (p : List ℕ). NoSuchBlock p) (names_in_order (none_lost w i))) in
       record {

@@ -1,5 +1,5 @@
 -- What is known of a system with a plan.
-use Rattle.fb_laws.proofs.Common.{ℕ, ◌≡◌, List, [], ◌∷◌, Option, Some, None, refl, ◌∙◌, ap, subst, map, filter, is_none, IsStrictlySortedBy, nat_list_cmp_total, nat_cmp-IsAntisymmetric, slice_cmp-IsAntisymmetric, Contains-append_left, name_cmp, names_in_order, in_order-members, contains_filter, contains_map, contains_nothing, plan_at_is, Sources, tree_at, FlatBlock, Link, PlainFlat, HasFlat, flat_net, IsUnitFlat, OfSubapplication, OfSystem, link_cmp, cuts_of, home_at, nearest, block_homes, homeless, misplaced, unless_faulty, resource_at, IsSystem, applications_in, devices_in, mappings_in, Home, Misplaced, Unmapped, IsPlan, planned, planned_by, with_homes, orders_of, PlainResource, resource_plans, resources_of, IsPlanned, StandsOn}
+use Rattle.fb_laws.proofs.Common.{ℕ, ◌≡◌, List, [], ◌∷◌, Option, Some, None, refl, ◌∙◌, ap, subst, map, filter, is_none, IsStrictlySortedBy, nat_list_cmp_total, nat_cmp-IsAntisymmetric, slice_cmp-IsAntisymmetric, Contains-append_left, name_cmp, names_in_order, in_order-members, contains_filter, contains_map, contains_nothing, plan_at_is, Sources, tree_at, FlatBlock, Link, PlainFlat, HasFlat, flat_net, IsUnitFlat, OfSubapplication, OfSystem, link_cmp, cuts_of, home_at, nearest, block_homes, homeless, misplaced, unless_faulty, resource_at, IsSystem, applications_in, devices_in, mappings_in, Home, Misplaced, Unmapped, IsPlan, planned, planned_by, with_homes, system_commands, PlainResource, resource_plans, resources_of, IsPlanned, StandsOn}
 use Rattle.std.specs.Prelude.{Contains}
 use Rattle.fb_deploy.proofs.Flatten.OneNet.{one_net_only}
 use Rattle.fb_laws.proofs.HomeLemmas.{HasHome, end_home, home_end}
@@ -19,7 +19,7 @@ pub record Known (sources : Sources) (system : List ℕ) (flat : PlainFlat) (cut
   pub placed : misplaced sources system (tree_at sources system) flat.blocks ≡ []
   pub homes : (b : FlatBlock) → Contains flat.blocks b → HasHome (mapped sources system) b
   pub cuts_are : cuts ≡ cuts_of (home_at (homes_in sources system flat)) flat.links
-  pub resources_are : resources ≡ resource_plans (orders_of sources system (applications_in (tree_at sources system)) (names_in sources system) flat (homes_in sources system flat)) (names_in sources system)
+  pub resources_are : resources ≡ resource_plans (system_commands sources system (applications_in (tree_at sources system)) (names_in sources system) flat (homes_in sources system flat)) (names_in sources system)
 
 -- a block without a home is misplaced
 is_unmapped : (sources : Sources) (system : List ℕ) (blocks : List FlatBlock) (b : FlatBlock) → Contains blocks b → nearest (mapped sources system) b.path ≡ None → misplaced sources system (tree_at sources system) blocks ≡ [] → ⊥

@@ -24,7 +24,7 @@ pub use Rattle.fb_netcheck.specs.declared.ends.Port.{Port}
 pub use Rattle.fb_netcheck.specs.declared.ends.Position.{Position}
 pub use Rattle.fb_netcheck.specs.declared.ends.Position.TheVariants.{Destination, Source}
 pub use Rattle.fb_placing.specs.PlainResource.{PlainResource}
-pub use Rattle.fb_placing.specs.Standing.{PlainStanding, leads_nowhere, path_names, standing_at}
+pub use Rattle.fb_placing.specs.Resolved.{PlainResolved, leads_nowhere, path_names, resolved_at}
 pub use Rattle.fb_placing.specs.Systems.{applications_in, mappings_in}
 pub use Rattle.fb_sections.specs.Constants.{constant, type_use}
 pub use Rattle.fb_structured_text.specs.Forms.Form.{Form, Spells, as_value, one}

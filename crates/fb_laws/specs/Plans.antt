@@ -2,14 +2,14 @@
 use Rattle.std.specs.Prelude.{◌≡◌, ◌≢◌, ◌↔◌, ◌⊎◌, ℕ, List, [], ◌∷◌, ◌++◌, map, Some, Contains, codes}
 use Rattle.std.specs.List.{flat_map}
 use Rattle.std.specs.List.Sorted.{IsStrictlySortedBy}
-use Rattle.fb_laws.specs.Common.{ParameterTree, SystemTree, system_configuration, Sources, text_or_empty, tree_at, FlatBlock, Link, PlainFlat, HasFlat, PlainStanding, path_names, standing_at, applications_in, PlainResource}
+use Rattle.fb_laws.specs.Common.{ParameterTree, SystemTree, system_configuration, Sources, text_or_empty, tree_at, FlatBlock, Link, PlainFlat, HasFlat, PlainResolved, path_names, resolved_at, applications_in, PlainResource}
 use Rattle.fb_wiring.specs.Network.LinkOrder.{link_cmp}
 use Rattle.fb_wiring.specs.Network.Places.{dotted}
 use Rattle.fb_deploy.specs.Mapping.Placed.{IsSystem}
-use Rattle.fb_placing.specs.Lines.{create_text, line_cmp, write_text}
-use Rattle.fb_placing.specs.Orders.{connection_text}
-use Rattle.fb_placing.specs.Written.{written}
-use Rattle.fb_placing.specs.declared.lines.Line.{Line}
+use Rattle.fb_placing.specs.PlacedCommands.{create_text, command_cmp, write_text}
+use Rattle.fb_placing.specs.SystemCommands.{connection_text}
+use Rattle.fb_placing.specs.ConstantTexts.{written}
+use Rattle.fb_placing.specs.declared.plan.write_commands.PlacedCommand.{PlacedCommand}
 use Rattle.fb_laws.specs.Planned.{HasCommands, IsHome, IsPlacedWhole, IsPlanned, StandsOn}
 
 -- ---- cuts
@@ -42,7 +42,7 @@ abbrev pub NoneBegins : List ℕ → List (List ℕ) → Type 0
 NoneBegins start commands = (command : List ℕ) → Contains commands command → ¬ BeginsWith start command
 
 -- the line that makes a block whose home is this resource
-pub record MakesBlock (sources : Sources) (system : List ℕ) (flat : PlainFlat) (resource : List ℕ) (line : Line) : Type 0 where
+pub record MakesBlock (sources : Sources) (system : List ℕ) (flat : PlainFlat) (resource : List ℕ) (line : PlacedCommand) : Type 0 where
   pub block : FlatBlock
   pub listed : Contains flat.blocks block
   pub home : IsHome sources system block.path resource
@@ -52,20 +52,20 @@ pub record MakesBlock (sources : Sources) (system : List ℕ) (flat : PlainFlat)
 
 -- The commands of a resource make the blocks whose home it is, by the bytes of their paths, each once; no other command makes a block.
 pub record MakesItsBlocks (sources : Sources) (system : List ℕ) (flat : PlainFlat) (entry : PlainResource) : Type 0 where
-  pub lines : List Line
+  pub lines : List PlacedCommand
   pub others : List (List ℕ)
   pub commands : entry.commands ≡ map (λ l. l.command) lines ++ others
-  pub members : (line : Line) → Contains lines line ↔ MakesBlock sources system flat entry.name line
-  pub in_order : IsStrictlySortedBy line_cmp lines
+  pub members : (line : PlacedCommand) → Contains lines line ↔ MakesBlock sources system flat entry.name line
+  pub in_order : IsStrictlySortedBy command_cmp lines
   pub no_others : NoneBegins (codes "CREATE FB ") others
 
 -- the line that sets a parameter of a block whose home is this resource, to the constant that the text of the block's instance has
-pub record SetsParameter (sources : Sources) (system : List ℕ) (flat : PlainFlat) (resource : List ℕ) (line : Line) : Type 0 where
+pub record SetsParameter (sources : Sources) (system : List ℕ) (flat : PlainFlat) (resource : List ℕ) (line : PlacedCommand) : Type 0 where
   pub block : FlatBlock
   pub listed : Contains flat.blocks block
   pub home : IsHome sources system block.path resource
-  pub standing : PlainStanding
-  pub stands : standing_at sources system (applications_in (tree_at sources system)) (path_names block.path)
+  pub standing : PlainResolved
+  pub stands : resolved_at sources system (applications_in (tree_at sources system)) (path_names block.path)
       ≡ Some standing
   pub parameter : ParameterTree
   pub given : Contains standing.instance.parameters parameter
@@ -78,11 +78,11 @@ pub record SetsParameter (sources : Sources) (system : List ℕ) (flat : PlainFl
 -- sets a parameter.
 pub record SetsItsParameters (sources : Sources) (system : List ℕ) (flat : PlainFlat) (entry : PlainResource) : Type 0 where
   pub before : List (List ℕ)
-  pub lines : List Line
+  pub lines : List PlacedCommand
   pub behind : List (List ℕ)
   pub commands : entry.commands ≡ before ++ map (λ l. l.command) lines ++ behind
-  pub members : (line : Line) → Contains lines line ↔ SetsParameter sources system flat entry.name line
-  pub in_order : IsStrictlySortedBy line_cmp lines
+  pub members : (line : PlacedCommand) → Contains lines line ↔ SetsParameter sources system flat entry.name line
+  pub in_order : IsStrictlySortedBy command_cmp lines
   pub none_before : NoneBegins (codes "WRITE ") before
   pub none_behind : NoneBegins (codes "WRITE ") behind
 

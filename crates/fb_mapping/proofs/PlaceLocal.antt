@@ -5,7 +5,7 @@ use Rattle.fb_flatten.specs.Library.Local.{AgreeFar}
 use Rattle.fb_flatten.specs.Net.{PlainNet, blocked, recursive, too_large, flat_net}
 use Rattle.fb_flatten.proofs.NetLocality.{net_local}
 use Rattle.fb_placing.proofs.HomesLocal.{homes_same}
-use Rattle.fb_placing.proofs.StandingLocal.{same_standings}
+use Rattle.fb_placing.proofs.ResolvedLocal.{same_instances}
 use Rattle.fb_mapping.specs.Laws.{PlaceIsLocal}
 use Rattle.fb_mapping.specs.Placed.{placed_by, with_cuts}
 
@@ -14,7 +14,7 @@ module _ (a b : Sources) (system : List ℕ) (agree : AgreeFar system a b) where
   placed_same (blocked names) = refl
   placed_same (recursive names) = refl
   placed_same too_large = refl
-  placed_same (flat_net flat) = ap (with_cuts flat.links) (homes_same a b system (same_standings a b system agree) flat.blocks)
+  placed_same (flat_net flat) = ap (with_cuts flat.links) (homes_same a b system (same_instances a b system agree) flat.blocks)
 
 pub place_local : PlaceIsLocal
 place_local a b system agree placed p = record {

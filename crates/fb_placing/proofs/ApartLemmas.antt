@@ -9,7 +9,7 @@ use Rattle.fb_placing.specs.Cuts.{home_at}
 use Rattle.fb_network.specs.Fronts.{IsFront, IsNearest, fronts, last_there, nearest}
 use Rattle.fb_placing.specs.Points.{AreApart, HasNoPoint, IsInside}
 use Rattle.fb_placing.specs.declared.homes.Home.{Home}
-use Rattle.fb_placing.proofs.FirstLemmas.{first_at-push}
+use Rattle.fb_placing.proofs.FirstEntryLemmas.{first_at-push}
 use Rattle.fb_network.proofs.FrontLemmas.{nearest_here}
 use Rattle.fb_placing.proofs.InsideLemmas.{fronts_inside, nearest_inside}
 use Rattle.fb_network.proofs.NearestLemmas.{is_nearest}

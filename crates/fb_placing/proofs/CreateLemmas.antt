@@ -17,9 +17,9 @@ use Rattle.fb_network.specs.Numbered.{block_or_nothing, link_or_nothing}
 use Rattle.fb_network.specs.Once.{IsOnce}
 use Rattle.fb_network.specs.declared.flat.FlatBlock.{FlatBlock}
 use Rattle.fb_network.specs.declared.flat.Link.{Link}
-use Rattle.fb_placing.specs.Lines.{create_text, line_cmp, line_cmp_total}
-use Rattle.fb_placing.specs.declared.lines.Line.{Line}
-use Rattle.fb_placing.proofs.LineLemmas.{line_cmp-IsAntisymmetric}
+use Rattle.fb_placing.specs.PlacedCommands.{create_text, command_cmp, command_cmp_total}
+use Rattle.fb_placing.specs.declared.plan.write_commands.PlacedCommand.{PlacedCommand}
+use Rattle.fb_placing.proofs.PlacedLemmas.{command_cmp-IsAntisymmetric}
 
 -- the block of a number that there is
 pub block_there : (blocks : List FlatBlock) (n : ℕ) (d : FlatBlock) → n < length blocks → block_or_nothing (slice_get blocks n) ≡ get_or blocks n d
@@ -47,11 +47,11 @@ by_types p q s t rest = by_case (name_cmp p q) refl
     by_case Equal e = ap (λ (o : Ordering). ordering_then o rest) (sym (same_path p q s t (slice_cmp-IsAntisymmetric nat_cmp-IsAntisymmetric p q e)))
     by_case Greater e = refl
 
--- what is left of lines, sorted and each once, are the lines in order
-pub lines_in_order : {E : Type 0} (says : E → Line) (old new : List E) → IsOnce says line_cmp old new → map says new ≡ in_order line_cmp (map says old)
-lines_in_order says old new once =
+-- what is left of commands, sorted and each once, are the commands in order
+pub commands_in_order : {E : Type 0} (says : E → PlacedCommand) (old new : List E) → IsOnce says command_cmp old new → map says new ≡ in_order command_cmp (map says old)
+commands_in_order says old new once =
     let xs = map says old in
-    let ordered = once_ordered {says = says} {cmp = line_cmp} old new once in
-    let members = in_order-members line_cmp line_cmp_total line_cmp-IsAntisymmetric xs in
-    same_sorted line_cmp_total (map says new) (in_order line_cmp xs) once.sorted (in_order-sorted line_cmp line_cmp_total xs)
+    let ordered = once_ordered {says = says} {cmp = command_cmp} old new once in
+    let members = in_order-members command_cmp command_cmp_total command_cmp-IsAntisymmetric xs in
+    same_sorted command_cmp_total (map says new) (in_order command_cmp xs) once.sorted (in_order-sorted command_cmp command_cmp_total xs)
     (λ z m. (members z).1 (ordered.added z m)) (λ z m. once.kept z ((members z).0 m))

@@ -4,20 +4,20 @@ use Rattle.fb_tree.specs.Text.Order.{names_in_order}
 use Rattle.fb_tree.specs.Tree.{DeclTree, MappingTree}
 use Rattle.fb_library.specs.View.{Sources, tree_at}
 use Rattle.fb_network.specs.declared.flat.FlatBlock.{FlatBlock}
-use Rattle.fb_placing.specs.Homes.{PlainHomes, astray, block_homes, homeless, homes_of, misplaced, unless_faulty}
+use Rattle.fb_placing.specs.Homes.{PlainHomes, unmatched, block_homes, homeless, homes_of, misplaced, unless_faulty}
 use Rattle.fb_placing.specs.Mappings.{mapping_path, names_used, resource_at}
-use Rattle.fb_placing.specs.Standing.{leads_nowhere}
+use Rattle.fb_placing.specs.Resolved.{leads_nowhere}
 use Rattle.fb_placing.specs.Systems.{applications_in, mappings_in}
 use Rattle.fb_placing.specs.declared.homes.Misplaced.TheVariants.{NoSuchBlock, Unmapped}
 use Rattle.fb_placing.proofs.ListLemmas.{filter_same}
-use Rattle.fb_placing.proofs.StandingLocal.{SameStandings, nowhere_same, own_tree}
+use Rattle.fb_placing.proofs.ResolvedLocal.{SameInstances, nowhere_same, own_tree}
 
 -- homes of blocks by a tree
 abbrev homes_by : Sources → List ℕ → List FlatBlock → Option DeclTree → PlainHomes
 homes_by sources system blocks tree = unless_faulty (misplaced sources system tree blocks) (block_homes (resource_at (mappings_in tree)) blocks)
 
-module _ (a b : Sources) (system : List ℕ) (same : SameStandings a b system) where
-  astray_same : (mappings : List MappingTree) → astray a system (applications_in (tree_at a system)) mappings ≡ astray b system (applications_in (tree_at a system)) mappings
+module _ (a b : Sources) (system : List ℕ) (same : SameInstances a b system) where
+  astray_same : (mappings : List MappingTree) → unmatched a system (applications_in (tree_at a system)) mappings ≡ unmatched b system (applications_in (tree_at a system)) mappings
   astray_same mappings =
       ap (map mapping_path)
       (filter_same (λ (m : MappingTree). leads_nowhere a system (applications_in (tree_at a system)) (names_used m.path))

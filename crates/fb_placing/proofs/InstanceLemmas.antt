@@ -8,7 +8,7 @@ use Rattle.fb_tree.specs.Text.Order.{name_cmp}
 use Rattle.fb_network.proofs.Equals.{same_bytes}
 use Rattle.fb_tree.specs.Tree.{ApplicationTree, InstanceTree, application_tree}
 use Rattle.fb_tree.specs.declared.system.Application.{Application}
-use Rattle.fb_placing.specs.Standing.{PlainStanding, instance_called, standing_among, standing_in}
+use Rattle.fb_placing.specs.Resolved.{PlainResolved, instance_called, resolved_among, resolved_in}
 
 -- the instances of an application by their names
 abbrev pub called_in : Application → List ℕ → Option InstanceTree
@@ -21,10 +21,10 @@ form_added form None false x = refl
 form_added form (Some y) b x = refl
 
 -- an instance stands in the unit
-pub among_called : (unit : List ℕ) (instances : List InstanceTree) (name : List ℕ) → standing_among unit instances name ≡ option_map (standing_in unit) (instance_called instances name)
+pub among_called : (unit : List ℕ) (instances : List InstanceTree) (name : List ℕ) → resolved_among unit instances name ≡ option_map (resolved_in unit) (instance_called instances name)
 among_called unit instances name = by_found (find (λ (i : InstanceTree). bytes_eq i.name.name name) instances)
   where
-    by_found : (o : Option InstanceTree) → option_map (λ (i : InstanceTree). let s : PlainStanding = record { unit = unit; instance = i } in s) o ≡ option_map (standing_in unit) (option_map (λ (i : InstanceTree). i) o)
+    by_found : (o : Option InstanceTree) → option_map (λ (i : InstanceTree). let s : PlainResolved = record { unit = unit; instance = i } in s) o ≡ option_map (resolved_in unit) (option_map (λ (i : InstanceTree). i) o)
     by_found None = refl
     by_found (Some i) = refl
 

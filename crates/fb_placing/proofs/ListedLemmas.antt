@@ -6,9 +6,9 @@ use Rattle.std.proofs.lemmas.Bool.Decides.{Decides-eqb}
 use Rattle.std.proofs.lemmas.Option.{slice_get_read}
 use Rattle.std.proofs.lemmas.Slice.Eq.{bytes_eq-Decides}
 use native.Mathlib.Decide.{dec_lt}
-use Rattle.fb_placing.specs.Lists.{AreListed, IsFirst, IsFirstPlace, IsNowhere, items_more, items_of}
-use Rattle.fb_placing.specs.declared.items.Item.{Item}
-use Rattle.fb_placing.specs.declared.orders.Numbered.{Numbered}
+use Rattle.fb_placing.specs.ByResource.{AreListed, IsFirst, IsFirstPlace, IsNowhere, indexes_more, indexes_of}
+use Rattle.fb_placing.specs.declared.plan.command_index.CommandIndex.{CommandIndex}
+use Rattle.fb_placing.specs.declared.plan.assigned_commands.AssignedCommand.{AssignedCommand}
 use Rattle.fb_placing.proofs.TableLemmas.{same_text}
 
 -- the name does not stand at this place either
@@ -45,19 +45,19 @@ one_place names p q name a b =
     ]
 
 -- one order more
-items_pushed : (orders : List Numbered) (x : Numbered) (name : List ℕ) (b : Bool) → bytes_eq name x.resource.now ≡ b → items_of (orders ++ x ∷ []) name ≡ items_of orders name ++ cond b (x.item ∷ []) []
-items_pushed [] x name b e = by_test b e
+indexes_pushed : (commands : List AssignedCommand) (x : AssignedCommand) (name : List ℕ) (b : Bool) → bytes_eq name x.resource.now ≡ b → indexes_of (commands ++ x ∷ []) name ≡ indexes_of commands name ++ cond b (x.index ∷ []) []
+indexes_pushed [] x name b e = by_test b e
   where
-    by_test : (t : Bool) → bytes_eq name x.resource.now ≡ t → map (λ (o : Numbered). o.item) (cond (bytes_eq name x.resource.now) (x ∷ []) []) ≡ cond t (x.item ∷ []) []
-    by_test true f = ap (λ (t : Bool). map (λ (o : Numbered). o.item) (cond t (x ∷ []) [])) f
-    by_test false f = ap (λ (t : Bool). map (λ (o : Numbered). o.item) (cond t (x ∷ []) [])) f
-items_pushed (y ∷ orders) x name b e = by_first (bytes_eq name y.resource.now) (items_pushed orders x name b e)
+    by_test : (t : Bool) → bytes_eq name x.resource.now ≡ t → map (λ (o : AssignedCommand). o.index) (cond (bytes_eq name x.resource.now) (x ∷ []) []) ≡ cond t (x.index ∷ []) []
+    by_test true f = ap (λ (t : Bool). map (λ (o : AssignedCommand). o.index) (cond t (x ∷ []) [])) f
+    by_test false f = ap (λ (t : Bool). map (λ (o : AssignedCommand). o.index) (cond t (x ∷ []) [])) f
+indexes_pushed (y ∷ commands) x name b e = by_first (bytes_eq name y.resource.now) (indexes_pushed commands x name b e)
   where
-    passed : List Numbered → List Numbered
-    passed os = filter (λ (o : Numbered). bytes_eq name o.resource.now) os
+    passed : List AssignedCommand → List AssignedCommand
+    passed os = filter (λ (o : AssignedCommand). bytes_eq name o.resource.now) os
 
-    by_first : (t : Bool) → items_of (orders ++ x ∷ []) name ≡ items_of orders name ++ cond b (x.item ∷ []) [] → map (λ (o : Numbered). o.item) (cond t (y ∷ passed (orders ++ x ∷ [])) (passed (orders ++ x ∷ []))) ≡ map (λ (o : Numbered). o.item) (cond t (y ∷ passed orders) (passed orders)) ++ cond b (x.item ∷ []) []
-    by_first true more = ap (λ (l : List Item). y.item ∷ l) more
+    by_first : (t : Bool) → indexes_of (commands ++ x ∷ []) name ≡ indexes_of commands name ++ cond b (x.index ∷ []) [] → map (λ (o : AssignedCommand). o.index) (cond t (y ∷ passed (commands ++ x ∷ [])) (passed (commands ++ x ∷ []))) ≡ map (λ (o : AssignedCommand). o.index) (cond t (y ∷ passed commands) (passed commands)) ++ cond b (x.index ∷ []) []
+    by_first true more = ap (λ (l : List CommandIndex). y.index ∷ l) more
     by_first false more = more
 
 not_alike : (a b : List ℕ) → (a ≡ b → ⊥) → bytes_eq a b ≡ false
@@ -67,32 +67,32 @@ not_alike a b differ = by_test (bytes_eq a b) refl
     by_test true e = absurd (differ (same_text a b e))
     by_test false e = refl
 
-nothing_more : (l : List Item) → l ++ [] ≡ l
+nothing_more : (l : List CommandIndex) → l ++ [] ≡ l
 nothing_more [] = refl
-nothing_more (x ∷ l) = ap (λ (m : List Item). x ∷ m) (nothing_more l)
+nothing_more (x ∷ l) = ap (λ (m : List CommandIndex). x ∷ m) (nothing_more l)
 
-module _ (names : List (List ℕ)) (orders : List Numbered) (x : Numbered) where
+module _ (names : List (List ℕ)) (commands : List AssignedCommand) (x : AssignedCommand) where
   -- the order is of no resource of that name
-  other_resource : (name : List ℕ) → (name ≡ x.resource.now → ⊥) → items_of (orders ++ x ∷ []) name ≡ items_of orders name
-  other_resource name differ = items_pushed orders x name false (not_alike name x.resource.now differ) ∙ nothing_more (items_of orders name)
+  other_resource : (name : List ℕ) → (name ≡ x.resource.now → ⊥) → indexes_of (commands ++ x ∷ []) name ≡ indexes_of commands name
+  other_resource name differ = indexes_pushed commands x name false (not_alike name x.resource.now differ) ∙ nothing_more (indexes_of commands name)
 
   -- the item of an order is listed at the first place of its resource
-  pub listed_more : (old new : ℕ → Option (List Item)) (p : ℕ) → AreListed names old orders → IsFirstPlace names p x.resource.now → ((k : ℕ) → new k ≡ items_more old p x.item k) → AreListed names new (orders ++ x ∷ [])
+  pub listed_more : (old new : ℕ → Option (List CommandIndex)) (p : ℕ) → AreListed names old commands → IsFirstPlace names p x.resource.now → ((k : ℕ) → new k ≡ indexes_more old p x.index k) → AreListed names new (commands ++ x ∷ [])
   listed_more old new p listed first more k name is = more k ∙ by_place (k == p) refl
     where
-      by_place : (b : Bool) → (k == p) ≡ b → cond b (option_map (λ items. items ++ x.item ∷ []) (old k)) (old k) ≡ Some (items_of (orders ++ x ∷ []) name)
+      by_place : (b : Bool) → (k == p) ≡ b → cond b (option_map (λ items. items ++ x.index ∷ []) (old k)) (old k) ≡ Some (indexes_of (commands ++ x ∷ []) name)
       by_place true e =
           let at : k ≡ p = (Decides-eqb k p).0 e in
           let given : Some name ≡ Some x.resource.now = sym is.0 ∙ ap (slice_get names) at ∙ first.0 in
           let same : name ≡ x.resource.now = cc in
-          ap (option_map (λ (items : List Item). items ++ x.item ∷ [])) (listed k name is)
-          ∙ ap (λ (l : List Item). Some l) (sym (items_pushed orders x name true ((bytes_eq-Decides name x.resource.now).1 same)))
+          ap (option_map (λ (items : List CommandIndex). items ++ x.index ∷ [])) (listed k name is)
+          ∙ ap (λ (l : List CommandIndex). Some l) (sym (indexes_pushed commands x name true ((bytes_eq-Decides name x.resource.now).1 same)))
       by_place false e =
           let differ : name ≡ x.resource.now → ⊥ = λ same. (let at = one_place names k p x.resource.now (subst (IsFirstPlace names k) same is) first in let no = sym (eq-eqb k p at) ∙ e in let never : ⊥ = cc in never) in
-          listed k name is ∙ ap (λ (l : List Item). Some l) (sym (other_resource name differ))
+          listed k name is ∙ ap (λ (l : List CommandIndex). Some l) (sym (other_resource name differ))
 
   -- the order is of a resource that is not among the names
-  pub listed_same : (lists : ℕ → Option (List Item)) → AreListed names lists orders → IsNowhere names x.resource.now → AreListed names lists (orders ++ x ∷ [])
+  pub listed_same : (lists : ℕ → Option (List CommandIndex)) → AreListed names lists commands → IsNowhere names x.resource.now → AreListed names lists (commands ++ x ∷ [])
   listed_same lists listed nowhere k name is =
       let differ : name ≡ x.resource.now → ⊥ = λ same. nowhere k (is.0 ∙ ap (λ (n : List ℕ). Some n) same) in
-      listed k name is ∙ ap (λ (l : List Item). Some l) (sym (other_resource name differ))
+      listed k name is ∙ ap (λ (l : List CommandIndex). Some l) (sym (other_resource name differ))

@@ -2,7 +2,7 @@
 use Rattle.std.proofs.Common.{ℕ, zero, suc, ◌≡◌, ◌<◌, ◌≤◌, ◌+◌, ◌-◌, Bool, cond, List, [], ◌∷◌, ◌++◌, refl, sym, ◌∙◌, ap, take, drop, get_or, length, map, arith, eq-eqb, get_or-drop, length-drop}
 use Rattle.std.proofs.lemmas.Bool.{ne_eqb}
 use Rattle.std.specs.Borrow.{Bor}
-use Rattle.fb_placing.specs.Standing.{on_first, path_names}
+use Rattle.fb_placing.specs.Resolved.{on_first, path_names}
 
 drop_all : (n : ℕ) → drop {A = ℕ} n [] ≡ []
 drop_all zero = refl

@@ -1,4 +1,4 @@
--- One item further in lists of orders and of resources.
+-- One item further in lists of commands and of resources.
 use Rattle.std.proofs.Common.{ℕ, ◌≡◌, ◌<◌, ◌+◌, List, [], ◌∷◌, ◌++◌, sym, ◌∙◌, ap, take, get_or, length, map, append_assoc, append-nil}
 use Rattle.std.proofs.lemmas.Grind.{flat_map-append}
 use Rattle.fb_tree.specs.Tree.{device_tree}

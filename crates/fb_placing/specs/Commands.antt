@@ -5,11 +5,11 @@ use Rattle.fb_library.specs.View.{Sources}
 use Rattle.fb_network.specs.PlainFlat.{PlainFlat}
 use Rattle.fb_placing.specs.Systems.{applications_in, devices_in}
 use Rattle.fb_placing.specs.declared.homes.Home.{Home}
-use Rattle.fb_placing.specs.Orders.{orders_of}
+use Rattle.fb_placing.specs.SystemCommands.{system_commands}
 use Rattle.fb_placing.specs.PlainResource.{PlainResource}
 use Rattle.fb_placing.specs.Resources.{resource_plans, resources_of}
 
 -- each resource with its commands, in the order of the text, where blocks have these homes
 abbrev pub commands_in : Sources → List ℕ → Option DeclTree → PlainFlat → List Home → List PlainResource
 commands_in sources system tree flat homes =
-    resource_plans (orders_of sources system (applications_in tree) (resources_of (devices_in tree)) flat homes) (resources_of (devices_in tree))
+    resource_plans (system_commands sources system (applications_in tree) (resources_of (devices_in tree)) flat homes) (resources_of (devices_in tree))

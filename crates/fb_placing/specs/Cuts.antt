@@ -3,7 +3,7 @@ use Rattle.std.specs.Prelude.{ℕ, Bool, true, false, not, List, filter, Option,
 use Rattle.std.specs.Str.{bytes_eq}
 use Rattle.fb_network.specs.declared.flat.Link.{Link}
 use Rattle.fb_placing.specs.declared.homes.Home.{Home}
-use Rattle.fb_placing.specs.Firsts.{first_at}
+use Rattle.fb_placing.specs.FirstEntry.{first_at}
 use Rattle.fb_network.specs.Fronts.{nearest}
 
 -- the home of the block at a path

@@ -12,7 +12,7 @@ use Rattle.fb_placing.specs.declared.homes.Misplaced.{Misplaced}
 use Rattle.fb_placing.specs.declared.homes.Misplaced.TheVariants.{Unmapped, NoSuchBlock}
 use Rattle.fb_network.specs.Fronts.{nearest}
 use Rattle.fb_placing.specs.Mappings.{mapping_path, names_used, resource_at}
-use Rattle.fb_placing.specs.Standing.{leads_nowhere}
+use Rattle.fb_placing.specs.Resolved.{leads_nowhere}
 use Rattle.fb_placing.specs.Systems.{applications_in, mappings_in}
 
 -- homes, or what is misplaced
@@ -37,15 +37,15 @@ abbrev pub homeless : (List ℕ → Option (List ℕ)) → List FlatBlock → Li
 homeless resources blocks = map (λ b. b.path) (filter (λ b. is_none (nearest resources b.path)) blocks)
 
 -- the paths of mappings that are of nothing
-abbrev pub astray : Sources → List ℕ → List ApplicationTree → List MappingTree → List (List ℕ)
-astray sources system applications mappings =
+abbrev pub unmatched : Sources → List ℕ → List ApplicationTree → List MappingTree → List (List ℕ)
+unmatched sources system applications mappings =
     map mapping_path (filter (λ m. leads_nowhere sources system applications (names_used m.path)) mappings)
 
 -- blocks that no mapping places, then mappings that place nothing, each sorted by the bytes of the paths
 abbrev pub misplaced : Sources → List ℕ → Option DeclTree → List FlatBlock → List Misplaced
 misplaced sources system tree blocks =
     map (λ p. Unmapped p) (names_in_order (homeless (resource_at (mappings_in tree)) blocks))
-    ++ map (λ p. NoSuchBlock p) (names_in_order (astray sources system (applications_in tree) (mappings_in tree)))
+    ++ map (λ p. NoSuchBlock p) (names_in_order (unmatched sources system (applications_in tree) (mappings_in tree)))
 
 abbrev pub unless_faulty : List Misplaced → List Home → PlainHomes
 unless_faulty [] list = all_homes list

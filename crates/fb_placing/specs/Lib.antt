@@ -1,26 +1,26 @@
 -- What the contracts of this crate cite.
-pub mod Firsts
+pub mod FirstEntry
 pub mod Points
 pub mod Systems
 pub mod Mappings
-pub mod Standing
+pub mod Resolved
 pub mod Tables
 pub mod Resolver
 pub mod Homes
 pub mod Cuts
-pub mod Spots
+pub mod HomeTable
 pub mod Laws
-pub mod Written
-pub mod Lines
-pub mod Order
-pub mod Orders
+pub mod ConstantTexts
+pub mod PlacedCommands
+pub mod ResourceCommand
+pub mod SystemCommands
 pub mod PlainResource
 pub mod Resources
-pub mod Parts
-pub mod Creates
+pub mod TextParts
+pub mod Created
 pub mod PlainPlan
-pub mod Items
-pub mod Lists
+pub mod CommandIndexes
+pub mod ByResource
 pub mod Commands
 -- Of the crates below, for the crates above.
 pub use Rattle.fb_tree.specs as Tree

@@ -4,7 +4,7 @@ use Rattle.fb_tree.specs.Text.declared.name.NameUse.{NameUse}
 use Rattle.fb_tree.specs.Tree.{MappingTree}
 use Rattle.fb_network.specs.Places.{dotted}
 use Rattle.fb_network.specs.Printed.{printed}
-use Rattle.fb_placing.specs.Firsts.{first_at}
+use Rattle.fb_placing.specs.FirstEntry.{first_at}
 use Rattle.fb_network.specs.Fronts.{nearest}
 
 abbrev pub names_used : List NameUse → List (List ℕ)

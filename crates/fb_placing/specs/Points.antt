@@ -8,8 +8,8 @@ HasNoPoint [] = ⊤
 HasNoPoint (b ∷ bs) = ((b == 46) ≡ false) × HasNoPoint bs
 
 -- the path up to its last point, and the name behind it
-abbrev pub IsParted : List ℕ → List ℕ → List ℕ → Type 0
-IsParted path outer name = (path ≡ outer ++ 46 ∷ name) × HasNoPoint name
+abbrev pub IsSplit : List ℕ → List ℕ → List ℕ → Type 0
+IsSplit path outer name = (path ≡ outer ++ 46 ∷ name) × HasNoPoint name
 
 -- Nothing stands in front of what stands for something: where a path in two parts stands for something, neither the first part does,
 -- nor what is in front of it.

@@ -5,7 +5,7 @@ use Rattle.std.specs.Str.{bytes_eq}
 use Rattle.fb_tree.specs.Tree.{DeviceTree}
 use Rattle.fb_network.specs.Places.{dotted}
 use Rattle.fb_placing.specs.PlainResource.{PlainResource}
-use Rattle.fb_placing.specs.Order.{Order}
+use Rattle.fb_placing.specs.ResourceCommand.{ResourceCommand}
 
 -- the resources of a device, as DEVICE.RESOURCE
 abbrev pub device_resources : DeviceTree → List (List ℕ)
@@ -16,12 +16,12 @@ abbrev pub resources_of : List DeviceTree → List (List ℕ)
 resources_of devices = flat_map device_resources devices
 
 -- the commands for a resource, in their order
-abbrev pub commands_for : List Order → List ℕ → List (List ℕ)
-commands_for orders resource = map (λ o. o.command) (filter (λ o. bytes_eq resource o.resource) orders)
+abbrev pub commands_for : List ResourceCommand → List ℕ → List (List ℕ)
+commands_for commands resource = map (λ o. o.command) (filter (λ o. bytes_eq resource o.resource) commands)
 
-abbrev pub resource_plan : List Order → List ℕ → PlainResource
-resource_plan orders resource = record { name = resource; commands = commands_for orders resource }
+abbrev pub resource_plan : List ResourceCommand → List ℕ → PlainResource
+resource_plan commands resource = record { name = resource; commands = commands_for commands resource }
 
 -- each resource with its commands
-abbrev pub resource_plans : List Order → List (List ℕ) → List PlainResource
-resource_plans orders resources = map (resource_plan orders) resources
+abbrev pub resource_plans : List ResourceCommand → List (List ℕ) → List PlainResource
+resource_plans commands resources = map (resource_plan commands) resources

@@ -8,8 +8,8 @@ use Rattle.std.specs.declared.hash.BuildHasherDefault.{BuildHasherDefault}
 use Rattle.fb_tree.specs.Tree.{ApplicationTree, InstanceTree, instance_tree}
 use Rattle.fb_tree.specs.declared.network.Instance.{Instance}
 use Rattle.fb_library.specs.View.{Sources, tree_at}
-use Rattle.fb_placing.specs.Firsts.{first_at}
-use Rattle.fb_placing.specs.Standing.{inner_instances, instance_called}
+use Rattle.fb_placing.specs.FirstEntry.{first_at}
+use Rattle.fb_placing.specs.Resolved.{inner_instances, instance_called}
 
 abbrev pub Instances : Type 0
 Instances = HashMap (String Global) (Bor Instance) (BuildHasherDefault FoldHasher)

@@ -5,15 +5,21 @@ ghost use Rattle.fb_tree.specs.Tree.{mapping_tree};
 ghost use Rattle.fb_library.specs.View.{tree_at};
 ghost use Rattle.fb_network.specs.Numbered.{block_numbered};
 ghost use Rattle.fb_network.specs.declared.flat.FlatBlock.{FlatBlock};
-ghost use Rattle.fb_placing.specs.Homes.{astray, block_home, block_homes, homeless, homes_of, misplaced, plain_homes};
+ghost use Rattle.fb_placing.specs.Homes.{unmatched, block_home, block_homes, homeless, homes_of, misplaced, plain_homes};
 ghost use Rattle.fb_placing.specs.Mappings.{names_used, resource_at};
 ghost use Rattle.fb_placing.specs.Systems.{applications_in, mappings_in};
 ghost use Rattle.fb_placing.specs.declared.homes.Misplaced.TheVariants.{NoSuchBlock, Unmapped};
 
-use crate::mappings::{mapping_table, path_of_names};
+pub(crate) mod cuts;
+pub(crate) mod end_finder;
+mod mappings;
+mod sorted;
+pub(crate) mod table;
+
+use crate::homes::mappings::{mapping_table, path_of_names};
 use crate::numbers::number;
 use crate::paths::resolver::Resolver;
-use crate::sorted::sorted_paths;
+use crate::homes::sorted::sorted_paths;
 use fb_library::{View, tree_by_name};
 use fb_network::{Flat, FlatBlock, Path, PathTable, nearest};
 use fb_tree::text::{Name, NameUse};
@@ -149,7 +155,7 @@ fn names_of(alloc: Global, names: &[NameUse]) -> Result<Vec<&str>, AllocError>
 }
 
 /// Adds the path of a mapping if it is of nothing.
-fn push_astray<V: View>(
+fn push_unmatched<V: View>(
     alloc: Global,
     resolver: &mut Resolver<'_, V>,
     mapping: &Mapping,
@@ -157,7 +163,7 @@ fn push_astray<V: View>(
 ) -> Result<(), AllocError>
     ensures same { resolver.new ≡ resolver.old }
     ensures paths { OnOk result (paths.new.items ≡ paths.old.items
-        ++ astray resolver.old.sources resolver.old.system
+        ++ unmatched resolver.old.sources resolver.old.system
         (applications_in (tree_at resolver.old.sources resolver.old.system))
         (mapping_tree mapping.now ∷ [])) }
 {
@@ -173,21 +179,21 @@ fn push_astray<V: View>(
 }
 
 /// The paths of mappings that are of nothing.
-fn astray<V: View>(
+fn unmatched<V: View>(
     alloc: Global,
     view: &V,
     system: &Name,
     mappings: &[Mapping],
 ) -> Result<Vec<Path>, AllocError>
     ensures { IfOk result (λ paths. paths.items
-        ≡ astray (V.sources view.now) system.now
+        ≡ unmatched (V.sources view.now) system.now
         (applications_in (tree_at (V.sources view.now) system.now))
         (map mapping_tree mappings.now)) }
 {
     let mut resolver = Resolver::new(alloc, view, system)?;
     let mut paths = Vec::new(alloc);
     for mapping in mappings {
-        push_astray(alloc, &mut resolver, mapping, &mut paths)?;
+        push_unmatched(alloc, &mut resolver, mapping, &mut paths)?;
     }
     Ok(paths)
 }
@@ -228,7 +234,7 @@ fn misplaced_in<V: View>(
 {
     let mut found = Vec::new(alloc);
     push_unmapped(sorted_paths(unmapped)?, &mut found)?;
-    let nowhere = sorted_paths(astray(alloc, view, system, mappings_of(view, system))?)?;
+    let nowhere = sorted_paths(unmatched(alloc, view, system, mappings_of(view, system))?)?;
     push_no_such_block(nowhere, &mut found)?;
     Ok(found)
 }

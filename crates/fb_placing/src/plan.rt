@@ -1,11 +1,23 @@
 //! Plans: a flat network, and the commands of each resource by numbers.
 ghost use Rattle.std.specs.Prelude.{◌≡◌, ◌↔◌, IfOk, IsTrue};
-ghost use Rattle.fb_placing.specs.Items.{plain_plan};
+ghost use Rattle.fb_placing.specs.CommandIndexes.{plain_plan};
 
-use crate::command::Command;
-use crate::items::{ResourceItems, plain_links, plain_resources};
-use crate::resources::ResourcePlan;
-use crate::same::{Subject, are_same_links, are_same_resources};
+pub(crate) mod assigned_commands;
+pub(crate) mod build;
+mod by_resource;
+pub(crate) mod command;
+pub(crate) mod command_index;
+mod constants;
+mod create_commands;
+pub(crate) mod resources;
+mod same;
+pub(crate) mod text_parts;
+mod write_commands;
+
+use crate::plan::command::Command;
+use crate::plan::command_index::{ResourceCommands, plain_links, plain_resources};
+use crate::plan::resources::ResourcePlan;
+use crate::plan::same::{Subject, are_same_links, are_same_resources};
 use fb_network::{Flat, Link};
 use std::alloc::{AllocError, Global};
 use std::marker::Model;
@@ -17,7 +29,7 @@ pub struct Plan {
     flat: Flat,
     writes: Vec<Command>,
     cuts: Vec<u32>,
-    resources: Vec<ResourceItems>,
+    resources: Vec<ResourceCommands>,
 }
 
 impl Drop for Plan {
@@ -33,7 +45,7 @@ impl Drop for Plan {
 
 impl Model for Plan {
     ghost use Rattle.fb_placing.specs.PlainPlan.{PlainPlan};
-    ghost use Rattle.fb_placing.specs.Items.{plain_plan};
+    ghost use Rattle.fb_placing.specs.CommandIndexes.{plain_plan};
 
     ghost Value = { PlainPlan };
 
@@ -46,7 +58,7 @@ impl Plan {
         flat: Flat,
         writes: Vec<Command>,
         cuts: Vec<u32>,
-        resources: Vec<ResourceItems>,
+        resources: Vec<ResourceCommands>,
     ) -> Plan
         ensures { result ≡ plain_plan flat writes.items cuts.items resources.items }
     {

@@ -1,6 +1,6 @@
 //! The names of paths.
 ghost use Rattle.std.specs.Prelude.{◌≡◌, map, IfOk};
-ghost use Rattle.fb_placing.specs.Standing.{path_names};
+ghost use Rattle.fb_placing.specs.Resolved.{path_names};
 
 use std::alloc::{AllocError, Global};
 

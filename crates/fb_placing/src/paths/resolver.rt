@@ -2,14 +2,14 @@
 ghost use Rattle.std.specs.Prelude.{◌≡◌, [], ◌∷◌, map, IfOk, Some, option_map};
 ghost use Rattle.fb_library.specs.View.{text_or_empty};
 ghost use Rattle.fb_placing.specs.Resolver.{resolved, resolver_of};
-ghost use Rattle.fb_placing.specs.Standing.{leads_nowhere, is_placed, path_names, plain_standing, standing_beyond, standing_in, standing_inside};
+ghost use Rattle.fb_placing.specs.Resolved.{leads_nowhere, is_placed, path_names, plain_resolved, resolved_beyond, resolved_in, resolved_inside};
 ghost use Rattle.fb_placing.specs.Systems.{applications_in};
 ghost use Rattle.fb_placing.specs.Tables.{instance_at};
 ghost use Rattle.fb_library.specs.View.{tree_at};
 
 use crate::paths::names::path_names;
-use crate::paths::split::parted;
-use crate::paths::tables::{
+use crate::paths::split::split_last;
+use crate::paths::instances::{
     Applications, Instances, Units, applications_in, instances_by_name, instances_of,
 };
 use fb_library::{View, text_by_name};
@@ -21,7 +21,7 @@ use std::marker::Model;
 
 /// An instance, and the unit whose text declares it.
 #[derive(Clone, Copy)]
-pub(crate) struct Standing<'a> {
+pub(crate) struct Resolved<'a> {
     pub unit: Name,
     pub instance: &'a Instance,
 }
@@ -36,7 +36,7 @@ pub(crate) struct Resolver<'a, V: View> {
     applications: Applications<'a>,
     units: Units<'a>,
     last_path: String,
-    last: Option<Standing<'a>>,
+    last: Option<Resolved<'a>>,
 }
 
 impl<'a, V: View> Model for Resolver<'a, V> {
@@ -55,12 +55,12 @@ impl<'a, V: View> Model for Resolver<'a, V> {
     ghost invariant = { λ it. IsResolver (resolver_of (V.sources it.view.now) it.system) (get_by_text it.applications) (get name_cmp it.units) (string_bytes it.last_path) it.last };
 }
 
-impl<'a> Standing<'a> {
+impl<'a> Resolved<'a> {
     /// The same once more.
-    fn again(&self) -> Standing<'a>
-        ensures { plain_standing result ≡ plain_standing self.now }
+    fn again(&self) -> Resolved<'a>
+        ensures { plain_resolved result ≡ plain_resolved self.now }
     {
-        Standing {
+        Resolved {
             unit: self.unit,
             instance: self.instance,
         }
@@ -68,8 +68,8 @@ impl<'a> Standing<'a> {
 }
 
 /// The same once more.
-fn again<'a>(found: &Option<Standing<'a>>) -> Option<Standing<'a>>
-    ensures { option_map plain_standing result ≡ option_map plain_standing found.now }
+fn again<'a>(found: &Option<Resolved<'a>>) -> Option<Resolved<'a>>
+    ensures { option_map plain_resolved result ≡ option_map plain_resolved found.now }
 {
     match found {
         Some(it) => Some(it.again()),
@@ -78,12 +78,12 @@ fn again<'a>(found: &Option<Standing<'a>>) -> Option<Standing<'a>>
 }
 
 /// The instance of that name among these, which the unit declares.
-fn standing_among<'a>(unit: Name, instances: &Instances<'a>, name: &str) -> Option<Standing<'a>>
-    ensures { option_map plain_standing result
-        ≡ option_map (standing_in unit) (instance_at instances.now name.now) }
+fn resolved_among<'a>(unit: Name, instances: &Instances<'a>, name: &str) -> Option<Resolved<'a>>
+    ensures { option_map plain_resolved result
+        ≡ option_map (resolved_in unit) (instance_at instances.now name.now) }
 {
     match instances.get(name) {
-        Some(instance) => Some(Standing {
+        Some(instance) => Some(Resolved {
             unit,
             instance: *instance,
         }),
@@ -125,7 +125,7 @@ impl<'a, V: View> Resolver<'a, V> {
     }
 
     /// The text that declares an instance.
-    pub(crate) fn text(&self, it: &Standing<'_>) -> &'a str
+    pub(crate) fn text(&self, it: &Resolved<'_>) -> &'a str
         ensures { result.now ≡ text_or_empty self.now.sources it.now.unit }
     {
         text_by_name(self.view, &it.unit)
@@ -134,19 +134,19 @@ impl<'a, V: View> Resolver<'a, V> {
     /// The instance of that name in the type of an instance.
     fn inside(
         &mut self,
-        outer: &Standing<'a>,
+        outer: &Resolved<'a>,
         name: &str,
-    ) -> Result<Option<Standing<'a>>, AllocError>
+    ) -> Result<Option<Resolved<'a>>, AllocError>
         ensures same { self.new ≡ self.old }
-        ensures found { IfOk result (λ found. option_map plain_standing found
-            ≡ standing_inside self.old.sources name.now (plain_standing outer.now)) }
+        ensures found { IfOk result (λ found. option_map plain_resolved found
+            ≡ resolved_inside self.old.sources name.now (plain_resolved outer.now)) }
     {
         let unit = outer.instance.type_name.name.name();
         if let Some(instances) = self.units.get(&unit) {
-            return Ok(standing_among(unit, instances, name));
+            return Ok(resolved_among(unit, instances, name));
         }
         let instances = instances_by_name(self.alloc, instances_of(self.view, &unit))?;
-        let found = standing_among(unit, &instances, name);
+        let found = resolved_among(unit, &instances, name);
         self.units.insert(unit, instances)?;
         Ok(found)
     }
@@ -154,12 +154,12 @@ impl<'a, V: View> Resolver<'a, V> {
     /// Where names lead to, from an instance inwards.
     fn beyond(
         &mut self,
-        start: &Standing<'a>,
+        start: &Resolved<'a>,
         names: &[&str],
-    ) -> Result<Option<Standing<'a>>, AllocError>
+    ) -> Result<Option<Resolved<'a>>, AllocError>
         ensures same { self.new ≡ self.old }
-        ensures found { IfOk result (λ found. option_map plain_standing found
-            ≡ standing_beyond self.old.sources (Some (plain_standing start.now))
+        ensures found { IfOk result (λ found. option_map plain_resolved found
+            ≡ resolved_beyond self.old.sources (Some (plain_resolved start.now))
             (map (λ n. n.now) names.now)) }
     {
         let mut found = start.again();
@@ -174,12 +174,12 @@ impl<'a, V: View> Resolver<'a, V> {
     }
 
     /// The instance of that name in an application.
-    fn begin(&self, application: &str, name: &str) -> Option<Standing<'a>>
-        ensures { option_map plain_standing result
+    fn begin(&self, application: &str, name: &str) -> Option<Resolved<'a>>
+        ensures { option_map plain_resolved result
             ≡ resolved self.now (application.now ∷ (name.now ∷ [])) }
     {
         match self.applications.get(application) {
-            Some(instances) => standing_among(self.system, instances, name),
+            Some(instances) => resolved_among(self.system, instances, name),
             None => None,
         }
     }
@@ -189,9 +189,9 @@ impl<'a, V: View> Resolver<'a, V> {
         &mut self,
         application: &str,
         names: &[&str],
-    ) -> Result<Option<Standing<'a>>, AllocError>
+    ) -> Result<Option<Resolved<'a>>, AllocError>
         ensures same { self.new ≡ self.old }
-        ensures found { IfOk result (λ found. option_map plain_standing found
+        ensures found { IfOk result (λ found. option_map plain_resolved found
             ≡ resolved self.old (application.now ∷ map (λ n. n.now) names.now)) }
     {
         match names.split_first() {
@@ -204,9 +204,9 @@ impl<'a, V: View> Resolver<'a, V> {
     }
 
     /// The instance that names lead to.
-    fn at(&mut self, names: &[&str]) -> Result<Option<Standing<'a>>, AllocError>
+    fn at(&mut self, names: &[&str]) -> Result<Option<Resolved<'a>>, AllocError>
         ensures same { self.new ≡ self.old }
-        ensures found { IfOk result (λ found. option_map plain_standing found
+        ensures found { IfOk result (λ found. option_map plain_resolved found
             ≡ resolved self.old (map (λ n. n.now) names.now)) }
     {
         match names.split_first() {
@@ -235,20 +235,20 @@ impl<'a, V: View> Resolver<'a, V> {
     }
 
     /// The instance at a path.
-    fn at_path(&mut self, path: &str) -> Result<Option<Standing<'a>>, AllocError>
+    fn at_path(&mut self, path: &str) -> Result<Option<Resolved<'a>>, AllocError>
         ensures same { self.new ≡ self.old }
         ensures found { IfOk result
-            (λ found. option_map plain_standing found ≡ resolved self.old (path_names path.now)) }
+            (λ found. option_map plain_resolved found ≡ resolved self.old (path_names path.now)) }
     {
         let names = path_names(self.alloc, path)?;
         self.at(&names)
     }
 
     /// The instance at a path, which is kept.
-    fn look_at(&mut self, path: &str) -> Result<Option<Standing<'a>>, AllocError>
+    fn look_at(&mut self, path: &str) -> Result<Option<Resolved<'a>>, AllocError>
         ensures same { self.new ≡ self.old }
         ensures found { IfOk result
-            (λ found. option_map plain_standing found ≡ resolved self.old (path_names path.now)) }
+            (λ found. option_map plain_resolved found ≡ resolved self.old (path_names path.now)) }
     {
         if self.last_path.as_str() == path {
             return Ok(again(&self.last));
@@ -264,12 +264,12 @@ impl<'a, V: View> Resolver<'a, V> {
     }
 
     /// The instance at a path. What stands in front of its last name is kept for the next path.
-    pub(crate) fn resolve(&mut self, path: &str) -> Result<Option<Standing<'a>>, AllocError>
+    pub(crate) fn resolve(&mut self, path: &str) -> Result<Option<Resolved<'a>>, AllocError>
         ensures same { self.new ≡ self.old }
         ensures found { IfOk result
-            (λ found. option_map plain_standing found ≡ resolved self.old (path_names path.now)) }
+            (λ found. option_map plain_resolved found ≡ resolved self.old (path_names path.now)) }
     {
-        if let Some((outer, name)) = parted(path) {
+        if let Some((outer, name)) = split_last(path) {
             match self.look_at(outer) {
                 Ok(Some(it)) => return self.inside(&it, name),
                 Ok(None) => {}

@@ -4,7 +4,7 @@ use Rattle.std.specs.Borrow.{Bor}
 use Rattle.std.specs.Str.{IsCharBoundary, IsUtf8}
 use Rattle.std.proofs.lemmas.Str.{IsCharBoundary-start, IsCharBoundary-after_ascii}
 use native.Mathlib.Decide.{dec_lt}
-use Rattle.fb_placing.specs.Standing.{path_names}
+use Rattle.fb_placing.specs.Resolved.{path_names}
 use Rattle.fb_placing.proofs.PathNameLemmas.{NoPoint, name_cut, name_last, names_more}
 use Rattle.fb_placing.proofs.paths.names.path_names.Goals as goal
 use Rattle.fb_placing.proofs.paths.names.path_names.Goals.{then-as_bytes-i-eq46+in_ok-push, else-as_bytes-i-eq46}

@@ -1,7 +1,7 @@
 -- The names passed so far, and no point since the last of them.
 use Rattle.std.proofs.Common.{◌≡◌, ◌≤◌, ◌++◌, map, drop}
 use Rattle.std.specs.Str.{IsCharBoundary}
-use Rattle.fb_placing.specs.Standing.{path_names}
+use Rattle.fb_placing.specs.Resolved.{path_names}
 use Rattle.fb_placing.proofs.PathNameLemmas.{NoPoint}
 use Rattle.fb_placing.proofs.paths.names.path_names.Given as goal
 

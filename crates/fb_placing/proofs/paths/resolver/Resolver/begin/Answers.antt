@@ -5,7 +5,7 @@ use Rattle.fb_library.specs.View.{tree_at}
 use Rattle.fb_placing.specs.Resolver.{ResolverView, resolved}
 use Rattle.fb_placing.specs.Systems.{applications_in}
 use Rattle.fb_placing.specs.Tables.{instance_at}
-use Rattle.fb_placing.proofs.StandingLemmas.{begin_at}
+use Rattle.fb_placing.proofs.ResolvedLemmas.{begin_at}
 use Rattle.fb_placing.proofs.paths.resolver.Resolver.begin.Goals as goal
 
 pub returns-in-Some : goal.returns-in-Some
@@ -14,7 +14,7 @@ returns-in-Some g c =
     let system = c.self.inside.system in
     let a = c.args.application.now in
     let name = c.args.name.now in
-    c.standing_among.ensures
+    c.resolved_among.ensures
     ∙ begin_at sources system (applications_in (tree_at sources system)) a name (Some c.in-Some.instances.now) (ap (option_map instance_at) c.in-Some.ensures.value ∙ c.self.invariant.applications a)
     ∙ ap (λ (r : ResolverView). resolved r (a ∷ (name ∷ []))) c.self.view_is
 

@@ -4,9 +4,9 @@ use Rattle.std.specs.Prelude.{IfOk, option_map}
 use Rattle.std.specs.Borrow.{Bor}
 use Rattle.fb_library.specs.View.{tree_at}
 use Rattle.fb_placing.specs.Resolver.{resolved}
-use Rattle.fb_placing.specs.Standing.{PlainStanding, plain_standing, standing_beyond}
+use Rattle.fb_placing.specs.Resolved.{PlainResolved, plain_resolved, resolved_beyond}
 use Rattle.fb_placing.specs.Systems.{applications_in}
-use Rattle.fb_placing.proofs.StandingLemmas.{at_begins, beyond_nothing}
+use Rattle.fb_placing.proofs.ResolvedLemmas.{at_begins, beyond_nothing}
 use Rattle.fb_placing.proofs.paths.resolver.Resolver.from.Goals as goal
 
 pub returns-in-None-begin-clause-found : goal.returns-in-None-begin-clause-found
@@ -16,15 +16,15 @@ returns-in-None-begin-clause-found g c =
     let rest : List (List ℕ) = map (λ n. n.now) c.in-Some.inner.now in
     sym (ap (λ (ns : List (Bor (List ℕ))). resolved r (a ∷ map (λ n. n.now) ns)) c.in-Some.ensures.cases.0
     ∙ at_begins r.sources r.system (applications_in (tree_at r.sources r.system)) a c.in-Some.name.now.now rest
-    ∙ ap (λ (o : Option PlainStanding). standing_beyond r.sources o rest) (sym c.in-None-begin.ensures) ∙ beyond_nothing r.sources rest)
+    ∙ ap (λ (o : Option PlainResolved). resolved_beyond r.sources o rest) (sym c.in-None-begin.ensures) ∙ beyond_nothing r.sources rest)
 
 pub returns-in-Some-begin-clause-found : goal.returns-in-Some-begin-clause-found
 returns-in-Some-begin-clause-found g c =
     let r = c.args.self.now in
     let a : List ℕ = c.args.application.now in
     let rest : List (List ℕ) = map (λ n. n.now) c.in-Some.inner.now in
-    let leads : standing_beyond r.sources (Some (plain_standing c.in-Some-begin.start)) rest ≡ resolved r (a ∷ map (λ n. n.now) c.args.names.now) =
+    let leads : resolved_beyond r.sources (Some (plain_resolved c.in-Some-begin.start)) rest ≡ resolved r (a ∷ map (λ n. n.now) c.args.names.now) =
     sym (ap (λ (ns : List (Bor (List ℕ))). resolved r (a ∷ map (λ n. n.now) ns)) c.in-Some.ensures.cases.0
     ∙ at_begins r.sources r.system (applications_in (tree_at r.sources r.system)) a c.in-Some.name.now.now rest
-    ∙ ap (λ (o : Option PlainStanding). standing_beyond r.sources o rest) (sym c.in-Some-begin.ensures)) in
-    subst (λ (s : Option PlainStanding). IfOk c.beyond.result (λ found. option_map plain_standing found ≡ s)) leads c.beyond.ensures.found
+    ∙ ap (λ (o : Option PlainResolved). resolved_beyond r.sources o rest) (sym c.in-Some-begin.ensures)) in
+    subst (λ (s : Option PlainResolved). IfOk c.beyond.result (λ found. option_map plain_resolved found ≡ s)) leads c.beyond.ensures.found

@@ -7,29 +7,29 @@ use Rattle.fb_tree.specs.Text.Order.{name_cmp}
 use Rattle.fb_tree.specs.Tree.{InstanceTree}
 use Rattle.fb_library.specs.View.{Sources, tree_at}
 use Rattle.fb_placing.specs.Resolver.{ResolverView}
-use Rattle.fb_placing.specs.Standing.{PlainStanding, inner_instances, instance_called, plain_standing, standing_among, standing_in, standing_inside}
+use Rattle.fb_placing.specs.Resolved.{PlainResolved, inner_instances, instance_called, plain_resolved, resolved_among, resolved_in, resolved_inside}
 use Rattle.fb_placing.specs.Tables.{Instances, instance_at}
 use Rattle.fb_placing.proofs.InstanceLemmas.{among_called, one_added}
 use Rattle.fb_placing.proofs.paths.resolver.Resolver.inside.Goals as goal
 
-in_table : (a b : Sources) (unit name : List ℕ) (outer : PlainStanding) (table : Instances) → a ≡ b → unit ≡ outer.instance.type_name.name → instance_at table ≡ instance_called (inner_instances (tree_at a unit)) → option_map (standing_in unit) (instance_at table name) ≡ standing_inside b name outer
+in_table : (a b : Sources) (unit name : List ℕ) (outer : PlainResolved) (table : Instances) → a ≡ b → unit ≡ outer.instance.type_name.name → instance_at table ≡ instance_called (inner_instances (tree_at a unit)) → option_map (resolved_in unit) (instance_at table name) ≡ resolved_inside b name outer
 in_table a b unit name outer table same is right =
-    ap (λ (at : List ℕ → Option InstanceTree). option_map (standing_in unit) (at name)) right
+    ap (λ (at : List ℕ → Option InstanceTree). option_map (resolved_in unit) (at name)) right
     ∙ sym (among_called unit (inner_instances (tree_at a unit)) name)
-    ∙ (λ i. standing_among (is i) (inner_instances (tree_at (same i) (is i))) name)
+    ∙ (λ i. resolved_among (is i) (inner_instances (tree_at (same i) (is i))) name)
 
 pub returns-in-Some-clause-found : goal.returns-in-Some-clause-found
 returns-in-Some-clause-found g c =
     let unit : List ℕ = c.name-unit.result in
     let table : Instances = c.in-Some.instances.now in
-    c.standing_among.ensures
-    ∙ in_table (g.V.View.sources c.self.inside.view.now) c.args.self.now.sources unit c.args.name.now (plain_standing c.args.outer.now) table
+    c.resolved_among.ensures
+    ∙ in_table (g.V.View.sources c.self.inside.view.now) c.args.self.now.sources unit c.args.name.now (plain_resolved c.args.outer.now) table
     (ap (λ (r : ResolverView). r.sources) c.self.view_is) c.name-unit.ensures (c.self.invariant.units unit table (sym c.in-Some.ensures.value))
 
 pub returns-clause-found : goal.returns-clause-found
 returns-clause-found g c =
-    c.standing_among-found.ensures
-    ∙ in_table (g.V.View.sources c.self.inside.view.now) c.args.self.now.sources c.name-unit.result c.args.name.now (plain_standing c.args.outer.now) c.in_ok-instances.instances
+    c.resolved_among-found.ensures
+    ∙ in_table (g.V.View.sources c.self.inside.view.now) c.args.self.now.sources c.name-unit.result c.args.name.now (plain_resolved c.args.outer.now) c.in_ok-instances.instances
     (ap (λ (r : ResolverView). r.sources) c.self.view_is) c.name-unit.ensures (c.in_ok-instances.ensures ∙ ap instance_called c.instances_of.ensures)
 
 pub invariant_of-self : goal.invariant_of-self

@@ -2,7 +2,7 @@
 use Rattle.std.proofs.Common.{sym, rules}
 use Rattle.fb_library.specs.View.{tree_at}
 use Rattle.fb_placing.specs.Systems.{applications_in}
-use Rattle.fb_placing.proofs.StandingLemmas.{nothing_at}
+use Rattle.fb_placing.proofs.ResolvedLemmas.{nothing_at}
 use Rattle.fb_placing.proofs.paths.resolver.Resolver.new.Goals as goal
 
 pub invariant_of-result : goal.invariant_of-result

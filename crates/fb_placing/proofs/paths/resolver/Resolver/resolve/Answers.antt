@@ -4,10 +4,10 @@ use Rattle.std.specs.Prelude.{option_map}
 use Rattle.std.proofs.lemmas.Result.{IfOk-weaker}
 use Rattle.fb_library.specs.View.{tree_at}
 use Rattle.fb_placing.specs.Resolver.{ResolverView, resolved}
-use Rattle.fb_placing.specs.Standing.{path_names, plain_standing, standing_inside}
+use Rattle.fb_placing.specs.Resolved.{path_names, plain_resolved, resolved_inside}
 use Rattle.fb_placing.specs.Systems.{applications_in}
-use Rattle.fb_placing.proofs.PartedLemmas.{names_parted}
-use Rattle.fb_placing.proofs.StandingLemmas.{at_more}
+use Rattle.fb_placing.proofs.SplitLemmas.{names_parted}
+use Rattle.fb_placing.proofs.ResolvedLemmas.{at_more}
 use Rattle.fb_placing.proofs.paths.resolver.Resolver.resolve.Goals as goal
 
 pub returns-in-Ok-Some-clause-found : goal.returns-in-Ok-Some-clause-found
@@ -15,11 +15,11 @@ returns-in-Ok-Some-clause-found g c =
     let r = c.args.self.now in
     let outer = c.in-Some.outer.now in
     let name = c.in-Some.name.now in
-    let it = plain_standing c.in-Ok-Some.it in
-    let near : resolved r (path_names outer) ≡ Some it = sym c.in-Ok-Some.ensures.found ∙ ap (option_map plain_standing) c.in-Ok-Some.field-0-is in
+    let it = plain_resolved c.in-Ok-Some.it in
+    let near : resolved r (path_names outer) ≡ Some it = sym c.in-Ok-Some.ensures.found ∙ ap (option_map plain_resolved) c.in-Ok-Some.field-0-is in
     let parts = c.in-Some.ensures.parts in
-    let whole : resolved r (path_names c.args.path.now) ≡ standing_inside r.sources name it =
+    let whole : resolved r (path_names c.args.path.now) ≡ resolved_inside r.sources name it =
     ap (λ (p : List ℕ). resolved r (path_names p)) parts.0
     ∙ ap (resolved r) (names_parted outer name parts.1)
     ∙ at_more r.sources r.system (applications_in (tree_at r.sources r.system)) (path_names outer) name it near in
-    IfOk-weaker c.inside.result _ _ (λ found e. e ∙ ap (λ (now : ResolverView). standing_inside now.sources name it) c.look_at.ensures.same ∙ sym whole) c.inside.ensures.found
+    IfOk-weaker c.inside.result _ _ (λ found e. e ∙ ap (λ (now : ResolverView). resolved_inside now.sources name it) c.look_at.ensures.same ∙ sym whole) c.inside.ensures.found

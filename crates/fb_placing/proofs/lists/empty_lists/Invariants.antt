@@ -1,9 +1,0 @@
-use Rattle.std.proofs.Common.{ℕ, ◌≡◌, ◌<◌, [], Some, length}
-use Rattle.fb_placing.specs.Lists.{items_at}
-use Rattle.fb_placing.proofs.lists.empty_lists.Given as goal
-
-abbrev pub invariant-loop : goal.invariant-loop
-invariant-loop l = record {
-  items : (k : ℕ) → k < l.counter → items_at l.lists.items k ≡ Some [];
-  count : length l.lists.items ≡ l.counter;
-}

@@ -1,0 +1,18 @@
+-- The closures compare what the blocks say.
+use Rattle.std.proofs.Common.{◌≡◌, rules}
+use Rattle.std.specs.Ordering.{eq_by_cmp, is_lt}
+use Rattle.std.proofs.lemmas.Fn.{always_returns_same, dedup_same}
+use Rattle.std.proofs.lemmas.List.Sorted.{ranks_by}
+use Rattle.fb_network.proofs.SortedOnce.{sorted_once}
+use Rattle.fb_placing.specs.Created.{created_command}
+use Rattle.fb_placing.specs.PlacedCommands.{command_cmp, command_cmp_total}
+use Rattle.fb_placing.proofs.PlacedLemmas.{exact_command}
+use Rattle.fb_placing.proofs.plan.create_commands.sort_created.Goals as goal
+
+pub returns : goal.returns
+returns c =
+    let says = created_command c.args.flat.now in
+    sorted_once says command_cmp command_cmp_total (λ x y e. exact_command x y e) _ _ _ c.in_ok-sort_by.ensures.permutation
+    (c.in_ok-sort_by.ensures.sorted (λ a b. is_lt (command_cmp (says a) (says b))) (ranks_by command_cmp_total says)
+    (always_returns_same _ (λ a r. is_lt r ≡ is_lt (command_cmp (says a.0.now) (says a.1.0.now))) _ (λ a r f' k. search rules)))
+    (dedup_same _ (λ x y. eq_by_cmp command_cmp (says x) (says y)) _ (λ x y b f' x' y' k. search rules) _ _ c.dedup_by.ensures.filtered)

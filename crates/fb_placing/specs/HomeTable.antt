@@ -1,0 +1,18 @@
+-- Homes by the paths of blocks.
+use Rattle.std.specs.Prelude.{ℕ, ◌≡◌, List, Option, Some, option_map}
+use Rattle.std.specs.Borrow.{Bor}
+use Rattle.std.specs.HashMap.{HashMap, get_by}
+use Rattle.std.specs.Str.{bytes_eq}
+use Rattle.std.specs.declared.hash.FoldHasher.{FoldHasher}
+use Rattle.std.specs.declared.hash.BuildHasherDefault.{BuildHasherDefault}
+
+abbrev pub ByPath : Type 0
+ByPath = HashMap (Bor (List ℕ)) (Bor (List ℕ)) (BuildHasherDefault FoldHasher)
+
+-- what a path stands for
+abbrev pub home_by_path : ByPath → List ℕ → Option (List ℕ)
+home_by_path by_path path = option_map (λ r. r.now) (get_by (λ k. bytes_eq path k.now) by_path)
+
+-- the resource, if there is one, is what the path stands for
+abbrev pub IsKnown : ByPath → List ℕ → Option (Bor (List ℕ)) → Type 0
+IsKnown by_path path resource = (r : Bor (List ℕ)) → resource ≡ Some r → home_by_path by_path path ≡ Some r.now

@@ -1,6 +1,0 @@
--- A command and the resource that it is for.
-use Rattle.std.specs.Prelude.{ℕ, List}
-
-pub record Order : Type 0 where
-  pub resource : List ℕ
-  pub command : List ℕ
