@@ -1,7 +1,7 @@
 //! What a workbench shows after the calls of its callers: its records, keys, revisions and what is known of a key.
 use crate::conversation::{all_right, converse, new_bench};
 use fb_text::Name;
-use fb_wire::bench::{Bench, Call, CheckpointRefused, Limits, Reply, Shown};
+use fb_wire::bench::{Bench, Call, CheckpointError, Limits, Reply, Shown};
 use fb_wire::jobs::{Key, Kind};
 use std::alloc::Global;
 use std::process::Abort;
@@ -26,7 +26,7 @@ enum Step<'a> {
     Answer(u64, u64),
     NoRecord(u64),
     /// A checkpoint with these limits has this result.
-    Checkpoint(u64, u64, Result<u64, CheckpointRefused>),
+    Checkpoint(u64, u64, Result<u64, CheckpointError>),
     /// How many calls came before the start.
     Before(u64),
     /// How many units the history begins with, and after how many good commits.
@@ -89,7 +89,7 @@ fn comes_to(
     bench: &mut Bench,
     units: u64,
     history: u64,
-    wanted: &Result<u64, CheckpointRefused>,
+    wanted: &Result<u64, CheckpointError>,
 ) -> Result<bool, Fail> {
     let limits = Limits::new(units, history).ok_or("limits")?;
     Ok(bench.checkpoint(limits) == *wanted)
@@ -435,7 +435,7 @@ const BEGUN_WAITING: &[Step<'static>] = &[
 {"op":"take"} => {"job":1,"kind":"faults","unit":"A"}
 "#,
     ),
-    Step::Checkpoint(1, 2, Err(CheckpointRefused::UnitsOver(2))),
+    Step::Checkpoint(1, 2, Err(CheckpointError::UnitsOver(2))),
     Step::Before(0),
     Step::Records(2),
     Step::Start(0, 0),

@@ -141,7 +141,7 @@ fn is_same_at(bench: &Bench, whole: &Bench, number: u64) -> bool {
 }
 
 /// Whether a workbench has recorded what the other one has first.
-pub(crate) fn is_front(bench: &Bench, whole: &Bench) -> bool {
+pub(crate) fn is_prefix(bench: &Bench, whole: &Bench) -> bool {
     for number in 0..bench.last_number() {
         if !is_same_at(bench, whole, number + 1) {
             return false;
@@ -156,7 +156,7 @@ struct Cut {
     end: RunEnd,
     output: Vec<u8>,
     calls: usize,
-    is_front: bool,
+    is_prefix: bool,
 }
 
 fn cut_on(
@@ -174,7 +174,7 @@ fn cut_on(
         end,
         output: store.held,
         calls: bench.len(),
-        is_front: is_front(bench, conversation.whole),
+        is_prefix: is_prefix(bench, conversation.whole),
     }
 }
 
@@ -233,7 +233,7 @@ fn end_wanted(fault: Fault) -> (RunEnd, bool) {
 fn is_cut(cut: &Cut, output: &[u8], end: RunEnd, is_one_more: bool) -> bool {
     let lines = lines_in(output).saturating_add(usize::from(is_one_more));
     let is_said = cut.end == end && cut.output.as_slice() == output;
-    is_said && cut.is_front && LATE_CALLS.get(lines) == Some(&cut.calls)
+    is_said && cut.is_prefix && LATE_CALLS.get(lines) == Some(&cut.calls)
 }
 
 // Whether a run is right of which so many are good, or all.
@@ -326,7 +326,7 @@ fn each_read_fails(rt: HostRuntime) -> Result<(), Fail> {
     compare(&rt, rt.alloc(), &faults)
 }
 
-// What is written is a front of the replies; the calls are made of the line whose reply is cut.
+// What is written is a prefix of the replies; the calls are made of the line whose reply is cut.
 #[test]
 fn each_write_fails(rt: HostRuntime) -> Result<(), Fail> {
     compare(&rt, rt.alloc(), &[Fault::Write(1), Fault::Write(LONG)])

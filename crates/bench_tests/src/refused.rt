@@ -1,7 +1,7 @@
 //! Conversations of which each allocation is refused in turn. One that ends for lack of memory has made the calls of the lines that it answered, and none,
 //! some or all of one more. If no line names a job of another line, it continues with the lines that were not answered.
 use crate::conversation::{ALWAYS, GOOD, new_bench, replies_in, requests_in, run_over, said};
-use crate::cuts::{Conversation, LATE, LATE_CALLS, behind, is_front, lines_in};
+use crate::cuts::{Conversation, LATE, LATE_CALLS, behind, is_prefix, lines_in};
 use fb_wire::bench::Bench;
 use fb_wire::{IntoWrite, MemoryFeed, RunEnd, run_script};
 use refusing::{Refusals, refuse, report, was_refused};
@@ -78,11 +78,11 @@ fn goes_on(
     Ok(rest.as_str() == behind(conversation.replies, lines))
 }
 
-// Whether a run wrote whole lines from the front of the replies, and made the first calls of the whole run.
-fn is_front_of(bench: &Bench, conversation: &Conversation<'_>, output: &[u8]) -> bool {
+// Whether a run wrote whole lines from the prefix of the replies, and made the first calls of the whole run.
+fn is_prefix_of(bench: &Bench, conversation: &Conversation<'_>, output: &[u8]) -> bool {
     let is_whole = output.is_empty() || output.last() == Some(&b'\n');
     let is_said = conversation.replies.as_bytes().starts_with(output);
-    is_whole && is_said && is_front(bench, conversation.whole)
+    is_whole && is_said && is_prefix(bench, conversation.whole)
 }
 
 /// Which conversation it is.
@@ -126,7 +126,7 @@ fn is_right(
     output: &[u8],
     end: RunEnd,
 ) -> Result<bool, Fail> {
-    if !is_front_of(bench, conversation, output) {
+    if !is_prefix_of(bench, conversation, output) {
         return Ok(false);
     }
     match end {

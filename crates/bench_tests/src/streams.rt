@@ -1,7 +1,7 @@
 //! Runs over streams that reach their end, stop or fail.
 use crate::conversation::{ALWAYS, GOOD, Run, Streams, new_bench, run_over};
 use fb_wire::bench::Bench;
-use fb_wire::{Failed, Feed, FromRead, IntoWrite, RunEnd, Sink, run_script};
+use fb_wire::{Feed, FromRead, IntoWrite, RunEnd, Sink, StreamError, run_script};
 use std::alloc::Global;
 use std::io::{self, ErrorKind, Write};
 use std::process::Abort;
@@ -195,6 +195,6 @@ impl Write for NeverFlushed {
 #[test]
 fn a_flush_that_fails(rt: HostRuntime) {
     let mut sink = IntoWrite::new(NeverFlushed);
-    assert_eq!(rt; sink.flush(), Err(Failed));
+    assert_eq!(rt; sink.flush(), Err(StreamError));
     assert!(rt; sink.failed());
 }

@@ -6,10 +6,10 @@ use Rattle.fb_history.specs.Machine.{Call, ToCommit, ToTake, ToDeliver, ToGiveBa
 use Rattle.fb_bench.specs.Records.{job_in, shown_in}
 use Rattle.fb_history.specs.declared.answers.Asked.{Asked}
 use Rattle.fb_bench.specs.declared.answers.Taken.{Taken}
-use Rattle.fb_bench.specs.declared.desk.DeskRefused.{DeskRefused}
-use Rattle.fb_bench.specs.declared.desk.DeskRefused.TheVariants.{HistoryFull, Behind, Memory}
-use Rattle.fb_bench.specs.declared.desk.DeskCheckpointRefused.{DeskCheckpointRefused}
-use Rattle.fb_bench.specs.declared.desk.DeskCheckpointRefused.TheVariants as refused
+use Rattle.fb_bench.specs.declared.desk.DeskError.{DeskError}
+use Rattle.fb_bench.specs.declared.desk.DeskError.TheVariants.{HistoryFull, Behind, Memory}
+use Rattle.fb_bench.specs.declared.desk.DeskCheckpointError.{DeskCheckpointError}
+use Rattle.fb_bench.specs.declared.desk.DeskCheckpointError.TheVariants as refused
 
 -- what a desk answers to a call: a reply, or that the history is full, or `Behind`
 pub data Answer : Type 0 where
@@ -50,14 +50,14 @@ abbrev pub ask_reply : Asked → Reply
 ask_reply asked = OfAsk (shown_in asked)
 
 -- The call was answered, or refused as an answer says. For lack of memory nothing changed.
-abbrev pub Serves : {D R : Type 0} → (D → Call → Answer → D → Type 0) → D → Call → (R → Reply) → Result R DeskRefused → D → Type 0
+abbrev pub Serves : {D R : Type 0} → (D → Call → Answer → D → Type 0) → D → Call → (R → Reply) → Result R DeskError → D → Type 0
 Serves Step old call reply_of (Ok answer) new = Step old call (Replied (reply_of answer)) new
 Serves Step old call reply_of (Err HistoryFull) new = Step old call FullHistory new
 Serves Step old call reply_of (Err Behind) new = Step old call BehindHistory new
 Serves Step old call reply_of (Err Memory) new = new ≡ old
 
 -- The checkpoint was made, or refused as an answer says. For lack of memory nothing changed.
-abbrev pub ServesCheckpoint : {D : Type 0} → (D → Bounds → CheckpointAnswer → D → Type 0) → D → Bounds → Result ℕ DeskCheckpointRefused → D → Type 0
+abbrev pub ServesCheckpoint : {D : Type 0} → (D → Bounds → CheckpointAnswer → D → Type 0) → D → Bounds → Result ℕ DeskCheckpointError → D → Type 0
 ServesCheckpoint Step old limits (Ok before) new = Step old limits (Checked (KeptUpTo before)) new
 ServesCheckpoint Step old limits (Err (refused.UnitsOver count)) new = Step old limits (Checked (OverUnits count)) new
 ServesCheckpoint Step old limits (Err refused.NumbersOver) new = Step old limits (Checked OverNumbers) new

@@ -5,10 +5,10 @@ use Rattle.fb_history.specs.Limits.{Bounds}
 use Rattle.fb_history.specs.Machine.{Call, reply}
 use Rattle.fb_history.specs.BenchView.{BenchView, state_of, recorded}
 use Rattle.fb_bench.specs.Calls.{Answer, Replied, FullHistory, BehindHistory, CheckpointAnswer, Checked, SharedHistory, Exchange, Exchanges}
-use Rattle.fb_bench.specs.declared.desk.DeskRefused.{DeskRefused}
-use Rattle.fb_bench.specs.declared.desk.DeskRefused.TheVariants as refused
-use Rattle.fb_bench.specs.declared.desk.DeskCheckpointRefused.{DeskCheckpointRefused}
-use Rattle.fb_bench.specs.declared.desk.DeskCheckpointRefused.TheVariants as unmade
+use Rattle.fb_bench.specs.declared.desk.DeskError.{DeskError}
+use Rattle.fb_bench.specs.declared.desk.DeskError.TheVariants as refused
+use Rattle.fb_bench.specs.declared.desk.DeskCheckpointError.{DeskCheckpointError}
+use Rattle.fb_bench.specs.declared.desk.DeskCheckpointError.TheVariants as unmade
 use Rattle.fb_bench.specs.declared.desk.Solo.{Solo}
 
 -- The machine's reply, recorded, if the history has room. If it has none, nothing changes. The answer is never `Behind`.
@@ -26,12 +26,12 @@ abbrev pub IsStep : ℕ → BenchView → Exchange → BenchView → Type 0
 IsStep caller = Exchanges (IsCallStep caller) IsCheckpointStep
 
 -- memory is wanted for a call only where the history has room for it
-abbrev pub IsOpenCall : {R : Type 0} → BenchView → Result R DeskRefused → Type 0
+abbrev pub IsOpenCall : {R : Type 0} → BenchView → Result R DeskError → Type 0
 IsOpenCall story (Err refused.Memory) = length story.log.records < story.log.limit
 IsOpenCall story _ = Unit {0}
 
 -- memory is wanted for a checkpoint only where it would be made
-abbrev pub IsOpenCheckpoint : BenchView → Bounds → Result ℕ DeskCheckpointRefused → Type 0
+abbrev pub IsOpenCheckpoint : BenchView → Bounds → Result ℕ DeskCheckpointError → Type 0
 IsOpenCheckpoint story limits (Err unmade.Memory) = (before : ℕ) × (checking limits story ≡ KeptUpTo before)
 IsOpenCheckpoint story limits _ = Unit {0}
 

@@ -14,7 +14,7 @@ use fb_entries::jobs::{Finished, Job, Key, Read, current_nets, current_reads, lo
 use fb_entries::library::{Change, Library};
 use fb_entries::{Entries, Marks};
 use fb_history::{
-    Asked, Call, CheckpointRefused, Committed, Delivered, GivenBack, History, Limits, Record,
+    Asked, Call, CheckpointError, Committed, Delivered, GivenBack, History, Limits, Record,
     Refused, Reply, Start, TextChange,
 };
 use fb_text::Name;
@@ -626,7 +626,7 @@ impl Bench {
     /// Makes the present state what the history begins from, with new limits, and gives the number of all calls so far. Texts, values, pending
     /// keys and handed-out marks stay as they are; the records go, and their memory is given back to the allocator. It is no call itself,
     /// and is not recorded.
-    pub fn checkpoint(&mut self, limits: Limits) -> Result<u64, CheckpointRefused>
+    pub fn checkpoint(&mut self, limits: Limits) -> Result<u64, CheckpointError>
         ensures answer { ChecksAs (checking limits self.old) result }
         ensures kept { OnOk result (self.new ≡ checkpointed limits self.old) }
         ensures err { OnErr result (self.new ≡ self.old) }
@@ -641,10 +641,7 @@ impl Bench {
     }
 
     /// As `checkpoint`, with the records that were made since the last start, so that who holds a lock can drop them later.
-    pub fn begin_anew(
-        &mut self,
-        limits: Limits,
-    ) -> Result<(u64, Vec<Arc<Record>>), CheckpointRefused>
+    pub fn begin_anew(&mut self, limits: Limits) -> Result<(u64, Vec<Arc<Record>>), CheckpointError>
         ensures before { IfOk result (λ made. ChecksAs (checking limits self.old) (Ok made.0)) }
         ensures refused { IfErr result
             (λ refused. ChecksAs (checking limits self.old) (Err refused)) }
@@ -655,10 +652,10 @@ impl Bench {
     {
         let count = self.library.len() as u64;
         if limits.units() < count {
-            return Err(CheckpointRefused::UnitsOver(count));
+            return Err(CheckpointError::UnitsOver(count));
         }
         if u64::MAX - limits.history() < self.history.last_number() {
-            return Err(CheckpointRefused::NumbersOver);
+            return Err(CheckpointError::NumbersOver);
         }
         let library = self.library.copy()?;
         let Marks { pending, out } = self.entries.marks(self.alloc)?;

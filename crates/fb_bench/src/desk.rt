@@ -6,11 +6,11 @@ use crate::bench::Bench;
 use crate::request::Request;
 use fb_entries::jobs::{Finished, Key};
 use fb_entries::library::Change;
-use fb_history::{Asked, CheckpointRefused, Committed, Delivered, GivenBack, Limits, Refused};
+use fb_history::{Asked, CheckpointError, Committed, Delivered, GivenBack, Limits, Refused};
 
 /// Why a desk does not record a call.
 #[derive(Clone, Copy, PartialEq, Eq, Debug)]
-pub enum DeskRefused {
+pub enum DeskError {
     /// As many calls are recorded as the limits allow.
     HistoryFull,
     /// The history is not the one that this desk has seen: it is shorter, or has another number of calls of the desk's caller.
@@ -21,7 +21,7 @@ pub enum DeskRefused {
 
 /// Why a desk does not make the present state the start of its history.
 #[derive(Clone, Copy, PartialEq, Eq, Debug)]
-pub enum DeskCheckpointRefused {
+pub enum DeskCheckpointError {
     /// This number of units is present, more than the new limit.
     UnitsOver(u64),
     /// The last number and the new limit of the history together are no `u64`.
@@ -49,16 +49,16 @@ pub trait Desk {
     ghost checkpoint_step: { Self → Bounds → CheckpointAnswer → Self → Type 0 };
 
     /// Makes any call. The answer is of the call's kind.
-    fn perform(&mut self, request: &Request<'_>) -> Result<Answered, DeskRefused>
+    fn perform(&mut self, request: &Request<'_>) -> Result<Answered, DeskError>
         ensures fits { IfOk result (λ answer. Fits (call_for request.now) (reply_in answer)) }
         ensures step { Serves step self.old (call_for request.now) reply_in result self.new };
 
     /// Makes the present state what the history begins from, with new limits, and gives the number of all calls so far.
-    fn checkpoint(&mut self, limits: Limits) -> Result<u64, DeskCheckpointRefused>
+    fn checkpoint(&mut self, limits: Limits) -> Result<u64, DeskCheckpointError>
         ensures step { ServesCheckpoint checkpoint_step self.old limits result self.new };
 
     /// Changes the texts, or says what is first against it.
-    fn commit(&mut self, changes: &[Change]) -> Result<Committed, DeskRefused>
+    fn commit(&mut self, changes: &[Change]) -> Result<Committed, DeskError>
         ensures { Serves step self.old (ToCommit (listed changes.now)) OfCommit result self.new }
     {
         let _finished: Option<&Finished> = None;
@@ -69,7 +69,7 @@ pub trait Desk {
     }
 
     /// Hands out a job for the least key that is pending and not handed out.
-    fn take(&mut self) -> Result<Taken, DeskRefused>
+    fn take(&mut self) -> Result<Taken, DeskError>
         ensures { Serves step self.old ToTake take_reply result self.new }
     {
         let _changes: &[Change] = &[];
@@ -81,7 +81,7 @@ pub trait Desk {
     }
 
     /// Takes a result in, if its key waits for one and all that it has read is unchanged.
-    fn deliver(&mut self, finished: &Finished) -> Result<Delivered, DeskRefused>
+    fn deliver(&mut self, finished: &Finished) -> Result<Delivered, DeskError>
         ensures { Serves step self.old (ToDeliver finished.now) OfDeliver result self.new }
     {
         let _changes: &[Change] = &[];
@@ -92,7 +92,7 @@ pub trait Desk {
     }
 
     /// Clears the mark that a key is handed out.
-    fn give_back(&mut self, key: Key) -> Result<GivenBack, DeskRefused>
+    fn give_back(&mut self, key: Key) -> Result<GivenBack, DeskError>
         ensures { Serves step self.old (ToGiveBack key) OfGiveBack result self.new }
     {
         let _changes: &[Change] = &[];
@@ -104,7 +104,7 @@ pub trait Desk {
     }
 
     /// What is known of a key.
-    fn ask(&mut self, key: Key) -> Result<Asked, DeskRefused>
+    fn ask(&mut self, key: Key) -> Result<Asked, DeskError>
         ensures { Serves step self.old (ToAsk key) ask_reply result self.new }
     {
         let _changes: &[Change] = &[];
@@ -144,29 +144,27 @@ impl Desk for Solo<'_> {
 
     ghost checkpoint_step = { SoloCheckpoint };
 
-    fn perform(&mut self, request: &Request<'_>) -> Result<Answered, DeskRefused>
+    fn perform(&mut self, request: &Request<'_>) -> Result<Answered, DeskError>
         ensures fits { IfOk result (λ answer. Fits (call_for request.now) (reply_in answer)) }
         ensures step { Serves SoloCall self.old (call_for request.now) reply_in result self.new }
         ensures open { IsOpenCall self.old.bench.now result }
     {
         match self.bench.perform(self.caller, request) {
             Ok((_record, answer)) => Ok(answer),
-            Err(Refused::HistoryFull) => Err(DeskRefused::HistoryFull),
-            Err(Refused::Memory) => Err(DeskRefused::Memory),
+            Err(Refused::HistoryFull) => Err(DeskError::HistoryFull),
+            Err(Refused::Memory) => Err(DeskError::Memory),
         }
     }
 
-    fn checkpoint(&mut self, limits: Limits) -> Result<u64, DeskCheckpointRefused>
+    fn checkpoint(&mut self, limits: Limits) -> Result<u64, DeskCheckpointError>
         ensures step { ServesCheckpoint SoloCheckpoint self.old limits result self.new }
         ensures open { IsOpenCheckpoint self.old.bench.now limits result }
     {
         match self.bench.checkpoint(limits) {
             Ok(before) => Ok(before),
-            Err(CheckpointRefused::UnitsOver(count)) => {
-                Err(DeskCheckpointRefused::UnitsOver(count))
-            }
-            Err(CheckpointRefused::NumbersOver) => Err(DeskCheckpointRefused::NumbersOver),
-            Err(CheckpointRefused::Memory) => Err(DeskCheckpointRefused::Memory),
+            Err(CheckpointError::UnitsOver(count)) => { Err(DeskCheckpointError::UnitsOver(count)) }
+            Err(CheckpointError::NumbersOver) => Err(DeskCheckpointError::NumbersOver),
+            Err(CheckpointError::Memory) => Err(DeskCheckpointError::Memory),
         }
     }
 }

@@ -11,10 +11,10 @@ mod request;
 
 pub use answers::{Answered, Taken};
 pub use bench::Bench;
-pub use desk::{Desk, DeskCheckpointRefused, DeskRefused, Solo};
+pub use desk::{Desk, DeskCheckpointError, DeskError, Solo};
 pub use fb_history::{
-    Asked, Call, CheckpointRefused, Committed, Delivered, GivenBack, Limits, Record, Refused,
-    Reply, Start, TextChange, Wanted, checkpoints_are_unseen, entries_follow_the_texts,
+    Asked, Call, CheckpointError, Committed, Delivered, GivenBack, Limits, Record, Refused, Reply,
+    Start, TextChange, Wanted, checkpoints_are_unseen, entries_follow_the_texts,
     reach_before_and_after,
 };
 pub use peek::Shown;

@@ -42,32 +42,32 @@ module _ (before after : Texts) where
         own = λ unit. refl;
       })
 
-  pub known_here : (front : List (List ℕ)) (x : List ℕ) (old made : Indexed) (m : Mentioned) → IsReindexed front old made → is_among x front ≡ false → m ≡ mentioned_at (sources_of before) x → IsIndexedAs made x m
-  known_here front x old made m so_far none is = subst (IsIndexedAs made x) (sym is) (so_far.kept x none)
+  pub known_here : (prefix : List (List ℕ)) (x : List ℕ) (old made : Indexed) (m : Mentioned) → IsReindexed prefix old made → is_among x prefix ≡ false → m ≡ mentioned_at (sources_of before) x → IsIndexedAs made x m
+  known_here prefix x old made m so_far none is = subst (IsIndexedAs made x) (sym is) (so_far.kept x none)
 
-  module _ (front now : List (List ℕ)) (x : List ℕ) (old made new : Indexed) (m : Mentioned) where
-    pub reindexed_more : now ≡ front ++ x ∷ [] → is_among x front ≡ false → IsReindexed front old made → m ≡ mentioned_at (sources_of after) x → IsReplaced made x m new → IsReindexed now old new
+  module _ (prefix now : List (List ℕ)) (x : List ℕ) (old made new : Indexed) (m : Mentioned) where
+    pub reindexed_more : now ≡ prefix ++ x ∷ [] → is_among x prefix ≡ false → IsReindexed prefix old made → m ≡ mentioned_at (sources_of after) x → IsReplaced made x m new → IsReindexed now old new
     reindexed_more is none so_far m_is it = record {
-      changed = λ unit among. or_cases (is_among unit front) (is_at (name_cmp unit) x) (sym (now_has unit) ∙ among)
+      changed = λ unit among. or_cases (is_among unit prefix) (is_at (name_cmp unit) x) (sym (now_has unit) ∙ among)
           (λ l. still_indexed (it.others unit (apart unit l)) (so_far.changed unit l))
           (λ r. subst (λ u. IsIndexedAs new u (mentioned_at (sources_of after) u)) (sym (same_is unit x r)) (subst (IsIndexedAs new x) m_is it.own));
       kept = λ unit left.
-          let parts = or_parts (is_among unit front) (is_at (name_cmp unit) x) (sym (now_has unit) ∙ left) in
+          let parts = or_parts (is_among unit prefix) (is_at (name_cmp unit) x) (sym (now_has unit) ∙ left) in
           still_indexed (it.others unit (flips x unit ∙ parts.1)) (so_far.kept unit parts.0);
       own = λ unit. by_bool (is_at (name_cmp unit) x)
           (λ r.
           subst (λ u. is_indexed new u ≡ true) (sym (same_is unit x r)) it.there
-          ∙ sym (or_left (is_among unit now) _ (now_has unit ∙ or_right (is_among unit front) _ r)))
+          ∙ sym (or_left (is_among unit now) _ (now_has unit ∙ or_right (is_among unit prefix) _ r)))
           (λ f.
           ap is_some (it.others unit (flips x unit ∙ f)).mark ∙ so_far.own unit
-          ∙ ap (λ b. b || is_indexed old unit) (sym (now_has unit ∙ ap (λ b. is_among unit front || b) f ∙ or_false (is_among unit front))));
+          ∙ ap (λ b. b || is_indexed old unit) (sym (now_has unit ∙ ap (λ b. is_among unit prefix || b) f ∙ or_false (is_among unit prefix))));
     }
       where
-        now_has : (unit : List ℕ) → is_among unit now ≡ (is_among unit front || is_at (name_cmp unit) x)
-        now_has unit = ap (is_among unit) is ∙ has-push front x unit
+        now_has : (unit : List ℕ) → is_among unit now ≡ (is_among unit prefix || is_at (name_cmp unit) x)
+        now_has unit = ap (is_among unit) is ∙ has-push prefix x unit
 
-        apart : (unit : List ℕ) → is_among unit front ≡ true → is_at (name_cmp x) unit ≡ false
-        apart unit among = by_bool (is_at (name_cmp x) unit) (λ t. no_both (is_among x front) (ap (λ u. is_among u front) (same_is x unit t) ∙ among) none) (λ f. f)
+        apart : (unit : List ℕ) → is_among unit prefix ≡ true → is_at (name_cmp x) unit ≡ false
+        apart unit among = by_bool (is_at (name_cmp x) unit) (λ t. no_both (is_among x prefix) (ap (λ u. is_among u prefix) (same_is x unit t) ∙ among) none) (λ f. f)
 
   pub indexed_after : (units : List (List ℕ)) (old new : Indexed) → IsIndexOf before old → AgreeApartFrom units before after → IsReindexed units old new → IsIndexOf after new
   indexed_after units old new index others it = record {
@@ -93,12 +93,12 @@ indexed_none texts index none empty =
 
 -- ---- no unit is changed twice
 
-pub not_again : (front rest : List (List ℕ)) (x : List ℕ) → repeated_after front (x ∷ rest) ≡ None → is_among x front ≡ false
-not_again front rest x none = by (is_among x front) refl none
+pub not_again : (prefix rest : List (List ℕ)) (x : List ℕ) → repeated_after prefix (x ∷ rest) ≡ None → is_among x prefix ≡ false
+not_again prefix rest x none = by (is_among x prefix) refl none
   where
-    by : (b : Bool) → is_among x front ≡ b → cond b (Some x) (repeated_after (front ++ x ∷ []) rest) ≡ None → is_among x front ≡ false
+    by : (b : Bool) → is_among x prefix ≡ b → cond b (Some x) (repeated_after (prefix ++ x ∷ []) rest) ≡ None → is_among x prefix ≡ false
     by true is e = cc
     by false is e = is
 
-pub none_again : (front rest : List (List ℕ)) (x : List ℕ) → repeated_after front (x ∷ rest) ≡ None → repeated_after (front ++ x ∷ []) rest ≡ None
-none_again front rest x none = sym (ap (λ b. cond b (Some x) (repeated_after (front ++ x ∷ []) rest)) (not_again front rest x none)) ∙ none
+pub none_again : (prefix rest : List (List ℕ)) (x : List ℕ) → repeated_after prefix (x ∷ rest) ≡ None → repeated_after (prefix ++ x ∷ []) rest ≡ None
+none_again prefix rest x none = sym (ap (λ b. cond b (Some x) (repeated_after (prefix ++ x ∷ []) rest)) (not_again prefix rest x none)) ∙ none

@@ -10,13 +10,13 @@ use Rattle.fb_jobs.proofs.Members.{of_more, of_both}
 pub of_now : (q k : Key) (before now : List Key) → now ≡ before ++ k ∷ [] → is_of q now ≡ (is_of q before || same_key k q)
 of_now q k before now more = ap (λ ks. is_of q ks) more ∙ of_more q k before
 
-or_front : (a b : Bool) → (a || b) ≡ false → a ≡ false
-or_front true b none = cc
-or_front false b none = refl
+or_prefix : (a b : Bool) → (a || b) ≡ false → a ≡ false
+or_prefix true b none = cc
+or_prefix false b none = refl
 
 -- a key that is not of these is not of the first of them
-pub of_front : (q : Key) (i : ℕ) (ks : List Key) → is_of q ks ≡ false → is_of q (take i ks) ≡ false
-of_front q i ks none = or_front (is_of q (take i ks)) (is_of q (drop i ks)) (sym (of_both q (take i ks) (drop i ks)) ∙ ap (λ l. is_of q l) (take-append-drop i ks) ∙ none)
+pub of_prefix : (q : Key) (i : ℕ) (ks : List Key) → is_of q ks ≡ false → is_of q (take i ks) ≡ false
+of_prefix q i ks none = or_prefix (is_of q (take i ks)) (is_of q (drop i ks)) (sym (of_both q (take i ks) (drop i ks)) ∙ ap (λ l. is_of q l) (take-append-drop i ks) ∙ none)
 
 module _ {V : Type 0} (none v0 v1 v2 : V) where
   -- taken out, one by one

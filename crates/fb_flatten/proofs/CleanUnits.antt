@@ -69,8 +69,8 @@ Fine sources placed = IsCleanNetwork sources placed.0 placed.1
 -- the type of each instance has no fault
 types_fine : (sources : Sources) (unit : List ℕ) (decl : DeclTree) → declaration_faults sources unit (Some decl) ≡ [] → (i : InstanceTree) → Contains (instances_of decl) i → instance_faults sources i ≡ []
 types_fine sources unit decl e i c =
-    let front = (name_faults unit decl ++ duplicate_faults decl) ++ mixed_faults decl in
-    let types = right_none front (type_faults sources decl) (left_none (front ++ type_faults sources decl) (with_faults_of decl) (left_none ((front ++ type_faults sources decl) ++ with_faults_of decl) (literal_faults_of decl) (left_none (((front ++ type_faults sources decl) ++ with_faults_of decl) ++ literal_faults_of decl) (recursion_faults sources unit decl) e))) in
+    let prefix = (name_faults unit decl ++ duplicate_faults decl) ++ mixed_faults decl in
+    let types = right_none prefix (type_faults sources decl) (left_none (prefix ++ type_faults sources decl) (with_faults_of decl) (left_none ((prefix ++ type_faults sources decl) ++ with_faults_of decl) (literal_faults_of decl) (left_none (((prefix ++ type_faults sources decl) ++ with_faults_of decl) ++ literal_faults_of decl) (recursion_faults sources unit decl) e))) in
     All-contains (λ (x : InstanceTree). instance_faults sources x ≡ []) (instances_of decl) i (none_of_each (instance_faults sources) (instances_of decl) types) c
 
 module _ (sources : Sources) (unit : List ℕ) (decl : DeclTree) (is : tree_at sources unit ≡ Some decl) (report : HasNoReport sources unit) where
@@ -175,8 +175,8 @@ each_contains {A = A} P (y ∷ ys) h x c = by (contains_cases y ys x c) (each_co
     by (inr d) more = more d
 
 module _ (sources : Sources) (unit : List ℕ) (s : SystemTree) (is : tree_at sources unit ≡ Some (system_configuration s)) (report : HasNoReport sources unit) where
-  abbrev front : List (List NameUse)
-  front = map (λ (x : ApplicationTree). x.name) s.applications ∷ flat_map (λ (x : ApplicationTree). network_spaces x.network) s.applications
+  abbrev prefix : List (List NameUse)
+  prefix = map (λ (x : ApplicationTree). x.name) s.applications ∷ flat_map (λ (x : ApplicationTree). network_spaces x.network) s.applications
 
   abbrev behind : List (List NameUse)
   behind = map (λ d. d.name) s.devices ∷ map resource_names s.devices
@@ -191,7 +191,7 @@ module _ (sources : Sources) (unit : List ℕ) (s : SystemTree) (is : tree_at so
       let right : Right placed = All-contains Right (networks_in sources unit (Some decl)) placed (all_right sources unit decl is report) among_places in
       let names = map (λ (i : InstanceTree). i.name) a.network.instances in
       let inside : Contains (flat_map (λ (x : ApplicationTree). network_spaces x.network) s.applications) names = contains_flat_map (λ (x : ApplicationTree). network_spaces x.network) s.applications a names c (contains_here names _) in
-      let among : Contains (spaces_of decl) names = Contains-append_left front behind names (contains_later (map (λ (x : ApplicationTree). x.name) s.applications) (flat_map (λ (x : ApplicationTree). network_spaces x.network) s.applications) names inside) in
+      let among : Contains (spaces_of decl) names = Contains-append_left prefix behind names (contains_later (map (λ (x : ApplicationTree). x.name) s.applications) (flat_map (λ (x : ApplicationTree). network_spaces x.network) s.applications) names inside) in
       sound sources placed.0 a.network []
       (all_apart sources unit decl is report a.network among)
       refl refl no_plug_in no_socket_in
@@ -210,7 +210,7 @@ module _ (sources : Sources) (unit : List ℕ) (s : SystemTree) (is : tree_at so
   names_apart : AreApart (map (λ (x : ApplicationTree). x.name) s.applications)
   names_apart =
       let names = map (λ (x : ApplicationTree). x.name) s.applications in
-      apart sources unit (system_configuration s) names report.declarations is (Contains-append_left front behind names (contains_here names (flat_map (λ (x : ApplicationTree). network_spaces x.network) s.applications)))
+      apart sources unit (system_configuration s) names report.declarations is (Contains-append_left prefix behind names (contains_here names (flat_map (λ (x : ApplicationTree). network_spaces x.network) s.applications)))
 
   applications_apart : Distinct (map (λ (a : ApplicationTree). (a.name.name, a.network)) s.applications)
   applications_apart = distinct (λ (x : ApplicationTree). x.name) (λ x. x.network) s.applications names_apart

@@ -1,4 +1,4 @@
--- Spellings, fronts and what reading by a predictive form gives.
+-- Spellings, prefixes and what reading by a predictive form gives.
 use Rattle.std.proofs.Common.{◌≡◌, ℕ, zero, suc, ◌≤◌, ◌<◌, Bool, true, false, cond, ◌&&◌, ◌||◌, not, nat_eq, ◌⊎◌, inl, inr, List, [], ◌∷◌, ◌++◌, length, Some, None, Ok, Err, refl, sym, ◌∙◌, ap, subst, arith, append_assoc, length-append, ap₂}
 use Rattle.std.proofs.lemmas.Bool.{and_parts, or_left, or_right}
 use borrow.Author.Tests.{eqb-true}
@@ -6,7 +6,7 @@ use Rattle.fb_tree.proofs.Text.Tests.{not_true}
 use Rattle.fb_grammar.specs.declared.kind.Kind.{Kind}
 use Rattle.fb_grammar.specs.declared.lexeme.Lexeme.{Lexeme}
 use Rattle.fb_grammar.specs.Kind.{is_among, same_kind, code_of}
-use Rattle.fb_grammar.specs.Form.{Form, one, both, either, option, many, as_value, Spells, SpellsEach, Front}
+use Rattle.fb_grammar.specs.Form.{Form, one, both, either, option, many, as_value, Spells, SpellsEach, Prefix}
 use Rattle.fb_grammar.specs.Fault.{IsStuck, IsFault}
 use Rattle.fb_grammar.specs.Reading.{is_nullable, first, after, are_apart, is_predictive, Outcome, ◌>>=◌, is_next, read_one, read_each, read}
 
@@ -70,24 +70,24 @@ append_nil : (us : List Lexeme) → us ++ [] ≡ us
 append_nil [] = refl
 append_nil (u ∷ us) = ap (λ z. u ∷ z) (append_nil us)
 
--- Fronts and spellings
+-- Prefixes and spellings
 
-pub front_nil : {A : Type 0} (x : Form A) → Front x []
-front_nil (one kinds) = inl refl
-front_nil (both x y) = inl (front_nil x)
-front_nil (either x y) = inl (front_nil x)
-front_nil (option x) = front_nil x
-front_nil (many x) = ([], [], [], refl, refl, front_nil x)
-front_nil (as_value f x) = front_nil x
+pub prefix_nil : {A : Type 0} (x : Form A) → Prefix x []
+prefix_nil (one kinds) = inl refl
+prefix_nil (both x y) = inl (prefix_nil x)
+prefix_nil (either x y) = inl (prefix_nil x)
+prefix_nil (option x) = prefix_nil x
+prefix_nil (many x) = ([], [], [], refl, refl, prefix_nil x)
+prefix_nil (as_value f x) = prefix_nil x
 
-pub front_of_spelling : {A : Type 0} (x : Form A) (us : List Lexeme) (v : A) → Spells x us v → Front x us
-front_of_spelling (one kinds) us v s = inr (v, s.0, s.1)
-front_of_spelling (both x y) us v s = inr (s.0, s.1, v.0, s.2, s.3, front_of_spelling y s.1 v.1 s.4)
-front_of_spelling (either x y) us v s = elim s [ inl p ↦ inl (front_of_spelling x us v p) | inr p ↦ inr (front_of_spelling y us v p) ]
-front_of_spelling (option x) us None s = subst (Front x) (sym s) (front_nil x)
-front_of_spelling (option x) us (Some v) s = front_of_spelling x us v s
-front_of_spelling (many x) us vs s = (us, [], vs, sym (append_nil us), s, front_nil x)
-front_of_spelling (as_value f x) us v s = front_of_spelling x us s.0 s.1
+pub prefix_of_spelling : {A : Type 0} (x : Form A) (us : List Lexeme) (v : A) → Spells x us v → Prefix x us
+prefix_of_spelling (one kinds) us v s = inr (v, s.0, s.1)
+prefix_of_spelling (both x y) us v s = inr (s.0, s.1, v.0, s.2, s.3, prefix_of_spelling y s.1 v.1 s.4)
+prefix_of_spelling (either x y) us v s = elim s [ inl p ↦ inl (prefix_of_spelling x us v p) | inr p ↦ inr (prefix_of_spelling y us v p) ]
+prefix_of_spelling (option x) us None s = subst (Prefix x) (sym s) (prefix_nil x)
+prefix_of_spelling (option x) us (Some v) s = prefix_of_spelling x us v s
+prefix_of_spelling (many x) us vs s = (us, [], vs, sym (append_nil us), s, prefix_nil x)
+prefix_of_spelling (as_value f x) us v s = prefix_of_spelling x us s.0 s.1
 
 -- what a spelling with no tokens says
 null_of_each : {A : Type 0} (x : Form A) (ts us : List Lexeme) → us ≡ ts → ts ≡ [] → us ≡ []
@@ -119,32 +119,32 @@ first_of_both_right : {A B : Type 0} (x : Form A) (y : Form B) (k : Kind) → is
 first_of_both_right x y k e h = rw e (among_right (first x) (first y) k h)
 
 first_of_pair : {A B : Type 0} (x : Form A) (y : Form B) (a b : List Lexeme) (v : A) (t : Lexeme) (ts : List Lexeme)
-    → ((u : Lexeme) (us : List Lexeme) → Front x (u ∷ us) → is_among (first x) u.kind ≡ true)
-    → (Front y (t ∷ ts) → is_among (first y) t.kind ≡ true)
-    → Spells x a v → Front y b → a ++ b ≡ t ∷ ts → is_among (first (both x y)) t.kind ≡ true
-first_of_pair x y [] b v t ts hx hy s g d = first_of_both_right x y t.kind (nullable_of_spelling x [] v s refl) (hy (subst (Front y) d g))
-first_of_pair x y (u ∷ a) b v t ts hx hy s g d = first_of_both_left x y t.kind (same_head (first x) u t (a ++ b) ts d (hx u a (front_of_spelling x (u ∷ a) v s)))
+    → ((u : Lexeme) (us : List Lexeme) → Prefix x (u ∷ us) → is_among (first x) u.kind ≡ true)
+    → (Prefix y (t ∷ ts) → is_among (first y) t.kind ≡ true)
+    → Spells x a v → Prefix y b → a ++ b ≡ t ∷ ts → is_among (first (both x y)) t.kind ≡ true
+first_of_pair x y [] b v t ts hx hy s g d = first_of_both_right x y t.kind (nullable_of_spelling x [] v s refl) (hy (subst (Prefix y) d g))
+first_of_pair x y (u ∷ a) b v t ts hx hy s g d = first_of_both_left x y t.kind (same_head (first x) u t (a ++ b) ts d (hx u a (prefix_of_spelling x (u ∷ a) v s)))
 
 first_of_step : {A : Type 0} (x : Form A) (a b rest : List Lexeme) (v : A) (t : Lexeme) (ts : List Lexeme)
-    → ((u : Lexeme) (us : List Lexeme) → Front x (u ∷ us) → is_among (first x) u.kind ≡ true)
+    → ((u : Lexeme) (us : List Lexeme) → Prefix x (u ∷ us) → is_among (first x) u.kind ≡ true)
     → Spells x a v → (a ++ b) ++ rest ≡ t ∷ ts → (b ++ rest ≡ t ∷ ts → is_among (first x) t.kind ≡ true) → is_among (first x) t.kind ≡ true
 first_of_step x [] b rest v t ts h p d more = more d
-first_of_step x (u ∷ a) b rest v t ts h p d more = same_head (first x) u t ((a ++ b) ++ rest) ts d (h u a (front_of_spelling x (u ∷ a) v p))
+first_of_step x (u ∷ a) b rest v t ts h p d more = same_head (first x) u t ((a ++ b) ++ rest) ts d (h u a (prefix_of_spelling x (u ∷ a) v p))
 
 first_of_each : {A : Type 0} (x : Form A) (us rest : List Lexeme) (vs : List A) (t : Lexeme) (ts : List Lexeme)
-    → ((u : Lexeme) (us : List Lexeme) → Front x (u ∷ us) → is_among (first x) u.kind ≡ true)
-    → SpellsEach (Spells x) us vs → Front x rest → us ++ rest ≡ t ∷ ts → is_among (first x) t.kind ≡ true
-first_of_each x us rest [] t ts h s f e = h t ts (subst (Front x) (ap (λ z. z ++ rest) (sym s) ∙ e) f)
+    → ((u : Lexeme) (us : List Lexeme) → Prefix x (u ∷ us) → is_among (first x) u.kind ≡ true)
+    → SpellsEach (Spells x) us vs → Prefix x rest → us ++ rest ≡ t ∷ ts → is_among (first x) t.kind ≡ true
+first_of_each x us rest [] t ts h s f e = h t ts (subst (Prefix x) (ap (λ z. z ++ rest) (sym s) ∙ e) f)
 first_of_each x us rest (v ∷ vs) t ts h s f e = first_of_step x s.0 s.1 rest v t ts h s.3 (ap (λ z. z ++ rest) (sym s.2) ∙ e) (λ d. first_of_each x s.1 rest vs t ts h s.4 f d)
 
--- a front that isn't empty begins with one of the first kinds
-pub first_of_front : {A : Type 0} (x : Form A) (t : Lexeme) (ts : List Lexeme) → Front x (t ∷ ts) → is_among (first x) t.kind ≡ true
-first_of_front (one kinds) t ts f = elim f [ inl p ↦ cc p | inr p ↦ same_head kinds p.0 t [] ts (sym p.1) p.2 ]
-first_of_front (both x y) t ts f = elim f [ inl p ↦ first_of_both_left x y t.kind (first_of_front x t ts p) | inr p ↦ first_of_pair x y p.0 p.1 p.2 t ts (first_of_front x) (first_of_front y t ts) p.4 p.5 (sym p.3) ]
-first_of_front (either x y) t ts f = elim f [ inl p ↦ among_left (first x) (first y) t.kind (first_of_front x t ts p) | inr p ↦ among_right (first x) (first y) t.kind (first_of_front y t ts p) ]
-first_of_front (option x) t ts f = first_of_front x t ts f
-first_of_front (many x) t ts f = first_of_each x f.0 f.1 f.2 t ts (first_of_front x) f.4 f.5 (sym f.3)
-first_of_front (as_value g x) t ts f = first_of_front x t ts f
+-- a prefix that isn't empty begins with one of the first kinds
+pub first_of_prefix : {A : Type 0} (x : Form A) (t : Lexeme) (ts : List Lexeme) → Prefix x (t ∷ ts) → is_among (first x) t.kind ≡ true
+first_of_prefix (one kinds) t ts f = elim f [ inl p ↦ cc p | inr p ↦ same_head kinds p.0 t [] ts (sym p.1) p.2 ]
+first_of_prefix (both x y) t ts f = elim f [ inl p ↦ first_of_both_left x y t.kind (first_of_prefix x t ts p) | inr p ↦ first_of_pair x y p.0 p.1 p.2 t ts (first_of_prefix x) (first_of_prefix y t ts) p.4 p.5 (sym p.3) ]
+first_of_prefix (either x y) t ts f = elim f [ inl p ↦ among_left (first x) (first y) t.kind (first_of_prefix x t ts p) | inr p ↦ among_right (first x) (first y) t.kind (first_of_prefix y t ts p) ]
+first_of_prefix (option x) t ts f = first_of_prefix x t ts f
+first_of_prefix (many x) t ts f = first_of_each x f.0 f.1 f.2 t ts (first_of_prefix x) f.4 f.5 (sym f.3)
+first_of_prefix (as_value g x) t ts f = first_of_prefix x t ts f
 
 -- Reading
 
@@ -156,44 +156,44 @@ if_either P false a b h g = g refl
 abbrev pub Takes : {A : Type 0} → (List Lexeme → A → Type 0) → List Lexeme → A → List Lexeme → Type 0
 Takes P ts v rest = (us : List Lexeme) × (ts ≡ us ++ rest) × P us v
 
--- what was read is spelled in front of the rest, and what stands before a fault is a front
+-- what was read is spelled in front of the rest, and what stands before a fault is a prefix
 abbrev pub Right : {A : Type 0} → (List Lexeme → A → Type 0) → (List Lexeme → Type 0) → List Lexeme → Outcome A → Type 0
 Right P Q ts (Ok a) = Takes P ts a.0 a.1
 Right P Q ts (Err rest) = (us : List Lexeme) × (ts ≡ us ++ rest) × Q us
 
-right_one : (kinds : List Kind) (ts : List Lexeme) → Right (Spells (one kinds)) (Front (one kinds)) ts (read_one kinds ts)
+right_one : (kinds : List Kind) (ts : List Lexeme) → Right (Spells (one kinds)) (Prefix (one kinds)) ts (read_one kinds ts)
 right_one kinds [] = ([], refl, inl refl)
-right_one kinds (t ∷ ts) = if_either (Right (Spells (one kinds)) (Front (one kinds)) (t ∷ ts)) (is_among kinds t.kind) _ _ (λ h. (t ∷ [], refl, (refl, h))) (λ h. ([], refl, inl refl))
+right_one kinds (t ∷ ts) = if_either (Right (Spells (one kinds)) (Prefix (one kinds)) (t ∷ ts)) (is_among kinds t.kind) _ _ (λ h. (t ∷ [], refl, (refl, h))) (λ h. ([], refl, inl refl))
 
 right_second : {A B : Type 0} (x : Form A) (y : Form B) (ts : List Lexeme) (a : A) (mid : List Lexeme) → Takes (Spells x) ts a mid
-    → (r : Outcome B) → Right (Spells y) (Front y) mid r → Right (Spells (both x y)) (Front (both x y)) ts (r >>= λ b. Ok ((a, b.0), b.1))
+    → (r : Outcome B) → Right (Spells y) (Prefix y) mid r → Right (Spells (both x y)) (Prefix (both x y)) ts (r >>= λ b. Ok ((a, b.0), b.1))
 right_second x y ts a mid s (Ok b) t = (s.0 ++ t.0, s.1 ∙ ap (λ z. s.0 ++ z) t.1 ∙ sym (append_assoc s.0 t.0 b.1), (s.0, t.0, refl, s.2, t.2))
 right_second x y ts a mid s (Err rest) t = (s.0 ++ t.0, s.1 ∙ ap (λ z. s.0 ++ z) t.1 ∙ sym (append_assoc s.0 t.0 rest), inr (s.0, t.0, a, refl, s.2, t.2))
 
-right_both : {A B : Type 0} (x : Form A) (y : Form B) (ts : List Lexeme) (r : Outcome A) → Right (Spells x) (Front x) ts r
-    → ((mid : List Lexeme) → Right (Spells y) (Front y) mid (read y mid))
-    → Right (Spells (both x y)) (Front (both x y)) ts (r >>= λ a. read y a.1 >>= λ b. Ok ((a.0, b.0), b.1))
+right_both : {A B : Type 0} (x : Form A) (y : Form B) (ts : List Lexeme) (r : Outcome A) → Right (Spells x) (Prefix x) ts r
+    → ((mid : List Lexeme) → Right (Spells y) (Prefix y) mid (read y mid))
+    → Right (Spells (both x y)) (Prefix (both x y)) ts (r >>= λ a. read y a.1 >>= λ b. Ok ((a.0, b.0), b.1))
 right_both x y ts (Ok a) s h = right_second x y ts a.0 a.1 s (read y a.1) (h a.1)
 right_both x y ts (Err rest) s h = (s.0, s.1, inl s.2)
 
-right_left : {A : Type 0} (x y : Form A) (ts : List Lexeme) (r : Outcome A) → Right (Spells x) (Front x) ts r → Right (Spells (either x y)) (Front (either x y)) ts r
+right_left : {A : Type 0} (x y : Form A) (ts : List Lexeme) (r : Outcome A) → Right (Spells x) (Prefix x) ts r → Right (Spells (either x y)) (Prefix (either x y)) ts r
 right_left x y ts (Ok a) s = (s.0, s.1, inl s.2)
 right_left x y ts (Err rest) s = (s.0, s.1, inl s.2)
 
-right_other : {A : Type 0} (x y : Form A) (ts : List Lexeme) (r : Outcome A) → Right (Spells y) (Front y) ts r → Right (Spells (either x y)) (Front (either x y)) ts r
+right_other : {A : Type 0} (x y : Form A) (ts : List Lexeme) (r : Outcome A) → Right (Spells y) (Prefix y) ts r → Right (Spells (either x y)) (Prefix (either x y)) ts r
 right_other x y ts (Ok a) s = (s.0, s.1, inr s.2)
 right_other x y ts (Err rest) s = (s.0, s.1, inr s.2)
 
-right_some : {A : Type 0} (x : Form A) (ts : List Lexeme) (r : Outcome A) → Right (Spells x) (Front x) ts r → Right (Spells (option x)) (Front (option x)) ts (r >>= λ a. Ok (Some a.0, a.1))
+right_some : {A : Type 0} (x : Form A) (ts : List Lexeme) (r : Outcome A) → Right (Spells x) (Prefix x) ts r → Right (Spells (option x)) (Prefix (option x)) ts (r >>= λ a. Ok (Some a.0, a.1))
 right_some x ts (Ok a) s = s
 right_some x ts (Err rest) s = s
 
-right_as : {A B : Type 0} (f : A → B) (x : Form A) (ts : List Lexeme) (r : Outcome A) → Right (Spells x) (Front x) ts r → Right (Spells (as_value f x)) (Front (as_value f x)) ts (r >>= λ a. Ok (f a.0, a.1))
+right_as : {A B : Type 0} (f : A → B) (x : Form A) (ts : List Lexeme) (r : Outcome A) → Right (Spells x) (Prefix x) ts r → Right (Spells (as_value f x)) (Prefix (as_value f x)) ts (r >>= λ a. Ok (f a.0, a.1))
 right_as f x ts (Ok a) s = (s.0, s.1, (a.0, s.2, refl))
 right_as f x ts (Err rest) s = s
 
 right_more : {A : Type 0} (x : Form A) (ts : List Lexeme) (a : A) (mid : List Lexeme) → Takes (Spells x) ts a mid
-    → (r : Outcome (List A)) → Right (Spells (many x)) (Front (many x)) mid r → Right (Spells (many x)) (Front (many x)) ts (r >>= λ b. Ok (a ∷ b.0, b.1))
+    → (r : Outcome (List A)) → Right (Spells (many x)) (Prefix (many x)) mid r → Right (Spells (many x)) (Prefix (many x)) ts (r >>= λ b. Ok (a ∷ b.0, b.1))
 right_more x ts a mid s (Ok b) t = (s.0 ++ t.0, s.1 ∙ ap (λ z. s.0 ++ z) t.1 ∙ sym (append_assoc s.0 t.0 b.1), (s.0, t.0, refl, s.2, t.2))
 right_more x ts a mid s (Err rest) t = (
   s.0 ++ t.0,
@@ -201,29 +201,29 @@ right_more x ts a mid s (Err rest) t = (
   (s.0 ++ t.2.0, t.2.1, a ∷ t.2.2, ap (λ z. s.0 ++ z) t.2.3 ∙ sym (append_assoc s.0 t.2.0 t.2.1), (s.0, t.2.0, refl, s.2, t.2.4), t.2.5),
 )
 
-right_each_step : {A : Type 0} (x : Form A) (n : ℕ) (ts : List Lexeme) (r : Outcome A) → Right (Spells x) (Front x) ts r
-    → ((mid : List Lexeme) → Right (Spells (many x)) (Front (many x)) mid (read_each (read x) (first x) n mid))
-    → Right (Spells (many x)) (Front (many x)) ts (r >>= λ a. read_each (read x) (first x) n a.1 >>= λ b. Ok (a.0 ∷ b.0, b.1))
+right_each_step : {A : Type 0} (x : Form A) (n : ℕ) (ts : List Lexeme) (r : Outcome A) → Right (Spells x) (Prefix x) ts r
+    → ((mid : List Lexeme) → Right (Spells (many x)) (Prefix (many x)) mid (read_each (read x) (first x) n mid))
+    → Right (Spells (many x)) (Prefix (many x)) ts (r >>= λ a. read_each (read x) (first x) n a.1 >>= λ b. Ok (a.0 ∷ b.0, b.1))
 right_each_step x n ts (Ok a) s h = right_more x ts a.0 a.1 s (read_each (read x) (first x) n a.1) (h a.1)
 right_each_step x n ts (Err rest) s h = (s.0, s.1, ([], s.0, [], refl, refl, s.2))
 
-right_each : {A : Type 0} (x : Form A) (h : (ts : List Lexeme) → Right (Spells x) (Front x) ts (read x ts)) (n : ℕ) (ts : List Lexeme) → Right (Spells (many x)) (Front (many x)) ts (read_each (read x) (first x) n ts)
+right_each : {A : Type 0} (x : Form A) (h : (ts : List Lexeme) → Right (Spells x) (Prefix x) ts (read x ts)) (n : ℕ) (ts : List Lexeme) → Right (Spells (many x)) (Prefix (many x)) ts (read_each (read x) (first x) n ts)
 right_each x h zero ts = ([], refl, refl)
-right_each x h (suc n) ts = if_either (Right (Spells (many x)) (Front (many x)) ts) (is_next (first x) ts) _ _ (λ p. right_each_step x n ts (read x ts) (h ts) (right_each x h n)) (λ p. ([], refl, refl))
+right_each x h (suc n) ts = if_either (Right (Spells (many x)) (Prefix (many x)) ts) (is_next (first x) ts) _ _ (λ p. right_each_step x n ts (read x ts) (h ts) (right_each x h n)) (λ p. ([], refl, refl))
 
-pub right_read : {A : Type 0} (x : Form A) (ts : List Lexeme) → Right (Spells x) (Front x) ts (read x ts)
+pub right_read : {A : Type 0} (x : Form A) (ts : List Lexeme) → Right (Spells x) (Prefix x) ts (read x ts)
 right_read (one kinds) ts = right_one kinds ts
 right_read (both x y) ts = right_both x y ts (read x ts) (right_read x ts) (right_read y)
-right_read (either x y) ts = if_either (Right (Spells (either x y)) (Front (either x y)) ts) (is_next (first x) ts) _ _ (λ p. right_left x y ts (read x ts) (right_read x ts)) (λ p. right_other x y ts (read y ts) (right_read y ts))
-right_read (option x) ts = if_either (Right (Spells (option x)) (Front (option x)) ts) (is_next (first x) ts) _ _ (λ p. right_some x ts (read x ts) (right_read x ts)) (λ p. ([], refl, refl))
+right_read (either x y) ts = if_either (Right (Spells (either x y)) (Prefix (either x y)) ts) (is_next (first x) ts) _ _ (λ p. right_left x y ts (read x ts) (right_read x ts)) (λ p. right_other x y ts (read y ts) (right_read y ts))
+right_read (option x) ts = if_either (Right (Spells (option x)) (Prefix (option x)) ts) (is_next (first x) ts) _ _ (λ p. right_some x ts (read x ts) (right_read x ts)) (λ p. ([], refl, refl))
 right_read (many x) ts = right_each x (right_read x) (length ts) ts
 right_read (as_value f x) ts = right_as f x ts (read x ts) (right_read x ts)
 
 -- Whatever is spelled is read
 
-next_of_front : {A : Type 0} (x : Form A) (ts : List Lexeme) → Front x ts → (ts ≡ []) ⊎ (is_next (first x) ts ≡ true)
-next_of_front x [] f = inl refl
-next_of_front x (t ∷ ts) f = inr (first_of_front x t ts f)
+next_of_prefix : {A : Type 0} (x : Form A) (ts : List Lexeme) → Prefix x ts → (ts ≡ []) ⊎ (is_next (first x) ts ≡ true)
+next_of_prefix x [] f = inl refl
+next_of_prefix x (t ∷ ts) f = inr (first_of_prefix x t ts f)
 
 next_append : (kinds : List Kind) (us rest : List Lexeme) → is_next kinds us ≡ true → is_next kinds (us ++ rest) ≡ true
 next_append kinds [] rest h = cc
@@ -233,10 +233,10 @@ next_apart : (a b : List Kind) (ts : List Lexeme) → are_apart a b ≡ true →
 next_apart a b [] h n = refl
 next_apart a b (t ∷ ts) h n = apart_among_left a b t.kind h n
 
--- what follows a spelling of x in front of a front of y does not go on as x
-none_after : {B : Type 0} (kinds : List Kind) (y : Form B) (us rest : List Lexeme) → are_apart kinds (first y) ≡ true → Front y us → (us ≡ [] → is_next kinds rest ≡ false) → is_next kinds (us ++ rest) ≡ false
+-- what follows a spelling of x in front of a prefix of y does not go on as x
+none_after : {B : Type 0} (kinds : List Kind) (y : Form B) (us rest : List Lexeme) → are_apart kinds (first y) ≡ true → Prefix y us → (us ≡ [] → is_next kinds rest ≡ false) → is_next kinds (us ++ rest) ≡ false
 none_after kinds y [] rest h f g = g refl
-none_after kinds y (u ∷ us) rest h f g = apart_among_left kinds (first y) u.kind h (first_of_front y u us f)
+none_after kinds y (u ∷ us) rest h f g = apart_among_left kinds (first y) u.kind h (first_of_prefix y u us f)
 
 after_left : {A B : Type 0} (x : Form A) (y : Form B) (rest : List Lexeme) → is_nullable y ≡ true → is_next (after (both x y)) rest ≡ false → is_next (after x) rest ≡ false
 after_left x y rest e h = none_left (after x) (after y) rest (let P : Bool → Type 0 = λ b. is_next (cond b (after x ++ after y) (after y)) rest ≡ false in subst P e h)
@@ -249,7 +249,7 @@ after_right x y rest h = go (is_nullable y) refl
     go false e = let P : Bool → Type 0 = λ b. is_next (cond b (after x ++ after y) (after y)) rest ≡ false in subst P e h
 
 spelled_next : {A : Type 0} (x : Form A) (us : List Lexeme) (v : A) (rest : List Lexeme) → is_nullable x ≡ false → Spells x us v → is_next (first x) (us ++ rest) ≡ true
-spelled_next x us v rest n s = elim (next_of_front x us (front_of_spelling x us v s)) [ inl p ↦ cc (nullable_of_spelling x us v s p, n) | inr p ↦ next_append (first x) us rest p ]
+spelled_next x us v rest n s = elim (next_of_prefix x us (prefix_of_spelling x us v s)) [ inl p ↦ cc (nullable_of_spelling x us v s p, n) | inr p ↦ next_append (first x) us rest p ]
 
 -- the parts of a test that a form is predictive
 predictive_left : {A B : Type 0} (x : Form A) (y : Form B) → is_predictive (both x y) ≡ true → is_predictive x ≡ true
@@ -318,7 +318,7 @@ complete_each x h filled apart (suc n) us (v ∷ vs) rest le s p =
     let shorter : length s.1 ≤ n = omega (arith, ap length s.2, length-append s.0 s.1) in
     complete_each_step (read x) (first x) n us s.0 s.1 v vs rest s.2
     (spelled_next x s.0 v (s.1 ++ rest) filled s.3)
-    (h s.0 v (s.1 ++ rest) s.3 (none_after (after x) (many x) s.1 rest apart (front_of_spelling (many x) s.1 vs s.4) (λ e. none_right (first x) (after x) rest p)))
+    (h s.0 v (s.1 ++ rest) s.3 (none_after (after x) (many x) s.1 rest apart (prefix_of_spelling (many x) s.1 vs s.4) (λ e. none_right (first x) (after x) rest p)))
     (complete_each x h filled apart n s.1 vs rest shorter s.4 p)
 
 -- what is spelled, with a rest behind it that does not go on, is read
@@ -326,7 +326,7 @@ pub complete : {A : Type 0} (x : Form A) → is_predictive x ≡ true → (us : 
 complete (one kinds) h us v rest s p = complete_one kinds us v rest s
 complete (both x y) h us v rest s p =
     complete_both x y us s.0 s.1 v.0 v.1 rest s.2
-    (complete x (predictive_left x y h) s.0 v.0 (s.1 ++ rest) s.3 (none_after (after x) y s.1 rest (predictive_apart x y h) (front_of_spelling y s.1 v.1 s.4) (λ e. after_left x y rest (nullable_of_spelling y s.1 v.1 s.4 e) p)))
+    (complete x (predictive_left x y h) s.0 v.0 (s.1 ++ rest) s.3 (none_after (after x) y s.1 rest (predictive_apart x y h) (prefix_of_spelling y s.1 v.1 s.4) (λ e. after_left x y rest (nullable_of_spelling y s.1 v.1 s.4 e) p)))
     (complete y (predictive_right x y h) s.1 v.1 rest s.4 (after_right x y rest p))
 complete (either x y) h us v rest s p =
     let c = choice x y h in
@@ -342,7 +342,7 @@ complete (many x) h us vs rest s p =
     complete_each x (complete x (and_parts _ _ h).0) (not_true _ (and_parts _ _ tests).0) (and_parts (not (is_nullable x)) _ tests).1 (length (us ++ rest)) us vs rest (omega (arith, length-append us rest)) s p
 complete (as_value f x) h us v rest s p = rw (complete x h us s.0 rest s.1 p) (rw s.2 refl)
 
--- Reading passes over every front
+-- Reading passes over every prefix
 
 -- at most so many tokens are left
 abbrev pub Within : {A : Type 0} → ℕ → Outcome A → Type 0
@@ -362,10 +362,10 @@ within_of_right P Q ts (Ok a) h = omega (arith, ap length h.1, length-append h.0
 within_of_right P Q ts (Err rest) h = omega (arith, ap length h.1, length-append h.0 rest)
 
 within_read : {A : Type 0} (x : Form A) (ts : List Lexeme) → Within (length ts) (read x ts)
-within_read x ts = within_of_right (Spells x) (Front x) ts (read x ts) (right_read x ts)
+within_read x ts = within_of_right (Spells x) (Prefix x) ts (read x ts) (right_read x ts)
 
 within_each : {A : Type 0} (x : Form A) (n : ℕ) (ts : List Lexeme) → Within (length ts) (read_each (read x) (first x) n ts)
-within_each x n ts = within_of_right (Spells (many x)) (Front (many x)) ts (read_each (read x) (first x) n ts) (right_each x (right_read x) n ts)
+within_each x n ts = within_of_right (Spells (many x)) (Prefix (many x)) ts (read_each (read x) (first x) n ts) (right_each x (right_read x) n ts)
 
 pass_pair : {A B : Type 0} (y : Form B) (n : ℕ) (a : A) (mid : List Lexeme) → length mid ≤ n → Within {A = A × B} n (read y mid >>= λ b. Ok ((a, b.0), b.1))
 pass_pair y n a mid le = within_bind n (read y mid) _ (within_more (length mid) n (read y mid) (within_read y mid) le) (λ b more. more)
@@ -379,23 +379,23 @@ pass_second x y us a b v rest e f g =
     let whole : us ++ rest ≡ a ++ (b ++ rest) = ap (λ z. z ++ rest) e ∙ append_assoc a b rest in
     rw whole (rw f (within_bind (length rest) (read y (b ++ rest)) _ g (λ w more. more)))
 
--- a front of x y that is a spelling of x with a front of y, in which nothing or something is y's
+-- a prefix of x y that is a spelling of x with a prefix of y, in which nothing or something is y's
 pass_parts : {A B : Type 0} (x : Form A) (y : Form B) (us a b : List Lexeme) (v : A) (rest : List Lexeme)
-    → is_predictive (both x y) ≡ true → us ≡ a ++ b → Spells x a v → Front y b
-    → (Front x us → Within (length rest) (read x (us ++ rest))) → Within (length rest) (read y (b ++ rest)) → Within (length rest) (read (both x y) (us ++ rest))
-pass_parts x y us a [] v rest h e s f hx hy = pass_both x y (length rest) (read x (us ++ rest)) (hx (subst (Front x) (sym (append_nil a) ∙ sym e) (front_of_spelling x a v s)))
+    → is_predictive (both x y) ≡ true → us ≡ a ++ b → Spells x a v → Prefix y b
+    → (Prefix x us → Within (length rest) (read x (us ++ rest))) → Within (length rest) (read y (b ++ rest)) → Within (length rest) (read (both x y) (us ++ rest))
+pass_parts x y us a [] v rest h e s f hx hy = pass_both x y (length rest) (read x (us ++ rest)) (hx (subst (Prefix x) (sym (append_nil a) ∙ sym e) (prefix_of_spelling x a v s)))
 pass_parts x y us a (u ∷ b) v rest h e s f hx hy =
     pass_second x y us a (u ∷ b) v rest e
-    (complete x (predictive_left x y h) a v (u ∷ b ++ rest) s (apart_among_left (after x) (first y) u.kind (predictive_apart x y h) (first_of_front y u b f)))
+    (complete x (predictive_left x y h) a v (u ∷ b ++ rest) s (apart_among_left (after x) (first y) u.kind (predictive_apart x y h) (first_of_prefix y u b f)))
     hy
 
 -- where the last value of several is begun
 pass_last : {A : Type 0} (x : Form A) (n : ℕ) (us rest : List Lexeme)
-    → (Front x us → Within (length rest) (read x (us ++ rest))) → length (us ++ rest) ≤ n → Front x us → Within (length rest) (read_each (read x) (first x) n (us ++ rest))
+    → (Prefix x us → Within (length rest) (read x (us ++ rest))) → length (us ++ rest) ≤ n → Prefix x us → Within (length rest) (read_each (read x) (first x) n (us ++ rest))
 pass_last x n [] rest h le f = within_each x n rest
 pass_last x zero (u ∷ us) rest h le f = absurd (omega arith)
 pass_last x (suc n) (u ∷ us) rest h le f =
-    rw (first_of_front x u us f) (within_bind (length rest) (read x (u ∷ us ++ rest)) _ (h f) (λ a more.
+    rw (first_of_prefix x u us f) (within_bind (length rest) (read x (u ∷ us ++ rest)) _ (h f) (λ a more.
     within_bind (length rest) (read_each (read x) (first x) n a.1) _ (within_more (length a.1) (length rest) (read_each (read x) (first x) n a.1) (within_each x n a.1) more) (λ b less. less)))
 
 pass_each_step : {A : Type 0} (x : Form A) (n : ℕ) (us a b : List Lexeme) (v : A) (rest : List Lexeme)
@@ -416,22 +416,22 @@ repeated x h =
 
 -- a value of several, with others behind it or as the last one
 pass_next : {A : Type 0} (x : Form A) → Repeated x → (n : ℕ) (us a b : List Lexeme) (v : A) (rest : List Lexeme)
-    → length (us ++ rest) ≤ suc n → us ≡ a ++ b → Spells x a v → Front (many x) b
-    → (Front x us → Within (length rest) (read x (us ++ rest)))
+    → length (us ++ rest) ≤ suc n → us ≡ a ++ b → Spells x a v → Prefix (many x) b
+    → (Prefix x us → Within (length rest) (read x (us ++ rest)))
     → (length (b ++ rest) ≤ n → Within (length rest) (read_each (read x) (first x) n (b ++ rest)))
     → Within (length rest) (read_each (read x) (first x) (suc n) (us ++ rest))
-pass_next x c n us a [] v rest le e s f hx hy = pass_last x (suc n) us rest hx le (subst (Front x) (sym (append_nil a) ∙ sym e) (front_of_spelling x a v s))
+pass_next x c n us a [] v rest le e s f hx hy = pass_last x (suc n) us rest hx le (subst (Prefix x) (sym (append_nil a) ∙ sym e) (prefix_of_spelling x a v s))
 pass_next x c n us a (u ∷ b) v rest le e s f hx hy =
     let more = length_of_spelling x a v c.filled s in
     let shorter : length (u ∷ b ++ rest) ≤ n = omega (arith, ap length e, length-append a (u ∷ b), length-append us rest, length-append b rest) in
     pass_each_step x n us a (u ∷ b) v rest e
     (spelled_next x a v (u ∷ b ++ rest) c.filled s)
-    (complete x c.each a v (u ∷ b ++ rest) s (apart_among_left (after x) (first x) u.kind c.apart (first_of_front (many x) u b f)))
+    (complete x c.each a v (u ∷ b ++ rest) s (apart_among_left (after x) (first x) u.kind c.apart (first_of_prefix (many x) u b f)))
     (hy shorter)
 
-pass_each : {A : Type 0} (x : Form A) → Repeated x → ((us rest : List Lexeme) → Front x us → Within (length rest) (read x (us ++ rest)))
-    → (n : ℕ) (us a b : List Lexeme) (vs : List A) (rest : List Lexeme) → length (us ++ rest) ≤ n → us ≡ a ++ b → SpellsEach (Spells x) a vs → Front x b → Within (length rest) (read_each (read x) (first x) n (us ++ rest))
-pass_each x c h n us a b [] rest le e s f = pass_last x n us rest (h us rest) le (subst (Front x) (sym (e ∙ ap (λ z. z ++ b) s)) f)
+pass_each : {A : Type 0} (x : Form A) → Repeated x → ((us rest : List Lexeme) → Prefix x us → Within (length rest) (read x (us ++ rest)))
+    → (n : ℕ) (us a b : List Lexeme) (vs : List A) (rest : List Lexeme) → length (us ++ rest) ≤ n → us ≡ a ++ b → SpellsEach (Spells x) a vs → Prefix x b → Within (length rest) (read_each (read x) (first x) n (us ++ rest))
+pass_each x c h n us a b [] rest le e s f = pass_last x n us rest (h us rest) le (subst (Prefix x) (sym (e ∙ ap (λ z. z ++ b) s)) f)
 pass_each x c h zero us a b (v ∷ vs) rest le e s f =
     let more = length_of_spelling x s.0 v c.filled s.3 in
     absurd (omega (arith, ap length e, ap length s.2, length-append s.0 s.1, length-append a b, length-append us rest))
@@ -439,8 +439,8 @@ pass_each x c h (suc n) us a b (v ∷ vs) rest le e s f =
     pass_next x c n us s.0 (s.1 ++ b) v rest le (e ∙ ap (λ z. z ++ b) s.2 ∙ append_assoc s.0 s.1 b) s.3 (s.1, b, vs, refl, s.4, f) (h us rest)
     (λ less. pass_each x c h n (s.1 ++ b) s.1 b vs rest less refl s.4 f)
 
--- no reading stops within a front
-pub pass : {A : Type 0} (x : Form A) → is_predictive x ≡ true → (us rest : List Lexeme) → Front x us → Within (length rest) (read x (us ++ rest))
+-- no reading stops within a prefix
+pub pass : {A : Type 0} (x : Form A) → is_predictive x ≡ true → (us rest : List Lexeme) → Prefix x us → Within (length rest) (read x (us ++ rest))
 pass (one kinds) h us rest f = elim f [
   | inl e ↦ rw e (within_read (one kinds) rest)
   | inr p ↦ rw p.1 (rw p.2 (omega arith))
@@ -452,16 +452,16 @@ pass (both x y) h us rest f = elim f [
 pass (either x y) h us rest f =
     let c = choice x y h in
     elim f [
-      | inl p ↦ elim (next_of_front x us p) [
+      | inl p ↦ elim (next_of_prefix x us p) [
         | inl e ↦ rw e (within_read (either x y) rest)
         | inr q ↦ rw (next_append (first x) us rest q) (pass x c.left us rest p)
       ]
-      | inr p ↦ elim (next_of_front y us p) [
+      | inr p ↦ elim (next_of_prefix y us p) [
         | inl e ↦ rw e (within_read (either x y) rest)
         | inr q ↦ rw (next_apart (first x) (first y) (us ++ rest) c.apart (next_append (first y) us rest q)) (pass y c.right us rest p)
       ]
     ]
-pass (option x) h us rest f = elim (next_of_front x us f) [
+pass (option x) h us rest f = elim (next_of_prefix x us f) [
   | inl e ↦ rw e (within_read (option x) rest)
   | inr q ↦ rw (next_append (first x) us rest q) (within_bind (length rest) (read x (us ++ rest)) _ (pass x (and_parts _ _ h).0 us rest f) (λ a more. more))
 ]
@@ -470,7 +470,7 @@ pass (many x) h us rest f =
     pass_each x c (pass x c.each) (length (us ++ rest)) us f.0 f.1 f.2 rest (omega arith) f.3 f.4 f.5
 pass (as_value g x) h us rest f = within_bind (length rest) (read x (us ++ rest)) _ (pass x h us rest f) (λ a more. more)
 
--- Each front of a front is a front
+-- Each prefix of a prefix is a prefix
 
 -- where one text is cut twice, one cut stands within the part before the other
 cuts : (us vs a b : List Lexeme) → us ++ vs ≡ a ++ b → ((c : List Lexeme) × (a ≡ us ++ c)) ⊎ ((c : List Lexeme) × (us ≡ a ++ c) × (b ≡ c ++ vs))
@@ -484,39 +484,39 @@ cuts (u ∷ us) vs (w ∷ a) b e =
       | inr p ↦ inr (p.0, ap₂ (λ (z : Lexeme) (zs : List Lexeme). z ∷ zs) head p.1, p.2)
     ]
 
-front_one : (kinds : List Kind) (us vs : List Lexeme) → Front (one kinds) (us ++ vs) → Front (one kinds) us
-front_one kinds [] vs f = inl refl
-front_one kinds (u ∷ us) vs f = elim f [
+prefix_one : (kinds : List Kind) (us vs : List Lexeme) → Prefix (one kinds) (us ++ vs) → Prefix (one kinds) us
+prefix_one kinds [] vs f = inl refl
+prefix_one kinds (u ∷ us) vs f = elim f [
   | inl e ↦ cc e
   | inr p ↦ (let head : p.0 ≡ u = cc (p.1) in let tail : [] ≡ us ++ vs = cc (p.1) in
       inr (u, ap (λ z. u ∷ z) (nil_parts us vs tail).0, subst (λ (z : Lexeme). is_among kinds z.kind ≡ true) head p.2))
 ]
 
-front_each : {A : Type 0} (x : Form A) → ((us vs : List Lexeme) → Front x (us ++ vs) → Front x us)
-    → (values : List A) (a us c : List Lexeme) → SpellsEach (Spells x) a values → a ≡ us ++ c → Front (many x) us
-front_each x h [] a us c s e = subst (Front (many x)) (sym (nil_parts us c (sym s ∙ e)).0) (front_nil (many x))
-front_each x h (v ∷ values) a us c s e = elim (cuts us c s.0 s.1 (sym e ∙ s.2)) [
-  | inl p ↦ ([], us, [], refl, refl, h us p.0 (subst (Front x) p.1 (front_of_spelling x s.0 v s.3)))
-  | inr p ↦ (let more = front_each x h values s.1 p.0 c s.4 p.2 in
+prefix_each : {A : Type 0} (x : Form A) → ((us vs : List Lexeme) → Prefix x (us ++ vs) → Prefix x us)
+    → (values : List A) (a us c : List Lexeme) → SpellsEach (Spells x) a values → a ≡ us ++ c → Prefix (many x) us
+prefix_each x h [] a us c s e = subst (Prefix (many x)) (sym (nil_parts us c (sym s ∙ e)).0) (prefix_nil (many x))
+prefix_each x h (v ∷ values) a us c s e = elim (cuts us c s.0 s.1 (sym e ∙ s.2)) [
+  | inl p ↦ ([], us, [], refl, refl, h us p.0 (subst (Prefix x) p.1 (prefix_of_spelling x s.0 v s.3)))
+  | inr p ↦ (let more = prefix_each x h values s.1 p.0 c s.4 p.2 in
       (s.0 ++ more.0, more.1, v ∷ more.2, p.1 ∙ ap (λ z. s.0 ++ z) more.3 ∙ sym (append_assoc s.0 more.0 more.1), (s.0, more.0, refl, s.3, more.4), more.5))
 ]
 
-pub front_of_front : {A : Type 0} (x : Form A) (us vs : List Lexeme) → Front x (us ++ vs) → Front x us
-front_of_front (one kinds) us vs f = front_one kinds us vs f
-front_of_front (both x y) us vs f = elim f [
-  | inl p ↦ inl (front_of_front x us vs p)
+pub prefix_of_prefix : {A : Type 0} (x : Form A) (us vs : List Lexeme) → Prefix x (us ++ vs) → Prefix x us
+prefix_of_prefix (one kinds) us vs f = prefix_one kinds us vs f
+prefix_of_prefix (both x y) us vs f = elim f [
+  | inl p ↦ inl (prefix_of_prefix x us vs p)
   | inr p ↦ elim (cuts us vs p.0 p.1 p.3) [
-    | inl q ↦ inl (front_of_front x us q.0 (subst (Front x) q.1 (front_of_spelling x p.0 p.2 p.4)))
-    | inr q ↦ inr (p.0, q.0, p.2, q.1, p.4, front_of_front y q.0 vs (subst (Front y) q.2 p.5))
+    | inl q ↦ inl (prefix_of_prefix x us q.0 (subst (Prefix x) q.1 (prefix_of_spelling x p.0 p.2 p.4)))
+    | inr q ↦ inr (p.0, q.0, p.2, q.1, p.4, prefix_of_prefix y q.0 vs (subst (Prefix y) q.2 p.5))
   ]
 ]
-front_of_front (either x y) us vs f = elim f [ inl p ↦ inl (front_of_front x us vs p) | inr p ↦ inr (front_of_front y us vs p) ]
-front_of_front (option x) us vs f = front_of_front x us vs f
-front_of_front (many x) us vs f = elim (cuts us vs f.0 f.1 f.3) [
-  | inl q ↦ front_each x (front_of_front x) f.2 f.0 us q.0 f.4 q.1
-  | inr q ↦ (f.0, q.0, f.2, q.1, f.4, front_of_front x q.0 vs (subst (Front x) q.2 f.5))
+prefix_of_prefix (either x y) us vs f = elim f [ inl p ↦ inl (prefix_of_prefix x us vs p) | inr p ↦ inr (prefix_of_prefix y us vs p) ]
+prefix_of_prefix (option x) us vs f = prefix_of_prefix x us vs f
+prefix_of_prefix (many x) us vs f = elim (cuts us vs f.0 f.1 f.3) [
+  | inl q ↦ prefix_each x (prefix_of_prefix x) f.2 f.0 us q.0 f.4 q.1
+  | inr q ↦ (f.0, q.0, f.2, q.1, f.4, prefix_of_prefix x q.0 vs (subst (Prefix x) q.2 f.5))
 ]
-front_of_front (as_value g x) us vs f = front_of_front x us vs f
+prefix_of_prefix (as_value g x) us vs f = prefix_of_prefix x us vs f
 
 -- What reading gives
 
@@ -531,17 +531,17 @@ stuck_of_within x h ts us (t ∷ rest) e r is least = λ f.
 
 pub fault_of_err : {A : Type 0} (x : Form A) → is_predictive x ≡ true → (ts rest : List Lexeme) → read x ts ≡ Err rest → IsFault x ts rest
 fault_of_err {A} x h ts rest e =
-    let right : Right (Spells x) (Front x) ts (Err rest) = subst (Right (Spells x) (Front x) ts) e (right_read x ts) in
-    (right.0, right.1, λ us vs d. front_of_front x us vs (subst (Front x) d right.2), stuck_of_within x h ts right.0 rest right.1 (Err rest) e (λ n w. w))
+    let right : Right (Spells x) (Prefix x) ts (Err rest) = subst (Right (Spells x) (Prefix x) ts) e (right_read x ts) in
+    (right.0, right.1, λ us vs d. prefix_of_prefix x us vs (subst (Prefix x) d right.2), stuck_of_within x h ts right.0 rest right.1 (Err rest) e (λ n w. w))
 
 pub fault_of_rest : {A : Type 0} (x : Form A) → is_predictive x ≡ true → (ts : List Lexeme) (v : A) (rest : List Lexeme) → read x ts ≡ Ok (v, rest) → IsFault x ts rest
 fault_of_rest {A} x h ts v rest e =
-    let right : Right (Spells x) (Front x) ts (Ok (v, rest)) = subst (Right (Spells x) (Front x) ts) e (right_read x ts) in
-    (right.0, right.1, λ us vs d. front_of_front x us vs (subst (Front x) d (front_of_spelling x right.0 v right.2)), stuck_of_within x h ts right.0 rest right.1 (Ok (v, rest)) e (λ n w. w))
+    let right : Right (Spells x) (Prefix x) ts (Ok (v, rest)) = subst (Right (Spells x) (Prefix x) ts) e (right_read x ts) in
+    (right.0, right.1, λ us vs d. prefix_of_prefix x us vs (subst (Prefix x) d (prefix_of_spelling x right.0 v right.2)), stuck_of_within x h ts right.0 rest right.1 (Ok (v, rest)) e (λ n w. w))
 
 pub spelled_of_ok : {A : Type 0} (x : Form A) (ts : List Lexeme) (v : A) → read x ts ≡ Ok (v, []) → Spells x ts v
 spelled_of_ok x ts v e =
-    let right : Right (Spells x) (Front x) ts (Ok (v, [])) = subst (Right (Spells x) (Front x) ts) e (right_read x ts) in
+    let right : Right (Spells x) (Prefix x) ts (Ok (v, [])) = subst (Right (Spells x) (Prefix x) ts) e (right_read x ts) in
     subst (λ z. Spells x z v) (sym (right.1 ∙ append_nil right.0)) right.2
 
 pub ok_of_spelled : {A : Type 0} (x : Form A) → is_predictive x ≡ true → (ts : List Lexeme) (v : A) → Spells x ts v → read x ts ≡ Ok (v, [])

@@ -5,16 +5,16 @@ use Rattle.fb_grammar.specs.declared.kind.Kind.{Kind}
 use Rattle.fb_grammar.specs.declared.lexeme.Lexeme.{Lexeme}
 use Rattle.fb_grammar.specs.declared.stop.Stop.{Stop}
 use Rattle.fb_grammar.specs.declared.stop.Stop.TheVariants.{Memory, Broken}
-use Rattle.fb_grammar.specs.Form.{Form, many, Spells, Front}
+use Rattle.fb_grammar.specs.Form.{Form, many, Spells, Prefix}
 use Rattle.fb_grammar.specs.Reading.{Outcome, ◌>>=◌, is_nullable, first, is_next, read_each, read}
-use Rattle.fb_grammar.specs.Repetition.{with_front}
+use Rattle.fb_grammar.specs.Repetition.{with_prefix}
 use Rattle.fb_grammar.specs.Gives.{Fails}
 use Rattle.fb_grammar.proofs.Forms.{Right, right_read, length_of_spelling}
 
 -- reading takes a token at least
 pub shorter : {A : Type 0} (x : Form A) (ts : List Lexeme) (v : A) (mid : List Lexeme) → is_nullable x ≡ false → read x ts ≡ Ok (v, mid) → length mid < length ts
 shorter x ts v mid filled e =
-    let right : Right (Spells x) (Front x) ts (Ok (v, mid)) = subst (Right (Spells x) (Front x) ts) e (right_read x ts) in
+    let right : Right (Spells x) (Prefix x) ts (Ok (v, mid)) = subst (Right (Spells x) (Prefix x) ts) e (right_read x ts) in
     let more = length_of_spelling x right.0 v filled right.2 in
     omega (arith, ap length right.1, length-append right.0 mid)
 
@@ -37,9 +37,9 @@ enough {A} x filled (suc m) (suc n) ts h k =
     let less = shorter x ts v mid filled e in
     ap (λ (r : Outcome (List A)). r >>= λ b. Ok (v ∷ b.0, b.1)) (enough x filled m n mid (omega arith) (omega arith))))
 
-regroup : {A : Type 0} (front : List A) (v : A) (r : Outcome (List A)) → with_front front (r >>= λ b. Ok (v ∷ b.0, b.1)) ≡ with_front (front ++ v ∷ []) r
-regroup front v (Ok b) = ap (λ z. Ok (z, b.1)) (sym (append_assoc front (v ∷ []) b.0))
-regroup front v (Err rest) = refl
+regroup : {A : Type 0} (prefix : List A) (v : A) (r : Outcome (List A)) → with_prefix prefix (r >>= λ b. Ok (v ∷ b.0, b.1)) ≡ with_prefix (prefix ++ v ∷ []) r
+regroup prefix v (Ok b) = ap (λ z. Ok (z, b.1)) (sym (append_assoc prefix (v ∷ []) b.0))
+regroup prefix v (Err rest) = refl
 
 pub many_more : {A : Type 0} (x : Form A) (ts : List Lexeme) (v : A) (mid : List Lexeme) → is_nullable x ≡ false → is_next (first x) ts ≡ true → read x ts ≡ Ok (v, mid) → read (many x) ts ≡ (read (many x) mid >>= λ b. Ok (v ∷ b.0, b.1))
 many_more x [] v mid filled next e = absurd (omega (arith, shorter x [] v mid filled e))
@@ -47,25 +47,25 @@ many_more x (t ∷ ts) v mid filled next e =
     let less : length mid ≤ length ts = omega (arith, shorter x (t ∷ ts) v mid filled e) in
     rw (next, e) (ap (λ r. r >>= λ b. Ok (v ∷ b.0, b.1)) (enough x filled (length ts) (length mid) mid less (omega arith)))
 
-pub loop_more : {A : Type 0} (x : Form A) (front : List A) (ts : List Lexeme) (v : A) (mid : List Lexeme) (total : Outcome (List A)) → is_nullable x ≡ false → is_next (first x) ts ≡ true → read x ts ≡ Ok (v, mid)
-    → with_front front (read (many x) ts) ≡ total → with_front (front ++ v ∷ []) (read (many x) mid) ≡ total
-loop_more x front ts v mid total filled next e so_far = sym (regroup front v (read (many x) mid)) ∙ ap (with_front front) (sym (many_more x ts v mid filled next e)) ∙ so_far
+pub loop_more : {A : Type 0} (x : Form A) (prefix : List A) (ts : List Lexeme) (v : A) (mid : List Lexeme) (total : Outcome (List A)) → is_nullable x ≡ false → is_next (first x) ts ≡ true → read x ts ≡ Ok (v, mid)
+    → with_prefix prefix (read (many x) ts) ≡ total → with_prefix (prefix ++ v ∷ []) (read (many x) mid) ≡ total
+loop_more x prefix ts v mid total filled next e so_far = sym (regroup prefix v (read (many x) mid)) ∙ ap (with_prefix prefix) (sym (many_more x ts v mid filled next e)) ∙ so_far
 
 pub many_fails : {A : Type 0} (x : Form A) (ts rest : List Lexeme) → is_next (first x) ts ≡ true → read x ts ≡ Err rest → read (many x) ts ≡ Err rest
 many_fails x [] rest next e = cc next
 many_fails x (t ∷ ts) rest next e = rw (next, e) refl
 
-pub loop_fails : {A : Type 0} (x : Form A) (front : List A) (ts : List Lexeme) (stop : Stop) (total : Outcome (List A)) → is_next (first x) ts ≡ true → Fails stop (read x ts)
-    → with_front front (read (many x) ts) ≡ total → Fails stop total
-loop_fails x front ts Memory total next e so_far = tt
-loop_fails x front ts (Broken rest) total next e so_far = sym so_far ∙ ap (with_front front) (many_fails x ts rest.now next e)
+pub loop_fails : {A : Type 0} (x : Form A) (prefix : List A) (ts : List Lexeme) (stop : Stop) (total : Outcome (List A)) → is_next (first x) ts ≡ true → Fails stop (read x ts)
+    → with_prefix prefix (read (many x) ts) ≡ total → Fails stop total
+loop_fails x prefix ts Memory total next e so_far = tt
+loop_fails x prefix ts (Broken rest) total next e so_far = sym so_far ∙ ap (with_prefix prefix) (many_fails x ts rest.now next e)
 
 pub many_none : {A : Type 0} (x : Form A) (ts : List Lexeme) → is_next (first x) ts ≡ false → read (many x) ts ≡ Ok ([], ts)
 many_none x [] next = refl
 many_none x (t ∷ ts) next = rw next refl
 
-pub loop_done : {A : Type 0} (x : Form A) (front : List A) (ts : List Lexeme) (total : Outcome (List A)) → is_next (first x) ts ≡ false → with_front front (read (many x) ts) ≡ total → total ≡ Ok (front, ts)
-loop_done x front ts total next so_far = sym so_far ∙ ap (with_front front) (many_none x ts next) ∙ ap (λ z. Ok (z, ts)) (append-nil front)
+pub loop_done : {A : Type 0} (x : Form A) (prefix : List A) (ts : List Lexeme) (total : Outcome (List A)) → is_next (first x) ts ≡ false → with_prefix prefix (read (many x) ts) ≡ total → total ≡ Ok (prefix, ts)
+loop_done x prefix ts total next so_far = sym so_far ∙ ap (with_prefix prefix) (many_none x ts next) ∙ ap (λ z. Ok (z, ts)) (append-nil prefix)
 
 -- what a loop over a form needs to know of it
 pub record Begins {A : Type 0} (x : Form A) (kinds : List Kind) : Type 0 where
@@ -76,14 +76,14 @@ pub begins_next : {A : Type 0} (x : Form A) (kinds : List Kind) (ts : List Lexem
 begins_next x kinds ts t b h = ap (λ (k : List Kind). is_next k ts) b.first ∙ h
 
 pub push_more : {X A : Type 0} (view : X → A) (x : Form A) (kinds : List Kind) (items : List X) (new : List X) (v : X) (ts mid : List Lexeme) (total : Outcome (List A)) → Begins x kinds → is_next kinds ts ≡ true → read x ts ≡ Ok (view v, mid)
-    → new ≡ items ++ v ∷ [] → with_front (map view items) (read (many x) ts) ≡ total → with_front (map view new) (read (many x) mid) ≡ total
+    → new ≡ items ++ v ∷ [] → with_prefix (map view items) (read (many x) ts) ≡ total → with_prefix (map view new) (read (many x) mid) ≡ total
 push_more view x kinds items new v ts mid total b next e pushed so_far =
     let viewed : map view new ≡ map view items ++ view v ∷ [] = ap (map view) pushed ∙ map_push view items v in
-    ap (λ front. with_front front (read (many x) mid)) viewed ∙ loop_more x (map view items) ts (view v) mid total b.filled (begins_next x kinds ts true b next) e so_far
+    ap (λ prefix. with_prefix prefix (read (many x) mid)) viewed ∙ loop_more x (map view items) ts (view v) mid total b.filled (begins_next x kinds ts true b next) e so_far
 
-pub push_fails : {A : Type 0} (x : Form A) (kinds : List Kind) (front : List A) (ts : List Lexeme) (stop : Stop) (total : Outcome (List A)) → Begins x kinds → is_next kinds ts ≡ true → Fails stop (read x ts)
-    → with_front front (read (many x) ts) ≡ total → Fails stop total
-push_fails x kinds front ts stop total b next e so_far = loop_fails x front ts stop total (begins_next x kinds ts true b next) e so_far
+pub push_fails : {A : Type 0} (x : Form A) (kinds : List Kind) (prefix : List A) (ts : List Lexeme) (stop : Stop) (total : Outcome (List A)) → Begins x kinds → is_next kinds ts ≡ true → Fails stop (read x ts)
+    → with_prefix prefix (read (many x) ts) ≡ total → Fails stop total
+push_fails x kinds prefix ts stop total b next e so_far = loop_fails x prefix ts stop total (begins_next x kinds ts true b next) e so_far
 
-pub push_done : {A : Type 0} (x : Form A) (kinds : List Kind) (front : List A) (ts : List Lexeme) (total : Outcome (List A)) → Begins x kinds → is_next kinds ts ≡ false → with_front front (read (many x) ts) ≡ total → total ≡ Ok (front, ts)
-push_done x kinds front ts total b next so_far = loop_done x front ts total (begins_next x kinds ts false b next) so_far
+pub push_done : {A : Type 0} (x : Form A) (kinds : List Kind) (prefix : List A) (ts : List Lexeme) (total : Outcome (List A)) → Begins x kinds → is_next kinds ts ≡ false → with_prefix prefix (read (many x) ts) ≡ total → total ≡ Ok (prefix, ts)
+push_done x kinds prefix ts total b next so_far = loop_done x prefix ts total (begins_next x kinds ts false b next) so_far

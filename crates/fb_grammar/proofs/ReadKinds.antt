@@ -4,7 +4,7 @@ use Rattle.fb_grammar.specs.declared.kind.Kind.{Kind}
 use Rattle.fb_grammar.specs.declared.kind.Kind.TheVariants.{Text, True, False}
 use Rattle.fb_grammar.specs.declared.lexeme.Lexeme.{Lexeme}
 use Rattle.fb_grammar.specs.Kind.{is_among}
-use Rattle.fb_grammar.specs.Form.{one, Spells, Front}
+use Rattle.fb_grammar.specs.Form.{one, Spells, Prefix}
 use Rattle.fb_grammar.specs.Literals.{number_kinds, typed_kinds, literal_kinds}
 use Rattle.fb_grammar.specs.Reading.{read}
 use Rattle.fb_grammar.proofs.Forms.{Right, right_read, among_left}
@@ -12,7 +12,7 @@ use Rattle.fb_grammar.proofs.Forms.{Right, right_read, among_left}
 -- a token is of one of the kinds that are read
 pub kind_read : (kinds : List Kind) (ts : List Lexeme) (t : Lexeme) (rest : List Lexeme) → read (one kinds) ts ≡ Ok (t, rest) → is_among kinds t.kind ≡ true
 kind_read kinds ts t rest e =
-    let right : Right (Spells (one kinds)) (Front (one kinds)) ts (Ok (t, rest)) = subst (Right (Spells (one kinds)) (Front (one kinds)) ts) e (right_read (one kinds) ts) in
+    let right : Right (Spells (one kinds)) (Prefix (one kinds)) ts (Ok (t, rest)) = subst (Right (Spells (one kinds)) (Prefix (one kinds)) ts) e (right_read (one kinds) ts) in
     right.2.1
 
 -- a number that is read is a literal

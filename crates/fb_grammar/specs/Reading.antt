@@ -15,7 +15,7 @@ is_nullable (option x) = true
 is_nullable (many x) = true
 is_nullable (as_value f x) = is_nullable x
 
--- the kinds of token that a front of the form begins with
+-- the kinds of token that a prefix of the form begins with
 abbrev pub first : {A : Type 0} → Form A → List Kind
 first (one kinds) = kinds
 first (both x y) = if is_nullable x then first x ++ first y else first x
@@ -24,7 +24,7 @@ first (option x) = first x
 first (many x) = first x
 first (as_value f x) = first x
 
--- the kinds of token that may go on behind a spelling of the form, as a front of it
+-- the kinds of token that may go on behind a spelling of the form, as a prefix of it
 abbrev pub after : {A : Type 0} → Form A → List Kind
 after (one kinds) = []
 after (both x y) = if is_nullable y then after x ++ after y else after y

@@ -6,8 +6,8 @@ use Rattle.fb_grammar.specs.Reading.{Outcome, ◌>>=◌, read_one, read_each}
 use Rattle.fb_grammar.specs.Words.{cons}
 
 -- what was read before, and what is still read
-abbrev pub with_front : {A : Type 0} → List A → Outcome (List A) → Outcome (List A)
-with_front front outcome = outcome >>= λ x. Ok (front ++ x.0, x.1)
+abbrev pub with_prefix : {A : Type 0} → List A → Outcome (List A) → Outcome (List A)
+with_prefix prefix outcome = outcome >>= λ x. Ok (prefix ++ x.0, x.1)
 
 -- one behind the other
 abbrev pub read_both : {A B : Type 0} → (List Lexeme → Outcome A) → (List Lexeme → Outcome B) → List Lexeme → Outcome (A × B)

@@ -2,7 +2,7 @@
 
 ghost use Rattle.fb_grammar.specs.Gives.{Gives, GivesEach};
 ghost use Rattle.fb_grammar.specs.Reading.{Outcome, read_each};
-ghost use Rattle.fb_grammar.specs.Repetition.{read_behind, read_separated, with_front};
+ghost use Rattle.fb_grammar.specs.Repetition.{read_behind, read_separated, with_prefix};
 ghost use Rattle.fb_grammar.specs.declared.kind.Kind.TheVariants.{Comma};
 ghost use Rattle.fb_grammar.specs.declared.lexeme.Lexeme.{Lexeme};
 ghost use Rattle.std.specs.Prelude.{◌≡◌, List, length, map};
@@ -69,7 +69,7 @@ fn append_each<'a, R: Reader>(
     tokens: &'a [Lexeme],
 ) -> Result<(Vec<R::Item>, &'a [Lexeme]), Stop<'a>>
     ensures { GivesEach R.view result
-        (with_front (map R.view items.items) (read_each (R.reads reader.now) kinds.now (length tokens.now) tokens.now)) }
+        (with_prefix (map R.view items.items) (read_each (R.reads reader.now) kinds.now (length tokens.now) tokens.now)) }
 {
     let mut rest = tokens;
     for _ in 0..tokens.len() {
@@ -84,7 +84,7 @@ fn append_each<'a, R: Reader>(
 }
 
 /// Values as long as the next token is of one of these kinds, which begin a value.
-#[tactic(auto, using(crate::proofs::Repeating::none_in_front))]
+#[tactic(auto, using(crate::proofs::Repeating::none_in_prefix))]
 pub fn several<'a, R: Reader>(
     reader: &R,
     alloc: Global,

@@ -31,8 +31,8 @@ AtPlace records it place =
     ⊎ (slice_get (records ++ it ∷ []) place ≡ None))
 
 at_next : (first : Record) (records : List Record) (it : Record) (place : ℕ) → AtPlace records it place → AtPlace (first ∷ records) it (suc place)
-at_next first records it place (inl (same, front)) = inl (same, ap (λ rs. first ∷ rs) front)
-at_next first records it place (inr (inl (here, front))) = inr (inl (here, ap (λ rs. first ∷ rs) front))
+at_next first records it place (inl (same, prefix)) = inl (same, ap (λ rs. first ∷ rs) prefix)
+at_next first records it place (inr (inl (here, prefix))) = inr (inl (here, ap (λ rs. first ∷ rs) prefix))
 at_next first records it place (inr (inr past)) = inr (inr past)
 
 at_place : (records : List Record) (it : Record) (place : ℕ) → AtPlace records it place
@@ -56,10 +56,10 @@ turns_none pages zero it at = cc
 turns_none pages (suc place) it at = cc
 
 turn_at : (pages : List (ℕ × ℕ)) (records : List Record) (it : Record) → TurnsFrom pages records → it.turn ≡ on_page pages it.caller + turns_of it.caller records + 1 → (place : ℕ) (found : Record) → AtPlace records it place → slice_get (records ++ it ∷ []) place ≡ Some found → found.turn ≡ on_page pages found.caller + turns_of found.caller (take (suc place) (records ++ it ∷ []))
-turn_at pages records it so_far turn place found (inl (same, front)) at = so_far (suc place) found (sym same ∙ at) ∙ ap (λ rs. on_page pages found.caller + turns_of found.caller rs) (sym front)
-turn_at pages records it so_far turn place found (inr (inl (here, front))) at =
+turn_at pages records it so_far turn place found (inl (same, prefix)) at = so_far (suc place) found (sym same ∙ at) ∙ ap (λ rs. on_page pages found.caller + turns_of found.caller rs) (sym prefix)
+turn_at pages records it so_far turn place found (inr (inl (here, prefix))) at =
     let is : it ≡ found = cc in
-    let own : turns_of it.caller (take (suc place) (records ++ it ∷ [])) ≡ turns_of it.caller records + 1 = ap (λ rs. turns_of it.caller rs) front ∙ own_turn records it in
+    let own : turns_of it.caller (take (suc place) (records ++ it ∷ [])) ≡ turns_of it.caller records + 1 = ap (λ rs. turns_of it.caller rs) prefix ∙ own_turn records it in
     subst (λ r. r.turn ≡ on_page pages r.caller + turns_of r.caller (take (suc place) (records ++ it ∷ []))) is (omega (arith, turn, own))
 turn_at pages records it so_far turn place found (inr (inr past)) at = cc
 

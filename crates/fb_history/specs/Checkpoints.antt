@@ -5,8 +5,8 @@ use Rattle.fb_jobs.specs.declared.key.Key.{Key}
 use Rattle.fb_history.specs.Limits.{Bounds}
 use Rattle.fb_history.specs.Machine.{keys_of}
 use Rattle.fb_history.specs.BenchView.{BenchView, all_turns, last_number, pages_after, record_numbered, state_of}
-use Rattle.fb_history.specs.declared.answers.CheckpointRefused.{CheckpointRefused}
-use Rattle.fb_history.specs.declared.answers.CheckpointRefused.TheVariants.{UnitsOver, NumbersOver, Memory}
+use Rattle.fb_history.specs.declared.answers.CheckpointError.{CheckpointError}
+use Rattle.fb_history.specs.declared.answers.CheckpointError.TheVariants.{UnitsOver, NumbersOver, Memory}
 
 -- the workbench that begins from these texts, commits and marks, after the calls of another
 abbrev pub restarted : Bounds → Texts → ℕ → List Key → List Key → BenchView → BenchView
@@ -50,7 +50,7 @@ bench_checked (OverUnits count) limits bench = bench
 bench_checked OverNumbers limits bench = bench
 
 -- The answer says what the checkpoint comes to. Memory may want where nothing else is against it
-abbrev pub ChecksAs : Checking → Result ℕ CheckpointRefused → Type 0
+abbrev pub ChecksAs : Checking → Result ℕ CheckpointError → Type 0
 ChecksAs (KeptUpTo before) (Ok answer) = answer ≡ before
 ChecksAs (KeptUpTo before) (Err refused) = refused ≡ Memory
 ChecksAs (OverUnits count) result = result ≡ Err (UnitsOver count)

@@ -9,7 +9,7 @@ mod record;
 mod same;
 mod start;
 
-pub use answers::{Asked, CheckpointRefused, Committed, Delivered, GivenBack, Refused};
+pub use answers::{Asked, CheckpointError, Committed, Delivered, GivenBack, Refused};
 pub use laws::{checkpoints_are_unseen, entries_follow_the_texts, reach_before_and_after};
 pub use limits::Limits;
 pub use log::History;

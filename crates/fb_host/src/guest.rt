@@ -42,8 +42,8 @@ impl Read for Rest<'_> {
     fn read(&mut self, buf: &mut [u8]) -> io::Result<usize> {
         if !self.head.is_empty() {
             let count = self.head.len().min(buf.len());
-            let (front, behind) = self.head.split_at(count);
-            buf[..count].copy_from_slice(front);
+            let (prefix, behind) = self.head.split_at(count);
+            buf[..count].copy_from_slice(prefix);
             self.head = behind;
             return Ok(count);
         }

@@ -4,8 +4,7 @@ ghost use Rattle.std.specs.Prelude.{◌≡◌, []};
 use crate::drawer::Drawer;
 use crate::told::Told;
 use fb_locked::bench::{
-    Answered, Delivered, Desk, DeskCheckpointRefused, DeskRefused, GivenBack, Limits, Request,
-    Taken,
+    Answered, Delivered, Desk, DeskCheckpointError, DeskError, GivenBack, Limits, Request, Taken,
 };
 use fb_locked::jobs::{Finished, Key};
 use fb_locked::library::Change;
@@ -69,9 +68,9 @@ impl<R: Wait> Desk for Lodger<'_, R> {
 
     ghost checkpoint_step = { IsCheckpointSitting };
 
-    fn perform(&mut self, request: &Request<'_>) -> Result<Answered, DeskRefused> {
+    fn perform(&mut self, request: &Request<'_>) -> Result<Answered, DeskError> {
         if self.held.reserve(1).is_err() {
-            return Err(DeskRefused::Memory);
+            return Err(DeskError::Memory);
         }
         match self.seated.perform(request) {
             Ok(answer) => {
@@ -85,12 +84,12 @@ impl<R: Wait> Desk for Lodger<'_, R> {
                 self.drawer.add(self.seated.rt, &mut self.seated.receipts);
                 Ok(answer)
             }
-            Err(DeskRefused::HistoryFull) => Err(DeskRefused::Memory),
+            Err(DeskError::HistoryFull) => Err(DeskError::Memory),
             Err(refused) => Err(refused),
         }
     }
 
-    fn checkpoint(&mut self, limits: Limits) -> Result<u64, DeskCheckpointRefused> {
+    fn checkpoint(&mut self, limits: Limits) -> Result<u64, DeskCheckpointError> {
         self.seated.checkpoint(limits)
     }
 }

@@ -7,9 +7,9 @@ use crate::door::keep_door;
 use crate::drawer::Drawer;
 use crate::guest::{Guest, Rest};
 use crate::session::{Lodged, give_back_all, run_lodger};
-use fb_serve::{Place, keep_working, pause, say_fault};
+use fb_serve::{Place, keep_working, pause, say_error};
 use fb_shared::{Seat, Shared, WorkEnd};
-use fb_wire::{FromRead, IntoWrite, RunEnd, fault_of};
+use fb_wire::{FromRead, IntoWrite, RunEnd, error_of};
 use std::alloc::Global;
 use std::io::Write;
 use std::net::{OpenListener, TcpListener, TcpStream};
@@ -287,13 +287,13 @@ fn talk<R: Wait, E: Write>(
 }
 
 fn tell<R: Wait, E: Write>(rt: &R, errors: &Mutex<E>, caller: u32, end: RunEnd, is_idle: bool) {
-    let Some(fault) = fault_of(end) else {
+    let Some(fault) = error_of(end) else {
         return;
     };
     let mut errors = errors.lock(rt);
     if end == RunEnd::ReadFailed && is_idle {
         let _ = writeln!(&mut *errors, "session {caller}: idle");
     } else {
-        say_fault(&mut *errors, caller, fault);
+        say_error(&mut *errors, caller, fault);
     }
 }

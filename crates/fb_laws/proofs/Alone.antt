@@ -26,20 +26,20 @@ lexemes_alone text s e from (t ∷ ts) sa rise last =
 
 -- the tokens of parts of a list of lexemes
 record Halves (text : List ℕ) (tokens : List Token) (us vs : List Lexeme) : Type 0 where
-  pub front : List Token
+  pub prefix : List Token
   pub rest : List Token
-  pub whole : tokens ≡ front ++ rest
-  pub front_is : map (lexeme_of text) front ≡ us
+  pub whole : tokens ≡ prefix ++ rest
+  pub prefix_is : map (lexeme_of text) prefix ≡ us
   pub rest_is : map (lexeme_of text) rest ≡ vs
 
 halves : (text : List ℕ) (tokens : List Token) (us vs : List Lexeme) → map (lexeme_of text) tokens ≡ us ++ vs → Halves text tokens us vs
-halves text tokens [] vs e = record { front = []; rest = tokens; whole = refl; front_is = refl; rest_is = e }
+halves text tokens [] vs e = record { prefix = []; rest = tokens; whole = refl; prefix_is = refl; rest_is = e }
 halves text [] (u ∷ us) vs e = cc
 halves text (t ∷ ts) (u ∷ us) vs e =
     let head : lexeme_of text t ≡ u = cc in
     let tail : map (lexeme_of text) ts ≡ us ++ vs = cc in
     let h = halves text ts us vs tail in
-    record { front = t ∷ h.front; rest = h.rest; whole = ap (λ z. t ∷ z) h.whole; front_is = ap₂ (λ (l : Lexeme) (ls : List Lexeme). l ∷ ls) head h.front_is; rest_is = h.rest_is }
+    record { prefix = t ∷ h.prefix; rest = h.rest; whole = ap (λ z. t ∷ z) h.whole; prefix_is = ap₂ (λ (l : Lexeme) (ls : List Lexeme). l ∷ ls) head h.prefix_is; rest_is = h.rest_is }
 
 last_ends : (text : List ℕ) (from : ℕ) (t : Token) (ts : List Token) (end : ℕ) → EndsAt (map (lexeme_of text) (t ∷ ts)) end → LastEnds from (t ∷ ts) end
 unfolding lexeme_of
@@ -75,13 +75,13 @@ module _ (text : List ℕ) (tokens : List Token) (are : tokens_of text ≡ Ok to
   part_alone h within =
       let first = halves text tokens h.before (h.inside ++ h.behind) h.parts in
       let second = halves text first.rest h.inside h.behind first.rest_is in
-      let whole : tokens ≡ first.front ++ (second.front ++ second.rest) = first.whole ∙ ap (λ z. first.front ++ z) second.whole in
+      let whole : tokens ≡ first.prefix ++ (second.prefix ++ second.rest) = first.whole ∙ ap (λ z. first.prefix ++ z) second.whole in
       record {
         inside = h.inside;
         spells = h.spells;
-        alone = alone_by first.front second.front second.rest h.inside whole second.front_is
-            (subst (λ (z : List Lexeme). BeginsAt z (part_span p).start) (sym second.front_is) h.begins)
-            (subst (λ (z : List Lexeme). EndsAt z (part_span p).end) (sym second.front_is) h.ends) within;
+        alone = alone_by first.prefix second.prefix second.rest h.inside whole second.prefix_is
+            (subst (λ (z : List Lexeme). BeginsAt z (part_span p).start) (sym second.prefix_is) h.begins)
+            (subst (λ (z : List Lexeme). EndsAt z (part_span p).end) (sym second.prefix_is) h.ends) within;
       }
 
 pub parts_read_alone : PartsReadAlone

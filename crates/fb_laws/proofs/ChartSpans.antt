@@ -1,7 +1,7 @@
 -- The parts of transitions and algorithms.
 use Rattle.fb_laws.proofs.Common.{arith, ◌≡◌, true, List, [], ◌∷◌, ◌++◌, Option, Some, None, flat_map, NameUse, name, is_among, name_kinds, Kind, Name, NameIn, NameOn, NameSt, end, Expression, Statement, End, levels, statement, Part, name_part, name_parts, option_parts, end_parts, expression_parts, statement_parts, condition_parts, transition_parts, algorithm_parts}
 use Rattle.fb_deploy.specs.Parse.Chart.{bracketed, joined_test, optional_test, on_event_with, event_condition, condition, transition, transitions, structured_text, other_language, algorithm_body, algorithm}
-use Rattle.fb_laws.proofs.Tokens.{Each, each_front}
+use Rattle.fb_laws.proofs.Tokens.{Each, each_prefix}
 use Rattle.fb_laws.proofs.Sound.{Sound, sound_nothing, sound_both, sound_as, sound_either, sound_option, sound_many, sound_behind, sound_before, sound_section, sound_mark, among_more, among_right, sound_name, sound_name_of, sound_same}
 use Rattle.fb_laws.proofs.Sections.{sound_end}
 use Rattle.fb_laws.proofs.ExpressionSpans.{sound_expression}
@@ -18,7 +18,7 @@ unfolding optional_test joined_test
 sound_optional_test = sound_option _ expression_parts (sound_either _ _ expression_parts sound_bracketed (sound_behind _ _ expression_parts (sound_expression levels (omega arith))))
 
 each_on_event : (P : Part → Type 0) (event : End) (test : Option Expression) → Each P (end_parts event ++ option_parts expression_parts test) → Each P (condition_parts (on_event_with event test))
-each_on_event P event None h = each_front P (end_parts event) [] h
+each_on_event P event None h = each_prefix P (end_parts event) [] h
 each_on_event P event (Some test) h = h
 
 sound_event_condition : Sound event_condition condition_parts

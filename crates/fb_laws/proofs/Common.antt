@@ -167,7 +167,7 @@ pub use Rattle.fb_wiring.specs.ByName.{applications_at, declared, kind_at}
 pub use Rattle.fb_wiring.specs.Network.Clean.{IsClean, IsCleanThroughout, side_at}
 pub use Rattle.fb_wiring.specs.Network.Composed.{block_within}
 pub use Rattle.fb_wiring.specs.Network.FlatNet.{IsFlat}
-pub use Rattle.fb_wiring.specs.Network.Fronts.{IsFront, IsNearest, nearest}
+pub use Rattle.fb_wiring.specs.Network.Prefixes.{IsPrefix, IsNearest, nearest}
 pub use Rattle.fb_wiring.specs.Network.Instances.{AreBlocks, AreInstances, Held, NoInstance, ThenBlock, ThenSubapplication, held_as, held_within, leaf_first, leaves_of}
 pub use Rattle.fb_wiring.specs.Network.LinkOrder.{link_cmp}
 pub use Rattle.fb_wiring.specs.Network.Network.{BlockPort, Chain, IsBorderPlace, IsConnected, IsInner, IsLeafPlace, LeafWithin, More, One, Place, Step, View, Within}

@@ -3,7 +3,7 @@ use Rattle.fb_laws.proofs.Common.{ℕ, ◌≡◌, ◌≢◌, true, false, not, L
 use Rattle.std.specs.Prelude.{Contains}
 use Rattle.fb_laws.proofs.HomeLemmas.{bytes_same, same_bytes, some_home}
 use Rattle.fb_laws.proofs.PlannedLemmas.{Known, home_there, homes_in, known, links_sorted, mapped, stands}
-use Rattle.fb_laws.proofs.PlanEnds.{net_fronts}
+use Rattle.fb_laws.proofs.PlanEnds.{net_prefixes}
 
 module _ (sources : Sources) (system : List ℕ) (flat : PlainFlat) (cuts : List Link) (resources : List PlainResource) (p : IsPlanned sources system flat cuts resources) where
   abbrev it : Known sources system flat cuts resources
@@ -15,9 +15,9 @@ module _ (sources : Sources) (system : List ℕ) (flat : PlainFlat) (cuts : List
   pub joins_two : (link : Link) → Contains cuts link → Contains flat.links link × JoinsResources sources system flat link
   joins_two link c =
       let kept = passes_in_filter (is_cut homes) flat.links link (subst (λ (l : List Link). Contains l link) it.cuts_are c) in
-      let fronts = net_fronts sources system flat p.is_flat link kept.among in
-      let from = some_home (mapped sources system) flat.blocks it.homes link.from fronts.0.block fronts.0.listed fronts.0.front in
-      let to = some_home (mapped sources system) flat.blocks it.homes link.to fronts.1.block fronts.1.listed fronts.1.front in (
+      let prefixes = net_prefixes sources system flat p.is_flat link kept.among in
+      let from = some_home (mapped sources system) flat.blocks it.homes link.from prefixes.0.block prefixes.0.listed prefixes.0.prefix in
+      let to = some_home (mapped sources system) flat.blocks it.homes link.to prefixes.1.block prefixes.1.listed prefixes.1.prefix in (
         kept.among,
         record {
           from_home = from.0;

@@ -19,9 +19,9 @@ pub last_rises : (from : ℕ) (ts : List Token) (end : ℕ) → Rising from ts �
 last_rises from [] end r l = omega (arith, l)
 last_rises from (t ∷ ts) end r l = omega (arith, r.0, r.1, last_rises t.span.end ts end r.2 l)
 
-rising_front : (from : ℕ) (ts us : List Token) → Rising from (ts ++ us) → Rising from ts
-rising_front from [] us r = tt
-rising_front from (t ∷ ts) us r = (r.0, r.1, rising_front t.span.end ts us r.2)
+rising_prefix : (from : ℕ) (ts us : List Token) → Rising from (ts ++ us) → Rising from ts
+rising_prefix from [] us r = tt
+rising_prefix from (t ∷ ts) us r = (r.0, r.1, rising_prefix t.span.end ts us r.2)
 
 rising_from : (from later : ℕ) (ts : List Token) → from ≤ later → Rising later ts → Rising from ts
 rising_from from later [] h r = tt
@@ -107,10 +107,10 @@ no_form_in xs ys none = λ n l. ap form_of (sym (take-append-le n xs ys l)) ∙ 
 first_close : (after inside rest behind ys : List ℕ) → rest ≡ behind ++ ys → IsFirstClose after inside rest → IsFirstClose (inside ++ (codes "*)" ++ behind)) inside behind
 first_close after inside rest behind ys e close = record {
   parts = refl;
-  earliest = λ front back same.
-      close.earliest front (back ++ ys)
+  earliest = λ prefix back same.
+      close.earliest prefix (back ++ ys)
       (close.parts ∙ ap (λ z. inside ++ (codes "*)" ++ z)) e
-      ∙ sym (append_assoc inside (codes "*)" ++ behind) ys) ∙ ap (λ z. z ++ ys) same ∙ append_assoc front (codes "*)" ++ back) ys);
+      ∙ sym (append_assoc inside (codes "*)" ++ behind) ys) ∙ ap (λ z. z ++ ys) same ∙ append_assoc prefix (codes "*)" ++ back) ys);
 }
 
 -- Cuts
@@ -154,7 +154,7 @@ cut_token : (kind : TokenKind) (n p d q : ℕ) (text xs ys : List ℕ) (followin
 cut_token kind n p d q text xs ys following t ts behind pos rise c =
     let is = token_first (token_of kind q n) t following (ts ++ behind) c.tokens in
     let end : t.span.end ≡ q + n = ap (λ (u : Token). u.span.end) is.0 in
-    let later = last_rises t.span.end ts (q + length xs) (rising_front t.span.end ts behind rise.2) c.last in
+    let later = last_rises t.span.end ts (q + length xs) (rising_prefix t.span.end ts behind rise.2) c.last in
     let within : n ≤ length xs = omega (arith, end, later) in (
       within,
       record {
@@ -171,7 +171,7 @@ cut_gap : (us rest : List ℕ) (n p d q : ℕ) (text xs ys : List ℕ) (reading 
     → n ≡ length us → text ≡ us ++ rest → Rising (q + n) ((t ∷ ts) ++ behind) → Cut p d q text reading xs ys (t ∷ ts) behind
     → (zs : List ℕ) × (xs ≡ us ++ zs) × (rest ≡ zs ++ ys) × Cut (p + n) d (q + n) rest reading zs ys (t ∷ ts) behind
 cut_gap us rest n p d q text xs ys reading t ts behind is e rise c =
-    let later = last_rises t.span.end ts (q + length xs) (rising_front t.span.end ts behind rise.2) c.last in
+    let later = last_rises t.span.end ts (q + length xs) (rising_prefix t.span.end ts behind rise.2) c.last in
     let pre = prefix us rest xs ys (sym e ∙ c.parts) (omega (arith, is, later, rise.0, rise.1)) in
     let len : length xs ≡ length us + length pre.behind = ap length pre.whole ∙ length-append us pre.behind in (
       pre.behind,
@@ -276,7 +276,7 @@ reach {q} {text} (AtOther following begins none more r) (u ∷ before) t others 
 pub rising_inside : (text : List ℕ) (before inside behind : List Token) (t : Token) → tokens_of text ≡ Ok (before ++ ((t ∷ inside) ++ behind)) → Rising t.span.start (t ∷ inside)
 rising_inside text before inside behind t e =
     let reached = reach (reads-tokens text) before t (inside ++ behind) e in
-    rising_front t.span.start (t ∷ inside) behind (rising reached.reads (t ∷ (inside ++ behind)) refl)
+    rising_prefix t.span.start (t ∷ inside) behind (rising reached.reads (t ∷ (inside ++ behind)) refl)
 
 pub tokens_alone : (text : List ℕ) (before inside behind : List Token) (t : Token) (end : ℕ) → tokens_of text ≡ Ok (before ++ ((t ∷ inside) ++ behind)) → LastEnds t.span.start (t ∷ inside) end → end ≤ length text
     → tokens_of (slice_range text t.span.start end) ≡ Ok (map (nearer_token t.span.start) (t ∷ inside))

@@ -47,18 +47,18 @@ module _ (sources : Sources) (system : List ℕ) (flat : PlainFlat) (is : HasFla
   in_tree t e m c = absurd (contains_nothing m c)
 
   -- what is mapped to is a resource of the system
-  mapped_there : (front r : List ℕ) → mapped sources system front ≡ Some r → Contains (names_in sources system) r
-  mapped_there front r e = by (find (λ (m : MappingTree). bytes_eq (mapping_path m) front) (mappings_in (tree_at sources system))) refl e
+  mapped_there : (prefix r : List ℕ) → mapped sources system prefix ≡ Some r → Contains (names_in sources system) r
+  mapped_there prefix r e = by (find (λ (m : MappingTree). bytes_eq (mapping_path m) prefix) (mappings_in (tree_at sources system))) refl e
     where
-      by : (o : Option MappingTree) → find (λ (m : MappingTree). bytes_eq (mapping_path m) front) (mappings_in (tree_at sources system)) ≡ o → option_map mapping_home o ≡ Some r → Contains (names_in sources system) r
+      by : (o : Option MappingTree) → find (λ (m : MappingTree). bytes_eq (mapping_path m) prefix) (mappings_in (tree_at sources system)) ≡ o → option_map mapping_home o ≡ Some r → Contains (names_in sources system) r
       by None f g = absurd (let no : ⊥ = cc in no)
       by (Some m) f g =
-          let found = passes_in_find (λ (m : MappingTree). bytes_eq (mapping_path m) front) (mappings_in (tree_at sources system)) m f in
+          let found = passes_in_find (λ (m : MappingTree). bytes_eq (mapping_path m) prefix) (mappings_in (tree_at sources system)) m f in
           let home : mapping_home m ≡ r = cc in
           subst (λ (t : List ℕ). Contains (names_in sources system) t) home (in_tree (tree_at sources system) refl m found.among)
 
   home_listed_there : (path r : List ℕ) → IsNearest (mapped sources system) path (Some r) → Contains (names_in sources system) r
-  home_listed_there path r (front, before, has, longer) = mapped_there front r has
+  home_listed_there path r (prefix, before, has, longer) = mapped_there prefix r has
 
   pub home_named : (path r : List ℕ) → nearest (mapped sources system) path ≡ Some r → Contains (names_in sources system) r
   home_named path r e = home_listed_there path r (of_nearest (mapped sources system) path r e)

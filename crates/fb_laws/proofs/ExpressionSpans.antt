@@ -1,7 +1,7 @@
 -- The parts of expressions, at each level.
 use Rattle.fb_laws.proofs.Common.{◌≡◌, ℕ, ◌≤◌, arith, zero, suc, true, inl, inr, List, [], ◌∷◌, ◌++◌, map, Option, Some, None, refl, sym, ap, ◌∙◌, subst, append_assoc, flat_map, NameUse, Span, Form, both, either, many, as_value, Spells, SpellsOption, SpellsEach, across, literal_kinds, key, name, is_among, Kind, Point, Lexeme, ReferenceTree, Expression, reference_expression, unary_expression, Expressions, expressions_of, operands_of, BinaryUse, UnaryUse, signs, strengths, unary_use, binary_use, levels, expression, expressions, subscripts, PartTree, part_of, flat_part, deep_part, further_part, parts, member_in, last_end, subscripts_in, reference_in, flat_reference, deep_reference, reference_value, literal, in_parentheses, parenthesized, flat_primary, deep_primary, with_sign, unary, row_of, operand, row, rows, reference, Part, name_part, expression_part, sign_part, operator_part, name_parts, option_parts, reference_parts, expression_parts, expressions_parts, operands_parts, expression_span, span_through, SpellsPart, EndsAt, IsWritten, sign, operator}
 use Rattle.std.proofs.lemmas.List.{append-nil}
-use Rattle.fb_laws.proofs.Tokens.{Fills, begins_more, ends_more, written_whole, Each, each_append, each_front, each_rest, each_left, each_right}
+use Rattle.fb_laws.proofs.Tokens.{Fills, begins_more, ends_more, written_whole, Each, each_append, each_prefix, each_rest, each_left, each_right}
 use Rattle.fb_laws.proofs.Filling.{Filled, filled_as, filled_either, filled_token, filled_name, Ends, ends_filled, ends_second, ends_behind, filled_across, filled_more, filled_from}
 use Rattle.fb_laws.proofs.Sound.{Sound, sound_nothing, sound_both, sound_first, sound_second, sound_as, sound_either, sound_option, sound_many, sound_behind, sound_separated, sound_own, sound_same, sound_name, each_items, among_more, among_right}
 
@@ -12,7 +12,7 @@ each_expressions P [] h = tt
 each_expressions P (e ∷ es) h =
     let first = expression_parts e in
     let others = flat_map expression_parts es in
-    each_append P first (expressions_parts (expressions_of es)) (each_front P first others h) (each_expressions P es (each_rest P first others h))
+    each_append P first (expressions_parts (expressions_of es)) (each_prefix P first others h) (each_expressions P es (each_rest P first others h))
 
 abbrev operand_parts : BinaryUse × Expression → List Part
 operand_parts o = operator_part o.0 ∷ expression_parts o.1
@@ -22,7 +22,7 @@ each_operands P [] h = tt
 each_operands P (o ∷ os) h =
     let first = operand_parts o in
     let others = flat_map operand_parts os in
-    each_append P first (operands_parts (operands_of os)) (each_front P first others h) (each_operands P os (each_rest P first others h))
+    each_append P first (operands_parts (operands_of os)) (each_prefix P first others h) (each_operands P os (each_rest P first others h))
 
 -- References
 
@@ -50,16 +50,16 @@ reference_span r = r.0.span
 
 module _ (part : Form PartTree) (filled : Filled part place_of) where
   -- from where a part begins through the last of those behind it
-  fills_parts : (front rest : List Lexeme) (start end : ℕ) (ps : List PartTree) → Fills front (record { start = start; end = end }) → SpellsEach (Spells (further_part part)) rest ps
-      → Fills (front ++ rest) (record { start = start; end = last_end end ps })
-  fills_parts front rest start end [] h none = subst (λ (z : List Lexeme). Fills z (record { start = start; end = end })) (sym (ap (λ z. front ++ z) none ∙ append-nil front)) h
-  fills_parts front rest start end (p ∷ ps) h each =
+  fills_parts : (prefix rest : List Lexeme) (start end : ℕ) (ps : List PartTree) → Fills prefix (record { start = start; end = end }) → SpellsEach (Spells (further_part part)) rest ps
+      → Fills (prefix ++ rest) (record { start = start; end = last_end end ps })
+  fills_parts prefix rest start end [] h none = subst (λ (z : List Lexeme). Fills z (record { start = start; end = end })) (sym (ap (λ z. prefix ++ z) none ∙ append-nil prefix)) h
+  fills_parts prefix rest start end (p ∷ ps) h each =
       let first = each.0 in
       let others = each.1 in
       let last = (ends_behind (key Point) part place_of (ends_filled part place_of filled)).ends first p each.3 in
-      let wider : Fills (front ++ first) (record { start = start; end = p.end }) = record { begins = begins_more front first start h.begins; ends = ends_more front first p.end last } in
-      subst (λ (z : List Lexeme). Fills z (record { start = start; end = last_end p.end ps })) (append_assoc front first others ∙ ap (λ z. front ++ z) (sym each.2))
-      (fills_parts (front ++ first) others start p.end ps wider each.4)
+      let wider : Fills (prefix ++ first) (record { start = start; end = p.end }) = record { begins = begins_more prefix first start h.begins; ends = ends_more prefix first p.end last } in
+      subst (λ (z : List Lexeme). Fills z (record { start = start; end = last_end p.end ps })) (append_assoc prefix first others ∙ ap (λ z. prefix ++ z) (sym each.2))
+      (fills_parts (prefix ++ first) others start p.end ps wider each.4)
 
   filled_parts : Filled (parts part) (λ v. reference_span (reference_in v))
   filled_parts = record {
@@ -111,11 +111,11 @@ each_subscript : (P : Part → Type 0) (ps : List PartTree) → Each P (flat_map
 each_subscript P [] h = tt
 each_subscript P (p ∷ ps) h =
     let behind = flat_map named_parts ps in
-    each_items P expression_parts p.subscripts (subscripts_in ps) (each_front P (named_parts p) behind h).1 (each_subscript P ps (each_rest P (named_parts p) behind h))
+    each_items P expression_parts p.subscripts (subscripts_in ps) (each_prefix P (named_parts p) behind h).1 (each_subscript P ps (each_rest P (named_parts p) behind h))
 
 each_reference : (P : Part → Type 0) (p : PartTree) (ps : List PartTree) → Each P (named_parts p ++ flat_map named_parts ps) → Each P (subscripted_parts (reference_in (p, ps)))
 each_reference P p ps h =
-    let first = each_front P (named_parts p) (flat_map named_parts ps) h in
+    let first = each_prefix P (named_parts p) (flat_map named_parts ps) h in
     let others = each_rest P (named_parts p) (flat_map named_parts ps) h in
     let all = p.subscripts ++ subscripts_in ps in (
       first.0,
@@ -214,14 +214,14 @@ unsigned : (primary : Form Expression) → IsExpression (unary primary) → IsEx
 unsigned primary h = record { spells = λ us e s. h.spells us e (spelled_unary primary us e s) }
 
 module _ (primary : Form Expression) (suits : Suits primary) (is : IsExpression (unary primary)) where
-  written_unary : (us front rest : List Lexeme) (o : Option UnaryUse) (e : Expression) → us ≡ front ++ rest → SpellsOption (Spells sign) front o → Spells primary rest e → Each (IsWritten us) (expression_parts (with_sign o e))
+  written_unary : (us prefix rest : List Lexeme) (o : Option UnaryUse) (e : Expression) → us ≡ prefix ++ rest → SpellsOption (Spells sign) prefix o → Spells primary rest e → Each (IsWritten us) (expression_parts (with_sign o e))
   unfolding unary sign
-  written_unary us front rest None e eq none s =
+  written_unary us prefix rest None e eq none s =
       subst (λ (z : List Lexeme). Each (IsWritten z) (expression_parts e)) (sym eq)
-      (each_right front rest (expression_parts e) ((suits.sound (unsigned primary is)).stands rest e s))
-  written_unary us front rest (Some operator) e eq before s =
-      let whole : Spells (unary primary) us (unary_expression operator e) = ((Some operator, e), (front, rest, eq, before, s), refl) in
-      let inner = each_append (IsWritten (front ++ rest)) (sign_part operator ∷ []) (expression_parts e) (each_left front rest (sign_part operator ∷ []) (sound_sign.stands front operator before)) (each_right front rest (expression_parts e) ((suits.sound (unsigned primary is)).stands rest e s)) in (
+      (each_right prefix rest (expression_parts e) ((suits.sound (unsigned primary is)).stands rest e s))
+  written_unary us prefix rest (Some operator) e eq before s =
+      let whole : Spells (unary primary) us (unary_expression operator e) = ((Some operator, e), (prefix, rest, eq, before, s), refl) in
+      let inner = each_append (IsWritten (prefix ++ rest)) (sign_part operator ∷ []) (expression_parts e) (each_left prefix rest (sign_part operator ∷ []) (sound_sign.stands prefix operator before)) (each_right prefix rest (expression_parts e) ((suits.sound (unsigned primary is)).stands rest e s)) in (
         written_whole us (expression_part (unary_expression operator e)) ((filled_unary primary suits.filled).fills us (unary_expression operator e) whole) (is.spells us (unary_expression operator e) whole),
         subst (λ (z : List Lexeme). Each (IsWritten z) (sign_part operator ∷ expression_parts e)) (sym eq) inner,
       )
@@ -234,25 +234,25 @@ module _ (primary : Form Expression) (suits : Suits primary) (is : IsExpression 
 
 module _ (kinds : List Kind) (x : Form Expression) (filled : Filled x expression_span) where
   -- from what stands before operands through the last of them
-  fills_operands : (front rest : List Lexeme) (s : Span) (os : List (BinaryUse × Expression)) → Fills front s → SpellsEach (Spells (operand kinds x)) rest os → Fills (front ++ rest) (span_through s (operands_of os))
+  fills_operands : (prefix rest : List Lexeme) (s : Span) (os : List (BinaryUse × Expression)) → Fills prefix s → SpellsEach (Spells (operand kinds x)) rest os → Fills (prefix ++ rest) (span_through s (operands_of os))
   unfolding operand
-  fills_operands front rest s [] h none = subst (λ (z : List Lexeme). Fills z s) (sym (ap (λ z. front ++ z) none ∙ append-nil front)) h
-  fills_operands front rest s (o ∷ os) h each =
+  fills_operands prefix rest s [] h none = subst (λ (z : List Lexeme). Fills z s) (sym (ap (λ z. prefix ++ z) none ∙ append-nil prefix)) h
+  fills_operands prefix rest s (o ∷ os) h each =
       let first = each.0 in
       let others = each.1 in
       let spelled = each.3 in
       let last = (filled.fills spelled.1 o.1 spelled.4).ends in
-      let wider : Fills (front ++ first) (across s (expression_span o.1)) =
+      let wider : Fills (prefix ++ first) (across s (expression_span o.1)) =
       record {
-        begins = begins_more front first s.start h.begins;
-        ends = ends_more front first (expression_span o.1).end (subst (λ (z : List Lexeme). EndsAt z (expression_span o.1).end) (sym spelled.2) (ends_more spelled.0 spelled.1 (expression_span o.1).end last));
+        begins = begins_more prefix first s.start h.begins;
+        ends = ends_more prefix first (expression_span o.1).end (subst (λ (z : List Lexeme). EndsAt z (expression_span o.1).end) (sym spelled.2) (ends_more spelled.0 spelled.1 (expression_span o.1).end last));
       } in
-      subst (λ (z : List Lexeme). Fills z (span_through s (operands_of (o ∷ os)))) (append_assoc front first others ∙ ap (λ z. front ++ z) (sym each.2))
-      (fills_operands (front ++ first) others (across s (expression_span o.1)) os wider each.4)
+      subst (λ (z : List Lexeme). Fills z (span_through s (operands_of (o ∷ os)))) (append_assoc prefix first others ∙ ap (λ z. prefix ++ z) (sym each.2))
+      (fills_operands (prefix ++ first) others (across s (expression_span o.1)) os wider each.4)
 
-  fills_row : (us front rest : List Lexeme) (e : Expression) (os : List (BinaryUse × Expression)) → us ≡ front ++ rest → Fills front (expression_span e) → SpellsEach (Spells (operand kinds x)) rest os → Fills us (expression_span (row_of e os))
-  fills_row us front rest e [] eq h each = subst (λ (z : List Lexeme). Fills z (expression_span e)) (sym eq) (fills_operands front rest (expression_span e) [] h each)
-  fills_row us front rest e (o ∷ os) eq h each = subst (λ (z : List Lexeme). Fills z (expression_span (row_of e (o ∷ os)))) (sym eq) (fills_operands front rest (expression_span e) (o ∷ os) h each)
+  fills_row : (us prefix rest : List Lexeme) (e : Expression) (os : List (BinaryUse × Expression)) → us ≡ prefix ++ rest → Fills prefix (expression_span e) → SpellsEach (Spells (operand kinds x)) rest os → Fills us (expression_span (row_of e os))
+  fills_row us prefix rest e [] eq h each = subst (λ (z : List Lexeme). Fills z (expression_span e)) (sym eq) (fills_operands prefix rest (expression_span e) [] h each)
+  fills_row us prefix rest e (o ∷ os) eq h each = subst (λ (z : List Lexeme). Fills z (expression_span (row_of e (o ∷ os)))) (sym eq) (fills_operands prefix rest (expression_span e) (o ∷ os) h each)
 
   filled_row : Filled (row kinds x) expression_span
   unfolding row
@@ -280,11 +280,11 @@ sound_operand kinds x are h =
 
 module _ (kinds : List Kind) (x : Form Expression) (are : AreOperators kinds) (suits : Suits x) (is : IsExpression (row kinds x)) where
   written_row : (us : List Lexeme) (e : Expression) (os : List (BinaryUse × Expression)) → Spells (row kinds x) us (row_of e os) → Each (IsWritten us) (expression_parts e ++ flat_map operand_parts os) → Each (IsWritten us) (expression_parts (row_of e os))
-  written_row us e [] whole h = each_front (IsWritten us) (expression_parts e) [] h
+  written_row us e [] whole h = each_prefix (IsWritten us) (expression_parts e) [] h
   written_row us e (o ∷ os) whole h =
       let operands = flat_map operand_parts (o ∷ os) in (
         written_whole us (expression_part (row_of e (o ∷ os))) ((filled_row kinds x suits.filled).fills us (row_of e (o ∷ os)) whole) (is.spells us (row_of e (o ∷ os)) whole),
-        each_append (IsWritten us) (expression_parts e) (operands_parts (operands_of (o ∷ os))) (each_front (IsWritten us) (expression_parts e) operands h)
+        each_append (IsWritten us) (expression_parts e) (operands_parts (operands_of (o ∷ os))) (each_prefix (IsWritten us) (expression_parts e) operands h)
             (each_operands (IsWritten us) (o ∷ os) (each_rest (IsWritten us) (expression_parts e) operands h)),
       )
 

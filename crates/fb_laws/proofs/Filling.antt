@@ -34,28 +34,28 @@ pub ends_behind : {A B : Type 0} (x : Form A) (y : Form B) (span : B → Span) �
 ends_behind {B = B} x y span h = record { ends = λ us v s. subst (λ (z : B). EndsAt us (span z).end) (sym s.2) ((ends_second x y span h).ends us s.0 s.1) }
 
 -- x y, from where x begins to where y ends
-fills_both : (us front rest : List Lexeme) (s : Span) → us ≡ front ++ rest → BeginsAt front s.start → EndsAt rest s.end → Fills us s
-fills_both us front rest s e begins ends = subst (λ (z : List Lexeme). Fills z s) (sym e) (record { begins = begins_more front rest s.start begins; ends = ends_more front rest s.end ends })
+fills_both : (us prefix rest : List Lexeme) (s : Span) → us ≡ prefix ++ rest → BeginsAt prefix s.start → EndsAt rest s.end → Fills us s
+fills_both us prefix rest s e begins ends = subst (λ (z : List Lexeme). Fills z s) (sym e) (record { begins = begins_more prefix rest s.start begins; ends = ends_more prefix rest s.end ends })
 
 pub filled_across : {A B : Type 0} (x : Form A) (y : Form B) (f : A → Span) (g : B → Span) → Filled x f → Ends y g → Filled (both x y) (λ v. across (f v.0) (g v.1))
 filled_across x y f g h k = record { fills = λ us v s. fills_both us s.0 s.1 (across (f v.0) (g v.1)) s.2 (h.fills s.0 v.0 s.3).begins (k.ends s.1 v.1 s.4) }
 
 -- x [y], through y where it is written
 module _ {A B : Type 0} (x : Form A) (y : Form B) (f : A → Span) (g : B → Span) (span : A × Option B → Span) (alone : (a : A) → span (a, None) ≡ f a) (more : (a : A) (b : B) → span (a, Some b) ≡ across (f a) (g b)) where
-  fills_more : Filled x f → Ends y g → (us front rest : List Lexeme) (a : A) (b : Option B) → us ≡ front ++ rest → Spells x front a → SpellsOption (Spells y) rest b → Fills us (span (a, b))
-  fills_more h k us front rest a None e s none =
-      subst (Fills us) (sym (alone a)) (subst (λ (z : List Lexeme). Fills z (f a)) (sym (e ∙ subst (λ (z : List Lexeme). front ++ z ≡ front) (sym none) (append-nil front))) (h.fills front a s))
-  fills_more h k us front rest a (Some b) e s t = subst (Fills us) (sym (more a b)) (fills_both us front rest (across (f a) (g b)) e (h.fills front a s).begins (k.ends rest b t))
+  fills_more : Filled x f → Ends y g → (us prefix rest : List Lexeme) (a : A) (b : Option B) → us ≡ prefix ++ rest → Spells x prefix a → SpellsOption (Spells y) rest b → Fills us (span (a, b))
+  fills_more h k us prefix rest a None e s none =
+      subst (Fills us) (sym (alone a)) (subst (λ (z : List Lexeme). Fills z (f a)) (sym (e ∙ subst (λ (z : List Lexeme). prefix ++ z ≡ prefix) (sym none) (append-nil prefix))) (h.fills prefix a s))
+  fills_more h k us prefix rest a (Some b) e s t = subst (Fills us) (sym (more a b)) (fills_both us prefix rest (across (f a) (g b)) e (h.fills prefix a s).begins (k.ends rest b t))
 
   pub filled_more : Filled x f → Ends y g → Filled (both x (option y)) span
   filled_more h k = record { fills = λ us v s. fills_more h k us s.0 s.1 v.0 v.1 s.2 s.3 s.4 }
 
 -- [x] y, from x where it is written
 module _ {A B : Type 0} (x : Form A) (y : Form B) (f : A → Span) (g : B → Span) (span : Option A × B → Span) (alone : (b : B) → span (None, b) ≡ g b) (more : (a : A) (b : B) → span (Some a, b) ≡ across (f a) (g b)) where
-  fills_from : Filled x f → Filled y g → (us front rest : List Lexeme) (a : Option A) (b : B) → us ≡ front ++ rest → SpellsOption (Spells x) front a → Spells y rest b → Fills us (span (a, b))
-  fills_from h k us front rest None b e none t =
+  fills_from : Filled x f → Filled y g → (us prefix rest : List Lexeme) (a : Option A) (b : B) → us ≡ prefix ++ rest → SpellsOption (Spells x) prefix a → Spells y rest b → Fills us (span (a, b))
+  fills_from h k us prefix rest None b e none t =
       subst (Fills us) (sym (alone b)) (subst (λ (z : List Lexeme). Fills z (g b)) (sym (e ∙ subst (λ (z : List Lexeme). z ++ rest ≡ rest) (sym none) refl)) (k.fills rest b t))
-  fills_from h k us front rest (Some a) b e s t = subst (Fills us) (sym (more a b)) (fills_both us front rest (across (f a) (g b)) e (h.fills front a s).begins (k.fills rest b t).ends)
+  fills_from h k us prefix rest (Some a) b e s t = subst (Fills us) (sym (more a b)) (fills_both us prefix rest (across (f a) (g b)) e (h.fills prefix a s).begins (k.fills rest b t).ends)
 
   pub filled_from : Filled x f → Filled y g → Filled (both (option x) y) span
   filled_from h k = record { fills = λ us v s. fills_from h k us s.0 s.1 v.0 v.1 s.2 s.3 s.4 }

@@ -1,5 +1,5 @@
 -- The homes of blocks, and of the ends of links.
-use Rattle.fb_laws.proofs.Common.{ℕ, ◌≡◌, ◌<◌, Bool, true, false, cond, List, [], ◌∷◌, Option, Some, None, ◌⊎◌, inl, inr, refl, sym, ◌∙◌, ap, subst, take, length, arith, option_map, find, cons_option, bytes_eq, take-append_seam, take_all, dec_lt, contains_cases, contains_here, contains_later, contains_nothing, is_nearest, FlatBlock, home_at, first_at, IsFront, IsNearest, nearest, block_homes, Home, IsBlockAt}
+use Rattle.fb_laws.proofs.Common.{ℕ, ◌≡◌, ◌<◌, Bool, true, false, cond, List, [], ◌∷◌, Option, Some, None, ◌⊎◌, inl, inr, refl, sym, ◌∙◌, ap, subst, take, length, arith, option_map, find, cons_option, bytes_eq, take-append_seam, take_all, dec_lt, contains_cases, contains_here, contains_later, contains_nothing, is_nearest, FlatBlock, home_at, first_at, IsPrefix, IsNearest, nearest, block_homes, Home, IsBlockAt}
 use Rattle.std.specs.Prelude.{Contains}
 use Rattle.std.proofs.lemmas.Slice.Eq.{bytes_eq-Decides}
 
@@ -11,23 +11,23 @@ same_bytes a b e = (bytes_eq-Decides a b).0 e
 pub bytes_same : (a b : List ℕ) → a ≡ b → bytes_eq a b ≡ true
 bytes_same a b e = (bytes_eq-Decides a b).1 e
 
-front_begins : (front path : List ℕ) → IsFront front path → take (length front) path ≡ front
-front_begins front path (inl e) = ap (take (length front)) e ∙ take_all (length front) front (omega arith)
-front_begins front path (inr (rest, e)) = ap (take (length front)) e ∙ take-append_seam front (46 ∷ rest)
+prefix_begins : (prefix path : List ℕ) → IsPrefix prefix path → take (length prefix) path ≡ prefix
+prefix_begins prefix path (inl e) = ap (take (length prefix)) e ∙ take_all (length prefix) prefix (omega arith)
+prefix_begins prefix path (inr (rest, e)) = ap (take (length prefix)) e ∙ take-append_seam prefix (46 ∷ rest)
 
-pub one_front : (a b path : List ℕ) → IsFront a path → IsFront b path → length a ≡ length b → a ≡ b
-one_front a b path p q e = sym (front_begins a path p) ∙ ap (λ (n : ℕ). take n path) e ∙ front_begins b path q
+pub one_prefix : (a b path : List ℕ) → IsPrefix a path → IsPrefix b path → length a ≡ length b → a ≡ b
+one_prefix a b path p q e = sym (prefix_begins a path p) ∙ ap (λ (n : ℕ). take n path) e ∙ prefix_begins b path q
 
 pub one_nearest : {X : Type 0} (at : List ℕ → Option X) (path : List ℕ) (a b : Option X) → IsNearest at path a → IsNearest at path b → a ≡ b
 one_nearest at path None None p q = refl
-one_nearest at path None (Some y) p (g, front, has, longer) = absurd (let no = p g front in let yes = has in cc)
-one_nearest at path (Some x) None (f, front, has, longer) q = absurd (let no = q f front in let yes = has in cc)
-one_nearest {X = X} at path (Some x) (Some y) (f, front, has, longer) (g, front2, has2, longer2) =
+one_nearest at path None (Some y) p (g, prefix, has, longer) = absurd (let no = p g prefix in let yes = has in cc)
+one_nearest at path (Some x) None (f, prefix, has, longer) q = absurd (let no = q f prefix in let yes = has in cc)
+one_nearest {X = X} at path (Some x) (Some y) (f, prefix, has, longer) (g, prefix2, has2, longer2) =
     elim (dec_lt (length f) (length g)) [
-      | Prim.yes below ↦ absurd (let no = longer g front2 below in let yes = has2 in cc)
+      | Prim.yes below ↦ absurd (let no = longer g prefix2 below in let yes = has2 in cc)
       | Prim.no above ↦ elim (dec_lt (length g) (length f)) [
-        | Prim.yes below ↦ absurd (let no = longer2 f front below in let yes = has in cc)
-        | Prim.no more ↦ let same : f ≡ g = one_front f g path front front2 (omega arith) in sym has ∙ ap at same ∙ has2
+        | Prim.yes below ↦ absurd (let no = longer2 f prefix below in let yes = has in cc)
+        | Prim.no more ↦ let same : f ≡ g = one_prefix f g path prefix prefix2 (omega arith) in sym has ∙ ap at same ∙ has2
       ]
     ]
 
@@ -97,42 +97,42 @@ module _ (resources : List ℕ → Option (List ℕ)) where
     nothing_at b c none = let h = all b c in let there = home_listed blocks b h.on_resource c h.home in cc
 
     pub end_home : (end r : List ℕ) → nearest (home_at (block_homes resources blocks)) end ≡ Some r → EndHome blocks end r
-    end_home end r e = by_front (of_nearest (home_at (block_homes resources blocks)) end r e)
+    end_home end r e = by_prefix (of_nearest (home_at (block_homes resources blocks)) end r e)
       where
-        made : (front : List ℕ) → IsFront front end → ((other : List ℕ) → IsFront other end → length front < length other → home_at (block_homes resources blocks) other ≡ None) → IsHomed blocks front r → EndHome blocks end r
-        made front is longer o = record {
+        made : (prefix : List ℕ) → IsPrefix prefix end → ((other : List ℕ) → IsPrefix other end → length prefix < length other → home_at (block_homes resources blocks) other ≡ None) → IsHomed blocks prefix r → EndHome blocks end r
+        made prefix is longer o = record {
           block = o.block;
           is_at = record {
             listed = o.listed;
-            front = subst (λ (p : List ℕ). IsFront p end) (sym o.placed) is;
-            longest = λ other listed other_front. elim (dec_lt (length o.block.path) (length other.path)) [
-              | Prim.yes below ↦ absurd (nothing_at other listed (longer other.path other_front (subst (λ (p : List ℕ). length p < length other.path) o.placed below)))
+            prefix = subst (λ (p : List ℕ). IsPrefix p end) (sym o.placed) is;
+            longest = λ other listed other_prefix. elim (dec_lt (length o.block.path) (length other.path)) [
+              | Prim.yes below ↦ absurd (nothing_at other listed (longer other.path other_prefix (subst (λ (p : List ℕ). length p < length other.path) o.placed below)))
               | Prim.no above ↦ omega arith
             ];
           };
-          home = subst (λ (p : List ℕ). IsNearest resources p (Some r)) (sym o.placed) (of_nearest resources front r o.home);
+          home = subst (λ (p : List ℕ). IsNearest resources p (Some r)) (sym o.placed) (of_nearest resources prefix r o.home);
         }
 
-        by_front : IsNearest (home_at (block_homes resources blocks)) end (Some r) → EndHome blocks end r
-        by_front (front, is, has, longer) = made front is longer (homed blocks front r has)
+        by_prefix : IsNearest (home_at (block_homes resources blocks)) end (Some r) → EndHome blocks end r
+        by_prefix (prefix, is, has, longer) = made prefix is longer (homed blocks prefix r has)
 
     pub home_end : (end r : List ℕ) → EndHome blocks end r → nearest (home_at (block_homes resources blocks)) end ≡ Some r
     home_end end r o =
         nearest_of (home_at (block_homes resources blocks)) end r
-        (o.block.path, o.is_at.front, home_listed blocks o.block r o.is_at.listed (nearest_of resources o.block.path r o.home), λ other front longer. by_other other front longer (home_at (block_homes resources blocks) other) refl)
+        (o.block.path, o.is_at.prefix, home_listed blocks o.block r o.is_at.listed (nearest_of resources o.block.path r o.home), λ other prefix longer. by_other other prefix longer (home_at (block_homes resources blocks) other) refl)
       where
-        by_other : (other : List ℕ) → IsFront other end → length o.block.path < length other → (h : Option (List ℕ)) → home_at (block_homes resources blocks) other ≡ h → home_at (block_homes resources blocks) other ≡ None
-        by_other other front longer None e = e
-        by_other other front longer (Some q) e =
+        by_other : (other : List ℕ) → IsPrefix other end → length o.block.path < length other → (h : Option (List ℕ)) → home_at (block_homes resources blocks) other ≡ h → home_at (block_homes resources blocks) other ≡ None
+        by_other other prefix longer None e = e
+        by_other other prefix longer (Some q) e =
             let w = homed blocks other q e in
-            let short = o.is_at.longest w.block w.listed (subst (λ (p : List ℕ). IsFront p end) (sym w.placed) front) in
+            let short = o.is_at.longest w.block w.listed (subst (λ (p : List ℕ). IsPrefix p end) (sym w.placed) prefix) in
             let same = ap length w.placed in
             absurd (omega (arith, short, same, longer))
 
     -- some block stands in front of the end
-    pub some_home : (end : List ℕ) (b : FlatBlock) → Contains blocks b → IsFront b.path end → (r : List ℕ) × (nearest (home_at (block_homes resources blocks)) end ≡ Some r)
-    some_home end b c front = by (nearest (home_at (block_homes resources blocks)) end) refl (is_nearest (home_at (block_homes resources blocks)) end)
+    pub some_home : (end : List ℕ) (b : FlatBlock) → Contains blocks b → IsPrefix b.path end → (r : List ℕ) × (nearest (home_at (block_homes resources blocks)) end ≡ Some r)
+    some_home end b c prefix = by (nearest (home_at (block_homes resources blocks)) end) refl (is_nearest (home_at (block_homes resources blocks)) end)
       where
         by : (o : Option (List ℕ)) → nearest (home_at (block_homes resources blocks)) end ≡ o → IsNearest (home_at (block_homes resources blocks)) end (nearest (home_at (block_homes resources blocks)) end) → (r : List ℕ) × (nearest (home_at (block_homes resources blocks)) end ≡ Some r)
-        by None e is = absurd (nothing_at b c ((subst (λ (o : Option (List ℕ)). IsNearest (home_at (block_homes resources blocks)) end o) e is) b.path front))
+        by None e is = absurd (nothing_at b c ((subst (λ (o : Option (List ℕ)). IsNearest (home_at (block_homes resources blocks)) end o) e is) b.path prefix))
         by (Some r) e is = (r, e)

@@ -3,7 +3,7 @@ use Rattle.fb_laws.proofs.Common.{ℕ, ◌≡◌, Bool, true, false, not, List, 
 use Rattle.std.specs.Prelude.{Contains}
 use Rattle.fb_laws.proofs.HomeLemmas.{bytes_same, nearest_of, same_bytes, some_home}
 use Rattle.fb_laws.proofs.PlannedLemmas.{Known, home_there, homes_in, known, mapped, stands}
-use Rattle.fb_laws.proofs.PlanEnds.{net_fronts}
+use Rattle.fb_laws.proofs.PlanEnds.{net_prefixes}
 use Rattle.fb_laws.proofs.EntryLemmas.{entry_named, home_named}
 
 module _ (sources : Sources) (system : List ℕ) (flat : PlainFlat) (cuts : List Link) (resources : List PlainResource) (p : IsPlanned sources system flat cuts resources) where
@@ -29,9 +29,9 @@ module _ (sources : Sources) (system : List ℕ) (flat : PlainFlat) (cuts : List
 
   pub cut_or : (link : Link) → Contains flat.links link → Contains cuts link ⊎ IsMade sources system flat resources link
   cut_or link c =
-      let fronts = net_fronts sources system flat p.is_flat link c in
-      let from = some_home (mapped sources system) flat.blocks it.homes link.from fronts.0.block fronts.0.listed fronts.0.front in
-      let to = some_home (mapped sources system) flat.blocks it.homes link.to fronts.1.block fronts.1.listed fronts.1.front in
+      let prefixes = net_prefixes sources system flat p.is_flat link c in
+      let from = some_home (mapped sources system) flat.blocks it.homes link.from prefixes.0.block prefixes.0.listed prefixes.0.prefix in
+      let to = some_home (mapped sources system) flat.blocks it.homes link.to prefixes.1.block prefixes.1.listed prefixes.1.prefix in
       by from.0 to.0 from.1 to.1 (bytes_eq from.0 to.0) refl
     where
       by : (a b : List ℕ) → nearest homes link.from ≡ Some a → nearest homes link.to ≡ Some b → (t : Bool) → bytes_eq a b ≡ t → Contains cuts link ⊎ IsMade sources system flat resources link

@@ -94,14 +94,14 @@ module _ (sources : Sources) (unit : List ℕ) (sound : IsSound sources unit) wh
   is_subapplication i h d there = subapplication_role i.role (fits i h (subapplication_type d) there)
 
   module _ (s : SystemTree) (is : IsSystemAt sources unit s) where
-    abbrev front : List (List NameUse)
-    front = map (λ (x : ApplicationTree). x.name) s.applications ∷ flat_map (λ (x : ApplicationTree). network_spaces x.network) s.applications
+    abbrev prefix : List (List NameUse)
+    prefix = map (λ (x : ApplicationTree). x.name) s.applications ∷ flat_map (λ (x : ApplicationTree). network_spaces x.network) s.applications
 
     abbrev behind : List (List NameUse)
     behind = map (λ (d : DeviceTree). d.name) s.devices ∷ map resource_names s.devices
 
-    space_apart : (names : List NameUse) → Contains front names → AreApart names
-    space_apart names c = apart sources unit (system_configuration s) names (no_report unit on_itself).declarations is (Contains-append_left front behind names c)
+    space_apart : (names : List NameUse) → Contains prefix names → AreApart names
+    space_apart names c = apart sources unit (system_configuration s) names (no_report unit on_itself).declarations is (Contains-append_left prefix behind names c)
 
     pub applications_apart : AreApart (map (λ (a : ApplicationTree). a.name) s.applications)
     applications_apart =

@@ -1,12 +1,12 @@
 -- The home of what stands at a path is the resource of the nearest mapping of it or above it.
-use Rattle.fb_laws.proofs.Common.{◌≡◌, ◌≢◌, ℕ, ◌<◌, Bool, true, false, cond, length, List, [], ◌∷◌, ◌++◌, Option, Some, None, ◌⊎◌, inl, inr, refl, sym, ap, ◌∙◌, subst, append_assoc, append-nil, arith, find, option_map, bytes_eq, dec_lt, Contains-append_right, contains_cases, contains_here, contains_nothing, Span, MappingTree, SystemTree, on_itself, Sources, MappedTwice, Fault, IsSound, IsFront, IsNearest, mapping_home, mapping_path, resource_at, IsSystemAt, place_of_path, IsAbove, IsMappedTo, path_of, with_points}
+use Rattle.fb_laws.proofs.Common.{◌≡◌, ◌≢◌, ℕ, ◌<◌, Bool, true, false, cond, length, List, [], ◌∷◌, ◌++◌, Option, Some, None, ◌⊎◌, inl, inr, refl, sym, ap, ◌∙◌, subst, append_assoc, append-nil, arith, find, option_map, bytes_eq, dec_lt, Contains-append_right, contains_cases, contains_here, contains_nothing, Span, MappingTree, SystemTree, on_itself, Sources, MappedTwice, Fault, IsSound, IsPrefix, IsNearest, mapping_home, mapping_path, resource_at, IsSystemAt, place_of_path, IsAbove, IsMappedTo, path_of, with_points}
 use Rattle.std.specs.Prelude.{Contains}
 use Rattle.fb_laws.proofs.HomeLemmas.{bytes_same, same_bytes}
 use Rattle.fb_laws.proofs.MappingRows.{own_paths}
 use Rattle.fb_laws.proofs.PathHolders.{no_report}
 use Rattle.fb_laws.proofs.PathNames.{mapping_plain}
 use Rattle.fb_laws.proofs.PathStanding.{found_in}
-use Rattle.fb_laws.proofs.PathTexts.{ArePlain, front_has_name, front_of, goes_on, longer_text, longer_text_by, same_names, same_print, split_paths}
+use Rattle.fb_laws.proofs.PathTexts.{ArePlain, prefix_has_name, prefix_of, goes_on, longer_text, longer_text_by, same_names, same_print, split_paths}
 
 abbrev Path : Type 0
 Path = List (List ℕ)
@@ -62,28 +62,28 @@ module _ (sources : Sources) (unit : List ℕ) (s : SystemTree) (is : IsSystemAt
   -- ---- a path
 
   module _ (path : Path) (some : path ≢ []) (plain : ArePlain path) where
-    pub above_front : (m : MappingTree) → IsAbove m path → IsFront (mapping_path m) (with_points path)
-    above_front m h =
-        subst (λ (p : Path). IsFront (mapping_path m) (with_points p)) (sym h.goes_on)
-        (subst (λ (t : List ℕ). IsFront t (with_points (path_of m ++ h.inner))) (same_print (path_of m)) (front_of (path_of m) h.inner h.written))
+    pub above_prefix : (m : MappingTree) → IsAbove m path → IsPrefix (mapping_path m) (with_points path)
+    above_prefix m h =
+        subst (λ (p : Path). IsPrefix (mapping_path m) (with_points p)) (sym h.goes_on)
+        (subst (λ (t : List ℕ). IsPrefix t (with_points (path_of m ++ h.inner))) (same_print (path_of m)) (prefix_of (path_of m) h.inner h.written))
 
-    front_above : (m : MappingTree) → Contains s.mappings m → path_of m ≢ [] → IsFront (mapping_path m) (with_points path) → IsAbove m path
-    front_above m c written front =
-        let o = goes_on (path_of m) path written some (mapping_plain sources unit s is m c) plain (subst (λ (t : List ℕ). IsFront t (with_points path)) (sym (same_print (path_of m))) front) in
+    prefix_above : (m : MappingTree) → Contains s.mappings m → path_of m ≢ [] → IsPrefix (mapping_path m) (with_points path) → IsAbove m path
+    prefix_above m c written prefix =
+        let o = goes_on (path_of m) path written some (mapping_plain sources unit s is m c) plain (subst (λ (t : List ℕ). IsPrefix t (with_points path)) (sym (same_print (path_of m))) prefix) in
         record { written = written; inner = o.0; goes_on = o.1 }
 
     text_length : (m : MappingTree) → length (mapping_path m) ≡ length (with_points (path_of m))
     text_length m = ap length (sym (same_print (path_of m)))
 
     -- a longer text that stands in front of the path is no mapping's
-    none_longer : (r : List ℕ) (h : IsMappedTo s path r) (other : List ℕ) → IsFront other (with_points path) → length (mapping_path h.mapping) < length other → (o : Option (List ℕ)) → resource_at s.mappings other ≡ o → resource_at s.mappings other ≡ None
-    none_longer r h other front longer None e = e
-    none_longer r h other front longer (Some q) e =
+    none_longer : (r : List ℕ) (h : IsMappedTo s path r) (other : List ℕ) → IsPrefix other (with_points path) → length (mapping_path h.mapping) < length other → (o : Option (List ℕ)) → resource_at s.mappings other ≡ o → resource_at s.mappings other ≡ None
+    none_longer r h other prefix longer None e = e
+    none_longer r h other prefix longer (Some q) e =
         let f = found_in mapping_path mapping_home s.mappings other q e in
         let m = f.item in
-        let there : IsFront (mapping_path m) (with_points path) = subst (λ (t : List ℕ). IsFront t (with_points path)) (sym f.named) front in
-        let written : path_of m ≢ [] = λ none. front_has_name path some plain (subst (λ (t : List ℕ). IsFront t (with_points path)) (sym (same_print (path_of m)) ∙ ap with_points none) there) in
-        let above = front_above m f.among written there in
+        let there : IsPrefix (mapping_path m) (with_points path) = subst (λ (t : List ℕ). IsPrefix t (with_points path)) (sym f.named) prefix in
+        let written : path_of m ≢ [] = λ none. prefix_has_name path some plain (subst (λ (t : List ℕ). IsPrefix t (with_points path)) (sym (same_print (path_of m)) ∙ ap with_points none) there) in
+        let above = prefix_above m f.among written there in
         let rest = split_paths (path_of m) (path_of h.mapping) above.inner h.above.inner (sym above.goes_on ∙ h.above.goes_on) (h.nearest m f.among above) in
         let short = longer_text (path_of m) rest.0 in
         let same = ap (λ (p : Path). length (with_points p)) rest.1 in
@@ -92,18 +92,18 @@ module _ (sources : Sources) (unit : List ℕ) (s : SystemTree) (is : IsSystemAt
     pub home_there : (r : List ℕ) → IsMappedTo s path r → IsNearest (resource_at s.mappings) (with_points path) (Some r)
     home_there r h = (
       mapping_path h.mapping,
-      above_front h.mapping h.above,
+      above_prefix h.mapping h.above,
       mapped_there h.mapping h.listed ∙ ap (λ (q : List ℕ). Some q) h.names,
-      λ other front longer. none_longer r h other front longer (resource_at s.mappings other) refl,
+      λ other prefix longer. none_longer r h other prefix longer (resource_at s.mappings other) refl,
     )
 
     pub mapped_to : (r : List ℕ) → IsNearest (resource_at s.mappings) (with_points path) (Some r) → IsMappedTo s path r
-    mapped_to r (front, is_front, has, longer) =
-        let f = found_in mapping_path mapping_home s.mappings front r has in
+    mapped_to r (prefix, is_prefix, has, longer) =
+        let f = found_in mapping_path mapping_home s.mappings prefix r has in
         let m = f.item in
-        let there : IsFront (mapping_path m) (with_points path) = subst (λ (t : List ℕ). IsFront t (with_points path)) (sym f.named) is_front in
-        let written : path_of m ≢ [] = λ none. front_has_name path some plain (subst (λ (t : List ℕ). IsFront t (with_points path)) (sym (same_print (path_of m)) ∙ ap with_points none) there) in
-        let above = front_above m f.among written there in
+        let there : IsPrefix (mapping_path m) (with_points path) = subst (λ (t : List ℕ). IsPrefix t (with_points path)) (sym f.named) is_prefix in
+        let written : path_of m ≢ [] = λ none. prefix_has_name path some plain (subst (λ (t : List ℕ). IsPrefix t (with_points path)) (sym (same_print (path_of m)) ∙ ap with_points none) there) in
+        let above = prefix_above m f.among written there in
         record {
           mapping = m;
           listed = f.among;
@@ -114,7 +114,7 @@ module _ (sources : Sources) (unit : List ℕ) (s : SystemTree) (is : IsSystemAt
                 let more : rest.0 ≢ [] = λ none. (let same = ap length (rest.1 ∙ ap (λ (p : Path). path_of m ++ p) none ∙ append-nil (path_of m)) in omega (arith, same, below)) in
                 let long = longer_text_by (path_of m) rest.0 written more in
                 let same = ap (λ (p : Path). length (with_points p)) rest.1 in
-                let none = longer (mapping_path other) (above_front other other_above) (omega (arith, long, same, ap length f.named, text_length m, text_length other)) in
+                let none = longer (mapping_path other) (above_prefix other other_above) (omega (arith, long, same, ap length f.named, text_length m, text_length other)) in
                 absurd (let yes = mapped_there other listed in let no : None ≡ Some (mapping_home other) = sym none ∙ yes in cc)
             | Prim.no above_it ↦ omega arith
           ];
@@ -123,4 +123,4 @@ module _ (sources : Sources) (unit : List ℕ) (s : SystemTree) (is : IsSystemAt
 
     -- where no mapping is of it or above it
     pub not_mapped : IsNearest (resource_at s.mappings) (with_points path) None → (m : MappingTree) → Contains s.mappings m → ¬ IsAbove m path
-    not_mapped none m c h = absurd (let no : None ≡ Some (mapping_home m) = sym (none (mapping_path m) (above_front m h)) ∙ mapped_there m c in cc)
+    not_mapped none m c h = absurd (let no : None ≡ Some (mapping_home m) = sym (none (mapping_path m) (above_prefix m h)) ∙ mapped_there m c in cc)

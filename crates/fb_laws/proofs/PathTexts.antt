@@ -1,5 +1,5 @@
 -- Paths of names without points and blanks, as texts.
-use Rattle.fb_laws.proofs.Common.{◌≡◌, ◌≢◌, ℕ, ◌<◌, ◌≤◌, ◌==◌, true, false, cond, length, List, [], ◌∷◌, ◌++◌, inl, inr, refl, sym, ap, ◌∙◌, append_assoc, append-nil, length-append, arith, flat_map, eqb-true, printed, IsFront, on_first, path_names, with_points}
+use Rattle.fb_laws.proofs.Common.{◌≡◌, ◌≢◌, ℕ, ◌<◌, ◌≤◌, ◌==◌, true, false, cond, length, List, [], ◌∷◌, ◌++◌, inl, inr, refl, sym, ap, ◌∙◌, append_assoc, append-nil, length-append, arith, flat_map, eqb-true, printed, IsPrefix, on_first, path_names, with_points}
 use Rattle.fb_laws.proofs.PlainNames.{AllPlain, IsPlain}
 
 abbrev Path : Type 0
@@ -37,9 +37,9 @@ unfolding path_names
 names_none = refl
 
 -- a name, and what stands behind a point
-front_name : (name rest : List ℕ) → AllPlain name → path_names (name ++ 46 ∷ rest) ≡ name ∷ path_names rest
-front_name [] rest h = names_behind rest
-front_name (b ∷ bs) rest h = names_on b (bs ++ 46 ∷ rest) h.0 ∙ ap (on_first b) (front_name bs rest h.2)
+prefix_name : (name rest : List ℕ) → AllPlain name → path_names (name ++ 46 ∷ rest) ≡ name ∷ path_names rest
+prefix_name [] rest h = names_behind rest
+prefix_name (b ∷ bs) rest h = names_on b (bs ++ 46 ∷ rest) h.0 ∙ ap (on_first b) (prefix_name bs rest h.2)
 
 last_name : (name : List ℕ) → AllPlain name → path_names name ≡ name ∷ []
 last_name [] h = names_none
@@ -47,15 +47,15 @@ last_name (b ∷ bs) h = names_on b bs h.0 ∙ ap (on_first b) (last_name bs h.2
 
 names_of : (first : List ℕ) (others : Path) → ArePlain (first ∷ others) → path_names (with_points (first ∷ others)) ≡ first ∷ others
 names_of first [] h = ap path_names (append-nil first) ∙ last_name first h.0.bytes
-names_of first (next ∷ others) h = front_name first (with_points (next ∷ others)) h.0.bytes ∙ ap (λ (names : Path). first ∷ names) (names_of next others h.1)
+names_of first (next ∷ others) h = prefix_name first (with_points (next ∷ others)) h.0.bytes ∙ ap (λ (names : Path). first ∷ names) (names_of next others h.1)
 
 -- a text of names, and what stands behind a point
-front_names : (first : List ℕ) (others : Path) (rest : List ℕ) → ArePlain (first ∷ others) → path_names (with_points (first ∷ others) ++ 46 ∷ rest) ≡ (first ∷ others) ++ path_names rest
-front_names first [] rest h = ap (λ (t : List ℕ). path_names (t ++ 46 ∷ rest)) (append-nil first) ∙ front_name first rest h.0.bytes
-front_names first (next ∷ others) rest h =
+prefix_names : (first : List ℕ) (others : Path) (rest : List ℕ) → ArePlain (first ∷ others) → path_names (with_points (first ∷ others) ++ 46 ∷ rest) ≡ (first ∷ others) ++ path_names rest
+prefix_names first [] rest h = ap (λ (t : List ℕ). path_names (t ++ 46 ∷ rest)) (append-nil first) ∙ prefix_name first rest h.0.bytes
+prefix_names first (next ∷ others) rest h =
     ap path_names (append_assoc first (46 ∷ with_points (next ∷ others)) (46 ∷ rest))
-    ∙ front_name first (with_points (next ∷ others) ++ 46 ∷ rest) h.0.bytes
-    ∙ ap (λ (names : Path). first ∷ names) (front_names next others rest h.1)
+    ∙ prefix_name first (with_points (next ∷ others) ++ 46 ∷ rest) h.0.bytes
+    ∙ ap (λ (names : Path). first ∷ names) (prefix_names next others rest h.1)
 
 -- ---- paths that go on from others
 
@@ -70,19 +70,19 @@ no_point_first [] others rest plain e = plain.some refl
 no_point_first (b ∷ bs) others rest plain e = plain.bytes.0 (let same : b ≡ 46 = cc in same)
 
 -- a text that stands in front of a path by whole names has names
-pub front_has_name : (path : Path) → path ≢ [] → ArePlain path → ¬ IsFront [] (with_points path)
-front_has_name [] some plain front = some refl
-front_has_name (first ∷ others) some plain (inl e) = not_empty first others plain.0 e
-front_has_name (first ∷ others) some plain (inr (rest, e)) = no_point_first first others rest plain.0 e
+pub prefix_has_name : (path : Path) → path ≢ [] → ArePlain path → ¬ IsPrefix [] (with_points path)
+prefix_has_name [] some plain prefix = some refl
+prefix_has_name (first ∷ others) some plain (inl e) = not_empty first others plain.0 e
+prefix_has_name (first ∷ others) some plain (inr (rest, e)) = no_point_first first others rest plain.0 e
 
-goes_on_from : (a : List ℕ) (others : Path) (first : List ℕ) (more : Path) → ArePlain (a ∷ others) → ArePlain (first ∷ more) → IsFront (with_points (a ∷ others)) (with_points (first ∷ more)) → (inner : Path) × (first ∷ more ≡ (a ∷ others) ++ inner)
+goes_on_from : (a : List ℕ) (others : Path) (first : List ℕ) (more : Path) → ArePlain (a ∷ others) → ArePlain (first ∷ more) → IsPrefix (with_points (a ∷ others)) (with_points (first ∷ more)) → (inner : Path) × (first ∷ more ≡ (a ∷ others) ++ inner)
 goes_on_from a others first more plain whole (inl e) = ([], sym (names_of first more whole) ∙ ap path_names e ∙ names_of a others plain ∙ sym (append-nil (a ∷ others)))
-goes_on_from a others first more plain whole (inr (rest, e)) = (path_names rest, sym (names_of first more whole) ∙ ap path_names e ∙ front_names a others rest plain)
+goes_on_from a others first more plain whole (inr (rest, e)) = (path_names rest, sym (names_of first more whole) ∙ ap path_names e ∙ prefix_names a others rest plain)
 
-pub goes_on : (a whole : Path) → a ≢ [] → whole ≢ [] → ArePlain a → ArePlain whole → IsFront (with_points a) (with_points whole) → (inner : Path) × (whole ≡ a ++ inner)
-goes_on [] whole some there plain all front = absurd (some refl)
-goes_on (x ∷ xs) [] some there plain all front = absurd (there refl)
-goes_on (x ∷ xs) (y ∷ ys) some there plain all front = goes_on_from x xs y ys plain all front
+pub goes_on : (a whole : Path) → a ≢ [] → whole ≢ [] → ArePlain a → ArePlain whole → IsPrefix (with_points a) (with_points whole) → (inner : Path) × (whole ≡ a ++ inner)
+goes_on [] whole some there plain all prefix = absurd (some refl)
+goes_on (x ∷ xs) [] some there plain all prefix = absurd (there refl)
+goes_on (x ∷ xs) (y ∷ ys) some there plain all prefix = goes_on_from x xs y ys plain all prefix
 
 -- the names behind a path, each with its point
 points_append : (first : List ℕ) (others inner : Path) → with_points ((first ∷ others) ++ inner) ≡ with_points (first ∷ others) ++ flat_map (λ (name : List ℕ). 46 ∷ name) inner
@@ -91,10 +91,10 @@ points_append first (next ∷ others) inner =
     ap (λ (rest : List ℕ). first ++ 46 ∷ rest) (points_append next others inner)
     ∙ sym (append_assoc first (46 ∷ with_points (next ∷ others)) (flat_map (λ (name : List ℕ). 46 ∷ name) inner))
 
-pub front_of : (a inner : Path) → a ≢ [] → IsFront (with_points a) (with_points (a ++ inner))
-front_of [] inner some = absurd (some refl)
-front_of (first ∷ others) [] some = inl (ap with_points (append-nil (first ∷ others)))
-front_of (first ∷ others) (name ∷ names) some = inr (name ++ flat_map (λ (n : List ℕ). 46 ∷ n) names, points_append first others (name ∷ names))
+pub prefix_of : (a inner : Path) → a ≢ [] → IsPrefix (with_points a) (with_points (a ++ inner))
+prefix_of [] inner some = absurd (some refl)
+prefix_of (first ∷ others) [] some = inl (ap with_points (append-nil (first ∷ others)))
+prefix_of (first ∷ others) (name ∷ names) some = inr (name ++ flat_map (λ (n : List ℕ). 46 ∷ n) names, points_append first others (name ∷ names))
 
 -- of two paths that one goes on from, the one with more names is the longer text
 pub split_paths : (a b : Path) (inner more : Path) → a ++ inner ≡ b ++ more → length a ≤ length b → (rest : Path) × (b ≡ a ++ rest)

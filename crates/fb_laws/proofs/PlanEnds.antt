@@ -1,5 +1,5 @@
 -- Each end of a link of a flat network is that of a block.
-use Rattle.fb_laws.proofs.Common.{ℕ, ◌≡◌, List, [], ◌∷◌, ◌++◌, Some, ◌⊎◌, inl, inr, sym, ◌∙◌, ap, subst, map, append_assoc, Contains-append_left, Contains-append_right, name_cmp, contains_cases, contains_flat_map, contains_here, contains_later, contains_map, contains_nothing, passes_in_find, Sources, Sort, FlatBlock, Link, Instance, InstanceKind, IsFlat, AreBlocks, AreInstances, Held, NoInstance, ThenBlock, ThenSubapplication, held_as, held_within, leaf_first, leaves_of, BlockPort, IsLeafPlace, LeafWithin, Place, View, dotted, PlainNetwork, PlainFlat, printed, HasFlat, AreFlatApplications, IsUnitFlat, NoApplication, OfSubapplication, OfSystem, ThenApplication, Application, block_within, IsSystemFlat, application_blocks, FlatApplication, IsFront}
+use Rattle.fb_laws.proofs.Common.{ℕ, ◌≡◌, List, [], ◌∷◌, ◌++◌, Some, ◌⊎◌, inl, inr, sym, ◌∙◌, ap, subst, map, append_assoc, Contains-append_left, Contains-append_right, name_cmp, contains_cases, contains_flat_map, contains_here, contains_later, contains_map, contains_nothing, passes_in_find, Sources, Sort, FlatBlock, Link, Instance, InstanceKind, IsFlat, AreBlocks, AreInstances, Held, NoInstance, ThenBlock, ThenSubapplication, held_as, held_within, leaf_first, leaves_of, BlockPort, IsLeafPlace, LeafWithin, Place, View, dotted, PlainNetwork, PlainFlat, printed, HasFlat, AreFlatApplications, IsUnitFlat, NoApplication, OfSubapplication, OfSystem, ThenApplication, Application, block_within, IsSystemFlat, application_blocks, FlatApplication, IsPrefix}
 use Rattle.std.specs.Prelude.{Contains}
 use Rattle.std.specs.BTreeMap.{is_at}
 use Rattle.fb_wiring.proofs.Network.Equals.{same_bytes}
@@ -27,8 +27,8 @@ record InnerHeld (view : View) (inner : PlainNetwork) (held : List Held) (name :
   instances : AreInstances view inner.instances own
   within : (h : Held) → Contains own h → Contains held (held_within name h)
 
-more_held : {view : View} {inner : PlainNetwork} {name : List ℕ} (front back : List Held) → InnerHeld view inner back name → InnerHeld view inner (front ++ back) name
-more_held {name = name} front back o = record { own = o.own; instances = o.instances; within = λ h c. Contains-append_right front back (held_within name h) (o.within h c) }
+more_held : {view : View} {inner : PlainNetwork} {name : List ℕ} (prefix back : List Held) → InnerHeld view inner back name → InnerHeld view inner (prefix ++ back) name
+more_held {name = name} prefix back o = record { own = o.own; instances = o.instances; within = λ h c. Contains-append_right prefix back (held_within name h) (o.within h c) }
 
 inner_of_block : {view : View} {inner : PlainNetwork} (z i : Instance) (rest : List Instance) (others : List Held) → z.kind ≡ Block → i.kind ≡ Subapplication → (z ≡ i) ⊎ Contains rest i → (Contains rest i → InnerHeld view inner others i.name) → InnerHeld view inner (held_as z ∷ others) i.name
 inner_of_block z i rest others k g (inl same) more = absurd (let kinds = ap (λ (w : Instance). w.kind) same in cc)
@@ -102,28 +102,28 @@ leaf_listed (h ∷ hs) path typed c =
 
 -- ---- blocks in front of ends
 
-pub record HasFront (blocks : List FlatBlock) (end : List ℕ) : Type 0 where
+pub record HasPrefix (blocks : List FlatBlock) (end : List ℕ) : Type 0 where
   pub block : FlatBlock
   pub listed : Contains blocks block
-  pub front : IsFront block.path end
+  pub prefix : IsPrefix block.path end
 
 module _ {view : View} {network : PlainNetwork} {blocks : List FlatBlock} (are : AreBlocks view network blocks) where
   at_held : {a : Place} (o : IsHeldAt are.held a) → Contains blocks (record { path = printed (o.first ∷ o.others); type_name = o.typed })
   at_held o = subst (λ (l : List FlatBlock). Contains l (record { path = printed (o.first ∷ o.others); type_name = o.typed })) (sym are.blocks_are) (leaf_listed are.held (o.first ∷ o.others) o.typed o.listed)
 
-  leaf_front : {a : Place} → IsLeafPlace view network a → HasFront blocks (printed a)
-  leaf_front leaf =
+  leaf_prefix : {a : Place} → IsLeafPlace view network a → HasPrefix blocks (printed a)
+  leaf_prefix leaf =
       let o = leaf_held leaf are.held are.instances in
-      record { block = record { path = printed (o.first ∷ o.others); type_name = o.typed }; listed = at_held o; front = inr (o.port, ap printed o.place ∙ printed-push o.first o.others o.port) }
+      record { block = record { path = printed (o.first ∷ o.others); type_name = o.typed }; listed = at_held o; prefix = inr (o.port, ap printed o.place ∙ printed-push o.first o.others o.port) }
 
   -- a port of a plug or a socket
-  port_front : {a : Place} (port : List ℕ) → IsLeafPlace view network a → HasFront blocks (printed (a ++ port ∷ []))
-  port_front port leaf =
+  port_prefix : {a : Place} (port : List ℕ) → IsLeafPlace view network a → HasPrefix blocks (printed (a ++ port ∷ []))
+  port_prefix port leaf =
       let o = leaf_held leaf are.held are.instances in
       record {
         block = record { path = printed (o.first ∷ o.others); type_name = o.typed };
         listed = at_held o;
-        front = inr (
+        prefix = inr (
           o.port ++ 46 ∷ port,
           ap (λ (a : Place). printed (a ++ port ∷ [])) o.place
               ∙ printed-push o.first (o.others ++ o.port ∷ []) port
@@ -132,22 +132,22 @@ module _ {view : View} {network : PlainNetwork} {blocks : List FlatBlock} (are :
         );
       }
 
-  link_fronts : {sort : Sort} {a b : Place} → IsNetLink view network sort a b → HasFront blocks (printed a) × HasFront blocks (printed b)
-  link_fronts (Direct other link) = (leaf_front link.from_leaf, leaf_front link.to_leaf)
-  link_fronts (FromPlug plug socket adapter port link at c sort side from to) = (
-    subst (λ (p : Place). HasFront blocks (printed p)) (sym from) (port_front port.name link.from_leaf),
-    subst (λ (p : Place). HasFront blocks (printed p)) (sym to) (port_front port.name link.to_leaf),
+  link_prefixes : {sort : Sort} {a b : Place} → IsNetLink view network sort a b → HasPrefix blocks (printed a) × HasPrefix blocks (printed b)
+  link_prefixes (Direct other link) = (leaf_prefix link.from_leaf, leaf_prefix link.to_leaf)
+  link_prefixes (FromPlug plug socket adapter port link at c sort side from to) = (
+    subst (λ (p : Place). HasPrefix blocks (printed p)) (sym from) (port_prefix port.name link.from_leaf),
+    subst (λ (p : Place). HasPrefix blocks (printed p)) (sym to) (port_prefix port.name link.to_leaf),
   )
-  link_fronts (ToPlug plug socket adapter port link at c sort side from to) = (
-    subst (λ (p : Place). HasFront blocks (printed p)) (sym from) (port_front port.name link.to_leaf),
-    subst (λ (p : Place). HasFront blocks (printed p)) (sym to) (port_front port.name link.from_leaf),
+  link_prefixes (ToPlug plug socket adapter port link at c sort side from to) = (
+    subst (λ (p : Place). HasPrefix blocks (printed p)) (sym from) (port_prefix port.name link.to_leaf),
+    subst (λ (p : Place). HasPrefix blocks (printed p)) (sym to) (port_prefix port.name link.from_leaf),
   )
 
-flat_fronts : {view : View} {network : PlainNetwork} {flat : PlainFlat} → IsFlat view network flat → (link : Link) → Contains flat.links link → HasFront flat.blocks link.from × HasFront flat.blocks link.to
-flat_fronts {flat = flat} is link c =
+flat_prefixes : {view : View} {network : PlainNetwork} {flat : PlainFlat} → IsFlat view network flat → (link : Link) → Contains flat.links link → HasPrefix flat.blocks link.from × HasPrefix flat.blocks link.to
+flat_prefixes {flat = flat} is link c =
     let l = is.links.sound link c in
-    let ends = link_fronts is.blocks l.link in
-    (subst (λ (t : List ℕ). HasFront flat.blocks t) (sym l.from_is) ends.0, subst (λ (t : List ℕ). HasFront flat.blocks t) (sym l.to_is) ends.1)
+    let ends = link_prefixes is.blocks l.link in
+    (subst (λ (t : List ℕ). HasPrefix flat.blocks t) (sym l.from_is) ends.0, subst (λ (t : List ℕ). HasPrefix flat.blocks t) (sym l.to_is) ends.1)
 
 -- ---- the ends of a unit's links
 
@@ -161,30 +161,30 @@ application_flat NoApplication f c = absurd (contains_nothing f c)
 application_flat {view = view} (ThenApplication {others = others} a z is more) f c =
     elim (contains_cases z others f c) [ inl same ↦ subst (λ (w : FlatApplication). IsOfApplication view w) same (record { network = a.network; is = is.net }) | inr d ↦ application_flat more f d ]
 
-front_within : (name front path : List ℕ) → IsFront front path → IsFront (dotted name front) (dotted name path)
-front_within name front path (inl e) = inl (ap (dotted name) e)
-front_within name front path (inr (rest, e)) = inr (rest, ap (dotted name) e ∙ sym (append_assoc name (46 ∷ front) (46 ∷ rest)))
+prefix_within : (name prefix path : List ℕ) → IsPrefix prefix path → IsPrefix (dotted name prefix) (dotted name path)
+prefix_within name prefix path (inl e) = inl (ap (dotted name) e)
+prefix_within name prefix path (inr (rest, e)) = inr (rest, ap (dotted name) e ∙ sym (append_assoc name (46 ∷ prefix) (46 ∷ rest)))
 
-fronts_within : (flats : List FlatApplication) (flat : PlainFlat) → IsSystemFlat flats flat → (f : FlatApplication) → Contains flats f → (end : List ℕ) → HasFront f.flat.blocks end → HasFront flat.blocks (dotted f.name end)
-fronts_within flats flat whole f c end h = record {
+prefixes_within : (flats : List FlatApplication) (flat : PlainFlat) → IsSystemFlat flats flat → (f : FlatApplication) → Contains flats f → (end : List ℕ) → HasPrefix f.flat.blocks end → HasPrefix flat.blocks (dotted f.name end)
+prefixes_within flats flat whole f c end h = record {
   block = block_within f.name h.block;
   listed =
       subst (λ (l : List FlatBlock). Contains l (block_within f.name h.block)) (sym whole.blocks)
       (contains_flat_map application_blocks flats f (block_within f.name h.block) c (contains_map (block_within f.name) f.flat.blocks h.block h.listed));
-  front = front_within f.name h.block.path end h.front;
+  prefix = prefix_within f.name h.block.path end h.prefix;
 }
 
-system_fronts : {view : View} {applications : List Application} {flats : List FlatApplication} {flat : PlainFlat} → AreFlatApplications view applications flats → IsSystemFlat flats flat → (link : Link) → Contains flat.links link → HasFront flat.blocks link.from × HasFront flat.blocks link.to
-system_fronts {flats = flats} {flat = flat} are whole link c =
+system_prefixes : {view : View} {applications : List Application} {flats : List FlatApplication} {flat : PlainFlat} → AreFlatApplications view applications flats → IsSystemFlat flats flat → (link : Link) → Contains flat.links link → HasPrefix flat.blocks link.from × HasPrefix flat.blocks link.to
+system_prefixes {flats = flats} {flat = flat} are whole link c =
     let l = (whole.links link).0 c in
-    let ends = flat_fronts (application_flat are l.application l.among).is l.own l.is_own in (
-      subst (λ (w : Link). HasFront flat.blocks w.from) (sym l.inside) (fronts_within flats flat whole l.application l.among l.own.from ends.0),
-      subst (λ (w : Link). HasFront flat.blocks w.to) (sym l.inside) (fronts_within flats flat whole l.application l.among l.own.to ends.1),
+    let ends = flat_prefixes (application_flat are l.application l.among).is l.own l.is_own in (
+      subst (λ (w : Link). HasPrefix flat.blocks w.from) (sym l.inside) (prefixes_within flats flat whole l.application l.among l.own.from ends.0),
+      subst (λ (w : Link). HasPrefix flat.blocks w.to) (sym l.inside) (prefixes_within flats flat whole l.application l.among l.own.to ends.1),
     )
 
-unit_fronts : (sources : Sources) (unit : List ℕ) (flat : PlainFlat) → IsUnitFlat sources unit flat → (link : Link) → Contains flat.links link → HasFront flat.blocks link.from × HasFront flat.blocks link.to
-unit_fronts sources unit flat (OfSubapplication network kind there net) link c = flat_fronts net link c
-unit_fronts sources unit flat (OfSystem applications flats kind there are net) link c = system_fronts are net link c
+unit_prefixes : (sources : Sources) (unit : List ℕ) (flat : PlainFlat) → IsUnitFlat sources unit flat → (link : Link) → Contains flat.links link → HasPrefix flat.blocks link.from × HasPrefix flat.blocks link.to
+unit_prefixes sources unit flat (OfSubapplication network kind there net) link c = flat_prefixes net link c
+unit_prefixes sources unit flat (OfSystem applications flats kind there are net) link c = system_prefixes are net link c
 
-pub net_fronts : (sources : Sources) (unit : List ℕ) (flat : PlainFlat) → HasFlat sources unit flat → (link : Link) → Contains flat.links link → HasFront flat.blocks link.from × HasFront flat.blocks link.to
-net_fronts sources unit flat is link c = unit_fronts sources unit flat is.2 link c
+pub net_prefixes : (sources : Sources) (unit : List ℕ) (flat : PlainFlat) → HasFlat sources unit flat → (link : Link) → Contains flat.links link → HasPrefix flat.blocks link.from × HasPrefix flat.blocks link.to
+net_prefixes sources unit flat is link c = unit_prefixes sources unit flat is.2 link c

@@ -6,10 +6,10 @@ in_either [] ys k y e = inr (k, (let start : k ≡ 0 + k = omega arith in start)
 in_either (x ∷ xs) ys zero y e = inl e
 in_either (x ∷ xs) ys (suc k) y e = elim (in_either xs ys k y e) [ inl h ↦ inl h | inr o ↦ let number : k ≡ length xs + o.0 = o.1 in inr (o.0, omega (arith, number), o.2) ]
 
-in_front : {Y : Type 0} (xs ys : List Y) (k : ℕ) (y : Y) → slice_get xs k ≡ Some y → slice_get (xs ++ ys) k ≡ Some y
-in_front [] ys k y e = absurd (let no : ⊥ = cc in no)
-in_front (x ∷ xs) ys zero y e = e
-in_front (x ∷ xs) ys (suc k) y e = in_front xs ys k y e
+in_prefix : {Y : Type 0} (xs ys : List Y) (k : ℕ) (y : Y) → slice_get xs k ≡ Some y → slice_get (xs ++ ys) k ≡ Some y
+in_prefix [] ys k y e = absurd (let no : ⊥ = cc in no)
+in_prefix (x ∷ xs) ys zero y e = e
+in_prefix (x ∷ xs) ys (suc k) y e = in_prefix xs ys k y e
 
 behind : {Y : Type 0} (xs ys : List Y) (j : ℕ) → slice_get (xs ++ ys) (length xs + j) ≡ slice_get ys j
 behind [] ys j = let start : 0 + j ≡ j = omega arith in ap (slice_get ys) start
@@ -55,7 +55,7 @@ module _ {X Y : Type 0} (f : X → List Y) where
   at_number (x ∷ xs) zero column y o =
       let h = o.row_there in
       let here : x ≡ o.item = cc in
-      in_front (f x) (flat_map f xs) column y (subst (λ (z : X). slice_get (f z) column ≡ Some y) (sym here) o.there)
+      in_prefix (f x) (flat_map f xs) column y (subst (λ (z : X). slice_get (f z) column ≡ Some y) (sym here) o.there)
   at_number (x ∷ xs) (suc row) column y o = behind (f x) (flat_map f xs) (number_of xs row column) ∙ at_number xs row column y (record { item = o.item; row_there = o.row_there; there = o.there })
 
   rows_in_turn : (xs : List X) (row column row' column' : ℕ) (y : Y) → IsAt xs row column y → row < row' → number_of xs row column < number_of xs row' column'

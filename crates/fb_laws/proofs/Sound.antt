@@ -3,7 +3,7 @@ use Rattle.fb_laws.proofs.Common.{refl, ◌≡◌, inl, inr, List, [], ◌∷◌
 use Rattle.std.specs.Prelude.{Bool, true, false, ◌||◌}
 use Rattle.fb_sections.specs.Sections.{section, optional_name}
 use Rattle.fb_laws.proofs.Filling.{Filled, filled_as, filled_token, filled_name}
-use Rattle.fb_laws.proofs.Tokens.{Each, each_append, each_front, each_rest, each_left, each_right, written_whole}
+use Rattle.fb_laws.proofs.Tokens.{Each, each_append, each_prefix, each_rest, each_left, each_right, written_whole}
 
 pub record Sound {A : Type 0} (x : Form A) (parts : A → List Part) : Type 0 where
   pub stands : (us : List Lexeme) (v : A) → Spells x us v → Each (IsWritten us) (parts v)
@@ -123,7 +123,7 @@ each_none P ps h = each_append P ps [] h tt
 -- the parts of the items of two lists
 pub each_items : {A : Type 0} (P : Part → Type 0) (f : A → List Part) (xs ys : List A) → Each P (flat_map f xs) → Each P (flat_map f ys) → Each P (flat_map f (xs ++ ys))
 each_items P f [] ys h k = k
-each_items P f (x ∷ xs) ys h k = each_append P (f x) (flat_map f (xs ++ ys)) (each_front P (f x) (flat_map f xs) h) (each_items P f xs ys (each_rest P (f x) (flat_map f xs) h) k)
+each_items P f (x ∷ xs) ys h k = each_append P (f x) (flat_map f (xs ++ ys)) (each_prefix P (f x) (flat_map f xs) h) (each_items P f xs ys (each_rest P (f x) (flat_map f xs) h) k)
 
 -- Kinds in lists
 

@@ -97,14 +97,14 @@ module _ (s : SystemTree) where
   abbrev device_spaces : List (List NameUse)
   device_spaces = map resource_names s.devices
 
-  told_front : (space : List NameUse) → Contains (app_names ∷ app_spaces) space → Contains (system_spaces s) space
-  told_front space c = Contains-append_left (app_names ∷ app_spaces) (device_names ∷ device_spaces) space c
+  told_prefix : (space : List NameUse) → Contains (app_names ∷ app_spaces) space → Contains (system_spaces s) space
+  told_prefix space c = Contains-append_left (app_names ∷ app_spaces) (device_names ∷ device_spaces) space c
 
   told_back : (space : List NameUse) → Contains (device_names ∷ device_spaces) space → Contains (system_spaces s) space
   told_back space c = Contains-append_right (app_names ∷ app_spaces) (device_names ∷ device_spaces) space c
 
   told_application : (a : ApplicationTree) → Contains s.applications a → (space : List NameUse) → Contains (network_spaces a.network) space → Contains (system_spaces s) space
-  told_application a among space c = told_front space (contains_later app_names app_spaces space (contains_flat_map (λ (x : ApplicationTree). network_spaces x.network) s.applications a space among c))
+  told_application a among space c = told_prefix space (contains_later app_names app_spaces space (contains_flat_map (λ (x : ApplicationTree). network_spaces x.network) s.applications a space among c))
 
   known_system : (space : List NameUse) → Contains (system_spaces s) space → IsSpaceOrNone (system_configuration s) space
   known_system space c = by (Contains-append_cases (app_names ∷ app_spaces) (device_names ∷ device_spaces) space c)
@@ -150,7 +150,7 @@ told_space decl space (instances {type = d} is) = of_type decl d is (instance_na
 told_space decl space (states {type = d} is) = of_type decl d is (state_names d) (told_chart decl d is (state_names d) (contains_here (state_names d) (algorithm_names d ∷ [])))
 told_space decl space (algorithms {type = d} is) = of_type decl d is (algorithm_names d) (told_chart decl d is (algorithm_names d) (contains_later (state_names d) (algorithm_names d ∷ []) (algorithm_names d) (contains_here (algorithm_names d) [])))
 told_space decl space (fields s) = contains_here (field_names s) []
-told_space decl space (applications s) = told_front s (app_names s) (contains_here (app_names s) (app_spaces s))
+told_space decl space (applications s) = told_prefix s (app_names s) (contains_here (app_names s) (app_spaces s))
 told_space decl space (instances_of_application {s = s} {application = a} among) = told_application s a among (instance_names a.network) (contains_here (instance_names a.network) (map parameter_names a.network.instances))
 told_space decl space (devices s) = told_back s (device_names s) (contains_here (device_names s) (device_spaces s))
 told_space decl space (resources {s = s} {device = d} among) = told_back s (resource_names d) (contains_later (device_names s) (device_spaces s) (resource_names d) (contains_map resource_names s.devices d among))

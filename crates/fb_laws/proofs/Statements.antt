@@ -1,6 +1,6 @@
 -- The parts of statements, at each level.
 use Rattle.fb_laws.proofs.Common.{ℕ, ◌≤◌, arith, zero, suc, List, [], ◌∷◌, ◌++◌, flat_map, Form, many, cons, name, Kind, Assign, Expression, reference_expression, Statement, statements_of, arms_of, levels, expression, reference, statement, simple_statement, assignment_statement, enclosed, announced, otherwise, arm, arms, if_statement, case, cases, case_statement, for_statement, while_statement, repeat_statement, nested_statement, Part, mark_part, name_parts, option_parts, expression_parts, statement_parts, statements_parts, arms_parts, mark_part}
-use Rattle.fb_laws.proofs.Tokens.{Each, each_append, each_front, each_rest}
+use Rattle.fb_laws.proofs.Tokens.{Each, each_append, each_prefix, each_rest}
 use Rattle.fb_laws.proofs.Sound.{Sound, sound_nothing, sound_both, sound_as, sound_either, sound_option, sound_many, sound_behind, sound_before, sound_optional_list, sound_section, sound_mark, sound_name, sound_same, each_items}
 use Rattle.fb_laws.proofs.ExpressionSpans.{sound_expression, sound_reference}
 
@@ -14,7 +14,7 @@ each_statements P [] h = tt
 each_statements P (s ∷ ss) h =
     let first = statement_parts s in
     let others = flat_map statement_parts ss in
-    each_append P first (block_parts ss) (each_front P first others h) (each_statements P ss (each_rest P first others h))
+    each_append P first (block_parts ss) (each_prefix P first others h) (each_statements P ss (each_rest P first others h))
 
 abbrev arm_parts : Expression × List Statement → List Part
 arm_parts a = expression_parts a.0 ++ block_parts a.1
@@ -24,7 +24,7 @@ each_arms P [] h = tt
 each_arms P (a ∷ others) h =
     let first = arm_parts a in
     let rest = flat_map arm_parts others in
-    each_append P first (arms_parts (arms_of others)) (each_front P first rest h) (each_arms P others (each_rest P first rest h))
+    each_append P first (arms_parts (arms_of others)) (each_prefix P first rest h) (each_arms P others (each_rest P first rest h))
 
 -- statements in several lists
 each_joined : (P : Part → Type 0) (all : List (List Statement)) → Each P (flat_map (flat_map statement_parts) all) → Each P (flat_map statement_parts (flat_map (λ ss. ss) all))
@@ -32,7 +32,7 @@ each_joined P [] h = tt
 each_joined P (ss ∷ others) h =
     let first = flat_map statement_parts ss in
     let rest = flat_map (flat_map statement_parts) others in
-    each_items P statement_parts ss (flat_map (λ s. s) others) (each_front P first rest h) (each_joined P others (each_rest P first rest h))
+    each_items P statement_parts ss (flat_map (λ s. s) others) (each_prefix P first rest h) (each_joined P others (each_rest P first rest h))
 
 -- statements one behind the other, kept as a block
 sound_block : (x : Form (List Statement)) → Sound x (flat_map statement_parts) → Sound x block_parts

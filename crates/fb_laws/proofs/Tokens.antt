@@ -58,9 +58,9 @@ pub each_append : (P : Part → Type 0) (ps qs : List Part) → Each P ps → Ea
 each_append P [] qs h k = k
 each_append P (p ∷ ps) qs h k = (h.0, each_append P ps qs h.1 k)
 
-pub each_front : (P : Part → Type 0) (ps qs : List Part) → Each P (ps ++ qs) → Each P ps
-each_front P [] qs h = tt
-each_front P (p ∷ ps) qs h = (h.0, each_front P ps qs h.1)
+pub each_prefix : (P : Part → Type 0) (ps qs : List Part) → Each P (ps ++ qs) → Each P ps
+each_prefix P [] qs h = tt
+each_prefix P (p ∷ ps) qs h = (h.0, each_prefix P ps qs h.1)
 
 pub each_rest : (P : Part → Type 0) (ps qs : List Part) → Each P (ps ++ qs) → Each P qs
 each_rest P [] qs h = h

@@ -3,7 +3,7 @@ use Rattle.fb_laws.proofs.Common.{List, [], ◌∷◌, ◌++◌, flat_map, NameU
 use Rattle.fb_deploy.specs.Parse.Contents.{ContentsTree, of_events, of_variables, of_adapters, of_instances, of_connections, of_states, of_transitions, of_algorithm, interfaces_merged, networks_merged, charts_merged, merged, joined}
 use Rattle.fb_deploy.specs.Parse.Grammar.{data_section, service_section, interface_section, network_section, chart_section, block_section, adapter_section, application_section, subapplication_section, framed, type_of, block, adapter, subapplication, application_of, application, system_section, system, structure, unit}
 use Rattle.fb_deploy.specs.Parse.SystemContents.{SystemContentsTree, of_application, of_device, of_mappings, system_joined}
-use Rattle.fb_laws.proofs.Tokens.{Each, each_append, each_front, each_rest}
+use Rattle.fb_laws.proofs.Tokens.{Each, each_append, each_prefix, each_rest}
 use Rattle.fb_laws.proofs.Sound.{Sound, sound_nothing, sound_both, sound_as, sound_either, sound_many, sound_behind, sound_before, sound_name, sound_same, each_none, each_items}
 use Rattle.fb_laws.proofs.Sections.{sound_events, sound_data_variables, sound_internal_variables, sound_fields, sound_plugs, sound_sockets, sound_blocks, sound_subapplications, sound_connections, sound_states, sound_mappings, sound_device}
 use Rattle.fb_laws.proofs.ChartSpans.{sound_transitions, sound_algorithm}
@@ -13,7 +13,7 @@ each_joined : {A B : Type 0} (P : Part → Type 0) (f : A → List Part) (g : B 
     → Each P (flat_map f xs ++ flat_map g zs) → Each P (flat_map f ys ++ flat_map g ws) → Each P (flat_map f (xs ++ ys) ++ flat_map g (zs ++ ws))
 each_joined P f g xs ys zs ws h k =
     each_append P (flat_map f (xs ++ ys)) (flat_map g (zs ++ ws))
-    (each_items P f xs ys (each_front P (flat_map f xs) (flat_map g zs) h) (each_front P (flat_map f ys) (flat_map g ws) k))
+    (each_items P f xs ys (each_prefix P (flat_map f xs) (flat_map g zs) h) (each_prefix P (flat_map f ys) (flat_map g ws) k))
     (each_items P g zs ws (each_rest P (flat_map f xs) (flat_map g zs) h) (each_rest P (flat_map f ys) (flat_map g ws) k))
 
 -- and of items of three kinds
@@ -22,7 +22,7 @@ each_joined_3 : {A B C : Type 0} (P : Part → Type 0) (f : A → List Part) (g 
     → Each P (flat_map f (xs ++ ys) ++ (flat_map g (zs ++ ws) ++ flat_map o (vs ++ us)))
 each_joined_3 P f g o xs ys zs ws vs us h k =
     each_append P (flat_map f (xs ++ ys)) (flat_map g (zs ++ ws) ++ flat_map o (vs ++ us))
-    (each_items P f xs ys (each_front P (flat_map f xs) (flat_map g zs ++ flat_map o vs) h) (each_front P (flat_map f ys) (flat_map g ws ++ flat_map o us) k))
+    (each_items P f xs ys (each_prefix P (flat_map f xs) (flat_map g zs ++ flat_map o vs) h) (each_prefix P (flat_map f ys) (flat_map g ws ++ flat_map o us) k))
     (each_joined P g o zs ws vs us (each_rest P (flat_map f xs) (flat_map g zs ++ flat_map o vs) h) (each_rest P (flat_map f ys) (flat_map g ws ++ flat_map o us) k))
 
 -- Sections
@@ -46,15 +46,15 @@ each_merged P a b h k =
     let h' = each_rest P (interface_parts a.interface) inner_a h in
     let k' = each_rest P (interface_parts b.interface) inner_b k in
     each_append P (interface_parts (interfaces_merged a.interface b.interface)) (network_parts (networks_merged a.network b.network) ++ chart_parts (charts_merged a.chart b.chart))
-    (each_interfaces P a.interface b.interface (each_front P (interface_parts a.interface) inner_a h) (each_front P (interface_parts b.interface) inner_b k))
+    (each_interfaces P a.interface b.interface (each_prefix P (interface_parts a.interface) inner_a h) (each_prefix P (interface_parts b.interface) inner_b k))
     (each_append P (network_parts (networks_merged a.network b.network)) (chart_parts (charts_merged a.chart b.chart))
-    (each_networks P a.network b.network (each_front P (network_parts a.network) (chart_parts a.chart) h') (each_front P (network_parts b.network) (chart_parts b.chart) k'))
+    (each_networks P a.network b.network (each_prefix P (network_parts a.network) (chart_parts a.chart) h') (each_prefix P (network_parts b.network) (chart_parts b.chart) k'))
     (each_charts P a.chart b.chart (each_rest P (network_parts a.network) (chart_parts a.chart) h') (each_rest P (network_parts b.network) (chart_parts b.chart) k')))
 
 each_section : (P : Part → Type 0) (all : List ContentsTree) → Each P (flat_map contents_parts all) → Each P (contents_parts (joined all))
 each_section P [] h = tt
 each_section P (c ∷ others) h =
-    each_merged P c (joined others) (each_front P (contents_parts c) (flat_map contents_parts others) h)
+    each_merged P c (joined others) (each_prefix P (contents_parts c) (flat_map contents_parts others) h)
     (each_section P others (each_rest P (contents_parts c) (flat_map contents_parts others) h))
 
 -- items with nothing behind them
@@ -157,7 +157,7 @@ sound_subapplication = sound_as type_of _ declared_parts (sound_type _ subapplic
 each_network : (P : Part → Type 0) (v : NameUse × ContentsTree) → Each P (framed_parts v) → Each P (application_parts (application_of v))
 each_network P v h =
     let inner = network_parts v.1.network ++ chart_parts v.1.chart in
-    (h.0, each_front P (network_parts v.1.network) (chart_parts v.1.chart) (each_rest P (interface_parts v.1.interface) inner h.1))
+    (h.0, each_prefix P (network_parts v.1.network) (chart_parts v.1.chart) (each_rest P (interface_parts v.1.interface) inner h.1))
 
 sound_application : Sound application application_parts
 unfolding application
@@ -174,7 +174,7 @@ each_system_section P (c ∷ others) h =
     let rest = system_joined others in
     let behind = flat_map system_contents_parts others in
     each_joined_3 P application_parts device_parts mapping_parts c.applications rest.applications c.devices rest.devices c.mappings rest.mappings
-    (each_front P (system_contents_parts c) behind h)
+    (each_prefix P (system_contents_parts c) behind h)
     (each_system_section P others (each_rest P (system_contents_parts c) behind h))
 
 sound_system_section : Sound system_section system_contents_parts

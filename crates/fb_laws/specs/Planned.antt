@@ -1,7 +1,7 @@
 -- Systems with a plan, and where their blocks and the ends of their links stand.
 use Rattle.std.specs.Prelude.{◌≡◌, ◌≤◌, ℕ, false, List, length, Some, Contains}
 use Rattle.fb_laws.specs.Common.{MappingTree, Sources, tree_at, FlatBlock, Link, PlainFlat, HasFlat, leads_nowhere, applications_in, mappings_in, planned, PlainResource, plan_at}
-use Rattle.fb_wiring.specs.Network.Fronts.{IsFront, IsNearest}
+use Rattle.fb_wiring.specs.Network.Prefixes.{IsPrefix, IsNearest}
 use Rattle.fb_placing.specs.Mappings.{names_used, resource_at}
 
 -- the system has this flat network, and its plan has these cut links and these resources with their commands
@@ -18,8 +18,8 @@ IsHome sources system path resource =
 -- the block at an end of a link: its path is the longest of those that stand in front of the end by whole names
 pub record IsBlockAt (blocks : List FlatBlock) (end : List ℕ) (block : FlatBlock) : Type 0 where
   pub listed : Contains blocks block
-  pub front : IsFront block.path end
-  pub longest : (other : FlatBlock) → Contains blocks other → IsFront other.path end
+  pub prefix : IsPrefix block.path end
+  pub longest : (other : FlatBlock) → Contains blocks other → IsPrefix other.path end
       → length other.path ≤ length block.path
 
 -- an end of a link stands on the home of the block at this end

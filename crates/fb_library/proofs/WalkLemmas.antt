@@ -82,10 +82,10 @@ opens_falls next all within name seen pending seen' pending' before opens is =
     omega (arith, falls, more)
 
 -- opening what is next to one name after the other
-pub opens_more : (next : List ℕ → List (List ℕ)) (front now : List (List ℕ)) (x : List ℕ) (seen pending seen' pending' : List (List ℕ)) → now ≡ front ++ x ∷ [] → Opens (flat_map next front) [] [] seen pending → Opens (next x) seen pending seen' pending' → Opens (flat_map next now) [] [] seen' pending'
-opens_more next front now x seen pending seen' pending' is before here =
-    let all : flat_map next now ≡ flat_map next front ++ next x = ap (flat_map next) is ∙ flat_map-append next front (x ∷ []) ∙ ap (λ l. flat_map next front ++ l) (append-nil (next x)) in
-    subst (λ l. Opens l [] [] seen' pending') (sym all) (Opens-both (flat_map next front) (next x) [] [] seen pending seen' pending' before here)
+pub opens_more : (next : List ℕ → List (List ℕ)) (prefix now : List (List ℕ)) (x : List ℕ) (seen pending seen' pending' : List (List ℕ)) → now ≡ prefix ++ x ∷ [] → Opens (flat_map next prefix) [] [] seen pending → Opens (next x) seen pending seen' pending' → Opens (flat_map next now) [] [] seen' pending'
+opens_more next prefix now x seen pending seen' pending' is before here =
+    let all : flat_map next now ≡ flat_map next prefix ++ next x = ap (flat_map next) is ∙ flat_map-append next prefix (x ∷ []) ∙ ap (λ l. flat_map next prefix ++ l) (append-nil (next x)) in
+    subst (λ l. Opens l [] [] seen' pending') (sym all) (Opens-both (flat_map next prefix) (next x) [] [] seen pending seen' pending' before here)
 
 -- ---- what all units mention, which bounds the walk
 

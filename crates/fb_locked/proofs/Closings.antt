@@ -8,8 +8,8 @@ use Rattle.std.proofs.lemmas.List.Sums.{sum_by_more, sum_by-cons}
 use Rattle.std.proofs.lemmas.List.Folds.{list_any_more}
 use Rattle.fb_bench.specs.History.BenchView.{Record, BenchView, all_turns, record_at}
 use Rattle.fb_locked.specs.Seats.{SeatView, ReceiptView}
-use Rattle.fb_locked.specs.declared.close.CloseFault.{CloseFault}
-use Rattle.fb_locked.specs.declared.close.CloseFault.TheVariants.{SeatMissing, SeatDiffers, ReceiptDiffers, ReceiptTwice, Memory}
+use Rattle.fb_locked.specs.declared.close.CloseError.{CloseError}
+use Rattle.fb_locked.specs.declared.close.CloseError.TheVariants.{SeatMissing, SeatDiffers, ReceiptDiffers, ReceiptTwice, Memory}
 use Rattle.fb_locked.specs.Closing.{IsLeast, lesser_of, has_wrong_seat, has_number, times, AreReceiptsRight, IsReceiptRight, AreSeated, AreSeatsRight, IsReceiptFault, IsFirstFault}
 
 -- ---- the least that passes
@@ -108,7 +108,7 @@ some_times n [] some = let bad : false ≡ true = some in cc
 some_times n (c ∷ cs) some = some_at n c cs (c.number == n) refl some (some_times n cs)
 
 -- a fault of the receipts is the first one, where the seats are right
-pub receipt_fault : (callers : ℕ) (bench : BenchView) (seats : List SeatView) (rs : List ReceiptView) (fault : CloseFault) → AreSeated callers bench seats → AreSeatsRight bench seats → IsReceiptFault bench rs fault → IsFirstFault callers bench seats rs fault
+pub receipt_fault : (callers : ℕ) (bench : BenchView) (seats : List SeatView) (rs : List ReceiptView) (fault : CloseError) → AreSeated callers bench seats → AreSeatsRight bench seats → IsReceiptFault bench rs fault → IsFirstFault callers bench seats rs fault
 receipt_fault callers bench seats rs (SeatMissing q) seated right never = absurd never
 receipt_fault callers bench seats rs (SeatDiffers q) seated right never = absurd never
 receipt_fault callers bench seats rs (ReceiptDiffers n) seated right first = (seated, right, first)

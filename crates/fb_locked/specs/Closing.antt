@@ -5,8 +5,8 @@ use Rattle.std.specs.BTreeMap.{BTreeMap}
 use Rattle.fb_bench.specs.History.BenchView.{Record, BenchView, all_turns, record_numbered, turns_of}
 use Rattle.fb_locked.specs.Seats.{SeatView, ReceiptView}
 use Rattle.fb_locked.specs.Book.{is_caller, IsBookOf}
-use Rattle.fb_locked.specs.declared.close.CloseFault.{CloseFault}
-use Rattle.fb_locked.specs.declared.close.CloseFault.TheVariants.{SeatMissing, SeatDiffers, ReceiptDiffers, ReceiptTwice, Memory}
+use Rattle.fb_locked.specs.declared.close.CloseError.{CloseError}
+use Rattle.fb_locked.specs.declared.close.CloseError.TheVariants.{SeatMissing, SeatDiffers, ReceiptDiffers, ReceiptTwice, Memory}
 
 -- a seat of this caller is among the seats
 abbrev pub has_seat : List SeatView → ℕ → Bool
@@ -90,7 +90,7 @@ IsFirstTwice bench receipts k number =
     × (times number (take k receipts) ≡ 1)
 
 -- the first fault of a list of receipts
-abbrev pub IsReceiptFault : BenchView → List ReceiptView → CloseFault → Type 0
+abbrev pub IsReceiptFault : BenchView → List ReceiptView → CloseError → Type 0
 IsReceiptFault bench receipts (SeatMissing q) = ⊥
 IsReceiptFault bench receipts (SeatDiffers q) = ⊥
 IsReceiptFault bench receipts (ReceiptDiffers number) = (k : ℕ) × IsFirstWrong bench receipts k number
@@ -98,7 +98,7 @@ IsReceiptFault bench receipts (ReceiptTwice number) = (k : ℕ) × IsFirstTwice 
 IsReceiptFault bench receipts Memory = ⊥
 
 -- each receipt is right and none comes twice, or this is their first fault
-abbrev pub ChecksReceipts : {R : Type 0} → BenchView → List ReceiptView → Result R CloseFault → Type 0
+abbrev pub ChecksReceipts : {R : Type 0} → BenchView → List ReceiptView → Result R CloseError → Type 0
 ChecksReceipts bench receipts (Ok done) = AreReceiptsRight bench receipts
 ChecksReceipts bench receipts (Err fault) = IsReceiptFault bench receipts fault
 
@@ -108,7 +108,7 @@ IsLeast test None = (q : ℕ) → test q ≡ false
 IsLeast test (Some q) = (test q ≡ true) × ((p : ℕ) → p < q → test p ≡ false)
 
 -- The fault applies, and no earlier one does. Lack of memory is no fault of seats or receipts, and comes after them all.
-abbrev pub IsFirstFault : ℕ → BenchView → List SeatView → List ReceiptView → CloseFault → Type 0
+abbrev pub IsFirstFault : ℕ → BenchView → List SeatView → List ReceiptView → CloseError → Type 0
 IsFirstFault callers bench seats receipts (SeatMissing q) = IsLeast (is_missing callers bench seats) (Some q)
 IsFirstFault callers bench seats receipts (SeatDiffers q) = AreSeated callers bench seats × IsLeast (has_wrong_seat bench seats) (Some q)
 IsFirstFault callers bench seats receipts (ReceiptDiffers number) =
@@ -118,7 +118,7 @@ IsFirstFault callers bench seats receipts (ReceiptTwice number) =
 IsFirstFault callers bench seats receipts Memory = AgreesWith callers bench seats receipts
 
 -- all seats and receipts are right, and these are the counts; or this is what stands first against it
-abbrev pub ChecksAll : ℕ → BenchView → List SeatView → List ReceiptView → Result (BTreeMap ℕ ℕ) CloseFault → Type 0
+abbrev pub ChecksAll : ℕ → BenchView → List SeatView → List ReceiptView → Result (BTreeMap ℕ ℕ) CloseError → Type 0
 ChecksAll callers bench seats receipts (Ok counts) = AgreesWith callers bench seats receipts × IsBookOf counts callers bench
 ChecksAll callers bench seats receipts (Err fault) = IsFirstFault callers bench seats receipts fault
 
@@ -128,5 +128,5 @@ IsCloseOf callers seats receipts bench counts =
     AgreesWith callers bench seats receipts × IsBookOf counts callers bench
 
 -- Of some workbench, for whose callers seats were made, this is the first fault.
-abbrev pub IsFaultOf : ℕ → List SeatView → List ReceiptView → CloseFault → Type 0
+abbrev pub IsFaultOf : ℕ → List SeatView → List ReceiptView → CloseError → Type 0
 IsFaultOf callers seats receipts fault = (bench : BenchView) × IsFirstFault callers bench seats receipts fault

@@ -6,15 +6,15 @@ use Rattle.fb_locked.specs.Closing.{IsLeast}
 use Rattle.fb_locked.specs.Refusals.{refusal_of}
 use Rattle.fb_locked.specs.Seats.{LockedView, SeatView}
 use Rattle.fb_locked.specs.declared.locked.SharedRefused.TheVariants.{HistoryFull}
-use Rattle.fb_locked.specs.declared.resume.ResumeFault.{ResumeFault}
-use Rattle.fb_locked.specs.declared.resume.ResumeFault.TheVariants.{CallersFew, Memory}
+use Rattle.fb_locked.specs.declared.resume.ResumeError.{ResumeError}
+use Rattle.fb_locked.specs.declared.resume.ResumeError.TheVariants.{CallersFew, Memory}
 
 -- a caller with calls, for whom no seat is made
 abbrev pub is_left_out : BenchView → ℕ → ℕ → Bool
 is_left_out bench callers q = nat_lt 0 (all_turns bench q) && not (is_first callers q)
 
 -- why a workbench does not come under a lock: the least such caller, or lack of memory if there is none
-abbrev pub IsResumeFault : BenchView → ℕ → ResumeFault → Type 0
+abbrev pub IsResumeFault : BenchView → ℕ → ResumeError → Type 0
 IsResumeFault bench callers (CallersFew q) = IsLeast (is_left_out bench callers) (Some q)
 IsResumeFault bench callers Memory = IsLeast (is_left_out bench callers) None
 

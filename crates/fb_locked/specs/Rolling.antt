@@ -7,7 +7,7 @@ use Rattle.fb_bench.specs.History.Checkpoints.{checking, checkpointed, ChecksAs}
 use Rattle.fb_bench.specs.History.Limits.{Bounds}
 use Rattle.fb_bench.specs.History.Machine.{ToGiveBack}
 use Rattle.fb_bench.specs.History.BenchView.{Record, BenchView, IsFull, all_turns, last_number, record_numbered, state_of}
-use Rattle.fb_bench.specs.History.declared.answers.CheckpointRefused.{CheckpointRefused}
+use Rattle.fb_bench.specs.History.declared.answers.CheckpointError.{CheckpointError}
 use Rattle.fb_bench.specs.Requests.{job_of}
 use Rattle.fb_locked.specs.Calls.{Keeps, Stays}
 use Rattle.fb_locked.specs.Refusals.{refusal_of, RefusedAs, IsRefusalOf}
@@ -20,7 +20,7 @@ abbrev pub locked_rolled : Bounds → LockedView → LockedView
 locked_rolled limits locked = record locked { bench = checkpointed limits locked.bench }
 
 -- A full history begins anew, and any other one stays as it is. A full one stays where the checkpoint is refused.
-abbrev pub MakesRoom : {T : Type 0} → Bounds → LockedView → Result T CheckpointRefused → LockedView → Type 0
+abbrev pub MakesRoom : {T : Type 0} → Bounds → LockedView → Result T CheckpointError → LockedView → Type 0
 MakesRoom limits old (Ok done) new = (IsFull old.bench.log × (new ≡ locked_rolled limits old)) ⊎ ((IsFull old.bench.log → ⊥) × (new ≡ old))
 MakesRoom limits old (Err refused) new = IsFull old.bench.log × ChecksAs (checking limits old.bench) (Err refused) × (new ≡ old)
 

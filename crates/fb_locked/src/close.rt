@@ -13,7 +13,7 @@ use std::collections::BTreeMap;
 
 /// Why a workbench does not close.
 #[derive(Clone, Copy, PartialEq, Eq, Debug)]
-pub enum CloseFault {
+pub enum CloseError {
     SeatMissing(u32),
     SeatDiffers(u32),
     ReceiptDiffers(u64),
@@ -32,7 +32,7 @@ pub struct Closed {
 /// What a close that is refused hands back.
 #[derive(Drop)]
 pub struct NotClosed<T> {
-    pub fault: CloseFault,
+    pub fault: CloseError,
     pub owner: T,
     pub seats: Vec<Seat>,
 }
@@ -108,20 +108,20 @@ fn check(
     callers: u32,
     seats: &[Seat],
     receipts: &[Receipt],
-) -> Result<BTreeMap<u32, u64>, CloseFault>
+) -> Result<BTreeMap<u32, u64>, CloseError>
     ensures { ChecksAll callers bench.now seats.now receipts.now result }
 {
     if let Some(caller) = missing_seat(bench, callers, seats) {
-        return Err(CloseFault::SeatMissing(caller));
+        return Err(CloseError::SeatMissing(caller));
     }
     if let Some(caller) = wrong_seat(bench, seats) {
-        return Err(CloseFault::SeatDiffers(caller));
+        return Err(CloseError::SeatDiffers(caller));
     }
     if let Err(fault) = check_receipts(alloc, bench, receipts) {
         return Err(fault);
     }
     match count_calls(alloc, bench, callers) {
         Ok(counts) => Ok(counts),
-        Err(_) => Err(CloseFault::Memory),
+        Err(_) => Err(CloseError::Memory),
     }
 }

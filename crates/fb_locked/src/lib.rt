@@ -10,10 +10,10 @@ mod resume;
 mod roll;
 mod seat;
 
-pub use close::{CloseFault, Closed, NotClosed, close_for};
+pub use close::{CloseError, Closed, NotClosed, close_for};
 pub use locked::{Locked, SharedRefused};
 pub use look::{Look, WorkEnd};
-pub use resume::{NotResumed, ResumeFault};
+pub use resume::{NotResumed, ResumeError};
 pub use roll::rolls_are_unseen;
 pub use seat::{Receipt, Seat};
 
@@ -35,8 +35,8 @@ pub mod jobs {
 /// Of `fb_bench`, for the crates above.
 pub mod bench {
     pub use fb_bench::{
-        Answered, Asked, Bench, Call, CheckpointRefused, Committed, Delivered, Desk,
-        DeskCheckpointRefused, DeskRefused, GivenBack, Limits, Reply, Request, Start, Taken,
+        Answered, Asked, Bench, Call, CheckpointError, Committed, Delivered, Desk,
+        DeskCheckpointError, DeskError, GivenBack, Limits, Reply, Request, Start, Taken,
         TextChange, Wanted,
     };
 }

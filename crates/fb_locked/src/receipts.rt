@@ -3,7 +3,7 @@
 ghost use Rattle.std.specs.Prelude.{◌≡◌, ◌↔◌, false, length, replicate, IfOk, IsTrue};
 ghost use Rattle.fb_locked.specs.Closing.{IsReceiptRight, ChecksReceipts, has_number};
 
-use crate::close::CloseFault;
+use crate::close::CloseError;
 use crate::seat::Receipt;
 use fb_bench::Bench;
 use std::alloc::{AllocError, Global};
@@ -13,7 +13,7 @@ pub(crate) fn check_receipts(
     alloc: Global,
     bench: &Bench,
     receipts: &[Receipt],
-) -> Result<(), CloseFault>
+) -> Result<(), CloseError>
     ensures { ChecksReceipts bench.now receipts.now result }
 {
     match marks_for(alloc, bench) {
@@ -30,7 +30,7 @@ fn marks_for(alloc: Global, bench: &Bench) -> Result<Vec<bool>, AllocError>
 }
 
 /// Checks with a mark for each record, none of which is set.
-fn check_by_marks(bench: &Bench, receipts: &[Receipt], marks: Vec<bool>) -> Result<(), CloseFault>
+fn check_by_marks(bench: &Bench, receipts: &[Receipt], marks: Vec<bool>) -> Result<(), CloseError>
     requires { marks.items ≡ replicate (length bench.now.log.records) false }
     ensures { ChecksReceipts bench.now receipts.now result }
 {
@@ -39,11 +39,11 @@ fn check_by_marks(bench: &Bench, receipts: &[Receipt], marks: Vec<bool>) -> Resu
     for receipt in receipts {
         let number = receipt.number();
         if !is_record(bench, receipt) {
-            return Err(CloseFault::ReceiptDiffers(number));
+            return Err(CloseError::ReceiptDiffers(number));
         }
         let at = (number - before - 1) as usize;
         if marks[at] {
-            return Err(CloseFault::ReceiptTwice(number));
+            return Err(CloseError::ReceiptTwice(number));
         }
         marks[at] = true;
     }
@@ -51,17 +51,17 @@ fn check_by_marks(bench: &Bench, receipts: &[Receipt], marks: Vec<bool>) -> Resu
 }
 
 /// Checks with no memory: each receipt is compared with those before it.
-fn check_by_pairs(bench: &Bench, receipts: &[Receipt]) -> Result<(), CloseFault>
+fn check_by_pairs(bench: &Bench, receipts: &[Receipt]) -> Result<(), CloseError>
     ensures { ChecksReceipts bench.now receipts.now result }
 {
     for place in 0..receipts.len() {
         let receipt = &receipts[place];
         let number = receipt.number();
         if !is_record(bench, receipt) {
-            return Err(CloseFault::ReceiptDiffers(number));
+            return Err(CloseError::ReceiptDiffers(number));
         }
         if is_among(&receipts[..place], number) {
-            return Err(CloseFault::ReceiptTwice(number));
+            return Err(CloseError::ReceiptTwice(number));
         }
     }
     Ok(())

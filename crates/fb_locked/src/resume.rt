@@ -12,7 +12,7 @@ use std::alloc::Global;
 
 /// Why a workbench does not come under a lock.
 #[derive(Clone, Copy, PartialEq, Eq, Debug)]
-pub enum ResumeFault {
+pub enum ResumeError {
     /// The least caller that has made a call and would get no seat.
     CallersFew(u32),
     /// Each caller would get its seat, and there is no room for the seats.
@@ -22,7 +22,7 @@ pub enum ResumeFault {
 /// What is handed back where a workbench does not come under a lock.
 #[derive(Drop)]
 pub struct NotResumed {
-    pub fault: ResumeFault,
+    pub fault: ResumeError,
     pub bench: Bench,
 }
 
@@ -44,7 +44,7 @@ impl Locked {
     {
         if let Some(caller) = left_out(&bench, callers) {
             return Err(NotResumed {
-                fault: ResumeFault::CallersFew(caller),
+                fault: ResumeError::CallersFew(caller),
                 bench,
             });
         }
@@ -54,7 +54,7 @@ impl Locked {
                 Ok((locked, seats))
             }
             Err(_) => Err(NotResumed {
-                fault: ResumeFault::Memory,
+                fault: ResumeError::Memory,
                 bench,
             }),
         }

@@ -10,12 +10,12 @@ use crate::locked::{Locked, SharedRefused};
 use crate::seat::{Receipt, Seat};
 use fb_bench::jobs::{Finished, Key};
 use fb_bench::library::Change;
-use fb_bench::{CheckpointRefused, Limits, Record, Reply, Request};
+use fb_bench::{CheckpointError, Limits, Record, Reply, Request};
 
 impl Locked {
     /// Makes the present state what the history begins from, with these limits, and gives the number of all calls so far. It is no call
     /// itself, and each seat fits as it did. The records so far are kept aside, so that no caller waits until all of them are dropped.
-    pub fn roll(&mut self, limits: Limits) -> Result<u64, CheckpointRefused>
+    pub fn roll(&mut self, limits: Limits) -> Result<u64, CheckpointError>
         ensures answer { ChecksAs (checking limits self.old.bench) result }
         ensures kept { OnOk result (self.new ≡ locked_rolled limits self.old) }
         ensures err { OnErr result (self.new ≡ self.old) }
@@ -38,7 +38,7 @@ impl Locked {
     }
 
     /// Rolls where the history is full, and only there.
-    pub fn make_room(&mut self, limits: Limits) -> Result<(), CheckpointRefused>
+    pub fn make_room(&mut self, limits: Limits) -> Result<(), CheckpointError>
         ensures { MakesRoom limits self.old result self.new }
     {
         self.drop_past();

@@ -90,15 +90,15 @@ module _ (sources : Sources) (here : NetworkPlace) where
       let types = flat_map (joined_types sources here) n.connections in
       let sources_twice = second_sources n.connections in
       let adapters_twice = second_adapters n.connections in
-      let front = left_none (((sides ++ types) ++ sources_twice) ++ adapters_twice) (all_parameters here.scope n.instances) none in
-      let three = left_none ((sides ++ types) ++ sources_twice) adapters_twice front in
+      let prefix = left_none (((sides ++ types) ++ sources_twice) ++ adapters_twice) (all_parameters here.scope n.instances) none in
+      let three = left_none ((sides ++ types) ++ sources_twice) adapters_twice prefix in
       let two = left_none (sides ++ types) sources_twice three in
       let each_side = none_of_each (connection_faults here) n.connections (left_none sides types two) in
       let each_type = none_of_each (joined_types sources here) n.connections (right_none sides types two) in
       record {
         connections = λ k c within. clean_connection _ (each_side k c within) (each_type k c within);
         one_source = none_mapped _ (repeated (map end_path (data_destinations n.connections))) (right_none (sides ++ types) sources_twice three);
-        one_adapter = none_mapped _ (repeated (map end_path (all_adapter_ends n.connections))) (right_none ((sides ++ types) ++ sources_twice) adapters_twice front);
+        one_adapter = none_mapped _ (repeated (map end_path (all_adapter_ends n.connections))) (right_none ((sides ++ types) ++ sources_twice) adapters_twice prefix);
       }
 
 abbrev Clean : Sources → NetworkPlace × NetworkTree → Type 0

@@ -115,10 +115,10 @@ right_networks sources unit (structure_type s) types none = All-nil Right
 
 types_none : (sources : Sources) (unit : List ℕ) (decl : DeclTree) → declaration_faults sources unit (Some decl) ≡ [] → type_faults sources decl ≡ []
 types_none sources unit decl e =
-    let front = (name_faults unit decl ++ duplicate_faults decl) ++ mixed_faults decl in
-    let types = front ++ type_faults sources decl in
+    let prefix = (name_faults unit decl ++ duplicate_faults decl) ++ mixed_faults decl in
+    let types = prefix ++ type_faults sources decl in
     let withs = types ++ with_faults_of decl in
-    right_none front (type_faults sources decl) (left_none types (with_faults_of decl) (left_none withs (literal_faults_of decl) (left_none (withs ++ literal_faults_of decl) (recursion_faults sources unit decl) e)))
+    right_none prefix (type_faults sources decl) (left_none types (with_faults_of decl) (left_none withs (literal_faults_of decl) (left_none (withs ++ literal_faults_of decl) (recursion_faults sources unit decl) e)))
 
 pub connections_right : ConnectionsAreRight
 connections_right sources unit declared none = by (tree_at sources unit) declared none

@@ -1,4 +1,4 @@
--- The links and borders of connections, read by the fronts of a draft.
+-- The links and borders of connections, read by the prefixes of a draft.
 use Rattle.std.proofs.Common.{ℕ, ◌≡◌, ◌<◌, ◌+◌, List, [], ◌∷◌, ◌++◌, Option, Some, None, length, map, take, get_or, refl, sym, ap, subst, ◌∙◌, arith, append_assoc, append-nil, length-append}
 use Rattle.std.specs.Prelude.{slice_get, flat_map, option_map, option_and_then}
 use Rattle.std.specs.List.{All}
@@ -17,7 +17,7 @@ use Rattle.fb_network.specs.declared.table.Standing.{Standing}
 use Rattle.fb_network.specs.Network.{View, instance_named, place_of}
 use Rattle.fb_network.specs.Clean.{adapter_at}
 use Rattle.fb_network.specs.Plain.{PlainNetwork}
-use Rattle.fb_network.specs.PlainFront.{PlainFront}
+use Rattle.fb_network.specs.PlainPrefix.{PlainPrefix}
 use Rattle.fb_network.specs.Ready.{Nets}
 use Rattle.fb_network.specs.Composed.{adapter_links, behind_of, connection_borders, connection_links, end_borders, link_pairs, links_of_sort}
 use Rattle.fb_network.specs.Laid.{IsEdgeBelow, border_at, path_at, path_in, text_or_nothing}
@@ -65,42 +65,42 @@ own_destination network k c lt e =
     ∙ get_mapped (λ (x : Connection). end_text x.destination) network.connections k c lt e
 
 -- an own text is at its place
-pub own_says : (fronts : List PlainFront) (network : PlainNetwork) (k : ℕ) (text : List ℕ) → HasOwn fronts network → slice_get (own_texts network) k ≡ Some text → Says fronts (own_place k) text
-own_says fronts network k text has e =
+pub own_says : (prefixes : List PlainPrefix) (network : PlainNetwork) (k : ℕ) (text : List ℕ) → HasOwn prefixes network → slice_get (own_texts network) k ≡ Some text → Says prefixes (own_place k) text
+own_says prefixes network k text has e =
     record {
-      in_range = slice_get_within fronts 0 _ has;
-      is = ap (λ (o : Option PlainFront). path_in o k) has ∙ ap text_or_nothing e;
+      in_range = slice_get_within prefixes 0 _ has;
+      is = ap (λ (o : Option PlainPrefix). path_in o k) has ∙ ap text_or_nothing e;
     }
 
 -- the ends of a connection are at their places
-pub says_source : (fronts : List PlainFront) (network : PlainNetwork) (ys : List Connection) (k : ℕ) (c : Connection) (place : Place) → HasOwn fronts network → ys ≡ network.connections → k < length ys → c ≡ get_or ys k c → place ≡ own_place (length network.instances + k) → Says fronts place (end_text c.source)
-says_source fronts network ys k c place has same lt e is =
+pub says_source : (prefixes : List PlainPrefix) (network : PlainNetwork) (ys : List Connection) (k : ℕ) (c : Connection) (place : Place) → HasOwn prefixes network → ys ≡ network.connections → k < length ys → c ≡ get_or ys k c → place ≡ own_place (length network.instances + k) → Says prefixes place (end_text c.source)
+says_source prefixes network ys k c place has same lt e is =
     let within : k < length network.connections = subst (λ (cs : List Connection). k < length cs) same lt in
     let at : c ≡ get_or network.connections k c = e ∙ ap (λ (cs : List Connection). get_or cs k c) same in
-    subst (λ (x : Place). Says fronts x (end_text c.source)) (sym is) (own_says fronts network (length network.instances + k) (end_text c.source) has (own_source network k c within at))
+    subst (λ (x : Place). Says prefixes x (end_text c.source)) (sym is) (own_says prefixes network (length network.instances + k) (end_text c.source) has (own_source network k c within at))
 
-pub says_destination : (fronts : List PlainFront) (network : PlainNetwork) (ys : List Connection) (k : ℕ) (c : Connection) (place : Place) → HasOwn fronts network → ys ≡ network.connections → k < length ys → c ≡ get_or ys k c → place ≡ own_place (length ys + (length network.instances + k)) → Says fronts place (end_text c.destination)
-says_destination fronts network ys k c place has same lt e is =
+pub says_destination : (prefixes : List PlainPrefix) (network : PlainNetwork) (ys : List Connection) (k : ℕ) (c : Connection) (place : Place) → HasOwn prefixes network → ys ≡ network.connections → k < length ys → c ≡ get_or ys k c → place ≡ own_place (length ys + (length network.instances + k)) → Says prefixes place (end_text c.destination)
+says_destination prefixes network ys k c place has same lt e is =
     let within : k < length network.connections = subst (λ (cs : List Connection). k < length cs) same lt in
     let at : c ≡ get_or network.connections k c = e ∙ ap (λ (cs : List Connection). get_or cs k c) same in
-    subst (λ (x : Place). Says fronts x (end_text c.destination)) (sym (is ∙ ap (λ (cs : List Connection). own_place (length cs + (length network.instances + k))) same))
-    (own_says fronts network (length network.connections + (length network.instances + k)) (end_text c.destination) has (own_destination network k c within at))
+    subst (λ (x : Place). Says prefixes x (end_text c.destination)) (sym (is ∙ ap (λ (cs : List Connection). own_place (length cs + (length network.instances + k))) same))
+    (own_says prefixes network (length network.connections + (length network.instances + k)) (end_text c.destination) has (own_destination network k c within at))
 
-pub are_named : (fronts : List PlainFront) (network : PlainNetwork) → HasOwn fronts network → AreNamed fronts network.instances
-are_named fronts network has k i lt e = own_says fronts network k i.name has (own_name network k i lt e)
+pub are_named : (prefixes : List PlainPrefix) (network : PlainNetwork) → HasOwn prefixes network → AreNamed prefixes network.instances
+are_named prefixes network has k i lt e = own_says prefixes network k i.name has (own_name network k i lt e)
 
--- the first front is put
-pub own_put : (old new : List PlainFront) (front : PlainFront) (network : PlainNetwork) → old ≡ [] → new ≡ old ++ front ∷ [] → front ≡ record { start = []; ends = own_texts network } → HasOwn new network
-own_put old new front network none is front_is = ap (λ (fs : List PlainFront). slice_get fs 0) (is ∙ ap (λ (fs : List PlainFront). fs ++ front ∷ []) none) ∙ ap Some front_is
+-- the first prefix is put
+pub own_put : (old new : List PlainPrefix) (prefix : PlainPrefix) (network : PlainNetwork) → old ≡ [] → new ≡ old ++ prefix ∷ [] → prefix ≡ record { start = []; ends = own_texts network } → HasOwn new network
+own_put old new prefix network none is prefix_is = ap (λ (fs : List PlainPrefix). slice_get fs 0) (is ∙ ap (λ (fs : List PlainPrefix). fs ++ prefix ∷ []) none) ∙ ap Some prefix_is
 
-pub own_grown : (fronts new : List PlainFront) (network : PlainNetwork) → Grows fronts new → HasOwn fronts network → HasOwn new network
-own_grown fronts new network g has = ap (λ (fs : List PlainFront). slice_get fs 0) g.1 ∙ get_left fronts g.0 0 (slice_get_within fronts 0 _ has) ∙ has
+pub own_grown : (prefixes new : List PlainPrefix) (network : PlainNetwork) → Grows prefixes new → HasOwn prefixes network → HasOwn new network
+own_grown prefixes new network g has = ap (λ (fs : List PlainPrefix). slice_get fs 0) g.1 ∙ get_left prefixes g.0 0 (slice_get_within prefixes 0 _ has) ∙ has
 
 -- the instances of a table
-pub table_instances : (fronts : List PlainFront) (nets : Nets) (table : List ℕ → Option Standing) (xs : List Instance) → IsTable fronts nets table xs → HasInstances table xs
-table_instances fronts nets table xs is = λ name. by_found (table name) (instance_named xs name) (is name)
+pub table_instances : (prefixes : List PlainPrefix) (nets : Nets) (table : List ℕ → Option Standing) (xs : List Instance) → IsTable prefixes nets table xs → HasInstances table xs
+table_instances prefixes nets table xs is = λ name. by_found (table name) (instance_named xs name) (is name)
   where
-    by_found : (a : Option Standing) (b : Option Instance) → StandsFor fronts nets a b → option_map (λ (s : Standing). s.instance) a ≡ b
+    by_found : (a : Option Standing) (b : Option Instance) → StandsFor prefixes nets a b → option_map (λ (s : Standing). s.instance) a ≡ b
     by_found None None p = refl
     by_found None (Some i) p = absurd p
     by_found (Some s) None p = absurd p
@@ -114,65 +114,65 @@ standing_type view (Some s) = refl
 pub adds_none : (draft : Draft) → AddsLinks draft draft []
 adds_none draft =
     record {
-      grows = grows_none draft.fronts.items;
+      grows = grows_none draft.prefixes.items;
       same_blocks = refl;
-      links = λ links p. subst (λ (ls : List Link). AreJoins draft.fronts.items draft.joins.items ls) (sym (append-nil links)) p;
+      links = λ links p. subst (λ (ls : List Link). AreJoins draft.prefixes.items draft.joins.items ls) (sym (append-nil links)) p;
     }
 
 -- first some links, and then others
 pub adds_both : (start mid new : Draft) (xs ys : List Link) → AddsLinks start mid xs → AddsLinks mid new ys → AddsLinks start new (xs ++ ys)
 adds_both start mid new xs ys p q =
     record {
-      grows = grows_twice start.fronts.items mid.fronts.items new.fronts.items p.grows q.grows;
+      grows = grows_twice start.prefixes.items mid.prefixes.items new.prefixes.items p.grows q.grows;
       same_blocks = q.same_blocks ∙ p.same_blocks;
-      links = λ links r. subst (λ (ls : List Link). AreJoins new.fronts.items new.joins.items ls) (append_assoc links xs ys) (q.links (links ++ xs) (p.links links r));
+      links = λ links r. subst (λ (ls : List Link). AreJoins new.prefixes.items new.joins.items ls) (append_assoc links xs ys) (q.links (links ++ xs) (p.links links r));
     }
 
 -- the links of pairs of places
-pub adds_pairs : (old new : Draft) (sort : Sort) (froms tos : List Place) → All (IsPlaceBelow (length old.fronts.items)) froms → All (IsPlaceBelow (length old.fronts.items)) tos → new.fronts.items ≡ old.fronts.items → new.leaves.items ≡ old.leaves.items → new.joins.items ≡ old.joins.items ++ join_pairs sort froms tos → AddsLinks old new (link_pairs sort (map (path_at old.fronts.items) froms) (map (path_at old.fronts.items) tos))
-adds_pairs old new sort froms tos below reach fronts_stay leaves_stay is =
-    let fronts = old.fronts.items in
-    let grows : Grows fronts new.fronts.items = ([], fronts_stay ∙ sym (append-nil fronts)) in
-    let pairs = pairs_read fronts sort froms tos (map (path_at fronts) froms) (map (path_at fronts) tos) (record { in_range = below; is = refl }) (record { in_range = reach; is = refl }) in
+pub adds_pairs : (old new : Draft) (sort : Sort) (froms tos : List Place) → All (IsPlaceBelow (length old.prefixes.items)) froms → All (IsPlaceBelow (length old.prefixes.items)) tos → new.prefixes.items ≡ old.prefixes.items → new.leaves.items ≡ old.leaves.items → new.joins.items ≡ old.joins.items ++ join_pairs sort froms tos → AddsLinks old new (link_pairs sort (map (path_at old.prefixes.items) froms) (map (path_at old.prefixes.items) tos))
+adds_pairs old new sort froms tos below reach prefixes_stay leaves_stay is =
+    let prefixes = old.prefixes.items in
+    let grows : Grows prefixes new.prefixes.items = ([], prefixes_stay ∙ sym (append-nil prefixes)) in
+    let pairs = pairs_read prefixes sort froms tos (map (path_at prefixes) froms) (map (path_at prefixes) tos) (record { in_range = below; is = refl }) (record { in_range = reach; is = refl }) in
     record {
       grows = grows;
       same_blocks = leaves_stay;
-      links = λ links p. added new.joins.items (link_pairs sort (map (path_at fronts) froms) (map (path_at fronts) tos)) is refl (joins_grown grows p) (joins_grown grows pairs);
+      links = λ links p. added new.joins.items (link_pairs sort (map (path_at prefixes) froms) (map (path_at prefixes) tos)) is refl (joins_grown grows p) (joins_grown grows pairs);
     }
 
 -- the links of an adapter's ports
-pub adds_members : (old new : Draft) (between : List PlainFront) (names : List (List ℕ)) (ports : List Port) (plugs sockets : List Place) (ns ms : List ℕ) → All (IsPlaceBelow (length old.fronts.items)) sockets → names ≡ map (λ (port : Port). port.name) ports → Grows old.fronts.items between → AreMembers between names ns (map (path_at old.fronts.items) plugs) → Grows between new.fronts.items → AreMembers new.fronts.items names ms (map (path_at between) sockets) → new.leaves.items ≡ old.leaves.items → new.joins.items ≡ old.joins.items ++ adapter_joins ports ns ms → AddsLinks old new (adapter_links ports (map (path_at old.fronts.items) plugs) (map (path_at old.fronts.items) sockets))
+pub adds_members : (old new : Draft) (between : List PlainPrefix) (names : List (List ℕ)) (ports : List Port) (plugs sockets : List Place) (ns ms : List ℕ) → All (IsPlaceBelow (length old.prefixes.items)) sockets → names ≡ map (λ (port : Port). port.name) ports → Grows old.prefixes.items between → AreMembers between names ns (map (path_at old.prefixes.items) plugs) → Grows between new.prefixes.items → AreMembers new.prefixes.items names ms (map (path_at between) sockets) → new.leaves.items ≡ old.leaves.items → new.joins.items ≡ old.joins.items ++ adapter_joins ports ns ms → AddsLinks old new (adapter_links ports (map (path_at old.prefixes.items) plugs) (map (path_at old.prefixes.items) sockets))
 adds_members old new between names ports plugs sockets ns ms reach named g p h q leaves_stay is =
-    let fronts = old.fronts.items in
-    let stay : ArePlaces between sockets (map (path_at fronts) sockets) = places_grown g (record { in_range = reach; is = refl }) in
-    let grows = grows_twice fronts between new.fronts.items g h in
-    let plugged = members_grown between new.fronts.items names ns (map (path_at fronts) plugs) h p in
-    let socketed = subst (λ (ts : List (List ℕ)). AreMembers new.fronts.items names ms ts) stay.is q in
-    let members = adapter_reads new.fronts.items names ports named ns (map (path_at fronts) plugs) ms (map (path_at fronts) sockets) plugged socketed in
+    let prefixes = old.prefixes.items in
+    let stay : ArePlaces between sockets (map (path_at prefixes) sockets) = places_grown g (record { in_range = reach; is = refl }) in
+    let grows = grows_twice prefixes between new.prefixes.items g h in
+    let plugged = members_grown between new.prefixes.items names ns (map (path_at prefixes) plugs) h p in
+    let socketed = subst (λ (ts : List (List ℕ)). AreMembers new.prefixes.items names ms ts) stay.is q in
+    let members = adapter_reads new.prefixes.items names ports named ns (map (path_at prefixes) plugs) ms (map (path_at prefixes) sockets) plugged socketed in
     record {
       grows = grows;
       same_blocks = leaves_stay;
-      links = λ links r. added new.joins.items (adapter_links ports (map (path_at fronts) plugs) (map (path_at fronts) sockets)) is refl (joins_grown grows r) members;
+      links = λ links r. added new.joins.items (adapter_links ports (map (path_at prefixes) plugs) (map (path_at prefixes) sockets)) is refl (joins_grown grows r) members;
     }
 
 -- the links of one connection, by the places behind its ends
-pub adds_connection : (view : View) (network : PlainNetwork) (table : List ℕ → Option Standing) (old new : Draft) (c : Connection) (source destination : Place) (froms tos : List Place) → Says old.fronts.items source (end_text c.source) → Says old.fronts.items destination (end_text c.destination) → froms ≡ places_behind table c.sort source c.source → tos ≡ places_behind table c.sort destination c.destination → AddsLinks old new (links_of_sort c.sort (adapter_at view network (place_of c.source)) (map (path_at old.fronts.items) froms) (map (path_at old.fronts.items) tos)) → AddsConnections view network table old new (c ∷ [])
+pub adds_connection : (view : View) (network : PlainNetwork) (table : List ℕ → Option Standing) (old new : Draft) (c : Connection) (source destination : Place) (froms tos : List Place) → Says old.prefixes.items source (end_text c.source) → Says old.prefixes.items destination (end_text c.destination) → froms ≡ places_behind table c.sort source c.source → tos ≡ places_behind table c.sort destination c.destination → AddsLinks old new (links_of_sort c.sort (adapter_at view network (place_of c.source)) (map (path_at old.prefixes.items) froms) (map (path_at old.prefixes.items) tos)) → AddsConnections view network table old new (c ∷ [])
 adds_connection view network table old new c source destination froms tos from_says to_says froms_are tos_are adds nets is =
-    let fronts = old.fronts.items in
-    let before : map (path_at fronts) froms ≡ behind_of (instance_named network.instances) nets c.sort c.source =
-    ap (map (path_at fronts)) froms_are ∙ (behind_reads fronts nets table network.instances c.sort source c.source is from_says).is in
-    let after : map (path_at fronts) tos ≡ behind_of (instance_named network.instances) nets c.sort c.destination =
-    ap (map (path_at fronts)) tos_are ∙ (behind_reads fronts nets table network.instances c.sort destination c.destination is to_says).is in
-    let one : links_of_sort c.sort (adapter_at view network (place_of c.source)) (map (path_at fronts) froms) (map (path_at fronts) tos) ≡ connection_links view network (instance_named network.instances) nets c =
+    let prefixes = old.prefixes.items in
+    let before : map (path_at prefixes) froms ≡ behind_of (instance_named network.instances) nets c.sort c.source =
+    ap (map (path_at prefixes)) froms_are ∙ (behind_reads prefixes nets table network.instances c.sort source c.source is from_says).is in
+    let after : map (path_at prefixes) tos ≡ behind_of (instance_named network.instances) nets c.sort c.destination =
+    ap (map (path_at prefixes)) tos_are ∙ (behind_reads prefixes nets table network.instances c.sort destination c.destination is to_says).is in
+    let one : links_of_sort c.sort (adapter_at view network (place_of c.source)) (map (path_at prefixes) froms) (map (path_at prefixes) tos) ≡ connection_links view network (instance_named network.instances) nets c =
     λ i. links_of_sort c.sort (adapter_at view network (place_of c.source)) (before i) (after i) in
     subst (λ (ls : List Link). AddsLinks old new ls) (one ∙ sym (append-nil (connection_links view network (instance_named network.instances) nets c))) adds
 
 -- places behind an end are in range
-pub behind_below : (fronts : List PlainFront) (network : PlainNetwork) (table : List ℕ → Option Standing) (sort : Sort) (own : Place) (c : Connection) (places : List Place) → (nets : Nets) × IsTable fronts nets table network.instances → Says fronts own (end_text c.source) → places ≡ places_behind table sort own c.source → All (IsPlaceBelow (length fronts)) places
-behind_below fronts network table sort own c places laid says are = subst (All (IsPlaceBelow (length fronts))) (sym are) (behind_reads fronts laid.0 table network.instances sort own c.source laid.1 says).in_range
+pub behind_below : (prefixes : List PlainPrefix) (network : PlainNetwork) (table : List ℕ → Option Standing) (sort : Sort) (own : Place) (c : Connection) (places : List Place) → (nets : Nets) × IsTable prefixes nets table network.instances → Says prefixes own (end_text c.source) → places ≡ places_behind table sort own c.source → All (IsPlaceBelow (length prefixes)) places
+behind_below prefixes network table sort own c places laid says are = subst (All (IsPlaceBelow (length prefixes))) (sym are) (behind_reads prefixes laid.0 table network.instances sort own c.source laid.1 says).in_range
 
-pub behind_reach : (fronts : List PlainFront) (network : PlainNetwork) (table : List ℕ → Option Standing) (sort : Sort) (own : Place) (c : Connection) (places : List Place) → (nets : Nets) × IsTable fronts nets table network.instances → Says fronts own (end_text c.destination) → places ≡ places_behind table sort own c.destination → All (IsPlaceBelow (length fronts)) places
-behind_reach fronts network table sort own c places laid says are = subst (All (IsPlaceBelow (length fronts))) (sym are) (behind_reads fronts laid.0 table network.instances sort own c.destination laid.1 says).in_range
+pub behind_reach : (prefixes : List PlainPrefix) (network : PlainNetwork) (table : List ℕ → Option Standing) (sort : Sort) (own : Place) (c : Connection) (places : List Place) → (nets : Nets) × IsTable prefixes nets table network.instances → Says prefixes own (end_text c.destination) → places ≡ places_behind table sort own c.destination → All (IsPlaceBelow (length prefixes)) places
+behind_reach prefixes network table sort own c places laid says are = subst (All (IsPlaceBelow (length prefixes))) (sym are) (behind_reads prefixes laid.0 table network.instances sort own c.destination laid.1 says).in_range
 
 -- no connection yet
 pub connects_none : (view : View) (network : PlainNetwork) (table : List ℕ → Option Standing) (draft : Draft) → AddsConnections view network table draft draft []
@@ -183,25 +183,25 @@ pub connects_more : (view : View) (network : PlainNetwork) (table : List ℕ →
 connects_more view network table start mid new ys k c same lt e p q nets is =
     let f = connection_links view network (instance_named network.instances) nets in
     let first = p nets is in
-    let then = q nets (table_grown start.fronts.items mid.fronts.items nets table network.instances first.grows is) in
+    let then = q nets (table_grown start.prefixes.items mid.prefixes.items nets table network.instances first.grows is) in
     let both : flat_map f (take k ys) ++ flat_map f (c ∷ []) ≡ flat_map f (take (k + 1) ys) =
     ap (λ (ls : List Link). flat_map f (take k ys) ++ ls) (append-nil (f c)) ∙ sym (flat_map_push f (take k ys) c) ∙ ap (flat_map f) (next_taken ys k c lt e) in
     subst (λ (ls : List Link). AddsLinks start new ls) both (adds_both start mid new (flat_map f (take k ys)) (flat_map f (c ∷ [])) first then)
 
 -- the borders of one connection more
 pub edges_more : (network : PlainNetwork) (table : List ℕ → Option Standing) (edges all : List Edge) (ys : List Connection) (k : ℕ) (c : Connection) (from to : Place) → ys ≡ network.connections → k < length ys → c ≡ get_or ys k c → from ≡ own_place (length network.instances + k) → to ≡ own_place (length ys + (length network.instances + k)) → all ≡ edges ++ connection_edges table from to c → AreEdgesOf network table edges (take k ys) → AreEdgesOf network table all (take (k + 1) ys)
-edges_more network table edges all ys k c from to same lt e from_is to_is is p fronts nets laid has =
+edges_more network table edges all ys k c from to same lt e from_is to_is is p prefixes nets laid has =
     let f = connection_borders (instance_named network.instances) nets in
-    let from_says = says_source fronts network ys k c from has same lt e from_is in
-    let to_says = says_destination fronts network ys k c to has same lt e to_is in
-    let sources = behind_reads fronts nets table network.instances c.sort from c.source laid from_says in
-    let destinations = behind_reads fronts nets table network.instances c.sort to c.destination laid to_says in
-    let left = end_edges_read fronts c.sort c.source (places_behind table c.sort to c.destination) (behind_of (instance_named network.instances) nets c.sort c.destination) destinations in
-    let right = end_edges_read fronts c.sort c.destination (places_behind table c.sort from c.source) (behind_of (instance_named network.instances) nets c.sort c.source) sources in
-    let one : AreEdges fronts (connection_edges table from to c) (f c) =
-    reading_both IsEdgeBelow border_at fronts (edges_of_end c.sort c.source (places_behind table c.sort to c.destination)) (edges_of_end c.sort c.destination (places_behind table c.sort from c.source)) (end_borders c.sort c.source (behind_of (instance_named network.instances) nets c.sort c.destination)) (end_borders c.sort c.destination (behind_of (instance_named network.instances) nets c.sort c.source)) left right in
+    let from_says = says_source prefixes network ys k c from has same lt e from_is in
+    let to_says = says_destination prefixes network ys k c to has same lt e to_is in
+    let sources = behind_reads prefixes nets table network.instances c.sort from c.source laid from_says in
+    let destinations = behind_reads prefixes nets table network.instances c.sort to c.destination laid to_says in
+    let left = end_edges_read prefixes c.sort c.source (places_behind table c.sort to c.destination) (behind_of (instance_named network.instances) nets c.sort c.destination) destinations in
+    let right = end_edges_read prefixes c.sort c.destination (places_behind table c.sort from c.source) (behind_of (instance_named network.instances) nets c.sort c.source) sources in
+    let one : AreEdges prefixes (connection_edges table from to c) (f c) =
+    reading_both IsEdgeBelow border_at prefixes (edges_of_end c.sort c.source (places_behind table c.sort to c.destination)) (edges_of_end c.sort c.destination (places_behind table c.sort from c.source)) (end_borders c.sort c.source (behind_of (instance_named network.instances) nets c.sort c.destination)) (end_borders c.sort c.destination (behind_of (instance_named network.instances) nets c.sort c.source)) left right in
     let both : flat_map f (take k ys) ++ f c ≡ flat_map f (take (k + 1) ys) = sym (flat_map_push f (take k ys) c) ∙ ap (flat_map f) (next_taken ys k c lt e) in
-    subst (λ (bs : List Border). AreEdges fronts all bs) both (added all (f c) is refl (p fronts nets laid has) one)
+    subst (λ (bs : List Border). AreEdges prefixes all bs) both (added all (f c) is refl (p prefixes nets laid has) one)
 
 pub edges_none : (network : PlainNetwork) (table : List ℕ → Option Standing) (edges : List Edge) → edges ≡ [] → AreEdgesOf network table edges []
-edges_none network table edges none fronts nets laid has = subst (λ (es : List Edge). AreEdges fronts es []) (sym none) (reading_nothing IsEdgeBelow border_at fronts)
+edges_none network table edges none prefixes nets laid has = subst (λ (es : List Edge). AreEdges prefixes es []) (sym none) (reading_nothing IsEdgeBelow border_at prefixes)

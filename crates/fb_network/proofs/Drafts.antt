@@ -1,9 +1,9 @@
 -- A draft that has taken in an inner network.
 use Rattle.std.proofs.Common.{ℕ, ◌≡◌, List, ◌++◌, length, map, sym, ap, subst}
 use Rattle.fb_network.specs.PlainFlat.{PlainFlat}
-use Rattle.fb_network.specs.PlainFront.{PlainFront}
+use Rattle.fb_network.specs.PlainPrefix.{PlainPrefix}
 use Rattle.fb_network.specs.Composed.{block_within, link_within}
-use Rattle.fb_network.specs.Laid.{IsLaid, block_at, border_at, edge_moved, flat_at, front_within, join_moved, leaf_moved, link_at}
+use Rattle.fb_network.specs.Laid.{IsLaid, block_at, border_at, edge_moved, flat_at, prefix_within, join_moved, leaf_moved, link_at}
 use Rattle.fb_network.specs.Reading.{AreEdges, AreJoins, AreLeaves, Grows, IsInOrder, IsReading, TakesIn, border_within}
 use Rattle.fb_network.specs.declared.entries.Leaf.{Leaf}
 use Rattle.fb_network.specs.declared.entries.Join.{Join}
@@ -16,30 +16,30 @@ use Rattle.fb_network.specs.Once.{IsOnce}
 use Rattle.fb_network.proofs.Readings.{edges_moved, joins_grown, joins_moved, leaves_grown, leaves_moved, reading_both}
 
 -- more entries behind those that there are
-pub added : {E X : Type 0} {below : ℕ → E → Type 0} {at : List PlainFront → E → X} {fronts : List PlainFront} {es fs : List E} {xs ys : List X} (all : List E) (zs : List X) → all ≡ es ++ fs → ys ≡ zs → IsReading below at fronts es xs → IsReading below at fronts fs ys → IsReading below at fronts all (xs ++ zs)
-added {below = below} {at = at} {fronts = fronts} {es = es} {fs = fs} {xs = xs} {ys = ys} all zs is same p q =
-    subst (λ (ls : List _). IsReading below at fronts ls (xs ++ zs)) (sym is)
-    (subst (λ (ls : List _). IsReading below at fronts (es ++ fs) (xs ++ ls)) same (reading_both below at fronts es fs xs ys p q))
+pub added : {E X : Type 0} {below : ℕ → E → Type 0} {at : List PlainPrefix → E → X} {prefixes : List PlainPrefix} {es fs : List E} {xs ys : List X} (all : List E) (zs : List X) → all ≡ es ++ fs → ys ≡ zs → IsReading below at prefixes es xs → IsReading below at prefixes fs ys → IsReading below at prefixes all (xs ++ zs)
+added {below = below} {at = at} {prefixes = prefixes} {es = es} {fs = fs} {xs = xs} {ys = ys} all zs is same p q =
+    subst (λ (ls : List _). IsReading below at prefixes ls (xs ++ zs)) (sym is)
+    (subst (λ (ls : List _). IsReading below at prefixes (es ++ fs) (xs ++ ls)) same (reading_both below at prefixes es fs xs ys p q))
 
-pub taken_in : (old new : Draft) (name : List ℕ) (inner : PlainFlat) (edges : List Edge) (by : ℕ) (fronts : List PlainFront) (leaves : List Leaf) (joins : List Join) (own : List Edge)
-    → by ≡ length old.fronts.items → new.fronts.items ≡ old.fronts.items ++ map (front_within name) fronts
+pub taken_in : (old new : Draft) (name : List ℕ) (inner : PlainFlat) (edges : List Edge) (by : ℕ) (prefixes : List PlainPrefix) (leaves : List Leaf) (joins : List Join) (own : List Edge)
+    → by ≡ length old.prefixes.items → new.prefixes.items ≡ old.prefixes.items ++ map (prefix_within name) prefixes
     → new.leaves.items ≡ old.leaves.items ++ map (leaf_moved by) leaves → new.joins.items ≡ old.joins.items ++ map (join_moved by) joins → edges ≡ map (edge_moved by) own
-    → IsLaid (length fronts) leaves joins own → flat_at fronts leaves joins own ≡ inner → TakesIn old new name inner edges
-taken_in old new name inner edges by fronts leaves joins own count fronts_are leaves_are joins_are edges_are laid is =
-    let grows : Grows old.fronts.items new.fronts.items = (map (front_within name) fronts, fronts_are) in
-    let there = sym fronts_are in
-    let moved_leaves = leaves_moved old.fronts.items fronts name by leaves count laid.leaves_below in
-    let moved_joins = joins_moved old.fronts.items fronts name by joins count laid.joins_below in
-    let moved_edges = edges_moved old.fronts.items fronts name by own count laid.edges_below in
+    → IsLaid (length prefixes) leaves joins own → flat_at prefixes leaves joins own ≡ inner → TakesIn old new name inner edges
+taken_in old new name inner edges by prefixes leaves joins own count prefixes_are leaves_are joins_are edges_are laid is =
+    let grows : Grows old.prefixes.items new.prefixes.items = (map (prefix_within name) prefixes, prefixes_are) in
+    let there = sym prefixes_are in
+    let moved_leaves = leaves_moved old.prefixes.items prefixes name by leaves count laid.leaves_below in
+    let moved_joins = joins_moved old.prefixes.items prefixes name by joins count laid.joins_below in
+    let moved_edges = edges_moved old.prefixes.items prefixes name by own count laid.edges_below in
     record {
       grows = grows;
       blocks = λ blocks p. added new.leaves.items (map (block_within name) inner.blocks) leaves_are (ap (λ (net : PlainFlat). map (block_within name) net.blocks) is) (leaves_grown grows p)
-          (subst (λ (fs : List PlainFront). AreLeaves fs (map (leaf_moved by) leaves) (map (block_within name) (map (block_at fronts) leaves))) there moved_leaves);
+          (subst (λ (fs : List PlainPrefix). AreLeaves fs (map (leaf_moved by) leaves) (map (block_within name) (map (block_at prefixes) leaves))) there moved_leaves);
       links = λ links p. added new.joins.items (map (link_within name) inner.links) joins_are (ap (λ (net : PlainFlat). map (link_within name) net.links) is) (joins_grown grows p)
-          (subst (λ (fs : List PlainFront). AreJoins fs (map (join_moved by) joins) (map (link_within name) (map (link_at fronts) joins))) there moved_joins);
-      borders = subst (λ (es : List Edge). AreEdges new.fronts.items es (map (border_within name) inner.borders)) (sym edges_are)
-          (subst (λ (net : PlainFlat). AreEdges new.fronts.items (map (edge_moved by) own) (map (border_within name) net.borders)) is
-          (subst (λ (fs : List PlainFront). AreEdges fs (map (edge_moved by) own) (map (border_within name) (map (border_at fronts) own))) there moved_edges));
+          (subst (λ (fs : List PlainPrefix). AreJoins fs (map (join_moved by) joins) (map (link_within name) (map (link_at prefixes) joins))) there moved_joins);
+      borders = subst (λ (es : List Edge). AreEdges new.prefixes.items es (map (border_within name) inner.borders)) (sym edges_are)
+          (subst (λ (net : PlainFlat). AreEdges new.prefixes.items (map (edge_moved by) own) (map (border_within name) net.borders)) is
+          (subst (λ (fs : List PlainPrefix). AreEdges fs (map (edge_moved by) own) (map (border_within name) (map (border_at prefixes) own))) there moved_edges));
     }
 
 -- what is left in order says what the entries say

@@ -20,5 +20,5 @@ pub mod PortMembers
 pub mod Connections
 pub mod Alike
 pub mod Numbers
-pub mod FrontLemmas
+pub mod PrefixLemmas
 pub mod NearestLemmas

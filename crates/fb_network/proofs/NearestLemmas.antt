@@ -1,11 +1,11 @@
--- What is nearest is had by the longest front that has something.
+-- What is nearest is had by the longest prefix that has something.
 use Rattle.std.proofs.Common.{ℕ, zero, suc, ◌≡◌, ◌<◌, ◌≤◌, ◌==◌, ◌⊎◌, Bool, true, false, List, ◌∷◌, ◌++◌, Option, Some, None, inl, inr, refl, sym, ◌∙◌, ap, subst, take, drop, get_or, length, arith, eq-eqb, length-append, length-take-le, take-append-drop}
 use Rattle.std.proofs.lemmas.Bool.Decides.{Decides-eqb}
 use Rattle.std.proofs.Math.Seq.{drop-cons, take-append_seam, get_or-append_seam}
 use Rattle.std.specs.Option.{option_or}
 use native.Mathlib.Decide.{dec_lt}
-use Rattle.fb_network.specs.Fronts.{IsFront, IsNearest, nearest}
-use Rattle.fb_network.proofs.FrontLemmas.{nearest_below, nearest_is, below_no_point, below_nothing, below_here}
+use Rattle.fb_network.specs.Prefixes.{IsPrefix, IsNearest, nearest}
+use Rattle.fb_network.proofs.PrefixLemmas.{nearest_below, nearest_is, below_no_point, below_nothing, below_here}
 
 -- the test of a byte as a fact
 is_point : (b : ℕ) → ((b == 46) ≡ true) ⊎ ((b == 46) ≡ false)
@@ -19,11 +19,11 @@ no_point : (b : ℕ) → (b == 46) ≡ false → b ≡ 46 → ⊥
 no_point b e same = let h = eq-eqb b 46 same in cc
 
 module _ {X : Type 0} (at : List ℕ → Option X) (path : List ℕ) where
-  -- no front that ends at a point from one place up to another has anything
+  -- no prefix that ends at a point from one place up to another has anything
   abbrev Nothing : ℕ → ℕ → Type 0
   Nothing low high = (j : ℕ) → low ≤ j → j < high → get_or path j 0 ≡ 46 → at (take j path) ≡ None
 
-  -- of the fronts that end at a point before a place, the longest that has something has this
+  -- of the prefixes that end at a point before a place, the longest that has something has this
   abbrev IsBelow : ℕ → Option X → Type 0
   IsBelow k None = Nothing 0 k
   IsBelow k (Some x) = (j : ℕ) × (j < k) × (get_or path j 0 ≡ 46) × (at (take j path) ≡ Some x) × Nothing (suc j) k
@@ -57,34 +57,34 @@ module _ {X : Type 0} (at : List ℕ → Option X) (path : List ℕ) where
   is_below zero = λ j le lt. absurd (omega arith)
   is_below (suc k) = by_point k (is_below k) (is_point (get_or path k 0))
 
-  -- a front before a point
-  front_at : (j : ℕ) → j < length path → get_or path j 0 ≡ 46 → IsFront (take j path) path
-  front_at j lt point =
+  -- a prefix before a point
+  prefix_at : (j : ℕ) → j < length path → get_or path j 0 ≡ 46 → IsPrefix (take j path) path
+  prefix_at j lt point =
       inr (drop (suc j) path, sym (take-append-drop j path) ∙ ap (λ (l : List ℕ). take j path ++ l) (drop-cons path j 0 lt ∙ ap (λ (b : ℕ). b ∷ drop (suc j) path) point))
 
-  -- where a front ends
-  front_nothing : (low : ℕ) (front rest : List ℕ) → path ≡ front ++ 46 ∷ rest → low ≤ length front → Nothing low (length path) → at front ≡ None
-  front_nothing low front rest e le none =
-      let inside : length front < length path = omega (arith, ap length e, length-append front (46 ∷ rest)) in
-      let point : get_or path (length front) 0 ≡ 46 = ap (λ (l : List ℕ). get_or l (length front) 0) e ∙ get_or-append_seam front 46 rest 0 in
-      let whole : take (length front) path ≡ front = ap (take (length front)) e ∙ take-append_seam front (46 ∷ rest) in
-      ap at (sym whole) ∙ none (length front) le inside point
+  -- where a prefix ends
+  prefix_nothing : (low : ℕ) (prefix rest : List ℕ) → path ≡ prefix ++ 46 ∷ rest → low ≤ length prefix → Nothing low (length path) → at prefix ≡ None
+  prefix_nothing low prefix rest e le none =
+      let inside : length prefix < length path = omega (arith, ap length e, length-append prefix (46 ∷ rest)) in
+      let point : get_or path (length prefix) 0 ≡ 46 = ap (λ (l : List ℕ). get_or l (length prefix) 0) e ∙ get_or-append_seam prefix 46 rest 0 in
+      let whole : take (length prefix) path ≡ prefix = ap (take (length prefix)) e ∙ take-append_seam prefix (46 ∷ rest) in
+      ap at (sym whole) ∙ none (length prefix) le inside point
 
-  front_length : (front : List ℕ) → IsFront front path → length front ≤ length path
-  front_length front (inl e) = let same = ap length e in omega (arith, same)
-  front_length front (inr (rest, e)) = omega (arith, ap length e, length-append front (46 ∷ rest))
+  prefix_length : (prefix : List ℕ) → IsPrefix prefix path → length prefix ≤ length path
+  prefix_length prefix (inl e) = let same = ap length e in omega (arith, same)
+  prefix_length prefix (inr (rest, e)) = omega (arith, ap length e, length-append prefix (46 ∷ rest))
 
-  front_beyond : at path ≡ None → (low : ℕ) → Nothing low (length path) → (other : List ℕ) → IsFront other path → low ≤ length other → at other ≡ None
-  front_beyond nothing low none other (inl e) le = ap at (sym e) ∙ nothing
-  front_beyond nothing low none other (inr (rest, e)) le = front_nothing low other rest e le none
+  prefix_beyond : at path ≡ None → (low : ℕ) → Nothing low (length path) → (other : List ℕ) → IsPrefix other path → low ≤ length other → at other ≡ None
+  prefix_beyond nothing low none other (inl e) le = ap at (sym e) ∙ nothing
+  prefix_beyond nothing low none other (inr (rest, e)) le = prefix_nothing low other rest e le none
 
   by_below : at path ≡ None → (o : Option X) → IsBelow (length path) o → IsNearest at path o
-  by_below nothing None none = λ front is. front_beyond nothing 0 none front is (omega arith)
+  by_below nothing None none = λ prefix is. prefix_beyond nothing 0 none prefix is (omega arith)
   by_below nothing (Some x) (j, lt, point, has, none) =
-      (take j path, front_at j lt point, has, λ other front longer. front_beyond nothing (suc j) none other front (omega (arith, longer, length-take-le j path (omega arith))))
+      (take j path, prefix_at j lt point, has, λ other prefix longer. prefix_beyond nothing (suc j) none other prefix (omega (arith, longer, length-take-le j path (omega arith))))
 
   by_path : (o : Option X) → at path ≡ o → IsNearest at path (option_or o (nearest_below at path (length path)))
-  by_path (Some x) e = (path, inl refl, e, λ other front longer. absurd (let short = front_length other front in omega (arith, short, longer)))
+  by_path (Some x) e = (path, inl refl, e, λ other prefix longer. absurd (let short = prefix_length other prefix in omega (arith, short, longer)))
   by_path None e = by_below e (nearest_below at path (length path)) (is_below (length path))
 
   pub is_nearest : IsNearest at path (nearest at path)

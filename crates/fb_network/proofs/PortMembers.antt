@@ -1,4 +1,4 @@
--- Fronts behind plugs and sockets, and the links of an adapter's ports between them.
+-- Prefixes behind plugs and sockets, and the links of an adapter's ports between them.
 use Rattle.std.proofs.Common.{ℕ, ◌≡◌, ◌<◌, ◌+◌, suc, List, [], ◌∷◌, ◌++◌, Option, Some, length, map, take, get_or, refl, sym, ap, subst, ◌∙◌, arith, append_assoc, length-append}
 use Rattle.std.specs.Prelude.{slice_get}
 use Rattle.std.specs.List.{All}
@@ -11,51 +11,51 @@ use Rattle.fb_network.specs.declared.network.Port.{Port}
 use Rattle.fb_network.specs.declared.place.Place.{Place}
 use Rattle.fb_network.specs.declared.entries.Join.{Join}
 use Rattle.fb_network.specs.Places.{dotted}
-use Rattle.fb_network.specs.PlainFront.{PlainFront}
+use Rattle.fb_network.specs.PlainPrefix.{PlainPrefix}
 use Rattle.fb_network.specs.Composed.{adapter_links, link_on_side, plug_links, port_links}
 use Rattle.fb_network.specs.Laid.{IsJoinBelow, link_at, path_at, path_in, text_or_nothing}
 use Rattle.fb_network.specs.Reading.{AreJoins, Grows, IsPlaceBelow}
-use Rattle.fb_network.specs.Behind.{AreMembers, IsMember, adapter_joins, front_behind, join_on_side, member_join, member_joins, plug_joins}
+use Rattle.fb_network.specs.Behind.{AreMembers, IsMember, adapter_joins, prefix_behind, join_on_side, member_join, member_joins, plug_joins}
 use Rattle.fb_network.proofs.Readings.{get_left, get_right, path_grown}
 use Rattle.fb_network.proofs.Standings.{grows_none, grows_twice, next_taken}
 
--- the fronts behind places have been added under these numbers
-pub record AddsMembers (old new : List PlainFront) (names : List (List ℕ)) (numbers : List ℕ) (places : List Place) : Type 0 where
+-- the prefixes behind places have been added under these numbers
+pub record AddsMembers (old new : List PlainPrefix) (names : List (List ℕ)) (numbers : List ℕ) (places : List Place) : Type 0 where
   pub grows : Grows old new
   pub members : AreMembers new names numbers (map (path_at old) places)
 
-member_grown : (fronts new : List PlainFront) (names : List (List ℕ)) (n : ℕ) (text : List ℕ) → Grows fronts new → IsMember fronts names n text → IsMember new names n text
-member_grown fronts new names n text g e = ap (λ (fs : List PlainFront). slice_get fs n) g.1 ∙ get_left fronts g.0 n (slice_get_within fronts n _ e) ∙ e
+member_grown : (prefixes new : List PlainPrefix) (names : List (List ℕ)) (n : ℕ) (text : List ℕ) → Grows prefixes new → IsMember prefixes names n text → IsMember new names n text
+member_grown prefixes new names n text g e = ap (λ (fs : List PlainPrefix). slice_get fs n) g.1 ∙ get_left prefixes g.0 n (slice_get_within prefixes n _ e) ∙ e
 
-pub members_grown : (fronts new : List PlainFront) (names : List (List ℕ)) (ns : List ℕ) (ts : List (List ℕ)) → Grows fronts new → AreMembers fronts names ns ts → AreMembers new names ns ts
-members_grown fronts new names [] [] g p = tt
-members_grown fronts new names [] (t ∷ ts) g p = absurd p
-members_grown fronts new names (n ∷ ns) [] g p = absurd p
-members_grown fronts new names (n ∷ ns) (t ∷ ts) g p = (member_grown fronts new names n t g p.0, members_grown fronts new names ns ts g p.1)
+pub members_grown : (prefixes new : List PlainPrefix) (names : List (List ℕ)) (ns : List ℕ) (ts : List (List ℕ)) → Grows prefixes new → AreMembers prefixes names ns ts → AreMembers new names ns ts
+members_grown prefixes new names [] [] g p = tt
+members_grown prefixes new names [] (t ∷ ts) g p = absurd p
+members_grown prefixes new names (n ∷ ns) [] g p = absurd p
+members_grown prefixes new names (n ∷ ns) (t ∷ ts) g p = (member_grown prefixes new names n t g p.0, members_grown prefixes new names ns ts g p.1)
 
-members_push : (fronts : List PlainFront) (names : List (List ℕ)) (ns : List ℕ) (ts : List (List ℕ)) (n : ℕ) (t : List ℕ) → AreMembers fronts names ns ts → IsMember fronts names n t → AreMembers fronts names (ns ++ n ∷ []) (ts ++ t ∷ [])
-members_push fronts names [] [] n t p q = (q, tt)
-members_push fronts names [] (u ∷ ts) n t p q = absurd p
-members_push fronts names (m ∷ ns) [] n t p q = absurd p
-members_push fronts names (m ∷ ns) (u ∷ ts) n t p q = (p.0, members_push fronts names ns ts n t p.1 q)
+members_push : (prefixes : List PlainPrefix) (names : List (List ℕ)) (ns : List ℕ) (ts : List (List ℕ)) (n : ℕ) (t : List ℕ) → AreMembers prefixes names ns ts → IsMember prefixes names n t → AreMembers prefixes names (ns ++ n ∷ []) (ts ++ t ∷ [])
+members_push prefixes names [] [] n t p q = (q, tt)
+members_push prefixes names [] (u ∷ ts) n t p q = absurd p
+members_push prefixes names (m ∷ ns) [] n t p q = absurd p
+members_push prefixes names (m ∷ ns) (u ∷ ts) n t p q = (p.0, members_push prefixes names ns ts n t p.1 q)
 
-pub adds_nothing : (fronts : List PlainFront) (names : List (List ℕ)) → AddsMembers fronts fronts names [] []
-adds_nothing fronts names = record { grows = grows_none fronts; members = tt }
+pub adds_nothing : (prefixes : List PlainPrefix) (names : List (List ℕ)) → AddsMembers prefixes prefixes names [] []
+adds_nothing prefixes names = record { grows = grows_none prefixes; members = tt }
 
--- one front more
-pub adds_member : (start fronts new : List PlainFront) (names : List (List ℕ)) (numbers all : List ℕ) (places : List Place) (k n : ℕ) (x : Place) → AddsMembers start fronts names numbers (take k places) → All (IsPlaceBelow (length start)) places → k < length places → x ≡ get_or places k x → n ≡ length fronts → new ≡ fronts ++ front_behind names (path_at fronts x) ∷ [] → all ≡ numbers ++ n ∷ [] → AddsMembers start new names all (take (k + 1) places)
-adds_member start fronts new names numbers all places k n x a below lt e count is all_are =
-    let one : PlainFront = front_behind names (path_at fronts x) in
-    let more : Grows fronts new = (one ∷ [], is) in
-    let here : slice_get new n ≡ Some one = ap (λ (fs : List PlainFront). slice_get fs n) is ∙ get_right fronts (one ∷ []) 0 n (omega (arith, count)) in
-    let x_below : x.front < length start = subst (IsPlaceBelow (length start)) (sym e) (All-get_or (IsPlaceBelow (length start)) places k x lt below) in
-    let same : path_at fronts x ≡ path_at start x = ap (λ (fs : List PlainFront). path_at fs x) a.grows.1 ∙ path_grown start a.grows.0 x x_below in
-    let member : IsMember new names n (path_at start x) = here ∙ ap (λ (t : List ℕ). Some (front_behind names t)) same in
-    let both = members_push new names numbers (map (path_at start) (take k places)) n (path_at start x) (members_grown fronts new names numbers (map (path_at start) (take k places)) more a.members) member in
+-- one prefix more
+pub adds_member : (start prefixes new : List PlainPrefix) (names : List (List ℕ)) (numbers all : List ℕ) (places : List Place) (k n : ℕ) (x : Place) → AddsMembers start prefixes names numbers (take k places) → All (IsPlaceBelow (length start)) places → k < length places → x ≡ get_or places k x → n ≡ length prefixes → new ≡ prefixes ++ prefix_behind names (path_at prefixes x) ∷ [] → all ≡ numbers ++ n ∷ [] → AddsMembers start new names all (take (k + 1) places)
+adds_member start prefixes new names numbers all places k n x a below lt e count is all_are =
+    let one : PlainPrefix = prefix_behind names (path_at prefixes x) in
+    let more : Grows prefixes new = (one ∷ [], is) in
+    let here : slice_get new n ≡ Some one = ap (λ (fs : List PlainPrefix). slice_get fs n) is ∙ get_right prefixes (one ∷ []) 0 n (omega (arith, count)) in
+    let x_below : x.prefix < length start = subst (IsPlaceBelow (length start)) (sym e) (All-get_or (IsPlaceBelow (length start)) places k x lt below) in
+    let same : path_at prefixes x ≡ path_at start x = ap (λ (fs : List PlainPrefix). path_at fs x) a.grows.1 ∙ path_grown start a.grows.0 x x_below in
+    let member : IsMember new names n (path_at start x) = here ∙ ap (λ (t : List ℕ). Some (prefix_behind names t)) same in
+    let both = members_push new names numbers (map (path_at start) (take k places)) n (path_at start x) (members_grown prefixes new names numbers (map (path_at start) (take k places)) more a.members) member in
     let texts : map (path_at start) (take k places) ++ path_at start x ∷ [] ≡ map (path_at start) (take (k + 1) places) =
     sym (map-append (path_at start) (take k places) (x ∷ [])) ∙ ap (map (path_at start)) (next_taken places k x lt e) in
     record {
-      grows = grows_twice start fronts new a.grows more;
+      grows = grows_twice start prefixes new a.grows more;
       members = subst (λ (ns : List ℕ). AreMembers new names ns (map (path_at start) (take (k + 1) places))) (sym all_are)
           (subst (λ (ts : List (List ℕ)). AreMembers new names (numbers ++ n ∷ []) ts) texts both);
     }
@@ -73,59 +73,59 @@ member_joins_next plug socket xs k x lt e =
     let here : k ≡ length (take k xs) + 0 = omega (arith, passed) in
     ap (λ (n : ℕ). member_joins plug socket 0 (take k xs) ++ member_join plug socket n x ∷ []) here ∙ member_joins_push plug socket 0 (take k xs) x ∙ ap (member_joins plug socket 0) (next_taken xs k x lt e)
 
-module _ (fronts : List PlainFront) (names : List (List ℕ)) where
-  member_path : (n end : ℕ) (text name : List ℕ) → IsMember fronts names n text → slice_get names end ≡ Some name → path_at fronts (record { front = n; end = end }) ≡ dotted text name
+module _ (prefixes : List PlainPrefix) (names : List (List ℕ)) where
+  member_path : (n end : ℕ) (text name : List ℕ) → IsMember prefixes names n text → slice_get names end ≡ Some name → path_at prefixes (record { prefix = n; end = end }) ≡ dotted text name
   member_path n end text name is named =
-      ap (λ (o : Option PlainFront). path_in o end) is ∙ ap (λ (o : Option (List ℕ)). dotted text [] ++ text_or_nothing o) named ∙ append_assoc text (46 ∷ []) name
+      ap (λ (o : Option PlainPrefix). path_in o end) is ∙ ap (λ (o : Option (List ℕ)). dotted text [] ++ text_or_nothing o) named ∙ append_assoc text (46 ∷ []) name
 
-  one_side : (side : Side) (port : Port) (a b : Place) (t u : List ℕ) → path_at fronts a ≡ dotted t port.name → path_at fronts b ≡ dotted u port.name → link_at fronts (join_on_side side port a b) ≡ link_on_side side port t u
+  one_side : (side : Side) (port : Port) (a b : Place) (t u : List ℕ) → path_at prefixes a ≡ dotted t port.name → path_at prefixes b ≡ dotted u port.name → link_at prefixes (join_on_side side port a b) ≡ link_on_side side port t u
   one_side Output port a b t u p q = λ i. record { sort = port.sort; from = p i; to = q i }
   one_side Input port a b t u p q = λ i. record { sort = port.sort; from = q i; to = p i }
 
-  one_side_below : (side : Side) (port : Port) (a b : Place) → a.front < length fronts → b.front < length fronts → IsJoinBelow (length fronts) (join_on_side side port a b)
+  one_side_below : (side : Side) (port : Port) (a b : Place) → a.prefix < length prefixes → b.prefix < length prefixes → IsJoinBelow (length prefixes) (join_on_side side port a b)
   one_side_below Output port a b p q = (p, q)
   one_side_below Input port a b p q = (q, p)
 
-  member_joins_say : (pre : List (List ℕ)) (ports : List Port) (end n m : ℕ) (t u : List ℕ) → end ≡ length pre → names ≡ pre ++ map (λ (port : Port). port.name) ports → IsMember fronts names n t → IsMember fronts names m u → map (link_at fronts) (member_joins n m end ports) ≡ port_links ports t u
+  member_joins_say : (pre : List (List ℕ)) (ports : List Port) (end n m : ℕ) (t u : List ℕ) → end ≡ length pre → names ≡ pre ++ map (λ (port : Port). port.name) ports → IsMember prefixes names n t → IsMember prefixes names m u → map (link_at prefixes) (member_joins n m end ports) ≡ port_links ports t u
   member_joins_say pre [] end n m t u e is p q = refl
   member_joins_say pre (port ∷ ports) end n m t u e is p q =
       let named : slice_get names end ≡ Some port.name = ap (λ (ns : List (List ℕ)). slice_get ns end) is ∙ get_right pre (port.name ∷ map (λ (port : Port). port.name) ports) 0 end (omega (arith, e)) in
-      let head = one_side port.side port (record { front = n; end = end }) (record { front = m; end = end }) t u (member_path n end t port.name p named) (member_path m end u port.name q named) in
+      let head = one_side port.side port (record { prefix = n; end = end }) (record { prefix = m; end = end }) t u (member_path n end t port.name p named) (member_path m end u port.name q named) in
       let longer : end + 1 ≡ length (pre ++ port.name ∷ []) = let long = length-append pre (port.name ∷ []) in omega (arith, e, long) in
       let tail = member_joins_say (pre ++ port.name ∷ []) ports (end + 1) n m t u longer (is ∙ sym (append_assoc pre (port.name ∷ []) (map (λ (port : Port). port.name) ports))) p q in
       λ i. head i ∷ tail i
 
-  member_joins_below : (ports : List Port) (end n m : ℕ) → n < length fronts → m < length fronts → All (IsJoinBelow (length fronts)) (member_joins n m end ports)
-  member_joins_below [] end n m p q = All-nil (IsJoinBelow (length fronts))
+  member_joins_below : (ports : List Port) (end n m : ℕ) → n < length prefixes → m < length prefixes → All (IsJoinBelow (length prefixes)) (member_joins n m end ports)
+  member_joins_below [] end n m p q = All-nil (IsJoinBelow (length prefixes))
   member_joins_below (port ∷ ports) end n m p q =
-      All-cons (IsJoinBelow (length fronts)) (member_join n m end port) (member_joins n m (end + 1) ports) (one_side_below port.side port (record { front = n; end = end }) (record { front = m; end = end }) p q) (member_joins_below ports (end + 1) n m p q)
+      All-cons (IsJoinBelow (length prefixes)) (member_join n m end port) (member_joins n m (end + 1) ports) (one_side_below port.side port (record { prefix = n; end = end }) (record { prefix = m; end = end }) p q) (member_joins_below ports (end + 1) n m p q)
 
   module _ (ports : List Port) (named : names ≡ map (λ (port : Port). port.name) ports) where
-    plug_joins_say : (n : ℕ) (t : List ℕ) (ms : List ℕ) (us : List (List ℕ)) → IsMember fronts names n t → AreMembers fronts names ms us → map (link_at fronts) (plug_joins ports ms n) ≡ plug_links ports us t
+    plug_joins_say : (n : ℕ) (t : List ℕ) (ms : List ℕ) (us : List (List ℕ)) → IsMember prefixes names n t → AreMembers prefixes names ms us → map (link_at prefixes) (plug_joins ports ms n) ≡ plug_links ports us t
     plug_joins_say n t [] [] p q = refl
     plug_joins_say n t [] (u ∷ us) p q = absurd q
     plug_joins_say n t (m ∷ ms) [] p q = absurd q
     plug_joins_say n t (m ∷ ms) (u ∷ us) p q =
-        map-append (link_at fronts) (member_joins n m 0 ports) (plug_joins ports ms n) ∙ (λ i. member_joins_say [] ports 0 n m t u refl named p q.0 i ++ plug_joins_say n t ms us p q.1 i)
+        map-append (link_at prefixes) (member_joins n m 0 ports) (plug_joins ports ms n) ∙ (λ i. member_joins_say [] ports 0 n m t u refl named p q.0 i ++ plug_joins_say n t ms us p q.1 i)
 
-    plug_joins_below : (n : ℕ) (ms : List ℕ) (us : List (List ℕ)) → n < length fronts → AreMembers fronts names ms us → All (IsJoinBelow (length fronts)) (plug_joins ports ms n)
-    plug_joins_below n [] us lt q = All-nil (IsJoinBelow (length fronts))
+    plug_joins_below : (n : ℕ) (ms : List ℕ) (us : List (List ℕ)) → n < length prefixes → AreMembers prefixes names ms us → All (IsJoinBelow (length prefixes)) (plug_joins ports ms n)
+    plug_joins_below n [] us lt q = All-nil (IsJoinBelow (length prefixes))
     plug_joins_below n (m ∷ ms) [] lt q = absurd q
     plug_joins_below n (m ∷ ms) (u ∷ us) lt q =
-        All-append (IsJoinBelow (length fronts)) (member_joins n m 0 ports) (plug_joins ports ms n) (member_joins_below ports 0 n m lt (slice_get_within fronts m _ q.0)) (plug_joins_below n ms us lt q.1)
+        All-append (IsJoinBelow (length prefixes)) (member_joins n m 0 ports) (plug_joins ports ms n) (member_joins_below ports 0 n m lt (slice_get_within prefixes m _ q.0)) (plug_joins_below n ms us lt q.1)
 
-    adapter_joins_say : (ns : List ℕ) (ts : List (List ℕ)) (ms : List ℕ) (us : List (List ℕ)) → AreMembers fronts names ns ts → AreMembers fronts names ms us → map (link_at fronts) (adapter_joins ports ns ms) ≡ adapter_links ports ts us
+    adapter_joins_say : (ns : List ℕ) (ts : List (List ℕ)) (ms : List ℕ) (us : List (List ℕ)) → AreMembers prefixes names ns ts → AreMembers prefixes names ms us → map (link_at prefixes) (adapter_joins ports ns ms) ≡ adapter_links ports ts us
     adapter_joins_say [] [] ms us p q = refl
     adapter_joins_say [] (t ∷ ts) ms us p q = absurd p
     adapter_joins_say (n ∷ ns) [] ms us p q = absurd p
     adapter_joins_say (n ∷ ns) (t ∷ ts) ms us p q =
-        map-append (link_at fronts) (plug_joins ports ms n) (adapter_joins ports ns ms) ∙ (λ i. plug_joins_say n t ms us p.0 q i ++ adapter_joins_say ns ts ms us p.1 q i)
+        map-append (link_at prefixes) (plug_joins ports ms n) (adapter_joins ports ns ms) ∙ (λ i. plug_joins_say n t ms us p.0 q i ++ adapter_joins_say ns ts ms us p.1 q i)
 
-    adapter_joins_below : (ns : List ℕ) (ts : List (List ℕ)) (ms : List ℕ) (us : List (List ℕ)) → AreMembers fronts names ns ts → AreMembers fronts names ms us → All (IsJoinBelow (length fronts)) (adapter_joins ports ns ms)
-    adapter_joins_below [] ts ms us p q = All-nil (IsJoinBelow (length fronts))
+    adapter_joins_below : (ns : List ℕ) (ts : List (List ℕ)) (ms : List ℕ) (us : List (List ℕ)) → AreMembers prefixes names ns ts → AreMembers prefixes names ms us → All (IsJoinBelow (length prefixes)) (adapter_joins ports ns ms)
+    adapter_joins_below [] ts ms us p q = All-nil (IsJoinBelow (length prefixes))
     adapter_joins_below (n ∷ ns) [] ms us p q = absurd p
     adapter_joins_below (n ∷ ns) (t ∷ ts) ms us p q =
-        All-append (IsJoinBelow (length fronts)) (plug_joins ports ms n) (adapter_joins ports ns ms) (plug_joins_below n ms us (slice_get_within fronts n _ p.0) q) (adapter_joins_below ns ts ms us p.1 q)
+        All-append (IsJoinBelow (length prefixes)) (plug_joins ports ms n) (adapter_joins ports ns ms) (plug_joins_below n ms us (slice_get_within prefixes n _ p.0) q) (adapter_joins_below ns ts ms us p.1 q)
 
-    pub adapter_reads : (ns : List ℕ) (ts : List (List ℕ)) (ms : List ℕ) (us : List (List ℕ)) → AreMembers fronts names ns ts → AreMembers fronts names ms us → AreJoins fronts (adapter_joins ports ns ms) (adapter_links ports ts us)
+    pub adapter_reads : (ns : List ℕ) (ts : List (List ℕ)) (ms : List ℕ) (us : List (List ℕ)) → AreMembers prefixes names ns ts → AreMembers prefixes names ms us → AreJoins prefixes (adapter_joins ports ns ms) (adapter_links ports ts us)
     adapter_reads ns ts ms us p q = record { in_range = adapter_joins_below ns ts ms us p q; is = adapter_joins_say ns ts ms us p q }

@@ -1,4 +1,4 @@
--- Entries keep what they say where fronts are added, and say it inside an instance where they are moved.
+-- Entries keep what they say where prefixes are added, and say it inside an instance where they are moved.
 use Rattle.std.proofs.Common.{ℕ, ◌≡◌, ◌<◌, ◌≤◌, ◌+◌, suc, zero, List, [], ◌∷◌, ◌++◌, Option, Some, None, length, map, refl, sym, ap, subst, ◌∙◌, arith, append_assoc, length-append, append-nil}
 use Rattle.std.specs.Prelude.{slice_get, option_map}
 use Rattle.std.specs.List.{All}
@@ -7,7 +7,7 @@ use Rattle.std.proofs.lemmas.Option.{slice_get-map}
 use Rattle.std.proofs.lemmas.Simd.{map-map}
 use Rattle.std.proofs.lemmas.List.Elements.{All-append, All-map, All-nil, All-weaker, All-head, All-tail}
 use Rattle.fb_network.specs.Places.{dotted}
-use Rattle.fb_network.specs.PlainFront.{PlainFront}
+use Rattle.fb_network.specs.PlainPrefix.{PlainPrefix}
 use Rattle.fb_network.specs.declared.flat.FlatBlock.{FlatBlock}
 use Rattle.fb_network.specs.declared.flat.Link.{Link}
 use Rattle.fb_network.specs.declared.flat.Border.{Border}
@@ -16,7 +16,7 @@ use Rattle.fb_network.specs.declared.entries.Leaf.{Leaf}
 use Rattle.fb_network.specs.declared.entries.Join.{Join}
 use Rattle.fb_network.specs.declared.entries.Edge.{Edge}
 use Rattle.fb_network.specs.Composed.{block_within, link_within}
-use Rattle.fb_network.specs.Laid.{IsEdgeBelow, IsJoinBelow, IsLeafBelow, block_at, border_at, edge_moved, front_within, join_moved, leaf_moved, link_at, path_at, path_in, place_moved, text_or_nothing}
+use Rattle.fb_network.specs.Laid.{IsEdgeBelow, IsJoinBelow, IsLeafBelow, block_at, border_at, edge_moved, prefix_within, join_moved, leaf_moved, link_at, path_at, path_in, place_moved, text_or_nothing}
 use Rattle.fb_network.specs.Reading.{AreEdges, AreJoins, AreLeaves, ArePlaces, Grows, IsPlaceBelow, IsReading, border_within}
 
 -- what stands in a list that others follow
@@ -36,94 +36,94 @@ none_below [] k lt e = omega (arith, lt)
 none_below (x ∷ xs) zero lt e = cc
 none_below (x ∷ xs) (suc k) lt e = none_below xs k (omega (arith, lt)) e
 
--- a path stays where fronts are added
-pub path_grown : (fronts more : List PlainFront) (p : Place) → p.front < length fronts → path_at (fronts ++ more) p ≡ path_at fronts p
-path_grown fronts more p lt = ap (λ (o : Option PlainFront). path_in o p.end) (get_left fronts more p.front lt)
+-- a path stays where prefixes are added
+pub path_grown : (prefixes more : List PlainPrefix) (p : Place) → p.prefix < length prefixes → path_at (prefixes ++ more) p ≡ path_at prefixes p
+path_grown prefixes more p lt = ap (λ (o : Option PlainPrefix). path_in o p.end) (get_left prefixes more p.prefix lt)
 
--- a front inside an instance has its paths there
-path_inside : (name : List ℕ) (o : Option PlainFront) (end : ℕ) → (o ≡ None → ⊥) → path_in (option_map (front_within name) o) end ≡ dotted name (path_in o end)
+-- a prefix inside an instance has its paths there
+path_inside : (name : List ℕ) (o : Option PlainPrefix) (end : ℕ) → (o ≡ None → ⊥) → path_in (option_map (prefix_within name) o) end ≡ dotted name (path_in o end)
 path_inside name None end some = absurd (some refl)
-path_inside name (Some front) end some = append_assoc name (46 ∷ front.start) (text_or_nothing (slice_get front.ends end))
+path_inside name (Some prefix) end some = append_assoc name (46 ∷ prefix.start) (text_or_nothing (slice_get prefix.ends end))
 
-path_moved : (before inner after : List PlainFront) (name : List ℕ) (by : ℕ) (p : Place) → by ≡ length before → p.front < length inner → path_at (before ++ (map (front_within name) inner ++ after)) (place_moved by p) ≡ dotted name (path_at inner p)
+path_moved : (before inner after : List PlainPrefix) (name : List ℕ) (by : ℕ) (p : Place) → by ≡ length before → p.prefix < length inner → path_at (before ++ (map (prefix_within name) inner ++ after)) (place_moved by p) ≡ dotted name (path_at inner p)
 path_moved before inner after name by p e lt =
-    let further : slice_get (before ++ (map (front_within name) inner ++ after)) (p.front + by) ≡ slice_get (map (front_within name) inner ++ after) p.front =
-    get_right before (map (front_within name) inner ++ after) p.front (p.front + by) (ap (λ (n : ℕ). p.front + n) e) in
-    let within : p.front < length (map (front_within name) inner) = let long = length-map inner (front_within name) in omega (arith, lt, long) in
-    let found = further ∙ get_left (map (front_within name) inner) after p.front within ∙ slice_get-map (front_within name) inner p.front in
-    ap (λ (o : Option PlainFront). path_in o p.end) found ∙ path_inside name (slice_get inner p.front) p.end (none_below inner p.front lt)
+    let further : slice_get (before ++ (map (prefix_within name) inner ++ after)) (p.prefix + by) ≡ slice_get (map (prefix_within name) inner ++ after) p.prefix =
+    get_right before (map (prefix_within name) inner ++ after) p.prefix (p.prefix + by) (ap (λ (n : ℕ). p.prefix + n) e) in
+    let within : p.prefix < length (map (prefix_within name) inner) = let long = length-map inner (prefix_within name) in omega (arith, lt, long) in
+    let found = further ∙ get_left (map (prefix_within name) inner) after p.prefix within ∙ slice_get-map (prefix_within name) inner p.prefix in
+    ap (λ (o : Option PlainPrefix). path_in o p.end) found ∙ path_inside name (slice_get inner p.prefix) p.end (none_below inner p.prefix lt)
 
-module _ {E X : Type 0} (below : ℕ → E → Type 0) (at : List PlainFront → E → X) where
-  pub reading_nothing : (fronts : List PlainFront) → IsReading below at fronts [] []
-  reading_nothing fronts = record { in_range = All-nil (below (length fronts)); is = refl }
+module _ {E X : Type 0} (below : ℕ → E → Type 0) (at : List PlainPrefix → E → X) where
+  pub reading_nothing : (prefixes : List PlainPrefix) → IsReading below at prefixes [] []
+  reading_nothing prefixes = record { in_range = All-nil (below (length prefixes)); is = refl }
 
-  pub reading_both : (fronts : List PlainFront) (es fs : List E) (xs ys : List X) → IsReading below at fronts es xs → IsReading below at fronts fs ys → IsReading below at fronts (es ++ fs) (xs ++ ys)
-  reading_both fronts es fs xs ys p q =
-      record { in_range = All-append (below (length fronts)) es fs p.in_range q.in_range; is = map-append (at fronts) es fs ∙ (λ i. p.is i ++ q.is i) }
+  pub reading_both : (prefixes : List PlainPrefix) (es fs : List E) (xs ys : List X) → IsReading below at prefixes es xs → IsReading below at prefixes fs ys → IsReading below at prefixes (es ++ fs) (xs ++ ys)
+  reading_both prefixes es fs xs ys p q =
+      record { in_range = All-append (below (length prefixes)) es fs p.in_range q.in_range; is = map-append (at prefixes) es fs ∙ (λ i. p.is i ++ q.is i) }
 
   -- entries that say the same one by one
   map_same : {Y : Type 0} (P : E → Type 0) (f g : E → Y) → ((e : E) → P e → f e ≡ g e) → (es : List E) → All P es → map f es ≡ map g es
   map_same P f g same [] all = refl
   map_same P f g same (e ∷ es) all = (λ i. same e (All-head P e es all) i ∷ map_same P f g same es (All-tail P e es all) i)
 
-  module _ (weaker : (m n : ℕ) (e : E) → m ≤ n → below m e → below n e) (grown : (fronts more : List PlainFront) (e : E) → below (length fronts) e → at (fronts ++ more) e ≡ at fronts e) where
-    pub reading_grown : (fronts new : List PlainFront) (es : List E) (xs : List X) → Grows fronts new → IsReading below at fronts es xs → IsReading below at new es xs
-    reading_grown fronts new es xs g p =
-        subst (λ (fs : List PlainFront). IsReading below at fs es xs) (sym g.1)
+  module _ (weaker : (m n : ℕ) (e : E) → m ≤ n → below m e → below n e) (grown : (prefixes more : List PlainPrefix) (e : E) → below (length prefixes) e → at (prefixes ++ more) e ≡ at prefixes e) where
+    pub reading_grown : (prefixes new : List PlainPrefix) (es : List E) (xs : List X) → Grows prefixes new → IsReading below at prefixes es xs → IsReading below at new es xs
+    reading_grown prefixes new es xs g p =
+        subst (λ (fs : List PlainPrefix). IsReading below at fs es xs) (sym g.1)
         (record {
-          in_range = All-weaker (below (length fronts)) (below (length (fronts ++ g.0))) (λ e b. weaker (length fronts) (length (fronts ++ g.0)) e (let long = length-append fronts g.0 in omega (arith, long)) b) es p.in_range;
-          is = map_same (below (length fronts)) (at (fronts ++ g.0)) (at fronts) (grown fronts g.0) es p.in_range ∙ p.is;
+          in_range = All-weaker (below (length prefixes)) (below (length (prefixes ++ g.0))) (λ e b. weaker (length prefixes) (length (prefixes ++ g.0)) e (let long = length-append prefixes g.0 in omega (arith, long)) b) es p.in_range;
+          is = map_same (below (length prefixes)) (at (prefixes ++ g.0)) (at prefixes) (grown prefixes g.0) es p.in_range ∙ p.is;
         })
 
   module _ (name : List ℕ) (move : ℕ → E → E) (inside : X → X)
       (moves_below : (by count : ℕ) (e : E) → below count e → below (by + count) (move by e))
-      (moved : (before inner : List PlainFront) (by : ℕ) (e : E) → by ≡ length before → below (length inner) e → at (before ++ (map (front_within name) inner)) (move by e) ≡ inside (at inner e)) where
-    pub reading_moved : (before inner : List PlainFront) (by : ℕ) (es : List E) → by ≡ length before → All (below (length inner)) es → IsReading below at (before ++ map (front_within name) inner) (map (move by) es) (map inside (map (at inner) es))
+      (moved : (before inner : List PlainPrefix) (by : ℕ) (e : E) → by ≡ length before → below (length inner) e → at (before ++ (map (prefix_within name) inner)) (move by e) ≡ inside (at inner e)) where
+    pub reading_moved : (before inner : List PlainPrefix) (by : ℕ) (es : List E) → by ≡ length before → All (below (length inner)) es → IsReading below at (before ++ map (prefix_within name) inner) (map (move by) es) (map inside (map (at inner) es))
     reading_moved before inner by es e all =
-        let count : by + length inner ≡ length (before ++ map (front_within name) inner) =
-        let long = length-append before (map (front_within name) inner) in let same = length-map inner (front_within name) in omega (arith, e, long, same) in
+        let count : by + length inner ≡ length (before ++ map (prefix_within name) inner) =
+        let long = length-append before (map (prefix_within name) inner) in let same = length-map inner (prefix_within name) in omega (arith, e, long, same) in
         record {
-          in_range = All-map (below (length (before ++ map (front_within name) inner))) (move by) es
-              (All-weaker (below (length inner)) (λ x. below (length (before ++ map (front_within name) inner)) (move by x)) (λ x b. subst (λ (n : ℕ). below n (move by x)) count (moves_below by (length inner) x b)) es all);
-          is = map-map (at (before ++ map (front_within name) inner)) (move by) es
-              ∙ map_same (below (length inner)) (λ x. at (before ++ map (front_within name) inner) (move by x)) (λ x. inside (at inner x)) (λ x b. moved before inner by x e b) es all
+          in_range = All-map (below (length (before ++ map (prefix_within name) inner))) (move by) es
+              (All-weaker (below (length inner)) (λ x. below (length (before ++ map (prefix_within name) inner)) (move by x)) (λ x b. subst (λ (n : ℕ). below n (move by x)) count (moves_below by (length inner) x b)) es all);
+          is = map-map (at (before ++ map (prefix_within name) inner)) (move by) es
+              ∙ map_same (below (length inner)) (λ x. at (before ++ map (prefix_within name) inner) (move by x)) (λ x. inside (at inner x)) (λ x b. moved before inner by x e b) es all
               ∙ sym (map-map inside (at inner) es);
         }
 
-path_moved_last : (before inner : List PlainFront) (name : List ℕ) (by : ℕ) (p : Place) → by ≡ length before → p.front < length inner → path_at (before ++ map (front_within name) inner) (place_moved by p) ≡ dotted name (path_at inner p)
+path_moved_last : (before inner : List PlainPrefix) (name : List ℕ) (by : ℕ) (p : Place) → by ≡ length before → p.prefix < length inner → path_at (before ++ map (prefix_within name) inner) (place_moved by p) ≡ dotted name (path_at inner p)
 path_moved_last before inner name by p e lt =
-    ap (λ (fs : List PlainFront). path_at (before ++ fs) (place_moved by p)) (sym (append-nil (map (front_within name) inner))) ∙ path_moved before inner [] name by p e lt
+    ap (λ (fs : List PlainPrefix). path_at (before ++ fs) (place_moved by p)) (sym (append-nil (map (prefix_within name) inner))) ∙ path_moved before inner [] name by p e lt
 
-pub places_grown : {fronts new : List PlainFront} {es : List Place} {xs : List (List ℕ)} → Grows fronts new → ArePlaces fronts es xs → ArePlaces new es xs
+pub places_grown : {prefixes new : List PlainPrefix} {es : List Place} {xs : List (List ℕ)} → Grows prefixes new → ArePlaces prefixes es xs → ArePlaces new es xs
 places_grown g p = reading_grown IsPlaceBelow path_at (λ m n e le lt. omega (arith, le, lt)) path_grown _ _ _ _ g p
 
-pub leaves_grown : {fronts new : List PlainFront} {es : List Leaf} {xs : List FlatBlock} → Grows fronts new → AreLeaves fronts es xs → AreLeaves new es xs
+pub leaves_grown : {prefixes new : List PlainPrefix} {es : List Leaf} {xs : List FlatBlock} → Grows prefixes new → AreLeaves prefixes es xs → AreLeaves new es xs
 leaves_grown g p =
     reading_grown IsLeafBelow block_at (λ m n e le lt. omega (arith, le, lt))
-    (λ fronts more e lt i. record { path = path_grown fronts more e.place lt i; type_name = e.type_name }) _ _ _ _ g p
+    (λ prefixes more e lt i. record { path = path_grown prefixes more e.place lt i; type_name = e.type_name }) _ _ _ _ g p
 
-pub joins_grown : {fronts new : List PlainFront} {es : List Join} {xs : List Link} → Grows fronts new → AreJoins fronts es xs → AreJoins new es xs
+pub joins_grown : {prefixes new : List PlainPrefix} {es : List Join} {xs : List Link} → Grows prefixes new → AreJoins prefixes es xs → AreJoins new es xs
 joins_grown g p =
     reading_grown IsJoinBelow link_at (λ m n e le b. (let lt = b.0 in omega (arith, le, lt), let lt = b.1 in omega (arith, le, lt)))
-    (λ fronts more e b i. record { sort = e.sort; from = path_grown fronts more e.from b.0 i; to = path_grown fronts more e.to b.1 i }) _ _ _ _ g p
+    (λ prefixes more e b i. record { sort = e.sort; from = path_grown prefixes more e.from b.0 i; to = path_grown prefixes more e.to b.1 i }) _ _ _ _ g p
 
-pub edges_grown : {fronts new : List PlainFront} {es : List Edge} {xs : List Border} → Grows fronts new → AreEdges fronts es xs → AreEdges new es xs
+pub edges_grown : {prefixes new : List PlainPrefix} {es : List Edge} {xs : List Border} → Grows prefixes new → AreEdges prefixes es xs → AreEdges new es xs
 edges_grown g p =
     reading_grown IsEdgeBelow border_at (λ m n e le lt. omega (arith, le, lt))
-    (λ fronts more e lt i. record { sort = e.sort; port = e.port; place = path_grown fronts more e.place lt i }) _ _ _ _ g p
+    (λ prefixes more e lt i. record { sort = e.sort; port = e.port; place = path_grown prefixes more e.place lt i }) _ _ _ _ g p
 
--- the entries of an inner network, moved behind the fronts that there are
-pub leaves_moved : (before inner : List PlainFront) (name : List ℕ) (by : ℕ) (es : List Leaf) → by ≡ length before → All (IsLeafBelow (length inner)) es → AreLeaves (before ++ map (front_within name) inner) (map (leaf_moved by) es) (map (block_within name) (map (block_at inner) es))
+-- the entries of an inner network, moved behind the prefixes that there are
+pub leaves_moved : (before inner : List PlainPrefix) (name : List ℕ) (by : ℕ) (es : List Leaf) → by ≡ length before → All (IsLeafBelow (length inner)) es → AreLeaves (before ++ map (prefix_within name) inner) (map (leaf_moved by) es) (map (block_within name) (map (block_at inner) es))
 leaves_moved before inner name by es e all =
     reading_moved IsLeafBelow block_at name leaf_moved (block_within name) (λ by count x lt. omega (arith, lt))
     (λ before inner by x e lt i. record { path = path_moved_last before inner name by x.place e lt i; type_name = x.type_name }) before inner by es e all
 
-pub joins_moved : (before inner : List PlainFront) (name : List ℕ) (by : ℕ) (es : List Join) → by ≡ length before → All (IsJoinBelow (length inner)) es → AreJoins (before ++ map (front_within name) inner) (map (join_moved by) es) (map (link_within name) (map (link_at inner) es))
+pub joins_moved : (before inner : List PlainPrefix) (name : List ℕ) (by : ℕ) (es : List Join) → by ≡ length before → All (IsJoinBelow (length inner)) es → AreJoins (before ++ map (prefix_within name) inner) (map (join_moved by) es) (map (link_within name) (map (link_at inner) es))
 joins_moved before inner name by es e all =
     reading_moved IsJoinBelow link_at name join_moved (link_within name) (λ by count x b. (let lt = b.0 in omega (arith, lt), let lt = b.1 in omega (arith, lt)))
     (λ before inner by x e b i. record { sort = x.sort; from = path_moved_last before inner name by x.from e b.0 i; to = path_moved_last before inner name by x.to e b.1 i }) before inner by es e all
 
-pub edges_moved : (before inner : List PlainFront) (name : List ℕ) (by : ℕ) (es : List Edge) → by ≡ length before → All (IsEdgeBelow (length inner)) es → AreEdges (before ++ map (front_within name) inner) (map (edge_moved by) es) (map (border_within name) (map (border_at inner) es))
+pub edges_moved : (before inner : List PlainPrefix) (name : List ℕ) (by : ℕ) (es : List Edge) → by ≡ length before → All (IsEdgeBelow (length inner)) es → AreEdges (before ++ map (prefix_within name) inner) (map (edge_moved by) es) (map (border_within name) (map (border_at inner) es))
 edges_moved before inner name by es e all =
     reading_moved IsEdgeBelow border_at name edge_moved (border_within name) (λ by count x lt. omega (arith, lt))
     (λ before inner by x e lt i. record { sort = x.sort; port = x.port; place = path_moved_last before inner name by x.place e lt i }) before inner by es e all

@@ -20,7 +20,7 @@ use Rattle.fb_network.specs.declared.draft.Draft.{Draft}
 use Rattle.fb_network.specs.declared.table.Standing.{Standing}
 use Rattle.fb_network.specs.Network.{instance_named}
 use Rattle.fb_network.specs.PlainFlat.{PlainFlat}
-use Rattle.fb_network.specs.PlainFront.{PlainFront}
+use Rattle.fb_network.specs.PlainPrefix.{PlainPrefix}
 use Rattle.fb_network.specs.Ready.{Nets}
 use Rattle.fb_network.specs.Composed.{blocks_of, blocks_of_kind, inner_blocks, inner_links, inner_links_of_kind, links_of}
 use Rattle.fb_network.specs.Laid.{IsEdgeBelow, IsJoinBelow, IsLeafBelow, block_at, border_at, link_at}
@@ -69,45 +69,45 @@ put_kept old s there q = by_cases (old q) refl
             let none = ap is_some h in absurd (cc)
         by_test false e = ap (λ (b : Bool). cond b (Some s) None) (sym e)
 
-pub says_grown : {fronts new : List PlainFront} {place : Place} {text : List ℕ} → Grows fronts new → Says fronts place text → Says new place text
-says_grown {fronts = fronts} {place = place} {text = text} g s =
-    subst (λ (fs : List PlainFront). Says fs place text) (sym g.1)
-    (record { in_range = (let long = length-append fronts g.0 in let lt = s.in_range in omega (arith, long, lt)); is = path_grown fronts g.0 place s.in_range ∙ s.is })
+pub says_grown : {prefixes new : List PlainPrefix} {place : Place} {text : List ℕ} → Grows prefixes new → Says prefixes place text → Says new place text
+says_grown {prefixes = prefixes} {place = place} {text = text} g s =
+    subst (λ (fs : List PlainPrefix). Says fs place text) (sym g.1)
+    (record { in_range = (let long = length-append prefixes g.0 in let lt = s.in_range in omega (arith, long, lt)); is = path_grown prefixes g.0 place s.in_range ∙ s.is })
 
-pub grows_none : (fronts : List PlainFront) → Grows fronts fronts
-grows_none fronts = ([], sym (append-nil fronts))
+pub grows_none : (prefixes : List PlainPrefix) → Grows prefixes prefixes
+grows_none prefixes = ([], sym (append-nil prefixes))
 
-pub grows_twice : (a b c : List PlainFront) → Grows a b → Grows b c → Grows a c
-grows_twice a b c g h = (g.0 ++ h.0, h.1 ∙ ap (λ (fs : List PlainFront). fs ++ h.0) g.1 ∙ append_assoc a g.0 h.0)
+pub grows_twice : (a b c : List PlainPrefix) → Grows a b → Grows b c → Grows a c
+grows_twice a b c g h = (g.0 ++ h.0, h.1 ∙ ap (λ (fs : List PlainPrefix). fs ++ h.0) g.1 ∙ append_assoc a g.0 h.0)
 
 -- nothing is taken in
 pub takes_none : {nets : Nets} (draft : Draft) (i : Instance) (edges : List Edge) → inner_blocks nets i ≡ [] → inner_links nets i ≡ [] → inner_borders nets i ≡ [] → edges ≡ [] → TakesInstance nets draft draft i edges
 takes_none {nets = nets} draft i edges no_blocks no_links no_borders none =
     record {
-      grows = grows_none draft.fronts.items;
-      blocks = λ blocks p. subst (λ (bs : List FlatBlock). AreLeaves draft.fronts.items draft.leaves.items bs) (sym (append-nil blocks) ∙ ap (λ (bs : List FlatBlock). blocks ++ bs) (sym no_blocks)) p;
-      links = λ links p. subst (λ (ls : List Link). AreJoins draft.fronts.items draft.joins.items ls) (sym (append-nil links) ∙ ap (λ (ls : List Link). links ++ ls) (sym no_links)) p;
-      borders = subst (λ (bs : List Border). AreEdges draft.fronts.items edges bs) (sym no_borders)
-          (subst (λ (es : List Edge). AreEdges draft.fronts.items es []) (sym none) (reading_nothing IsEdgeBelow border_at draft.fronts.items));
+      grows = grows_none draft.prefixes.items;
+      blocks = λ blocks p. subst (λ (bs : List FlatBlock). AreLeaves draft.prefixes.items draft.leaves.items bs) (sym (append-nil blocks) ∙ ap (λ (bs : List FlatBlock). blocks ++ bs) (sym no_blocks)) p;
+      links = λ links p. subst (λ (ls : List Link). AreJoins draft.prefixes.items draft.joins.items ls) (sym (append-nil links) ∙ ap (λ (ls : List Link). links ++ ls) (sym no_links)) p;
+      borders = subst (λ (bs : List Border). AreEdges draft.prefixes.items edges bs) (sym no_borders)
+          (subst (λ (es : List Edge). AreEdges draft.prefixes.items es []) (sym none) (reading_nothing IsEdgeBelow border_at draft.prefixes.items));
     }
 
 -- a block is taken in
-pub takes_block : {nets : Nets} (old new : Draft) (i : Instance) (edges : List Edge) (place : Place) → i.kind ≡ Block → Says old.fronts.items place i.name → new.fronts.items ≡ old.fronts.items → new.joins.items ≡ old.joins.items → new.leaves.items ≡ old.leaves.items ++ record { place = place; type_name = i.type_name } ∷ [] → edges ≡ [] → TakesInstance nets old new i edges
-takes_block {nets = nets} old new i edges place kind says fronts_stay joins_stay leaves_are none =
-    let grows : Grows old.fronts.items new.fronts.items = ([], fronts_stay ∙ sym (append-nil old.fronts.items)) in
+pub takes_block : {nets : Nets} (old new : Draft) (i : Instance) (edges : List Edge) (place : Place) → i.kind ≡ Block → Says old.prefixes.items place i.name → new.prefixes.items ≡ old.prefixes.items → new.joins.items ≡ old.joins.items → new.leaves.items ≡ old.leaves.items ++ record { place = place; type_name = i.type_name } ∷ [] → edges ≡ [] → TakesInstance nets old new i edges
+takes_block {nets = nets} old new i edges place kind says prefixes_stay joins_stay leaves_are none =
+    let grows : Grows old.prefixes.items new.prefixes.items = ([], prefixes_stay ∙ sym (append-nil old.prefixes.items)) in
     let there = says_grown grows says in
     let leaf : Leaf = record { place = place; type_name = i.type_name } in
     let block : FlatBlock = record { path = i.name; type_name = i.type_name } in
-    let one : AreLeaves new.fronts.items (leaf ∷ []) (block ∷ []) = record {
-      in_range = All-cons (IsLeafBelow (length new.fronts.items)) leaf [] there.in_range (All-nil (IsLeafBelow (length new.fronts.items)));
+    let one : AreLeaves new.prefixes.items (leaf ∷ []) (block ∷ []) = record {
+      in_range = All-cons (IsLeafBelow (length new.prefixes.items)) leaf [] there.in_range (All-nil (IsLeafBelow (length new.prefixes.items)));
       is = λ j. record { path = there.is j; type_name = i.type_name } ∷ [];
     } in
     record {
       grows = grows;
       blocks = λ blocks p. added new.leaves.items (inner_blocks nets i) leaves_are (ap (λ (k : InstanceKind). blocks_of_kind k nets i.name i.type_name) (sym kind)) (leaves_grown grows p) one;
-      links = λ links p. added new.joins.items (inner_links nets i) (joins_stay ∙ sym (append-nil old.joins.items)) (ap (λ (k : InstanceKind). inner_links_of_kind k nets i.name i.type_name) (sym kind)) (joins_grown grows p) (reading_nothing IsJoinBelow link_at new.fronts.items);
-      borders = subst (λ (k : InstanceKind). AreEdges new.fronts.items edges (inner_borders_of_kind k nets i.name i.type_name)) (sym kind)
-          (subst (λ (es : List Edge). AreEdges new.fronts.items es []) (sym none) (reading_nothing IsEdgeBelow border_at new.fronts.items));
+      links = λ links p. added new.joins.items (inner_links nets i) (joins_stay ∙ sym (append-nil old.joins.items)) (ap (λ (k : InstanceKind). inner_links_of_kind k nets i.name i.type_name) (sym kind)) (joins_grown grows p) (reading_nothing IsJoinBelow link_at new.prefixes.items);
+      borders = subst (λ (k : InstanceKind). AreEdges new.prefixes.items edges (inner_borders_of_kind k nets i.name i.type_name)) (sym kind)
+          (subst (λ (es : List Edge). AreEdges new.prefixes.items es []) (sym none) (reading_nothing IsEdgeBelow border_at new.prefixes.items));
     }
 
 -- a subapplication instance without a net holds nothing
@@ -126,19 +126,19 @@ takes_inner {nets = nets} old new i inner edges kind found t =
     let borders_are : borders_of i.name (Some inner) ≡ inner_borders nets i = sym (ap (λ (k : InstanceKind). inner_borders_of_kind k nets i.name i.type_name) kind ∙ ap (borders_of i.name) found) in
     record {
       grows = t.grows;
-      blocks = λ blocks p. subst (λ (bs : List FlatBlock). AreLeaves new.fronts.items new.leaves.items (blocks ++ bs)) blocks_are (t.blocks blocks p);
-      links = λ links p. subst (λ (ls : List Link). AreJoins new.fronts.items new.joins.items (links ++ ls)) links_are (t.links links p);
-      borders = subst (λ (bs : List Border). AreEdges new.fronts.items edges bs) borders_are t.borders;
+      blocks = λ blocks p. subst (λ (bs : List FlatBlock). AreLeaves new.prefixes.items new.leaves.items (blocks ++ bs)) blocks_are (t.blocks blocks p);
+      links = λ links p. subst (λ (ls : List Link). AreJoins new.prefixes.items new.joins.items (links ++ ls)) links_are (t.links links p);
+      borders = subst (λ (bs : List Border). AreEdges new.prefixes.items edges bs) borders_are t.borders;
     }
 
 -- no instance has been taken in
 pub holds_nothing : {nets : Nets} (draft : Draft) (table : List ℕ → Option Standing) → draft.leaves.items ≡ [] → draft.joins.items ≡ [] → ((q : List ℕ) → table q ≡ None) → HoldsInstances nets draft draft table []
 holds_nothing {nets = nets} draft table no_blocks no_links none =
     record {
-      grows = grows_none draft.fronts.items;
-      blocks = subst (λ (ls : List Leaf). AreLeaves draft.fronts.items ls []) (sym no_blocks) (reading_nothing IsLeafBelow block_at draft.fronts.items);
-      links = subst (λ (js : List Join). AreJoins draft.fronts.items js []) (sym no_links) (reading_nothing IsJoinBelow link_at draft.fronts.items);
-      standing = λ name. subst (λ (o : Option Standing). StandsFor draft.fronts.items nets o None) (sym (none name)) tt;
+      grows = grows_none draft.prefixes.items;
+      blocks = subst (λ (ls : List Leaf). AreLeaves draft.prefixes.items ls []) (sym no_blocks) (reading_nothing IsLeafBelow block_at draft.prefixes.items);
+      links = subst (λ (js : List Join). AreJoins draft.prefixes.items js []) (sym no_links) (reading_nothing IsJoinBelow link_at draft.prefixes.items);
+      standing = λ name. subst (λ (o : Option Standing). StandsFor draft.prefixes.items nets o None) (sym (none name)) tt;
     }
 
 named_push : (xs : List Instance) (i : Instance) (name : List ℕ) → instance_named (xs ++ i ∷ []) name ≡ or_instance i name (instance_named xs name)
@@ -149,16 +149,16 @@ named_push (x ∷ xs) i name = by_test (is_at (name_cmp x.name) name) (named_pus
     by_test true e = refl
     by_test false e = e
 
-stands_more : (nets : Nets) (fronts new : List PlainFront) (s : Standing) (i : Instance) (q : List ℕ) → Grows fronts new → s.instance ≡ i → AreEdges new s.borders.items (inner_borders nets i) → (a : Option Standing) (b : Option Instance) → StandsFor fronts nets a b → StandsFor new nets (or_alone s q a) (or_instance i q b)
-stands_more nets fronts new s i q g same edges None None p =
+stands_more : (nets : Nets) (prefixes new : List PlainPrefix) (s : Standing) (i : Instance) (q : List ℕ) → Grows prefixes new → s.instance ≡ i → AreEdges new s.borders.items (inner_borders nets i) → (a : Option Standing) (b : Option Instance) → StandsFor prefixes nets a b → StandsFor new nets (or_alone s q a) (or_instance i q b)
+stands_more nets prefixes new s i q g same edges None None p =
     subst (λ (n : List ℕ). StandsFor new nets (cond (is_at (name_cmp n) q) (Some s) None) (cond (is_at (name_cmp i.name) q) (Some i) None)) (ap (λ (x : Instance). x.name) (sym same)) (by_test (is_at (name_cmp i.name) q))
   where
     by_test : (b : Bool) → StandsFor new nets (cond b (Some s) None) (cond b (Some i) None)
     by_test true = (same, edges)
     by_test false = tt
-stands_more nets fronts new s i q g same edges None (Some x) p = absurd p
-stands_more nets fronts new s i q g same edges (Some t) None p = absurd p
-stands_more nets fronts new s i q g same edges (Some t) (Some x) p = (p.0, edges_grown g p.1)
+stands_more nets prefixes new s i q g same edges None (Some x) p = absurd p
+stands_more nets prefixes new s i q g same edges (Some t) None p = absurd p
+stands_more nets prefixes new s i q g same edges (Some t) (Some x) p = (p.0, edges_grown g p.1)
 
 pub flat_map_push : {A B : Type 0} (f : A → List B) (xs : List A) (x : A) → flat_map f (xs ++ x ∷ []) ≡ flat_map f xs ++ f x
 flat_map_push f xs x = flat_map-append f xs (x ∷ []) ∙ ap (λ (bs : List _). flat_map f xs ++ bs) (flat_map-cons f x [] ∙ append-nil (f x))
@@ -167,24 +167,24 @@ flat_map_push f xs x = flat_map-append f xs (x ∷ []) ∙ ap (λ (bs : List _).
 pub holds_more : {nets : Nets} (start draft new : Draft) (table after : List ℕ → Option Standing) (xs : List Instance) (i : Instance) (s : Standing) → HoldsInstances nets start draft table xs → TakesInstance nets draft new i s.borders.items → s.instance ≡ i → ((q : List ℕ) → after q ≡ or_alone s q (table q)) → HoldsInstances nets start new after (xs ++ i ∷ [])
 holds_more {nets = nets} start draft new table after xs i s h t same puts =
     record {
-      grows = grows_twice start.fronts.items draft.fronts.items new.fronts.items h.grows t.grows;
-      blocks = subst (λ (bs : List FlatBlock). AreLeaves new.fronts.items new.leaves.items bs) (sym (flat_map_push (inner_blocks nets) xs i)) (t.blocks _ h.blocks);
-      links = subst (λ (ls : List Link). AreJoins new.fronts.items new.joins.items ls) (sym (flat_map_push (inner_links nets) xs i)) (t.links _ h.links);
+      grows = grows_twice start.prefixes.items draft.prefixes.items new.prefixes.items h.grows t.grows;
+      blocks = subst (λ (bs : List FlatBlock). AreLeaves new.prefixes.items new.leaves.items bs) (sym (flat_map_push (inner_blocks nets) xs i)) (t.blocks _ h.blocks);
+      links = subst (λ (ls : List Link). AreJoins new.prefixes.items new.joins.items ls) (sym (flat_map_push (inner_links nets) xs i)) (t.links _ h.links);
       standing = λ q.
-          subst (λ (o : Option Instance). StandsFor new.fronts.items nets (after q) o) (sym (named_push xs i q))
-          (subst (λ (o : Option Standing). StandsFor new.fronts.items nets o (or_instance i q (instance_named xs q))) (sym (puts q))
-          (stands_more nets draft.fronts.items new.fronts.items s i q t.grows same t.borders (table q) (instance_named xs q) (h.standing q)));
+          subst (λ (o : Option Instance). StandsFor new.prefixes.items nets (after q) o) (sym (named_push xs i q))
+          (subst (λ (o : Option Standing). StandsFor new.prefixes.items nets o (or_instance i q (instance_named xs q))) (sym (puts q))
+          (stands_more nets draft.prefixes.items new.prefixes.items s i q t.grows same t.borders (table q) (instance_named xs q) (h.standing q)));
     }
 
 -- what has been passed, and the next
 pub next_taken : {X : Type 0} (xs : List X) (k : ℕ) (x : X) → k < length xs → x ≡ get_or xs k x → take k xs ++ x ∷ [] ≡ take (k + 1) xs
 next_taken xs k x lt e = ap (λ (y : _). take k xs ++ y ∷ []) e ∙ sym (take_more xs k x lt)
 
--- the table stays where fronts are added
-pub table_grown : (fronts new : List PlainFront) (nets : Nets) (table : List ℕ → Option Standing) (xs : List Instance) → Grows fronts new → IsTable fronts nets table xs → IsTable new nets table xs
-table_grown fronts new nets table xs g is = λ name. by_found name (table name) (instance_named xs name) (is name)
+-- the table stays where prefixes are added
+pub table_grown : (prefixes new : List PlainPrefix) (nets : Nets) (table : List ℕ → Option Standing) (xs : List Instance) → Grows prefixes new → IsTable prefixes nets table xs → IsTable new nets table xs
+table_grown prefixes new nets table xs g is = λ name. by_found name (table name) (instance_named xs name) (is name)
   where
-    by_found : (name : List ℕ) (a : Option Standing) (b : Option Instance) → StandsFor fronts nets a b → StandsFor new nets a b
+    by_found : (name : List ℕ) (a : Option Standing) (b : Option Instance) → StandsFor prefixes nets a b → StandsFor new nets a b
     by_found name None None p = tt
     by_found name None (Some x) p = absurd p
     by_found name (Some t) None p = absurd p

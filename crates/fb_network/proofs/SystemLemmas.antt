@@ -42,14 +42,14 @@ system_links_are applications made links is kept added link = (
 
 -- the draft has what the applications hold
 pub record HoldsApplications (draft : Draft) (applications : List FlatApplication) : Type 0 where
-  pub blocks : AreLeaves draft.fronts.items draft.leaves.items (flat_map application_blocks applications)
-  pub links : AreJoins draft.fronts.items draft.joins.items (flat_map application_links applications)
+  pub blocks : AreLeaves draft.prefixes.items draft.leaves.items (flat_map application_blocks applications)
+  pub links : AreJoins draft.prefixes.items draft.joins.items (flat_map application_links applications)
 
 pub applications_none : (draft : Draft) → draft.leaves.items ≡ [] → draft.joins.items ≡ [] → HoldsApplications draft []
 applications_none draft no_leaves no_joins =
     record {
-      blocks = subst (λ (es : List Leaf). AreLeaves draft.fronts.items es []) (sym no_leaves) (reading_nothing IsLeafBelow block_at draft.fronts.items);
-      links = subst (λ (es : List Join). AreJoins draft.fronts.items es []) (sym no_joins) (reading_nothing IsJoinBelow link_at draft.fronts.items);
+      blocks = subst (λ (es : List Leaf). AreLeaves draft.prefixes.items es []) (sym no_leaves) (reading_nothing IsLeafBelow block_at draft.prefixes.items);
+      links = subst (λ (es : List Join). AreJoins draft.prefixes.items es []) (sym no_joins) (reading_nothing IsJoinBelow link_at draft.prefixes.items);
     }
 
 -- one application more has been taken in
@@ -58,16 +58,16 @@ applications_more old new xs k a edges lt e h t =
     let blocks = sym (flat_map_push application_blocks (take k xs) a) ∙ ap (flat_map application_blocks) (next_taken xs k a lt e) in
     let links = sym (flat_map_push application_links (take k xs) a) ∙ ap (flat_map application_links) (next_taken xs k a lt e) in
     record {
-      blocks = subst (λ (bs : List FlatBlock). AreLeaves new.fronts.items new.leaves.items bs) blocks (t.blocks _ h.blocks);
-      links = subst (λ (ls : List Link). AreJoins new.fronts.items new.joins.items ls) links (t.links _ h.links);
+      blocks = subst (λ (bs : List FlatBlock). AreLeaves new.prefixes.items new.leaves.items bs) blocks (t.blocks _ h.blocks);
+      links = subst (λ (ls : List Link). AreJoins new.prefixes.items new.joins.items ls) links (t.links _ h.links);
     }
 
-pub applications_laid : (draft : Draft) (applications : List FlatApplication) (edges : List Edge) → HoldsApplications draft applications → edges ≡ [] → IsLaid (length draft.fronts.items) draft.leaves.items draft.joins.items edges
+pub applications_laid : (draft : Draft) (applications : List FlatApplication) (edges : List Edge) → HoldsApplications draft applications → edges ≡ [] → IsLaid (length draft.prefixes.items) draft.leaves.items draft.joins.items edges
 applications_laid draft applications edges h none =
     record {
       leaves_below = h.blocks.in_range;
       joins_below = h.links.in_range;
-      edges_below = subst (All (IsEdgeBelow (length draft.fronts.items))) (sym none) (All-nil (IsEdgeBelow (length draft.fronts.items)));
+      edges_below = subst (All (IsEdgeBelow (length draft.prefixes.items))) (sym none) (All-nil (IsEdgeBelow (length draft.prefixes.items)));
     }
 
 without_members : {X : Type 0} (xs : List X) → ((x : X) → Contains xs x → Contains [] x) → xs ≡ []
@@ -79,9 +79,9 @@ pub system_is : (draft : Draft) (applications : List FlatApplication) (edges : L
 system_is draft applications edges flat h none f =
     record {
       blocks = f.blocks ∙ h.blocks.is;
-      links = system_links_are applications (map (link_at draft.fronts.items) draft.joins.items) flat.links h.links.is f.links.kept f.links.added;
+      links = system_links_are applications (map (link_at draft.prefixes.items) draft.joins.items) flat.links h.links.is f.links.kept f.links.added;
       links_sorted = f.links.sorted;
-      borders = without_members flat.borders (λ b c. subst (λ (es : List Edge). Contains (map (border_at draft.fronts.items) es) b) none (f.borders.added b c));
+      borders = without_members flat.borders (λ b c. subst (λ (es : List Edge). Contains (map (border_at draft.prefixes.items) es) b) none (f.borders.added b c));
     }
 
 -- a system has one flat network only

@@ -18,7 +18,7 @@ use Rattle.fb_network.specs.declared.place.Place.{Place}
 use Rattle.fb_network.specs.declared.entries.Join.{Join}
 use Rattle.fb_network.specs.declared.entries.Edge.{Edge}
 use Rattle.fb_network.specs.declared.table.Standing.{Standing}
-use Rattle.fb_network.specs.PlainFront.{PlainFront}
+use Rattle.fb_network.specs.PlainPrefix.{PlainPrefix}
 
 abbrev pub edge_belongs : Sort → List ℕ → Edge → Bool
 edge_belongs sort port e = same_sort e.sort sort && is_at (name_cmp e.port) port
@@ -52,25 +52,25 @@ abbrev pub edges_of_end : Sort → End → List Place → List Edge
 edges_of_end sort (Own port) places = map (λ place. record { sort = sort; port = port; place = place }) places
 edges_of_end sort (Of name port) places = []
 
--- the front behind a plug or socket, whose ends are the names of the adapter's ports
-abbrev pub front_behind : List (List ℕ) → List ℕ → PlainFront
-front_behind names text = record { start = dotted text []; ends = names }
+-- the prefix behind a plug or socket, whose ends are the names of the adapter's ports
+abbrev pub prefix_behind : List (List ℕ) → List ℕ → PlainPrefix
+prefix_behind names text = record { start = dotted text []; ends = names }
 
-abbrev pub IsMember : List PlainFront → List (List ℕ) → ℕ → List ℕ → Type 0
-IsMember fronts names number text = slice_get fronts number ≡ Some (front_behind names text)
+abbrev pub IsMember : List PlainPrefix → List (List ℕ) → ℕ → List ℕ → Type 0
+IsMember prefixes names number text = slice_get prefixes number ≡ Some (prefix_behind names text)
 
--- under these numbers stand the fronts behind these plugs or sockets
-abbrev pub AreMembers : List PlainFront → List (List ℕ) → List ℕ → List (List ℕ) → Type 0
-AreMembers fronts names = AllZip (IsMember fronts names)
+-- under these numbers stand the prefixes behind these plugs or sockets
+abbrev pub AreMembers : List PlainPrefix → List (List ℕ) → List ℕ → List (List ℕ) → Type 0
+AreMembers prefixes names = AllZip (IsMember prefixes names)
 
 abbrev pub join_on_side : Side → Port → Place → Place → Join
 join_on_side Output port plug socket = record { sort = port.sort; from = plug; to = socket }
 join_on_side Input port plug socket = record { sort = port.sort; from = socket; to = plug }
 
 abbrev pub member_join : ℕ → ℕ → ℕ → Port → Join
-member_join plug socket end port = join_on_side port.side port (record { front = plug; end = end }) (record { front = socket; end = end })
+member_join plug socket end port = join_on_side port.side port (record { prefix = plug; end = end }) (record { prefix = socket; end = end })
 
--- the links of an adapter's ports between the fronts of a plug and of a socket, the first port's of that end
+-- the links of an adapter's ports between the prefixes of a plug and of a socket, the first port's of that end
 abbrev pub member_joins : ℕ → ℕ → ℕ → List Port → List Join
 member_joins plug socket end [] = []
 member_joins plug socket end (port ∷ ports) = member_join plug socket end port ∷ member_joins plug socket (end + 1) ports

@@ -3,7 +3,7 @@ use Rattle.std.specs.Prelude.{ℕ, ◌+◌, ◌<◌, List, [], ◌++◌, Option,
 use Rattle.std.specs.List.{All}
 use Rattle.fb_network.specs.Places.{dotted}
 use Rattle.fb_network.specs.PlainFlat.{PlainFlat}
-use Rattle.fb_network.specs.PlainFront.{PlainFront}
+use Rattle.fb_network.specs.PlainPrefix.{PlainPrefix}
 use Rattle.fb_network.specs.declared.flat.FlatBlock.{FlatBlock}
 use Rattle.fb_network.specs.declared.flat.Link.{Link}
 use Rattle.fb_network.specs.declared.flat.Border.{Border}
@@ -16,52 +16,52 @@ abbrev pub text_or_nothing : Option (List ℕ) → List ℕ
 text_or_nothing None = []
 text_or_nothing (Some text) = text
 
--- the path of an end of a front
-abbrev pub path_of_end : PlainFront → ℕ → List ℕ
-path_of_end front end = front.start ++ text_or_nothing (slice_get front.ends end)
+-- the path of an end of a prefix
+abbrev pub path_of_end : PlainPrefix → ℕ → List ℕ
+path_of_end prefix end = prefix.start ++ text_or_nothing (slice_get prefix.ends end)
 
-abbrev pub path_in : Option PlainFront → ℕ → List ℕ
+abbrev pub path_in : Option PlainPrefix → ℕ → List ℕ
 path_in None end = []
-path_in (Some front) end = path_of_end front end
+path_in (Some prefix) end = path_of_end prefix end
 
 -- the path at a place
-abbrev pub path_at : List PlainFront → Place → List ℕ
-path_at fronts place = path_in (slice_get fronts place.front) place.end
+abbrev pub path_at : List PlainPrefix → Place → List ℕ
+path_at prefixes place = path_in (slice_get prefixes place.prefix) place.end
 
-abbrev pub block_at : List PlainFront → Leaf → FlatBlock
-block_at fronts leaf = record { path = path_at fronts leaf.place; type_name = leaf.type_name }
+abbrev pub block_at : List PlainPrefix → Leaf → FlatBlock
+block_at prefixes leaf = record { path = path_at prefixes leaf.place; type_name = leaf.type_name }
 
-abbrev pub link_at : List PlainFront → Join → Link
-link_at fronts join = record { sort = join.sort; from = path_at fronts join.from; to = path_at fronts join.to }
+abbrev pub link_at : List PlainPrefix → Join → Link
+link_at prefixes join = record { sort = join.sort; from = path_at prefixes join.from; to = path_at prefixes join.to }
 
-abbrev pub border_at : List PlainFront → Edge → Border
-border_at fronts edge = record { sort = edge.sort; port = edge.port; place = path_at fronts edge.place }
+abbrev pub border_at : List PlainPrefix → Edge → Border
+border_at prefixes edge = record { sort = edge.sort; port = edge.port; place = path_at prefixes edge.place }
 
-abbrev pub flat_at : List PlainFront → List Leaf → List Join → List Edge → PlainFlat
-flat_at fronts leaves joins edges = record { blocks = map (block_at fronts) leaves; links = map (link_at fronts) joins; borders = map (border_at fronts) edges }
+abbrev pub flat_at : List PlainPrefix → List Leaf → List Join → List Edge → PlainFlat
+flat_at prefixes leaves joins edges = record { blocks = map (block_at prefixes) leaves; links = map (link_at prefixes) joins; borders = map (border_at prefixes) edges }
 
--- each place that is named has a front among so many
+-- each place that is named has a prefix among so many
 abbrev pub IsLeafBelow : ℕ → Leaf → Type 0
-IsLeafBelow count leaf = leaf.place.front < count
+IsLeafBelow count leaf = leaf.place.prefix < count
 
 abbrev pub IsJoinBelow : ℕ → Join → Type 0
-IsJoinBelow count join = (join.from.front < count) × (join.to.front < count)
+IsJoinBelow count join = (join.from.prefix < count) × (join.to.prefix < count)
 
 abbrev pub IsEdgeBelow : ℕ → Edge → Type 0
-IsEdgeBelow count edge = edge.place.front < count
+IsEdgeBelow count edge = edge.place.prefix < count
 
 pub record IsLaid (count : ℕ) (leaves : List Leaf) (joins : List Join) (edges : List Edge) : Type 0 where
   pub leaves_below : All (IsLeafBelow count) leaves
   pub joins_below : All (IsJoinBelow count) joins
   pub edges_below : All (IsEdgeBelow count) edges
 
--- the front inside the instance of that name
-abbrev pub front_within : List ℕ → PlainFront → PlainFront
-front_within name front = record { start = dotted name front.start; ends = front.ends }
+-- the prefix inside the instance of that name
+abbrev pub prefix_within : List ℕ → PlainPrefix → PlainPrefix
+prefix_within name prefix = record { start = dotted name prefix.start; ends = prefix.ends }
 
--- the place among fronts that stand so many further
+-- the place among prefixes that stand so many further
 abbrev pub place_moved : ℕ → Place → Place
-place_moved by place = record { front = place.front + by; end = place.end }
+place_moved by place = record { prefix = place.prefix + by; end = place.end }
 
 abbrev pub leaf_moved : ℕ → Leaf → Leaf
 leaf_moved by leaf = record { place = place_moved by leaf.place; type_name = leaf.type_name }

@@ -17,11 +17,11 @@ pub mod Composed
 pub mod Ready
 pub mod Part
 pub mod SystemFlat
-pub mod PlainFront
+pub mod PlainPrefix
 pub mod Laid
 pub mod Numbered
 pub mod Reading
 pub mod Once
 pub mod Standing
 pub mod Behind
-pub mod Fronts
+pub mod Prefixes

@@ -7,7 +7,7 @@ use Rattle.fb_network.specs.LinkOrder.{border_cmp, link_cmp}
 use Rattle.fb_network.specs.Places.{dotted}
 use Rattle.fb_network.specs.Composed.{blocks_of, links_of}
 use Rattle.fb_network.specs.PlainFlat.{PlainFlat}
-use Rattle.fb_network.specs.PlainFront.{PlainFront}
+use Rattle.fb_network.specs.PlainPrefix.{PlainPrefix}
 use Rattle.fb_network.specs.Laid.{IsEdgeBelow, IsJoinBelow, IsLeafBelow, block_at, border_at, link_at, path_at}
 use Rattle.fb_network.specs.declared.flat.FlatBlock.{FlatBlock}
 use Rattle.fb_network.specs.declared.flat.Link.{Link}
@@ -18,29 +18,29 @@ use Rattle.fb_network.specs.declared.entries.Join.{Join}
 use Rattle.fb_network.specs.declared.entries.Edge.{Edge}
 use Rattle.fb_network.specs.declared.draft.Draft.{Draft}
 
--- the entries name fronts that there are, and by these they say what the plain ones say
-pub record IsReading {E X : Type 0} (below : ℕ → E → Type 0) (at : List PlainFront → E → X) (fronts : List PlainFront) (entries : List E) (plain : List X) : Type 0 where
-  pub in_range : All (below (length fronts)) entries
-  pub is : map (at fronts) entries ≡ plain
+-- the entries name prefixes that there are, and by these they say what the plain ones say
+pub record IsReading {E X : Type 0} (below : ℕ → E → Type 0) (at : List PlainPrefix → E → X) (prefixes : List PlainPrefix) (entries : List E) (plain : List X) : Type 0 where
+  pub in_range : All (below (length prefixes)) entries
+  pub is : map (at prefixes) entries ≡ plain
 
 abbrev pub IsPlaceBelow : ℕ → Place → Type 0
-IsPlaceBelow count place = place.front < count
+IsPlaceBelow count place = place.prefix < count
 
-abbrev pub ArePlaces : List PlainFront → List Place → List (List ℕ) → Type 0
+abbrev pub ArePlaces : List PlainPrefix → List Place → List (List ℕ) → Type 0
 ArePlaces = IsReading IsPlaceBelow path_at
 
-abbrev pub AreLeaves : List PlainFront → List Leaf → List FlatBlock → Type 0
+abbrev pub AreLeaves : List PlainPrefix → List Leaf → List FlatBlock → Type 0
 AreLeaves = IsReading IsLeafBelow block_at
 
-abbrev pub AreJoins : List PlainFront → List Join → List Link → Type 0
+abbrev pub AreJoins : List PlainPrefix → List Join → List Link → Type 0
 AreJoins = IsReading IsJoinBelow link_at
 
-abbrev pub AreEdges : List PlainFront → List Edge → List Border → Type 0
+abbrev pub AreEdges : List PlainPrefix → List Edge → List Border → Type 0
 AreEdges = IsReading IsEdgeBelow border_at
 
--- there are the old fronts, and perhaps more behind them
-abbrev pub Grows : List PlainFront → List PlainFront → Type 0
-Grows old new = (more : List PlainFront) × (new ≡ old ++ more)
+-- there are the old prefixes, and perhaps more behind them
+abbrev pub Grows : List PlainPrefix → List PlainPrefix → Type 0
+Grows old new = (more : List PlainPrefix) × (new ≡ old ++ more)
 
 -- a border of an inner network, seen from outside
 abbrev pub border_within : List ℕ → Border → Border
@@ -48,14 +48,14 @@ border_within name b = record { sort = b.sort; port = b.port; place = dotted nam
 
 -- the draft has taken in what the instance of that name holds; these are the instance's borders
 pub record TakesIn (old new : Draft) (name : List ℕ) (inner : PlainFlat) (edges : List Edge) : Type 0 where
-  pub grows : Grows old.fronts.items new.fronts.items
+  pub grows : Grows old.prefixes.items new.prefixes.items
   pub blocks :
-      (blocks : List FlatBlock) → AreLeaves old.fronts.items old.leaves.items blocks
-      → AreLeaves new.fronts.items new.leaves.items (blocks ++ blocks_of name (Some inner))
+      (blocks : List FlatBlock) → AreLeaves old.prefixes.items old.leaves.items blocks
+      → AreLeaves new.prefixes.items new.leaves.items (blocks ++ blocks_of name (Some inner))
   pub links :
-      (links : List Link) → AreJoins old.fronts.items old.joins.items links
-      → AreJoins new.fronts.items new.joins.items (links ++ links_of name (Some inner))
-  pub borders : AreEdges new.fronts.items edges (map (border_within name) inner.borders)
+      (links : List Link) → AreJoins old.prefixes.items old.joins.items links
+      → AreJoins new.prefixes.items new.joins.items (links ++ links_of name (Some inner))
+  pub borders : AreEdges new.prefixes.items edges (map (border_within name) inner.borders)
 
 -- what is in order has the members that there were
 pub record IsInOrder {X : Type 0} (cmp : X → X → Ordering) (made ordered : List X) : Type 0 where
@@ -65,6 +65,6 @@ pub record IsInOrder {X : Type 0} (cmp : X → X → Ordering) (made ordered : L
 
 -- the flat network says what the draft and the borders say, links and borders in order
 pub record IsFinish (draft : Draft) (edges : List Edge) (flat : PlainFlat) : Type 0 where
-  pub blocks : flat.blocks ≡ map (block_at draft.fronts.items) draft.leaves.items
-  pub links : IsInOrder link_cmp (map (link_at draft.fronts.items) draft.joins.items) flat.links
-  pub borders : IsInOrder border_cmp (map (border_at draft.fronts.items) edges) flat.borders
+  pub blocks : flat.blocks ≡ map (block_at draft.prefixes.items) draft.leaves.items
+  pub links : IsInOrder link_cmp (map (link_at draft.prefixes.items) draft.joins.items) flat.links
+  pub borders : IsInOrder border_cmp (map (border_at draft.prefixes.items) edges) flat.borders

@@ -18,7 +18,7 @@ use Rattle.fb_network.specs.Network.{instance_named}
 use Rattle.fb_network.specs.Places.{dotted}
 use Rattle.fb_network.specs.Plain.{PlainNetwork}
 use Rattle.fb_network.specs.PlainFlat.{PlainFlat}
-use Rattle.fb_network.specs.PlainFront.{PlainFront}
+use Rattle.fb_network.specs.PlainPrefix.{PlainPrefix}
 use Rattle.fb_network.specs.Ready.{Nets}
 use Rattle.fb_network.specs.declared.network.Connection.{Connection}
 use Rattle.fb_network.specs.Network.{View}
@@ -36,18 +36,18 @@ abbrev pub own_texts : PlainNetwork → List (List ℕ)
 own_texts network =
     (map (λ i. i.name) network.instances ++ map (λ c. end_text c.source) network.connections) ++ map (λ c. end_text c.destination) network.connections
 
--- there is a front for the place, and it says the text
-pub record Says (fronts : List PlainFront) (place : Place) (text : List ℕ) : Type 0 where
-  pub in_range : place.front < length fronts
-  pub is : path_at fronts place ≡ text
+-- there is a prefix for the place, and it says the text
+pub record Says (prefixes : List PlainPrefix) (place : Place) (text : List ℕ) : Type 0 where
+  pub in_range : place.prefix < length prefixes
+  pub is : path_at prefixes place ≡ text
 
 -- the place of that number among a network's own
 abbrev pub own_place : ℕ → Place
-own_place k = record { front = 0; end = k }
+own_place k = record { prefix = 0; end = k }
 
 -- the first of a network's own texts are the names of the instances
-abbrev pub AreNamed : List PlainFront → List Instance → Type 0
-AreNamed fronts instances = (k : ℕ) (i : Instance) → k < length instances → i ≡ slice_index_or instances k i → Says fronts (own_place k) i.name
+abbrev pub AreNamed : List PlainPrefix → List Instance → Type 0
+AreNamed prefixes instances = (k : ℕ) (i : Instance) → k < length instances → i ≡ slice_index_or instances k i → Says prefixes (own_place k) i.name
 
 abbrev pub borders_of : List ℕ → Option PlainFlat → List Border
 borders_of name None = []
@@ -63,25 +63,25 @@ inner_borders nets i = inner_borders_of_kind i.kind nets i.name i.type_name
 
 -- the draft has taken in the instance, which has these borders
 pub record TakesInstance (nets : Nets) (old new : Draft) (i : Instance) (edges : List Edge) : Type 0 where
-  pub grows : Grows old.fronts.items new.fronts.items
+  pub grows : Grows old.prefixes.items new.prefixes.items
   pub blocks :
-      (blocks : List FlatBlock) → AreLeaves old.fronts.items old.leaves.items blocks
-      → AreLeaves new.fronts.items new.leaves.items (blocks ++ inner_blocks nets i)
+      (blocks : List FlatBlock) → AreLeaves old.prefixes.items old.leaves.items blocks
+      → AreLeaves new.prefixes.items new.leaves.items (blocks ++ inner_blocks nets i)
   pub links :
-      (links : List Link) → AreJoins old.fronts.items old.joins.items links
-      → AreJoins new.fronts.items new.joins.items (links ++ inner_links nets i)
-  pub borders : AreEdges new.fronts.items edges (inner_borders nets i)
+      (links : List Link) → AreJoins old.prefixes.items old.joins.items links
+      → AreJoins new.prefixes.items new.joins.items (links ++ inner_links nets i)
+  pub borders : AreEdges new.prefixes.items edges (inner_borders nets i)
 
 -- the instance stands there with its borders
-abbrev pub StandsFor : List PlainFront → Nets → Option Standing → Option Instance → Type 0
-StandsFor fronts nets None None = ⊤
-StandsFor fronts nets None (Some i) = ⊥
-StandsFor fronts nets (Some s) None = ⊥
-StandsFor fronts nets (Some s) (Some i) = (s.instance ≡ i) × AreEdges fronts s.borders.items (inner_borders nets i)
+abbrev pub StandsFor : List PlainPrefix → Nets → Option Standing → Option Instance → Type 0
+StandsFor prefixes nets None None = ⊤
+StandsFor prefixes nets None (Some i) = ⊥
+StandsFor prefixes nets (Some s) None = ⊥
+StandsFor prefixes nets (Some s) (Some i) = (s.instance ≡ i) × AreEdges prefixes s.borders.items (inner_borders nets i)
 
 -- the first instance of each name stands there
-abbrev pub IsTable : List PlainFront → Nets → (List ℕ → Option Standing) → List Instance → Type 0
-IsTable fronts nets table instances = (name : List ℕ) → StandsFor fronts nets (table name) (instance_named instances name)
+abbrev pub IsTable : List PlainPrefix → Nets → (List ℕ → Option Standing) → List Instance → Type 0
+IsTable prefixes nets table instances = (name : List ℕ) → StandsFor prefixes nets (table name) (instance_named instances name)
 
 -- what stands under a name, or else the new one if it has that name
 abbrev pub or_alone : Standing → List ℕ → Option Standing → Option Standing
@@ -94,35 +94,35 @@ or_instance i name (Some x) = Some x
 
 -- the draft and the table have these instances
 pub record HoldsInstances (nets : Nets) (old new : Draft) (table : List ℕ → Option Standing) (instances : List Instance) : Type 0 where
-  pub grows : Grows old.fronts.items new.fronts.items
-  pub blocks : AreLeaves new.fronts.items new.leaves.items (flat_map (inner_blocks nets) instances)
-  pub links : AreJoins new.fronts.items new.joins.items (flat_map (inner_links nets) instances)
-  pub standing : IsTable new.fronts.items nets table instances
+  pub grows : Grows old.prefixes.items new.prefixes.items
+  pub blocks : AreLeaves new.prefixes.items new.leaves.items (flat_map (inner_blocks nets) instances)
+  pub links : AreJoins new.prefixes.items new.joins.items (flat_map (inner_links nets) instances)
+  pub standing : IsTable new.prefixes.items nets table instances
 
 -- the first instance of each name stands in the table
 abbrev pub HasInstances : (List ℕ → Option Standing) → List Instance → Type 0
 HasInstances table instances = (name : List ℕ) → option_map (λ (s : Standing). s.instance) (table name) ≡ instance_named instances name
 
--- the first front has the network's own texts
-abbrev pub HasOwn : List PlainFront → PlainNetwork → Type 0
-HasOwn fronts network = slice_get fronts 0 ≡ Some (record { start = []; ends = own_texts network })
+-- the first prefix has the network's own texts
+abbrev pub HasOwn : List PlainPrefix → PlainNetwork → Type 0
+HasOwn prefixes network = slice_get prefixes 0 ≡ Some (record { start = []; ends = own_texts network })
 
 -- the draft has these links more, and no other blocks
 pub record AddsLinks (old new : Draft) (more : List Link) : Type 0 where
-  pub grows : Grows old.fronts.items new.fronts.items
+  pub grows : Grows old.prefixes.items new.prefixes.items
   pub same_blocks : new.leaves.items ≡ old.leaves.items
   pub links :
-      (links : List Link) → AreJoins old.fronts.items old.joins.items links
-      → AreJoins new.fronts.items new.joins.items (links ++ more)
+      (links : List Link) → AreJoins old.prefixes.items old.joins.items links
+      → AreJoins new.prefixes.items new.joins.items (links ++ more)
 
 -- where the table is that of the network's instances, the draft has the links of connections more
 abbrev pub AddsConnections : View → PlainNetwork → (List ℕ → Option Standing) → Draft → Draft → List Connection → Type 0
 AddsConnections view network table old new connections =
-    (nets : Nets) → IsTable old.fronts.items nets table network.instances
+    (nets : Nets) → IsTable old.prefixes.items nets table network.instances
     → AddsLinks old new (flat_map (connection_links view network (instance_named network.instances) nets) connections)
 
 -- where the table is that of the network's instances, the entries say the borders of connections
 abbrev pub AreEdgesOf : PlainNetwork → (List ℕ → Option Standing) → List Edge → List Connection → Type 0
 AreEdgesOf network table edges connections =
-    (fronts : List PlainFront) (nets : Nets) → IsTable fronts nets table network.instances → HasOwn fronts network
-    → AreEdges fronts edges (flat_map (connection_borders (instance_named network.instances) nets) connections)
+    (prefixes : List PlainPrefix) (nets : Nets) → IsTable prefixes nets table network.instances → HasOwn prefixes network
+    → AreEdges prefixes edges (flat_map (connection_borders (instance_named network.instances) nets) connections)

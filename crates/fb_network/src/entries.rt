@@ -4,9 +4,9 @@ ghost use Rattle.fb_network.specs.Laid.{block_at, border_at, edge_moved, join_mo
 ghost use Rattle.fb_network.specs.LinkOrder.{border_cmp, link_cmp};
 
 use crate::flat::{Border, FlatBlock, Link};
-use crate::front::Front;
 use crate::network::sort_number;
 use crate::place::{Place, compare_places, moved, path_of};
+use crate::prefix::Prefix;
 use fb_tree::Sort;
 use fb_tree::text::Name;
 use std::alloc::{AllocError, Global};
@@ -35,7 +35,7 @@ pub struct Edge {
     pub place: Place,
 }
 
-/// Adds blocks of an inner network whose fronts stand so many further.
+/// Adds blocks of an inner network whose prefixes stand so many further.
 pub fn push_leaves_moved(leaves: &mut Vec<Leaf>, by: u32, inner: &[Leaf]) -> Result<(), AllocError>
     ensures { OnOk result (leaves.new.items ≡ leaves.old.items ++ map (leaf_moved by) inner.now) }
 {
@@ -49,7 +49,7 @@ pub fn push_leaves_moved(leaves: &mut Vec<Leaf>, by: u32, inner: &[Leaf]) -> Res
     Ok(())
 }
 
-/// Adds links of an inner network whose fronts stand so many further.
+/// Adds links of an inner network whose prefixes stand so many further.
 pub fn push_joins_moved(joins: &mut Vec<Join>, by: u32, inner: &[Join]) -> Result<(), AllocError>
     ensures { OnOk result (joins.new.items ≡ joins.old.items ++ map (join_moved by) inner.now) }
 {
@@ -64,7 +64,7 @@ pub fn push_joins_moved(joins: &mut Vec<Join>, by: u32, inner: &[Join]) -> Resul
     Ok(())
 }
 
-/// Borders of an inner network whose fronts stand so many further.
+/// Borders of an inner network whose prefixes stand so many further.
 pub fn edges_moved(alloc: Global, by: u32, inner: &[Edge]) -> Result<Vec<Edge>, AllocError>
     ensures { IfOk result (λ edges. edges.items ≡ map (edge_moved by) inner.now) }
 {
@@ -79,36 +79,36 @@ pub fn edges_moved(alloc: Global, by: u32, inner: &[Edge]) -> Result<Vec<Edge>, 
     Ok(edges)
 }
 
-/// The order of two links by sort and paths, each among fronts of its own.
-pub fn compare_joins(fronts: &[Front], a: &Join, others: &[Front], b: &Join) -> Ordering
-    ensures { result ≡ link_cmp (link_at fronts.now a.now) (link_at others.now b.now) }
+/// The order of two links by sort and paths, each among prefixes of its own.
+pub fn compare_joins(prefixes: &[Prefix], a: &Join, others: &[Prefix], b: &Join) -> Ordering
+    ensures { result ≡ link_cmp (link_at prefixes.now a.now) (link_at others.now b.now) }
 {
     let sorts = sort_number(a.sort).cmp(&sort_number(b.sort));
-    let froms = sorts.then_with(|| compare_places(fronts, &a.from, others, &b.from));
-    froms.then_with(|| compare_places(fronts, &a.to, others, &b.to))
+    let froms = sorts.then_with(|| compare_places(prefixes, &a.from, others, &b.from));
+    froms.then_with(|| compare_places(prefixes, &a.to, others, &b.to))
 }
 
-/// The order of two borders by sort, port and path, each among fronts of its own.
-pub fn compare_edges(fronts: &[Front], a: &Edge, others: &[Front], b: &Edge) -> Ordering
-    ensures { result ≡ border_cmp (border_at fronts.now a.now) (border_at others.now b.now) }
+/// The order of two borders by sort, port and path, each among prefixes of its own.
+pub fn compare_edges(prefixes: &[Prefix], a: &Edge, others: &[Prefix], b: &Edge) -> Ordering
+    ensures { result ≡ border_cmp (border_at prefixes.now a.now) (border_at others.now b.now) }
 {
     let sorts = sort_number(a.sort).cmp(&sort_number(b.sort));
     let ports = sorts.then_with(|| a.port.cmp(&b.port));
-    ports.then_with(|| compare_places(fronts, &a.place, others, &b.place))
+    ports.then_with(|| compare_places(prefixes, &a.place, others, &b.place))
 }
 
 /// The blocks in plain.
 pub fn plain_blocks(
     alloc: Global,
-    fronts: &[Front],
+    prefixes: &[Prefix],
     leaves: &[Leaf],
 ) -> Result<Vec<FlatBlock>, AllocError>
-    ensures { IfOk result (λ blocks. blocks.items ≡ map (block_at fronts.now) leaves.now) }
+    ensures { IfOk result (λ blocks. blocks.items ≡ map (block_at prefixes.now) leaves.now) }
 {
     let mut blocks = Vec::with_capacity(alloc, leaves.len())?;
     for leaf in leaves {
         blocks.push(FlatBlock {
-            path: path_of(alloc, fronts, &leaf.place)?,
+            path: path_of(alloc, prefixes, &leaf.place)?,
             type_name: leaf.type_name,
         })?;
     }
@@ -116,15 +116,19 @@ pub fn plain_blocks(
 }
 
 /// The links in plain.
-pub fn plain_links(alloc: Global, fronts: &[Front], joins: &[Join]) -> Result<Vec<Link>, AllocError>
-    ensures { IfOk result (λ links. links.items ≡ map (link_at fronts.now) joins.now) }
+pub fn plain_links(
+    alloc: Global,
+    prefixes: &[Prefix],
+    joins: &[Join],
+) -> Result<Vec<Link>, AllocError>
+    ensures { IfOk result (λ links. links.items ≡ map (link_at prefixes.now) joins.now) }
 {
     let mut links = Vec::with_capacity(alloc, joins.len())?;
     for join in joins {
         links.push(Link {
             sort: join.sort,
-            from: path_of(alloc, fronts, &join.from)?,
-            to: path_of(alloc, fronts, &join.to)?,
+            from: path_of(alloc, prefixes, &join.from)?,
+            to: path_of(alloc, prefixes, &join.to)?,
         })?;
     }
     Ok(links)
@@ -133,17 +137,17 @@ pub fn plain_links(alloc: Global, fronts: &[Front], joins: &[Join]) -> Result<Ve
 /// The borders in plain.
 pub fn plain_borders(
     alloc: Global,
-    fronts: &[Front],
+    prefixes: &[Prefix],
     edges: &[Edge],
 ) -> Result<Vec<Border>, AllocError>
-    ensures { IfOk result (λ borders. borders.items ≡ map (border_at fronts.now) edges.now) }
+    ensures { IfOk result (λ borders. borders.items ≡ map (border_at prefixes.now) edges.now) }
 {
     let mut borders = Vec::with_capacity(alloc, edges.len())?;
     for edge in edges {
         borders.push(Border {
             sort: edge.sort,
             port: edge.port,
-            place: path_of(alloc, fronts, &edge.place)?,
+            place: path_of(alloc, prefixes, &edge.place)?,
         })?;
     }
     Ok(borders)

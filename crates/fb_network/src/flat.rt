@@ -5,9 +5,9 @@ ghost use Rattle.std.specs.Cmp.{eq_by_cmp_equiv, partial_equiv_from_equiv, parti
 ghost use Rattle.fb_network.specs.LinkOrder.{link_cmp, link_cmp_total, border_cmp, border_cmp_total};
 
 use crate::entries::{Edge, Join, Leaf, plain_blocks, plain_borders, plain_links};
-use crate::front::Front;
 use crate::network::sort_number;
 use crate::path::Path;
+use crate::prefix::Prefix;
 use crate::same::{are_same_edges, are_same_joins, are_same_leaves};
 use fb_tree::Sort;
 use fb_tree::text::Name;
@@ -123,14 +123,14 @@ impl Ord for Border {
 /// The tables of a flat network.
 #[derive(Debug, Drop)]
 pub(crate) struct Tables {
-    pub(crate) fronts: Vec<Front>,
+    pub(crate) prefixes: Vec<Prefix>,
     pub(crate) leaves: Vec<Leaf>,
     pub(crate) joins: Vec<Join>,
     pub(crate) edges: Vec<Edge>,
 }
 
 /// A network with its subapplications replaced by what they hold: its blocks, the links between them, and the borders, which join its own
-/// ports with them. Paths are numbers: each has a front, which places of one network share, and an end behind it. Plans share the tables.
+/// ports with them. Paths are numbers: each has a prefix, which places of one network share, and an end behind it. Plans share the tables.
 #[derive(Debug)]
 pub struct Flat {
     pub(crate) tables: Arc<Tables>,
@@ -149,15 +149,15 @@ impl Model for Flat {
 
     ghost Value = { PlainFlat };
 
-    ghost view = { λ it. flat_at it.tables.value.fronts.items it.tables.value.leaves.items it.tables.value.joins.items it.tables.value.edges.items };
+    ghost view = { λ it. flat_at it.tables.value.prefixes.items it.tables.value.leaves.items it.tables.value.joins.items it.tables.value.edges.items };
 
-    ghost invariant = { λ it. IsLaid (length it.tables.value.fronts.items) it.tables.value.leaves.items it.tables.value.joins.items it.tables.value.edges.items };
+    ghost invariant = { λ it. IsLaid (length it.tables.value.prefixes.items) it.tables.value.leaves.items it.tables.value.joins.items it.tables.value.edges.items };
 }
 
 impl Flat {
     /// Where its lists are allocated.
     pub fn allocator(&self) -> Global {
-        *self.tables.fronts.allocator()
+        *self.tables.prefixes.allocator()
     }
 
     /// The same network, with the same tables.
@@ -172,21 +172,21 @@ impl Flat {
     pub fn plain_blocks(&self, alloc: Global) -> Result<Vec<FlatBlock>, AllocError>
         ensures { IfOk result (λ blocks. blocks.items ≡ self.now.blocks) }
     {
-        plain_blocks(alloc, &self.tables.fronts, &self.tables.leaves)
+        plain_blocks(alloc, &self.tables.prefixes, &self.tables.leaves)
     }
 
     /// The links in plain, in order.
     pub fn plain_links(&self, alloc: Global) -> Result<Vec<Link>, AllocError>
         ensures { IfOk result (λ links. links.items ≡ self.now.links) }
     {
-        plain_links(alloc, &self.tables.fronts, &self.tables.joins)
+        plain_links(alloc, &self.tables.prefixes, &self.tables.joins)
     }
 
     /// The borders in plain, in order.
     pub fn plain_borders(&self, alloc: Global) -> Result<Vec<Border>, AllocError>
         ensures { IfOk result (λ borders. borders.items ≡ self.now.borders) }
     {
-        plain_borders(alloc, &self.tables.fronts, &self.tables.edges)
+        plain_borders(alloc, &self.tables.prefixes, &self.tables.edges)
     }
 
     /// Whether both say the same. It takes no memory.
@@ -194,8 +194,8 @@ impl Flat {
         ensures { IsTrue result ↔ (self.now ≡ other.now) }
     {
         let (a, b) = (&*self.tables, &*other.tables);
-        are_same_leaves(&a.fronts, &a.leaves, &b.fronts, &b.leaves)
-            && are_same_joins(&a.fronts, &a.joins, &b.fronts, &b.joins)
-            && are_same_edges(&a.fronts, &a.edges, &b.fronts, &b.edges)
+        are_same_leaves(&a.prefixes, &a.leaves, &b.prefixes, &b.leaves)
+            && are_same_joins(&a.prefixes, &a.joins, &b.prefixes, &b.joins)
+            && are_same_edges(&a.prefixes, &a.edges, &b.prefixes, &b.edges)
     }
 }

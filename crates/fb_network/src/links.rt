@@ -15,7 +15,7 @@ use crate::adapters::find_adapter;
 use crate::behind::behind;
 use crate::draft::Draft;
 use crate::look_up::Networks;
-use crate::members::{port_names, push_adapter_joins, push_member_fronts};
+use crate::members::{port_names, push_adapter_joins, push_member_prefixes};
 use crate::network::{Connection, Network, Port};
 use crate::pairs::push_join_pairs;
 use crate::place::{Place, number};
@@ -30,7 +30,7 @@ pub fn own_text(before: usize, place: usize) -> Result<Place, AllocError>
 {
     match before.checked_add(place) {
         Some(end) => Ok(Place {
-            front: 0,
+            prefix: 0,
             end: number(end)?,
         }),
         None => Err(AllocError),
@@ -45,16 +45,16 @@ fn push_members(
     plugs: &[Place],
     sockets: &[Place],
 ) -> Result<(), AllocError>
-    requires plugs { All (IsPlaceBelow (length draft.old.fronts.items)) plugs.now }
-    requires sockets { All (IsPlaceBelow (length draft.old.fronts.items)) sockets.now }
+    requires plugs { All (IsPlaceBelow (length draft.old.prefixes.items)) plugs.now }
+    requires sockets { All (IsPlaceBelow (length draft.old.prefixes.items)) sockets.now }
     ensures { OnOk result
         (AddsLinks draft.old draft.new
-        (adapter_links ports.now (map (path_at draft.old.fronts.items) plugs.now)
-        (map (path_at draft.old.fronts.items) sockets.now))) }
+        (adapter_links ports.now (map (path_at draft.old.prefixes.items) plugs.now)
+        (map (path_at draft.old.prefixes.items) sockets.now))) }
 {
     let names = Arc::new(alloc, port_names(alloc, ports)?)?;
-    let plugged = push_member_fronts(alloc, &mut draft.fronts, plugs, &names)?;
-    let socketed = push_member_fronts(alloc, &mut draft.fronts, sockets, &names)?;
+    let plugged = push_member_prefixes(alloc, &mut draft.prefixes, plugs, &names)?;
+    let socketed = push_member_prefixes(alloc, &mut draft.prefixes, sockets, &names)?;
     push_adapter_joins(&mut draft.joins, ports, &plugged, &socketed)
 }
 
@@ -65,12 +65,12 @@ fn push_pairs(
     froms: &[Place],
     tos: &[Place],
 ) -> Result<(), AllocError>
-    requires froms { All (IsPlaceBelow (length draft.old.fronts.items)) froms.now }
-    requires tos { All (IsPlaceBelow (length draft.old.fronts.items)) tos.now }
+    requires froms { All (IsPlaceBelow (length draft.old.prefixes.items)) froms.now }
+    requires tos { All (IsPlaceBelow (length draft.old.prefixes.items)) tos.now }
     ensures { OnOk result
         (AddsLinks draft.old draft.new
-        (link_pairs sort (map (path_at draft.old.fronts.items) froms.now)
-        (map (path_at draft.old.fronts.items) tos.now))) }
+        (link_pairs sort (map (path_at draft.old.prefixes.items) froms.now)
+        (map (path_at draft.old.prefixes.items) tos.now))) }
 {
     push_join_pairs(&mut draft.joins, sort, froms, tos)
 }
@@ -87,14 +87,14 @@ fn push_between<V: Networks>(
     tos: &[Place],
 ) -> Result<(), AllocError>
     requires table { HasInstances (get name_cmp table.now) network.now.instances }
-    requires froms { All (IsPlaceBelow (length draft.old.fronts.items)) froms.now }
-    requires tos { All (IsPlaceBelow (length draft.old.fronts.items)) tos.now }
+    requires froms { All (IsPlaceBelow (length draft.old.prefixes.items)) froms.now }
+    requires tos { All (IsPlaceBelow (length draft.old.prefixes.items)) tos.now }
     ensures { OnOk result
         (AddsLinks draft.old draft.new
         (links_of_sort connection.now.sort
         (adapter_at (V.networks view.now) network.now (place_of connection.now.source))
-        (map (path_at draft.old.fronts.items) froms.now)
-        (map (path_at draft.old.fronts.items) tos.now))) }
+        (map (path_at draft.old.prefixes.items) froms.now)
+        (map (path_at draft.old.prefixes.items) tos.now))) }
 {
     match connection.sort {
         Sort::Event => push_pairs(draft, Sort::Event, froms, tos),
@@ -118,9 +118,9 @@ fn push_connection_links<V: Networks>(
     destination: Place,
 ) -> Result<(), AllocError>
     requires table { (nets : ready.Nets)
-        × IsTable draft.old.fronts.items nets (get name_cmp table.now) network.now.instances }
-    requires source { Says draft.old.fronts.items source (end_text connection.now.source) }
-    requires destination { Says draft.old.fronts.items destination
+        × IsTable draft.old.prefixes.items nets (get name_cmp table.now) network.now.instances }
+    requires source { Says draft.old.prefixes.items source (end_text connection.now.source) }
+    requires destination { Says draft.old.prefixes.items destination
         (end_text connection.now.destination) }
     ensures { OnOk result
         (AddsConnections (V.networks view.now) network.now (get name_cmp table.now) draft.old
@@ -141,8 +141,8 @@ pub fn push_links<V: Networks>(
     table: &Table,
 ) -> Result<(), AllocError>
     requires table { (nets : ready.Nets)
-        × IsTable draft.old.fronts.items nets (get name_cmp table.now) network.now.instances }
-    requires own { HasOwn draft.old.fronts.items network.now }
+        × IsTable draft.old.prefixes.items nets (get name_cmp table.now) network.now.instances }
+    requires own { HasOwn draft.old.prefixes.items network.now }
     ensures { OnOk result
         (AddsConnections (V.networks view.now) network.now (get name_cmp table.now) draft.old
         draft.new network.now.connections) }

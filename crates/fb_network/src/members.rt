@@ -3,14 +3,14 @@ ghost use Rattle.std.specs.Prelude.{◌≡◌, ◌++◌, IfOk, OnOk, length, map
 ghost use Rattle.std.specs.List.{All};
 ghost use Rattle.fb_network.specs.Laid.{path_at};
 ghost use Rattle.fb_network.specs.Reading.{Grows, IsPlaceBelow};
-ghost use Rattle.fb_network.specs.Behind.{AreMembers, adapter_joins, front_behind, join_on_side, member_joins, plug_joins};
+ghost use Rattle.fb_network.specs.Behind.{AreMembers, adapter_joins, prefix_behind, join_on_side, member_joins, plug_joins};
 
 use crate::draft::count_of;
 use crate::entries::Join;
-use crate::front::Front;
 use crate::network::Port;
 use crate::path::Path;
 use crate::place::{Place, number, path_of};
+use crate::prefix::Prefix;
 use fb_tree::Side;
 use std::alloc::{AllocError, Global};
 use std::sync::Arc;
@@ -26,38 +26,38 @@ pub fn port_names(alloc: Global, ports: &[Port]) -> Result<Vec<Path>, AllocError
     Ok(names)
 }
 
-fn front_behind_place(
+fn prefix_behind_place(
     alloc: Global,
-    fronts: &[Front],
+    prefixes: &[Prefix],
     place: &Place,
     names: &Arc<Vec<Path>>,
-) -> Result<Front, AllocError>
+) -> Result<Prefix, AllocError>
     ensures { IfOk result
-        (λ front. front ≡ front_behind names.now.value.items (path_at fronts.now place.now)) }
+        (λ prefix. prefix ≡ prefix_behind names.now.value.items (path_at prefixes.now place.now)) }
 {
-    let start = path_of(alloc, fronts, place)?.pointed(alloc)?;
+    let start = path_of(alloc, prefixes, place)?.pointed(alloc)?;
     let ends = names.clone()?;
-    Ok(Front::new(start, ends))
+    Ok(Prefix::new(start, ends))
 }
 
-/// Adds a front behind each of the places, and gives their numbers.
-pub fn push_member_fronts(
+/// Adds a prefix behind each of the places, and gives their numbers.
+pub fn push_member_prefixes(
     alloc: Global,
-    fronts: &mut Vec<Front>,
+    prefixes: &mut Vec<Prefix>,
     places: &[Place],
     names: &Arc<Vec<Path>>,
 ) -> Result<Vec<u32>, AllocError>
-    requires { All (IsPlaceBelow (length fronts.old.items)) places.now }
-    ensures grows { IfOk result (λ _. Grows fronts.old.items fronts.new.items) }
+    requires { All (IsPlaceBelow (length prefixes.old.items)) places.now }
+    ensures grows { IfOk result (λ _. Grows prefixes.old.items prefixes.new.items) }
     ensures members { IfOk result
-        (λ numbers. AreMembers fronts.new.items names.now.value.items numbers.items
-        (map (path_at fronts.old.items) places.now)) }
+        (λ numbers. AreMembers prefixes.new.items names.now.value.items numbers.items
+        (map (path_at prefixes.old.items) places.now)) }
 {
     let mut numbers = Vec::with_capacity(alloc, places.len())?;
     for place in places {
-        let front = front_behind_place(alloc, fronts, place, names)?;
-        numbers.push(count_of(fronts)?)?;
-        fronts.push(front)?;
+        let prefix = prefix_behind_place(alloc, prefixes, place, names)?;
+        numbers.push(count_of(prefixes)?)?;
+        prefixes.push(prefix)?;
     }
     Ok(numbers)
 }
@@ -79,7 +79,7 @@ fn join_at(port: &Port, plug: Place, socket: Place) -> Join
     }
 }
 
-/// Adds the links of an adapter's ports between a plug and a socket, whose fronts these are: its outputs lead from the plug to the socket,
+/// Adds the links of an adapter's ports between a plug and a socket, whose prefixes these are: its outputs lead from the plug to the socket,
 /// its inputs from the socket to the plug.
 fn push_member_joins(
     joins: &mut Vec<Join>,
@@ -92,8 +92,11 @@ fn push_member_joins(
 {
     for place in 0..ports.len() {
         let end = number(place)?;
-        let plugged = Place { front: plug, end };
-        let socketed = Place { front: socket, end };
+        let plugged = Place { prefix: plug, end };
+        let socketed = Place {
+            prefix: socket,
+            end,
+        };
         joins.push(join_at(&ports[place], plugged, socketed))?;
     }
     Ok(())
@@ -113,7 +116,7 @@ fn push_plug_joins(
     Ok(())
 }
 
-/// Adds the links of an adapter's ports between each plug and each socket, whose fronts these are.
+/// Adds the links of an adapter's ports between each plug and each socket, whose prefixes these are.
 pub fn push_adapter_joins(
     joins: &mut Vec<Join>,
     ports: &[Port],

@@ -5,27 +5,27 @@ ghost use Rattle.fb_network.specs.Numbered.{block_numbered, block_or_nothing, li
 
 use crate::entries::{Join, Leaf};
 use crate::flat::Flat;
-use crate::front::Front;
 use crate::place::parts_at;
+use crate::prefix::Prefix;
 use fb_tree::Sort;
 
 /// The two parts of the path of a block.
 #[tactic(auto, using(crate::proofs::Numbers::numbers))]
-fn block_path<'a>(fronts: &'a [Front], leaves: &[Leaf], number: u32) -> (&'a str, &'a str)
+fn block_path<'a>(prefixes: &'a [Prefix], leaves: &[Leaf], number: u32) -> (&'a str, &'a str)
     ensures { result.0.now ++ result.1.now
-        ≡ (block_or_nothing (slice_get (map (block_at fronts.now) leaves.now) number)).path }
+        ≡ (block_or_nothing (slice_get (map (block_at prefixes.now) leaves.now) number)).path }
 {
     match leaves.get(number as usize) {
-        Some(leaf) => parts_at(fronts, &leaf.place),
+        Some(leaf) => parts_at(prefixes, &leaf.place),
         None => ("", ""),
     }
 }
 
 /// The name of the type of a block.
 #[tactic(auto, using(crate::proofs::Numbers::numbers))]
-fn block_type<'a>(_fronts: &[Front], leaves: &'a [Leaf], number: u32) -> &'a str
+fn block_type<'a>(_prefixes: &[Prefix], leaves: &'a [Leaf], number: u32) -> &'a str
     ensures { result.now
-        ≡ (block_or_nothing (slice_get (map (block_at _fronts.now) leaves.now) number)).type_name }
+        ≡ (block_or_nothing (slice_get (map (block_at _prefixes.now) leaves.now) number)).type_name }
 {
     match leaves.get(number as usize) {
         Some(leaf) => leaf.type_name.as_str(),
@@ -35,33 +35,33 @@ fn block_type<'a>(_fronts: &[Front], leaves: &'a [Leaf], number: u32) -> &'a str
 
 /// The two parts of the path where a link begins.
 #[tactic(auto, using(crate::proofs::Numbers::numbers))]
-fn link_from<'a>(fronts: &'a [Front], joins: &[Join], number: u32) -> (&'a str, &'a str)
+fn link_from<'a>(prefixes: &'a [Prefix], joins: &[Join], number: u32) -> (&'a str, &'a str)
     ensures { result.0.now ++ result.1.now
-        ≡ (link_or_nothing (slice_get (map (link_at fronts.now) joins.now) number)).from }
+        ≡ (link_or_nothing (slice_get (map (link_at prefixes.now) joins.now) number)).from }
 {
     match joins.get(number as usize) {
-        Some(join) => parts_at(fronts, &join.from),
+        Some(join) => parts_at(prefixes, &join.from),
         None => ("", ""),
     }
 }
 
 /// The two parts of the path where a link ends.
 #[tactic(auto, using(crate::proofs::Numbers::numbers))]
-fn link_to<'a>(fronts: &'a [Front], joins: &[Join], number: u32) -> (&'a str, &'a str)
+fn link_to<'a>(prefixes: &'a [Prefix], joins: &[Join], number: u32) -> (&'a str, &'a str)
     ensures { result.0.now ++ result.1.now
-        ≡ (link_or_nothing (slice_get (map (link_at fronts.now) joins.now) number)).to }
+        ≡ (link_or_nothing (slice_get (map (link_at prefixes.now) joins.now) number)).to }
 {
     match joins.get(number as usize) {
-        Some(join) => parts_at(fronts, &join.to),
+        Some(join) => parts_at(prefixes, &join.to),
         None => ("", ""),
     }
 }
 
 /// The sort of a link.
 #[tactic(auto, using(crate::proofs::Numbers::numbers))]
-fn link_sort(_fronts: &[Front], joins: &[Join], number: u32) -> Sort
+fn link_sort(_prefixes: &[Prefix], joins: &[Join], number: u32) -> Sort
     ensures { result
-        ≡ (link_or_nothing (slice_get (map (link_at _fronts.now) joins.now) number)).sort }
+        ≡ (link_or_nothing (slice_get (map (link_at _prefixes.now) joins.now) number)).sort }
 {
     match joins.get(number as usize) {
         Some(join) => join.sort,
@@ -88,34 +88,34 @@ impl Flat {
     pub fn block_path(&self, number: u32) -> (&str, &str)
         ensures { result.0.now ++ result.1.now ≡ (block_numbered self.now number).path }
     {
-        block_path(&self.tables.fronts, &self.tables.leaves, number)
+        block_path(&self.tables.prefixes, &self.tables.leaves, number)
     }
 
     /// The name of the type of a block.
     pub fn block_type(&self, number: u32) -> &str
         ensures { result.now ≡ (block_numbered self.now number).type_name }
     {
-        block_type(&self.tables.fronts, &self.tables.leaves, number)
+        block_type(&self.tables.prefixes, &self.tables.leaves, number)
     }
 
     /// The path where a link begins, in two parts.
     pub fn link_from(&self, number: u32) -> (&str, &str)
         ensures { result.0.now ++ result.1.now ≡ (link_numbered self.now number).from }
     {
-        link_from(&self.tables.fronts, &self.tables.joins, number)
+        link_from(&self.tables.prefixes, &self.tables.joins, number)
     }
 
     /// The path where a link ends, in two parts.
     pub fn link_to(&self, number: u32) -> (&str, &str)
         ensures { result.0.now ++ result.1.now ≡ (link_numbered self.now number).to }
     {
-        link_to(&self.tables.fronts, &self.tables.joins, number)
+        link_to(&self.tables.prefixes, &self.tables.joins, number)
     }
 
     /// The sort of a link.
     pub fn link_sort(&self, number: u32) -> Sort
         ensures { result ≡ (link_numbered self.now number).sort }
     {
-        link_sort(&self.tables.fronts, &self.tables.joins, number)
+        link_sort(&self.tables.prefixes, &self.tables.joins, number)
     }
 }

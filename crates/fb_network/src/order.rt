@@ -5,24 +5,24 @@ ghost use Rattle.fb_network.specs.LinkOrder.{border_cmp, link_cmp};
 ghost use Rattle.fb_network.specs.Once.{IsOnce};
 
 use crate::entries::{Edge, Join, compare_edges, compare_joins};
-use crate::front::Front;
+use crate::prefix::Prefix;
 use std::alloc::AllocError;
 
 /// Sorts links by what they say, and leaves each once.
-pub fn sort_joins(fronts: &[Front], joins: &mut Vec<Join>) -> Result<(), AllocError>
-    ensures { OnOk result (IsOnce (link_at fronts.now) link_cmp joins.old.items joins.new.items) }
+pub fn sort_joins(prefixes: &[Prefix], joins: &mut Vec<Join>) -> Result<(), AllocError>
+    ensures { OnOk result (IsOnce (link_at prefixes.now) link_cmp joins.old.items joins.new.items) }
 {
-    joins.sort_by(|a, b| compare_joins(fronts, a, fronts, b))?;
-    joins.dedup_by(|a, b| compare_joins(fronts, a, fronts, b).is_eq());
+    joins.sort_by(|a, b| compare_joins(prefixes, a, prefixes, b))?;
+    joins.dedup_by(|a, b| compare_joins(prefixes, a, prefixes, b).is_eq());
     Ok(())
 }
 
 /// Sorts borders by what they say, and leaves each once.
-pub fn sort_edges(fronts: &[Front], edges: &mut Vec<Edge>) -> Result<(), AllocError>
+pub fn sort_edges(prefixes: &[Prefix], edges: &mut Vec<Edge>) -> Result<(), AllocError>
     ensures { OnOk result
-        (IsOnce (border_at fronts.now) border_cmp edges.old.items edges.new.items) }
+        (IsOnce (border_at prefixes.now) border_cmp edges.old.items edges.new.items) }
 {
-    edges.sort_by(|a, b| compare_edges(fronts, a, fronts, b))?;
-    edges.dedup_by(|a, b| compare_edges(fronts, a, fronts, b).is_eq());
+    edges.sort_by(|a, b| compare_edges(prefixes, a, prefixes, b))?;
+    edges.dedup_by(|a, b| compare_edges(prefixes, a, prefixes, b).is_eq());
     Ok(())
 }

@@ -1,7 +1,7 @@
 //! What stands in front of paths.
 ghost use Rattle.std.specs.Prelude.{◌≡◌, option_copied};
 ghost use Rattle.std.specs.HashMap.{get_by_text};
-ghost use Rattle.fb_network.specs.Fronts.{nearest};
+ghost use Rattle.fb_network.specs.Prefixes.{nearest};
 
 use crate::path::Path;
 use std::collections::HashMap;
@@ -9,7 +9,7 @@ use std::collections::HashMap;
 /// Paths by the texts that stand for them.
 pub type PathTable = HashMap<String, Path>;
 
-/// What the longest front of the path stands for, of those that stand for something.
+/// What the longest prefix of the path stands for, of those that stand for something.
 pub fn nearest<'a>(table: &'a PathTable, path: &str) -> Option<&'a Path>
     ensures { option_copied result ≡ nearest (get_by_text table.now) path.now }
 {

@@ -4,45 +4,45 @@ ghost use Rattle.fb_network.specs.Laid.{block_at, border_at, link_at, path_at};
 
 use crate::entries::{Edge, Join, Leaf};
 use crate::flat::Flat;
-use crate::front::Front;
 use crate::place::{Place, parts_at};
+use crate::prefix::Prefix;
 use fb_tree::Sort;
 use fb_tree::text::Name;
 use std::alloc::AllocError;
 
-fn put_path(fronts: &[Front], place: &Place, text: &mut String) -> Result<(), AllocError>
-    ensures { OnOk result (string_bytes text.new ≡ path_at fronts.now place.now) }
+fn put_path(prefixes: &[Prefix], place: &Place, text: &mut String) -> Result<(), AllocError>
+    ensures { OnOk result (string_bytes text.new ≡ path_at prefixes.now place.now) }
 {
-    let (start, end) = parts_at(fronts, place);
+    let (start, end) = parts_at(prefixes, place);
     text.clear();
     text.push_str(start)?;
     text.push_str(end)
 }
 
 fn put_leaf(
-    fronts: &[Front],
+    prefixes: &[Prefix],
     leaves: &[Leaf],
     place: usize,
     path: &mut String,
 ) -> Result<Name, AllocError>
     requires { place < length leaves.now }
-    ensures { IfOk result (λ type_name. slice_get (map (block_at fronts.now) leaves.now) place
+    ensures { IfOk result (λ type_name. slice_get (map (block_at prefixes.now) leaves.now) place
         ≡ Some (record { path = string_bytes path.new; type_name = type_name })) }
 {
     let leaf = &leaves[place];
-    put_path(fronts, &leaf.place, path)?;
+    put_path(prefixes, &leaf.place, path)?;
     Ok(leaf.type_name)
 }
 
 fn put_join(
-    fronts: &[Front],
+    prefixes: &[Prefix],
     joins: &[Join],
     place: usize,
     from: &mut String,
     to: &mut String,
 ) -> Result<Sort, AllocError>
     requires { place < length joins.now }
-    ensures { IfOk result (λ sort. slice_get (map (link_at fronts.now) joins.now) place
+    ensures { IfOk result (λ sort. slice_get (map (link_at prefixes.now) joins.now) place
         ≡ Some (record {
           sort = sort;
           from = string_bytes from.new;
@@ -50,23 +50,23 @@ fn put_join(
         })) }
 {
     let join = &joins[place];
-    put_path(fronts, &join.from, from)?;
-    put_path(fronts, &join.to, to)?;
+    put_path(prefixes, &join.from, from)?;
+    put_path(prefixes, &join.to, to)?;
     Ok(join.sort)
 }
 
 fn put_edge(
-    fronts: &[Front],
+    prefixes: &[Prefix],
     edges: &[Edge],
     place: usize,
     at: &mut String,
 ) -> Result<(Sort, Name), AllocError>
     requires { place < length edges.now }
-    ensures { IfOk result (λ found. slice_get (map (border_at fronts.now) edges.now) place
+    ensures { IfOk result (λ found. slice_get (map (border_at prefixes.now) edges.now) place
         ≡ Some (record { sort = found.0; port = found.1; place = string_bytes at.new })) }
 {
     let edge = &edges[place];
-    put_path(fronts, &edge.place, at)?;
+    put_path(prefixes, &edge.place, at)?;
     Ok((edge.sort, edge.port))
 }
 
@@ -84,7 +84,7 @@ impl Flat {
         ensures { IfOk result (λ type_name. slice_get self.now.blocks place
             ≡ Some (record { path = string_bytes path.new; type_name = type_name })) }
     {
-        put_leaf(&self.tables.fronts, &self.tables.leaves, place, path)
+        put_leaf(&self.tables.prefixes, &self.tables.leaves, place, path)
     }
 
     /// Writes the two places of a link over texts, and gives its sort.
@@ -101,7 +101,7 @@ impl Flat {
           to = string_bytes to.new;
         })) }
     {
-        put_join(&self.tables.fronts, &self.tables.joins, place, from, to)
+        put_join(&self.tables.prefixes, &self.tables.joins, place, from, to)
     }
 
     /// Writes the place of a border over a text, and gives its sort and its port.
@@ -113,6 +113,6 @@ impl Flat {
           place = string_bytes at.new;
         })) }
     {
-        put_edge(&self.tables.fronts, &self.tables.edges, place, at)
+        put_edge(&self.tables.prefixes, &self.tables.edges, place, at)
     }
 }

@@ -5,7 +5,7 @@ use Rattle.fb_tree.specs.Tree.{DeclTree}
 use Rattle.fb_structured_text.specs.Forms.declared.lexeme.Lexeme.{Lexeme}
 use Rattle.fb_parse.specs.Body.{BodyTree, Whole, BrokenAt, IsBodyIn, IsBody, whole_or_broken, body_read, body_in, body_of}
 use Rattle.fb_structured_text.specs.Forms.Fault.{IsStuck, IsFault}
-use Rattle.fb_structured_text.specs.Forms.Form.{Form, Front}
+use Rattle.fb_structured_text.specs.Forms.Form.{Form, Prefix}
 use Rattle.fb_parse.specs.Grammar.{unit}
 use Rattle.fb_structured_text.specs.Forms.Lexemes.{lexemes_of, place}
 use Rattle.fb_structured_text.specs.Forms.Reading.{Outcome, read}
@@ -15,15 +15,15 @@ use Rattle.fb_structured_text.proofs.Forms.Forms.{spelled_of_ok, ok_of_spelled, 
 -- Two faults of the same tokens begin at the same place
 
 abbrev Stops : (List Lexeme → Type 0) → List Lexeme → List Lexeme → Type 0
-Stops P front [] = Unit {0}
-Stops P front (l ∷ rest) = P (front ++ l ∷ []) → ⊥
+Stops P prefix [] = Unit {0}
+Stops P prefix (l ∷ rest) = P (prefix ++ l ∷ []) → ⊥
 
 abbrev Closed : (List Lexeme → Type 0) → List Lexeme → Type 0
-Closed P front = (us vs : List Lexeme) → front ≡ us ++ vs → P us
+Closed P prefix = (us vs : List Lexeme) → prefix ≡ us ++ vs → P us
 
-behind_first : (P : List Lexeme → Type 0) (l : Lexeme) (front rest : List Lexeme) → Stops P (l ∷ front) rest → Stops (λ us. P (l ∷ us)) front rest
-behind_first P l front [] s = tt
-behind_first P l front (r ∷ rest) s = s
+behind_first : (P : List Lexeme → Type 0) (l : Lexeme) (prefix rest : List Lexeme) → Stops P (l ∷ prefix) rest → Stops (λ us. P (l ∷ us)) prefix rest
+behind_first P l prefix [] s = tt
+behind_first P l prefix (r ∷ rest) s = s
 
 same_rest : (P : List Lexeme → Type 0) (f r g s : List Lexeme) → f ++ r ≡ g ++ s → Closed P f → Closed P g → Stops P f r → Stops P g s → r ≡ s
 same_rest P [] r [] s e cf cg sf sg = e
@@ -42,13 +42,13 @@ same_rest P (a ∷ f) r (b ∷ g) s e cf cg sf sg =
     (behind_first P a f r sf)
     (behind_first P a g s (subst (λ (z : Lexeme). Stops P (z ∷ g) s) head sg))
 
-stops_of : {A : Type 0} (x : Form A) (front rest : List Lexeme) → IsStuck x front rest → Stops (Front x) front rest
-stops_of x front [] s = tt
-stops_of x front (l ∷ rest) s = s
+stops_of : {A : Type 0} (x : Form A) (prefix rest : List Lexeme) → IsStuck x prefix rest → Stops (Prefix x) prefix rest
+stops_of x prefix [] s = tt
+stops_of x prefix (l ∷ rest) s = s
 
 pub one_rest : {A : Type 0} (x : Form A) (ls a b : List Lexeme) → IsFault x ls a → IsFault x ls b → a ≡ b
 one_rest x ls a b p q =
-    same_rest (Front x) p.0 a q.0 b (sym p.1 ∙ q.1) p.2 q.2 (stops_of x p.0 a p.3) (stops_of x q.0 b q.3)
+    same_rest (Prefix x) p.0 a q.0 b (sym p.1 ∙ q.1) p.2 q.2 (stops_of x p.0 a p.3) (stops_of x q.0 b q.3)
 
 -- What is computed is the body
 

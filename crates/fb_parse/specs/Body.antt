@@ -27,7 +27,7 @@ mentions_in_body (Whole decl) = all_mentions_of decl
 mentions_in_body (BrokenAt span) = nothing_mentioned
 
 -- By the tokens of a text of so many bytes. The tree that they spell; where they spell none, the place of the first token such
--- that the tokens up to it are no front of a unit, or the end. Where there is a comment that is never closed, its span.
+-- that the tokens up to it are no prefix of a unit, or the end. Where there is a comment that is never closed, its span.
 abbrev pub IsBodyIn : ℕ → Result (List Lexeme) Span → BodyTree → Type 0
 IsBodyIn end (Err bad) body = body ≡ BrokenAt bad
 IsBodyIn end (Ok lexemes) (Whole tree) = Spells unit lexemes tree

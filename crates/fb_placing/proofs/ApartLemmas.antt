@@ -6,22 +6,22 @@ use Rattle.std.specs.Str.{bytes_eq}
 use Rattle.std.proofs.lemmas.Bool.Decides.{Decides-eqb}
 use Rattle.std.proofs.lemmas.List.{map-append}
 use Rattle.fb_placing.specs.Cuts.{home_at}
-use Rattle.fb_network.specs.Fronts.{IsFront, IsNearest, fronts, last_there, nearest}
+use Rattle.fb_network.specs.Prefixes.{IsPrefix, IsNearest, prefixes, last_there, nearest}
 use Rattle.fb_placing.specs.Points.{AreApart, HasNoPoint, IsInside}
 use Rattle.fb_placing.specs.declared.homes.Home.{Home}
 use Rattle.fb_placing.proofs.FirstEntryLemmas.{first_at-push}
-use Rattle.fb_network.proofs.FrontLemmas.{nearest_here}
-use Rattle.fb_placing.proofs.InsideLemmas.{fronts_inside, nearest_inside}
+use Rattle.fb_network.proofs.PrefixLemmas.{nearest_here}
+use Rattle.fb_placing.proofs.InsideLemmas.{prefixes_inside, nearest_inside}
 use Rattle.fb_network.proofs.NearestLemmas.{is_nearest}
 use Rattle.fb_placing.proofs.ListLemmas.{one_more}
 use Rattle.fb_placing.proofs.TableLemmas.{same_text}
 
--- a name is its own front, and has no other
-one_front : (name : List ℕ) → HasNoPoint name → fronts name ≡ name ∷ []
-unfolding fronts
-one_front [] none = refl
-one_front (b ∷ bs) none =
-    (λ i. cond (none.0 i) ([] ∷ []) [] ++ map (λ (front : List ℕ). b ∷ front) (one_front bs none.1 i))
+-- a name is its own prefix, and has no other
+one_prefix : (name : List ℕ) → HasNoPoint name → prefixes name ≡ name ∷ []
+unfolding prefixes
+one_prefix [] none = refl
+one_prefix (b ∷ bs) none =
+    (λ i. cond (none.0 i) ([] ∷ []) [] ++ map (λ (prefix : List ℕ). b ∷ prefix) (one_prefix bs none.1 i))
 
 last_more : {X : Type 0} (os : List (Option X)) (o : Option X) → last_there (os ++ o ∷ []) ≡ option_or o (last_there os)
 last_more [] None = refl
@@ -37,9 +37,9 @@ pub nearest_parted : {X : Type 0} (at : List ℕ → Option X) (outer name : Lis
 unfolding nearest
 nearest_parted at outer name none =
     ap (λ (fs : List (List ℕ)). last_there (map at fs))
-    (fronts_inside outer name ∙ ap (λ (fs : List (List ℕ)). fronts outer ++ map (λ (front : List ℕ). outer ++ 46 ∷ front) fs) (one_front name none))
-    ∙ ap last_there (map-append at (fronts outer) ((outer ++ 46 ∷ name) ∷ []))
-    ∙ last_more (map at (fronts outer)) (at (outer ++ 46 ∷ name))
+    (prefixes_inside outer name ∙ ap (λ (fs : List (List ℕ)). prefixes outer ++ map (λ (prefix : List ℕ). outer ++ 46 ∷ prefix) fs) (one_prefix name none))
+    ∙ ap last_there (map-append at (prefixes outer) ((outer ++ 46 ∷ name) ∷ []))
+    ∙ last_more (map at (prefixes outer)) (at (outer ++ 46 ∷ name))
 
 -- the home of what stands in a block
 pub apart_nearest : {X : Type 0} (at : List ℕ → Option X) (path outer name : List ℕ) (x : X) → AreApart at → path ≡ outer ++ 46 ∷ name → HasNoPoint name → at outer ≡ Some x → nearest at path ≡ Some x
@@ -111,8 +111,8 @@ last_point (b ∷ bs) = by_rest (last_point bs)
     by_rest (inl none) = by_test none (b == 46) refl
     by_rest (inr l) = inr (record { outer = b ∷ l.outer; name = l.name; parts = ap (λ (cs : List ℕ). b ∷ cs) l.parts; none = l.none })
 
-none_near : {X : Type 0} (at : List ℕ → Option X) (path front : List ℕ) → IsFront front path → nearest at path ≡ None → at front ≡ None
-none_near at path front is nothing = subst (IsNearest at path) nothing (is_nearest at path) front is
+none_near : {X : Type 0} (at : List ℕ → Option X) (path prefix : List ℕ) → IsPrefix prefix path → nearest at path ≡ None → at prefix ≡ None
+none_near at path prefix is nothing = subst (IsNearest at path) nothing (is_nearest at path) prefix is
 
 module _ {X : Type 0} (at : List ℕ → Option X) (block : List ℕ) (x : X) (apart : AreApart at) (there : at block ≡ Some x) where
   -- nothing stands inside a block
@@ -135,10 +135,10 @@ module _ {X : Type 0} (at : List ℕ → Option X) (block : List ℕ) (x : X) (a
   apart_inside rest = nearest_inside at block rest nothing_inside ∙ nearest_here at block x there
 
 -- a path in two parts that begins with the text of a block and a point
-pub inside_parts : (start end block front name first rest : List ℕ) → block ≡ front ++ name → end ≡ first ++ rest → front ≡ start → first ≡ name → 0 < length rest → nat_eq (slice_index_or rest 0 0) 46 ≡ true → IsInside (start ++ end) block
-inside_parts start end block front name first [] e f same alike some point = absurd (omega (arith, some))
-inside_parts start end block front name first (b ∷ rest) e f same alike some point =
+pub inside_parts : (start end block prefix name first rest : List ℕ) → block ≡ prefix ++ name → end ≡ first ++ rest → prefix ≡ start → first ≡ name → 0 < length rest → nat_eq (slice_index_or rest 0 0) 46 ≡ true → IsInside (start ++ end) block
+inside_parts start end block prefix name first [] e f same alike some point = absurd (omega (arith, some))
+inside_parts start end block prefix name first (b ∷ rest) e f same alike some point =
     let at : b ≡ 46 = (Decides-eqb b 46).0 point in (
       rest,
-      (λ i. sym same i ++ f i) ∙ (λ i. front ++ (alike i ++ at i ∷ rest)) ∙ sym (append_assoc front name (46 ∷ rest)) ∙ ap (λ (l : List ℕ). l ++ 46 ∷ rest) (sym e),
+      (λ i. sym same i ++ f i) ∙ (λ i. prefix ++ (alike i ++ at i ∷ rest)) ∙ sym (append_assoc prefix name (46 ∷ rest)) ∙ ap (λ (l : List ℕ). l ++ 46 ∷ rest) (sym e),
     )

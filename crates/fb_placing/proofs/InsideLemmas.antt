@@ -2,19 +2,19 @@
 use Rattle.std.proofs.Common.{ℕ, ◌≡◌, ◌==◌, if◌then◌else◌, List, [], ◌∷◌, ◌++◌, Option, None, map, refl, sym, ap, ◌∙◌, append_assoc}
 use Rattle.std.specs.Option.{option_or}
 use Rattle.std.proofs.lemmas.List.{map-append}
-use Rattle.fb_network.specs.Fronts.{fronts, last_there, nearest}
+use Rattle.fb_network.specs.Prefixes.{prefixes, last_there, nearest}
 
--- the fronts of what stands inside a path: those of the path, and then those inside
-pub fronts_inside : (path inner : List ℕ) → fronts (path ++ 46 ∷ inner) ≡ fronts path ++ map (λ (front : List ℕ). path ++ 46 ∷ front) (fronts inner)
-unfolding fronts
-fronts_inside [] inner = refl
-fronts_inside (b ∷ path) inner =
+-- the prefixes of what stands inside a path: those of the path, and then those inside
+pub prefixes_inside : (path inner : List ℕ) → prefixes (path ++ 46 ∷ inner) ≡ prefixes path ++ map (λ (prefix : List ℕ). path ++ 46 ∷ prefix) (prefixes inner)
+unfolding prefixes
+prefixes_inside [] inner = refl
+prefixes_inside (b ∷ path) inner =
     let first : List (List ℕ) = if b == 46 then [] ∷ [] else [] in
-    ap (λ (l : List (List ℕ)). first ++ map (λ (front : List ℕ). b ∷ front) l) (fronts_inside path inner)
-    ∙ ap (λ (l : List (List ℕ)). first ++ l) (map-append (λ (front : List ℕ). b ∷ front) (fronts path) (map (λ (front : List ℕ). path ++ 46 ∷ front) (fronts inner)) ∙ ap (λ (l : List (List ℕ)). map (λ (front : List ℕ). b ∷ front) (fronts path) ++ l) (both b (fronts inner)))
-    ∙ sym (append_assoc first (map (λ (front : List ℕ). b ∷ front) (fronts path)) (map (λ (front : List ℕ). b ∷ path ++ 46 ∷ front) (fronts inner)))
+    ap (λ (l : List (List ℕ)). first ++ map (λ (prefix : List ℕ). b ∷ prefix) l) (prefixes_inside path inner)
+    ∙ ap (λ (l : List (List ℕ)). first ++ l) (map-append (λ (prefix : List ℕ). b ∷ prefix) (prefixes path) (map (λ (prefix : List ℕ). path ++ 46 ∷ prefix) (prefixes inner)) ∙ ap (λ (l : List (List ℕ)). map (λ (prefix : List ℕ). b ∷ prefix) (prefixes path) ++ l) (both b (prefixes inner)))
+    ∙ sym (append_assoc first (map (λ (prefix : List ℕ). b ∷ prefix) (prefixes path)) (map (λ (prefix : List ℕ). b ∷ path ++ 46 ∷ prefix) (prefixes inner)))
   where
-    both : (c : ℕ) (fs : List (List ℕ)) → map (λ (front : List ℕ). c ∷ front) (map (λ (front : List ℕ). path ++ 46 ∷ front) fs) ≡ map (λ (front : List ℕ). c ∷ path ++ 46 ∷ front) fs
+    both : (c : ℕ) (fs : List (List ℕ)) → map (λ (prefix : List ℕ). c ∷ prefix) (map (λ (prefix : List ℕ). path ++ 46 ∷ prefix) fs) ≡ map (λ (prefix : List ℕ). c ∷ path ++ 46 ∷ prefix) fs
     both c [] = refl
     both c (f ∷ fs) = ap (λ (l : List (List ℕ)). (c ∷ path ++ 46 ∷ f) ∷ l) (both c fs)
 
@@ -23,7 +23,7 @@ last_before : {X : Type 0} (xs ys : List (Option X)) → last_there ys ≡ None 
 last_before [] ys none = none
 last_before {X = X} (x ∷ xs) ys none = ap (λ (o : Option X). option_or o x) (last_before xs ys none)
 
-nothing_there : {X : Type 0} (at : List ℕ → Option X) (path : List ℕ) → ((inner : List ℕ) → at (path ++ 46 ∷ inner) ≡ None) → (fs : List (List ℕ)) → last_there (map at (map (λ (front : List ℕ). path ++ 46 ∷ front) fs)) ≡ None
+nothing_there : {X : Type 0} (at : List ℕ → Option X) (path : List ℕ) → ((inner : List ℕ) → at (path ++ 46 ∷ inner) ≡ None) → (fs : List (List ℕ)) → last_there (map at (map (λ (prefix : List ℕ). path ++ 46 ∷ prefix) fs)) ≡ None
 nothing_there at path none [] = refl
 nothing_there at path none (f ∷ fs) = λ i. option_or (nothing_there at path none fs i) (none f i)
 
@@ -31,7 +31,7 @@ nothing_there at path none (f ∷ fs) = λ i. option_or (nothing_there at path n
 pub nearest_inside : {X : Type 0} (at : List ℕ → Option X) (path inner : List ℕ) → ((rest : List ℕ) → at (path ++ 46 ∷ rest) ≡ None) → nearest at (path ++ 46 ∷ inner) ≡ nearest at path
 unfolding nearest
 nearest_inside at path inner none =
-    let inside = map (λ (front : List ℕ). path ++ 46 ∷ front) (fronts inner) in
-    ap (λ (l : List (List ℕ)). last_there (map at l)) (fronts_inside path inner)
-    ∙ ap last_there (map-append at (fronts path) inside)
-    ∙ last_before (map at (fronts path)) (map at inside) (nothing_there at path none (fronts inner))
+    let inside = map (λ (prefix : List ℕ). path ++ 46 ∷ prefix) (prefixes inner) in
+    ap (λ (l : List (List ℕ)). last_there (map at l)) (prefixes_inside path inner)
+    ∙ ap last_there (map-append at (prefixes path) inside)
+    ∙ last_before (map at (prefixes path)) (map at inside) (nothing_there at path none (prefixes inner))

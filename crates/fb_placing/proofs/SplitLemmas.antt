@@ -1,4 +1,4 @@
--- Paths in two parts: their names, and their fronts.
+-- Paths in two parts: their names, and their prefixes.
 use Rattle.std.proofs.Common.{ℕ, ◌≡◌, ◌==◌, Bool, true, false, cond, List, [], ◌∷◌, ◌++◌, refl, ◌∙◌, ap}
 use Rattle.fb_placing.specs.Points.{HasNoPoint}
 use Rattle.fb_placing.specs.Resolved.{on_first, path_names}

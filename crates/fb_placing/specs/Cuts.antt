@@ -4,7 +4,7 @@ use Rattle.std.specs.Str.{bytes_eq}
 use Rattle.fb_network.specs.declared.flat.Link.{Link}
 use Rattle.fb_placing.specs.declared.homes.Home.{Home}
 use Rattle.fb_placing.specs.FirstEntry.{first_at}
-use Rattle.fb_network.specs.Fronts.{nearest}
+use Rattle.fb_network.specs.Prefixes.{nearest}
 
 -- the home of the block at a path
 abbrev pub home_at : List Home → List ℕ → Option (List ℕ)

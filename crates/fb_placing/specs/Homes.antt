@@ -10,7 +10,7 @@ use Rattle.fb_placing.specs.declared.homes.Homes.{Homes}
 use Rattle.fb_placing.specs.declared.homes.Homes.TheVariants as homes
 use Rattle.fb_placing.specs.declared.homes.Misplaced.{Misplaced}
 use Rattle.fb_placing.specs.declared.homes.Misplaced.TheVariants.{Unmapped, NoSuchBlock}
-use Rattle.fb_network.specs.Fronts.{nearest}
+use Rattle.fb_network.specs.Prefixes.{nearest}
 use Rattle.fb_placing.specs.Mappings.{mapping_path, names_used, resource_at}
 use Rattle.fb_placing.specs.Resolved.{leads_nowhere}
 use Rattle.fb_placing.specs.Systems.{applications_in, mappings_in}

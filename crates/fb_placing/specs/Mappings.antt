@@ -5,7 +5,7 @@ use Rattle.fb_tree.specs.Tree.{MappingTree}
 use Rattle.fb_network.specs.Places.{dotted}
 use Rattle.fb_network.specs.Printed.{printed}
 use Rattle.fb_placing.specs.FirstEntry.{first_at}
-use Rattle.fb_network.specs.Fronts.{nearest}
+use Rattle.fb_network.specs.Prefixes.{nearest}
 
 abbrev pub names_used : List NameUse → List (List ℕ)
 names_used names = map (λ n. n.name) names

@@ -1,6 +1,6 @@
 -- Paths in two parts.
 use Rattle.std.specs.Prelude.{ℕ, ◌≡◌, ◌==◌, false, ⊤, List, [], ◌∷◌, ◌++◌, Option, Some, None}
-use Rattle.fb_network.specs.Fronts.{nearest}
+use Rattle.fb_network.specs.Prefixes.{nearest}
 
 -- there is no point among these bytes
 abbrev pub HasNoPoint : List ℕ → Type 0

@@ -6,7 +6,7 @@ use Rattle.fb_library.specs.View.{Sources}
 use Rattle.fb_network.specs.PlainFlat.{PlainFlat}
 use Rattle.fb_network.specs.declared.flat.Link.{Link}
 use Rattle.fb_placing.specs.Cuts.{home_at, same_home}
-use Rattle.fb_network.specs.Fronts.{nearest}
+use Rattle.fb_network.specs.Prefixes.{nearest}
 use Rattle.fb_placing.specs.declared.homes.Home.{Home}
 use Rattle.fb_placing.specs.declared.plan.write_commands.PlacedCommand.{PlacedCommand}
 use Rattle.fb_placing.specs.ResourceCommand.{ResourceCommand}

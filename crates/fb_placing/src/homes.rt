@@ -17,9 +17,9 @@ mod sorted;
 pub(crate) mod table;
 
 use crate::homes::mappings::{mapping_table, path_of_names};
+use crate::homes::sorted::sorted_paths;
 use crate::numbers::number;
 use crate::paths::resolver::Resolver;
-use crate::homes::sorted::sorted_paths;
 use fb_library::{View, tree_by_name};
 use fb_network::{Flat, FlatBlock, Path, PathTable, nearest};
 use fb_tree::text::{Name, NameUse};

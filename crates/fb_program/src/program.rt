@@ -10,7 +10,7 @@ use crate::asked::{HostSettings, ServerSettings, Settings};
 use clap::Error;
 use clap::error::ErrorKind;
 use fb_wire::bench::{Bench, Limits};
-use fb_wire::{Feed, RunEnd, Sink, fault_of, run_script};
+use fb_wire::{Feed, RunEnd, Sink, error_of, run_script};
 use std::alloc::Global;
 use std::io::{self, Write};
 
@@ -60,7 +60,7 @@ fn script<F: Feed, S: Sink, E: Write>(
 {
     let mut bench = Bench::new(alloc, limits);
     let end = run_script(alloc, reader, writer, &mut bench, SCRIPT_CALLER, turns);
-    match fault_of(end) {
+    match error_of(end) {
         None => DONE,
         Some(fault) => {
             let _ = writeln!(errors, "bench61499: {fault}");

@@ -13,7 +13,7 @@ use Rattle.fb_serve.specs.contracts.callers.Results as Results
 use Rattle.fb_serve.specs.contracts.callers.SessionFault as SessionFault
 use Rattle.fb_serve.specs.contracts.place.Held as Held
 use Rattle.fb_serve.specs.contracts.place.Place as Place
-use Rattle.fb_wire.specs.contracts.fault.Fault as Fault
+use Rattle.fb_wire.specs.contracts.run_error.RunError as RunError
 
 pub new_seat_field_send : IsSend (NewSeat.the_field).row
 new_seat_field_send = search (seat_send, crosses, sendable) depth 60 fits 20000
@@ -45,7 +45,7 @@ place_field_send = search (seat_send, receipt_send, held_send, crosses, sendable
 pub place_send : IsSend Place.the_row
 place_send = search (place_field_send, crosses, sendable) depth 60 fits 20000
 
-fault_field_send : IsSend (Fault.the_field).row
+fault_field_send : IsSend (RunError.the_field).row
 fault_field_send = search (crosses, sendable) depth 60 fits 20000
 
 pub session_fault_field_send : IsSend (SessionFault.the_field).row

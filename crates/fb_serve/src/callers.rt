@@ -3,12 +3,12 @@ ghost use Rattle.std.specs.Prelude.{◌≡◌, [], if◌then◌else◌, List};
 ghost use Rattle.fb_serve.specs.Shown.{AreShown, IsNew, IsShown};
 
 use crate::place::Place;
-use crate::say::say_fault;
+use crate::say::say_error;
 use crate::session::{Session, run_session};
 use crate::worker::keep_working;
 use crossbeam_channel::{Receiver, Sender};
 use fb_shared::{Receipt, Seat, Shared};
-use fb_wire::{Fault, FromRead, IntoWrite, fault_of};
+use fb_wire::{FromRead, IntoWrite, RunError, error_of};
 use std::alloc::Global;
 use std::io::Write;
 use std::net::{OpenListener, TcpListener, TcpStream};
@@ -24,7 +24,7 @@ const TURNS: u64 = 1_000_000_000;
 #[derive(Clone, Copy)]
 pub(crate) struct SessionFault {
     pub(crate) caller: u32,
-    pub(crate) fault: Fault,
+    pub(crate) fault: RunError,
 }
 
 /// A seat with which no call was made.
@@ -145,7 +145,7 @@ fn seats_beside(working: &Started, seats: Vec<NewSeat>) -> Vec<NewSeat>
 fn report_faults<R: Wait, E: Write>(rt: &R, reported: &Receiver<SessionFault>, errors: &mut E) {
     for it in reported.iter(rt) {
         let SessionFault { caller, fault } = it;
-        say_fault(errors, caller, fault);
+        say_error(errors, caller, fault);
     }
 }
 
@@ -283,7 +283,7 @@ fn session_thread<R: Wait>(
         seat,
         receipts,
     } = run_session(rt, alloc, shared, seat, &mut reader, &mut writer, TURNS);
-    if let Some(fault) = fault_of(end) {
+    if let Some(fault) = error_of(end) {
         let _ = faults.send(rt, SessionFault { caller, fault });
     }
     ThreadResult::of(seat, receipts)

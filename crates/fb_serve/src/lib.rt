@@ -9,7 +9,7 @@ mod session;
 mod worker;
 
 pub use place::{Held, Place, forget, give_back_held, hold};
-pub use say::{greet, say_fault};
+pub use say::{greet, say_error};
 pub use server::{Ended, NotServed, Served, ServerConfig, serve, serve_on, serve_sessions};
 pub use session::{Session, run_session};
 pub use worker::{keep_working, pause};

@@ -1,6 +1,6 @@
 //! A shared workbench as the desk of one seat.
 use crate::shared::Shared;
-use fb_locked::bench::{Answered, Desk, DeskCheckpointRefused, DeskRefused, Limits, Request};
+use fb_locked::bench::{Answered, Desk, DeskCheckpointError, DeskError, Limits, Request};
 use fb_locked::{Receipt, Seat, SharedRefused};
 use std::marker::Model;
 use std::sync::Wait;
@@ -31,22 +31,22 @@ impl<R: Wait> Desk for Seated<'_, R> {
 
     ghost checkpoint_step = { IsCheckpointSitting };
 
-    fn perform(&mut self, request: &Request<'_>) -> Result<Answered, DeskRefused> {
+    fn perform(&mut self, request: &Request<'_>) -> Result<Answered, DeskError> {
         let shared = self.shared;
         match shared.perform_into(self.rt, &mut self.seat, &mut self.receipts, request) {
             Ok(answer) => Ok(answer),
-            Err(SharedRefused::SeatDiffers { .. }) => Err(DeskRefused::Behind),
-            Err(SharedRefused::Behind { .. }) => Err(DeskRefused::Behind),
-            Err(SharedRefused::HistoryFull) => Err(DeskRefused::HistoryFull),
-            Err(SharedRefused::Memory) => Err(DeskRefused::Memory),
+            Err(SharedRefused::SeatDiffers { .. }) => Err(DeskError::Behind),
+            Err(SharedRefused::Behind { .. }) => Err(DeskError::Behind),
+            Err(SharedRefused::HistoryFull) => Err(DeskError::HistoryFull),
+            Err(SharedRefused::Memory) => Err(DeskError::Memory),
         }
     }
 
     /// A seat is not alone at its workbench: others may hold receipts of the records that would go at a checkpoint.
-    fn checkpoint(&mut self, _limits: Limits) -> Result<u64, DeskCheckpointRefused>
+    fn checkpoint(&mut self, _limits: Limits) -> Result<u64, DeskCheckpointError>
         ensures step { ServesCheckpoint IsCheckpointSitting self.old _limits result self.new }
-        ensures alone { result ≡ Err DeskCheckpointRefused.NotAlone }
+        ensures alone { result ≡ Err DeskCheckpointError.NotAlone }
     {
-        Err(DeskCheckpointRefused::NotAlone)
+        Err(DeskCheckpointError::NotAlone)
     }
 }

@@ -10,10 +10,10 @@ drop-by xs at n =
     let width : at + n - at ≡ n = omega arith in
     drop_split xs at (at + n) (omega arith) ∙ ap (λ k. take k (drop at xs) ++ drop (at + n) xs) width
 
-pub front_is : (written rest bytes : List ℕ) → written ≡ bytes → take (length bytes) (written ++ rest) ≡ bytes
-front_is written rest bytes is = rw is (take-append_seam bytes rest)
+pub prefix_is : (written rest bytes : List ℕ) → written ≡ bytes → take (length bytes) (written ++ rest) ≡ bytes
+prefix_is written rest bytes is = rw is (take-append_seam bytes rest)
 
--- what was copied from the front of `&xs[at..]`
+-- what was copied from the prefix of `&xs[at..]`
 pub copied_is : (xs buffer : List ℕ) (at n : ℕ) → n ≤ length (take (length xs - at) (drop at xs))
     → take (length (take n (take (length xs - at) (drop at xs)))) buffer ≡ take n (take (length xs - at) (drop at xs)) → take n buffer ≡ take n (drop at xs)
 copied_is xs buffer at n within copied =

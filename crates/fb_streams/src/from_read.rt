@@ -2,7 +2,7 @@
 ghost use Rattle.std.specs.Prelude.{◌≡◌, [], length, false};
 ghost use Rattle.std.specs.List.{concat};
 
-use crate::feed::{Failed, Feed};
+use crate::feed::{Feed, StreamError};
 use crate::tape::{Piece, Tape};
 use std::io::Read;
 
@@ -45,7 +45,7 @@ impl<R: Read> Feed for FromRead<R> {
     ghost has_ended = { λ f. f.has_ended };
 
     #[tactic(auto, using(crate::proofs::Tapes::tapes))]
-    fn read(&mut self, buffer: &mut [u8]) -> Result<usize, Failed> {
+    fn read(&mut self, buffer: &mut [u8]) -> Result<usize, StreamError> {
         match self.inner.read(buffer) {
             Ok(count) => {
                 let bytes = &buffer[..count];
@@ -56,7 +56,7 @@ impl<R: Read> Feed for FromRead<R> {
             Err(_) => {
                 self.tape = self.tape.then(&Piece { bytes: &[] });
                 self.has_failed = true;
-                Err(Failed)
+                Err(StreamError)
             }
         }
     }

@@ -4,7 +4,7 @@ ghost use Rattle.std.specs.Io.KnownBytes.{Appends, Keeps};
 ghost use Rattle.std.specs.List.{concat};
 ghost use Rattle.fb_streams.specs.Streams.{bytes_in};
 
-use crate::feed::{Failed, Sink};
+use crate::feed::{Sink, StreamError};
 use crate::tape::{Piece, Tape};
 use std::io::Write;
 
@@ -43,7 +43,7 @@ impl<W: Write> Sink for IntoWrite<W> {
     ghost has_failed = { λ s. s.has_failed };
 
     #[tactic(auto, using(crate::proofs::Tapes::tapes))]
-    fn write(&mut self, bytes: &[u8]) -> Result<usize, Failed>
+    fn write(&mut self, bytes: &[u8]) -> Result<usize, StreamError>
         requires { self.old.has_failed ≡ false }
         ensures within { IfOk result (λ n. n ≤ length bytes.now) }
         ensures some { IfOk result (λ n. 0 < length bytes.now → 0 < n) }
@@ -59,7 +59,7 @@ impl<W: Write> Sink for IntoWrite<W> {
             Ok(count) => {
                 if count == 0 && !bytes.is_empty() {
                     self.has_failed = true;
-                    return Err(Failed);
+                    return Err(StreamError);
                 }
                 let taken = &bytes[..count];
                 self.is_flushed = false;
@@ -68,12 +68,12 @@ impl<W: Write> Sink for IntoWrite<W> {
             }
             Err(_) => {
                 self.has_failed = true;
-                Err(Failed)
+                Err(StreamError)
             }
         }
     }
 
-    fn flush(&mut self) -> Result<(), Failed>
+    fn flush(&mut self) -> Result<(), StreamError>
         requires { self.old.has_failed ≡ false }
         ensures held { concat self.new.tape.pieces ≡ concat self.old.tape.pieces }
         ensures flushed { IfOk result (λ _. self.new.is_flushed ≡ true) }
@@ -87,7 +87,7 @@ impl<W: Write> Sink for IntoWrite<W> {
             }
             Err(_) => {
                 self.has_failed = true;
-                Err(Failed)
+                Err(StreamError)
             }
         }
     }

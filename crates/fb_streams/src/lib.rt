@@ -8,7 +8,7 @@ mod memory_feed;
 mod memory_sink;
 mod tape;
 
-pub use feed::{Failed, Feed, Sink};
+pub use feed::{Feed, Sink, StreamError};
 pub use from_read::FromRead;
 pub use into_write::IntoWrite;
 pub use memory_feed::MemoryFeed;

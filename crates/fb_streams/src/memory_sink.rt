@@ -1,7 +1,7 @@
 //! A sink in memory, which fails when it is told to.
 ghost use Rattle.std.specs.Prelude.{◌≡◌, ◌≤◌, ◌<◌, [], true, false};
 
-use crate::feed::{Failed, Sink};
+use crate::feed::{Sink, StreamError};
 use std::alloc::Global;
 
 /// What was written, in memory. A write takes at most `piece` bytes, and the one after `good_writes` fails.
@@ -50,18 +50,18 @@ impl Sink for MemorySink {
 
     ghost has_failed = { λ s. s.failed };
 
-    fn write(&mut self, bytes: &[u8]) -> Result<usize, Failed> {
+    fn write(&mut self, bytes: &[u8]) -> Result<usize, StreamError> {
         let count = self.piece.min(bytes.len());
         if self.made == self.good_writes || self.held.extend_from_slice(&bytes[..count]).is_err() {
             self.failed = true;
-            return Err(Failed);
+            return Err(StreamError);
         }
         self.made += 1;
         self.flushed = false;
         Ok(count)
     }
 
-    fn flush(&mut self) -> Result<(), Failed> {
+    fn flush(&mut self) -> Result<(), StreamError> {
         self.flushed = true;
         Ok(())
     }

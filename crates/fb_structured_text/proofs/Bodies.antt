@@ -13,7 +13,7 @@ use Rattle.fb_grammar.specs.Form.{Form, both, either, many, as_value}
 use Rattle.fb_grammar.specs.Gives.{Fails}
 use Rattle.fb_grammar.specs.Words.{further, cons}
 use Rattle.fb_grammar.specs.Reading.{Outcome, ◌>>=◌, is_next, first, read}
-use Rattle.fb_grammar.specs.Repetition.{with_front}
+use Rattle.fb_grammar.specs.Repetition.{with_prefix}
 use Rattle.fb_grammar.proofs.Loops.{many_more, many_fails, many_none, Begins}
 use Rattle.fb_tree.specs.Expression.{Expression}
 use Rattle.fb_tree.specs.Statement.{Statement}
@@ -133,11 +133,11 @@ nested_repeat e inner ts h g f w = not_for e inner ts h g f ∙ read-other (whil
 abbrev paired : {A B : Type 0} → A → Outcome B → Outcome (A × B)
 paired v r = r >>= λ b. Ok ((v, b.0), b.1)
 
-cons_first : {A : Type 0} (v : A) (r : Outcome (List A)) → with_front (v ∷ []) r ≡ (paired v r >>= λ p. Ok (p.0.0 ∷ p.0.1, p.1))
+cons_first : {A : Type 0} (v : A) (r : Outcome (List A)) → with_prefix (v ∷ []) r ≡ (paired v r >>= λ p. Ok (p.0.0 ∷ p.0.1, p.1))
 cons_first v (Ok b) = refl
 cons_first v (Err rest) = refl
 
-pub cons_start : {A : Type 0} (x y : Form A) (ts : List Lexeme) (v : A) (mid : List Lexeme) → read x ts ≡ Ok (v, mid) → with_front (v ∷ []) (read (many y) mid) ≡ read (as_value cons (both x (many y))) ts
+pub cons_start : {A : Type 0} (x y : Form A) (ts : List Lexeme) (v : A) (mid : List Lexeme) → read x ts ≡ Ok (v, mid) → with_prefix (v ∷ []) (read (many y) mid) ≡ read (as_value cons (both x (many y))) ts
 cons_start x y ts v mid e = rw e (cons_first v (read (many y) mid))
 
 pub begins-arm : (word : Kind) (e : Form Expression) (inner : Form Statement) → Begins (arm word e inner) (word ∷ [])
@@ -153,40 +153,40 @@ begins-case inner = record { filled = refl; first = refl }
 abbrev pub flat : Outcome (List (List Statement)) → Outcome (List Statement)
 flat r = r >>= λ b. Ok (flat_map (λ (z : List Statement). z) b.0, b.1)
 
-flat_first : (v : List Statement) (r : Outcome (List (List Statement))) → with_front v (flat r) ≡ (paired v r >>= λ p. Ok (flat_map (λ (z : List Statement). z) (cons p.0), p.1))
+flat_first : (v : List Statement) (r : Outcome (List (List Statement))) → with_prefix v (flat r) ≡ (paired v r >>= λ p. Ok (flat_map (λ (z : List Statement). z) (cons p.0), p.1))
 flat_first v (Ok b) = refl
 flat_first v (Err rest) = refl
 
-flat_again : (front v : List Statement) (r : Outcome (List (List Statement))) → with_front front (flat (r >>= λ b. Ok (v ∷ b.0, b.1))) ≡ with_front (front ++ v) (flat r)
-flat_again front v (Ok b) = ap (λ (z : List Statement). Ok (z, b.1)) (sym (append_assoc front v (flat_map (λ (z : List Statement). z) b.0)))
-flat_again front v (Err rest) = refl
+flat_again : (prefix v : List Statement) (r : Outcome (List (List Statement))) → with_prefix prefix (flat (r >>= λ b. Ok (v ∷ b.0, b.1))) ≡ with_prefix (prefix ++ v) (flat r)
+flat_again prefix v (Ok b) = ap (λ (z : List Statement). Ok (z, b.1)) (sym (append_assoc prefix v (flat_map (λ (z : List Statement). z) b.0)))
+flat_again prefix v (Err rest) = refl
 
 next-case : (inner : Form Statement) (ts : List Lexeme) (t : Bool) → is_next (first labels) ts ≡ t → is_next (first (case inner)) ts ≡ t
 next-case inner ts t h = ap (λ (k : List Kind). is_next k ts) (begins-case inner).first ∙ h
 
-pub cases_start : (inner : Form Statement) (ts : List Lexeme) (v : List Statement) (mid : List Lexeme) → read (case inner) ts ≡ Ok (v, mid) → with_front v (flat (read (many (case inner)) mid)) ≡ read (cases inner) ts
+pub cases_start : (inner : Form Statement) (ts : List Lexeme) (v : List Statement) (mid : List Lexeme) → read (case inner) ts ≡ Ok (v, mid) → with_prefix v (flat (read (many (case inner)) mid)) ≡ read (cases inner) ts
 unfolding cases
 cases_start inner ts v mid e = rw e (flat_first v (read (many (case inner)) mid))
 
-pub cases_more : (inner : Form Statement) (front new : List Statement) (ts : List Lexeme) (v : List Statement) (mid : List Lexeme) (total : Outcome (List Statement)) → is_next (first labels) ts ≡ true → read (case inner) ts ≡ Ok (v, mid)
-    → new ≡ front ++ v → with_front front (flat (read (many (case inner)) ts)) ≡ total → with_front new (flat (read (many (case inner)) mid)) ≡ total
-cases_more inner front new ts v mid total next e pushed so_far =
-    ap (λ (z : List Statement). with_front z (flat (read (many (case inner)) mid))) pushed
-    ∙ sym (flat_again front v (read (many (case inner)) mid))
-    ∙ ap (λ (r : Outcome (List (List Statement))). with_front front (flat r)) (sym (many_more (case inner) ts v mid (begins-case inner).filled (next-case inner ts true next) e))
+pub cases_more : (inner : Form Statement) (prefix new : List Statement) (ts : List Lexeme) (v : List Statement) (mid : List Lexeme) (total : Outcome (List Statement)) → is_next (first labels) ts ≡ true → read (case inner) ts ≡ Ok (v, mid)
+    → new ≡ prefix ++ v → with_prefix prefix (flat (read (many (case inner)) ts)) ≡ total → with_prefix new (flat (read (many (case inner)) mid)) ≡ total
+cases_more inner prefix new ts v mid total next e pushed so_far =
+    ap (λ (z : List Statement). with_prefix z (flat (read (many (case inner)) mid))) pushed
+    ∙ sym (flat_again prefix v (read (many (case inner)) mid))
+    ∙ ap (λ (r : Outcome (List (List Statement))). with_prefix prefix (flat r)) (sym (many_more (case inner) ts v mid (begins-case inner).filled (next-case inner ts true next) e))
     ∙ so_far
 
-pub cases_fails : (inner : Form Statement) (front : List Statement) (ts : List Lexeme) (stop : Stop) (total : Outcome (List Statement)) → is_next (first labels) ts ≡ true → Fails stop (read (case inner) ts)
-    → with_front front (flat (read (many (case inner)) ts)) ≡ total → Fails stop total
-cases_fails inner front ts Memory total next e so_far = tt
-cases_fails inner front ts (Broken rest) total next e so_far =
-    sym so_far ∙ ap (λ (r : Outcome (List (List Statement))). with_front front (flat r)) (many_fails (case inner) ts rest.now (next-case inner ts true next) e)
+pub cases_fails : (inner : Form Statement) (prefix : List Statement) (ts : List Lexeme) (stop : Stop) (total : Outcome (List Statement)) → is_next (first labels) ts ≡ true → Fails stop (read (case inner) ts)
+    → with_prefix prefix (flat (read (many (case inner)) ts)) ≡ total → Fails stop total
+cases_fails inner prefix ts Memory total next e so_far = tt
+cases_fails inner prefix ts (Broken rest) total next e so_far =
+    sym so_far ∙ ap (λ (r : Outcome (List (List Statement))). with_prefix prefix (flat r)) (many_fails (case inner) ts rest.now (next-case inner ts true next) e)
 
-pub cases_done : (inner : Form Statement) (front : List Statement) (ts : List Lexeme) (total : Outcome (List Statement)) → is_next (first labels) ts ≡ false
-    → with_front front (flat (read (many (case inner)) ts)) ≡ total → total ≡ Ok (front, ts)
-cases_done inner front ts total next so_far =
-    sym so_far ∙ ap (λ (r : Outcome (List (List Statement))). with_front front (flat r)) (many_none (case inner) ts (next-case inner ts false next))
-    ∙ ap (λ (z : List Statement). Ok (z, ts)) (append-nil front)
+pub cases_done : (inner : Form Statement) (prefix : List Statement) (ts : List Lexeme) (total : Outcome (List Statement)) → is_next (first labels) ts ≡ false
+    → with_prefix prefix (flat (read (many (case inner)) ts)) ≡ total → total ≡ Ok (prefix, ts)
+cases_done inner prefix ts total next so_far =
+    sym so_far ∙ ap (λ (r : Outcome (List (List Statement))). with_prefix prefix (flat r)) (many_none (case inner) ts (next-case inner ts false next))
+    ∙ ap (λ (z : List Statement). Ok (z, ts)) (append-nil prefix)
 
 -- labels, which are passed over
 

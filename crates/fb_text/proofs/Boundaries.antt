@@ -13,7 +13,7 @@ use Rattle.std.proofs.lemmas.Str.{IsCharBoundary-after_ascii, IsCharBoundary-bef
 use Rattle.fb_text.specs.Bytes.{is_blank, is_word_start, is_word_byte, is_number_byte, is_sign, is_exponent_mark, is_line_end, is_quote, hash, point, escape, first}
 use Rattle.fb_text.specs.Words.{is_word}
 use Rattle.fb_text.specs.Forms.{are_some, sign_len, after_sign, is_exponent, is_fraction, is_number_tail, is_number, is_value_byte, are_value_bytes, is_value, is_typed_tail, is_typed, is_date, is_real, leading_word, after_word, is_string, is_string_rest, is_symbol, is_symbol_byte, is_symbol_pair, form_of, HasForm}
-use Rattle.fb_text.specs.Tokens.{of_kind, longest, token_or_char, token_at, char_len, before_close, comment_at, piece_at, IsFront, FitsIn, IsLongest}
+use Rattle.fb_text.specs.Tokens.{of_kind, longest, token_or_char, token_at, char_len, before_close, comment_at, piece_at, IsPrefix, FitsIn, IsLongest}
 use Rattle.fb_text.specs.declared.token.TokenKind.{TokenKind}
 use Rattle.fb_text.specs.declared.scan.Piece.{Piece}
 use Rattle.fb_text.specs.declared.scan.Piece.TheVariants.{Gap, Unclosed, Found}
@@ -183,7 +183,7 @@ form-ends bs kind h =
 some-inj : {A : Type 0} {x y : A} → Some x ≡ Some y → x ≡ y
 some-inj {x = x} h = ap (λ o. unwrap_or o x) h
 
--- what the longest front is
+-- what the longest prefix is
 pub record IsFound (text : List ℕ) (m : ℕ) (found : TokenKind × ℕ) : Type 0 where
   pub some : 0 < found.1
   pub within : found.1 ≤ m
@@ -246,7 +246,7 @@ char-boundary : (text : List ℕ) → IsUtf8 text → 0 < length text → IsChar
 char-boundary text utf8 pos = char-case utf8.0 text utf8.1.0 utf8.1.1 pos
 
 -- behind an ASCII byte
-after-ascii : (text : List ℕ) (n : ℕ) → IsUtf8 text → 0 < n → n ≤ length text → get_or text (n - 1) 0 < 128 → IsFront text n
+after-ascii : (text : List ℕ) (n : ℕ) → IsUtf8 text → 0 < n → n ≤ length text → get_or text (n - 1) 0 < 128 → IsPrefix text n
 after-ascii text n utf8 pos l low =
     let back : n - 1 + 1 ≡ n = omega arith in
     record { some = pos; ends = subst (IsCharBoundary text) back (IsCharBoundary-after_ascii text (n - 1) utf8 (omega arith) low) }
@@ -273,11 +273,11 @@ pub begins : (a b : ℕ) (text : List ℕ) → starts_with nat_eq text (a ∷ b 
 begins a b [] h = cc
 begins a b (x ∷ []) h = let never = (and_parts (nat_eq a x) false h).1 in cc
 begins a b (x ∷ y ∷ text) h =
-    let front = and_parts (nat_eq a x) (nat_eq b y && true) h in
+    let prefix = and_parts (nat_eq a x) (nat_eq b y && true) h in
     record {
       long = omega arith;
-      first = sym (eqb-true a x front.0);
-      second = sym (eqb-true b y (and_parts (nat_eq b y) true front.1).0);
+      first = sym (eqb-true a x prefix.0);
+      second = sym (eqb-true b y (and_parts (nat_eq b y) true prefix.1).0);
     }
 
 -- where a comment is closed
@@ -296,7 +296,7 @@ unfolding before_close
 closed [] = tt
 closed (b ∷ bs) =
     cond_both (starts_with nat_eq (b ∷ bs) (codes "*)")) (Some 0) (option_map suc (before_close bs)) (λ o. IfSome o (IsClosed (b ∷ bs)))
-    (λ e. let front = begins 42 41 (b ∷ bs) e in record { within = front.long; closes = front.second })
+    (λ e. let prefix = begins 42 41 (b ∷ bs) e in record { within = prefix.long; closes = prefix.second })
     (λ e. closed-suc b bs (before_close bs) (closed bs))
 
 comment-case : (text : List ℕ) (o : Option ℕ) → IsUtf8 text → 2 ≤ length text → IfSome o (IsClosed (drop 2 text)) → FitsIn text (elim o [ Some n ↦ Gap (n + 4) | None ↦ Unclosed ])
@@ -313,13 +313,13 @@ comment-fits text utf8 e = comment-case text (before_close (drop 2 text)) utf8 (
 line-end-low : (b : ℕ) → not (b == 10) ≡ false → b < 128
 line-end-low b h = grind (arith, nat_tests)
 
-line-fits : (text : List ℕ) → starts_with nat_eq text (codes "//") ≡ true → IsFront text (prefix_len (λ b. not (b == 10)) text)
+line-fits : (text : List ℕ) → starts_with nat_eq text (codes "//") ≡ true → IsPrefix text (prefix_len (λ b. not (b == 10)) text)
 line-fits text e =
-    let front = begins 47 47 text e in
+    let prefix = begins 47 47 text e in
     let p : ℕ → Bool = λ b. not (b == 10) in
     let n = prefix_len p text in
     record {
-      some = prefix_len-pos p text (omega (arith, front.long)) (ap p front.first);
+      some = prefix_len-pos p text (omega (arith, prefix.long)) (ap p prefix.first);
       ends = ⊎_elim
           (λ below. IsCharBoundary-before_ascii text n below (line-end-low (get_or text n 0) (prefix_len_stops p text 0 below)))
           (λ above. let all : n ≡ length text = omega (arith, prefix_len-le-length p text) in subst (IsCharBoundary text) (sym all) (IsCharBoundary-end text))
@@ -351,7 +351,7 @@ longest-case text kind n (Some found) e h other =
       longer = λ j k l. is.longer j (omega (arith, lens)) l;
     }
 
--- a token of another kind than `Other` is the longest front that has a form
+-- a token of another kind than `Other` is the longest prefix that has a form
 pub longest-token : (text : List ℕ) (kind : TokenKind) (n : ℕ) → token_at text ≡ Found kind n → kind ≢ Other → IsLongest text kind n
 unfolding token_at
 longest-token text kind n h other = longest-case text kind n (longest (length text) text) refl h other

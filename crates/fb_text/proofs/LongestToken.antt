@@ -137,7 +137,7 @@ unfolding form_of
 form-other bs h k =
     cond-false (is_word bs) _ _ (not-word bs h) ∙ cond-false (is_number bs) _ _ (not-number bs k) ∙ cond-false (is_typed bs) _ _ (not-typed bs h)
 
--- the longest front
+-- the longest prefix
 longest-step : (m : ℕ) (text : List ℕ) → form_of (take (suc m) text) ≡ None → longest (suc m) text ≡ longest m text
 unfolding longest
 longest-step m text e = ap (λ o. of_kind o (suc m) (longest m text)) e
@@ -206,16 +206,16 @@ string-quote [] h = absurd (omega arith)
 string-quote (b ∷ bs) h = by_test (is_quote b) (λ e. e) (λ e. absurd (omega (arith, cond-false (is_quote b) (through_len (through_quote b false bs)) 0 e)))
 
 module _ (text : List ℕ) (letter : is_word_start (first text) ≡ false) (digit : is_ascii_digit (first text) ≡ false) where
-  form-front : (j : ℕ) → 0 < j → form_of (take j text) ≡ cond (is_string (take j text)) (Some String) (cond (is_symbol (take j text)) (Some Symbol) None)
-  form-front j h = form-other (take j text) (ap is_word_start (first-take text j h) ∙ letter) (ap is_ascii_digit (first-take text j h) ∙ digit)
+  form-prefix : (j : ℕ) → 0 < j → form_of (take j text) ≡ cond (is_string (take j text)) (Some String) (cond (is_symbol (take j text)) (Some Symbol) None)
+  form-prefix j h = form-other (take j text) (ap is_word_start (first-take text j h) ∙ letter) (ap is_ascii_digit (first-take text j h) ∙ digit)
 
   pub token-string : 0 < string_len text → token_at text ≡ Found String (string_len text)
   token-string some =
       let n = string_len text in
       let t = Takes-string text in
       found text n String some t.within
-      (form-front n some ∙ cond-true (is_string (take n text)) _ _ (t.passes some))
-      (λ j h l. form-front j (omega arith) ∙ cond-false (is_string (take j text)) _ _ (t.longer j h l) ∙ cond-false (is_symbol (take j text)) _ _ (string-no-symbol (take j text) (ap is_quote (first-take text j (omega arith)) ∙ string-quote text some)))
+      (form-prefix n some ∙ cond-true (is_string (take n text)) _ _ (t.passes some))
+      (λ j h l. form-prefix j (omega arith) ∙ cond-false (is_string (take j text)) _ _ (t.longer j h l) ∙ cond-false (is_symbol (take j text)) _ _ (string-no-symbol (take j text) (ap is_quote (first-take text j (omega arith)) ∙ string-quote text some)))
 
   pub token-symbol : string_len text ≡ 0 → 0 < symbol_len text → token_at text ≡ Found Symbol (symbol_len text)
   token-symbol none some =
@@ -223,12 +223,12 @@ module _ (text : List ℕ) (letter : is_word_start (first text) ≡ false) (digi
       let s = Takes-string text in
       let t = Takes-symbol text in
       found text n Symbol some t.within
-      (form-front n some ∙ cond-false (is_string (take n text)) _ _ (s.longer n (omega arith) t.within) ∙ cond-true (is_symbol (take n text)) _ _ (t.passes some))
-      (λ j h l. form-front j (omega arith) ∙ cond-false (is_string (take j text)) _ _ (s.longer j (omega arith) l) ∙ cond-false (is_symbol (take j text)) _ _ (t.longer j h l))
+      (form-prefix n some ∙ cond-false (is_string (take n text)) _ _ (s.longer n (omega arith) t.within) ∙ cond-true (is_symbol (take n text)) _ _ (t.passes some))
+      (λ j h l. form-prefix j (omega arith) ∙ cond-false (is_string (take j text)) _ _ (s.longer j (omega arith) l) ∙ cond-false (is_symbol (take j text)) _ _ (t.longer j h l))
 
   pub token-other : string_len text ≡ 0 → symbol_len text ≡ 0 → token_at text ≡ Found Other (char_len text)
   unfolding token_at
   token-other none nothing =
       let s = Takes-string text in
       let t = Takes-symbol text in
-      ap (λ o. token_or_char o (char_len text)) (longest-none text (length text) (λ j h l. form-front j h ∙ cond-false (is_string (take j text)) _ _ (s.longer j (omega arith) l) ∙ cond-false (is_symbol (take j text)) _ _ (t.longer j (omega arith) l)))
+      ap (λ o. token_or_char o (char_len text)) (longest-none text (length text) (λ j h l. form-prefix j h ∙ cond-false (is_string (take j text)) _ _ (s.longer j (omega arith) l) ∙ cond-false (is_symbol (take j text)) _ _ (t.longer j (omega arith) l)))

@@ -5,7 +5,7 @@ use Rattle.std.specs.Str.{IsCharBoundary}
 use Rattle.std.proofs.lemmas.List.{drop-drop, drop_all}
 use Rattle.std.proofs.lemmas.List.Elements.{All-nil, All-push}
 use Rattle.std.proofs.lemmas.Str.{IsCharBoundary-start, IsCharBoundary-from_rest}
-use Rattle.fb_text.specs.Tokens.{piece_before, with_token, piece_at, tokens_from, tokens_of, IsFront, LiesIn, IsSpelled, SpansRise, spans_of}
+use Rattle.fb_text.specs.Tokens.{piece_before, with_token, piece_at, tokens_from, tokens_of, IsPrefix, LiesIn, IsSpelled, SpansRise, spans_of}
 use Rattle.fb_text.specs.Forms.{HasForm}
 use Rattle.fb_text.specs.Scan.{AreOpen, no_quotes}
 use Rattle.fb_text.proofs.OpenLines.{AreOpen-later, AreOpen-none}
@@ -93,26 +93,26 @@ module _ (text : List ℕ) (ts : List Token) (place : ℕ) (read : HasRead text 
   some-left = omega (arith, length-drop place text)
 
   -- a blank or a comment is passed
-  pub after-gap : (n : ℕ) → piece_at (drop place text) ≡ Gap n → IsFront (drop place text) n → HasRead text ts (place + n)
-  after-gap n e front = record {
-    reading = ap (λ xs. behind ts (tokens_from 0 (place + n) xs)) (sym (drop-drop n place text)) ∙ ap (behind ts) (sym (gap-step place (drop place text) n some-left front.some e)) ∙ read.reading;
-    place_ends = IsCharBoundary-from_rest text place n (omega arith) front.ends;
+  pub after-gap : (n : ℕ) → piece_at (drop place text) ≡ Gap n → IsPrefix (drop place text) n → HasRead text ts (place + n)
+  after-gap n e prefix = record {
+    reading = ap (λ xs. behind ts (tokens_from 0 (place + n) xs)) (sym (drop-drop n place text)) ∙ ap (behind ts) (sym (gap-step place (drop place text) n some-left prefix.some e)) ∙ read.reading;
+    place_ends = IsCharBoundary-from_rest text place n (omega arith) prefix.ends;
     within = read.within;
     spelled = read.spelled;
     rise = rise-later 0 place (place + n) (spans_of ts) read.rise (omega arith);
   }
 
   -- a token is read
-  pub after-token : (kind : TokenKind) (n : ℕ) → piece_at (drop place text) ≡ Found kind n → IsFront (drop place text) n → HasRead text (ts ++ record { kind = kind; span = record { start = place; end = place + n } } ∷ []) (place + n)
-  after-token kind n e front =
+  pub after-token : (kind : TokenKind) (n : ℕ) → piece_at (drop place text) ≡ Found kind n → IsPrefix (drop place text) n → HasRead text (ts ++ record { kind = kind; span = record { start = place; end = place + n } } ∷ []) (place + n)
+  after-token kind n e prefix =
       let t : Token = record { kind = kind; span = record { start = place; end = place + n } } in
-      let ends = IsCharBoundary-from_rest text place n (omega arith) front.ends in
+      let ends = IsCharBoundary-from_rest text place n (omega arith) prefix.ends in
       record {
-        reading = ap (λ xs. behind (ts ++ t ∷ []) (tokens_from 0 (place + n) xs)) (sym (drop-drop n place text)) ∙ sym (behind-push ts t (tokens_from 0 (place + n) (drop n (drop place text)))) ∙ ap (behind ts) (sym (found-step place (drop place text) kind n some-left front.some e)) ∙ read.reading;
+        reading = ap (λ xs. behind (ts ++ t ∷ []) (tokens_from 0 (place + n) xs)) (sym (drop-drop n place text)) ∙ sym (behind-push ts t (tokens_from 0 (place + n) (drop n (drop place text)))) ∙ ap (behind ts) (sym (found-step place (drop place text) kind n some-left prefix.some e)) ∙ read.reading;
         place_ends = ends;
-        within = All-push (λ u. LiesIn text u.span) ts t read.within (record { rises = omega (arith, front.some); starts = read.place_ends; ends = ends });
+        within = All-push (λ u. LiesIn text u.span) ts t read.within (record { rises = omega (arith, prefix.some); starts = read.place_ends; ends = ends });
         spelled = All-push (IsSpelled text) ts t read.spelled (subst (HasForm kind) (ap (λ k. take k (drop place text)) (let len : n ≡ place + n - place = omega arith in len)) (piece-spelled (drop place text) kind n e));
-        rise = rise-push 0 place ts t read.rise (omega arith) (omega (arith, front.some));
+        rise = rise-push 0 place ts t read.rise (omega arith) (omega (arith, prefix.some));
       }
 
   -- a comment is never closed
@@ -135,21 +135,21 @@ pub record HasScanned (text : List ℕ) (kept : List Token) (refused : Bool) (pl
   pub are_open : AreOpen text place quotes
 
 module _ (text : List ℕ) (kept : List Token) (refused : Bool) (place : ℕ) (quotes later : OpenQuotes) (scanned : HasScanned text kept refused place quotes) (left : place < length text) (known : AreOpen text place later) where
-  pub past-gap : (n : ℕ) → piece_at (drop place text) ≡ Gap n → IsFront (drop place text) n → HasScanned text kept refused (place + n) later
-  past-gap n e front = record {
+  pub past-gap : (n : ℕ) → piece_at (drop place text) ≡ Gap n → IsPrefix (drop place text) n → HasScanned text kept refused (place + n) later
+  past-gap n e prefix = record {
     tokens = scanned.tokens;
-    read = after-gap text scanned.tokens place scanned.read left n e front;
+    read = after-gap text scanned.tokens place scanned.read left n e prefix;
     all_kept = scanned.all_kept;
     are_open = AreOpen-later text place n later known;
   }
 
   -- a token is kept, or refused
-  pub past-token : (kind : TokenKind) (n : ℕ) (kept' : List Token) (refused' : Bool) → piece_at (drop place text) ≡ Found kind n → IsFront (drop place text) n
+  pub past-token : (kind : TokenKind) (n : ℕ) (kept' : List Token) (refused' : Bool) → piece_at (drop place text) ≡ Found kind n → IsPrefix (drop place text) n
       → (refused' ≡ false → (refused ≡ false) × (kept' ≡ kept ++ record { kind = kind; span = record { start = place; end = place + n } } ∷ []))
       → HasScanned text kept' refused' (place + n) later
-  past-token kind n kept' refused' e front keeps = record {
+  past-token kind n kept' refused' e prefix keeps = record {
     tokens = scanned.tokens ++ record { kind = kind; span = record { start = place; end = place + n } } ∷ [];
-    read = after-token text scanned.tokens place scanned.read left kind n e front;
+    read = after-token text scanned.tokens place scanned.read left kind n e prefix;
     all_kept = λ f. (keeps f).1 ∙ ap (λ ts. ts ++ record { kind = kind; span = record { start = place; end = place + n } } ∷ []) (scanned.all_kept (keeps f).0);
     are_open = AreOpen-later text place n later known;
   }

@@ -24,7 +24,7 @@ use Rattle.fb_text.proofs.Longest.{by_test}
 use Rattle.fb_text.proofs.LongestToken.{found, longest-none}
 use Rattle.fb_text.proofs.Reading.{found-step, gap-step, unclosed-step}
 
--- fronts
+-- prefixes
 starts : (needle text : List ℕ) → starts_with nat_eq text needle ≡ true → text ≡ needle ++ drop (length needle) text
 starts needle text h = (starts_is Decides-eqb text needle (starts_with nat_eq text needle) refl).0 h
 
@@ -35,14 +35,14 @@ not-starting : (needle text : List ℕ) → ((rest : List ℕ) → text ≢ need
 not-starting needle text h = by_test (starts_with nat_eq text needle) (λ t. absurd (h (drop (length needle) text) (starts needle text t))) (λ f. f)
 
 -- the first `*)`
-close-by : (front back : List ℕ) → (n : ℕ) × (before_close (front ++ (codes "*)" ++ back)) ≡ Some n) × (n ≤ length front)
+close-by : (prefix back : List ℕ) → (n : ℕ) × (before_close (prefix ++ (codes "*)" ++ back)) ≡ Some n) × (n ≤ length prefix)
 unfolding before_close
 close-by [] back = (0, cond-true (starts_with nat_eq (codes "*)" ++ back) (codes "*)")) (Some 0) (option_map suc (before_close (drop 1 (codes "*)" ++ back)))) (starting (codes "*)") (codes "*)" ++ back) back refl), omega arith)
-close-by (b ∷ front) back =
-    let later = close-by front back in
-    by_test (starts_with nat_eq (b ∷ (front ++ (codes "*)" ++ back))) (codes "*)"))
-    (λ t. (0, cond-true _ (Some 0) (option_map suc (before_close (front ++ (codes "*)" ++ back)))) t, omega arith))
-    (λ f. (suc later.0, cond-false _ (Some 0) (option_map suc (before_close (front ++ (codes "*)" ++ back)))) f ∙ ap (option_map suc) later.1, omega (arith, later.2)))
+close-by (b ∷ prefix) back =
+    let later = close-by prefix back in
+    by_test (starts_with nat_eq (b ∷ (prefix ++ (codes "*)" ++ back))) (codes "*)"))
+    (λ t. (0, cond-true _ (Some 0) (option_map suc (before_close (prefix ++ (codes "*)" ++ back)))) t, omega arith))
+    (λ f. (suc later.0, cond-false _ (Some 0) (option_map suc (before_close (prefix ++ (codes "*)" ++ back)))) f ∙ ap (option_map suc) later.1, omega (arith, later.2)))
 
 record ClosesAt (text : List ℕ) (n : ℕ) : Type 0 where
   pub parts : text ≡ take n text ++ (codes "*)" ++ drop (suc (suc n)) text)
@@ -63,8 +63,8 @@ closes-at (b ∷ bs) n e =
     (λ f. closes-later b bs n (before_close bs) refl (sym (cond-false _ _ _ f) ∙ e) (closes-at bs))
 
 never : (text : List ℕ) → before_close text ≡ None → NeverCloses text
-never text e front back is =
-    let close = close-by front back in
+never text e prefix back is =
+    let close = close-by prefix back in
     none-some close.0 (sym e ∙ ap before_close is ∙ close.1)
 
 first-close : (text : List ℕ) (n : ℕ) → before_close text ≡ Some n → IsFirstClose text (take n text) (drop (suc (suc n)) text)
@@ -72,8 +72,8 @@ first-close text n e =
     let at = closes-at text n e in
     record {
       parts = at.parts;
-      earliest = λ front back is.
-          let close = close-by front back in
+      earliest = λ prefix back is.
+          let close = close-by prefix back in
           let same = same_Some n close.0 (sym e ∙ ap before_close is ∙ close.1) in
           omega (arith, same, close.2, length-take-le n text at.within);
     }

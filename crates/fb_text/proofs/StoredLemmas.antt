@@ -5,9 +5,9 @@ use Rattle.fb_text.specs.Spelling.{IsName}
 use Rattle.fb_text.specs.Stored.{IsStoredIn}
 
 -- the name, written over zeros
-pub stored_front : (size : ℕ) (name copied : List ℕ) → length name ≤ size → copied ≡ name → IsName name → IsStoredIn size (copied ++ drop (length name) (replicate size 0)) (length name)
-stored_front size name copied short same is =
-    subst (λ (front : List ℕ). IsStoredIn size (front ++ drop (length name) (replicate size 0)) (length name)) (sym same) (record {
+pub stored_prefix : (size : ℕ) (name copied : List ℕ) → length name ≤ size → copied ≡ name → IsName name → IsStoredIn size (copied ++ drop (length name) (replicate size 0)) (length name)
+stored_prefix size name copied short same is =
+    subst (λ (prefix : List ℕ). IsStoredIn size (prefix ++ drop (length name) (replicate size 0)) (length name)) (sym same) (record {
       room = length-append name (drop (length name) (replicate size 0)) ∙ ap (λ (xs : List ℕ). length name + length xs) (drop-replicate (length name) size 0) ∙ ap (λ n. length name + n) (length-replicate (size - length name) 0) ∙ (omega (arith, short));
       name = subst IsName (sym (take_at name (drop (length name) (replicate size 0)) _ refl)) is;
       within = short;

@@ -11,11 +11,11 @@ use Rattle.fb_text.specs.declared.token.TokenKind.TheVariants.{Other}
 -- the text's first `*)` stands between the two parts
 pub record IsFirstClose (text inside rest : List ℕ) : Type 0 where
   pub parts : text ≡ inside ++ (codes "*)" ++ rest)
-  pub earliest : (front back : List ℕ) → text ≡ front ++ (codes "*)" ++ back) → length inside ≤ length front
+  pub earliest : (prefix back : List ℕ) → text ≡ prefix ++ (codes "*)" ++ back) → length inside ≤ length prefix
 
 -- `*)` stands nowhere in the text
 abbrev pub NeverCloses : List ℕ → Type 0
-NeverCloses text = (front back : List ℕ) → text ≢ front ++ (codes "*)" ++ back)
+NeverCloses text = (prefix back : List ℕ) → text ≢ prefix ++ (codes "*)" ++ back)
 
 -- the text is over, or goes on with a line feed
 abbrev pub EndsLine : List ℕ → Type 0
@@ -29,7 +29,7 @@ pub record BeginsToken (text : List ℕ) : Type 0 where
   pub no_comment : (rest : List ℕ) → text ≢ codes "(*" ++ rest
   pub no_line_comment : (rest : List ℕ) → text ≢ codes "//" ++ rest
 
--- no front of the text has a form
+-- no prefix of the text has a form
 abbrev pub HasNoForm : List ℕ → Type 0
 HasNoForm text = (n : ℕ) → n ≤ length text → form_of (take n text) ≡ None
 
@@ -53,10 +53,10 @@ pub data Reads : ℕ → List ℕ → Result (List Token) Span → Type 0 where
   -- a line comment is passed over up to the line's end
   AtLineComment : {place : ℕ} {text : List ℕ} {reading : Result (List Token) Span} (line rest : List ℕ)
       → text ≡ codes "//" ++ (line ++ rest) → All (λ b. b ≢ 10) line → EndsLine rest → Reads (place + (length line + 2)) rest reading → Reads place text reading
-  -- elsewhere the longest front that has a form is the next token
+  -- elsewhere the longest prefix that has a form is the next token
   AtToken : {place : ℕ} {text : List ℕ} {reading : Result (List Token) Span} (kind : TokenKind) (n : ℕ) (following : Result (List Token) Span)
       → BeginsToken text → IsLongest text kind n → Reads (place + n) (drop n text) following → reading ≡ with_token (token_of kind place n) following → Reads place text reading
-  -- and one character, where no front has a form
+  -- and one character, where no prefix has a form
   AtOther : {place : ℕ} {text : List ℕ} {reading : Result (List Token) Span} (following : Result (List Token) Span)
       → BeginsToken text → HasNoForm text → Reads (place + char_len text) (drop (char_len text) text) following → reading ≡ with_token (token_of Other place (char_len text)) following
       → Reads place text reading

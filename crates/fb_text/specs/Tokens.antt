@@ -1,4 +1,4 @@
--- The tokens of a text: at each place the longest front that has a form, with blanks and comments between.
+-- The tokens of a text: at each place the longest prefix that has a form, with blanks and comments between.
 use Rattle.std.specs.Prelude.{◌≡◌, ℕ, zero, suc, ◌+◌, ◌-◌, ◌<◌, ◌≤◌, not, ◌==◌, if◌then◌else◌, List, [], ◌∷◌, length, take, drop, Vec, codes, slice_range, nat_eq, Option, Some, None, Result, Ok, Err, IsOk, option_map, map}
 use Rattle.std.specs.List.{prefix_len, starts_with}
 use Rattle.std.specs.Str.{continuation_len, IsCharBoundary}
@@ -14,12 +14,12 @@ use Rattle.fb_text.specs.declared.token.TokenFault.TheVariants.{BadToken, Memory
 use Rattle.fb_text.specs.declared.scan.Piece.{Piece}
 use Rattle.fb_text.specs.declared.scan.Piece.TheVariants.{Gap, Unclosed, Found}
 
--- n bytes of a kind, or what a shorter front gives
+-- n bytes of a kind, or what a shorter prefix gives
 abbrev pub of_kind : Option TokenKind → ℕ → Option (TokenKind × ℕ) → Option (TokenKind × ℕ)
 of_kind (Some kind) n shorter = Some (kind, n)
 of_kind None n shorter = shorter
 
--- the kind and length of the longest front of at most n bytes that has a form
+-- the kind and length of the longest prefix of at most n bytes that has a form
 unfoldable pub longest : ℕ → List ℕ → Option (TokenKind × ℕ)
 longest zero text = None
 longest (suc n) text = of_kind (form_of (take (suc n) text)) (suc n) (longest n text)
@@ -36,7 +36,7 @@ token_or_char None len = Found Other len
 unfoldable pub token_at : List ℕ → Piece
 token_at text = token_or_char (longest (length text) text) (char_len text)
 
--- the first n bytes have the kind's form, and no longer front has a form
+-- the first n bytes have the kind's form, and no longer prefix has a form
 pub record IsLongest (text : List ℕ) (kind : TokenKind) (n : ℕ) : Type 0 where
   pub within : n ≤ length text
   pub form : form_of (take n text) ≡ Some kind
@@ -59,16 +59,16 @@ piece_at text =
     else if starts_with nat_eq text (codes "//") then Gap (prefix_len (λ b. not (b == 10)) text)
     else token_at text
 
--- a front of the text that is not empty and ends between two characters
-pub record IsFront (text : List ℕ) (n : ℕ) : Type 0 where
+-- a prefix of the text that is not empty and ends between two characters
+pub record IsPrefix (text : List ℕ) (n : ℕ) : Type 0 where
   pub some : 0 < n
   pub ends : IsCharBoundary text n
 
--- the piece is such a front
+-- the piece is such a prefix
 abbrev pub FitsIn : List ℕ → Piece → Type 0
-FitsIn text (Gap n) = IsFront text n
+FitsIn text (Gap n) = IsPrefix text n
 FitsIn text Unclosed = Unit {0}
-FitsIn text (Found kind n) = IsFront text n
+FitsIn text (Found kind n) = IsPrefix text n
 
 -- a token before those that a reading has
 abbrev pub with_token : Token → Result (List Token) Span → Result (List Token) Span

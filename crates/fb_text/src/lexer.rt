@@ -53,7 +53,7 @@ pub fn tokens(alloc: Global, text: &str) -> Result<Vec<Token>, TokenFault>
     Ok(tokens)
 }
 
-/// A token of another kind than `Other` is the longest front of what is left that has a form.
+/// A token of another kind than `Other` is the longest prefix of what is left that has a form.
 pub fn longest_token()
     ensures { (text : List ℕ) (kind : TokenKind) (n : ℕ) → token_at text ≡ Found kind n
         → kind ≢ Other → IsLongest text kind n }

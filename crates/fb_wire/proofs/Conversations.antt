@@ -12,10 +12,10 @@ use Rattle.std.specs.Result.{result_ok}
 use Rattle.fb_bench.specs.declared.answers.Taken.{Taken}
 use Rattle.fb_bench.specs.History.declared.answers.Delivered.{Delivered}
 use Rattle.fb_wire.specs.declared.answer.Round.{Round}
-use Rattle.fb_bench.specs.declared.desk.DeskRefused.{DeskRefused}
-use Rattle.fb_bench.specs.declared.desk.DeskRefused.TheVariants.{Behind, HistoryFull, Memory}
-use Rattle.fb_bench.specs.declared.desk.DeskCheckpointRefused.{DeskCheckpointRefused}
-use Rattle.fb_bench.specs.declared.desk.DeskCheckpointRefused.TheVariants as checkpoint
+use Rattle.fb_bench.specs.declared.desk.DeskError.{DeskError}
+use Rattle.fb_bench.specs.declared.desk.DeskError.TheVariants.{Behind, HistoryFull, Memory}
+use Rattle.fb_bench.specs.declared.desk.DeskCheckpointError.{DeskCheckpointError}
+use Rattle.fb_bench.specs.declared.desk.DeskCheckpointError.TheVariants as checkpoint
 use Rattle.serde_json.specs.Data.{Data}
 use Rattle.fb_wire.specs.Lines.{is_blank}
 use Rattle.fb_messages.specs.Replies.{refused, work_done, work_refused}
@@ -36,29 +36,29 @@ Leads-append (checks limits next) mid rest (AskedCheckpoint made answer ∷ ps) 
 
 -- ---- calls that are not recorded
 
-pub refused_said : (n : ℕ) (why : DeskRefused) (r : Result Refusal AllocError) → result_ok r ≡ refusal_for why → option_map (said_to n) (unrecorded why) ≡ option_map (λ it. refused (refusal_text it)) (result_ok r)
+pub refused_said : (n : ℕ) (why : DeskError) (r : Result Refusal AllocError) → result_ok r ≡ refusal_for why → option_map (said_to n) (unrecorded why) ≡ option_map (λ it. refused (refusal_text it)) (result_ok r)
 refused_said n HistoryFull r is = rw is refl
 refused_said n Behind r is = rw is refl
 refused_said n Memory r is = rw is refl
 
-pub refused_take : (held : Jobs) (count : ℕ) (more : ℕ → Plan) (why : DeskRefused) (r : Result Refusal AllocError) → result_ok r ≡ refusal_for why
+pub refused_take : (held : Jobs) (count : ℕ) (more : ℕ → Plan) (why : DeskError) (r : Result Refusal AllocError) → result_ok r ≡ refusal_for why
     → option_map (after_take held count more) (unrecorded why) ≡ option_map (λ it. says (work_refused count (refusal_text it)) held) (result_ok r)
 refused_take held count more HistoryFull r is = rw is refl
 refused_take held count more Behind r is = rw is refl
 refused_take held count more Memory r is = rw is refl
 
-pub refused_delivery : (held : Jobs) (count : ℕ) (more : ℕ → Plan) (why : DeskRefused) (r : Result Refusal AllocError) → result_ok r ≡ refusal_for why
+pub refused_delivery : (held : Jobs) (count : ℕ) (more : ℕ → Plan) (why : DeskError) (r : Result Refusal AllocError) → result_ok r ≡ refusal_for why
     → option_map (after_deliver held count more) (unrecorded why) ≡ option_map (λ it. says (work_refused count (refusal_text it)) held) (result_ok r)
 refused_delivery held count more HistoryFull r is = rw is refl
 refused_delivery held count more Behind r is = rw is refl
 refused_delivery held count more Memory r is = rw is refl
 
-pub refused_memory : (why : DeskRefused) → None ≡ refusal_for why → unrecorded why ≡ None
+pub refused_memory : (why : DeskError) → None ≡ refusal_for why → unrecorded why ≡ None
 refused_memory HistoryFull is = absurd cc
 refused_memory Behind is = absurd cc
 refused_memory Memory is = refl
 
-pub refused_kept : (old : Jobs) (why : DeskRefused) (reply : Option Data) → ((n : ℕ) → option_map (said_to n) (unrecorded why) ≡ reply) → KeepsTaken old (unrecorded why) reply old
+pub refused_kept : (old : Jobs) (why : DeskError) (reply : Option Data) → ((n : ℕ) → option_map (said_to n) (unrecorded why) ≡ reply) → KeepsTaken old (unrecorded why) reply old
 refused_kept old why None is = tt
 refused_kept old HistoryFull (Some reply) is = let same : Some (said_to (length old + 1) FullHistory) ≡ Some reply = is (length old + 1) in (cc, refl)
 refused_kept old Behind (Some reply) is = let same : Some (said_to (length old + 1) BehindHistory) ≡ Some reply = is (length old + 1) in (cc, refl)
@@ -139,7 +139,7 @@ module _ {S : Type 0} (CallStep : S → Call → Answer → S → Type 0) (Check
       (AskedCheckpoint limits answer ∷ [], (refl, ap (λ d. says d held) (sym same)), (new, step, refl))
 
   -- what a served call was answered
-  serves_some : {R : Type 0} (old new : S) (call : Call) (reply_of : R → MachineReply) (r : Result R DeskRefused) (answer : Answer)
+  serves_some : {R : Type 0} (old new : S) (call : Call) (reply_of : R → MachineReply) (r : Result R DeskError) (answer : Answer)
       → Serves CallStep old call reply_of r new → answer_in reply_of r ≡ Some answer → CallStep old call answer new
   serves_some old new call reply_of (Ok r) answer step is = by_some old new call (Replied (reply_of r)) answer step is
   serves_some old new call reply_of (Err HistoryFull) answer step is = by_some old new call FullHistory answer step is
@@ -147,7 +147,7 @@ module _ {S : Type 0} (CallStep : S → Call → Answer → S → Type 0) (Check
   serves_some old new call reply_of (Err Memory) answer step is = absurd cc
 
   -- a call whose answer alone is the reply
-  pub call_served : {R : Type 0} (old new : S) (call : Call) (reply_of : R → MachineReply) (r : Result R DeskRefused) (reply : Result Reply AllocError) (held : Jobs)
+  pub call_served : {R : Type 0} (old new : S) (call : Call) (reply_of : R → MachineReply) (r : Result R DeskError) (reply : Result Reply AllocError) (held : Jobs)
       → Serves CallStep old call reply_of r new → option_map (said_to 0) (answer_in reply_of r) ≡ data_in reply → Progress Step (call_once held call) old reply held new
   call_served old new call reply_of (Ok r) (Ok reply) held step is = call_replied old new call (Replied (reply_of r)) reply held step is
   call_served old new call reply_of (Err HistoryFull) (Ok reply) held step is = call_replied old new call FullHistory reply held step is
@@ -159,7 +159,7 @@ module _ {S : Type 0} (CallStep : S → Call → Answer → S → Type 0) (Check
   call_served old new call reply_of (Err Memory) (Err e) held same is = (call_once held call, ([], refl, same))
 
   -- a checkpoint, whose answer is the reply
-  pub checkpoint_served : (old new : S) (limits : Bounds) (r : Result ℕ DeskCheckpointRefused) (reply : Result Reply AllocError) (held : Jobs)
+  pub checkpoint_served : (old new : S) (limits : Bounds) (r : Result ℕ DeskCheckpointError) (reply : Result Reply AllocError) (held : Jobs)
       → ServesCheckpoint CheckpointStep old limits r new → option_map checkpoint_said (checked_in r) ≡ data_in reply → Progress Step (checkpoint_once held limits) old reply held new
   checkpoint_served old new limits (Ok before) (Ok reply) held step is = checkpoint_replied old new limits (Checked (KeptUpTo before)) reply held step is
   checkpoint_served old new limits (Err (checkpoint.UnitsOver units)) (Ok reply) held step is = checkpoint_replied old new limits (Checked (OverUnits units)) reply held step is
@@ -179,7 +179,7 @@ module _ {S : Type 0} (CallStep : S → Call → Answer → S → Type 0) (Check
       subst P same (reaches_by old new call next answer step)
 
   -- a served call leads to what its answer leaves of the plan
-  pub by_answer : {R : Type 0} (old new : S) (call : Call) (next : Answer → Plan) (reply_of : R → MachineReply) (r : Result R DeskRefused) (rest : Plan)
+  pub by_answer : {R : Type 0} (old new : S) (call : Call) (next : Answer → Plan) (reply_of : R → MachineReply) (r : Result R DeskError) (rest : Plan)
       → Serves CallStep old call reply_of r new → option_map next (answer_in reply_of r) ≡ Some rest → ProgressTo Step (asks call next) old rest new
   by_answer old new call next reply_of (Ok r) rest step is = by_plan old new call next (Replied (reply_of r)) rest step is
   by_answer old new call next reply_of (Err HistoryFull) rest step is = by_plan old new call next FullHistory rest step is
@@ -187,7 +187,7 @@ module _ {S : Type 0} (CallStep : S → Call → Answer → S → Type 0) (Check
   by_answer old new call next reply_of (Err Memory) rest same is = absurd cc
 
   -- a served call leads somewhere, also where memory ran out
-  pub by_any : {R : Type 0} (old new : S) (call : Call) (next : Answer → Plan) (reply_of : R → MachineReply) (r : Result R DeskRefused)
+  pub by_any : {R : Type 0} (old new : S) (call : Call) (next : Answer → Plan) (reply_of : R → MachineReply) (r : Result R DeskError)
       → Serves CallStep old call reply_of r new → (rest : Plan) × ProgressTo Step (asks call next) old rest new
   by_any old new call next reply_of (Ok r) step = (next (Replied (reply_of r)), reaches_by old new call next (Replied (reply_of r)) step)
   by_any old new call next reply_of (Err HistoryFull) step = (next FullHistory, reaches_by old new call next FullHistory step)
@@ -200,7 +200,7 @@ module _ {S : Type 0} (CallStep : S → Call → Answer → S → Type 0) (Check
       (AskedCall ToTake answer ∷ [], rw room (refl, ap₂ says said left), (new, step, refl))
 
   -- a take where there is room for another job
-  pub take_served : (old new : S) (r : Result Taken DeskRefused) (reply : Result Reply AllocError) (held after : Jobs) → nat_le 64 (length held) ≡ false
+  pub take_served : (old new : S) (r : Result Taken DeskError) (reply : Result Reply AllocError) (held after : Jobs) → nat_le 64 (length held) ≡ false
       → Serves CallStep old ToTake take_reply r new → KeepsTaken held (answer_in take_reply r) (data_in reply) after → Progress Step (take_plan held) old reply after new
   take_served old new (Ok r) (Ok reply) held after room step kept = taken_by old new (Replied (take_reply r)) (data_of reply) held after room step kept.0 kept.1
   take_served old new (Err HistoryFull) (Ok reply) held after room step kept = taken_by old new FullHistory (data_of reply) held after room step kept.0 kept.1
@@ -213,7 +213,7 @@ module _ {S : Type 0} (CallStep : S → Call → Answer → S → Type 0) (Check
       subst P open_plan (by_any old new ToTake next take_reply r step)
 
   -- a round whose job was taken, run and delivered
-  pub round_served : (old mid new : S) (held : Jobs) (count : ℕ) (more : ℕ → Plan) (order : PlainJob) (taken : Result Taken DeskRefused) (r : Result Delivered DeskRefused) (round : Result Round AllocError)
+  pub round_served : (old mid new : S) (held : Jobs) (count : ℕ) (more : ℕ → Plan) (order : PlainJob) (taken : Result Taken DeskError) (r : Result Delivered DeskError) (round : Result Round AllocError)
       → Serves CallStep old ToTake take_reply taken mid → answer_in take_reply taken ≡ Some (Replied (OfTake (Some order)))
       → Serves CallStep mid (ToDeliver order) OfDeliver r new
       → option_map (after_deliver held count more) (answer_in OfDeliver r) ≡ option_map (left_after held count more) (result_ok round)

@@ -5,10 +5,10 @@ use Rattle.serde_json.specs.Data.{Data}
 use Rattle.fb_bench.specs.History.Checkpoints.{KeptUpTo, OverNumbers, OverUnits}
 use Rattle.fb_bench.specs.History.Machine.{OfTake, Reply as MachineReply, ToTake}
 use Rattle.fb_bench.specs.Calls.{Answer, BehindHistory, Checked, CheckpointAnswer, Exchange, FullHistory, Replied, SharedHistory}
-use Rattle.fb_bench.specs.declared.desk.DeskRefused.{DeskRefused}
-use Rattle.fb_bench.specs.declared.desk.DeskRefused.TheVariants.{Behind, HistoryFull, Memory}
-use Rattle.fb_bench.specs.declared.desk.DeskCheckpointRefused.{DeskCheckpointRefused}
-use Rattle.fb_bench.specs.declared.desk.DeskCheckpointRefused.TheVariants as checkpoint
+use Rattle.fb_bench.specs.declared.desk.DeskError.{DeskError}
+use Rattle.fb_bench.specs.declared.desk.DeskError.TheVariants.{Behind, HistoryFull, Memory}
+use Rattle.fb_bench.specs.declared.desk.DeskCheckpointError.{DeskCheckpointError}
+use Rattle.fb_bench.specs.declared.desk.DeskCheckpointError.TheVariants as checkpoint
 use Rattle.std.specs.declared.alloc.Global.{Global}
 use Rattle.fb_library.specs.Texts.{Edit}
 use Rattle.fb_library.specs.Changes.{edit_of, edits_of}
@@ -42,24 +42,24 @@ Progress Step plan old (Ok reply) held new = ProgressTo Step plan old (says (dat
 Progress Step plan old (Err e) held new = (rest : Plan) × ProgressTo Step plan old rest new
 
 -- the answer of a desk that does not record a call, or none for want of memory
-abbrev pub unrecorded : DeskRefused → Option Answer
+abbrev pub unrecorded : DeskError → Option Answer
 unrecorded HistoryFull = Some FullHistory
 unrecorded Behind = Some BehindHistory
 unrecorded Memory = None
 
 -- the answer that a call's result is
-abbrev pub answer_in : {R : Type 0} → (R → MachineReply) → Result R DeskRefused → Option Answer
+abbrev pub answer_in : {R : Type 0} → (R → MachineReply) → Result R DeskError → Option Answer
 answer_in reply_of (Ok r) = Some (Replied (reply_of r))
 answer_in reply_of (Err why) = unrecorded why
 
 -- the word that a reply has for it, or none for want of memory
-abbrev pub refusal_for : DeskRefused → Option Refusal
+abbrev pub refusal_for : DeskError → Option Refusal
 refusal_for HistoryFull = Some because.HistoryFull
 refusal_for Behind = Some because.Behind
 refusal_for Memory = None
 
 -- the answer that a checkpoint's result is, or none for want of memory
-abbrev pub checked_in : Result ℕ DeskCheckpointRefused → Option CheckpointAnswer
+abbrev pub checked_in : Result ℕ DeskCheckpointError → Option CheckpointAnswer
 checked_in (Ok before) = Some (Checked (KeptUpTo before))
 checked_in (Err (checkpoint.UnitsOver units)) = Some (Checked (OverUnits units))
 checked_in (Err checkpoint.NumbersOver) = Some (Checked OverNumbers)

@@ -15,8 +15,8 @@ ghost use Rattle.fb_wire.specs.Conversations.{Jobs, Plan, after_deliver, call_on
 
 use crate::change::{ChangeFault, changes_of};
 use fb_bench::{
-    Answered, Asked, Committed, Delivered, Desk, DeskCheckpointRefused, DeskRefused, GivenBack,
-    Limits, Taken,
+    Answered, Asked, Committed, Delivered, Desk, DeskCheckpointError, DeskError, GivenBack, Limits,
+    Taken,
 };
 use fb_library::Change;
 use fb_messages::jobs::{Finished, Job, Key, Kind};
@@ -28,13 +28,13 @@ use std::alloc::{AllocError, Global};
 const MOST_HELD: usize = 64;
 
 /// The word for why a desk does not record a call, or lack of memory.
-fn refusal_of(refused: DeskRefused) -> Result<Refusal, AllocError>
+fn refusal_of(refused: DeskError) -> Result<Refusal, AllocError>
     ensures { result_ok result ≡ refusal_for refused }
 {
     match refused {
-        DeskRefused::HistoryFull => Ok(Refusal::HistoryFull),
-        DeskRefused::Behind => Ok(Refusal::Behind),
-        DeskRefused::Memory => Err(AllocError),
+        DeskError::HistoryFull => Ok(Refusal::HistoryFull),
+        DeskError::Behind => Ok(Refusal::Behind),
+        DeskError::Memory => Err(AllocError),
     }
 }
 
@@ -84,7 +84,7 @@ fn reply_to(answered: Answered, job_number: u64) -> Reply
 }
 
 /// The reply to a call, of which no job is kept.
-fn call_reply(performed: Result<Answered, DeskRefused>) -> Result<Reply, AllocError>
+fn call_reply(performed: Result<Answered, DeskError>) -> Result<Reply, AllocError>
     ensures { option_map (said_to 0) (answer_in reply_in performed) ≡ data_in result }
 {
     match performed {
@@ -94,21 +94,21 @@ fn call_reply(performed: Result<Answered, DeskRefused>) -> Result<Reply, AllocEr
 }
 
 /// The reply to a call that is not recorded.
-fn refused_reply(refused: DeskRefused) -> Result<Reply, AllocError>
+fn refused_reply(refused: DeskError) -> Result<Reply, AllocError>
     ensures { (n : ℕ) → option_map (said_to n) (unrecorded refused) ≡ data_in result }
 {
     Ok(Reply::Refused(refusal_of(refused)?))
 }
 
-fn checkpoint_reply(checked: Result<u64, DeskCheckpointRefused>) -> Result<Reply, AllocError>
+fn checkpoint_reply(checked: Result<u64, DeskCheckpointError>) -> Result<Reply, AllocError>
     ensures { option_map checkpoint_said (checked_in checked) ≡ data_in result }
 {
     match checked {
         Ok(before) => Ok(Reply::Checkpointed(before)),
-        Err(DeskCheckpointRefused::UnitsOver(_)) => Ok(Reply::Refused(Refusal::UnitsOver)),
-        Err(DeskCheckpointRefused::NumbersOver) => Ok(Reply::Refused(Refusal::NumbersOver)),
-        Err(DeskCheckpointRefused::NotAlone) => Ok(Reply::Refused(Refusal::NotAlone)),
-        Err(DeskCheckpointRefused::Memory) => Err(AllocError),
+        Err(DeskCheckpointError::UnitsOver(_)) => Ok(Reply::Refused(Refusal::UnitsOver)),
+        Err(DeskCheckpointError::NumbersOver) => Ok(Reply::Refused(Refusal::NumbersOver)),
+        Err(DeskCheckpointError::NotAlone) => Ok(Reply::Refused(Refusal::NotAlone)),
+        Err(DeskCheckpointError::Memory) => Err(AllocError),
     }
 }
 
@@ -149,7 +149,7 @@ fn answer_checkpoint<D: Desk>(desk: &mut D, limits: Limits) -> Result<Reply, All
 }
 
 /// Keeps a taken job with those that are held.
-fn keep_taken(held: &mut Vec<Job>, taken: Result<Taken, DeskRefused>) -> Result<Reply, AllocError>
+fn keep_taken(held: &mut Vec<Job>, taken: Result<Taken, DeskError>) -> Result<Reply, AllocError>
     ensures { KeepsTaken held.old.items (answer_in take_reply taken)
         (data_in result) held.new.items }
 {
@@ -229,7 +229,7 @@ enum Taking {
     Ended(Round),
 }
 
-fn job_or_round(taken: Result<Taken, DeskRefused>) -> Result<Taking, AllocError>
+fn job_or_round(taken: Result<Taken, DeskError>) -> Result<Taking, AllocError>
     ensures { Takes (answer_in take_reply taken) result }
 {
     match taken {
@@ -239,7 +239,7 @@ fn job_or_round(taken: Result<Taken, DeskRefused>) -> Result<Taking, AllocError>
     }
 }
 
-fn round_by(delivered: Result<Delivered, DeskRefused>) -> Result<Round, AllocError>
+fn round_by(delivered: Result<Delivered, DeskError>) -> Result<Round, AllocError>
     ensures { (held : Jobs) (count : ℕ) (more : ℕ → Plan)
         → option_map (after_deliver held count more) (answer_in OfDeliver delivered)
         ≡ option_map (left_after held count more) (result_ok result) }

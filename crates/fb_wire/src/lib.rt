@@ -4,18 +4,18 @@
 mod answer;
 mod change;
 mod end;
-mod fault;
 mod laws;
 mod line;
 mod piece;
 mod run;
+mod run_error;
 
 pub use end::RunEnd;
-pub use fault::{Fault, fault_of};
-pub use fb_streams::{Failed, Feed, FromRead, IntoWrite, MemoryFeed, MemorySink, Sink};
+pub use fb_streams::{Feed, FromRead, IntoWrite, MemoryFeed, MemorySink, Sink, StreamError};
 pub use laws::{one_conversation, one_script};
 pub use line::write_all;
 pub use run::{run_lines, run_script};
+pub use run_error::{RunError, error_of};
 
 /// Of `fb_jobs`, for the crates above.
 pub mod jobs {
@@ -25,7 +25,7 @@ pub mod jobs {
 /// Of `fb_bench`, for the crates above.
 pub mod bench {
     pub use fb_bench::{
-        Answered, Asked, Bench, Call, CheckpointRefused, Delivered, Limits, Reply, Request, Shown,
+        Answered, Asked, Bench, Call, CheckpointError, Delivered, Limits, Reply, Request, Shown,
         Start, Taken, TextChange,
     };
 }

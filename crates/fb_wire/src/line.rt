@@ -13,7 +13,7 @@ use crate::end::RunEnd;
 use fb_bench::Desk;
 use fb_messages::jobs::Job;
 use fb_messages::{Reply, request_in};
-use fb_streams::{Failed, Sink};
+use fb_streams::{Sink, StreamError};
 use serde_json::Value;
 use std::alloc::{AllocError, Global};
 use std::mem;
@@ -51,7 +51,7 @@ fn answer_line<D: Desk>(
 }
 
 /// Writes all the bytes, and flushes.
-pub fn write_all<S: Sink>(writer: &mut S, bytes: &[u8]) -> Result<(), Failed>
+pub fn write_all<S: Sink>(writer: &mut S, bytes: &[u8]) -> Result<(), StreamError>
     requires { S.has_failed writer.old ≡ false }
     ensures held { WritesAll (S.held writer.old) bytes.now result (S.held writer.new) }
     ensures flushed { IfOk result (λ _. S.is_flushed writer.new ≡ true) }

@@ -78,17 +78,17 @@ mapped_further f xs i x within here =
 
 module _ (counts : List ℕ → Option ℕ) where
   pub nothing_further : (so_far : ℕ) → CountsOn counts so_far [] so_far
-  nothing_further so_far view front all c = subst (λ (l : List Instance). IsCount view l so_far) (sym (append-nil front)) c
+  nothing_further so_far view prefix all c = subst (λ (l : List Instance). IsCount view l so_far) (sym (append-nil prefix)) c
 
   further : (so_far : ℕ) (list : List Instance) (o : Option Instance) (n m : ℕ) → CountsOn counts so_far list n → m ≡ counted_with counts n o → CountsOn counts so_far (list ++ cons_option o []) m
-  further so_far list None n m before e view front all c =
+  further so_far list None n m before e view prefix all c =
       let same = append-nil list in
-      subst (λ (l : List Instance). IsCount view (front ++ l) m) (sym same)
-      (subst (λ (k : ℕ). IsCount view (front ++ list) k) (sym e) (before view front (subst (λ (l : List Instance). AreCounted view l counts) same all) c))
-  further so_far list (Some i) n m before e view front all c =
-      let was = before view front (λ j h k. all j (Contains-append_left list (i ∷ []) j h) k) c in
-      subst (λ (l : List Instance). IsCount view l m) (append_assoc front list (i ∷ []))
-      (count_one (front ++ list) i n m was (λ k. all i (Contains-append_right list (i ∷ []) i (contains_here i [])) k) i.kind refl e)
+      subst (λ (l : List Instance). IsCount view (prefix ++ l) m) (sym same)
+      (subst (λ (k : ℕ). IsCount view (prefix ++ list) k) (sym e) (before view prefix (subst (λ (l : List Instance). AreCounted view l counts) same all) c))
+  further so_far list (Some i) n m before e view prefix all c =
+      let was = before view prefix (λ j h k. all j (Contains-append_left list (i ∷ []) j h) k) c in
+      subst (λ (l : List Instance). IsCount view l m) (append_assoc prefix list (i ∷ []))
+      (count_one (prefix ++ list) i n m was (λ k. all i (Contains-append_right list (i ∷ []) i (contains_here i [])) k) i.kind refl e)
 
   -- one instance of the text further
   pub instance_further : (so_far : ℕ) (list : List InstanceTree) (x : InstanceTree) (n m : ℕ) → CountsOn counts so_far (plain_instances list) n → m ≡ counted_with counts n (plain_instance x) → CountsOn counts so_far (plain_instances (list ++ x ∷ [])) m

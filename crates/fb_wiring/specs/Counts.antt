@@ -45,8 +45,8 @@ plain_instances instances = filter_map plain_instance instances
 -- a count of some instances goes on to one of these behind them, where the types of their subapplications are counted
 abbrev pub CountsOn : (List ℕ → Option ℕ) → ℕ → List Instance → ℕ → Type 0
 CountsOn counts so_far instances count =
-    (view : View) (front : List Instance)
-    → AreCounted view instances counts → IsCount view front so_far → IsCount view (front ++ instances) count
+    (view : View) (prefix : List Instance)
+    → AreCounted view instances counts → IsCount view prefix so_far → IsCount view (prefix ++ instances) count
 
 -- the number of these instances, where the types of their subapplications are counted
 abbrev pub CountsAll : (List ℕ → Option ℕ) → List Instance → ℕ → Type 0

@@ -95,11 +95,11 @@ fn is_whole(ended: &Ended) -> bool {
 // Whether a run ended for want of memory: for its words, of which nothing is said, or behind whole replies.
 fn is_short(ended: &Ended) -> bool {
     let output = ended.output.as_slice();
-    let is_front = OUTPUT.as_bytes().starts_with(output);
+    let is_prefix = OUTPUT.as_bytes().starts_with(output);
     let is_cut = !output.is_empty() && output.last() != Some(&b'\n');
     let is_said = ended.errors.as_slice() == "bench61499: out of memory\n".as_bytes();
     let is_silent = ended.errors.is_empty() && output.is_empty();
-    ended.status == 1 && is_front && !is_cut && (is_said || is_silent)
+    ended.status == 1 && is_prefix && !is_cut && (is_said || is_silent)
 }
 
 fn try_runs(alloc: Global) -> Result<Refusals, Fail> {

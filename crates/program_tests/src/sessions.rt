@@ -114,8 +114,8 @@ fn is_replied(rest: Rest, output: &[u8]) -> bool {
     is_first && output.get(rest.reply.len()..) == Some(replies)
 }
 
-// Whether a session wrote whole lines from the front of the replies.
-fn is_front(output: &[u8]) -> bool {
+// Whether a session wrote whole lines from the prefix of the replies.
+fn is_prefix(output: &[u8]) -> bool {
     let is_whole = output.is_empty() || output.last() == Some(&b'\n');
     is_whole && REPLIES.as_bytes().starts_with(output)
 }
@@ -180,7 +180,7 @@ fn is_finished<R: Wait>(
 fn is_end(end: RunEnd, output: &[u8]) -> bool {
     match end {
         RunEnd::End => output == REPLIES.as_bytes(),
-        RunEnd::Memory => is_front(output),
+        RunEnd::Memory => is_prefix(output),
         _ => false,
     }
 }

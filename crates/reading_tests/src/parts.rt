@@ -8,7 +8,7 @@ use std::alloc::{AllocError, Global};
 use std::process::Abort;
 use std::test::Fail;
 
-// Texts with the part that is read at their front, and how many tokens stand behind it, or from the one that does not go on.
+// Texts with the part that is read at their prefix, and how many tokens stand behind it, or from the one that does not go on.
 static SECTIONS: [(Part, &str, &str, usize); 28] = [
     (
         Part::Listed,

@@ -5,7 +5,7 @@ use crate::told::bench_told;
 use fb_bench::{Bench, Limits};
 use fb_jobs::{Key, Kind};
 use fb_shared::{
-    CloseFault, Closed, Locked, NotClosed, NotResumed, Receipt, ResumeFault, Seat, Shared,
+    CloseError, Closed, Locked, NotClosed, NotResumed, Receipt, ResumeError, Seat, Shared,
 };
 use fb_text::Name;
 use refusing::{Trial, try_call};
@@ -128,7 +128,7 @@ impl<T: Owner> Trial for Resumed<T> {
             }
             Err(NotResumed { fault, bench }) => {
                 self.bench = Some(bench);
-                fault != ResumeFault::Memory
+                fault != ResumeError::Memory
             }
         }
     }
@@ -231,7 +231,7 @@ impl<T: Owner> Trial for Over<T> {
             ) => {
                 self.owner = Some(owner);
                 self.seats = seats;
-                fault != CloseFault::Memory
+                fault != CloseError::Memory
             }
         }
     }

@@ -2,7 +2,7 @@
 use crate::nest::{BEFORE, Given, Which, begun, bench_for, given_for};
 use crate::owners::{owner_for, taken_over};
 use crate::told::bench_told;
-use fb_bench::{CheckpointRefused, Limits};
+use fb_bench::{CheckpointError, Limits};
 use fb_shared::{Locked, Receipt, Seat, Shared, SharedRefused};
 use refusing::{Trial, try_call};
 use std::alloc::Global;
@@ -26,7 +26,7 @@ impl Trial for Rolled {
     }
 
     fn call(&mut self, _alloc: Global) -> bool {
-        self.locked.make_room(self.limits) != Err(CheckpointRefused::Memory)
+        self.locked.make_room(self.limits) != Err(CheckpointError::Memory)
     }
 
     fn told(&self, alloc: Global) -> Result<String, Fail> {

@@ -2,7 +2,7 @@
 use crate::nest::{CALLS, Call, Given, Which, given_for};
 use crate::owners::{both_of, owner_for};
 use crate::ways::{Answer, made_at};
-use fb_bench::DeskRefused;
+use fb_bench::DeskError;
 use fb_shared::{Seat, Seated, Shared};
 use refusing::{Trial, try_call};
 use std::alloc::Global;
@@ -18,12 +18,12 @@ struct OfSeated<'a, R: Wait> {
     given: &'a Given,
     owner: Shared,
     seat: Option<Seat>,
-    answer: Option<Result<Answer, DeskRefused>>,
+    answer: Option<Result<Answer, DeskError>>,
     receipts: usize,
 }
 
 // What a call at a desk comes to, the seat, and how many receipts it left.
-type Sat = (Result<Answer, DeskRefused>, Seat, usize);
+type Sat = (Result<Answer, DeskError>, Seat, usize);
 
 fn sit<R: Wait>(
     rt: &R,
@@ -81,7 +81,7 @@ impl<'a, R: Wait> Trial for OfSeated<'a, R> {
         );
         self.seat = Some(seat);
         self.receipts = receipts;
-        if answer == Err(DeskRefused::Memory) {
+        if answer == Err(DeskError::Memory) {
             return false;
         }
         self.answer = Some(answer);

@@ -1,7 +1,7 @@
 //! The ways to make one of the five calls on a workbench of one thread and at a desk, and what it answers.
 use crate::nest::{Given, Which};
 use crate::told::{asked_word, committed_word, returned_word};
-use fb_bench::{Answered, Bench, Delivered, Desk, DeskRefused, Refused, Request, Solo, Taken};
+use fb_bench::{Answered, Bench, Delivered, Desk, DeskError, Refused, Request, Solo, Taken};
 use fb_jobs::Finished;
 use fb_shared::library::Change;
 
@@ -73,7 +73,7 @@ pub(crate) fn made_at<D: Desk>(
     which: Which,
     desk: &mut D,
     given: &Given,
-) -> Result<Answer, DeskRefused> {
+) -> Result<Answer, DeskError> {
     let answered = match which {
         Which::Commit => Answered::Commit(desk.commit(&given.changes)?),
         Which::Take => Answered::Take(desk.take()?),
@@ -88,7 +88,7 @@ fn made_at_desk(which: Which, bench: &mut Bench, given: &Given) -> Result<Answer
     let mut desk = Solo::new(bench, 1);
     match made_at(which, &mut desk, given) {
         Ok(answer) => Ok(answer),
-        Err(DeskRefused::Memory) => Err(Refused::Memory),
+        Err(DeskError::Memory) => Err(Refused::Memory),
         Err(_) => Err(Refused::HistoryFull),
     }
 }

@@ -1,13 +1,13 @@
 //! Seats and receipts with which a workbench does not close.
 use crate::play::{Counts, Played, counts_in, played_locked, played_shared};
 use crate::setup::{faults_of, new_locked, new_shared, pair, puts};
-use fb_shared::{CloseFault, NotClosed, Plain, Receipt, Seat, Shared, WorkEnd, work_on};
+use fb_shared::{CloseError, NotClosed, Plain, Receipt, Seat, Shared, WorkEnd, work_on};
 use std::alloc::Global;
 use std::sync::Wait;
 use std::test::Fail;
 
 // what refuses the first two attempts to close, and the counts of the third
-type Attempts = (CloseFault, CloseFault, Option<Counts>);
+type Attempts = (CloseError, CloseError, Option<Counts>);
 
 // closes with the second seat missing, which is refused
 fn with_one_seat(
@@ -60,7 +60,7 @@ fn with_both(
     stranger: Seat,
     second: Seat,
     receipts: &[Receipt],
-) -> Option<(CloseFault, Option<Counts>)> {
+) -> Option<(CloseError, Option<Counts>)> {
     let strange = with_stranger(alloc, attempt, stranger, receipts)?;
     let fault = strange.fault;
     Some((fault, with_second(alloc, strange, second, receipts)))
@@ -85,7 +85,7 @@ fn seats_that_do_not_fit(rt: HostRuntime) -> Result<(), Fail> {
     let stranger = strange_seat(alloc).ok_or("a seat")?;
     let played = played_shared(&rt, alloc, 1000).ok_or("a conversation")?;
     let attempts = close_with_seats(alloc, played, stranger);
-    let faults = (CloseFault::SeatMissing(2), CloseFault::SeatDiffers(2));
+    let faults = (CloseError::SeatMissing(2), CloseError::SeatDiffers(2));
     assert_eq!(rt; attempts, Some((faults.0, faults.1, Some((6, 1, 5)))));
     Ok(())
 }
@@ -97,7 +97,7 @@ fn work_after_refusal<R: Wait>(
     shared: Shared,
     first: Seat,
     second: &mut Seat,
-) -> Option<(CloseFault, WorkEnd, usize)> {
+) -> Option<(CloseError, WorkEnd, usize)> {
     let NotClosed { fault, owner, .. } = with_one_seat(alloc, shared, first, &[])?;
     let mut receipts = Vec::new(alloc);
     let end = work_on(rt, alloc, &owner, second, &mut receipts, &Plain, 1);
@@ -105,7 +105,7 @@ fn work_after_refusal<R: Wait>(
 }
 
 // the same after a change
-fn work_after_change<R: Wait>(rt: &R, alloc: Global) -> Option<(CloseFault, WorkEnd, usize)> {
+fn work_after_change<R: Wait>(rt: &R, alloc: Global) -> Option<(CloseError, WorkEnd, usize)> {
     let changes = puts(alloc, &["A"])?;
     let (shared, mut first, mut second) = new_shared(alloc, 1000)?;
     shared.commit(rt, &mut first, &changes).ok()?;
@@ -116,7 +116,7 @@ fn work_after_change<R: Wait>(rt: &R, alloc: Global) -> Option<(CloseFault, Work
 #[test]
 fn a_silent_seat_that_is_missing(rt: HostRuntime) -> Result<(), Fail> {
     let worked = work_after_change(&rt, rt.alloc());
-    let missing = CloseFault::SeatMissing(2);
+    let missing = CloseError::SeatMissing(2);
     assert_eq!(rt; worked, Some((missing, WorkEnd::TurnsOver, 2)));
     Ok(())
 }
@@ -154,7 +154,7 @@ fn with_strange_receipt(
     attempt: NotClosed<Shared>,
     receipts: &mut Vec<Receipt>,
     stranger: Receipt,
-) -> Option<(CloseFault, Option<Counts>)> {
+) -> Option<(CloseError, Option<Counts>)> {
     let NotClosed { owner, seats, .. } = attempt;
     let strange = with_receipt(alloc, owner, seats, receipts, stranger)?;
     let fault = strange.fault;
@@ -203,7 +203,7 @@ fn receipts_that_do_not_fit(rt: HostRuntime) -> Result<(), Fail> {
     let others = strange_receipts(alloc).ok_or("receipts")?;
     let played = played_shared(&rt, alloc, 1000).ok_or("a conversation")?;
     let attempts = close_with_receipts(alloc, played, others);
-    let faults = (CloseFault::ReceiptTwice(1), CloseFault::ReceiptDiffers(1));
+    let faults = (CloseError::ReceiptTwice(1), CloseError::ReceiptDiffers(1));
     assert_eq!(rt; attempts, Some((faults.0, faults.1, Some((6, 1, 5)))));
     Ok(())
 }

@@ -3,7 +3,7 @@ use crate::play::{Played, closed, played_shared};
 use crate::setup::{faults_of, new_shared, puts};
 use fb_jobs::Finished;
 use fb_shared::bench::{
-    Asked, Committed, Delivered, Desk, DeskCheckpointRefused, DeskRefused, GivenBack, Limits, Taken,
+    Asked, Committed, Delivered, Desk, DeskCheckpointError, DeskError, GivenBack, Limits, Taken,
 };
 use fb_shared::{Plain, Receipt, Seat, Seated, Shared, WorkEnd, work_on};
 use std::alloc::Global;
@@ -40,7 +40,7 @@ fn play_at<D: Desk>(alloc: Global, desk: &mut D) -> Option<bool> {
 }
 
 // whether these calls go well at a desk, and why one more is refused
-fn answers_at<D: Desk>(alloc: Global, desk: &mut D) -> Option<(bool, DeskRefused)> {
+fn answers_at<D: Desk>(alloc: Global, desk: &mut D) -> Option<(bool, DeskError)> {
     let is_played = play_at(alloc, desk)?;
     Some((is_played, desk.ask(faults_of("A")?).err()?))
 }
@@ -64,13 +64,13 @@ fn a_desk_keeps_its_receipts(rt: HostRuntime) -> Result<(), Fail> {
     } = desk;
     let count = receipts.len();
     let counts = closed(alloc, shared, first, second, &receipts);
-    assert_eq!(rt; answers, Some((true, DeskRefused::HistoryFull)));
+    assert_eq!(rt; answers, Some((true, DeskError::HistoryFull)));
     assert_eq!(rt; (count, counts), (5, Some((5, 5, 0))));
     Ok(())
 }
 
 // why the five calls are refused at a desk, if each is for the same cause
-fn refusal_at<D: Desk>(alloc: Global, desk: &mut D, finished: &Finished) -> Option<DeskRefused> {
+fn refusal_at<D: Desk>(alloc: Global, desk: &mut D, finished: &Finished) -> Option<DeskError> {
     let changes = puts(alloc, &["B"])?;
     let commit = desk.commit(&changes).err()?;
     let take = desk.take().err()?;
@@ -82,7 +82,7 @@ fn refusal_at<D: Desk>(alloc: Global, desk: &mut D, finished: &Finished) -> Opti
 }
 
 // Why the five calls are refused, and whether no receipt is kept.
-type Refusal = (DeskRefused, bool);
+type Refusal = (DeskError, bool);
 
 // the five calls at a desk with this seat
 fn refusal_of<R: Wait>(
@@ -148,8 +148,8 @@ fn desk_refusals<R: Wait>(rt: &R, alloc: Global) -> Option<(Refusal, (Refusal, R
 #[test]
 fn calls_that_a_desk_refuses(rt: HostRuntime) -> Result<(), Fail> {
     let refusals = desk_refusals(&rt, rt.alloc());
-    let full = (DeskRefused::HistoryFull, true);
-    let behind = (DeskRefused::Behind, true);
+    let full = (DeskError::HistoryFull, true);
+    let behind = (DeskError::Behind, true);
     assert_eq!(rt; refusals, Some((full, (behind, behind))));
     Ok(())
 }
@@ -167,7 +167,7 @@ fn a_desk_over_a_lock_makes_no_checkpoint(rt: HostRuntime) -> Result<(), Fail> {
     };
     let refused = desk.checkpoint(limits).err();
     let has_no_receipt = desk.receipts.is_empty() && desk.seat.turns() == 0;
-    assert_eq!(rt; refused, Some(DeskCheckpointRefused::NotAlone));
+    assert_eq!(rt; refused, Some(DeskCheckpointError::NotAlone));
     assert!(rt; has_no_receipt);
     Ok(())
 }
@@ -178,7 +178,7 @@ fn refused_checkpoint<R: Wait>(
     alloc: Global,
     shared: &Shared,
     seat: Seat,
-) -> Option<DeskCheckpointRefused> {
+) -> Option<DeskCheckpointError> {
     let mut desk = Seated {
         rt,
         shared,
@@ -192,7 +192,7 @@ fn refused_checkpoint<R: Wait>(
 fn work_after_checkpoint<R: Wait>(
     rt: &R,
     alloc: Global,
-) -> Option<(DeskCheckpointRefused, WorkEnd, usize)> {
+) -> Option<(DeskCheckpointError, WorkEnd, usize)> {
     let changes = puts(alloc, &["A"])?;
     let (shared, mut first, mut second) = new_shared(alloc, 5)?;
     shared.commit(rt, &mut first, &changes).ok()?;
@@ -205,7 +205,7 @@ fn work_after_checkpoint<R: Wait>(
 #[test]
 fn workers_go_on_after_a_refused_checkpoint(rt: HostRuntime) -> Result<(), Fail> {
     let worked = work_after_checkpoint(&rt, rt.alloc());
-    let refused = DeskCheckpointRefused::NotAlone;
+    let refused = DeskCheckpointError::NotAlone;
     assert_eq!(rt; worked, Some((refused, WorkEnd::TurnsOver, 2)));
     Ok(())
 }

@@ -3,7 +3,7 @@ use crate::play::{Counts, Played, closed, closed_locked, is_without_faults, play
 use crate::setup::{both_of, faults_of, new_shared, pair, puts};
 use fb_shared::bench::{Bench, Limits, Start};
 use fb_shared::{
-    CloseFault, Locked, Plain, Receipt, ResumeFault, Seat, Shared, SharedRefused, WorkEnd, work_on,
+    CloseError, Locked, Plain, Receipt, ResumeError, Seat, Shared, SharedRefused, WorkEnd, work_on,
 };
 use std::alloc::Global;
 use std::sync::Wait;
@@ -65,7 +65,7 @@ fn refused_resumes(
     alloc: Global,
     bench: Bench,
     callers: u32,
-) -> Option<(ResumeFault, ResumeFault, u64)> {
+) -> Option<(ResumeError, ResumeError, u64)> {
     let shared = Shared::resume(alloc, bench, callers).err()?;
     let locked = Locked::resume(alloc, shared.bench, callers).err()?;
     Some((shared.fault, locked.fault, locked.bench.last_number()))
@@ -74,7 +74,7 @@ fn refused_resumes(
 #[test]
 fn a_caller_that_gets_no_seat(rt: HostRuntime) -> Result<(), Fail> {
     let (bench, _receipts) = kept_bench(&rt, rt.alloc()).ok_or("a workbench")?;
-    let few = ResumeFault::CallersFew(2);
+    let few = ResumeError::CallersFew(2);
     assert_eq!(rt; refused_resumes(rt.alloc(), bench, 1), Some((few, few, 6)));
     Ok(())
 }
@@ -89,7 +89,7 @@ fn asked_by_nobody(alloc: Global) -> Option<Bench> {
 #[test]
 fn caller_0_never_gets_a_seat(rt: HostRuntime) -> Result<(), Fail> {
     let bench = asked_by_nobody(rt.alloc()).ok_or("a workbench")?;
-    let nobody = ResumeFault::CallersFew(0);
+    let nobody = ResumeError::CallersFew(0);
     assert_eq!(rt;
         refused_resumes(rt.alloc(), bench, 2),
         Some((nobody, nobody, 1))
@@ -186,7 +186,7 @@ fn last_alone(alloc: Global, receipts: Vec<Receipt>) -> Option<Vec<Receipt>> {
 }
 
 // why a shared workbench does not close with the last receipt of an earlier time
-fn fault_of_last(alloc: Global, bench: Bench, receipts: Vec<Receipt>) -> Option<CloseFault> {
+fn fault_of_last(alloc: Global, bench: Bench, receipts: Vec<Receipt>) -> Option<CloseError> {
     let (shared, first, second) = resumed_shared(alloc, bench)?;
     let last = last_alone(alloc, receipts)?;
     let refused = shared
@@ -196,7 +196,7 @@ fn fault_of_last(alloc: Global, bench: Bench, receipts: Vec<Receipt>) -> Option<
 }
 
 // the same with no lock
-fn fault_of_last_locked(alloc: Global, bench: Bench, receipts: Vec<Receipt>) -> Option<CloseFault> {
+fn fault_of_last_locked(alloc: Global, bench: Bench, receipts: Vec<Receipt>) -> Option<CloseError> {
     let (locked, first, second) = resumed_locked(alloc, bench)?;
     let last = last_alone(alloc, receipts)?;
     let refused = locked
@@ -209,7 +209,7 @@ fn fault_of_last_locked(alloc: Global, bench: Bench, receipts: Vec<Receipt>) -> 
 fn an_old_receipt_differs(rt: HostRuntime) -> Result<(), Fail> {
     let (bench, receipts) = kept_bench(&rt, rt.alloc()).ok_or("a workbench")?;
     let (other, others) = kept_bench(&rt, rt.alloc()).ok_or("a workbench")?;
-    let differs = Some(CloseFault::ReceiptDiffers(6));
+    let differs = Some(CloseError::ReceiptDiffers(6));
     assert_eq!(rt; fault_of_last(rt.alloc(), bench, receipts), differs);
     assert_eq!(rt; fault_of_last_locked(rt.alloc(), other, others), differs);
     Ok(())

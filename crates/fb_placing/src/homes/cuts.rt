@@ -3,9 +3,9 @@ ghost use Rattle.std.specs.Prelude.{◌≡◌, IfOk, option_copied};
 ghost use Rattle.fb_placing.specs.Cuts.{cuts_of, home_at, same_home};
 
 use crate::homes::Home;
-use crate::plan::command_index::plain_links;
-use crate::plan::assigned_commands::push_links;
 use crate::homes::table::home_table;
+use crate::plan::assigned_commands::push_links;
+use crate::plan::command_index::plain_links;
 use fb_network::{Flat, Link, Path};
 use std::alloc::{AllocError, Global};
 

@@ -2,13 +2,13 @@
 //! If no block is inside another one, which is looked up once for each plan, an end has the home of the block before its last point; otherwise each
 //! prefix is looked up, the longest first. Definitions allow any homes.
 ghost use Rattle.std.specs.Prelude.{◌≡◌, ◌++◌, IfOk, IsTrue, option_copied, string_bytes};
-ghost use Rattle.fb_network.specs.Fronts.{nearest};
+ghost use Rattle.fb_network.specs.Prefixes.{nearest};
 ghost use Rattle.fb_placing.specs.Points.{IsInside};
 ghost use Rattle.fb_placing.specs.HomeTable.{IsKnown, home_by_path};
 
-use crate::plan::text_parts::write_both;
+use crate::homes::table::{HomeTable, home_by_path, nearest_home};
 use crate::paths::split::split_last;
-use crate::homes::table::{HomeTable, nearest_home, home_by_path};
+use crate::plan::text_parts::write_both;
 use fb_network::Path;
 use std::alloc::{AllocError, Global};
 
@@ -30,8 +30,8 @@ fn stands_in(start: &[u8], end: &[u8], block: &[u8]) -> bool
     if block.len() < start.len() {
         return false;
     }
-    let (front, name) = block.split_at(start.len());
-    if front != start || end.len() <= name.len() {
+    let (prefix, name) = block.split_at(start.len());
+    if prefix != start || end.len() <= name.len() {
         return false;
     }
     let (first, rest) = end.split_at(name.len());

@@ -4,7 +4,7 @@ ghost use Rattle.std.specs.Prelude.{◌≡◌, ℕ, List, IfOk, IsTrue, OnOk, So
 ghost use Rattle.std.specs.Option.{option_or};
 ghost use Rattle.std.specs.Str.{bytes_eq};
 ghost use Rattle.fb_placing.specs.Cuts.{home_at};
-ghost use Rattle.fb_network.specs.Fronts.{nearest};
+ghost use Rattle.fb_network.specs.Prefixes.{nearest};
 ghost use Rattle.fb_placing.specs.Points.{AreApart};
 ghost use Rattle.fb_placing.specs.HomeTable.{home_by_path};
 
@@ -26,7 +26,11 @@ pub(crate) struct HomeTable<'a> {
 }
 
 /// Adds the meaning of a path, if it has none yet.
-fn add_home<'a>(by_path: &mut ByPath<'a>, path: &'a str, resource: &'a Path) -> Result<(), AllocError>
+fn add_home<'a>(
+    by_path: &mut ByPath<'a>,
+    path: &'a str,
+    resource: &'a Path,
+) -> Result<(), AllocError>
     ensures { OnOk result ((q : List ℕ) → home_by_path by_path.new q
         ≡ option_or (home_by_path by_path.old q)
         (if bytes_eq path.now q then Some resource.now else None)) }
@@ -59,7 +63,7 @@ pub(crate) fn home_by_path<'a>(by_path: &ByPath<'a>, path: &str) -> Option<&'a P
     }
 }
 
-/// What the longest front of the path means, of those that mean something.
+/// What the longest prefix of the path means, of those that mean something.
 pub(crate) fn nearest_home<'a>(by_path: &ByPath<'a>, path: &str) -> Option<&'a Path>
     ensures { option_copied result ≡ nearest (home_by_path by_path.now) path.now }
 {

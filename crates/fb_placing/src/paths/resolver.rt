@@ -7,11 +7,11 @@ ghost use Rattle.fb_placing.specs.Systems.{applications_in};
 ghost use Rattle.fb_placing.specs.Tables.{instance_at};
 ghost use Rattle.fb_library.specs.View.{tree_at};
 
-use crate::paths::names::path_names;
-use crate::paths::split::split_last;
 use crate::paths::instances::{
     Applications, Instances, Units, applications_in, instances_by_name, instances_of,
 };
+use crate::paths::names::path_names;
+use crate::paths::split::split_last;
 use fb_library::{View, text_by_name};
 use fb_tree::text::Name;
 use fb_tree::{Instance, Role};

@@ -10,13 +10,13 @@ ghost use Rattle.fb_placing.specs.PlacedCommands.{create_commands};
 ghost use Rattle.fb_placing.specs.SystemCommands.{connection_commands, without_place, connection_on, start_command};
 ghost use Rattle.fb_placing.specs.HomeTable.{home_by_path};
 
-use crate::plan::create_commands::{Created, created_in_order};
 use crate::homes::cuts::same_home;
 use crate::homes::end_finder::EndFinder;
-use crate::plan::command_index::CommandIndex;
-use crate::plan::write_commands::PlacedCommand;
-use crate::numbers::number;
 use crate::homes::table::HomeTable;
+use crate::numbers::number;
+use crate::plan::command_index::CommandIndex;
+use crate::plan::create_commands::{Created, created_in_order};
+use crate::plan::write_commands::PlacedCommand;
 use fb_network::{Flat, Path};
 use std::alloc::{AllocError, Global};
 

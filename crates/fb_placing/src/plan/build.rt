@@ -12,15 +12,17 @@ ghost use Rattle.fb_placing.specs.SystemCommands.{connection_commands, without_p
 ghost use Rattle.fb_placing.specs.Resources.{resource_plan, resource_plans};
 ghost use Rattle.fb_placing.specs.HomeTable.{home_by_path};
 
-use crate::plan::command::Command;
 use crate::homes::Home;
-use crate::plan::command_index::{CommandIndex, ResourceCommands};
-use crate::plan::write_commands::{PlacedCommand, write_commands};
-use crate::plan::by_resource::{indexes_from, lists_of};
-use crate::plan::assigned_commands::{AssignedCommand, push_creates, push_links, push_starts, push_writes};
-use crate::plan::Plan;
-use crate::plan::resources::resources_of;
 use crate::homes::table::{HomeTable, home_table};
+use crate::plan::Plan;
+use crate::plan::assigned_commands::{
+    AssignedCommand, push_creates, push_links, push_starts, push_writes,
+};
+use crate::plan::by_resource::{indexes_from, lists_of};
+use crate::plan::command::Command;
+use crate::plan::command_index::{CommandIndex, ResourceCommands};
+use crate::plan::resources::resources_of;
+use crate::plan::write_commands::{PlacedCommand, write_commands};
 use fb_library::View;
 use fb_network::{Flat, Path};
 use fb_tree::text::Name;

@@ -2,8 +2,8 @@
 ghost use Rattle.std.specs.Prelude.{◌≡◌, ◌<◌, [], ℕ, IfNone, IfOk, IfSome, OnOk, Some, length};
 ghost use Rattle.fb_placing.specs.ByResource.{AreListed, IsFirst, IsFirstPlace, IsNowhere, indexes_at, indexes_more, indexes_of};
 
-use crate::plan::command_index::CommandIndex;
 use crate::plan::assigned_commands::AssignedCommand;
+use crate::plan::command_index::CommandIndex;
 use fb_network::Path;
 use std::alloc::{AllocError, Global};
 
@@ -35,7 +35,11 @@ fn place_near(names: &[Path], last: usize, name: &Path) -> Option<usize>
 }
 
 /// Adds an item to a list.
-fn push_index(lists: &mut [Vec<CommandIndex>], place: usize, item: CommandIndex) -> Result<(), AllocError>
+fn push_index(
+    lists: &mut [Vec<CommandIndex>],
+    place: usize,
+    item: CommandIndex,
+) -> Result<(), AllocError>
     requires { place < length lists.old }
     ensures items { OnOk result ((k : ℕ)
         → indexes_at lists.new k ≡ indexes_more (indexes_at lists.old) place item k) }
@@ -77,7 +81,11 @@ pub(crate) fn lists_of(
 }
 
 /// The items of all commands that are for a resource.
-fn indexes_for(alloc: Global, commands: &[AssignedCommand<'_>], name: &Path) -> Result<Vec<CommandIndex>, AllocError>
+fn indexes_for(
+    alloc: Global,
+    commands: &[AssignedCommand<'_>],
+    name: &Path,
+) -> Result<Vec<CommandIndex>, AllocError>
     ensures { IfOk result (λ items. items.items ≡ indexes_of commands.now name.now) }
 {
     let mut items = Vec::new(alloc);

@@ -9,9 +9,9 @@ ghost use Rattle.fb_placing.specs.Created.{created_command};
 ghost use Rattle.fb_placing.specs.PlacedCommands.{create_command, create_commands, command_cmp};
 ghost use Rattle.fb_placing.specs.HomeTable.{home_by_path};
 
+use crate::homes::table::{HomeTable, home_by_path};
 use crate::numbers::number;
 use crate::plan::text_parts::write_both;
-use crate::homes::table::{HomeTable, home_by_path};
 use fb_network::{Flat, Path, compare_parts};
 use std::alloc::{AllocError, Global};
 use std::cmp::Ordering;

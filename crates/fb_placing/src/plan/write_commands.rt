@@ -10,9 +10,9 @@ ghost use Rattle.fb_placing.specs.Resolved.{plain_resolved};
 ghost use Rattle.fb_placing.specs.Systems.{applications_in};
 ghost use Rattle.fb_placing.specs.PlacedCommands.{home_commands, command_cmp, command_cmp_total, commands_at, write_command, write_commands};
 
-use crate::plan::command::Command;
 use crate::homes::Home;
-use crate::paths::resolver::{Resolver, Resolved};
+use crate::paths::resolver::{Resolved, Resolver};
+use crate::plan::command::Command;
 use crate::plan::constants::written;
 use fb_library::View;
 use fb_network::{Path, sort_once};

@@ -9,9 +9,9 @@ use Rattle.fb_entries.proofs.renewal.renew_all.Goals as goal
 
 pub loop-key-preserved : goal.loop-key-preserved
 loop-key-preserved c =
-    let front = take c.loop-key.key-index c.args.keys.now in
+    let prefix = take c.loop-key.key-index c.args.keys.now in
     let key = c.key-item.result in
-    let more : take (c.loop-key.key-index + 1) c.args.keys.now ≡ front ++ key ∷ [] = grind (arith, common_steps) in
+    let more : take (c.loop-key.key-index + 1) c.args.keys.now ≡ prefix ++ key ∷ [] = grind (arith, common_steps) in
     λ other.
-    waiting_more (tree.get key_cmp c.args.entries.now other) (tree.get key_cmp c.loop-key.entries other) (tree.get key_cmp c.renew.new.entries other) (is_of other front) (same_key key other) (c.renew.ensures other) (c.loop-key.invariant other)
-    ∙ ap (λ b. waiting_if b (tree.get key_cmp c.args.entries.now other)) (sym (of_now other key front _ more))
+    waiting_more (tree.get key_cmp c.args.entries.now other) (tree.get key_cmp c.loop-key.entries other) (tree.get key_cmp c.renew.new.entries other) (is_of other prefix) (same_key key other) (c.renew.ensures other) (c.loop-key.invariant other)
+    ∙ ap (λ b. waiting_if b (tree.get key_cmp c.args.entries.now other)) (sym (of_now other key prefix _ more))

@@ -9,9 +9,9 @@ use Rattle.fb_entries.proofs.renewal.take_out.Goals as goal
 
 pub loop-key-preserved : goal.loop-key-preserved
 loop-key-preserved c =
-    let front = take c.loop-key.key-index c.args.keys.now in
+    let prefix = take c.loop-key.key-index c.args.keys.now in
     let key = c.key-item.result in
-    let more : take (c.loop-key.key-index + 1) c.args.keys.now ≡ front ++ key ∷ [] = grind (arith, common_steps) in
+    let more : take (c.loop-key.key-index + 1) c.args.keys.now ≡ prefix ++ key ∷ [] = grind (arith, common_steps) in
     λ other.
-    out_more None (tree.get key_cmp c.args.entries.now other) (tree.get key_cmp c.loop-key.entries other) (tree.get key_cmp c.remove.new.self other) (is_of other front) (same_key key other) (c.remove.ensures.updates.0 other) (c.loop-key.invariant other)
-    ∙ ap (λ b. cond b None (tree.get key_cmp c.args.entries.now other)) (sym (of_now other key front _ more))
+    out_more None (tree.get key_cmp c.args.entries.now other) (tree.get key_cmp c.loop-key.entries other) (tree.get key_cmp c.remove.new.self other) (is_of other prefix) (same_key key other) (c.remove.ensures.updates.0 other) (c.loop-key.invariant other)
+    ∙ ap (λ b. cond b None (tree.get key_cmp c.args.entries.now other)) (sym (of_now other key prefix _ more))

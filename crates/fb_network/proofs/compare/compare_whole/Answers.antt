@@ -1,4 +1,4 @@
--- The start is compared with the front of the whole.
+-- The start is compared with the prefix of the whole.
 use Rattle.std.proofs.Common.{sym, ◌∙◌, refl, arith}
 use Rattle.std.specs.Ordering.{ordering_then}
 use Rattle.fb_tree.specs.Text.Order.{name_cmp}

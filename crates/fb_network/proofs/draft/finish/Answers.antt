@@ -1,6 +1,6 @@
 -- What is left is in range, and in order.
 use Rattle.std.proofs.Common.{refl, subst, List, length}
-use Rattle.fb_network.specs.PlainFront.{PlainFront}
+use Rattle.fb_network.specs.PlainPrefix.{PlainPrefix}
 use Rattle.fb_network.specs.LinkOrder.{border_cmp, link_cmp}
 use Rattle.fb_network.specs.Laid.{IsEdgeBelow, IsJoinBelow, border_at, link_at}
 use Rattle.fb_network.specs.Once.{IsOnce}
@@ -10,7 +10,7 @@ use Rattle.fb_network.proofs.draft.finish.Goals as goal
 
 pub invariant_of-result : goal.invariant_of-result
 invariant_of-result c =
-    let count = length c.args.draft.fronts.items in
+    let count = length c.args.draft.prefixes.items in
     rw c.in_ok-tables.ensures.ok
     (record {
       leaves_below = c.requires.leaves_below;
@@ -20,6 +20,6 @@ invariant_of-result c =
 
 pub returns : goal.returns
 returns c =
-    let joins = subst (λ (fs : List PlainFront). IsOnce (link_at fs) link_cmp c.args.draft.joins.items c.sort_joins.new.joins.items) c.deref.ensures.value c.in_ok-sort_joins.ensures in
-    let edges = subst (λ (fs : List PlainFront). IsOnce (border_at fs) border_cmp c.args.edges.items c.sort_edges.new.edges.items) c.deref-2.ensures.value c.in_ok-sort_edges.ensures in
+    let joins = subst (λ (fs : List PlainPrefix). IsOnce (link_at fs) link_cmp c.args.draft.joins.items c.sort_joins.new.joins.items) c.deref.ensures.value c.in_ok-sort_joins.ensures in
+    let edges = subst (λ (fs : List PlainPrefix). IsOnce (border_at fs) border_cmp c.args.edges.items c.sort_edges.new.edges.items) c.deref-2.ensures.value c.in_ok-sort_edges.ensures in
     rw c.in_ok-tables.ensures.ok (record { blocks = refl; links = once_ordered c.args.draft.joins.items c.sort_joins.new.joins.items joins; borders = once_ordered c.args.edges.items c.sort_edges.new.edges.items edges })

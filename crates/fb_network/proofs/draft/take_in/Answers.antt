@@ -1,8 +1,8 @@
 -- The entries of the inner network stand moved, behind those that there were.
 use Rattle.std.proofs.Common.{◌≡◌, ◌++◌, List, length, map, ap, ◌∙◌}
 use Rattle.std.proofs.lemmas.Result.{IfOk-weaker}
-use Rattle.fb_network.specs.PlainFront.{PlainFront}
-use Rattle.fb_network.specs.Laid.{edge_moved, front_within, join_moved, leaf_moved}
+use Rattle.fb_network.specs.PlainPrefix.{PlainPrefix}
+use Rattle.fb_network.specs.Laid.{edge_moved, prefix_within, join_moved, leaf_moved}
 use Rattle.fb_network.specs.declared.flat.Tables.{Tables}
 use Rattle.fb_network.specs.declared.entries.Leaf.{Leaf}
 use Rattle.fb_network.specs.declared.entries.Join.{Join}
@@ -17,9 +17,9 @@ returns c =
     let held : c.deref-tables.result.now ≡ c.inner.inside.tables.value = c.deref-tables.ensures in
     IfOk-weaker c.edges_moved.result _ _
     (λ edges is.
-    taken_in draft _ c.args.name.now c.args.inner.now edges.items by c.inner.inside.tables.value.fronts.items c.inner.inside.tables.value.leaves.items c.inner.inside.tables.value.joins.items c.inner.inside.tables.value.edges.items
+    taken_in draft _ c.args.name.now c.args.inner.now edges.items by c.inner.inside.tables.value.prefixes.items c.inner.inside.tables.value.leaves.items c.inner.inside.tables.value.joins.items c.inner.inside.tables.value.edges.items
     (c.in_ok-before.ensures ∙ ap length c.deref.ensures.value)
-    (c.in_ok-push_fronts_within.ensures ∙ ap (λ (fs : List PlainFront). draft.fronts.items ++ map (front_within c.args.name.now) fs) (c.deref-2.ensures.value ∙ ap (λ (t : Tables). t.fronts.items) held))
+    (c.in_ok-push_fronts_within.ensures ∙ ap (λ (fs : List PlainPrefix). draft.prefixes.items ++ map (prefix_within c.args.name.now) fs) (c.deref-2.ensures.value ∙ ap (λ (t : Tables). t.prefixes.items) held))
     (c.in_ok-push_leaves_moved.ensures ∙ ap (λ (ls : List Leaf). draft.leaves.items ++ map (leaf_moved by) ls) (c.deref-3.ensures.value ∙ ap (λ (t : Tables). t.leaves.items) held))
     (c.in_ok-push_joins_moved.ensures ∙ ap (λ (js : List Join). draft.joins.items ++ map (join_moved by) js) (c.deref-4.ensures.value ∙ ap (λ (t : Tables). t.joins.items) held))
     (is ∙ ap (λ (es : List Edge). map (edge_moved by) es) (c.deref-5.ensures.value ∙ ap (λ (t : Tables). t.edges.items) held))

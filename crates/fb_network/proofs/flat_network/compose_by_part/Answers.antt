@@ -11,8 +11,8 @@ use Rattle.fb_network.proofs.flat_network.compose_by_part.Goals as goal
 
 pub take_instances-requires-clause-named : goal.take_instances-requires-clause-named
 take_instances-requires-clause-named g c =
-    let fronts = c.in_ok-draft.draft.fronts.items in
-    subst (λ (xs : List Instance). AreNamed fronts xs) (sym c.instances.ensures) (are_named fronts c.args.network.now c.in_ok-draft.ensures.own)
+    let prefixes = c.in_ok-draft.draft.prefixes.items in
+    subst (λ (xs : List Instance). AreNamed prefixes xs) (sym c.instances.ensures) (are_named prefixes c.args.network.now c.in_ok-draft.ensures.own)
 
 pub push_links-requires-clause-table : goal.push_links-requires-clause-table
 push_links-requires-clause-table g c =
@@ -22,7 +22,7 @@ push_links-requires-clause-table g c =
 
 pub push_links-requires-clause-own : goal.push_links-requires-clause-own
 push_links-requires-clause-own g c =
-    own_grown c.in_ok-draft.draft.fronts.items c.take_instances.new.draft.fronts.items c.args.network.now c.in_ok-table.ensures.grows c.in_ok-draft.ensures.own
+    own_grown c.in_ok-draft.draft.prefixes.items c.take_instances.new.draft.prefixes.items c.args.network.now c.in_ok-table.ensures.grows c.in_ok-draft.ensures.own
 
 pub finish-requires : goal.finish-requires
 finish-requires g c =

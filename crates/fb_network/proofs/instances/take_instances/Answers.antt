@@ -15,7 +15,7 @@ loop-place-init g c = holds_nothing c.args.draft.now (get name_cmp c.new-table.r
 pub take_instance-requires : goal.take_instance-requires
 take_instance-requires g c =
     let x = c.index-instances-place.result in
-    subst (λ (k : ℕ). Says c.loop-place.draft.fronts.items (record { front = 0; end = k }) x.name) (sym c.in_ok-number.ensures.same)
+    subst (λ (k : ℕ). Says c.loop-place.draft.prefixes.items (record { prefix = 0; end = k }) x.name) (sym c.in_ok-number.ensures.same)
     (says_grown c.loop-place.invariant.grows (c.requires.named c.loop-place.place x c.loop-place-test.true c.index-instances-place.is))
 
 pub loop-place-preserved : goal.loop-place-preserved

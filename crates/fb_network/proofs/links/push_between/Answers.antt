@@ -20,9 +20,9 @@ returns-in-Data g c = rw c.in-Data.is c.push_pairs-in-Data.ensures
 
 pub returns-in-Some : goal.returns-in-Some
 returns-in-Some g c =
-    let fronts = c.args.draft.now.fronts.items in
-    let froms = map (path_at fronts) c.args.froms.now in
-    let tos = map (path_at fronts) c.args.tos.now in
+    let prefixes = c.args.draft.now.prefixes.items in
+    let froms = map (path_at prefixes) c.args.froms.now in
+    let tos = map (path_at prefixes) c.args.tos.now in
     let found = sym (ap option_copied c.in-Some.is) ∙ c.find_adapter.ensures in
     let made = ap (λ (ports : List Port). adapter_links ports froms tos) c.ports.ensures ∙ (λ i. links_of_sort (sym c.in-Adapter.is i) (found i) froms tos) in
     subst (λ (links : List Link). OnOk c.push_members.result (AddsLinks c.args.draft.now c.push_members.new.draft links)) made c.push_members.ensures
@@ -30,7 +30,7 @@ returns-in-Some g c =
 pub returns-in-None : goal.returns-in-None
 returns-in-None g c =
     let draft = c.args.draft.now in
-    let froms = map (path_at draft.fronts.items) c.args.froms.now in
-    let tos = map (path_at draft.fronts.items) c.args.tos.now in
+    let froms = map (path_at draft.prefixes.items) c.args.froms.now in
+    let tos = map (path_at draft.prefixes.items) c.args.tos.now in
     rw c.in-Adapter.is
     (subst (λ (adapter : Option PlainNetwork). AddsLinks draft draft (links_of_sort Adapter adapter froms tos)) (sym (ap option_copied c.in-None.is) ∙ c.find_adapter.ensures) (adds_none draft))

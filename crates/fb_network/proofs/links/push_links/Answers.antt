@@ -17,18 +17,18 @@ loop-place-init g c = connects_none (g.V.Networks.networks c.args.view.now) c.ar
 pub push_connection_links-requires : goal.push_connection_links-requires
 push_connection_links-requires g c =
     let network = c.args.network.now in
-    let before = c.args.draft.now.fronts.items in
-    let fronts = c.loop-place.draft.fronts.items in
+    let before = c.args.draft.now.prefixes.items in
+    let prefixes = c.loop-place.draft.prefixes.items in
     let laid = c.requires.table in
     let connections = c.connections-connections.result.now in
     let grows = (c.loop-place.invariant laid.0 laid.1).grows in
-    let own = own_grown before fronts network grows c.requires.own in
+    let own = own_grown before prefixes network grows c.requires.own in
     let from_is = c.in_ok-source.ensures ∙ ap (λ (xs : List Instance). own_place (length xs + c.loop-place.place)) c.instances-sources.ensures in
     let to_is = c.in_ok-destination.ensures ∙ ap (λ (place : Place). own_place (length connections + place.end)) from_is in
     record {
-      table = (laid.0, table_grown before fronts laid.0 (get name_cmp c.args.table.now) network.instances grows laid.1);
-      source = says_source fronts network connections c.loop-place.place c.index-connections-place.result c.in_ok-source.source own c.connections-connections.ensures c.loop-place-test.true c.index-connections-place.is from_is;
-      destination = says_destination fronts network connections c.loop-place.place c.index-connections-place.result c.in_ok-destination.destination own c.connections-connections.ensures c.loop-place-test.true c.index-connections-place.is to_is;
+      table = (laid.0, table_grown before prefixes laid.0 (get name_cmp c.args.table.now) network.instances grows laid.1);
+      source = says_source prefixes network connections c.loop-place.place c.index-connections-place.result c.in_ok-source.source own c.connections-connections.ensures c.loop-place-test.true c.index-connections-place.is from_is;
+      destination = says_destination prefixes network connections c.loop-place.place c.index-connections-place.result c.in_ok-destination.destination own c.connections-connections.ensures c.loop-place-test.true c.index-connections-place.is to_is;
     }
 
 pub loop-place-preserved : goal.loop-place-preserved

@@ -11,7 +11,7 @@ use Rattle.fb_network.proofs.order.sort_edges.Goals as goal
 
 pub returns : goal.returns
 returns c =
-    let says = border_at c.args.fronts.now in
+    let says = border_at c.args.prefixes.now in
     sorted_once says border_cmp border_cmp_total (λ x y e. exact_border x y e) _ _ _ c.in_ok-sort_by.ensures.permutation
     (c.in_ok-sort_by.ensures.sorted (λ a b. is_lt (border_cmp (says a) (says b))) (ranks_by border_cmp_total says)
     (always_returns_same _ (λ a r. is_lt r ≡ is_lt (border_cmp (says a.0.now) (says a.1.0.now))) _ (λ a r f' k. search rules)))

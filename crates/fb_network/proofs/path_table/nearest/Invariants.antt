@@ -1,8 +1,8 @@
--- No front that ends at a later point stands for anything.
+-- No prefix that ends at a later point stands for anything.
 use Rattle.std.proofs.Common.{◌≡◌}
 use Rattle.std.specs.HashMap.{get_by_text}
-use Rattle.fb_network.specs.Fronts.{nearest}
-use Rattle.fb_network.proofs.FrontLemmas.{nearest_below}
+use Rattle.fb_network.specs.Prefixes.{nearest}
+use Rattle.fb_network.proofs.PrefixLemmas.{nearest_below}
 use Rattle.fb_network.proofs.path_table.nearest.Given as goal
 
 abbrev pub invariant-loop-i : goal.invariant-loop-i

@@ -4,4 +4,4 @@ use Rattle.fb_network.proofs.Alike.{SameLeftBy}
 use Rattle.fb_network.proofs.same.are_same_edges.Given as goal
 
 abbrev pub invariant-loop-place : goal.invariant-loop-place
-invariant-loop-place l = SameLeftBy (border_at l.fronts) (border_at l.others) l.a l.b l.place
+invariant-loop-place l = SameLeftBy (border_at l.prefixes) (border_at l.others) l.a l.b l.place

@@ -4,4 +4,4 @@ use Rattle.fb_network.proofs.Alike.{SameLeftBy}
 use Rattle.fb_network.proofs.same.are_same_joins.Given as goal
 
 abbrev pub invariant-loop-place : goal.invariant-loop-place
-invariant-loop-place l = SameLeftBy (link_at l.fronts) (link_at l.others) l.a l.b l.place
+invariant-loop-place l = SameLeftBy (link_at l.prefixes) (link_at l.others) l.a l.b l.place

@@ -4,4 +4,4 @@ use Rattle.fb_network.proofs.Alike.{SameLeftBy}
 use Rattle.fb_network.proofs.same.are_same_leaves.Given as goal
 
 abbrev pub invariant-loop-place : goal.invariant-loop-place
-invariant-loop-place l = SameLeftBy (block_at l.fronts) (block_at l.others) l.a l.b l.place
+invariant-loop-place l = SameLeftBy (block_at l.prefixes) (block_at l.others) l.a l.b l.place

@@ -5,7 +5,7 @@ use Rattle.fb_structured_text.specs.Part.{part_tree}
 use Rattle.fb_grammar.specs.Form.{many}
 use Rattle.fb_grammar.specs.Reading.{read}
 use Rattle.fb_grammar.specs.Words.{further}
-use Rattle.fb_grammar.specs.Repetition.{with_front}
+use Rattle.fb_grammar.specs.Repetition.{with_prefix}
 use Rattle.fb_structured_text.proofs.expression_reader.+expression.Given as goal
 
 -- A level is left behind in parentheses and in brackets; within one, the way leads from weaker operators to stronger ones.
@@ -69,7 +69,7 @@ abbrev pub decreases-further_expression : goal.decreases-further_expression
 decreases-further_expression l = l.below * 64 + 68
 
 abbrev pub invariant-expressions-loop-alloc : goal.invariant-expressions-loop-alloc
-invariant-expressions-loop-alloc l = with_front (map expression_tree l.expressions.items) (read (many (further (expression l.below))) l.rest) ≡ read (expressions (expression l.below)) l.tokens
+invariant-expressions-loop-alloc l = with_prefix (map expression_tree l.expressions.items) (read (many (further (expression l.below))) l.rest) ≡ read (expressions (expression l.below)) l.tokens
 
 abbrev pub decreases-expressions-loop-alloc : goal.decreases-expressions-loop-alloc
 decreases-expressions-loop-alloc l = length l.rest
@@ -77,7 +77,7 @@ decreases-expressions-loop-alloc l = length l.rest
 abbrev pub invariant-operands-loop-alloc : goal.invariant-operands-loop-alloc
 invariant-operands-loop-alloc l =
     let several = many (operand_at l.strength l.left) in
-    with_front (map operand_tree l.operands.items) (read several l.rest) ≡ read several l.tokens
+    with_prefix (map operand_tree l.operands.items) (read several l.rest) ≡ read several l.tokens
 
 abbrev pub decreases-operands-loop-alloc : goal.decreases-operands-loop-alloc
 decreases-operands-loop-alloc l = length l.rest
@@ -85,7 +85,7 @@ decreases-operands-loop-alloc l = length l.rest
 abbrev pub invariant-further_parts-loop-alloc : goal.invariant-further_parts-loop-alloc
 invariant-further_parts-loop-alloc l =
     let several = many (further_part (deep_part (expression l.below))) in
-    with_front (map part_tree l.parts.items) (read several l.rest) ≡ read several l.tokens
+    with_prefix (map part_tree l.parts.items) (read several l.rest) ≡ read several l.tokens
 
 abbrev pub decreases-further_parts-loop-alloc : goal.decreases-further_parts-loop-alloc
 decreases-further_parts-loop-alloc l = length l.rest

@@ -36,13 +36,13 @@ returns-in_ok-share-in-Refused c =
     let story : BenchView = c.self.inside.history in
     let s : State = state_of story in
     let edits : List Edit = edits_of c.first_changes-changes.result.now in
-    let front : edits ≡ listed c.args.changes.now = ap edits_of c.first_changes-changes.ensures in
+    let prefix : edits ≡ listed c.args.changes.now = ap edits_of c.first_changes-changes.ensures in
     let refused = rw c.in-Refused.is at c.in_ok-outcome.ensures in
     let answer : c.in-Refused.refused ≡ commit_answer s edits = refused.0 ∙ ap (λ m. answer_at m (c.self.inside.commits + 1) c.self.inside.library edits) c.most_units-most_units.ensures ∙ answer_kept story c.self.inside.library c.self.inside.commits edits c.self.invariant.agrees.units_are c.self.invariant.agrees.commits_are in
     record {
-      step = bench_pushed story _ _ c.args.caller (ToCommit edits) _ c.self.view_is (c.in_ok-share-in-Refused.ensures.ok ∙ ap (λ it. logged story c.args.caller it (reply_of c.in_ok-stored-in-Refused.stored)) (ap ToCommit c.in_ok-of_changes.ensures)) (c.in_ok-stored-in-Refused.ensures ∙ commits_is s edits edits c.in-Refused.refused refl answer) ∙ ap (λ es. recorded c.args.self.now c.args.caller (ToCommit es)) front;
-      answer = commits_is s (listed c.args.changes.now) edits c.in-Refused.refused (sym front) answer ∙ ap (λ st. reply (state_of st) (ToCommit (listed c.args.changes.now))) c.self.view_is;
-      share = share_pushed story _ _ c.args.caller (ToCommit edits) _ c.self.view_is (c.in_ok-share-in-Refused.ensures.share ∙ ap (λ it. record_after story c.args.caller it (reply_of c.in_ok-stored-in-Refused.stored)) (ap ToCommit c.in_ok-of_changes.ensures)) (c.in_ok-stored-in-Refused.ensures ∙ commits_is s edits edits c.in-Refused.refused refl answer) ∙ ap (λ es. record_of c.args.self.now c.args.caller (ToCommit es)) front;
+      step = bench_pushed story _ _ c.args.caller (ToCommit edits) _ c.self.view_is (c.in_ok-share-in-Refused.ensures.ok ∙ ap (λ it. logged story c.args.caller it (reply_of c.in_ok-stored-in-Refused.stored)) (ap ToCommit c.in_ok-of_changes.ensures)) (c.in_ok-stored-in-Refused.ensures ∙ commits_is s edits edits c.in-Refused.refused refl answer) ∙ ap (λ es. recorded c.args.self.now c.args.caller (ToCommit es)) prefix;
+      answer = commits_is s (listed c.args.changes.now) edits c.in-Refused.refused (sym prefix) answer ∙ ap (λ st. reply (state_of st) (ToCommit (listed c.args.changes.now))) c.self.view_is;
+      share = share_pushed story _ _ c.args.caller (ToCommit edits) _ c.self.view_is (c.in_ok-share-in-Refused.ensures.share ∙ ap (λ it. record_after story c.args.caller it (reply_of c.in_ok-stored-in-Refused.stored)) (ap ToCommit c.in_ok-of_changes.ensures)) (c.in_ok-stored-in-Refused.ensures ∙ commits_is s edits edits c.in-Refused.refused refl answer) ∙ ap (λ es. record_of c.args.self.now c.args.caller (ToCommit es)) prefix;
       full = search rules;
       err = tt;
     }
@@ -86,14 +86,14 @@ returns-in_ok-share-in-Done c =
     let story : BenchView = c.self.inside.history in
     let s : State = state_of story in
     let edits : List Edit = edits_of c.first_changes-changes.result.now in
-    let front : edits ≡ listed c.args.changes.now = ap edits_of c.first_changes-changes.ensures in
+    let prefix : edits ≡ listed c.args.changes.now = ap edits_of c.first_changes-changes.ensures in
     let number : ℕ = c.self.inside.commits + 1 in
     let done = rw c.in-Done.is at c.in_ok-outcome.ensures in
     let answer : Done number ≡ commit_answer s edits = done.0 ∙ ap (λ m. answer_at m number c.self.inside.library edits) c.most_units-most_units.ensures ∙ answer_kept story c.self.inside.library c.self.inside.commits edits c.self.invariant.agrees.units_are c.self.invariant.agrees.commits_are in
     record {
-      step = bench_pushed story _ _ c.args.caller (ToCommit edits) _ c.self.view_is (c.in_ok-share-in-Done.ensures.logged ∙ ap (λ it. logged story c.args.caller it (reply_of c.in_ok-stored-in-Done.stored)) (ap ToCommit c.in_ok-of_changes.ensures)) (c.in_ok-stored-in-Done.ensures ∙ commits_is s edits edits (Done number) refl answer) ∙ ap (λ es. recorded c.args.self.now c.args.caller (ToCommit es)) front;
-      answer = commits_is s (listed c.args.changes.now) edits (Done number) (sym front) answer ∙ ap (λ st. reply (state_of st) (ToCommit (listed c.args.changes.now))) c.self.view_is;
-      share = share_pushed story _ _ c.args.caller (ToCommit edits) _ c.self.view_is (c.in_ok-share-in-Done.ensures.share ∙ ap (λ it. record_after story c.args.caller it (reply_of c.in_ok-stored-in-Done.stored)) (ap ToCommit c.in_ok-of_changes.ensures)) (c.in_ok-stored-in-Done.ensures ∙ commits_is s edits edits (Done number) refl answer) ∙ ap (λ es. record_of c.args.self.now c.args.caller (ToCommit es)) front;
+      step = bench_pushed story _ _ c.args.caller (ToCommit edits) _ c.self.view_is (c.in_ok-share-in-Done.ensures.logged ∙ ap (λ it. logged story c.args.caller it (reply_of c.in_ok-stored-in-Done.stored)) (ap ToCommit c.in_ok-of_changes.ensures)) (c.in_ok-stored-in-Done.ensures ∙ commits_is s edits edits (Done number) refl answer) ∙ ap (λ es. recorded c.args.self.now c.args.caller (ToCommit es)) prefix;
+      answer = commits_is s (listed c.args.changes.now) edits (Done number) (sym prefix) answer ∙ ap (λ st. reply (state_of st) (ToCommit (listed c.args.changes.now))) c.self.view_is;
+      share = share_pushed story _ _ c.args.caller (ToCommit edits) _ c.self.view_is (c.in_ok-share-in-Done.ensures.share ∙ ap (λ it. record_after story c.args.caller it (reply_of c.in_ok-stored-in-Done.stored)) (ap ToCommit c.in_ok-of_changes.ensures)) (c.in_ok-stored-in-Done.ensures ∙ commits_is s edits edits (Done number) refl answer) ∙ ap (λ es. record_of c.args.self.now c.args.caller (ToCommit es)) prefix;
       full = search rules;
       err = tt;
     }

@@ -11,13 +11,13 @@ not_other false e = absurd (let no : ⊥ = cc in no)
 
 pub returns-then-eq : goal.returns-then-eq
 returns-then-eq c = λ point.
-    let front = c.split_at.result.0.now in
+    let prefix = c.split_at.result.0.now in
     let name = c.split_at.result.1.now in
     let first = c.split_at-2.result.0.now in
     let rest = c.split_at-2.result.1.now in
-    let block : c.args.block.now ≡ front ++ name = sym (take-append-drop (length c.args.start.now) c.args.block.now) ∙ (λ i. sym c.split_at.ensures.front i ++ sym c.split_at.ensures.back i) in
+    let block : c.args.block.now ≡ prefix ++ name = sym (take-append-drop (length c.args.start.now) c.args.block.now) ∙ (λ i. sym c.split_at.ensures.front i ++ sym c.split_at.ensures.back i) in
     let end : c.args.end.now ≡ first ++ rest = sym (take-append-drop (length name) c.args.end.now) ∙ (λ i. sym c.split_at-2.ensures.front i ++ sym c.split_at-2.ensures.back i) in
-    let same : front ≡ c.args.start.now = same_text front c.args.start.now (not_other _ (sym c.ne.ensures ∙ c.if-ne.false)) in
+    let same : prefix ≡ c.args.start.now = same_text prefix c.args.start.now (not_other _ (sym c.ne.ensures ∙ c.if-ne.false)) in
     let alike : first ≡ name = same_text first name (sym c.eq.ensures ∙ c.if-eq.true) in
     let some : 0 < length rest = omega (arith, c.split_at-2.ensures.back_len, c.if-end-name.false) in
-    inside_parts c.args.start.now c.args.end.now c.args.block.now front name first rest block end same alike some point
+    inside_parts c.args.start.now c.args.end.now c.args.block.now prefix name first rest block end same alike some point

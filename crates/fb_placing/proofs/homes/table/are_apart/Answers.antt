@@ -4,7 +4,7 @@ use denote.Shadow.{shadow}
 use denote.Text.{Utf8}
 use Rattle.std.specs.Borrow.{Bor}
 use Rattle.std.proofs.lemmas.List.{take_all}
-use Rattle.fb_network.specs.Fronts.{nearest}
+use Rattle.fb_network.specs.Prefixes.{nearest}
 use Rattle.fb_placing.specs.Points.{HasNoPoint}
 use Rattle.fb_placing.specs.HomeTable.{home_by_path}
 use Rattle.fb_placing.proofs.ApartLemmas.{AreClear, all_clear, clear_name, clear_parted, one_clear}

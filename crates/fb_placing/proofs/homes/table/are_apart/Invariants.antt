@@ -2,7 +2,7 @@
 use Rattle.std.proofs.Common.{◌≡◌, None, take}
 use denote.Shadow.{shadow}
 use denote.Text.{Utf8}
-use Rattle.fb_network.specs.Fronts.{nearest}
+use Rattle.fb_network.specs.Prefixes.{nearest}
 use Rattle.fb_placing.specs.HomeTable.{home_by_path}
 use Rattle.fb_placing.proofs.ApartLemmas.{AreClear}
 use Rattle.fb_placing.proofs.homes.table.are_apart.Given as goal

@@ -1,7 +1,7 @@
 use Rattle.std.proofs.Common.{◌≡◌, arith, sym, ap, ◌∙◌, length, take, drop, replicate, ◌-◌}
 use Rattle.std.specs.Str.{str_to_ascii_uppercase}
 use Rattle.std.proofs.lemmas.List.{length-set, take_all}
-use Rattle.fb_text.proofs.NameLemmas.{front_more, rest_more, IsName-upper}
+use Rattle.fb_text.proofs.NameLemmas.{prefix_more, rest_more, IsName-upper}
 use Rattle.fb_text.proofs.short_name.ShortName.of_word.Goals as goal
 use Rattle.fb_text.proofs.short_name.ShortName.of_word.Goals.{After-loop-i}
 
@@ -10,7 +10,7 @@ loop-i-preserved c =
     let before = c.loop-i.invariant in
     record {
       room = length-set _ _ _ ∙ before.room;
-      front = front_more c.loop-i.bytes c.args.word.now c.loop-i.i _ (omega arith) (omega arith) c.to_ascii_uppercase.ensures.value before.front;
+      prefix = prefix_more c.loop-i.bytes c.args.word.now c.loop-i.i _ (omega arith) (omega arith) c.to_ascii_uppercase.ensures.value before.prefix;
       rest = rest_more 22 c.loop-i.bytes c.loop-i.i _ (omega arith) before.room before.rest;
     }
 
@@ -18,7 +18,7 @@ loop-i-preserved c =
 written : (c : After-loop-i) → take (length c.args.word.now) c.loop-i.bytes ≡ str_to_ascii_uppercase c.args.word.now
 written c =
     let whole : length c.args.word.now ≡ c.loop-i.i = omega arith in
-    ap (λ n. take n c.loop-i.bytes) whole ∙ c.loop-i.invariant.front ∙ ap str_to_ascii_uppercase (take_all c.loop-i.i c.args.word.now (omega arith))
+    ap (λ n. take n c.loop-i.bytes) whole ∙ c.loop-i.invariant.prefix ∙ ap str_to_ascii_uppercase (take_all c.loop-i.i c.args.word.now (omega arith))
 
 pub invariant_of-result : goal.invariant_of-result
 invariant_of-result c =

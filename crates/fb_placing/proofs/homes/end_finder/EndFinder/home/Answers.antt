@@ -1,6 +1,6 @@
 -- The end is in the block that was found last.
 use Rattle.std.proofs.Common.{◌≡◌, ◌++◌, ◌∷◌, ℕ, List, string_bytes, sym, ◌∙◌, ap}
-use Rattle.fb_network.specs.Fronts.{nearest}
+use Rattle.fb_network.specs.Prefixes.{nearest}
 use Rattle.fb_placing.specs.HomeTable.{home_by_path}
 use Rattle.fb_placing.proofs.ApartLemmas.{apart_inside}
 use Rattle.fb_placing.proofs.homes.end_finder.EndFinder.home.Goals as goal

@@ -1,7 +1,7 @@
--- Fronts in plain.
+-- Prefixes in plain.
 use Rattle.std.specs.Prelude.{ℕ, List}
 
 -- the start of some paths, and the texts that may stand behind it
-pub record PlainFront : Type 0 where
+pub record PlainPrefix : Type 0 where
   pub start : List ℕ
   pub ends : List (List ℕ)

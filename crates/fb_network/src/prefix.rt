@@ -1,6 +1,6 @@
-//! Fronts, and paths in two parts.
+//! Prefixes, and paths in two parts.
 ghost use Rattle.std.specs.Prelude.{◌≡◌, ◌++◌, IfOk};
-ghost use Rattle.fb_network.specs.Laid.{front_within, path_of_end};
+ghost use Rattle.fb_network.specs.Laid.{prefix_within, path_of_end};
 
 use crate::path::Path;
 use fb_tree::text::Name;
@@ -10,28 +10,28 @@ use std::sync::Arc;
 
 /// The start of some paths, and the texts that may stand behind it, which places of one type share.
 #[derive(Debug, Drop)]
-pub struct Front {
+pub struct Prefix {
     start: Path,
     ends: Arc<Vec<Path>>,
 }
 
-impl Model for Front {
-    ghost use Rattle.fb_network.specs.PlainFront.{PlainFront};
+impl Model for Prefix {
+    ghost use Rattle.fb_network.specs.PlainPrefix.{PlainPrefix};
 
-    ghost Value = { PlainFront };
+    ghost Value = { PlainPrefix };
 
     ghost view = { λ it. record { start = it.start; ends = it.ends.value.items } };
 }
 
-impl Front {
-    /// The front of this start and of these ends.
-    pub fn new(start: Path, ends: Arc<Vec<Path>>) -> Front
+impl Prefix {
+    /// The prefix of this start and of these ends.
+    pub fn new(start: Path, ends: Arc<Vec<Path>>) -> Prefix
         ensures { result ≡ record { start = start; ends = ends.value.items } }
     {
-        Front { start, ends }
+        Prefix { start, ends }
     }
 
-    /// The two parts of the path of an end. An end that the front has not is no text.
+    /// The two parts of the path of an end. An end that the prefix has not is no text.
     pub fn parts(&self, end: u32) -> (&str, &str)
         ensures { result.0.now ++ result.1.now ≡ path_of_end self.now end }
     {
@@ -41,12 +41,12 @@ impl Front {
         }
     }
 
-    /// This front, inside the instance of that name.
-    pub fn within(&self, alloc: Global, name: &Name) -> Result<Front, AllocError>
-        ensures { IfOk result (λ front. front ≡ front_within name.now self.now) }
+    /// This prefix, inside the instance of that name.
+    pub fn within(&self, alloc: Global, name: &Name) -> Result<Prefix, AllocError>
+        ensures { IfOk result (λ prefix. prefix ≡ prefix_within name.now self.now) }
     {
         let start = self.start.within(alloc, name)?;
         let ends = self.ends.clone()?;
-        Ok(Front { start, ends })
+        Ok(Prefix { start, ends })
     }
 }

@@ -1,14 +1,14 @@
 //! Why a run fails.
 //! The texts are here because `fb_program` and `fb_serve` both print them.
 ghost use Rattle.std.specs.Prelude.{◌≡◌};
-ghost use Rattle.fb_wire.specs.Faults.{fault_of};
+ghost use Rattle.fb_wire.specs.RunErrors.{error_of};
 
 use crate::end::RunEnd;
 use thiserror::Error;
 
 /// Why a run did not reach the end of its input.
 #[derive(Clone, Copy, Debug, PartialEq, Eq, Error)]
-pub enum Fault {
+pub enum RunError {
     #[error("line too long")]
     LineTooLong,
     #[error("read failed")]
@@ -22,15 +22,15 @@ pub enum Fault {
 }
 
 /// The fault of an end, or none where the input ended.
-pub fn fault_of(end: RunEnd) -> Option<Fault>
-    ensures { result ≡ fault_of end }
+pub fn error_of(end: RunEnd) -> Option<RunError>
+    ensures { result ≡ error_of end }
 {
     match end {
         RunEnd::End => None,
-        RunEnd::LineTooLong => Some(Fault::LineTooLong),
-        RunEnd::ReadFailed => Some(Fault::ReadFailed),
-        RunEnd::WriteFailed => Some(Fault::WriteFailed),
-        RunEnd::TurnsOver => Some(Fault::TurnsOver),
-        RunEnd::Memory => Some(Fault::Memory),
+        RunEnd::LineTooLong => Some(RunError::LineTooLong),
+        RunEnd::ReadFailed => Some(RunError::ReadFailed),
+        RunEnd::WriteFailed => Some(RunError::WriteFailed),
+        RunEnd::TurnsOver => Some(RunError::TurnsOver),
+        RunEnd::Memory => Some(RunError::Memory),
     }
 }
