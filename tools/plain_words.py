@@ -40,7 +40,7 @@ WORDS = {
     r"as many as|so many|as much as|so much": "up to, the number of, or a number with its unit",
     r"com(?:e|es|ing) to|came to": "reaches, becomes, ends in",
     r"lies?|lying": "is",
-    r"prefixes?(?! of\b)": "prefix",
+    r"fronts?(?! of\b)": "prefix",
     r"in front of": "before",
     r"behind": "after, or under",
     r"anew": "again",
