@@ -3,7 +3,7 @@ use Rattle.fb_laws.proofs.Common.{◌≡◌, ◌≢◌, ℕ, true, List, [], ◌
 use Rattle.std.specs.Prelude.{Contains, map}
 use Rattle.std.proofs.lemmas.Bool.Decides.{nat_tests}
 use Rattle.fb_text.specs.Spelling.{IsName}
-use Rattle.fb_text.proofs.NameLemmas.{both}
+use Rattle.std.proofs.lemmas.Bool.{and_parts}
 use Rattle.fb_laws.proofs.Standing.{name_in, of_token, spelled_word, tree_stands}
 
 -- no byte is a point or a blank
@@ -25,7 +25,7 @@ no_blank b h e = grind (arith, nat_tests)
 
 all_plain : (bs : List ℕ) → list_all is_word_byte bs ≡ true → AllPlain bs
 all_plain [] h = tt
-all_plain (b ∷ bs) h = let p = both h in (no_point b p.0, no_blank b p.0, all_plain bs p.1)
+all_plain (b ∷ bs) h = let p = and_parts (is_word_byte b) (list_all is_word_byte bs) h in (no_point b p.0, no_blank b p.0, all_plain bs p.1)
 
 plain_name : (name : List ℕ) → IsName name → IsPlain name
 unfolding is_word
