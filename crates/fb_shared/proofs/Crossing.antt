@@ -34,8 +34,8 @@ use Rattle.fb_wiring.specs.Network.contracts.flat.Border as Border
 use Rattle.fb_wiring.specs.Network.contracts.flat.Flat as Flat
 use Rattle.fb_wiring.specs.contracts.nets.Net as Net
 use Rattle.fb_locked.specs.Placing.contracts.homes.Misplaced as Misplaced
-use Rattle.fb_locked.specs.Placing.contracts.command.Command as Command
-use Rattle.fb_locked.specs.Placing.contracts.resources.ResourcePlan as ResourcePlan
+use Rattle.fb_locked.specs.Placing.contracts.plan.command.Command as Command
+use Rattle.fb_locked.specs.Placing.contracts.plan.resources.ResourcePlan as ResourcePlan
 use Rattle.fb_locked.specs.Deploy.contracts.planning.Deploy as Deploy
 use Rattle.fb_locked.specs.Jobs.contracts.value.Value as Value
 use Rattle.fb_locked.specs.Jobs.contracts.read.Read as Read
