@@ -1,13 +1,12 @@
 //! The program's arguments.
-ghost use Rattle.std.specs.Prelude.{◌≡◌, ◌≤◌, IfOk, IfSome, List, codes, false, map, true};
+ghost use Rattle.std.specs.Prelude.{◌≡◌, ◌≤◌, List, map, IfOk, IfSome, false, true, codes};
 ghost use Rattle.clap.specs.Words.{app_of, found_of, rows_of, rule_of, subcommand_rows_of};
-ghost use Rattle.fb_program.specs.Words.{AreLimitsIn, Asks, IsAsked, IsHost, IsNumberIn, IsScript, IsServe, bench_app, history_option, idle_option, number_option, port_option, secret_option, units_option, workers_option};
+ghost use Rattle.fb_program.specs.Words.{IsNumberIn, IsAsked, Asks, IsHost, IsScript, IsServe, bench_app, number_option, units_option, history_option, port_option, workers_option, idle_option, secret_option};
 
-use crate::asked::{HostSettings, ServerSettings, Settings};
+use crate::asked;
 use clap::builder::ValueParser;
 use clap::error::ErrorKind;
 use clap::{Arg, ArgMatches, Command, Error};
-use fb_wire::bench::Limits;
 use std::alloc::{AllocError, Global};
 
 const MOST_PORT: u64 = 65_535;
@@ -159,58 +158,54 @@ fn number_at(matches: &ArgMatches<'_>, name: &str, least: u64, most: u64) -> Opt
     }
 }
 
-fn limits_in(matches: &ArgMatches<'_>) -> Option<Limits>
-    ensures { IfSome result (AreLimitsIn (rows_of (found_of matches.now))) }
+fn script_in<'a>(matches: &ArgMatches<'a>) -> Option<asked::Settings<'a>>
+    ensures { IfSome result (IsScript (rows_of (found_of matches.now))) }
 {
     let units = number_at(matches, "units", 1, MOST_UNITS)?;
     let history = number_at(matches, "history", 1, MOST_HISTORY)?;
-    let limits = Limits::new(units, history)?;
-    Some(limits)
+    Some(asked::Settings::Script { units, history })
 }
 
-fn script_in<'a>(matches: &ArgMatches<'a>) -> Option<Settings<'a>>
-    ensures { IfSome result (IsScript (rows_of (found_of matches.now))) }
-{
-    let limits = limits_in(matches)?;
-    Some(Settings::Script(limits))
-}
-
-fn serve_in<'a>(matches: &ArgMatches<'a>) -> Option<Settings<'a>>
+fn serve_in<'a>(matches: &ArgMatches<'a>) -> Option<asked::Settings<'a>>
     ensures { IfSome result (IsServe (rows_of (found_of matches.now))) }
 {
     let port = number_at(matches, "port", 0, MOST_PORT)?;
     let workers = number_at(matches, "workers", 1, MOST_WORKERS)?;
     let sessions = number_at(matches, "sessions", 1, MOST_SESSIONS)?;
-    let limits = limits_in(matches)?;
-    Some(Settings::Serve(ServerSettings {
+    let units = number_at(matches, "units", 1, MOST_UNITS)?;
+    let history = number_at(matches, "history", 1, MOST_HISTORY)?;
+    Some(asked::Settings::Serve {
         port: port as u16,
         workers: workers as u8,
         sessions: sessions as u8,
-        limits,
-    }))
+        units,
+        history,
+    })
 }
 
-fn host_in<'a>(matches: &ArgMatches<'a>) -> Option<Settings<'a>>
+fn host_in<'a>(matches: &ArgMatches<'a>) -> Option<asked::Settings<'a>>
     ensures { IfSome result (IsHost (rows_of (found_of matches.now))) }
 {
     let port = number_at(matches, "port", 0, MOST_PORT)?;
     let workers = number_at(matches, "workers", 1, MOST_WORKERS)?;
     let seats = number_at(matches, "sessions", 1, MOST_SESSIONS)?;
-    let limits = limits_in(matches)?;
+    let units = number_at(matches, "units", 1, MOST_UNITS)?;
+    let history = number_at(matches, "history", 1, MOST_HISTORY)?;
     let idle = number_at(matches, "idle", 0, MOST_IDLE)?;
     let connections = number_at(matches, "connections", 1, MOST_CONNECTIONS)?;
-    Some(Settings::Host(HostSettings {
+    Some(asked::Settings::Host {
         port: port as u16,
         workers: workers as u8,
         sessions: seats as u8,
-        limits,
+        units,
+        history,
         secret: matches.get_str("secret"),
         idle,
         connections,
-    }))
+    })
 }
 
-fn asked_in<'a>(matches: &ArgMatches<'a>) -> Option<Settings<'a>>
+fn asked_in<'a>(matches: &ArgMatches<'a>) -> Option<asked::Settings<'a>>
     ensures { IfSome result (λ s. IsAsked (subcommand_rows_of matches.now) s) }
 {
     if let Some(script) = matches.subcommand_matches("script") {
@@ -225,7 +220,7 @@ fn asked_in<'a>(matches: &ArgMatches<'a>) -> Option<Settings<'a>>
 
 /// Reads the program's words, of which the first is its name. A request for help is an error, as in
 /// `clap`.
-pub fn settings<'a>(alloc: Global, words: &'a [&'a str]) -> Result<Settings<'a>, Error>
+pub fn settings<'a>(alloc: Global, words: &'a [&'a str]) -> Result<asked::Settings<'a>, Error>
     ensures { IfOk result (λ settings. Asks (map (λ word. word.now) words.now) settings) }
 {
     let mut command = command(alloc)?;
