@@ -3,7 +3,9 @@
 
 use fb_host::{PATIENCE, Terms, host};
 use fb_program::wire::{FromRead, IntoWrite};
-use fb_program::{Outcome, refuse_secret, refuse_words, secret_in};
+use fb_program::{
+    HostSettings, Outcome, ServerSettings, refuse_secret, refuse_words, run, secret_in,
+};
 use fb_serve::{ServerConfig, serve};
 use std::alloc::{AllocError, Global};
 use std::process::ExitCode;
@@ -24,20 +26,6 @@ fn texts<'a>(alloc: Global, words: &'a [String]) -> Result<Vec<&'a str>, AllocEr
 /// How many milliseconds a minute has.
 const MINUTE: u64 = 60_000;
 
-fn run<'a>(rt: &HostRuntime, texts: &'a [&'a str]) -> Outcome<'a> {
-    let mut errors = rt.stderr();
-    let mut reader = FromRead::new(rt.stdin());
-    let mut writer = IntoWrite::new(rt.stdout());
-    fb_program::run(
-        rt.alloc(),
-        texts,
-        &mut reader,
-        &mut writer,
-        &mut errors,
-        TURNS,
-    )
-}
-
 fn words(rt: &HostRuntime) -> io::Result<Vec<String>> {
     let words: Result<Vec<String>, AllocError> = env::args(rt)?.collect(rt.alloc());
     Ok(words?)
@@ -45,70 +33,65 @@ fn words(rt: &HostRuntime) -> io::Result<Vec<String>> {
 
 /// The bytes of the file of the secret: none if no file is named, or none can be read.
 fn secret_bytes(rt: &HostRuntime, path: Option<&str>) -> Vec<u8> {
-    let bytes = match path {
-        Some(path) => fs::read(rt, path),
-        None => return Vec::new(rt.alloc()),
+    let Some(path) = path else {
+        return Vec::new(rt.alloc());
     };
-    match bytes {
+    match fs::read(rt, path) {
         Ok(bytes) => bytes,
         Err(_) => Vec::new(rt.alloc()),
     }
 }
 
+fn config_of(settings: ServerSettings) -> ServerConfig {
+    ServerConfig {
+        workers: settings.workers,
+        sessions: settings.sessions,
+        limits: settings.limits,
+    }
+}
+
+fn terms_of(settings: HostSettings<'_>) -> Terms {
+    Terms {
+        workers: settings.workers,
+        sessions: settings.sessions,
+        limits: settings.limits,
+        patience: PATIENCE,
+        idle: settings.idle.saturating_mul(MINUTE),
+        connections: settings.connections,
+    }
+}
+
 fn main(rt: HostRuntime) -> ExitCode {
+    let alloc = rt.alloc();
     let words = match words(&rt) {
         Ok(words) => words,
         Err(error) => return ExitCode::from(refuse_words(error.kind(), &mut rt.stderr())),
     };
-    let Ok(texts) = texts(rt.alloc(), &words) else {
+    let Ok(texts) = texts(alloc, &words) else {
         return ExitCode::from(refuse_words(io::ErrorKind::OutOfMemory, &mut rt.stderr()));
     };
-    match run(&rt, &texts) {
-        Outcome::Ended(status) => ExitCode::from(status),
-        Outcome::Serves {
-            port,
-            workers,
-            sessions,
-            limits,
-        } => {
-            let numbers = ServerConfig {
-                workers,
-                sessions,
-                limits,
-            };
-            let mut writer = IntoWrite::new(rt.stdout());
-            let mut errors = rt.stderr();
-            let ended = serve(&rt, rt.alloc(), port, numbers, &mut writer, &mut errors);
-            ExitCode::from(ended.status)
+    let mut reader = FromRead::new(rt.stdin());
+    let mut writer = IntoWrite::new(rt.stdout());
+    let mut errors = rt.stderr();
+    let outcome = run(alloc, &texts, &mut reader, &mut writer, &mut errors, TURNS);
+    let mut writer = IntoWrite::new(rt.stdout());
+    ExitCode::from(match outcome {
+        Outcome::Ended(status) => status,
+        Outcome::Serves(it) => {
+            let config = config_of(it);
+            serve(&rt, alloc, it.port, config, &mut writer, &mut errors).status
         }
-        Outcome::Hosts {
-            port,
-            workers,
-            sessions,
-            limits,
-            secret,
-            idle,
-            connections,
-        } => {
-            let terms = Terms {
-                workers,
-                sessions,
-                limits,
-                patience: PATIENCE,
-                idle: idle.saturating_mul(MINUTE),
-                connections,
-            };
-            let bytes = secret_bytes(&rt, secret);
-            let line = secret_in(&bytes).unwrap_or(&[]);
-            if let Some(path) = secret {
-                if line.is_empty() {
-                    return ExitCode::from(refuse_secret(path, &mut rt.stderr()));
+        Outcome::Hosts(it) => {
+            let bytes = secret_bytes(&rt, it.secret);
+            let secret = secret_in(&bytes).unwrap_or(&[]);
+            if let Some(path) = it.secret {
+                if secret.is_empty() {
+                    return ExitCode::from(refuse_secret(path, &mut errors));
                 }
             }
-            let mut writer = IntoWrite::new(rt.stdout());
-            let errors = Mutex::new(rt.stderr());
-            let ended = host(&rt, rt.alloc(), port, terms, line, &mut writer, &errors);
-            ExitCode::from(ended.status)
+            let terms = terms_of(it);
+            let errors = Mutex::new(errors);
+            host(&rt, alloc, it.port, terms, secret, &mut writer, &errors).status
         }
-    }
+    })
 }

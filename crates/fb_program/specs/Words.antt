@@ -1,10 +1,11 @@
 -- What the program's words ask for.
-use Rattle.std.specs.Prelude.{◌≡◌, ◌≤◌, ℕ, List, [], ◌∷◌, codes, true, Option, Some, option_map}
+use Rattle.std.specs.Prelude.{◌≡◌, ◌≤◌, ℕ, [], ◌∷◌, List, Option, Some, codes, option_map, true}
 use Rattle.std.specs.Str.Parse.{digits_value, without_leading_plus}
 use Rattle.clap.specs.Words.{App, Row, Rule, Text, new_app, new_rule, one_of, subcommand_of, with_rule, with_subcommand}
 use Rattle.clap.specs.declared.builder.value_parser.ValueParser.TheVariants as reads
+use Rattle.fb_wire.specs.History.Limits.{Bounds}
 use Rattle.fb_program.specs.declared.asked.Settings.{Settings}
-use Rattle.fb_program.specs.declared.asked.Settings.TheVariants.{Script, Serve, Host}
+use Rattle.fb_program.specs.declared.asked.Settings.TheVariants.{Host, Script, Serve}
 
 -- an option `--name N` with N from 1 to a most, and its default
 abbrev pub number_option : Text → ℕ → Text → Rule
@@ -64,36 +65,41 @@ number_of name rows = option_map (λ text. digits_value 10 (without_leading_plus
 abbrev pub IsNumberIn : ℕ → ℕ → Text → List Row → ℕ → Type 0
 IsNumberIn least most name rows number = (number_of name rows ≡ Some number) × (least ≤ number) × (number ≤ most)
 
+-- the limits are those of these matches
+abbrev pub AreLimitsIn : List Row → Bounds → Type 0
+AreLimitsIn rows limits = IsNumberIn 1 16384 (codes "units") rows limits.units × IsNumberIn 1 10000000 (codes "history") rows limits.history
+
 -- the settings of a script are those of these matches
 abbrev pub IsScript : List Row → Settings → Type 0
-IsScript rows (Script units history) = IsNumberIn 1 16384 (codes "units") rows units × IsNumberIn 1 10000000 (codes "history") rows history
-IsScript rows (Serve port workers sessions units history) = ⊥
-IsScript rows (Host port workers sessions units history secret idle connections) = ⊥
+IsScript rows (Script limits) = AreLimitsIn rows limits
+IsScript rows (Serve it) = ⊥
+IsScript rows (Host it) = ⊥
+
+-- the port, the workers, the sessions and the limits are those of these matches
+abbrev pub AreServerNumbersIn : List Row → (port workers sessions : ℕ) → Bounds → Type 0
+AreServerNumbersIn rows port workers sessions limits =
+    IsNumberIn 0 65535 (codes "port") rows port × IsNumberIn 1 16 (codes "workers") rows workers × IsNumberIn 1 64 (codes "sessions") rows sessions
+    × AreLimitsIn rows limits
 
 -- the settings of a server are those of these matches
 abbrev pub IsServe : List Row → Settings → Type 0
-IsServe rows (Script units history) = ⊥
-IsServe rows (Serve port workers sessions units history) =
-    IsNumberIn 0 65535 (codes "port") rows port × IsNumberIn 1 16 (codes "workers") rows workers × IsNumberIn 1 64 (codes "sessions") rows sessions
-    × IsNumberIn 1 16384 (codes "units") rows units × IsNumberIn 1 10000000 (codes "history") rows history
-IsServe rows (Host port workers sessions units history secret idle connections) = ⊥
+IsServe rows (Script limits) = ⊥
+IsServe rows (Serve it) = AreServerNumbersIn rows it.port it.workers it.sessions it.limits
+IsServe rows (Host it) = ⊥
 
 -- the settings of a server that stays are those of these matches, but for the name of the file, of which nothing is said
 abbrev pub IsHost : List Row → Settings → Type 0
-IsHost rows (Script units history) = ⊥
-IsHost rows (Serve port workers sessions units history) = ⊥
-IsHost rows (Host port workers sessions units history secret idle connections) =
-    IsNumberIn 0 65535 (codes "port") rows port × IsNumberIn 1 16 (codes "workers") rows workers × IsNumberIn 1 64 (codes "sessions") rows sessions
-    × IsNumberIn 1 16384 (codes "units") rows units × IsNumberIn 1 10000000 (codes "history") rows history
-    × IsNumberIn 0 10080 (codes "idle") rows idle × IsNumberIn 1 1000000000 (codes "connections") rows connections
+IsHost rows (Script limits) = ⊥
+IsHost rows (Serve it) = ⊥
+IsHost rows (Host it) =
+    AreServerNumbersIn rows it.port it.workers it.sessions it.limits
+    × IsNumberIn 0 10080 (codes "idle") rows it.idle × IsNumberIn 1 1000000000 (codes "connections") rows it.connections
 
 -- the settings are those of this subcommand and its matches
 abbrev pub IsAsked : Option (Text × List Row) → Settings → Type 0
-IsAsked found (Script units history) = (rows : List Row) × (found ≡ Some (codes "script", rows)) × IsScript rows (Script units history)
-IsAsked found (Serve port workers sessions units history) =
-    (rows : List Row) × (found ≡ Some (codes "serve", rows)) × IsServe rows (Serve port workers sessions units history)
-IsAsked found (Host port workers sessions units history secret idle connections) =
-    (rows : List Row) × (found ≡ Some (codes "host", rows)) × IsHost rows (Host port workers sessions units history secret idle connections)
+IsAsked found (Script limits) = (rows : List Row) × (found ≡ Some (codes "script", rows)) × IsScript rows (Script limits)
+IsAsked found (Serve it) = (rows : List Row) × (found ≡ Some (codes "serve", rows)) × IsServe rows (Serve it)
+IsAsked found (Host it) = (rows : List Row) × (found ≡ Some (codes "host", rows)) × IsHost rows (Host it)
 
 -- The words, of which the first is the program's name, ask for these settings: by the subcommand that they name
 -- and by clap's matches of its options.

@@ -1,12 +1,13 @@
 //! The program's arguments.
-ghost use Rattle.std.specs.Prelude.{◌≡◌, ◌≤◌, List, map, IfOk, IfSome, false, true, codes};
+ghost use Rattle.std.specs.Prelude.{◌≡◌, ◌≤◌, IfOk, IfSome, List, codes, false, map, true};
 ghost use Rattle.clap.specs.Words.{app_of, found_of, rows_of, rule_of, subcommand_rows_of};
-ghost use Rattle.fb_program.specs.Words.{IsNumberIn, IsAsked, Asks, IsHost, IsScript, IsServe, bench_app, number_option, units_option, history_option, port_option, workers_option, idle_option, secret_option};
+ghost use Rattle.fb_program.specs.Words.{AreLimitsIn, Asks, IsAsked, IsHost, IsNumberIn, IsScript, IsServe, bench_app, history_option, idle_option, number_option, port_option, secret_option, units_option, workers_option};
 
-use crate::asked;
+use crate::asked::{HostSettings, ServerSettings, Settings};
 use clap::builder::ValueParser;
 use clap::error::ErrorKind;
 use clap::{Arg, ArgMatches, Command, Error};
+use fb_wire::bench::Limits;
 use std::alloc::{AllocError, Global};
 
 const MOST_PORT: u64 = 65_535;
@@ -158,54 +159,58 @@ fn number_at(matches: &ArgMatches<'_>, name: &str, least: u64, most: u64) -> Opt
     }
 }
 
-fn script_in<'a>(matches: &ArgMatches<'a>) -> Option<asked::Settings<'a>>
-    ensures { IfSome result (IsScript (rows_of (found_of matches.now))) }
+fn limits_in(matches: &ArgMatches<'_>) -> Option<Limits>
+    ensures { IfSome result (AreLimitsIn (rows_of (found_of matches.now))) }
 {
     let units = number_at(matches, "units", 1, MOST_UNITS)?;
     let history = number_at(matches, "history", 1, MOST_HISTORY)?;
-    Some(asked::Settings::Script { units, history })
+    let limits = Limits::new(units, history)?;
+    Some(limits)
 }
 
-fn serve_in<'a>(matches: &ArgMatches<'a>) -> Option<asked::Settings<'a>>
+fn script_in<'a>(matches: &ArgMatches<'a>) -> Option<Settings<'a>>
+    ensures { IfSome result (IsScript (rows_of (found_of matches.now))) }
+{
+    let limits = limits_in(matches)?;
+    Some(Settings::Script(limits))
+}
+
+fn serve_in<'a>(matches: &ArgMatches<'a>) -> Option<Settings<'a>>
     ensures { IfSome result (IsServe (rows_of (found_of matches.now))) }
 {
     let port = number_at(matches, "port", 0, MOST_PORT)?;
     let workers = number_at(matches, "workers", 1, MOST_WORKERS)?;
     let sessions = number_at(matches, "sessions", 1, MOST_SESSIONS)?;
-    let units = number_at(matches, "units", 1, MOST_UNITS)?;
-    let history = number_at(matches, "history", 1, MOST_HISTORY)?;
-    Some(asked::Settings::Serve {
+    let limits = limits_in(matches)?;
+    Some(Settings::Serve(ServerSettings {
         port: port as u16,
         workers: workers as u8,
         sessions: sessions as u8,
-        units,
-        history,
-    })
+        limits,
+    }))
 }
 
-fn host_in<'a>(matches: &ArgMatches<'a>) -> Option<asked::Settings<'a>>
+fn host_in<'a>(matches: &ArgMatches<'a>) -> Option<Settings<'a>>
     ensures { IfSome result (IsHost (rows_of (found_of matches.now))) }
 {
     let port = number_at(matches, "port", 0, MOST_PORT)?;
     let workers = number_at(matches, "workers", 1, MOST_WORKERS)?;
     let seats = number_at(matches, "sessions", 1, MOST_SESSIONS)?;
-    let units = number_at(matches, "units", 1, MOST_UNITS)?;
-    let history = number_at(matches, "history", 1, MOST_HISTORY)?;
+    let limits = limits_in(matches)?;
     let idle = number_at(matches, "idle", 0, MOST_IDLE)?;
     let connections = number_at(matches, "connections", 1, MOST_CONNECTIONS)?;
-    Some(asked::Settings::Host {
+    Some(Settings::Host(HostSettings {
         port: port as u16,
         workers: workers as u8,
         sessions: seats as u8,
-        units,
-        history,
+        limits,
         secret: matches.get_str("secret"),
         idle,
         connections,
-    })
+    }))
 }
 
-fn asked_in<'a>(matches: &ArgMatches<'a>) -> Option<asked::Settings<'a>>
+fn asked_in<'a>(matches: &ArgMatches<'a>) -> Option<Settings<'a>>
     ensures { IfSome result (λ s. IsAsked (subcommand_rows_of matches.now) s) }
 {
     if let Some(script) = matches.subcommand_matches("script") {
@@ -220,7 +225,7 @@ fn asked_in<'a>(matches: &ArgMatches<'a>) -> Option<asked::Settings<'a>>
 
 /// Reads the program's words, of which the first is its name. A request for help is an error, as in
 /// `clap`.
-pub fn settings<'a>(alloc: Global, words: &'a [&'a str]) -> Result<asked::Settings<'a>, Error>
+pub fn settings<'a>(alloc: Global, words: &'a [&'a str]) -> Result<Settings<'a>, Error>
     ensures { IfOk result (λ settings. Asks (map (λ word. word.now) words.now) settings) }
 {
     let mut command = command(alloc)?;

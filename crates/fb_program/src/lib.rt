@@ -7,7 +7,7 @@ mod program;
 mod secret;
 
 pub use arguments::settings;
-pub use asked::Settings;
+pub use asked::{HostSettings, ServerSettings, Settings};
 pub use program::{Outcome, refuse_words, run};
 pub use secret::{refuse_secret, secret_in};
 

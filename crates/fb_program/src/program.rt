@@ -1,12 +1,12 @@
 //! The program, over the streams that it gets.
-ghost use Rattle.std.specs.Prelude.{◌≡◌, ◌≢◌, ◌<◌, ◌≤◌, ◌++◌, ℕ, List, map, false};
+ghost use Rattle.std.specs.Prelude.{◌≡◌, ◌≢◌, ◌<◌, ◌≤◌, ◌++◌, ℕ, List, false, map};
 ghost use Rattle.std.specs.Io.KnownBytes.{IsAtEnd};
 ghost use Rattle.std.specs.declared.io.ErrorKind.TheVariants.{InvalidData};
 ghost use Rattle.fb_streams.specs.Streams.{StaysFlushed};
-ghost use Rattle.fb_program.specs.Program.{BenchSays, HasDone, SaysUntil};
+ghost use Rattle.fb_program.specs.Program.{BenchSays, HasDone};
 
 use crate::arguments::settings;
-use crate::asked::Settings;
+use crate::asked::{HostSettings, ServerSettings, Settings};
 use clap::Error;
 use clap::error::ErrorKind;
 use fb_wire::bench::{Bench, Limits};
@@ -32,47 +32,12 @@ pub enum Outcome<'a> {
     /// It is over, with this status of the program.
     Ended(u8),
     /// The words ask for a server, which is still to be run.
-    Serves {
-        port: u16,
-        workers: u8,
-        sessions: u8,
-        limits: Limits,
-    },
+    Serves(ServerSettings),
     /// The words ask for a server that stays, which is still to be run.
-    Hosts {
-        port: u16,
-        workers: u8,
-        sessions: u8,
-        limits: Limits,
-        secret: Option<&'a str>,
-        idle: u64,
-        connections: u64,
-    },
+    Hosts(HostSettings<'a>),
 }
 
-/// Runs the script on a new workbench.
-fn run_new<F: Feed, S: Sink>(
-    alloc: Global,
-    limits: Limits,
-    reader: &mut F,
-    writer: &mut S,
-    turns: u64,
-) -> RunEnd
-    requires reader { F.has_failed reader.old ≡ false }
-    requires open { F.has_ended reader.old ≡ false }
-    requires writer { S.has_failed writer.old ≡ false }
-    ensures said { (bytes : List ℕ) × (out : List ℕ)
-        × (F.given reader.new ≡ F.given reader.old ++ bytes)
-        × (S.held writer.new ≡ S.held writer.old ++ out)
-        × SaysUntil result limits.units limits.history bytes out }
-    ensures whole { result ≡ RunEnd.End → IsAtEnd (F.left reader.new) }
-    ensures flushed { StaysFlushed (S.is_flushed writer.old) (S.has_failed writer.new)
-        (S.is_flushed writer.new) }
-{
-    let mut bench = Bench::new(alloc, limits);
-    run_script(alloc, reader, writer, &mut bench, SCRIPT_CALLER, turns)
-}
-
+/// Runs the script on a new workbench, and gives the status.
 fn script<F: Feed, S: Sink, E: Write>(
     alloc: Global,
     limits: Limits,
@@ -88,12 +53,13 @@ fn script<F: Feed, S: Sink, E: Write>(
     ensures said { (bytes : List ℕ) × (out : List ℕ)
         × (F.given reader.new ≡ F.given reader.old ++ bytes)
         × (S.held writer.new ≡ S.held writer.old ++ out)
-        × BenchSays limits.units limits.history result bytes out }
+        × BenchSays limits result bytes out }
     ensures whole { result ≡ 0 → IsAtEnd (F.left reader.new) }
     ensures flushed { StaysFlushed (S.is_flushed writer.old) (S.has_failed writer.new)
         (S.is_flushed writer.new) }
 {
-    let end = run_new(alloc, limits, reader, writer, turns);
+    let mut bench = Bench::new(alloc, limits);
+    let end = run_script(alloc, reader, writer, &mut bench, SCRIPT_CALLER, turns);
     match error_of(end) {
         None => DONE,
         Some(fault) => {
@@ -159,49 +125,12 @@ pub fn run<'a, F: Feed, S: Sink, E: Write>(
         (S.is_flushed writer.new) }
 {
     match settings(alloc, words) {
-        Ok(Settings::Script { units, history }) => match Limits::new(units, history) {
-            Some(limits) => Outcome::Ended(script(alloc, limits, reader, writer, errors, turns)),
-            None => unreachable!(),
-        },
-        Ok(
-            Settings::Serve {
-                port,
-                workers,
-                sessions,
-                units,
-                history,
-            },
-        ) => match Limits::new(units, history) {
-            Some(limits) => Outcome::Serves {
-                port,
-                workers,
-                sessions,
-                limits,
-            },
-            None => unreachable!(),
-        },
-        Ok(
-            Settings::Host {
-                port,
-                workers,
-                sessions,
-                units,
-                history,
-                secret,
-                idle,
-                connections,
-            },
-        ) => match Limits::new(units, history) {
-            Some(limits) => Outcome::Hosts {
-                port,
-                workers,
-                sessions,
-                limits,
-                secret,
-                idle,
-                connections,
-            },
-            None => unreachable!(),
+        Ok(asked) => match asked {
+            Settings::Script(limits) => {
+                Outcome::Ended(script(alloc, limits, reader, writer, errors, turns))
+            }
+            Settings::Serve(server) => Outcome::Serves(server),
+            Settings::Host(host) => Outcome::Hosts(host),
         },
         Err(error) => Outcome::Ended(refuse(&error, errors)),
     }

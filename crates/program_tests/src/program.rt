@@ -1,7 +1,6 @@
 //! What the program's words ask for, and how its runs end.
 use fb_program::wire::{MemoryFeed, MemorySink};
 use fb_program::{Outcome, Settings, refuse_words, run, settings};
-use fb_wire::bench::Limits;
 use std::alloc::{AllocError, Global};
 use std::io::ErrorKind;
 use std::process::Abort;
@@ -42,11 +41,6 @@ fn is_ended(ended: &Ended, status: u8, output: &str, said: &str) -> bool {
         && ended.errors.as_slice() == said.as_bytes()
 }
 
-/// No status: the words ask for a server with these limits.
-fn none_of(_limits: Limits) -> Option<u8> {
-    None
-}
-
 fn run_over(alloc: Global, words: &[&str], input: &[u8], room: Room) -> Result<Ended, AllocError> {
     let mut reader = MemoryFeed::new(input, 8192, room.reads);
     let mut writer = MemorySink::new(alloc, 8192, room.writes);
@@ -60,7 +54,7 @@ fn run_over(alloc: Global, words: &[&str], input: &[u8], room: Room) -> Result<E
         room.turns,
     ) {
         Outcome::Ended(status) => Some(status),
-        Outcome::Serves { limits, .. } | Outcome::Hosts { limits, .. } => none_of(limits),
+        Outcome::Serves(_) | Outcome::Hosts(_) => None,
     };
     let output = writer.as_slice().to_vec(alloc)?;
     Ok(Ended {
@@ -79,10 +73,41 @@ fn words_of<'a>(alloc: Global, line: &'a str) -> Result<Vec<&'a str>, AllocError
     line.split_whitespace().collect(alloc)
 }
 
-/// Whether the words of a line ask for this, or for nothing.
-fn is_asked(alloc: Global, line: &str, expected: Option<Settings<'_>>) -> Result<bool, AllocError> {
+/// The settings, as a line.
+pub(crate) fn line_of(alloc: Global, settings: &Settings<'_>) -> Result<String, AllocError> {
+    match settings {
+        Settings::Script(limits) => {
+            format!(in alloc; "script {} {}", limits.units(), limits.history())
+        }
+        Settings::Serve(it) => format!(in alloc;
+            "serve {} {} {} {} {}",
+            it.port,
+            it.workers,
+            it.sessions,
+            it.limits.units(),
+            it.limits.history()
+        ),
+        Settings::Host(it) => format!(in alloc;
+            "host {} {} {} {} {} {:?} {} {}",
+            it.port,
+            it.workers,
+            it.sessions,
+            it.limits.units(),
+            it.limits.history(),
+            it.secret,
+            it.idle,
+            it.connections
+        ),
+    }
+}
+
+/// What the words of a line ask for, as a line, or nothing.
+fn asked_by(alloc: Global, line: &str) -> Result<Option<String>, AllocError> {
     let words = words_of(alloc, line)?;
-    Ok(settings(alloc, words.as_slice()).ok() == expected)
+    match settings(alloc, words.as_slice()) {
+        Ok(settings) => Ok(Some(line_of(alloc, &settings)?)),
+        Err(_) => Ok(None),
+    }
 }
 
 /// How a run of the words of a line ends, over one request.
@@ -91,67 +116,27 @@ fn ended_by(alloc: Global, line: &str) -> Result<Ended, AllocError> {
     run_over(alloc, words.as_slice(), TAKE, AMPLE)
 }
 
-fn compare_asked(
-    rt: &impl Abort,
-    alloc: Global,
-    rows: &[(&str, Option<Settings<'_>>)],
-) -> Result<(), Fail> {
+/// Words, and what they ask for, as a line.
+type Row = (&'static str, &'static str);
+
+fn compare_asked(rt: &impl Abort, alloc: Global, rows: &[Row]) -> Result<(), Fail> {
     for (line, expected) in rows {
-        is_right(rt, is_asked(alloc, line, *expected)?, line);
+        let asked = asked_by(alloc, line)?;
+        assert_eq!(rt; asked.as_deref(), Some(*expected), "{line}");
     }
     Ok(())
 }
 
-// Words, and what they ask for.
-const SCRIPTS: &[(&str, Option<Settings<'_>>)] = &[
-    (
-        "bench61499 script",
-        Some(Settings::Script {
-            units: 1024,
-            history: 100_000,
-        }),
-    ),
-    (
-        "bench61499 script --history 3",
-        Some(Settings::Script {
-            units: 1024,
-            history: 3,
-        }),
-    ),
-    (
-        "bench61499 script --history 5",
-        Some(Settings::Script {
-            units: 1024,
-            history: 5,
-        }),
-    ),
-    (
-        "bench61499 script --history 129",
-        Some(Settings::Script {
-            units: 1024,
-            history: 129,
-        }),
-    ),
-    (
-        "bench61499 script --units 1",
-        Some(Settings::Script {
-            units: 1,
-            history: 100_000,
-        }),
-    ),
-    (
-        "bench61499 script --units=16384",
-        Some(Settings::Script {
-            units: 16_384,
-            history: 100_000,
-        }),
-    ),
+const SCRIPTS: &[Row] = &[
+    ("bench61499 script", "script 1024 100000"),
+    ("bench61499 script --history 3", "script 1024 3"),
+    ("bench61499 script --history 5", "script 1024 5"),
+    ("bench61499 script --history 129", "script 1024 129"),
+    ("bench61499 script --units 1", "script 1 100000"),
+    ("bench61499 script --units=16384", "script 16384 100000"),
     (
         "bench61499 script --history=10000000",
-        Some(Settings::Script {
-            units: 1024,
-            history: 10_000_000,
-        }),
+        "script 1024 10000000",
     ),
 ];
 
@@ -160,103 +145,40 @@ fn words_give_settings(rt: HostRuntime) -> Result<(), Fail> {
     compare_asked(&rt, rt.alloc(), SCRIPTS)
 }
 
-// Words that ask for a server.
-const SERVED: &[(&str, Option<Settings<'_>>)] = &[
-    (
-        "bench61499 serve --port 0",
-        Some(Settings::Serve {
-            port: 0,
-            workers: 2,
-            sessions: 1,
-            units: 1024,
-            history: 100_000,
-        }),
-    ),
+// Words that ask for a server: its port, workers and sessions, and the limits.
+const SERVED: &[Row] = &[
+    ("bench61499 serve --port 0", "serve 0 2 1 1024 100000"),
     (
         "bench61499 serve --port=65535",
-        Some(Settings::Serve {
-            port: 65_535,
-            workers: 2,
-            sessions: 1,
-            units: 1024,
-            history: 100_000,
-        }),
+        "serve 65535 2 1 1024 100000",
     ),
     (
         "bench61499 serve --port 7 --workers 16 --sessions 64 --units 3 --history 9",
-        Some(Settings::Serve {
-            port: 7,
-            workers: 16,
-            sessions: 64,
-            units: 3,
-            history: 9,
-        }),
+        "serve 7 16 64 3 9",
     ),
     (
         "bench61499 serve --history 1 --sessions 1 --workers 1 --port 1",
-        Some(Settings::Serve {
-            port: 1,
-            workers: 1,
-            sessions: 1,
-            units: 1024,
-            history: 1,
-        }),
+        "serve 1 1 1 1024 1",
     ),
 ];
 
-// Words that ask for a server that stays.
-const HOSTED: &[(&str, Option<Settings<'_>>)] = &[
+// Words that ask for a server that stays: the same, the secret, the minutes, and the connections.
+const HOSTED: &[Row] = &[
     (
         "bench61499 host --port 7",
-        Some(Settings::Host {
-            port: 7,
-            workers: 2,
-            sessions: 16,
-            units: 1024,
-            history: 100_000,
-            secret: None,
-            idle: 0,
-            connections: 1_000_000_000,
-        }),
+        "host 7 2 16 1024 100000 None 0 1000000000",
     ),
     (
         "bench61499 host --port 0 --sessions 1 --workers 1 --units 1 --history 1 --secret s --idle 0 --connections 1",
-        Some(Settings::Host {
-            port: 0,
-            workers: 1,
-            sessions: 1,
-            units: 1,
-            history: 1,
-            secret: Some("s"),
-            idle: 0,
-            connections: 1,
-        }),
+        r#"host 0 1 1 1 1 Some("s") 0 1"#,
     ),
     (
         "bench61499 host --connections=1000000000 --idle=10080 --secret=a/b --history=10000000 --units=16384 --workers=16 --sessions=64 --port=65535",
-        Some(Settings::Host {
-            port: 65_535,
-            workers: 16,
-            sessions: 64,
-            units: 16_384,
-            history: 10_000_000,
-            secret: Some("a/b"),
-            idle: 10_080,
-            connections: 1_000_000_000,
-        }),
+        r#"host 65535 16 64 16384 10000000 Some("a/b") 10080 1000000000"#,
     ),
     (
         "bench61499 host --port 6149 --sessions 3 --workers 5 --units 17 --history 19 --idle 23 --connections 29",
-        Some(Settings::Host {
-            port: 6149,
-            workers: 5,
-            sessions: 3,
-            units: 17,
-            history: 19,
-            secret: None,
-            idle: 23,
-            connections: 29,
-        }),
+        "host 6149 5 3 17 19 None 23 29",
     ),
 ];
 
@@ -266,11 +188,7 @@ fn is_given_back(alloc: Global, line: &str) -> Result<bool, AllocError> {
     Ok(ended.status.is_none() && ended.errors.is_empty() && ended.output.is_empty())
 }
 
-fn compare_served(
-    rt: &impl Abort,
-    alloc: Global,
-    rows: &[(&str, Option<Settings<'_>>)],
-) -> Result<(), Fail> {
+fn compare_served(rt: &impl Abort, alloc: Global, rows: &[Row]) -> Result<(), Fail> {
     for (line, _) in rows {
         is_right(rt, is_given_back(alloc, line)?, line);
     }
@@ -341,7 +259,7 @@ const REFUSED: &[&str] = &[
 fn is_refused(alloc: Global, line: &str) -> Result<bool, AllocError> {
     let ended = ended_by(alloc, line)?;
     let is_silent = ended.errors.is_empty() || !ended.output.is_empty();
-    Ok(ended.status == Some(2) && !is_silent && is_asked(alloc, line, None)?)
+    Ok(ended.status == Some(2) && !is_silent && asked_by(alloc, line)?.is_none())
 }
 
 fn compare_refused(rt: &impl Abort, alloc: Global, lines: &[&str]) -> Result<(), Fail> {
@@ -388,66 +306,24 @@ fn what_is_said_of_refused_words(rt: HostRuntime) -> Result<(), Fail> {
     compare_texts(&rt, rt.alloc(), TEXTS)
 }
 
-/// How a run of a script ends.
-struct ScriptRow {
-    request: &'static [u8],
-    /// This number of spaces follow the request.
-    spaces: usize,
-    room: Room,
-    status: u8,
-    output: &'static str,
-    said: &'static str,
-}
+/// A request, how many spaces follow it, and the room of a run; then its status, what it writes, and what it says on its errors.
+type Script = (&'static [u8], usize, Room, u8, &'static str, &'static str);
 
-const RUNS: &[ScriptRow] = &[
-    ScriptRow {
-        request: b"",
-        spaces: 0,
-        room: AMPLE,
-        status: 0,
-        output: "",
-        said: "",
-    },
-    ScriptRow {
-        request: TAKE,
-        spaces: 0,
-        room: AMPLE,
-        status: 0,
-        output: NO_JOB,
-        said: "",
-    },
-    ScriptRow {
-        request: TAKE,
-        spaces: 1_048_577,
-        room: AMPLE,
-        status: 1,
-        output: NO_JOB,
-        said: "bench61499: line too long\n",
-    },
-    ScriptRow {
-        request: TAKE,
-        spaces: 0,
-        room: Room { reads: 1, ..AMPLE },
-        status: 1,
-        output: NO_JOB,
-        said: "bench61499: read failed\n",
-    },
-    ScriptRow {
-        request: TAKE,
-        spaces: 0,
-        room: Room { writes: 0, ..AMPLE },
-        status: 1,
-        output: "",
-        said: "bench61499: write failed\n",
-    },
-    ScriptRow {
-        request: TAKE,
-        spaces: 0,
-        room: Room { turns: 1, ..AMPLE },
-        status: 1,
-        output: NO_JOB,
-        said: "bench61499: too many reads\n",
-    },
+const FEW_READS: Room = Room { reads: 1, ..AMPLE };
+
+const NO_WRITES: Room = Room { writes: 0, ..AMPLE };
+
+const ONE_TURN: Room = Room { turns: 1, ..AMPLE };
+
+const LONG: usize = 1_048_577;
+
+const RUNS: &[Script] = &[
+    (b"", 0, AMPLE, 0, "", ""),
+    (TAKE, 0, AMPLE, 0, NO_JOB, ""),
+    (TAKE, LONG, AMPLE, 1, NO_JOB, "bench61499: line too long\n"),
+    (TAKE, 0, FEW_READS, 1, NO_JOB, "bench61499: read failed\n"),
+    (TAKE, 0, NO_WRITES, 1, "", "bench61499: write failed\n"),
+    (TAKE, 0, ONE_TURN, 1, NO_JOB, "bench61499: too many reads\n"),
 ];
 
 /// A request, and this number of spaces after it.
@@ -457,16 +333,15 @@ fn input_with(alloc: Global, request: &[u8], spaces: usize) -> Result<Vec<u8>, A
     Ok(input)
 }
 
-fn is_run(alloc: Global, row: &ScriptRow) -> Result<bool, AllocError> {
-    let input = input_with(alloc, row.request, row.spaces)?;
-    let words = ["bench61499", "script"];
-    let ended = run_over(alloc, &words, input.as_slice(), row.room)?;
-    Ok(is_ended(&ended, row.status, row.output, row.said))
+fn ended_of(alloc: Global, request: &[u8], spaces: usize, room: Room) -> Result<Ended, AllocError> {
+    let input = input_with(alloc, request, spaces)?;
+    run_over(alloc, &["bench61499", "script"], input.as_slice(), room)
 }
 
-fn compare_runs(rt: &impl Abort, alloc: Global, rows: &[ScriptRow]) -> Result<(), Fail> {
-    for row in rows {
-        is_right(rt, is_run(alloc, row)?, row.said);
+fn compare_runs(rt: &impl Abort, alloc: Global, rows: &[Script]) -> Result<(), Fail> {
+    for (request, spaces, room, status, output, said) in rows {
+        let ended = ended_of(alloc, request, *spaces, *room)?;
+        is_right(rt, is_ended(&ended, *status, output, said), said);
     }
     Ok(())
 }

@@ -1,4 +1,5 @@
 //! The words of the program and its runs, of which each allocation is refused in turn.
+use crate::program::line_of;
 use fb_program::wire::{IntoWrite, MemoryFeed};
 use fb_program::{Outcome, Settings, run, settings};
 use refusing::{Refusals, Trial, refuse, report, try_call, was_refused};
@@ -30,18 +31,10 @@ impl Trial for Words {
     }
 
     fn told(&self, alloc: Global) -> Result<String, Fail> {
-        Ok(match &self.found {
-            Some(Settings::Script { units, history }) => {
-                format!(in alloc; "script {units} {history}")?
-            }
-            Some(Settings::Serve { port, workers, .. }) => {
-                format!(in alloc; "serve {port} {workers}")?
-            }
-            Some(Settings::Host { port, secret, .. }) => {
-                format!(in alloc; "host {port} {}", secret.unwrap_or("none"))?
-            }
-            None => String::new(alloc),
-        })
+        match &self.found {
+            Some(settings) => Ok(line_of(alloc, settings)?),
+            None => Ok(String::new(alloc)),
+        }
     }
 }
 

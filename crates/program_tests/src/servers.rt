@@ -79,12 +79,12 @@ fn serve_in_memory<R: Threads + Wait + Clock + Sync>(
     rt: &R,
     alloc: Global,
     listener: &TcpListener,
-    numbers: ServerConfig,
+    config: ServerConfig,
     good_writes: u64,
 ) -> Result<Served, AllocError> {
     let mut out = MemorySink::new(alloc, 8192, good_writes);
     let mut errors = Vec::new(alloc);
-    let ended = serve_on(rt, alloc, listener, numbers, &mut out, &mut errors);
+    let ended = serve_on(rt, alloc, listener, config, &mut out, &mut errors);
     let is_closed = ended.status == 0;
     Ok(Served {
         output: out.as_slice().to_vec(alloc)?,
@@ -131,7 +131,7 @@ fn talk_all<R: Net<Listener = TcpListener, Stream = TcpStream>>(
 }
 
 /// A server's numbers, how many of its writes are good, and what its clients say.
-#[derive(Drop)]
+#[derive(Clone, Copy)]
 struct Play<'a> {
     workers: u8,
     sessions: u8,
@@ -142,7 +142,7 @@ struct Play<'a> {
 }
 
 /// What the clients get, what the server prints after its greeting and on its errors, and whether it reaches its close.
-#[derive(Drop)]
+#[derive(Clone, Copy)]
 struct Wanted<'a> {
     told: &'a str,
     printed: &'a str,
@@ -154,24 +154,17 @@ struct Wanted<'a> {
 fn serve_texts<R: Net<Listener = TcpListener, Stream = TcpStream> + Threads + Wait + Clock + Sync>(
     rt: &R,
     alloc: Global,
-    workers: u8,
-    sessions: u8,
-    limits: Limits,
+    config: ServerConfig,
     good_writes: u64,
     texts: &[&str],
 ) -> Result<Ended, Fail> {
     let listener = TcpListener::bind(rt, "127.0.0.1:0")?;
     let port = listener.local_addr()?.port();
-    let numbers = ServerConfig {
-        workers,
-        sessions,
-        limits,
-    };
     let (served, told) = join(
         rt,
         || -> Result<Served, AllocError>
             requires { IsSync R.row }
-        { serve_in_memory(rt, alloc, &listener, numbers, good_writes) },
+        { serve_in_memory(rt, alloc, &listener, config, good_writes) },
         || talk_all(rt, alloc, port, texts),
     );
     let served = served?;
@@ -198,94 +191,96 @@ fn is_as_wanted(ended: &Ended, wanted: &Wanted<'_>) -> bool {
 fn compare<
     R: Net<Listener = TcpListener, Stream = TcpStream> + Threads + Wait + Clock + Sync + Abort,
 >(rt: &R, alloc: Global, play: &Play<'_>, wanted: &Wanted<'_>) -> Result<(), Fail> {
-    let Play {
-        workers,
-        sessions,
-        units,
-        history,
-        good_writes,
-        texts,
-    } = play;
-    let limits = Limits::new(*units, *history).ok_or("limits")?;
-    let ended = serve_texts(rt, alloc, *workers, *sessions, limits, *good_writes, texts)?;
+    let config = ServerConfig {
+        workers: play.workers,
+        sessions: play.sessions,
+        limits: Limits::new(play.units, play.history).ok_or("limits")?,
+    };
+    let ended = serve_texts(rt, alloc, config, play.good_writes, play.texts)?;
     assert!(rt; is_as_wanted(&ended, wanted), "{}", ended.told);
     Ok(())
 }
 
-#[test]
-fn one_session(rt: HostRuntime) -> Result<(), Fail> {
-    let play = Play {
-        workers: 1,
-        sessions: 1,
-        units: 16,
-        history: 1000,
-        good_writes: ALWAYS,
-        texts: &[FIRST],
-    };
-    let wanted = Wanted {
-        told: FIRST_TOLD,
-        printed: "closed\n",
-        errors: "",
-        is_closed: true,
-    };
-    compare(&rt, rt.alloc(), &play, &wanted)
+/// One client of a server of one worker.
+const ONE: Play<'static> = Play {
+    workers: 1,
+    sessions: 1,
+    units: 16,
+    history: 1000,
+    good_writes: ALWAYS,
+    texts: &[FIRST],
+};
+
+const CLOSED: Wanted<'static> = Wanted {
+    told: FIRST_TOLD,
+    printed: "closed\n",
+    errors: "",
+    is_closed: true,
+};
+
+/// What clients do, and what comes of it.
+const PLAYS: &[(Play<'static>, Wanted<'static>)] = &[
+    (ONE, CLOSED),
+    (
+        Play {
+            workers: 2,
+            sessions: 2,
+            texts: &[FIRST, SECOND],
+            ..ONE
+        },
+        Wanted {
+            told: BOTH_TOLD,
+            ..CLOSED
+        },
+    ),
+    (
+        Play {
+            texts: &[KEEPING],
+            ..ONE
+        },
+        Wanted {
+            told: KEEPING_TOLD,
+            ..CLOSED
+        },
+    ),
+    (
+        Play {
+            units: 1,
+            history: 4,
+            texts: &[OVER],
+            ..ONE
+        },
+        Wanted {
+            told: OVER_TOLD,
+            ..CLOSED
+        },
+    ),
+    // The line that tells of the close is not printed.
+    (
+        Play {
+            good_writes: 1,
+            ..ONE
+        },
+        Wanted {
+            printed: "",
+            is_closed: false,
+            ..CLOSED
+        },
+    ),
+];
+
+fn compare_all<
+    R: Net<Listener = TcpListener, Stream = TcpStream> + Threads + Wait + Clock + Sync + Abort,
+>(rt: &R, alloc: Global, plays: &[(Play<'_>, Wanted<'_>)]) -> Result<(), Fail> {
+    for (play, wanted) in plays {
+        compare(rt, alloc, play, wanted)?;
+    }
+    Ok(())
 }
 
 #[test]
-fn two_sessions(rt: HostRuntime) -> Result<(), Fail> {
-    let play = Play {
-        workers: 2,
-        sessions: 2,
-        units: 16,
-        history: 1000,
-        good_writes: ALWAYS,
-        texts: &[FIRST, SECOND],
-    };
-    let wanted = Wanted {
-        told: BOTH_TOLD,
-        printed: "closed\n",
-        errors: "",
-        is_closed: true,
-    };
-    compare(&rt, rt.alloc(), &play, &wanted)
-}
-
-#[test]
-fn a_session_makes_no_checkpoint(rt: HostRuntime) -> Result<(), Fail> {
-    let play = Play {
-        workers: 1,
-        sessions: 1,
-        units: 16,
-        history: 1000,
-        good_writes: ALWAYS,
-        texts: &[KEEPING],
-    };
-    let wanted = Wanted {
-        told: KEEPING_TOLD,
-        printed: "closed\n",
-        errors: "",
-        is_closed: true,
-    };
-    compare(&rt, rt.alloc(), &play, &wanted)
-}
-
-#[test]
-fn a_server_keeps_its_limits(rt: HostRuntime) -> Result<(), Fail> {
-    let play = Play {
-        workers: 1,
-        sessions: 1,
-        units: 1,
-        history: 4,
-        good_writes: ALWAYS,
-        texts: &[OVER],
-    };
-    let wanted = Wanted {
-        told: OVER_TOLD,
-        printed: "closed\n",
-        errors: "",
-        is_closed: true,
-    };
-    compare(&rt, rt.alloc(), &play, &wanted)
+fn servers_and_their_sessions(rt: HostRuntime) -> Result<(), Fail> {
+    compare_all(&rt, rt.alloc(), PLAYS)
 }
 
 /// A line that is too long.
@@ -298,37 +293,14 @@ pub(crate) fn long_line(alloc: Global) -> Result<String, Fail> {
 fn a_session_fails_alone(rt: HostRuntime) -> Result<(), Fail> {
     let line = long_line(rt.alloc())?;
     let play = Play {
-        workers: 1,
         sessions: 3,
-        units: 16,
-        history: 1000,
-        good_writes: ALWAYS,
         texts: &[FIRST, line.as_str(), SECOND],
+        ..ONE
     };
     let wanted = Wanted {
         told: BOTH_TOLD,
-        printed: "closed\n",
         errors: "session 2: line too long\n",
-        is_closed: true,
-    };
-    compare(&rt, rt.alloc(), &play, &wanted)
-}
-
-#[test]
-fn a_line_is_not_printed(rt: HostRuntime) -> Result<(), Fail> {
-    let play = Play {
-        workers: 1,
-        sessions: 1,
-        units: 16,
-        history: 1000,
-        good_writes: 1,
-        texts: &[FIRST],
-    };
-    let wanted = Wanted {
-        told: FIRST_TOLD,
-        printed: "",
-        errors: "",
-        is_closed: false,
+        ..CLOSED
     };
     compare(&rt, rt.alloc(), &play, &wanted)
 }
@@ -340,14 +312,14 @@ fn serve_none<R: Net<Listener = TcpListener, Stream = TcpStream> + Threads + Wai
     port: u16,
     limits: Limits,
 ) -> (bool, bool) {
-    let numbers = ServerConfig {
+    let config = ServerConfig {
         workers: 1,
         sessions: 0,
         limits,
     };
     let mut out = MemorySink::new(alloc, 100, ALWAYS);
     let mut errors = Vec::new(alloc);
-    let ended = serve(rt, alloc, port, numbers, &mut out, &mut errors);
+    let ended = serve(rt, alloc, port, config, &mut out, &mut errors);
     (
         ended.status == 0,
         out.as_slice().is_empty() && errors.is_empty(),

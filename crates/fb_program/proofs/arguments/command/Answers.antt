@@ -1,6 +1,6 @@
-use Rattle.std.proofs.Common.{rules, Bool, false, ◌||◌, ◌≡◌, ◌∙◌, ap, ap₂}
+use Rattle.std.proofs.Common.{◌||◌, ◌≡◌, ◌∙◌, Bool, ap, ap₂, false, rules}
 use Rattle.clap.specs.Words.{App, app_of, with_rule, with_subcommand}
-use Rattle.fb_program.specs.Words.{named_app, script_app, serve_app, host_app}
+use Rattle.fb_program.specs.Words.{host_app, named_app, script_app, serve_app}
 use Rattle.fb_program.proofs.arguments.command.Goals as goal
 
 neither : {a b : Bool} → a ≡ false → b ≡ false → a || b ≡ false

@@ -1,4 +1,4 @@
-use Rattle.std.proofs.Common.{◌≡◌, true, Option, List, map, refl, ap, ◌∙◌, subst}
+use Rattle.std.proofs.Common.{◌≡◌, ◌∙◌, List, Option, ap, map, refl, subst, true}
 use Rattle.clap.specs.Words.{App, Row, Text, app_of, is_simple, subcommand_of}
 use Rattle.fb_program.specs.Words.{IsAsked, bench_app}
 use Rattle.fb_program.proofs.arguments.settings.Goals as goal

@@ -1,4 +1,4 @@
-use Rattle.std.proofs.Common.{◌≡◌, ◌∙◌, None, refl, sym, arith}
+use Rattle.std.proofs.Common.{◌≡◌, ◌∙◌, None, arith, refl, sym}
 use Rattle.fb_wire.specs.RunErrors.{error_of}
 use Rattle.fb_wire.specs.declared.end.RunEnd.{RunEnd}
 use Rattle.fb_wire.specs.declared.end.RunEnd.TheVariants as end
@@ -14,16 +14,24 @@ ended end.Memory e = cc
 
 pub returns-in-None-clause-said : goal.returns-in-None-clause-said
 returns-in-None-clause-said g c =
-    let t = c.run_new-end.ensures.said in
-    (t.0, t.1, t.2, t.3, (λ zero. t.4.1 (ended _ (sym c.in-None.is ∙ c.error_of.ensures)), λ one. absurd (omega (arith, one))))
+    let t = c.run_script-end.ensures.0 in
+    let says = rw c.new-bench.ensures at c.run_script-end.ensures.2 in
+    (t.bytes, t.out, t.given, t.written, (λ zero. (says.1 (ended _ (sym c.in-None.is ∙ c.error_of.ensures))).0, λ one. absurd (omega (arith, one))))
 
 pub returns-in-None-clause-whole : goal.returns-in-None-clause-whole
-returns-in-None-clause-whole g c = λ zero. c.run_new-end.ensures.whole (ended _ (sym c.in-None.is ∙ c.error_of.ensures))
+returns-in-None-clause-whole g c = λ zero. c.run_script-end.ensures.0.shown.whole (ended _ (sym c.in-None.is ∙ c.error_of.ensures))
+
+pub returns-in-None-clause-flushed : goal.returns-in-None-clause-flushed
+returns-in-None-clause-flushed g c = c.run_script-end.ensures.0.shown.flushed
 
 pub returns-in-Some-clause-said : goal.returns-in-Some-clause-said
 returns-in-Some-clause-said g c =
-    let t = c.run_new-end.ensures.said in
-    (t.0, t.1, t.2, t.3, (λ zero. absurd (omega (arith, zero)), λ one. t.4.0))
+    let t = c.run_script-end.ensures.0 in
+    let says = rw c.new-bench.ensures at c.run_script-end.ensures.2 in
+    (t.bytes, t.out, t.given, t.written, (λ zero. absurd (omega (arith, zero)), λ one. says.0))
 
 pub returns-in-Some-clause-whole : goal.returns-in-Some-clause-whole
 returns-in-Some-clause-whole g c = λ zero. absurd (omega (arith, zero))
+
+pub returns-in-Some-clause-flushed : goal.returns-in-Some-clause-flushed
+returns-in-Some-clause-flushed g c = c.run_script-end.ensures.0.shown.flushed
