@@ -1,7 +1,7 @@
 //! The program `bench61499`: a workbench for IEC 61499 units that answers requests, one on each line.
 #![tactic(auto)]
 
-use fb_host::{PATIENCE, Terms, host};
+use fb_host::{FIRST_LINE_TIMEOUT, HostConfig, host};
 use fb_program::wire::{FromRead, IntoWrite};
 use fb_program::{
     HostSettings, Outcome, ServerSettings, refuse_secret, refuse_words, run, secret_in,
@@ -42,7 +42,7 @@ fn secret_bytes(rt: &HostRuntime, path: Option<&str>) -> Vec<u8> {
     }
 }
 
-fn config_of(settings: ServerSettings) -> ServerConfig {
+fn server_config(settings: ServerSettings) -> ServerConfig {
     ServerConfig {
         workers: settings.workers,
         sessions: settings.sessions,
@@ -50,13 +50,13 @@ fn config_of(settings: ServerSettings) -> ServerConfig {
     }
 }
 
-fn terms_of(settings: HostSettings<'_>) -> Terms {
-    Terms {
+fn host_config(settings: HostSettings<'_>) -> HostConfig {
+    HostConfig {
         workers: settings.workers,
         sessions: settings.sessions,
         limits: settings.limits,
-        patience: PATIENCE,
-        idle: settings.idle.saturating_mul(MINUTE),
+        first_line_timeout: FIRST_LINE_TIMEOUT,
+        idle_timeout: settings.idle.saturating_mul(MINUTE),
         connections: settings.connections,
     }
 }
@@ -78,7 +78,7 @@ fn main(rt: HostRuntime) -> ExitCode {
     ExitCode::from(match outcome {
         Outcome::Ended(status) => status,
         Outcome::Serves(it) => {
-            let config = config_of(it);
+            let config = server_config(it);
             serve(&rt, alloc, it.port, config, &mut writer, &mut errors).status
         }
         Outcome::Hosts(it) => {
@@ -89,9 +89,9 @@ fn main(rt: HostRuntime) -> ExitCode {
                     return ExitCode::from(refuse_secret(path, &mut errors));
                 }
             }
-            let terms = terms_of(it);
+            let config = host_config(it);
             let errors = Mutex::new(errors);
-            host(&rt, alloc, it.port, terms, secret, &mut writer, &errors).status
+            host(&rt, alloc, it.port, config, secret, &mut writer, &errors).status
         }
     })
 }

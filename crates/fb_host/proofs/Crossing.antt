@@ -2,45 +2,45 @@
 use denote.Param.Send.{IsSend, IsSync, sendable}
 use Rattle.std.proofs.Crossing.{crosses}
 use Rattle.fb_shared.proofs.Crossing.{receipt_send, shared_field_sync}
-use Rattle.fb_host.specs.contracts.drawer.Epoch as Epoch
-use Rattle.fb_host.specs.contracts.drawer.Drawer as Drawer
-use Rattle.fb_host.specs.contracts.guest.Guest as Guest
-use Rattle.fb_host.specs.contracts.counter.Waiting as Waiting
-use Rattle.fb_host.specs.contracts.counter.Counter as Counter
-use Rattle.fb_host.specs.contracts.threads.House as House
+use Rattle.fb_host.specs.contracts.receipt_store.EpochReceipts as EpochReceipts
+use Rattle.fb_host.specs.contracts.receipt_store.ReceiptStore as ReceiptStore
+use Rattle.fb_host.specs.contracts.connection.Connection as Connection
+use Rattle.fb_host.specs.contracts.connection_queue.QueueState as QueueState
+use Rattle.fb_host.specs.contracts.connection_queue.ConnectionQueue as ConnectionQueue
+use Rattle.fb_host.specs.contracts.threads.HostState as HostState
 
-epoch_field_send : IsSend (Epoch.the_field).row
-epoch_field_send = search (receipt_send, crosses, sendable) depth 60 fits 20000
+epoch_receipts_field_send : IsSend (EpochReceipts.the_field).row
+epoch_receipts_field_send = search (receipt_send, crosses, sendable) depth 60 fits 20000
 
-epoch_send : IsSend Epoch.the_row
-epoch_send = search (epoch_field_send, crosses, sendable) depth 60 fits 20000
+epoch_receipts_send : IsSend EpochReceipts.the_row
+epoch_receipts_send = search (epoch_receipts_field_send, crosses, sendable) depth 60 fits 20000
 
-drawer_field_sync : IsSync (Drawer.the_field).row
-drawer_field_sync = search (epoch_send, crosses, sendable) depth 60 fits 20000
+receipt_store_field_sync : IsSync (ReceiptStore.the_field).row
+receipt_store_field_sync = search (epoch_receipts_send, crosses, sendable) depth 60 fits 20000
 
-pub drawer_sync : IsSync Drawer.the_row
-drawer_sync = search (drawer_field_sync, crosses, sendable) depth 60 fits 20000
+pub receipt_store_sync : IsSync ReceiptStore.the_row
+receipt_store_sync = search (receipt_store_field_sync, crosses, sendable) depth 60 fits 20000
 
-guest_field_send : IsSend (Guest.the_field).row
-guest_field_send = search (crosses, sendable) depth 60 fits 20000
+connection_field_send : IsSend (Connection.the_field).row
+connection_field_send = search (crosses, sendable) depth 60 fits 20000
 
-guest_send : IsSend Guest.the_row
-guest_send = search (guest_field_send, crosses, sendable) depth 60 fits 20000
+connection_send : IsSend Connection.the_row
+connection_send = search (connection_field_send, crosses, sendable) depth 60 fits 20000
 
-waiting_field_send : IsSend (Waiting.the_field).row
-waiting_field_send = search (guest_send, crosses, sendable) depth 60 fits 20000
+queue_state_field_send : IsSend (QueueState.the_field).row
+queue_state_field_send = search (connection_send, crosses, sendable) depth 60 fits 20000
 
-waiting_send : IsSend Waiting.the_row
-waiting_send = search (waiting_field_send, crosses, sendable) depth 60 fits 20000
+queue_state_send : IsSend QueueState.the_row
+queue_state_send = search (queue_state_field_send, crosses, sendable) depth 60 fits 20000
 
-counter_field_sync : IsSync (Counter.the_field).row
-counter_field_sync = search (waiting_send, crosses, sendable) depth 60 fits 20000
+queue_field_sync : IsSync (ConnectionQueue.the_field).row
+queue_field_sync = search (queue_state_send, crosses, sendable) depth 60 fits 20000
 
-pub counter_sync : IsSync Counter.the_row
-counter_sync = search (counter_field_sync, crosses, sendable) depth 60 fits 20000
+pub queue_sync : IsSync ConnectionQueue.the_row
+queue_sync = search (queue_field_sync, crosses, sendable) depth 60 fits 20000
 
-house_field_sync : IsSync (House.the_field).row
-house_field_sync = search (shared_field_sync, drawer_field_sync, counter_field_sync, crosses, sendable) depth 60 fits 20000
+host_state_field_sync : IsSync (HostState.the_field).row
+host_state_field_sync = search (shared_field_sync, receipt_store_field_sync, queue_field_sync, crosses, sendable) depth 60 fits 20000
 
-pub house_sync : IsSync House.the_row
-house_sync = search (house_field_sync, crosses, sendable) depth 60 fits 20000
+pub host_state_sync : IsSync HostState.the_row
+host_state_sync = search (host_state_field_sync, crosses, sendable) depth 60 fits 20000

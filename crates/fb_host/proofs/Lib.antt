@@ -1,3 +1,3 @@
 pub mod Crossing
-pub mod Lodgings
+pub mod SessionLemmas
 pub mod Shorts

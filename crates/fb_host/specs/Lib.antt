@@ -1,3 +1,3 @@
-pub mod Lodging
+pub mod HostSessions
 pub mod Heads
 pub mod Short

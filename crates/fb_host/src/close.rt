@@ -6,7 +6,7 @@ ghost use Rattle.fb_locked.specs.History.BenchView.{turns_of};
 ghost use Rattle.fb_serve.specs.Shown.{ShowsAll};
 ghost use Rattle.fb_host.specs.Short.{is_short};
 
-use crate::drawer::Drawer;
+use crate::receipt_store::ReceiptStore;
 use crate::threads::Results;
 use fb_serve::{NotServed, Served};
 use fb_shared::bench::Bench;
@@ -19,7 +19,7 @@ pub(crate) fn close<R: Wait>(
     rt: &R,
     alloc: Global,
     shared: Shared,
-    drawer: Drawer,
+    store: ReceiptStore,
     results: Results,
 ) -> Result<Served, NotServed>
     ensures all { IfOk result
@@ -32,7 +32,7 @@ pub(crate) fn close<R: Wait>(
     if !is_whole {
         return Err(NotServed);
     }
-    let receipts = drawer.into_receipts(shared.before(rt));
+    let receipts = store.into_receipts(shared.before(rt));
     let Ok(closed) = shared.close(alloc, seats, &receipts) else {
         return Err(NotServed);
     };

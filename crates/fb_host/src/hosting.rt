@@ -5,9 +5,9 @@ ghost use Rattle.fb_serve.specs.Lines.{SaysLines};
 ghost use Rattle.fb_serve.specs.Shown.{ShowsAll};
 
 use crate::close::close;
-use crate::counter::Counter;
-use crate::drawer::Drawer;
-use crate::threads::{DOORS, House, run_house};
+use crate::connection_queue::ConnectionQueue;
+use crate::receipt_store::ReceiptStore;
+use crate::threads::{ADMISSION_THREADS, HostState, run_threads};
 use fb_serve::{Ended, NotServed, Served, greet};
 use fb_shared::Shared;
 use fb_wire::bench::Limits;
@@ -20,18 +20,18 @@ use std::thread::Threads;
 use std::time::Clock;
 
 /// How many milliseconds a connection may take to send its first line.
-pub const PATIENCE: u64 = 10_000;
+pub const FIRST_LINE_TIMEOUT: u64 = 10_000;
 
 /// How many callers of each sort a host has, the limits of its workbench, of which `history` is how many calls an epoch has, and whom it lets in.
 #[derive(Clone, Copy)]
-pub struct Terms {
+pub struct HostConfig {
     pub workers: u8,
     pub sessions: u8,
     pub limits: Limits,
     /// How many milliseconds a connection may take to send its first line.
-    pub patience: u64,
+    pub first_line_timeout: u64,
     /// How many milliseconds a session may be silent, or 0 if it may be so forever.
-    pub idle: u64,
+    pub idle_timeout: u64,
     /// After how many connections it closes.
     pub connections: u64,
 }
@@ -42,7 +42,7 @@ fn host_sessions<R: Threads + Wait + Clock + Sync, E: Write + Send>(
     rt: &R,
     alloc: Global,
     listener: &TcpListener,
-    terms: Terms,
+    config: HostConfig,
     secret: &[u8],
     errors: &Mutex<E>,
 ) -> Result<Served, NotServed>
@@ -50,32 +50,32 @@ fn host_sessions<R: Threads + Wait + Clock + Sync, E: Write + Send>(
     ensures all { IfOk result
         (λ served. ShowsAll served.closed.bench served.receipts.items) }
     ensures counts { IfOk result
-        (λ served. IsBookOf served.closed.counts (terms.sessions + terms.workers)
+        (λ served. IsBookOf served.closed.counts (config.sessions + config.workers)
         served.closed.bench) }
 {
-    let callers = u32::from(terms.sessions) + u32::from(terms.workers);
-    let (shared, mut seats) = Shared::rolling(alloc, terms.limits, callers)?;
-    let workers = seats.split_off(usize::from(terms.sessions))?;
-    let house = House {
+    let callers = u32::from(config.sessions) + u32::from(config.workers);
+    let (shared, mut seats) = Shared::rolling(alloc, config.limits, callers)?;
+    let workers = seats.split_off(usize::from(config.sessions))?;
+    let host = HostState {
         shared,
-        drawer: Drawer::new(alloc, terms.limits.history()),
-        doors: Counter::new(alloc, DOORS),
-        seats: Counter::new(alloc, u64::from(terms.sessions)),
-        patience: terms.patience,
-        idle: terms.idle,
-        connections: terms.connections,
+        receipts: ReceiptStore::new(alloc, config.limits.history()),
+        admission: ConnectionQueue::new(alloc, ADMISSION_THREADS),
+        seats: ConnectionQueue::new(alloc, u64::from(config.sessions)),
+        first_line_timeout: config.first_line_timeout,
+        idle_timeout: config.idle_timeout,
+        connections: config.connections,
     };
-    let results = run_house(rt, alloc, listener, &house, secret, errors, seats, workers);
-    let House {
+    let results = run_threads(rt, alloc, listener, &host, secret, errors, seats, workers);
+    let HostState {
         shared,
-        drawer,
-        doors: _,
+        receipts,
+        admission: _,
         seats: _,
-        patience: _,
-        idle: _,
+        first_line_timeout: _,
+        idle_timeout: _,
         connections: _,
-    } = house;
-    close(rt, alloc, shared, drawer, results)
+    } = host;
+    close(rt, alloc, shared, receipts, results)
 }
 
 /// Prints its address, hosts its sessions, and prints that it is closed.
@@ -83,7 +83,7 @@ fn host_and_close<R: Threads + Wait + Clock + Sync, S: Sink, E: Write + Send>(
     rt: &R,
     alloc: Global,
     listener: &TcpListener,
-    terms: Terms,
+    config: HostConfig,
     secret: &[u8],
     out: &mut S,
     errors: &Mutex<E>,
@@ -92,7 +92,7 @@ fn host_and_close<R: Threads + Wait + Clock + Sync, S: Sink, E: Write + Send>(
     ensures all { IfOk result
         (λ served. ShowsAll served.closed.bench served.receipts.items) }
     ensures counts { IfOk result
-        (λ served. IsBookOf served.closed.counts (terms.sessions + terms.workers)
+        (λ served. IsBookOf served.closed.counts (config.sessions + config.workers)
         served.closed.bench) }
     ensures said { SaysLines (is_ok result) (S.held out.old) (S.held out.new) }
     ensures flushed { OnOk result (S.is_flushed out.new ≡ true) }
@@ -100,7 +100,7 @@ fn host_and_close<R: Threads + Wait + Clock + Sync, S: Sink, E: Write + Send>(
     let Ok(()) = greet(alloc, listener, out) else {
         return Err(NotServed);
     };
-    let Ok(served) = host_sessions(rt, alloc, listener, terms, secret, errors) else {
+    let Ok(served) = host_sessions(rt, alloc, listener, config, secret, errors) else {
         return Err(NotServed);
     };
     match write_all(out, b"closed\n") {
@@ -114,7 +114,7 @@ pub fn host_on<R: Threads + Wait + Clock + Sync, S: Sink, E: Write + Send>(
     rt: &R,
     alloc: Global,
     listener: &TcpListener,
-    terms: Terms,
+    config: HostConfig,
     secret: &[u8],
     out: &mut S,
     errors: &Mutex<E>,
@@ -123,13 +123,13 @@ pub fn host_on<R: Threads + Wait + Clock + Sync, S: Sink, E: Write + Send>(
     ensures all { IfOk result.served
         (λ served. ShowsAll served.closed.bench served.receipts.items) }
     ensures counts { IfOk result.served
-        (λ served. IsBookOf served.closed.counts (terms.sessions + terms.workers)
+        (λ served. IsBookOf served.closed.counts (config.sessions + config.workers)
         served.closed.bench) }
     ensures said { SaysLines (is_ok result.served) (S.held out.old) (S.held out.new) }
     ensures flushed { OnOk result.served (S.is_flushed out.new ≡ true) }
     ensures status { result.status ≡ (if is_ok result.served then 0 else 1) }
 {
-    Ended::of(host_and_close(rt, alloc, listener, terms, secret, out, errors))
+    Ended::of(host_and_close(rt, alloc, listener, config, secret, out, errors))
 }
 
 /// Hosts as `host_on` does, on this port of 127.0.0.1; any free one for 0. If it cannot listen there, it says so on `errors`.
@@ -141,7 +141,7 @@ pub fn host<
     rt: &R,
     alloc: Global,
     port: u16,
-    terms: Terms,
+    config: HostConfig,
     secret: &[u8],
     out: &mut S,
     errors: &Mutex<E>,
@@ -150,14 +150,14 @@ pub fn host<
     ensures all { IfOk result.served
         (λ served. ShowsAll served.closed.bench served.receipts.items) }
     ensures counts { IfOk result.served
-        (λ served. IsBookOf served.closed.counts (terms.sessions + terms.workers)
+        (λ served. IsBookOf served.closed.counts (config.sessions + config.workers)
         served.closed.bench) }
     ensures said { SaysLines (is_ok result.served) (S.held out.old) (S.held out.new) }
     ensures flushed { OnOk result.served (S.is_flushed out.new ≡ true) }
     ensures status { result.status ≡ (if is_ok result.served then 0 else 1) }
 {
     match TcpListener::bind(rt, ("127.0.0.1", port)) {
-        Ok(listener) => host_on(rt, alloc, &listener, terms, secret, out, errors),
+        Ok(listener) => host_on(rt, alloc, &listener, config, secret, out, errors),
         Err(_) => {
             let _ = writeln!(
                 &mut *errors.lock(rt),

@@ -1,21 +1,21 @@
 //! A server that stays: sessions over TCP come and go, each with a free seat of one shared workbench, whose history begins again once it is full.
 #![tactic(auto)]
 
+mod admission;
 mod close;
-mod counter;
-mod door;
-mod drawer;
-mod guest;
+mod connection;
+mod connection_queue;
 mod head;
 mod hosting;
-mod lodger;
+mod receipt_store;
 mod session;
+mod session_desk;
+mod session_receipts;
 mod threads;
-mod told;
 
-pub use drawer::Drawer;
 pub use head::{is_secret, speaks_http};
-pub use hosting::{PATIENCE, Terms, host, host_on};
-pub use lodger::Lodger;
-pub use session::{Lodged, give_back_all, run_lodger};
-pub use told::Told;
+pub use hosting::{FIRST_LINE_TIMEOUT, HostConfig, host, host_on};
+pub use receipt_store::ReceiptStore;
+pub use session::{SessionResult, give_back_all, run_host_session};
+pub use session_desk::SessionDesk;
+pub use session_receipts::SessionReceipts;

@@ -1,12 +1,12 @@
-//! The threads of a host: doors, seats, and workers.
+//! The threads of a host: admission, sessions and workers.
 ghost use Rattle.std.specs.Prelude.{◌≡◌};
-ghost use Rattle.fb_host.specs.Lodging.{LeadsTo};
+ghost use Rattle.fb_host.specs.HostSessions.{LeadsTo};
 
-use crate::counter::Counter;
-use crate::door::keep_door;
-use crate::drawer::Drawer;
-use crate::guest::{Guest, Rest};
-use crate::session::{Lodged, give_back_all, run_lodger};
+use crate::admission::admit_connections;
+use crate::connection::{Connection, ConnectionReader};
+use crate::connection_queue::ConnectionQueue;
+use crate::receipt_store::ReceiptStore;
+use crate::session::{SessionResult, give_back_all, run_host_session};
 use fb_serve::{Place, keep_working, pause, say_error};
 use fb_shared::{Seat, Shared, WorkEnd};
 use fb_wire::{FromRead, IntoWrite, RunEnd, error_of};
@@ -21,23 +21,23 @@ use std::time::{Clock, Duration};
 /// How many reads a session may make.
 const TURNS: u64 = 1_000_000_000;
 
-/// How many looks a worker makes before its receipts go to the drawer.
+/// How many looks a worker makes before its receipts go to the store.
 const BATCH: u64 = 64;
 
 /// How many first lines are looked at at once.
-pub(crate) const DOORS: u64 = 32;
+pub(crate) const ADMISSION_THREADS: u64 = 32;
 
 /// How often in a row a listener may fail.
 const FAILURES: u64 = 600;
 
 /// What the threads of a host share.
-pub(crate) struct House {
+pub(crate) struct HostState {
     pub(crate) shared: Shared,
-    pub(crate) drawer: Drawer,
-    pub(crate) doors: Counter,
-    pub(crate) seats: Counter,
-    pub(crate) patience: u64,
-    pub(crate) idle: u64,
+    pub(crate) receipts: ReceiptStore,
+    pub(crate) admission: ConnectionQueue,
+    pub(crate) seats: ConnectionQueue,
+    pub(crate) first_line_timeout: u64,
+    pub(crate) idle_timeout: u64,
     pub(crate) connections: u64,
 }
 
@@ -49,20 +49,25 @@ pub(crate) struct Results {
 }
 
 impl Results {
-    fn add<R: Wait>(&mut self, rt: &R, drawer: &Drawer, place: Place) {
+    fn add<R: Wait>(&mut self, rt: &R, store: &ReceiptStore, place: Place) {
         let Place {
             seat,
             held: _,
             mut receipts,
         } = place;
-        drawer.add(rt, &mut receipts);
+        store.add(rt, &mut receipts);
         self.is_whole &= receipts.is_empty() && self.seats.push(seat).is_ok();
     }
 
-    fn add_all<R: Threads + Wait>(&mut self, rt: &R, drawer: &Drawer, started: Started<Place>) {
+    fn add_all<R: Threads + Wait>(
+        &mut self,
+        rt: &R,
+        store: &ReceiptStore,
+        started: Started<Place>,
+    ) {
         let Started { threads, is_whole } = started;
         for thread in threads {
-            self.add(rt, drawer, thread.join(rt));
+            self.add(rt, store, thread.join(rt));
         }
         self.is_whole &= is_whole;
     }
@@ -75,37 +80,37 @@ struct Started<T> {
     is_whole: bool,
 }
 
-/// Runs the host: its workers, seats and doors, and lets connections in. It comes back when all sessions have ended after the last connection.
-pub(crate) fn run_house<R: Threads + Wait + Clock + Sync, E: Write + Send>(
+/// Runs the workers, the sessions and the admission of a host, and accepts connections. It comes back when all sessions have ended after the last connection.
+pub(crate) fn run_threads<R: Threads + Wait + Clock + Sync, E: Write + Send>(
     rt: &R,
     alloc: Global,
     listener: &TcpListener,
-    house: &House,
+    host: &HostState,
     secret: &[u8],
     errors: &Mutex<E>,
     sessions: Vec<Seat>,
     workers: Vec<Seat>,
 ) -> Results {
     thread::scope(thread::scope_env(), rt, |scope| {
-        let working = start_workers(scope, rt, alloc, house, workers);
-        let seated = start_seats(scope, rt, alloc, house, errors, sessions);
-        let keeping = start_doors(scope, rt, alloc, house, secret);
+        let working = start_workers(scope, rt, alloc, host, workers);
+        let seated = start_sessions(scope, rt, alloc, host, errors, sessions);
+        let keeping = start_admission(scope, rt, alloc, host, secret);
         let mut is_whole = working.is_whole && seated.is_whole && keeping.is_whole;
         if is_whole {
-            is_whole = let_in(rt, alloc, listener, house);
+            is_whole = accept_connections(rt, alloc, listener, host);
         }
-        house.doors.close(rt);
+        host.admission.close(rt);
         for thread in keeping.threads {
             thread.join(rt);
         }
-        house.seats.close(rt);
+        host.seats.close(rt);
         let mut results = Results {
             seats: Vec::new(alloc),
             is_whole,
         };
-        results.add_all(rt, &house.drawer, seated);
-        house.shared.stop(rt);
-        results.add_all(rt, &house.drawer, working);
+        results.add_all(rt, &host.receipts, seated);
+        host.shared.stop(rt);
+        results.add_all(rt, &host.receipts, working);
         results
     })
 }
@@ -114,7 +119,7 @@ fn start_workers<'s, Env, R: Threads + Wait + Clock + Sync>(
     scope: &Scope<'s, Env>,
     rt: &'s R,
     alloc: Global,
-    house: &'s House,
+    host: &'s HostState,
     seats: Vec<Seat>,
 ) -> Started<Place> {
     let mut threads = Vec::new(alloc);
@@ -124,7 +129,7 @@ fn start_workers<'s, Env, R: Threads + Wait + Clock + Sync>(
             is_whole = false;
             break;
         }
-        match scope.spawn(move || work(rt, alloc, house, Place::new(alloc, seat))) {
+        match scope.spawn(move || run_worker(rt, alloc, host, Place::new(alloc, seat))) {
             Ok(thread) => threads.push_reserved(thread),
             Err(_) => {
                 is_whole = false;
@@ -135,11 +140,11 @@ fn start_workers<'s, Env, R: Threads + Wait + Clock + Sync>(
     Started { threads, is_whole }
 }
 
-fn start_seats<'s, Env, R: Threads + Wait + Clock + Sync, E: Write + Send>(
+fn start_sessions<'s, Env, R: Threads + Wait + Clock + Sync, E: Write + Send>(
     scope: &Scope<'s, Env>,
     rt: &'s R,
     alloc: Global,
-    house: &'s House,
+    host: &'s HostState,
     errors: &'s Mutex<E>,
     seats: Vec<Seat>,
 ) -> Started<Place> {
@@ -150,7 +155,7 @@ fn start_seats<'s, Env, R: Threads + Wait + Clock + Sync, E: Write + Send>(
             is_whole = false;
             break;
         }
-        match scope.spawn(move || keep_seat(rt, alloc, house, errors, Place::new(alloc, seat))) {
+        match scope.spawn(move || run_sessions(rt, alloc, host, errors, Place::new(alloc, seat))) {
             Ok(thread) => threads.push_reserved(thread),
             Err(_) => {
                 is_whole = false;
@@ -161,21 +166,21 @@ fn start_seats<'s, Env, R: Threads + Wait + Clock + Sync, E: Write + Send>(
     Started { threads, is_whole }
 }
 
-fn start_doors<'s, Env, R: Threads + Wait + Clock + Sync>(
+fn start_admission<'s, Env, R: Threads + Wait + Clock + Sync>(
     scope: &Scope<'s, Env>,
     rt: &'s R,
     alloc: Global,
-    house: &'s House,
+    host: &'s HostState,
     secret: &'s [u8],
 ) -> Started<()> {
     let mut threads = Vec::new(alloc);
     let mut is_whole = true;
-    for _ in 0..DOORS {
+    for _ in 0..ADMISSION_THREADS {
         if threads.reserve(1).is_err() {
             is_whole = false;
             break;
         }
-        match scope.spawn(move || keep_door(rt, house, secret)) {
+        match scope.spawn(move || admit_connections(rt, host, secret)) {
             Ok(thread) => threads.push_reserved(thread),
             Err(_) => {
                 is_whole = false;
@@ -186,13 +191,18 @@ fn start_doors<'s, Env, R: Threads + Wait + Clock + Sync>(
     Started { threads, is_whole }
 }
 
-/// Hands each connection to a door. One that no door is free for is closed at once. It is false where the listener has failed for long.
-fn let_in<R: Wait + Clock>(rt: &R, alloc: Global, listener: &TcpListener, house: &House) -> bool {
-    for _ in 0..house.connections {
+/// Hands each connection to a thread of admission, or closes it at once if none is free. It is false if the listener has failed for long.
+fn accept_connections<R: Wait + Clock>(
+    rt: &R,
+    alloc: Global,
+    listener: &TcpListener,
+    host: &HostState,
+) -> bool {
+    for _ in 0..host.connections {
         let Some(stream) = accept(rt, listener) else {
             return false;
         };
-        let _closed = house.doors.hand(rt, Guest::new(alloc, stream));
+        let _closed = host.admission.offer(rt, Connection::new(alloc, stream));
     }
     true
 }
@@ -207,15 +217,15 @@ fn accept<R: Clock>(rt: &R, listener: &TcpListener) -> Option<TcpStream> {
     None
 }
 
-/// A worker's thread. Its receipts go to the drawer now and then.
-#[tactic(auto, using(crate::proofs::Lodgings::leads))]
-fn work<R: Wait + Clock>(rt: &R, alloc: Global, house: &House, place: Place) -> Place
+/// A worker's thread. Its receipts go to the store now and then.
+#[tactic(auto, using(crate::proofs::SessionLemmas::leads))]
+fn run_worker<R: Wait + Clock>(rt: &R, alloc: Global, host: &HostState, place: Place) -> Place
     ensures { LeadsTo place.seat result.seat }
 {
     let mut place = place;
     for _ in rt.forever() {
-        let end = keep_working(rt, alloc, &house.shared, &mut place, BATCH);
-        house.drawer.add(rt, &mut place.receipts);
+        let end = keep_working(rt, alloc, &host.shared, &mut place, BATCH);
+        host.receipts.add(rt, &mut place.receipts);
         match end {
             WorkEnd::TurnsOver => {}
             WorkEnd::Memory | WorkEnd::HistoryFull => pause(rt),
@@ -226,10 +236,10 @@ fn work<R: Wait + Clock>(rt: &R, alloc: Global, house: &House, place: Place) -> 
 }
 
 /// A seat's thread: session after session.
-fn keep_seat<R: Wait, E: Write>(
+fn run_sessions<R: Wait, E: Write>(
     rt: &R,
     alloc: Global,
-    house: &House,
+    host: &HostState,
     errors: &Mutex<E>,
     place: Place,
 ) -> Place
@@ -237,56 +247,62 @@ fn keep_seat<R: Wait, E: Write>(
 {
     let mut place = place;
     for _ in rt.forever() {
-        let Some(guest) = house.seats.next(rt) else {
+        let Some(connection) = host.seats.next(rt) else {
             return place;
         };
-        place = talk(rt, alloc, house, errors, place, &guest);
-        give_back_all(rt, &house.shared, &house.drawer, &mut place);
-        house.seats.free(rt);
+        place = serve_connection(rt, alloc, host, errors, place, &connection);
+        give_back_all(rt, &host.shared, &host.receipts, &mut place);
+        host.seats.add_idle(rt);
     }
     unreachable!()
 }
 
 /// A session. It reports a fault before it ends.
-#[tactic(auto, using(crate::proofs::Lodgings::leads))]
-fn talk<R: Wait, E: Write>(
+#[tactic(auto, using(crate::proofs::SessionLemmas::leads))]
+fn serve_connection<R: Wait, E: Write>(
     rt: &R,
     alloc: Global,
-    house: &House,
+    host: &HostState,
     errors: &Mutex<E>,
     place: Place,
-    guest: &Guest,
+    connection: &Connection,
 ) -> Place
     ensures { LeadsTo place.seat result.seat }
 {
     let caller = place.seat.caller();
-    let idle = (0 < house.idle).then_some(Duration::from_millis(house.idle));
-    let _ = guest.stream.set_read_timeout(idle);
-    let _ = guest.stream.set_write_timeout(idle);
-    let mut rest = Rest::of(guest);
-    let mut writer = IntoWrite::new(&guest.stream);
-    let Lodged {
+    let idle = (0 < host.idle_timeout).then_some(Duration::from_millis(host.idle_timeout));
+    let _ = connection.stream.set_read_timeout(idle);
+    let _ = connection.stream.set_write_timeout(idle);
+    let mut rest = ConnectionReader::of(connection);
+    let mut writer = IntoWrite::new(&connection.stream);
+    let SessionResult {
         end,
         place,
-        told: _,
+        session_receipts: _,
     } = {
         let mut reader = FromRead::new(&mut rest);
-        run_lodger(
+        run_host_session(
             rt,
             alloc,
-            &house.shared,
-            &house.drawer,
+            &host.shared,
+            &host.receipts,
             place,
             &mut reader,
             &mut writer,
             TURNS,
         )
     };
-    tell(rt, errors, caller, end, rest.is_idle);
+    report_end(rt, errors, caller, end, rest.is_idle);
     place
 }
 
-fn tell<R: Wait, E: Write>(rt: &R, errors: &Mutex<E>, caller: u32, end: RunEnd, is_idle: bool) {
+fn report_end<R: Wait, E: Write>(
+    rt: &R,
+    errors: &Mutex<E>,
+    caller: u32,
+    end: RunEnd,
+    is_idle: bool,
+) {
     let Some(fault) = error_of(end) else {
         return;
     };

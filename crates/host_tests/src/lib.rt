@@ -2,15 +2,15 @@
 #![tactic(auto)]
 
 #[cfg(test)]
-mod doors;
+mod admission;
 #[cfg(test)]
 mod lines;
-#[cfg(test)]
-mod lodgers;
 #[cfg(test)]
 mod peers;
 #[cfg(test)]
 mod play;
+#[cfg(test)]
+mod refused;
 #[cfg(test)]
 mod seats;
 #[cfg(test)]

@@ -2,7 +2,7 @@
 ghost use Rattle.std.specs.Thread.{IsSync};
 
 use crate::steps::{Step, Wrong, first_wrong};
-use fb_host::{Terms, host_on};
+use fb_host::{HostConfig, host_on};
 use fb_serve::Ended;
 use fb_wire::MemorySink;
 use fb_wire::bench::Limits;
@@ -31,8 +31,8 @@ pub(crate) struct Play<'a> {
     pub(crate) sessions: u8,
     pub(crate) workers: u8,
     pub(crate) history: u64,
-    pub(crate) patience: u64,
-    pub(crate) idle: u64,
+    pub(crate) first_line_timeout: u64,
+    pub(crate) idle_timeout: u64,
     pub(crate) connections: u64,
     pub(crate) secret: &'a str,
     pub(crate) steps: &'a [Step<'a>],
@@ -47,14 +47,14 @@ struct Hosted {
     close: Option<(u64, usize, usize)>,
 }
 
-fn terms_of(play: &Play<'_>) -> Option<Terms> {
+fn config_of(play: &Play<'_>) -> Option<HostConfig> {
     let limits = Limits::new(100, play.history)?;
-    Some(Terms {
+    Some(HostConfig {
         workers: play.workers,
         sessions: play.sessions,
         limits,
-        patience: play.patience,
-        idle: play.idle,
+        first_line_timeout: play.first_line_timeout,
+        idle_timeout: play.idle_timeout,
         connections: play.connections,
     })
 }
@@ -74,13 +74,13 @@ fn host_in_memory<R: Threads + Wait + Clock + Sync>(
     rt: &R,
     alloc: Global,
     listener: &TcpListener,
-    terms: Terms,
+    config: HostConfig,
     secret: &[u8],
     errors: &Mutex<Vec<u8>>,
     ended: &AtomicBool,
 ) -> Result<Hosted, AllocError> {
     let mut out = MemorySink::new(alloc, 8192, u64::MAX);
-    let end = host_on(rt, alloc, listener, terms, secret, &mut out, errors);
+    let end = host_on(rt, alloc, listener, config, secret, &mut out, errors);
     ended.store(true, Ordering::SeqCst);
     Ok(Hosted {
         printed: out.as_slice().to_vec(alloc)?,
@@ -143,7 +143,7 @@ pub(crate) fn compare<
 >(rt: &R, alloc: Global, play: &Play<'_>) -> Result<(), Fail> {
     let listener = TcpListener::bind(rt, "127.0.0.1:0")?;
     let port = listener.local_addr()?.port();
-    let terms = terms_of(play).ok_or("limits")?;
+    let config = config_of(play).ok_or("limits")?;
     let secret = play.secret.as_bytes();
     let steps = play.steps;
     let errors = Mutex::new(Vec::new(alloc));
@@ -152,7 +152,7 @@ pub(crate) fn compare<
         rt,
         || -> Result<Hosted, AllocError>
             requires { IsSync R.row }
-        { host_in_memory(rt, alloc, &listener, terms, secret, &errors, &ended) },
+        { host_in_memory(rt, alloc, &listener, config, secret, &errors, &ended) },
         || act(rt, alloc, port, &errors, &ended, steps),
     );
     compare_end(rt, alloc, play, port, hosted?, errors.into_inner())

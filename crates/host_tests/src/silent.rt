@@ -23,8 +23,8 @@ fn a_silent_session_is_ended(rt: HostRuntime) -> Result<(), Fail> {
         sessions: 1,
         workers: 0,
         history: 20,
-        patience: LONG,
-        idle: 100,
+        first_line_timeout: LONG,
+        idle_timeout: 100,
         connections: 2,
         secret: "",
         steps: FALLS_SILENT,
@@ -50,8 +50,8 @@ fn a_first_line_is_not_waited_for_long(rt: HostRuntime) -> Result<(), Fail> {
         sessions: 1,
         workers: 0,
         history: 20,
-        patience: 200,
-        idle: 0,
+        first_line_timeout: 200,
+        idle_timeout: 0,
         connections: 2,
         secret: "",
         steps: SAYS_NOTHING,
@@ -61,7 +61,7 @@ fn a_first_line_is_not_waited_for_long(rt: HostRuntime) -> Result<(), Fail> {
     compare(&rt, rt.alloc(), &play)
 }
 
-// There are 32 doors. While all of them wait the next connection is closed at once, and one of those that wait can talk. When the others have
+// There are 32 threads of admission. While all of them wait the next connection is closed at once, and one of those that wait can session. When the others have
 // gone there is entrance. A seat is always free: one talks, and one leaves.
 const CROWD: &[Step<'static>] = &[
     Step::Connect(33),
@@ -77,13 +77,13 @@ const CROWD: &[Step<'static>] = &[
 ];
 
 #[test]
-fn doors_are_few(rt: HostRuntime) -> Result<(), Fail> {
+fn admission_threads_are_few(rt: HostRuntime) -> Result<(), Fail> {
     let play = Play {
         sessions: 3,
         workers: 0,
         history: 20,
-        patience: LONG,
-        idle: 0,
+        first_line_timeout: LONG,
+        idle_timeout: 0,
         connections: 34,
         secret: "",
         steps: CROWD,

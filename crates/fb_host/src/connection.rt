@@ -4,41 +4,41 @@ use std::io;
 use std::io::{ErrorKind, Read};
 use std::net::TcpStream;
 
-/// A connection, and the bytes of it that were read and not yet given on.
+/// A connection, and the bytes that were read of it and not yet given on.
 #[derive(Drop)]
-pub(crate) struct Guest {
+pub(crate) struct Connection {
     pub(crate) stream: TcpStream,
     pub(crate) head: Vec<u8>,
 }
 
-impl Guest {
-    pub(crate) fn new(alloc: Global, stream: TcpStream) -> Guest {
-        Guest {
+impl Connection {
+    pub(crate) fn new(alloc: Global, stream: TcpStream) -> Connection {
+        Connection {
             stream,
             head: Vec::new(alloc),
         }
     }
 }
 
-/// First these bytes, and then those of the stream. It records whether a read waited too long.
+/// Reads the bytes that were read before, and then the stream. It records whether a read waited too long.
 #[derive(Drop)]
-pub(crate) struct Rest<'a> {
+pub(crate) struct ConnectionReader<'a> {
     head: &'a [u8],
     stream: &'a TcpStream,
     pub(crate) is_idle: bool,
 }
 
-impl<'a> Rest<'a> {
-    pub(crate) fn of(guest: &'a Guest) -> Rest<'a> {
-        Rest {
-            head: guest.head.as_slice(),
-            stream: &guest.stream,
+impl<'a> ConnectionReader<'a> {
+    pub(crate) fn of(connection: &'a Connection) -> ConnectionReader<'a> {
+        ConnectionReader {
+            head: connection.head.as_slice(),
+            stream: &connection.stream,
             is_idle: false,
         }
     }
 }
 
-impl Read for Rest<'_> {
+impl Read for ConnectionReader<'_> {
     fn read(&mut self, buf: &mut [u8]) -> io::Result<usize> {
         if !self.head.is_empty() {
             let count = self.head.len().min(buf.len());

@@ -1,69 +1,69 @@
-//! Doors: the first line of a connection, and whether it is admitted.
-use crate::counter::Counter;
-use crate::guest::Guest;
+//! Admission: the first line of a connection, and whether it gets a seat.
+use crate::connection::Connection;
+use crate::connection_queue::ConnectionQueue;
 use crate::head::{is_secret, speaks_http};
-use crate::threads::House;
+use crate::threads::HostState;
 use std::io::{Read, Write};
 use std::net::{Shutdown, TcpStream};
 use std::sync::Wait;
 use std::time::{Clock, Duration, Instant};
 
 /// How many bytes of a first line are waited for.
-const HEAD_SIZE: usize = 8_192;
+const FIRST_LINE_SIZE: usize = 8_192;
 
 const NO_SEAT: &[u8] = b"{\"refused\":\"NoSeat\"}\n";
 
 /// How many milliseconds a connection that is refused may take to read why.
-const FAREWELL: u64 = 200;
+const REFUSAL_TIMEOUT: u64 = 200;
 
-/// A door's thread: it looks at connections, one after another.
-pub(crate) fn keep_door<R: Wait + Clock>(rt: &R, house: &House, secret: &[u8]) {
+/// A thread of admission: it looks at the first lines of connections, one after another.
+pub(crate) fn admit_connections<R: Wait + Clock>(rt: &R, host: &HostState, secret: &[u8]) {
     for _ in rt.forever() {
-        let Some(guest) = house.doors.next(rt) else {
+        let Some(connection) = host.admission.next(rt) else {
             return;
         };
-        receive(
+        admit(
             rt,
-            guest,
-            &house.seats,
+            connection,
+            &host.seats,
             secret,
-            Duration::from_millis(house.patience),
+            Duration::from_millis(host.first_line_timeout),
         );
-        house.doors.free(rt);
+        host.admission.add_idle(rt);
     }
     unreachable!()
 }
 
-/// Lets a guest in, if its first line is right and a seat is free.
-fn receive<R: Wait + Clock>(
+/// Lets a connection in, if its first line is right and a seat is free.
+fn admit<R: Wait + Clock>(
     rt: &R,
-    guest: Guest,
-    seats: &Counter,
+    connection: Connection,
+    seats: &ConnectionQueue,
     secret: &[u8],
-    patience: Duration,
+    first_line_timeout: Duration,
 ) {
-    let mut guest = guest;
+    let mut connection = connection;
     if secret.is_empty() && !seats.has_idle(rt) {
-        refuse(&guest.stream);
+        refuse(&connection.stream);
         return;
     }
-    if !has_head(rt, &mut guest, patience) {
+    if !has_head(rt, &mut connection, first_line_timeout) {
         return;
     }
-    if !is_welcome(&mut guest.head, secret) {
+    if !is_admitted(&mut connection.head, secret) {
         return;
     }
-    if let Some(guest) = seats.hand(rt, guest) {
-        refuse(&guest.stream);
+    if let Some(connection) = seats.offer(rt, connection) {
+        refuse(&connection.stream);
     }
 }
 
 /// Whether the head is admitted: by the secret in its first line, or, if there is none, since it is not HTTP.
-fn is_welcome(head: &mut Vec<u8>, secret: &[u8]) -> bool {
+fn is_admitted(head: &mut Vec<u8>, secret: &[u8]) -> bool {
     if secret.is_empty() {
         return !speaks_http(head);
     }
-    shows(head, secret)
+    takes_secret(head, secret)
 }
 
 /// Says that there is no seat.
@@ -71,13 +71,13 @@ fn refuse(stream: &TcpStream) {
     let mut out = stream;
     let _ = out.write_all(NO_SEAT);
     let _ = stream.shutdown(Shutdown::Write);
-    let _ = stream.set_read_timeout(Some(Duration::from_millis(FAREWELL)));
+    let _ = stream.set_read_timeout(Some(Duration::from_millis(REFUSAL_TIMEOUT)));
     let mut rest = [0; 1_024];
     let _ = out.read(&mut rest);
 }
 
 /// Whether the head's first line is the secret. It is then taken off.
-fn shows(head: &mut Vec<u8>, secret: &[u8]) -> bool {
+fn takes_secret(head: &mut Vec<u8>, secret: &[u8]) -> bool {
     let Some(end) = head.iter().position(|byte| *byte == b'\n') else {
         return false;
     };
@@ -89,16 +89,16 @@ fn shows(head: &mut Vec<u8>, secret: &[u8]) -> bool {
 }
 
 /// Reads until the first line has come, or the end of the input or as many bytes as are waited for. Not within the time it has not come.
-fn has_head<R: Clock>(rt: &R, guest: &mut Guest, patience: Duration) -> bool {
+fn has_head<R: Clock>(rt: &R, connection: &mut Connection, first_line_timeout: Duration) -> bool {
     let Ok(begun) = Instant::now(rt) else {
         return false;
     };
     let mut buffer = [0; 1_024];
-    for _ in 0..HEAD_SIZE {
-        if guest.head.contains(&b'\n') || HEAD_SIZE <= guest.head.len() {
+    for _ in 0..FIRST_LINE_SIZE {
+        if connection.head.contains(&b'\n') || FIRST_LINE_SIZE <= connection.head.len() {
             return true;
         }
-        match read_within(rt, guest, begun, patience, &mut buffer) {
+        match read_within(rt, connection, begun, first_line_timeout, &mut buffer) {
             Some(0) => return true,
             Some(_) => {}
             None => return false,
@@ -110,23 +110,23 @@ fn has_head<R: Clock>(rt: &R, guest: &mut Guest, patience: Duration) -> bool {
 /// Reads once, if there is time left.
 fn read_within<R: Clock>(
     rt: &R,
-    guest: &mut Guest,
+    connection: &mut Connection,
     begun: Instant,
-    patience: Duration,
+    first_line_timeout: Duration,
     buffer: &mut [u8],
 ) -> Option<usize> {
     let Ok(passed) = begun.elapsed(rt) else {
         return None;
     };
-    let left = patience.saturating_sub(passed);
-    if left.is_zero() || guest.stream.set_read_timeout(Some(left)).is_err() {
+    let left = first_line_timeout.saturating_sub(passed);
+    if left.is_zero() || connection.stream.set_read_timeout(Some(left)).is_err() {
         return None;
     }
-    let mut stream = &guest.stream;
+    let mut stream = &connection.stream;
     let Ok(count) = stream.read(buffer) else {
         return None;
     };
-    match guest.head.extend_from_slice(&buffer[..count]) {
+    match connection.head.extend_from_slice(&buffer[..count]) {
         Ok(()) => Some(count),
         Err(_) => None,
     }

@@ -1,6 +1,6 @@
 //! A session of a host of which each allocation is refused in turn, those of a history that begins anew among them. Another session then goes on at its place, and the
 //! workbench closes with the receipts of all calls since the start.
-use fb_host::{Drawer, Lodged, give_back_all, run_lodger};
+use fb_host::{ReceiptStore, SessionResult, give_back_all, run_host_session};
 use fb_serve::Place;
 use fb_shared::Shared;
 use fb_wire::bench::Limits;
@@ -25,7 +25,7 @@ const HISTORY: u64 = 2;
 
 /// How a session ended, what it replied, and whether an allocation was refused.
 #[derive(Drop)]
-struct Talk {
+struct Session {
     end: RunEnd,
     output: Vec<u8>,
     is_refused: bool,
@@ -36,34 +36,34 @@ fn say_lines<R: Wait>(
     rt: &R,
     alloc: Global,
     shared: &Shared,
-    drawer: &Drawer,
+    store: &ReceiptStore,
     place: Place,
     number: u32,
-) -> Result<(Place, Talk), Fail> {
+) -> Result<(Place, Session), Fail> {
     let mut output = Vec::with_capacity(alloc, 1000)?;
     let mut feed = MemoryFeed::new(REQUESTS.as_bytes(), 8192, u64::MAX);
     let mut sink = IntoWrite::new(&mut output);
     refuse(alloc, number);
-    let Lodged {
+    let SessionResult {
         end,
         mut place,
-        told: _,
-    } = run_lodger(rt, alloc, shared, drawer, place, &mut feed, &mut sink, 1000);
+        session_receipts: _,
+    } = run_host_session(rt, alloc, shared, store, place, &mut feed, &mut sink, 1000);
     let is_refused = was_refused(alloc);
-    give_back_all(rt, shared, drawer, &mut place);
-    let talk = Talk {
+    give_back_all(rt, shared, store, &mut place);
+    let session = Session {
         end,
         output,
         is_refused,
     };
-    Ok((place, talk))
+    Ok((place, session))
 }
 
 // Whether a session may end so.
-fn is_right(talk: &Talk) -> bool {
-    match talk.end {
-        RunEnd::End => talk.output.as_slice() == REPLIES.as_bytes(),
-        RunEnd::Memory => REPLIES.as_bytes().starts_with(talk.output.as_slice()),
+fn is_right(session: &Session) -> bool {
+    match session.end {
+        RunEnd::End => session.output.as_slice() == REPLIES.as_bytes(),
+        RunEnd::Memory => REPLIES.as_bytes().starts_with(session.output.as_slice()),
         _ => false,
     }
 }
@@ -73,10 +73,10 @@ fn is_closed<R: Wait>(
     rt: &R,
     alloc: Global,
     shared: Shared,
-    drawer: Drawer,
+    store: ReceiptStore,
     place: Place,
 ) -> Result<bool, Fail> {
-    let receipts = drawer.into_receipts(shared.before(rt));
+    let receipts = store.into_receipts(shared.before(rt));
     let Place {
         seat,
         held: _,
@@ -91,15 +91,15 @@ fn is_closed<R: Wait>(
 }
 
 // Two sessions at one place, the first without the allocation of this number.
-fn tried<R: Wait>(rt: &R, alloc: Global, number: u32) -> Result<Talk, Fail> {
+fn tried<R: Wait>(rt: &R, alloc: Global, number: u32) -> Result<Session, Fail> {
     let limits = Limits::new(4, HISTORY).ok_or("limits")?;
     let (shared, mut seats) = Shared::rolling(alloc, limits, 1)?;
-    let drawer = Drawer::new(alloc, HISTORY);
+    let store = ReceiptStore::new(alloc, HISTORY);
     let place = Place::new(alloc, seats.pop().ok_or("no seat")?);
-    let (place, first) = say_lines(rt, alloc, &shared, &drawer, place, number)?;
-    let (place, last) = say_lines(rt, alloc, &shared, &drawer, place, 0)?;
+    let (place, first) = say_lines(rt, alloc, &shared, &store, place, number)?;
+    let (place, last) = say_lines(rt, alloc, &shared, &store, place, 0)?;
     let is_done = last.end == RunEnd::End && last.output.ends_with(LAST.as_bytes());
-    let is_closed = is_closed(rt, alloc, shared, drawer, place)?;
+    let is_closed = is_closed(rt, alloc, shared, store, place)?;
     if !is_done || !is_closed || !is_right(&first) {
         return Err(Fail::from("another end"));
     }
@@ -109,21 +109,21 @@ fn tried<R: Wait>(rt: &R, alloc: Global, number: u32) -> Result<Talk, Fail> {
 fn each_refused<R: Wait>(rt: &R, alloc: Global) -> Result<Refusals, Fail> {
     let mut memory = 0u32;
     for number in 1..100_000u32 {
-        let talk = tried(rt, alloc, number)?;
-        if !talk.is_refused {
+        let session = tried(rt, alloc, number)?;
+        if !session.is_refused {
             return Ok(Refusals {
                 allocations: number - 1,
                 memory,
             });
         }
-        memory = memory.saturating_add(u32::from(talk.end == RunEnd::Memory));
+        memory = memory.saturating_add(u32::from(session.end == RunEnd::Memory));
     }
     Err(Fail::from("ever more allocations"))
 }
 
 #[test]
-fn each_allocation_of_a_lodger(rt: HostRuntime) -> Result<(), Fail> {
+fn each_allocation_of_a_session(rt: HostRuntime) -> Result<(), Fail> {
     let found = each_refused(&rt, rt.alloc())?;
-    report(&rt, "run_lodger", " of three lines", found)?;
+    report(&rt, "run_host_session", " of three lines", found)?;
     Ok(())
 }

@@ -1,4 +1,4 @@
--- What the steps of a lodger's desk leave in its receipts.
+-- What the steps of a session's desk leave in its receipts.
 use Rattle.std.proofs.Common.{◌≡◌, List, [], ◌∷◌, ◌++◌, map, refl, sym, subst}
 use Rattle.fb_wire.specs.Conversations.{Runs}
 use Rattle.fb_locked.specs.Bench.Calls.{Replied, FullHistory, BehindHistory, Exchange, AskedCall, AskedCheckpoint}
@@ -9,27 +9,27 @@ use Rattle.fb_serve.specs.Places.{AddsRun}
 use Rattle.fb_serve.specs.Sessions.{answered_in, call_shown}
 use Rattle.fb_serve.proofs.Places.{run_append}
 use Rattle.fb_serve.proofs.Sessions.{session_shown}
-use Rattle.fb_host.specs.Lodging.{LeadsTo, LodgerStep}
+use Rattle.fb_host.specs.HostSessions.{LeadsTo, HostStep}
 
 -- each is a step of a desk with a seat
-sits : (old : SeatedView) (exchange : Exchange) (new : SeatedView) → LodgerStep old exchange new → SitterStep old exchange new
+sits : (old : SeatedView) (exchange : Exchange) (new : SeatedView) → HostStep old exchange new → SitterStep old exchange new
 sits old (AskedCall call (Replied reply)) new step = step
 sits old (AskedCall call FullHistory) new step = absurd step
 sits old (AskedCall call BehindHistory) new step = step
 sits old (AskedCheckpoint limits answer) new step = step
 
-all_sit : (pairs : List Exchange) (old new : SeatedView) → Runs LodgerStep old pairs new → Runs SitterStep old pairs new
+all_sit : (pairs : List Exchange) (old new : SeatedView) → Runs HostStep old pairs new → Runs SitterStep old pairs new
 all_sit [] old new runs = runs
 all_sit (p ∷ ps) old new runs = (runs.0, sits old p runs.0 runs.1, all_sit ps runs.0 new runs.2)
 
 -- from a desk with no receipts, whose seat and receipts are then taken out
-pub lodger_runs : (pairs : List Exchange) (seat : SeatView) (old new : SeatedView) (left : SeatView) (receipts : List ReceiptView) → old ≡ record { seat = seat; receipts = [] } → Runs LodgerStep old pairs new → record { seat = left; receipts = receipts } ≡ new
-    → Runs LodgerStep (record { seat = seat; receipts = [] }) pairs (record { seat = left; receipts = receipts })
-lodger_runs pairs seat old new left receipts begun runs is =
-    subst (λ (s : SeatedView). Runs LodgerStep (record { seat = seat; receipts = [] }) pairs s) (sym is) (subst (λ (s : SeatedView). Runs LodgerStep s pairs new) begun runs)
+pub desk_runs : (pairs : List Exchange) (seat : SeatView) (old new : SeatedView) (left : SeatView) (receipts : List ReceiptView) → old ≡ record { seat = seat; receipts = [] } → Runs HostStep old pairs new → record { seat = left; receipts = receipts } ≡ new
+    → Runs HostStep (record { seat = seat; receipts = [] }) pairs (record { seat = left; receipts = receipts })
+desk_runs pairs seat old new left receipts begun runs is =
+    subst (λ (s : SeatedView). Runs HostStep (record { seat = seat; receipts = [] }) pairs s) (sym is) (subst (λ (s : SeatedView). Runs HostStep s pairs new) begun runs)
 
-pub lodger_shown : (pairs : List Exchange) (seat left : SeatView) (receipts : List ReceiptView) → Runs LodgerStep (record { seat = seat; receipts = [] }) pairs (record { seat = left; receipts = receipts }) → (answered_in pairs ≡ map call_shown receipts) × IsRun seat receipts left
-lodger_shown pairs seat left receipts runs = session_shown pairs seat left receipts (all_sit pairs (record { seat = seat; receipts = [] }) (record { seat = left; receipts = receipts }) runs)
+pub desk_shown : (pairs : List Exchange) (seat left : SeatView) (receipts : List ReceiptView) → Runs HostStep (record { seat = seat; receipts = [] }) pairs (record { seat = left; receipts = receipts }) → (answered_in pairs ≡ map call_shown receipts) × IsRun seat receipts left
+desk_shown pairs seat left receipts runs = session_shown pairs seat left receipts (all_sit pairs (record { seat = seat; receipts = [] }) (record { seat = left; receipts = receipts }) runs)
 
 -- ---- where calls lead
 

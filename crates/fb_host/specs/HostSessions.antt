@@ -7,13 +7,13 @@ use Rattle.fb_locked.specs.Seats.{SeatView, ReceiptView}
 use Rattle.fb_shared.specs.Sitting.{SeatedView, IsCallSeated, IsCheckpointSitting}
 
 -- as a desk with a seat makes it, which here never says that the history is full
-abbrev pub IsCallLodging : SeatedView → Call → Answer → SeatedView → Type 0
-IsCallLodging old call (Replied reply) new = IsCallSeated old call (Replied reply) new
-IsCallLodging old call FullHistory new = ⊥
-IsCallLodging old call BehindHistory new = IsCallSeated old call BehindHistory new
+abbrev pub IsHostCall : SeatedView → Call → Answer → SeatedView → Type 0
+IsHostCall old call (Replied reply) new = IsCallSeated old call (Replied reply) new
+IsHostCall old call FullHistory new = ⊥
+IsHostCall old call BehindHistory new = IsCallSeated old call BehindHistory new
 
-abbrev pub LodgerStep : SeatedView → Exchange → SeatedView → Type 0
-LodgerStep = Exchanges IsCallLodging IsCheckpointSitting
+abbrev pub HostStep : SeatedView → Exchange → SeatedView → Type 0
+HostStep = Exchanges IsHostCall IsCheckpointSitting
 
 -- calls with the seat, one after another, lead from the first to the second
 abbrev pub LeadsTo : SeatView → SeatView → Type 0

@@ -1,4 +1,4 @@
-//! The receipts of an epoch.
+//! The receipts of the calls since the history last began.
 ghost use Rattle.std.specs.Prelude.{◌≤◌};
 
 use fb_shared::Receipt;
@@ -9,7 +9,7 @@ use std::sync::{Mutex, Wait};
 /// The receipts of all calls of one epoch. A history begins again if it is full and only there, so an epoch has `span` calls, and which one a receipt is
 /// of follows from its number. Those of the epoch before stay in `past` until they are dropped, two with each new one and the last ones first. The workbench
 /// drops its records so too, so no record outlives its place in the history for long.
-pub struct Epoch {
+pub struct EpochReceipts {
     alloc: Global,
     span: u64,
     start: u64,
@@ -18,7 +18,7 @@ pub struct Epoch {
     ghost some: { 1 ≤ span },
 }
 
-impl Drop for Epoch {
+impl Drop for EpochReceipts {
     fn drop(self) {
         let Self {
             alloc: _,
@@ -30,12 +30,12 @@ impl Drop for Epoch {
     }
 }
 
-impl Epoch {
+impl EpochReceipts {
     /// No receipts, of an epoch of this number of calls.
-    pub(crate) fn new(alloc: Global, span: u64) -> Epoch
+    pub(crate) fn new(alloc: Global, span: u64) -> EpochReceipts
         requires { 1 ≤ span }
     {
-        Epoch {
+        EpochReceipts {
             alloc,
             span,
             start: 0,
@@ -71,7 +71,7 @@ impl Epoch {
 
     /// Those with a number after this one.
     pub(crate) fn into_receipts(self, before: u64) -> Vec<Receipt> {
-        let Epoch {
+        let EpochReceipts {
             alloc: _,
             span: _,
             start: _,
@@ -84,23 +84,23 @@ impl Epoch {
     }
 }
 
-/// An epoch that threads share.
-pub struct Drawer {
-    state: Mutex<Epoch>,
+/// The receipts of an epoch, which threads share.
+pub struct ReceiptStore {
+    state: Mutex<EpochReceipts>,
 }
 
-impl Drop for Drawer {
+impl Drop for ReceiptStore {
     fn drop(self) {
         let Self { state: _ } = self;
     }
 }
 
-impl Drawer {
-    pub fn new(alloc: Global, span: u64) -> Drawer
+impl ReceiptStore {
+    pub fn new(alloc: Global, span: u64) -> ReceiptStore
         requires { 1 ≤ span }
     {
-        Drawer {
-            state: Mutex::new(Epoch::new(alloc, span)),
+        ReceiptStore {
+            state: Mutex::new(EpochReceipts::new(alloc, span)),
         }
     }
 
@@ -111,7 +111,7 @@ impl Drawer {
 
     /// Those with a number after this one.
     pub fn into_receipts(self, before: u64) -> Vec<Receipt> {
-        let Drawer { state } = self;
+        let ReceiptStore { state } = self;
         state.into_inner().into_receipts(before)
     }
 }

@@ -8,25 +8,25 @@ use std::marker::Model;
 
 /// The receipts of all calls of a session, in order. It takes no bytes itself.
 #[derive(Drop)]
-pub struct Told {
-    ghost claims: { List ReceiptView },
+pub struct SessionReceipts {
+    ghost all: { List ReceiptView },
 }
 
-impl Model for Told {
+impl Model for SessionReceipts {
     ghost also_owns = { λ _. ftrue };
 }
 
-impl Told {
-    pub(crate) fn new() -> Told
-        ensures { result.claims ≡ [] }
+impl SessionReceipts {
+    pub(crate) fn new() -> SessionReceipts
+        ensures { result.all ≡ [] }
     {
-        Told {}
+        SessionReceipts {}
     }
 
     #[inline(always)]
-    pub(crate) fn then(&self, _receipt: &Receipt) -> Told
-        ensures { result.claims ≡ self.now.claims ++ _receipt.now ∷ [] }
+    pub(crate) fn then(&self, _receipt: &Receipt) -> SessionReceipts
+        ensures { result.all ≡ self.now.all ++ _receipt.now ∷ [] }
     {
-        Told {}
+        SessionReceipts {}
     }
 }

@@ -1,4 +1,4 @@
--- A new one has no claims.
+-- At first there are no receipts.
 use Rattle.std.proofs.Common.{[], ◌∷◌, refl}
 use seplogic.Ra.Ura.{Ura}
 use mir.Syntax.{Fn}
@@ -24,11 +24,11 @@ use denote.Triple.Spec.{Meets, triple_of}
 use denote.Triple.Table.{entered}
 use denote.Triple.Walked.{says, Stays, walk_of, ends_at, walk_Meets}
 use Rattle.fb_streams.proofs.TapeSteps.{none, none_made}
-use Rattle.fb_host.specs.contracts.told.Told as Told
-use Rattle.fb_host.specs.contracts.told.Told.new as F
-use Rattle.fb_host.specs.contracts.told.Told.new.Key.{name as #self}
-use Rattle.fb_host.proofs.told.Told.new.Statement as stated
-use Rattle.fb_host.proofs.told.Told.new.Code as code
+use Rattle.fb_host.specs.contracts.session_receipts.SessionReceipts as SessionReceipts
+use Rattle.fb_host.specs.contracts.session_receipts.SessionReceipts.new as F
+use Rattle.fb_host.specs.contracts.session_receipts.SessionReceipts.new.Key.{name as #self}
+use Rattle.fb_host.proofs.session_receipts.SessionReceipts.new.Statement as stated
+use Rattle.fb_host.proofs.session_receipts.SessionReceipts.new.Code as code
 
 abbrev function : Fn
 function = code.function
@@ -56,14 +56,14 @@ module _ {M : Type 1} {𝓤 : Ura M} (𝓛 : Logic 𝓤) (at_mem : Memory → SP
     walks =
         let a = z.0.3 in
         let vss = z.0.4 in
-        let told : (Told.the_row).Denot = record { claims = [] } in
+        let session_receipts : (SessionReceipts.the_row).Denot = record { all = [] } in
         qed 𝓛 ((raw toks ⊛ ‵ (owns (types_at ended.signature.params z.0.0) a vss)) ∷ raw ((held z.0.0 a).requires z.1) ∷ []) ∵
         keep ! (0 ∷ []) $ split ! $ move ! (1 ∷ []) $ drop ! $
         enter ! C Λ function [] Post $ alloc_all ! (λ l. pass_all ! refl tt $
         sets ! (agg ! (no_more !)) refl (tt, tt) $
         nothing ! $ none_made ! $ fjoin ! $
         returns ! (look_at ! 0 refl) $ free_all ! refl $
-        suffices ! _ (ends_at 𝓛 ended stayed held z none told tt tt) $ says ! refl $
+        suffices ! _ (ends_at 𝓛 ended stayed held z none session_receipts tt tt) $ says ! refl $
         nothing ! $ move ! (2 ∷ 0 ∷ 1 ∷ []) $ done !)
 
   meets : (𝓣 : Tables 𝓤 H) → Meets 𝓛 ended.signature (WpFn 𝓤 H 𝓣.C 𝓣.Λ function) (closing 𝓛 ended held)

@@ -1,5 +1,5 @@
-use Rattle.fb_host.proofs.Lodgings.{leads_on, leads_adds}
-use Rattle.fb_host.proofs.threads.work.Goals as goal
+use Rattle.fb_host.proofs.SessionLemmas.{leads_on, leads_adds}
+use Rattle.fb_host.proofs.threads.run_worker.Goals as goal
 
 pub loop-preserved : goal.loop-preserved
 loop-preserved g c = leads_on _ _ _ c.loop.invariant (leads_adds _ _ _ _ c.keep_working-end.ensures)

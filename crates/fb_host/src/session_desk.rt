@@ -1,8 +1,8 @@
 //! The desk of a session.
 ghost use Rattle.std.specs.Prelude.{◌≡◌, []};
 
-use crate::drawer::Drawer;
-use crate::told::Told;
+use crate::receipt_store::ReceiptStore;
+use crate::session_receipts::SessionReceipts;
 use fb_locked::bench::{
     Answered, Delivered, Desk, DeskCheckpointError, DeskError, GivenBack, Limits, Request, Taken,
 };
@@ -13,32 +13,32 @@ use fb_shared::{Seated, Shared};
 use std::marker::Model;
 use std::sync::Wait;
 
-/// A shared workbench as the desk of one seat, whose receipts go to the drawer. It never says that the history is full: lack of memory alone keeps
+/// A shared workbench as the desk of one seat, whose receipts go to the store. It never says that the history is full: lack of memory alone keeps
 /// a full one from beginning again.
 #[derive(Drop)]
-pub struct Lodger<'a, R: Wait> {
+pub struct SessionDesk<'a, R: Wait> {
     pub(crate) seated: Seated<'a, R>,
-    pub(crate) told: Told,
+    pub(crate) session_receipts: SessionReceipts,
     pub(crate) held: Vec<Held>,
-    pub(crate) drawer: &'a Drawer,
+    pub(crate) store: &'a ReceiptStore,
 }
 
-impl<'a, R: Wait> Model for Lodger<'a, R> {
+impl<'a, R: Wait> Model for SessionDesk<'a, R> {
     ghost use Rattle.fb_shared.specs.Sitting.{SeatedView};
 
     ghost Value = { SeatedView };
 
-    ghost view = { λ it. record { seat = it.seated.seat; receipts = it.told.claims } };
+    ghost view = { λ it. record { seat = it.seated.seat; receipts = it.session_receipts.all } };
 }
 
-impl<'a, R: Wait> Lodger<'a, R> {
+impl<'a, R: Wait> SessionDesk<'a, R> {
     /// The desk at this place, of which nothing was asked yet.
     pub(crate) fn new(
         rt: &'a R,
         shared: &'a Shared,
-        drawer: &'a Drawer,
+        store: &'a ReceiptStore,
         place: Place,
-    ) -> Lodger<'a, R>
+    ) -> SessionDesk<'a, R>
         ensures { result ≡ record { seat = place.seat; receipts = [] } }
     {
         let Place {
@@ -46,25 +46,25 @@ impl<'a, R: Wait> Lodger<'a, R> {
             held,
             receipts,
         } = place;
-        Lodger {
+        SessionDesk {
             seated: Seated {
                 rt,
                 shared,
                 seat,
                 receipts,
             },
-            told: Told::new(),
+            session_receipts: SessionReceipts::new(),
             held,
-            drawer,
+            store,
         }
     }
 }
 
-impl<R: Wait> Desk for Lodger<'_, R> {
+impl<R: Wait> Desk for SessionDesk<'_, R> {
     ghost use Rattle.fb_shared.specs.Sitting.{IsCheckpointSitting};
-    ghost use Rattle.fb_host.specs.Lodging.{IsCallLodging};
+    ghost use Rattle.fb_host.specs.HostSessions.{IsHostCall};
 
-    ghost step = { IsCallLodging };
+    ghost step = { IsHostCall };
 
     ghost checkpoint_step = { IsCheckpointSitting };
 
@@ -76,12 +76,12 @@ impl<R: Wait> Desk for Lodger<'_, R> {
             Ok(answer) => {
                 match self.seated.receipts.last() {
                     Some(receipt) => {
-                        self.told = self.told.then(receipt);
+                        self.session_receipts = self.session_receipts.then(receipt);
                         note(&mut self.held, request, &answer, receipt.number());
                     }
                     None => unreachable!(),
                 }
-                self.drawer.add(self.seated.rt, &mut self.seated.receipts);
+                self.store.add(self.seated.rt, &mut self.seated.receipts);
                 Ok(answer)
             }
             Err(DeskError::HistoryFull) => Err(DeskError::Memory),

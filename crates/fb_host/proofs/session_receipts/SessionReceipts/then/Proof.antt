@@ -26,12 +26,12 @@ use denote.Triple.Spec.{Meets, triple_of}
 use denote.Triple.Table.{entered}
 use denote.Triple.Walked.{says, Stays, stay_dropped, walk_of, ends_at, walk_Meets, Goes-dropped}
 use Rattle.fb_streams.proofs.TapeSteps.{none, none_made}
-use Rattle.fb_host.specs.contracts.told.Told as Told
+use Rattle.fb_host.specs.contracts.session_receipts.SessionReceipts as SessionReceipts
 use Rattle.fb_locked.specs.contracts.seat.Receipt as Receipt
-use Rattle.fb_host.specs.contracts.told.Told.then as F
-use Rattle.fb_host.specs.contracts.told.Told.then.Key.{name as #self}
-use Rattle.fb_host.proofs.told.Told.then.Statement as stated
-use Rattle.fb_host.proofs.told.Told.then.Code as code
+use Rattle.fb_host.specs.contracts.session_receipts.SessionReceipts.then as F
+use Rattle.fb_host.specs.contracts.session_receipts.SessionReceipts.then.Key.{name as #self}
+use Rattle.fb_host.proofs.session_receipts.SessionReceipts.then.Statement as stated
+use Rattle.fb_host.proofs.session_receipts.SessionReceipts.then.Code as code
 
 abbrev function : Fn
 function = code.function
@@ -61,7 +61,7 @@ module _ {M : Type 1} {𝓤 : Ura M} (𝓛 : Logic 𝓤) (at_mem : Memory → SP
         let vss = z.0.4 in
         let u : Val = vptr a.0.ref_ptr.0 a.0.ref_ptr.1 in
         let v : Val = vptr a.1.0.ref_ptr.0 a.1.0.ref_ptr.1 in
-        let told : (Told.the_row).Denot = record { claims = a.0.now.claims ++ a.1.0.now ∷ [] } in
+        let session_receipts : (SessionReceipts.the_row).Denot = record { all = a.0.now.all ++ a.1.0.now ∷ [] } in
         qed 𝓛 ((raw toks ⊛ ‵ (owns (types_at ended.signature.params z.0.0) a vss)) ∷ raw ((held z.0.0 a).requires z.1) ∷ []) ∵
         keep ! (0 ∷ []) $ split ! $ move ! (1 ∷ []) $ fsplit ! $ fsplit ! $ feq_l ! (λ is₀. drop ! $ fsplit ! $ fsplit ! $ feq_l ! (λ is₁. drop ! $ drop ! $
         regoal ! (λ (us : List Val). prop (WpFn 𝓤 H C Λ function (us ++ (vss.1.0 ++ [])) Post)) is₀ refl $
@@ -70,12 +70,12 @@ module _ {M : Type 1} {𝓤 : Ura M} (𝓛 : Logic 𝓤) (at_mem : Memory → SP
         sets ! (agg ! (no_more !)) refl (tt, tt) $
         nothing ! $ none_made ! $ fjoin ! $
         returns ! (look_at ! 0 refl) $ free_all ! refl $
-        suffices ! _ (ends_at 𝓛 ended stayed held z none told (tt, (tt, tt)) (tt, (tt, tt))) $ says ! refl $
+        suffices ! _ (ends_at 𝓛 ended stayed held z none session_receipts (tt, (tt, tt)) (tt, (tt, tt))) $ says ! refl $
         nothing ! $ nothing ! $ fjoin ! $ nothing ! $ fjoin ! $ move ! (2 ∷ 0 ∷ 1 ∷ []) $ done !)))
 
   meets : (𝓣 : Tables 𝓤 H) → Meets 𝓛 ended.signature (WpFn 𝓤 H 𝓣.C 𝓣.Λ function) (closing 𝓛 ended held)
   meets 𝓣 =
-      walk_Meets 𝓛 ended stayed (Goes-dropped 𝓛 2 (RefOf (0 ∷ []) tt (plain (λ _. Told.the_row)) (λ _. tt)) yes (λ κs x f. refl), (Goes-dropped 𝓛 2 (RefOf (1 ∷ []) tt (plain (λ _. Receipt.the_row)) (λ _. tt)) yes (λ κs x f. refl), tt)) held
+      walk_Meets 𝓛 ended stayed (Goes-dropped 𝓛 2 (RefOf (0 ∷ []) tt (plain (λ _. SessionReceipts.the_row)) (λ _. tt)) yes (λ κs x f. refl), (Goes-dropped 𝓛 2 (RefOf (1 ∷ []) tt (plain (λ _. Receipt.the_row)) (λ _. tt)) yes (λ κs x f. refl), tt)) held
       (WpFn 𝓤 H 𝓣.C 𝓣.Λ function) (WpFn-mono 𝓤 H 𝓛.laws 𝓣 function) (walks 𝓣.C 𝓣.Λ)
 
 pub then_spec : {M : Type 1} → stated.statement M

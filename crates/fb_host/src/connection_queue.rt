@@ -1,0 +1,97 @@
+//! The connections for which threads wait.
+use crate::connection::Connection;
+use std::alloc::Global;
+use std::sync::{Condvar, Mutex, Wait};
+
+/// Connections for threads that wait for them. One is taken in only if a thread is free, so it never holds more than there are threads.
+pub(crate) struct ConnectionQueue {
+    state: Mutex<QueueState>,
+    changed: Condvar,
+}
+
+impl Drop for ConnectionQueue {
+    fn drop(self) {
+        let Self {
+            state: _,
+            changed: _,
+        } = self;
+    }
+}
+
+/// The connections that no thread has taken yet, and how many threads are free beyond those that will take these.
+#[derive(Drop)]
+struct QueueState {
+    connections: Vec<Connection>,
+    idle: u64,
+    closed: bool,
+}
+
+impl QueueState {
+    fn put(&mut self, connection: Connection) -> Option<Connection> {
+        if self.closed || self.idle == 0 || self.connections.reserve(1).is_err() {
+            return Some(connection);
+        }
+        self.idle -= 1;
+        self.connections.push_reserved(connection);
+        None
+    }
+
+    fn add_idle(&mut self) {
+        self.idle = self.idle.saturating_add(1);
+    }
+}
+
+impl ConnectionQueue {
+    /// For this number of threads, which are free.
+    pub(crate) fn new(alloc: Global, threads: u64) -> ConnectionQueue {
+        let waiting = QueueState {
+            connections: Vec::new(alloc),
+            idle: threads,
+            closed: false,
+        };
+        ConnectionQueue {
+            state: Mutex::new(waiting),
+            changed: Condvar::new(),
+        }
+    }
+
+    /// Takes a connection in, or gives it back if no thread is free.
+    pub(crate) fn offer<R: Wait>(&self, rt: &R, connection: Connection) -> Option<Connection> {
+        let back = self.state.lock(rt).put(connection);
+        if back.is_none() {
+            self.changed.notify_one();
+        }
+        back
+    }
+
+    /// Whether a thread is free.
+    pub(crate) fn has_idle<R: Wait>(&self, rt: &R) -> bool {
+        0 < self.state.lock(rt).idle
+    }
+
+    /// A thread that had a connection is free again.
+    pub(crate) fn add_idle<R: Wait>(&self, rt: &R) {
+        self.state.lock(rt).add_idle();
+    }
+
+    /// Waits for a connection. None if no further one comes.
+    pub(crate) fn next<R: Wait>(&self, rt: &R) -> Option<Connection> {
+        let mut state = self.state.lock(rt);
+        for _ in rt.forever() {
+            if let Some(connection) = state.connections.pop() {
+                return Some(connection);
+            }
+            if state.closed {
+                return None;
+            }
+            state = self.changed.wait(rt, state);
+        }
+        unreachable!()
+    }
+
+    /// No further connection is taken in.
+    pub(crate) fn close<R: Wait>(&self, rt: &R) {
+        self.state.lock(rt).closed = true;
+        self.changed.notify_all();
+    }
+}
