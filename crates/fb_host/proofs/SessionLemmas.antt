@@ -42,7 +42,7 @@ leads_on seat middle after one two = (one.0 ++ two.0, run_append seat one.0 two.
 pub leads_adds : (seat : SeatView) (old : List ReceiptView) (after : SeatView) (new : List ReceiptView) → AddsRun seat old after new → LeadsTo seat after
 leads_adds seat old after new adds = (adds.0, adds.2)
 
-pub leads_run : (seat after : SeatView) (claims : List ReceiptView) → IsRun seat claims after → LeadsTo seat after
-leads_run seat after claims run = (claims, run)
+pub leads_run : (seat after : SeatView) (receipts : List ReceiptView) → IsRun seat receipts after → LeadsTo seat after
+leads_run seat after receipts run = (receipts, run)
 
 pub ruleset leads = (leads_nowhere, leads_on, leads_adds, leads_run)

@@ -17,4 +17,4 @@ HostStep = Exchanges IsHostCall IsCheckpointSitting
 
 -- calls with the seat, one after another, lead from the first to the second
 abbrev pub LeadsTo : SeatView → SeatView → Type 0
-LeadsTo seat after = (claims : List ReceiptView) × IsRun seat claims after
+LeadsTo seat after = (receipts : List ReceiptView) × IsRun seat receipts after

@@ -1,6 +1,6 @@
 pub mod Closings
 pub mod EachCaller
-pub mod NextClaims
+pub mod NextReceipts
 pub mod Rolls
 pub mod Takes
 pub mod Works

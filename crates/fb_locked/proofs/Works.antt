@@ -29,10 +29,10 @@ pub adds_none : (hand : Hand) (most : ℕ) (seat : SeatView) (old : List Receipt
 adds_none hand most seat old = adds_nothing hand most seat seat old old refl refl
 
 -- one receipt
-pub adds_call : (hand : Hand) (seat after : SeatView) (old new : List ReceiptView) (call : Call) (claim : ReceiptView) → IsReceiptOf seat call claim → Follows hand call → new ≡ old ++ claim ∷ [] → after ≡ seat_after seat claim → AddsWork hand 1 seat old new after (hand_after call claim.entry.reply)
-adds_call hand seat after old new call claim fits follows pushed moved =
-    subst (λ (c : Call). IsReceiptOf seat c claim → Follows hand c → AddsWork hand 1 seat old new after (hand_after c claim.entry.reply)) fits.call_is
-    (λ is goes. record { added = claim ∷ []; behind = pushed; run = (is, moved); work = (goes, refl); few = omega arith })
+pub adds_call : (hand : Hand) (seat after : SeatView) (old new : List ReceiptView) (call : Call) (receipt : ReceiptView) → IsReceiptOf seat call receipt → Follows hand call → new ≡ old ++ receipt ∷ [] → after ≡ seat_after seat receipt → AddsWork hand 1 seat old new after (hand_after call receipt.entry.reply)
+adds_call hand seat after old new call receipt fits follows pushed moved =
+    subst (λ (c : Call). IsReceiptOf seat c receipt → Follows hand c → AddsWork hand 1 seat old new after (hand_after c receipt.entry.reply)) fits.call_is
+    (λ is goes. record { added = receipt ∷ []; behind = pushed; run = (is, moved); work = (goes, refl); few = omega arith })
     fits follows
 
 -- receipts, and then others

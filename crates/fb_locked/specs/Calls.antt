@@ -5,24 +5,24 @@ use Rattle.fb_bench.specs.History.BenchView.{reply_at}
 use Rattle.fb_bench.specs.Requests.{reply_in}
 use Rattle.fb_bench.specs.declared.answers.Answered.{Answered}
 use Rattle.fb_locked.specs.declared.locked.SharedRefused.{SharedRefused}
-use Rattle.fb_locked.specs.Seats.{LockedView, SeatView, ReceiptView, locked_after, next_claim, seat_after, IsReceiptOf}
+use Rattle.fb_locked.specs.Seats.{LockedView, SeatView, ReceiptView, locked_after, next_receipt, seat_after, IsReceiptOf}
 use Rattle.fb_locked.specs.Refusals.{refusal_of, RefusedAs, IsRefusalOf}
 
 -- The call is the machine's next step, recorded, and its receipt is that record with its number. Or the first cause refuses it, want
 -- of memory where there is none, and nothing changes.
 abbrev pub Performs : {R : Type 0} → LockedView → SeatView → Call → (R → ReceiptView) → Result R SharedRefused → LockedView → SeatView → Type 0
-Performs locked seat call claim_of (Ok made) locked' seat' =
+Performs locked seat call receipt_of (Ok made) locked' seat' =
     (refusal_of locked seat ≡ None)
-    × (claim_of made ≡ next_claim locked seat.caller call)
+    × (receipt_of made ≡ next_receipt locked.bench seat.caller call)
     × (locked' ≡ locked_after locked seat.caller call)
-    × (seat' ≡ seat_after seat (claim_of made))
-Performs locked seat call claim_of (Err refused) locked' seat' =
+    × (seat' ≡ seat_after seat (receipt_of made))
+Performs locked seat call receipt_of (Err refused) locked' seat' =
     RefusedAs (refusal_of locked seat) refused × (locked' ≡ locked) × (seat' ≡ seat)
 
 -- a receipt of the call, which the seat has then seen; or a refusal, and the seat unchanged
 abbrev pub Answers : {R : Type 0} → SeatView → Call → (R → ReceiptView) → Result R SharedRefused → SeatView → Type 0
-Answers seat call claim_of (Ok made) seat' = IsReceiptOf seat call (claim_of made) × (seat' ≡ seat_after seat (claim_of made))
-Answers seat call claim_of (Err refused) seat' = IsRefusalOf seat refused × (seat' ≡ seat)
+Answers seat call receipt_of (Ok made) seat' = IsReceiptOf seat call (receipt_of made) × (seat' ≡ seat_after seat (receipt_of made))
+Answers seat call receipt_of (Err refused) seat' = IsRefusalOf seat refused × (seat' ≡ seat)
 
 -- ---- with the receipt kept behind others
 
@@ -30,9 +30,9 @@ Answers seat call claim_of (Err refused) seat' = IsRefusalOf seat refused × (se
 abbrev pub Keeps : LockedView → SeatView → Call → List ReceiptView → LockedView → SeatView → List ReceiptView → Type 0
 Keeps locked seat call old locked' seat' new =
     (refusal_of locked seat ≡ None)
-    × (new ≡ old ++ next_claim locked seat.caller call ∷ [])
+    × (new ≡ old ++ next_receipt locked.bench seat.caller call ∷ [])
     × (locked' ≡ locked_after locked seat.caller call)
-    × (seat' ≡ seat_after seat (next_claim locked seat.caller call))
+    × (seat' ≡ seat_after seat (next_receipt locked.bench seat.caller call))
 
 -- nothing changes
 abbrev pub Stays : LockedView → SeatView → List ReceiptView → LockedView → SeatView → List ReceiptView → Type 0
@@ -47,5 +47,5 @@ PerformsKept locked seat call (Err refused) old locked' seat' new = RefusedAs (r
 -- one receipt more, which is of the call, with its answer, and which the seat has then seen; or a refusal, and all as it was
 abbrev pub AnswersKept : SeatView → Call → Result Answered SharedRefused → List ReceiptView → SeatView → List ReceiptView → Type 0
 AnswersKept seat call (Ok answer) old seat' new =
-    (claim : ReceiptView) × (new ≡ old ++ claim ∷ []) × IsReceiptOf seat call claim × (claim.entry.reply ≡ reply_in answer) × (seat' ≡ seat_after seat claim)
+    (receipt : ReceiptView) × (new ≡ old ++ receipt ∷ []) × IsReceiptOf seat call receipt × (receipt.entry.reply ≡ reply_in answer) × (seat' ≡ seat_after seat receipt)
 AnswersKept seat call (Err refused) old seat' new = IsRefusalOf seat refused × (new ≡ old) × (seat' ≡ seat)

@@ -30,7 +30,7 @@ AreSeatsRight bench seats = (q : ℕ) → has_wrong_seat bench seats q ≡ false
 
 -- the record of the receipt's number is the receipt's. A call from before the history begins has no record any more
 abbrev pub IsReceiptRight : BenchView → ReceiptView → Type 0
-IsReceiptRight bench claim = record_numbered bench claim.number ≡ Some claim.entry
+IsReceiptRight bench receipt = record_numbered bench receipt.number ≡ Some receipt.entry
 
 -- how many of the receipts have this number
 abbrev pub times : ℕ → List ReceiptView → ℕ
@@ -80,13 +80,13 @@ EnoughShowAll bench receipts = (caller : ℕ) → receipts_of caller receipts �
 abbrev pub IsFirstWrong : BenchView → List ReceiptView → ℕ → ℕ → Type 0
 IsFirstWrong bench receipts k number =
     AreReceiptsRight bench (take k receipts)
-    × ((claim : ReceiptView) × (slice_get receipts k ≡ Some claim) × (claim.number ≡ number) × (IsReceiptRight bench claim → ⊥))
+    × ((receipt : ReceiptView) × (slice_get receipts k ≡ Some receipt) × (receipt.number ≡ number) × (IsReceiptRight bench receipt → ⊥))
 
 -- the k-th receipt is right, as are those before it, and one of these has its number
 abbrev pub IsFirstTwice : BenchView → List ReceiptView → ℕ → ℕ → Type 0
 IsFirstTwice bench receipts k number =
     AreReceiptsRight bench (take k receipts)
-    × ((claim : ReceiptView) × (slice_get receipts k ≡ Some claim) × (claim.number ≡ number) × IsReceiptRight bench claim)
+    × ((receipt : ReceiptView) × (slice_get receipts k ≡ Some receipt) × (receipt.number ≡ number) × IsReceiptRight bench receipt)
     × (times number (take k receipts) ≡ 1)
 
 -- the first fault of a list of receipts

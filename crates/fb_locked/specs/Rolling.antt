@@ -59,7 +59,7 @@ Returns since locked seat key (Err refused) old locked' seat' new = IsOutSince l
 -- what is said of the seat and its receipts alone: one receipt more, of the key given back; or nothing changes
 abbrev pub MayReturn : {T : Type 0} → SeatView → Key → Result T SharedRefused → List ReceiptView → SeatView → List ReceiptView → Type 0
 MayReturn seat key (Ok done) old seat' new =
-    ((claim : ReceiptView) × (new ≡ old ++ claim ∷ []) × IsReceiptOf seat (ToGiveBack key) claim × (seat' ≡ seat_after seat claim)) ⊎ ((new ≡ old) × (seat' ≡ seat))
+    ((receipt : ReceiptView) × (new ≡ old ++ receipt ∷ []) × IsReceiptOf seat (ToGiveBack key) receipt × (seat' ≡ seat_after seat receipt)) ⊎ ((new ≡ old) × (seat' ≡ seat))
 MayReturn seat key (Err refused) old seat' new = IsRefusalOf seat refused × (new ≡ old) × (seat' ≡ seat)
 
 -- ---- laws

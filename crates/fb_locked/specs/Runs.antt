@@ -12,7 +12,7 @@ use Rattle.fb_locked.specs.Seats.{SeatView, ReceiptView, IsReceiptOf, seat_after
 -- the receipts are of calls with the seat, one after another
 abbrev pub IsRun : SeatView → List ReceiptView → SeatView → Type 0
 IsRun seat [] after = after ≡ seat
-IsRun seat (claim ∷ claims) after = IsReceiptOf seat claim.entry.call claim × IsRun (seat_after seat claim) claims after
+IsRun seat (receipt ∷ receipts) after = IsReceiptOf seat receipt.entry.call receipt × IsRun (seat_after seat receipt) receipts after
 
 -- what a worker holds between two calls: no job; a job that it has taken; or it has given one back, and is done
 pub data Hand : Type 0 where
@@ -51,7 +51,7 @@ Follows Gave call = ⊥
 -- the receipts are of a worker's calls, which lead from what it held to what it holds now
 abbrev pub IsWork : Hand → List ReceiptView → Hand → Type 0
 IsWork hand [] now = now ≡ hand
-IsWork hand (claim ∷ claims) now = Follows hand claim.entry.call × IsWork (hand_after claim.entry.call claim.entry.reply) claims now
+IsWork hand (receipt ∷ receipts) now = Follows hand receipt.entry.call × IsWork (hand_after receipt.entry.call receipt.entry.reply) receipts now
 
 -- Receipts of calls with the seat, as a worker makes them, are added at the end, at most this number.
 pub record AddsWork (hand : Hand) (most : ℕ) (seat : SeatView) (old new : List ReceiptView) (after : SeatView) (now : Hand) : Type 0 where

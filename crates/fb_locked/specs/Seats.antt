@@ -2,7 +2,7 @@
 use Rattle.std.specs.Prelude.{◌≡◌, ℕ, ◌+◌, ◌<◌, List, Bool, Some, length, slice_get}
 use Rattle.fb_bench.specs.Calls.{Fits}
 use Rattle.fb_bench.specs.History.Machine.{Call}
-use Rattle.fb_bench.specs.History.BenchView.{Record, BenchView, all_turns, last_number, recorded, record_of}
+use Rattle.fb_bench.specs.History.BenchView.{Record, BenchView, all_turns, last_number, recorded, record_of, IsOrigin, IsReplay}
 
 -- a seat: whose it is, how many calls of its caller it knows of, and the greatest number of a record that it has seen
 pub record SeatView : Type 0 where
@@ -26,20 +26,27 @@ abbrev pub locked_after : LockedView → ℕ → Call → LockedView
 locked_after locked caller call = record locked { bench = recorded locked.bench caller call }
 
 -- the receipt of the call that is recorded next
-abbrev pub next_claim : LockedView → ℕ → Call → ReceiptView
-next_claim locked caller call = record { number = last_number locked.bench + 1; entry = record_of locked.bench caller call }
+abbrev pub next_receipt : BenchView → ℕ → Call → ReceiptView
+next_receipt bench caller call = record { number = last_number bench + 1; entry = record_of bench caller call }
+
+-- The receipt is of the call as a workbench records it next: one that begins as a workbench may, and each of whose answers is the machine's. So
+-- the reply is what that machine gives in the state that the calls before it lead to.
+abbrev pub IsRecordedNext : ℕ → Call → ReceiptView → Type 0
+IsRecordedNext caller call receipt =
+    (bench : BenchView) × IsOrigin bench.origin × IsReplay bench × (receipt ≡ next_receipt bench caller call)
 
 -- the seat after the call of this receipt
 abbrev pub seat_after : SeatView → ReceiptView → SeatView
-seat_after seat claim = record seat { turns = claim.entry.turn; seen = claim.number }
+seat_after seat receipt = record seat { turns = receipt.entry.turn; seen = receipt.number }
 
--- the receipt is of this call, the seat's next, with a reply of its kind, and newer than all that the seat has seen
-pub record IsReceiptOf (seat : SeatView) (call : Call) (claim : ReceiptView) : Type 0 where
-  pub caller_is : claim.entry.caller ≡ seat.caller
-  pub call_is : claim.entry.call ≡ call
-  pub turn_is : claim.entry.turn ≡ seat.turns + 1
-  pub reply_fits : Fits call claim.entry.reply
-  pub later : seat.seen < claim.number
+-- the receipt is of this call, the seat's next, with the machine's reply, and newer than all that the seat has seen
+pub record IsReceiptOf (seat : SeatView) (call : Call) (receipt : ReceiptView) : Type 0 where
+  pub caller_is : receipt.entry.caller ≡ seat.caller
+  pub call_is : receipt.entry.call ≡ call
+  pub turn_is : receipt.entry.turn ≡ seat.turns + 1
+  pub reply_fits : Fits call receipt.entry.reply
+  pub later : seat.seen < receipt.number
+  pub recorded_is : IsRecordedNext seat.caller call receipt
 
 -- the seat of a caller as a history leaves it
 abbrev pub seat_at : BenchView → ℕ → SeatView

@@ -3,11 +3,11 @@ ghost use Rattle.std.specs.Prelude.{◌≡◌, ◌≤◌, ◌+◌, true, false, 
 ghost use Rattle.fb_bench.specs.History.Machine.{ToCommit, ToTake, ToDeliver, ToGiveBack, ToAsk};
 ghost use Rattle.fb_bench.specs.Records.{listed};
 ghost use Rattle.fb_bench.specs.Requests.{call_for, reply_in, job_of};
-ghost use Rattle.fb_bench.specs.History.BenchView.{all_turns, new_bench};
+ghost use Rattle.fb_bench.specs.History.BenchView.{IsOrigin, IsReplay, all_turns, new_bench};
 ghost use Rattle.fb_locked.specs.Book.{SeatFits};
 ghost use Rattle.fb_locked.specs.Calls.{Answers, AnswersKept, Performs, PerformsKept};
 ghost use Rattle.fb_locked.specs.Refusals.{refusal_of, IsRefusalOf};
-ghost use Rattle.fb_locked.specs.Seats.{locked_after, next_claim, AreFirstSeats, AreSeatsAt};
+ghost use Rattle.fb_locked.specs.Seats.{locked_after, next_receipt, AreFirstSeats, AreSeatsAt};
 
 use crate::seat::{Receipt, Seat};
 use fb_bench::jobs::{Finished, Job, Key};
@@ -112,7 +112,12 @@ impl Locked {
         ensures fits { OnOk result (SeatFits self.now seat.now) }
         ensures err { IfErr result (λ refused. refusal_of self.now seat.now ≡ Some refused) }
         ensures cause { IfErr result (IsRefusalOf seat.now) }
+        ensures begins { IsOrigin self.now.bench.origin }
+        ensures replayed { IsReplay self.now.bench }
     {
+        // That each recorded answer is the machine's, from a start that a workbench may have.
+        self.bench.start();
+        self.bench.len();
         let turns = seat.turns();
         let book = self.book(seat.caller());
         if book != turns {
@@ -158,7 +163,7 @@ impl Locked {
     ) -> Result<(Receipt, Answered), AllocError>
         ensures step { OnOk result (self.new ≡ locked_after self.old caller (call_for request.now)) }
         ensures receipt { IfOk result
-            (λ made. made.0 ≡ next_claim self.old caller (call_for request.now)) }
+            (λ made. made.0 ≡ next_receipt self.old.bench caller (call_for request.now)) }
         ensures answer { IfOk result (λ made. reply_in made.1 ≡ made.0.entry.reply) }
         ensures err { OnErr result (self.new ≡ self.old) }
     {
@@ -197,9 +202,9 @@ impl Locked {
     /// Changes the texts, or says what is first against it.
     pub fn commit(&mut self, seat: &mut Seat, changes: &[Change]) -> Result<Receipt, SharedRefused>
         ensures performs { Performs self.old seat.old (ToCommit (listed changes.now))
-            (λ claim. claim) result self.new seat.new }
+            (λ receipt. receipt) result self.new seat.new }
         ensures answers { Answers seat.old (ToCommit (listed changes.now))
-            (λ claim. claim) result seat.new }
+            (λ receipt. receipt) result seat.new }
     {
         let _finished: Option<&Finished> = None;
         Ok(self.perform(seat, &Request::Commit(changes))?.0)
@@ -225,9 +230,9 @@ impl Locked {
         finished: &Finished,
     ) -> Result<Receipt, SharedRefused>
         ensures performs { Performs self.old seat.old (ToDeliver finished.now)
-            (λ claim. claim) result self.new seat.new }
+            (λ receipt. receipt) result self.new seat.new }
         ensures answers { Answers seat.old (ToDeliver finished.now)
-            (λ claim. claim) result seat.new }
+            (λ receipt. receipt) result seat.new }
     {
         let _changes: &[Change] = &[];
         Ok(self.perform(seat, &Request::Deliver(finished))?.0)
@@ -236,8 +241,8 @@ impl Locked {
     /// Clears the mark that a key is handed out.
     pub fn give_back(&mut self, seat: &mut Seat, key: Key) -> Result<Receipt, SharedRefused>
         ensures performs { Performs self.old seat.old (ToGiveBack key)
-            (λ claim. claim) result self.new seat.new }
-        ensures answers { Answers seat.old (ToGiveBack key) (λ claim. claim) result seat.new }
+            (λ receipt. receipt) result self.new seat.new }
+        ensures answers { Answers seat.old (ToGiveBack key) (λ receipt. receipt) result seat.new }
     {
         let _changes: &[Change] = &[];
         let _finished: Option<&Finished> = None;
@@ -247,8 +252,8 @@ impl Locked {
     /// What is known of a key.
     pub fn ask(&mut self, seat: &mut Seat, key: Key) -> Result<Receipt, SharedRefused>
         ensures performs { Performs self.old seat.old (ToAsk key)
-            (λ claim. claim) result self.new seat.new }
-        ensures answers { Answers seat.old (ToAsk key) (λ claim. claim) result seat.new }
+            (λ receipt. receipt) result self.new seat.new }
+        ensures answers { Answers seat.old (ToAsk key) (λ receipt. receipt) result seat.new }
     {
         let _changes: &[Change] = &[];
         let _finished: Option<&Finished> = None;

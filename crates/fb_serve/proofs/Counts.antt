@@ -25,7 +25,7 @@ receipts_append caller xs ys = sum_by-append (own caller) xs ys
 
 -- ---- calls with one seat
 
-run_counts : (seat : SeatView) (claims : List ReceiptView) (after : SeatView) → IsRun seat claims after → (after.caller ≡ seat.caller) × (after.turns ≡ seat.turns + receipts_of seat.caller claims)
+run_counts : (seat : SeatView) (receipts : List ReceiptView) (after : SeatView) → IsRun seat receipts after → (after.caller ≡ seat.caller) × (after.turns ≡ seat.turns + receipts_of seat.caller receipts)
 run_counts seat [] after run =
     let none : receipts_of seat.caller [] ≡ 0 = refl in
     let same : after.turns ≡ seat.turns = ap (λ (s : SeatView). s.turns) run in
@@ -36,15 +36,15 @@ run_counts seat (c ∷ cs) after run =
     (rest.0, omega (arith, rest.1, run.0.turn_is, receipts_cons seat.caller c cs, here))
 
 -- all calls with a new seat
-pub run_shown : (seat : SeatView) (claims : List ReceiptView) (after : SeatView) → IsNew seat → IsRun seat claims after → IsShown claims after
-run_shown seat claims after new run =
-    let counts = run_counts seat claims after run in
-    let same : receipts_of after.caller claims ≡ receipts_of seat.caller claims = ap (λ q. receipts_of q claims) counts.0 in
+pub run_shown : (seat : SeatView) (receipts : List ReceiptView) (after : SeatView) → IsNew seat → IsRun seat receipts after → IsShown receipts after
+run_shown seat receipts after new run =
+    let counts = run_counts seat receipts after run in
+    let same : receipts_of after.caller receipts ≡ receipts_of seat.caller receipts = ap (λ q. receipts_of q receipts) counts.0 in
     omega (arith, new, counts.1, same)
 
-pub adds_shown : (seat after : SeatView) (old claims : List ReceiptView) → IsNew seat → old ≡ [] → AddsRun seat old after claims → IsShown claims after
-adds_shown seat after old claims new none adds =
-    run_shown seat claims after new (subst (λ (l : List ReceiptView). IsRun seat l after) (sym (adds.1 ∙ ap (λ (l : List ReceiptView). l ++ adds.0) none)) adds.2)
+pub adds_shown : (seat after : SeatView) (old receipts : List ReceiptView) → IsNew seat → old ≡ [] → AddsRun seat old after receipts → IsShown receipts after
+adds_shown seat after old receipts new none adds =
+    run_shown seat receipts after new (subst (λ (l : List ReceiptView). IsRun seat l after) (sym (adds.1 ∙ ap (λ (l : List ReceiptView). l ++ adds.0) none)) adds.2)
 
 -- ---- all seats
 

@@ -15,12 +15,12 @@ Shows old answered new =
 
 shows_more : (exchange : Exchange) (old mid new : SeatedView) (answered : List (Call × Reply)) → SitterStep old exchange mid → Shows mid answered new → Shows old (answered_before exchange answered) new
 shows_more (AskedCall call (Replied reply)) old mid new answered step rest =
-    let claim : ReceiptView = step.0 in
-    let first : IsReceiptOf old.seat claim.entry.call claim = subst (λ (c : Call). IsReceiptOf old.seat c claim) (sym step.2.call_is) step.2 in
-    let more : IsRun (seat_after old.seat claim) rest.0 new.seat = subst (λ (s : SeatView). IsRun s rest.0 new.seat) step.4 rest.3 in
-    let shown : (call, reply) ≡ call_shown claim = ap (λ (c : Call). (c, reply)) (sym step.2.call_is) ∙ ap (λ (r : Reply). (claim.entry.call, r)) (sym step.3) in (
-      claim ∷ rest.0,
-      rest.1 ∙ ap (λ (l : List ReceiptView). l ++ rest.0) step.1 ∙ append_assoc old.receipts (claim ∷ []) rest.0,
+    let receipt : ReceiptView = step.0 in
+    let first : IsReceiptOf old.seat receipt.entry.call receipt = subst (λ (c : Call). IsReceiptOf old.seat c receipt) (sym step.2.call_is) step.2 in
+    let more : IsRun (seat_after old.seat receipt) rest.0 new.seat = subst (λ (s : SeatView). IsRun s rest.0 new.seat) step.4 rest.3 in
+    let shown : (call, reply) ≡ call_shown receipt = ap (λ (c : Call). (c, reply)) (sym step.2.call_is) ∙ ap (λ (r : Reply). (receipt.entry.call, r)) (sym step.3) in (
+      receipt ∷ rest.0,
+      rest.1 ∙ ap (λ (l : List ReceiptView). l ++ rest.0) step.1 ∙ append_assoc old.receipts (receipt ∷ []) rest.0,
       ap (λ (l : List (Call × Reply)). (call, reply) ∷ l) rest.2 ∙ ap (λ (p : Call × Reply). p ∷ map call_shown rest.0) shown,
       (first, more),
     )

@@ -18,4 +18,4 @@ answered_in (exchange ∷ exchanges) = answered_before exchange (answered_in exc
 
 -- the call of a receipt, and its reply
 abbrev pub call_shown : ReceiptView → Call × Reply
-call_shown claim = (claim.entry.call, claim.entry.reply)
+call_shown receipt = (receipt.entry.call, receipt.entry.reply)

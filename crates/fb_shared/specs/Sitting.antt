@@ -17,7 +17,7 @@ pub record SeatedView : Type 0 where
 -- An answered call adds one receipt, which is of the call, with the reply, and which the seat has then seen. A refused one changes neither.
 abbrev pub IsCallSeated : SeatedView → Call → Answer → SeatedView → Type 0
 IsCallSeated old call (Replied reply) new =
-    (claim : ReceiptView) × (new.receipts ≡ old.receipts ++ claim ∷ []) × IsReceiptOf old.seat call claim × (claim.entry.reply ≡ reply) × (new.seat ≡ seat_after old.seat claim)
+    (receipt : ReceiptView) × (new.receipts ≡ old.receipts ++ receipt ∷ []) × IsReceiptOf old.seat call receipt × (receipt.entry.reply ≡ reply) × (new.seat ≡ seat_after old.seat receipt)
 IsCallSeated old call FullHistory new = new ≡ old
 IsCallSeated old call BehindHistory new = new ≡ old
 

@@ -154,7 +154,7 @@ impl Shared {
         changes: &[Change],
     ) -> Result<Receipt, SharedRefused>
         ensures { Answers seat.old (ToCommit (listed changes.now))
-            (λ claim. claim) result seat.new }
+            (λ receipt. receipt) result seat.new }
     {
         let mut hold = self.hold(rt);
         let answer = hold.state.commit(seat, changes);
@@ -184,7 +184,7 @@ impl Shared {
         seat: &mut Seat,
         finished: &Finished,
     ) -> Result<Receipt, SharedRefused>
-        ensures { Answers seat.old (ToDeliver finished.now) (λ claim. claim) result seat.new }
+        ensures { Answers seat.old (ToDeliver finished.now) (λ receipt. receipt) result seat.new }
     {
         let mut hold = self.hold(rt);
         let answer = hold.state.deliver(seat, finished);
@@ -199,7 +199,7 @@ impl Shared {
         seat: &mut Seat,
         key: Key,
     ) -> Result<Receipt, SharedRefused>
-        ensures { Answers seat.old (ToGiveBack key) (λ claim. claim) result seat.new }
+        ensures { Answers seat.old (ToGiveBack key) (λ receipt. receipt) result seat.new }
     {
         let mut hold = self.hold(rt);
         let answer = hold.state.give_back(seat, key);
@@ -209,7 +209,7 @@ impl Shared {
 
     /// What is known of a key.
     pub fn ask<R: Wait>(&self, rt: &R, seat: &mut Seat, key: Key) -> Result<Receipt, SharedRefused>
-        ensures { Answers seat.old (ToAsk key) (λ claim. claim) result seat.new }
+        ensures { Answers seat.old (ToAsk key) (λ receipt. receipt) result seat.new }
     {
         let mut hold = self.hold(rt);
         let answer = hold.state.ask(seat, key);
