@@ -58,116 +58,68 @@ use Rattle.fb_shared.specs.contracts.shared.Shared as Shared
 pub constant_field_send : IsSend (Constant.the_field).row
 constant_field_send = search (crosses, maps.crosses, sendable) depth 60 fits 20000
 
-pub constant_send : IsSend Constant.the_row
-constant_send = search (constant_field_send, crosses, maps.crosses, sendable) depth 60 fits 20000
-
 pub constant_field_sync : IsSync (Constant.the_field).row
 constant_field_sync = search (crosses, maps.crosses, sendable) depth 60 fits 20000
 
-pub constant_sync : IsSync Constant.the_row
-constant_sync = search (constant_field_sync, crosses, maps.crosses, sendable) depth 60 fits 20000
-
 pub variables_field_send : IsSend (Variables.the_field).row
-variables_field_send = search (constant_send, crosses, maps.crosses, sendable) depth 60 fits 20000
-
-pub variables_send : IsSend Variables.the_row
-variables_send = search (variables_field_send, crosses, maps.crosses, sendable) depth 60 fits 20000
+variables_field_send = search (constant_field_send, crosses, maps.crosses, sendable) depth 60 fits 20000
 
 pub variables_field_sync : IsSync (Variables.the_field).row
-variables_field_sync = search (constant_sync, crosses, maps.crosses, sendable) depth 60 fits 20000
-
-pub variables_sync : IsSync Variables.the_row
-variables_sync = search (variables_field_sync, crosses, maps.crosses, sendable) depth 60 fits 20000
+variables_field_sync = search (constant_field_sync, crosses, maps.crosses, sendable) depth 60 fits 20000
 
 pub interface_field_send : IsSend (Interface.the_field).row
-interface_field_send = search (variables_send, crosses, maps.crosses, sendable) depth 60 fits 20000
+interface_field_send = search (variables_field_send, crosses, maps.crosses, sendable) depth 60 fits 20000
 
 pub interface_field_sync : IsSync (Interface.the_field).row
-interface_field_sync = search (variables_sync, crosses, maps.crosses, sendable) depth 60 fits 20000
+interface_field_sync = search (variables_field_sync, crosses, maps.crosses, sendable) depth 60 fits 20000
 
 pub parameter_field_send : IsSend (Parameter.the_field).row
 parameter_field_send = search (constant_field_send, crosses, maps.crosses, sendable) depth 60 fits 20000
 
-pub parameter_send : IsSend Parameter.the_row
-parameter_send = search (parameter_field_send, crosses, maps.crosses, sendable) depth 60 fits 20000
-
 pub parameter_field_sync : IsSync (Parameter.the_field).row
 parameter_field_sync = search (constant_field_sync, crosses, maps.crosses, sendable) depth 60 fits 20000
 
-pub parameter_sync : IsSync Parameter.the_row
-parameter_sync = search (parameter_field_sync, crosses, maps.crosses, sendable) depth 60 fits 20000
-
 pub instance_field_send : IsSend (Instance.the_field).row
-instance_field_send = search (parameter_send, crosses, maps.crosses, sendable) depth 60 fits 20000
-
-pub instance_send : IsSend Instance.the_row
-instance_send = search (instance_field_send, crosses, maps.crosses, sendable) depth 60 fits 20000
+instance_field_send = search (parameter_field_send, crosses, maps.crosses, sendable) depth 60 fits 20000
 
 pub instance_field_sync : IsSync (Instance.the_field).row
-instance_field_sync = search (parameter_sync, crosses, maps.crosses, sendable) depth 60 fits 20000
-
-pub instance_sync : IsSync Instance.the_row
-instance_sync = search (instance_field_sync, crosses, maps.crosses, sendable) depth 60 fits 20000
+instance_field_sync = search (parameter_field_sync, crosses, maps.crosses, sendable) depth 60 fits 20000
 
 pub network_field_send : IsSend (Network.the_field).row
-network_field_send = search (instance_send, crosses, maps.crosses, sendable) depth 60 fits 20000
+network_field_send = search (instance_field_send, crosses, maps.crosses, sendable) depth 60 fits 20000
 
 pub network_field_sync : IsSync (Network.the_field).row
-network_field_sync = search (instance_sync, crosses, maps.crosses, sendable) depth 60 fits 20000
+network_field_sync = search (instance_field_sync, crosses, maps.crosses, sendable) depth 60 fits 20000
 
 pub application_field_send : IsSend (Application.the_field).row
 application_field_send = search (network_field_send, crosses, maps.crosses, sendable) depth 60 fits 20000
 
-pub application_send : IsSend Application.the_row
-application_send = search (application_field_send, crosses, maps.crosses, sendable) depth 60 fits 20000
-
 pub application_field_sync : IsSync (Application.the_field).row
 application_field_sync = search (network_field_sync, crosses, maps.crosses, sendable) depth 60 fits 20000
 
-pub application_sync : IsSync Application.the_row
-application_sync = search (application_field_sync, crosses, maps.crosses, sendable) depth 60 fits 20000
-
 pub device_field_send : IsSend (Device.the_field).row
-device_field_send = search (parameter_send, crosses, maps.crosses, sendable) depth 60 fits 20000
-
-pub device_send : IsSend Device.the_row
-device_send = search (device_field_send, crosses, maps.crosses, sendable) depth 60 fits 20000
+device_field_send = search (parameter_field_send, crosses, maps.crosses, sendable) depth 60 fits 20000
 
 pub device_field_sync : IsSync (Device.the_field).row
-device_field_sync = search (parameter_sync, crosses, maps.crosses, sendable) depth 60 fits 20000
-
-pub device_sync : IsSync Device.the_row
-device_sync = search (device_field_sync, crosses, maps.crosses, sendable) depth 60 fits 20000
+device_field_sync = search (parameter_field_sync, crosses, maps.crosses, sendable) depth 60 fits 20000
 
 pub system_field_send : IsSend (System.the_field).row
-system_field_send = search (application_send, device_send, crosses, maps.crosses, sendable) depth 60 fits 20000
+system_field_send = search (application_field_send, device_field_send, crosses, maps.crosses, sendable) depth 60 fits 20000
 
 pub system_field_sync : IsSync (System.the_field).row
-system_field_sync = search (application_sync, device_sync, crosses, maps.crosses, sendable) depth 60 fits 20000
+system_field_sync = search (application_field_sync, device_field_sync, crosses, maps.crosses, sendable) depth 60 fits 20000
 
 pub expr_field_send : IsSend (Expr.the_field).row
 expr_field_send = search (crosses, maps.crosses, expressions.crosses, sendable) depth 60 fits 20000
 
-pub expr_send : IsSend Expr.the_row
-expr_send = search (expr_field_send, crosses, maps.crosses, expressions.crosses, sendable) depth 60 fits 20000
-
 pub expr_field_sync : IsSync (Expr.the_field).row
 expr_field_sync = search (crosses, maps.crosses, expressions.crosses, sendable) depth 60 fits 20000
 
-pub expr_sync : IsSync Expr.the_row
-expr_sync = search (expr_field_sync, crosses, maps.crosses, expressions.crosses, sendable) depth 60 fits 20000
-
 pub stmt_field_send : IsSend (Stmt.the_field).row
-stmt_field_send = search (expr_field_send, expr_send, crosses, maps.crosses, expressions.crosses, statements.crosses, sendable) depth 60 fits 20000
-
-pub stmt_send : IsSend Stmt.the_row
-stmt_send = search (stmt_field_send, crosses, maps.crosses, expressions.crosses, statements.crosses, sendable) depth 60 fits 20000
+stmt_field_send = search (expr_field_send, crosses, maps.crosses, expressions.crosses, statements.crosses, sendable) depth 60 fits 20000
 
 pub stmt_field_sync : IsSync (Stmt.the_field).row
-stmt_field_sync = search (expr_field_sync, expr_sync, crosses, maps.crosses, expressions.crosses, statements.crosses, sendable) depth 60 fits 20000
-
-pub stmt_sync : IsSync Stmt.the_row
-stmt_sync = search (stmt_field_sync, crosses, maps.crosses, expressions.crosses, statements.crosses, sendable) depth 60 fits 20000
+stmt_field_sync = search (expr_field_sync, crosses, maps.crosses, expressions.crosses, statements.crosses, sendable) depth 60 fits 20000
 
 pub condition_field_send : IsSend (Condition.the_field).row
 condition_field_send = search (expr_field_send, crosses, maps.crosses, sendable) depth 60 fits 20000
@@ -178,32 +130,20 @@ condition_field_sync = search (expr_field_sync, crosses, maps.crosses, sendable)
 pub transition_field_send : IsSend (Transition.the_field).row
 transition_field_send = search (condition_field_send, crosses, maps.crosses, sendable) depth 60 fits 20000
 
-pub transition_send : IsSend Transition.the_row
-transition_send = search (transition_field_send, crosses, maps.crosses, sendable) depth 60 fits 20000
-
 pub transition_field_sync : IsSync (Transition.the_field).row
 transition_field_sync = search (condition_field_sync, crosses, maps.crosses, sendable) depth 60 fits 20000
 
-pub transition_sync : IsSync Transition.the_row
-transition_sync = search (transition_field_sync, crosses, maps.crosses, sendable) depth 60 fits 20000
-
 pub algorithm_field_send : IsSend (Algorithm.the_field).row
-algorithm_field_send = search (stmt_send, crosses, maps.crosses, sendable) depth 60 fits 20000
-
-pub algorithm_send : IsSend Algorithm.the_row
-algorithm_send = search (algorithm_field_send, crosses, maps.crosses, sendable) depth 60 fits 20000
+algorithm_field_send = search (stmt_field_send, crosses, maps.crosses, sendable) depth 60 fits 20000
 
 pub algorithm_field_sync : IsSync (Algorithm.the_field).row
-algorithm_field_sync = search (stmt_sync, crosses, maps.crosses, sendable) depth 60 fits 20000
-
-pub algorithm_sync : IsSync Algorithm.the_row
-algorithm_sync = search (algorithm_field_sync, crosses, maps.crosses, sendable) depth 60 fits 20000
+algorithm_field_sync = search (stmt_field_sync, crosses, maps.crosses, sendable) depth 60 fits 20000
 
 pub chart_field_send : IsSend (Chart.the_field).row
-chart_field_send = search (transition_send, algorithm_send, crosses, maps.crosses, sendable) depth 60 fits 20000
+chart_field_send = search (transition_field_send, algorithm_field_send, crosses, maps.crosses, sendable) depth 60 fits 20000
 
 pub chart_field_sync : IsSync (Chart.the_field).row
-chart_field_sync = search (transition_sync, algorithm_sync, crosses, maps.crosses, sendable) depth 60 fits 20000
+chart_field_sync = search (transition_field_sync, algorithm_field_sync, crosses, maps.crosses, sendable) depth 60 fits 20000
 
 pub typedeclaration_field_send : IsSend (TypeDeclaration.the_field).row
 typedeclaration_field_send = search (interface_field_send, network_field_send, chart_field_send, crosses, maps.crosses, sendable) depth 60 fits 20000
@@ -212,10 +152,10 @@ pub typedeclaration_field_sync : IsSync (TypeDeclaration.the_field).row
 typedeclaration_field_sync = search (interface_field_sync, network_field_sync, chart_field_sync, crosses, maps.crosses, sendable) depth 60 fits 20000
 
 pub structure_field_send : IsSend (Structure.the_field).row
-structure_field_send = search (variables_send, crosses, maps.crosses, sendable) depth 60 fits 20000
+structure_field_send = search (variables_field_send, crosses, maps.crosses, sendable) depth 60 fits 20000
 
 pub structure_field_sync : IsSync (Structure.the_field).row
-structure_field_sync = search (variables_sync, crosses, maps.crosses, sendable) depth 60 fits 20000
+structure_field_sync = search (variables_field_sync, crosses, maps.crosses, sendable) depth 60 fits 20000
 
 pub decl_field_send : IsSend (Decl.the_field).row
 decl_field_send = search (typedeclaration_field_send, system_field_send, structure_field_send, crosses, maps.crosses, sendable) depth 60 fits 20000
@@ -244,26 +184,14 @@ source_field_sync = search (body_field_sync, mentions_field_sync, crosses, maps.
 pub wanted_field_send : IsSend (Wanted.the_field).row
 wanted_field_send = search (crosses, maps.crosses, sendable) depth 60 fits 20000
 
-pub wanted_send : IsSend Wanted.the_row
-wanted_send = search (wanted_field_send, crosses, maps.crosses, sendable) depth 60 fits 20000
-
 pub wanted_field_sync : IsSync (Wanted.the_field).row
 wanted_field_sync = search (crosses, maps.crosses, sendable) depth 60 fits 20000
-
-pub wanted_sync : IsSync Wanted.the_row
-wanted_sync = search (wanted_field_sync, crosses, maps.crosses, sendable) depth 60 fits 20000
 
 pub fault_field_send : IsSend (Fault.the_field).row
 fault_field_send = search (crosses, maps.crosses, sendable) depth 60 fits 20000
 
-pub fault_send : IsSend Fault.the_row
-fault_send = search (fault_field_send, crosses, maps.crosses, sendable) depth 60 fits 20000
-
 pub fault_field_sync : IsSync (Fault.the_field).row
 fault_field_sync = search (crosses, maps.crosses, sendable) depth 60 fits 20000
-
-pub fault_sync : IsSync Fault.the_row
-fault_sync = search (fault_field_sync, crosses, maps.crosses, sendable) depth 60 fits 20000
 
 pub path_field_send : IsSend (Path.the_field).row
 path_field_send = search (crosses, maps.crosses, sendable) depth 60 fits 20000
@@ -274,44 +202,26 @@ path_field_sync = search (crosses, maps.crosses, sendable) depth 60 fits 20000
 pub flat_block_field_send : IsSend (FlatBlock.the_field).row
 flat_block_field_send = search (path_field_send, crosses, maps.crosses, sendable) depth 60 fits 20000
 
-pub flat_block_send : IsSend FlatBlock.the_row
-flat_block_send = search (flat_block_field_send, crosses, maps.crosses, sendable) depth 60 fits 20000
-
 pub flat_block_field_sync : IsSync (FlatBlock.the_field).row
 flat_block_field_sync = search (path_field_sync, crosses, maps.crosses, sendable) depth 60 fits 20000
-
-pub flat_block_sync : IsSync FlatBlock.the_row
-flat_block_sync = search (flat_block_field_sync, crosses, maps.crosses, sendable) depth 60 fits 20000
 
 pub link_field_send : IsSend (Link.the_field).row
 link_field_send = search (path_field_send, crosses, maps.crosses, sendable) depth 60 fits 20000
 
-pub link_send : IsSend Link.the_row
-link_send = search (link_field_send, crosses, maps.crosses, sendable) depth 60 fits 20000
-
 pub link_field_sync : IsSync (Link.the_field).row
 link_field_sync = search (path_field_sync, crosses, maps.crosses, sendable) depth 60 fits 20000
-
-pub link_sync : IsSync Link.the_row
-link_sync = search (link_field_sync, crosses, maps.crosses, sendable) depth 60 fits 20000
 
 pub border_field_send : IsSend (Border.the_field).row
 border_field_send = search (path_field_send, crosses, maps.crosses, sendable) depth 60 fits 20000
 
-pub border_send : IsSend Border.the_row
-border_send = search (border_field_send, crosses, maps.crosses, sendable) depth 60 fits 20000
-
 pub border_field_sync : IsSync (Border.the_field).row
 border_field_sync = search (path_field_sync, crosses, maps.crosses, sendable) depth 60 fits 20000
 
-pub border_sync : IsSync Border.the_row
-border_sync = search (border_field_sync, crosses, maps.crosses, sendable) depth 60 fits 20000
-
 pub flat_field_send : IsSend (Flat.the_field).row
-flat_field_send = search (flat_block_send, link_send, border_send, crosses, maps.crosses, sendable) depth 60 fits 20000
+flat_field_send = search (flat_block_field_send, link_field_send, border_field_send, crosses, maps.crosses, sendable) depth 60 fits 20000
 
 pub flat_field_sync : IsSync (Flat.the_field).row
-flat_field_sync = search (flat_block_sync, link_sync, border_sync, crosses, maps.crosses, sendable) depth 60 fits 20000
+flat_field_sync = search (flat_block_field_sync, link_field_sync, border_field_sync, crosses, maps.crosses, sendable) depth 60 fits 20000
 
 pub net_field_send : IsSend (Net.the_field).row
 net_field_send = search (flat_field_send, crosses, maps.crosses, sendable) depth 60 fits 20000
@@ -322,83 +232,53 @@ net_field_sync = search (flat_field_sync, crosses, maps.crosses, sendable) depth
 pub misplaced_field_send : IsSend (Misplaced.the_field).row
 misplaced_field_send = search (path_field_send, crosses, maps.crosses, sendable) depth 60 fits 20000
 
-pub misplaced_send : IsSend Misplaced.the_row
-misplaced_send = search (misplaced_field_send, crosses, maps.crosses, sendable) depth 60 fits 20000
-
 pub misplaced_field_sync : IsSync (Misplaced.the_field).row
 misplaced_field_sync = search (path_field_sync, crosses, maps.crosses, sendable) depth 60 fits 20000
-
-pub misplaced_sync : IsSync Misplaced.the_row
-misplaced_sync = search (misplaced_field_sync, crosses, maps.crosses, sendable) depth 60 fits 20000
 
 pub command_field_send : IsSend (Command.the_field).row
 command_field_send = search (crosses, maps.crosses, sendable) depth 60 fits 20000
 
-pub command_send : IsSend Command.the_row
-command_send = search (command_field_send, crosses, maps.crosses, sendable) depth 60 fits 20000
-
 pub command_field_sync : IsSync (Command.the_field).row
 command_field_sync = search (crosses, maps.crosses, sendable) depth 60 fits 20000
 
-pub command_sync : IsSync Command.the_row
-command_sync = search (command_field_sync, crosses, maps.crosses, sendable) depth 60 fits 20000
-
 pub resource_plan_field_send : IsSend (ResourcePlan.the_field).row
-resource_plan_field_send = search (path_field_send, command_send, crosses, maps.crosses, sendable) depth 60 fits 20000
-
-pub resource_plan_send : IsSend ResourcePlan.the_row
-resource_plan_send = search (resource_plan_field_send, crosses, maps.crosses, sendable) depth 60 fits 20000
+resource_plan_field_send = search (path_field_send, command_field_send, crosses, maps.crosses, sendable) depth 60 fits 20000
 
 pub resource_plan_field_sync : IsSync (ResourcePlan.the_field).row
-resource_plan_field_sync = search (path_field_sync, command_sync, crosses, maps.crosses, sendable) depth 60 fits 20000
-
-pub resource_plan_sync : IsSync ResourcePlan.the_row
-resource_plan_sync = search (resource_plan_field_sync, crosses, maps.crosses, sendable) depth 60 fits 20000
+resource_plan_field_sync = search (path_field_sync, command_field_sync, crosses, maps.crosses, sendable) depth 60 fits 20000
 
 pub deploy_field_send : IsSend (Deploy.the_field).row
-deploy_field_send = search (net_field_send, misplaced_send, link_send, resource_plan_send, crosses, maps.crosses, sendable) depth 60 fits 20000
+deploy_field_send = search (net_field_send, misplaced_field_send, link_field_send, resource_plan_field_send, crosses, maps.crosses, sendable) depth 60 fits 20000
 
 pub deploy_field_sync : IsSync (Deploy.the_field).row
-deploy_field_sync = search (net_field_sync, misplaced_sync, link_sync, resource_plan_sync, crosses, maps.crosses, sendable) depth 60 fits 20000
+deploy_field_sync = search (net_field_sync, misplaced_field_sync, link_field_sync, resource_plan_field_sync, crosses, maps.crosses, sendable) depth 60 fits 20000
 
 pub value_field_send : IsSend (Value.the_field).row
-value_field_send = search (fault_send, net_field_send, deploy_field_send, crosses, maps.crosses, sendable) depth 60 fits 20000
-
-pub value_send : IsSend Value.the_row
-value_send = search (value_field_send, crosses, maps.crosses, sendable) depth 60 fits 20000
+value_field_send = search (fault_field_send, net_field_send, deploy_field_send, crosses, maps.crosses, sendable) depth 60 fits 20000
 
 pub value_field_sync : IsSync (Value.the_field).row
-value_field_sync = search (fault_sync, net_field_sync, deploy_field_sync, crosses, maps.crosses, sendable) depth 60 fits 20000
-
-pub value_sync : IsSync Value.the_row
-value_sync = search (value_field_sync, crosses, maps.crosses, sendable) depth 60 fits 20000
+value_field_sync = search (fault_field_sync, net_field_sync, deploy_field_sync, crosses, maps.crosses, sendable) depth 60 fits 20000
 
 pub read_field_send : IsSend (Read.the_field).row
 read_field_send = search (source_field_send, source_field_sync, crosses, maps.crosses, sendable) depth 60 fits 20000
 
-pub read_send : IsSend Read.the_row
-read_send = search (read_field_send, crosses, maps.crosses, sendable) depth 60 fits 20000
-
 pub read_field_sync : IsSync (Read.the_field).row
 read_field_sync = search (source_field_send, source_field_sync, crosses, maps.crosses, sendable) depth 60 fits 20000
 
-pub read_sync : IsSync Read.the_row
-read_sync = search (read_field_sync, crosses, maps.crosses, sendable) depth 60 fits 20000
-
 pub derivation_field_send : IsSend (Derivation.the_field).row
-derivation_field_send = search (value_send, value_sync, read_send, read_sync, crosses, maps.crosses, sendable) depth 60 fits 20000
+derivation_field_send = search (value_field_send, value_field_sync, read_field_send, read_field_sync, crosses, maps.crosses, sendable) depth 60 fits 20000
 
 pub call_field_send : IsSend (Call.the_field).row
-call_field_send = search (wanted_send, crosses, maps.crosses, sendable) depth 60 fits 20000
+call_field_send = search (wanted_field_send, crosses, maps.crosses, sendable) depth 60 fits 20000
 
 pub call_field_sync : IsSync (Call.the_field).row
-call_field_sync = search (wanted_sync, crosses, maps.crosses, sendable) depth 60 fits 20000
+call_field_sync = search (wanted_field_sync, crosses, maps.crosses, sendable) depth 60 fits 20000
 
 pub reply_field_send : IsSend (Reply.the_field).row
-reply_field_send = search (wanted_send, value_send, value_sync, crosses, maps.crosses, sendable) depth 60 fits 20000
+reply_field_send = search (wanted_field_send, value_field_send, value_field_sync, crosses, maps.crosses, sendable) depth 60 fits 20000
 
 pub reply_field_sync : IsSync (Reply.the_field).row
-reply_field_sync = search (wanted_sync, value_send, value_sync, crosses, maps.crosses, sendable) depth 60 fits 20000
+reply_field_sync = search (wanted_field_sync, value_field_send, value_field_sync, crosses, maps.crosses, sendable) depth 60 fits 20000
 
 pub record_field_send : IsSend (Record.the_field).row
 record_field_send = search (call_field_send, reply_field_send, crosses, maps.crosses, sendable) depth 60 fits 20000
@@ -440,7 +320,7 @@ pub start_field_send : IsSend (Start.the_field).row
 start_field_send = search (library_field_send, crosses, maps.crosses, sendable) depth 60 fits 20000
 
 pub bench_field_send : IsSend (Bench.the_field).row
-bench_field_send = search (start_field_send, index_field_send, library_field_send, record_field_send, record_field_sync, value_send, value_sync, derivation_field_send, crosses, maps.crosses, sendable) depth 60 fits 20000
+bench_field_send = search (start_field_send, index_field_send, library_field_send, record_field_send, record_field_sync, value_field_send, value_field_sync, derivation_field_send, crosses, maps.crosses, sendable) depth 60 fits 20000
 
 pub locked_field_send : IsSend (Locked.the_field).row
 locked_field_send = search (bench_field_send, record_field_send, record_field_sync, crosses, maps.crosses, sendable) depth 60 fits 20000
