@@ -5,9 +5,9 @@ use Rattle.fb_locked.specs.Bench.Calls.{Replied, FullHistory, BehindHistory, Exc
 use Rattle.fb_locked.specs.Runs.{IsRun}
 use Rattle.fb_locked.specs.Seats.{SeatView, ReceiptView}
 use Rattle.fb_shared.specs.Sitting.{SeatedView, SitterStep}
-use Rattle.fb_serve.specs.Places.{AddsRun}
+use Rattle.fb_serve.specs.AddedReceipts.{AddsRun}
 use Rattle.fb_serve.specs.Sessions.{answered_in, call_shown}
-use Rattle.fb_serve.proofs.Places.{run_append}
+use Rattle.fb_serve.proofs.AddedReceipts.{run_append}
 use Rattle.fb_serve.proofs.Sessions.{session_shown}
 use Rattle.fb_host.specs.HostSessions.{LeadsTo, HostStep}
 

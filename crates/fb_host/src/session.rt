@@ -9,27 +9,27 @@ ghost use Rattle.fb_host.specs.HostSessions.{LeadsTo, HostStep};
 use crate::receipt_store::ReceiptStore;
 use crate::session_desk::SessionDesk;
 use crate::session_receipts::SessionReceipts;
-use fb_serve::{Place, give_back_held};
+use fb_serve::{CallerState, give_back_held};
 use fb_shared::{Seated, Shared};
 use fb_wire::{Feed, RunEnd, Sink, run_lines};
 use std::alloc::Global;
 use std::sync::Wait;
 
-/// How a session ended, its place, and the receipts of all its answered calls.
+/// How a session ended, the state of its caller, and the receipts of all its answered calls.
 #[derive(Drop)]
 pub struct SessionResult {
     pub end: RunEnd,
-    pub place: Place,
+    pub state: CallerState,
     pub session_receipts: SessionReceipts,
 }
 
-/// Answers the lines of the reader, in order, by a shared workbench at this place. A turn is one read.
+/// Answers the lines of the reader, in order, by a shared workbench with this caller's seat. A turn is one read.
 pub fn run_host_session<R: Wait, F: Feed, S: Sink>(
     rt: &R,
     alloc: Global,
     shared: &Shared,
     store: &ReceiptStore,
-    place: Place,
+    state: CallerState,
     reader: &mut F,
     writer: &mut S,
     turns: u64,
@@ -45,12 +45,12 @@ pub fn run_host_session<R: Wait, F: Feed, S: Sink>(
         (streams F.given F.left F.reads F.has_failed S.held S.is_flushed S.has_failed reader.new
         writer.new))
         × (answered_in conversation.pairs ≡ map call_shown result.session_receipts.all)
-        × Runs HostStep (record { seat = place.seat; receipts = [] }) conversation.pairs
-        (record { seat = result.place.seat; receipts = result.session_receipts.all }) }
+        × Runs HostStep (record { seat = state.seat; receipts = [] }) conversation.pairs
+        (record { seat = result.state.seat; receipts = result.session_receipts.all }) }
     // The receipts are of calls with this seat, one after another.
-    ensures run { IsRun place.seat result.session_receipts.all result.place.seat }
+    ensures run { IsRun state.seat result.session_receipts.all result.state.seat }
 {
-    let mut desk = SessionDesk::new(rt, shared, store, place);
+    let mut desk = SessionDesk::new(rt, shared, store, state);
     let end = run_lines(alloc, reader, writer, &mut desk, turns);
     let SessionDesk {
         seated,
@@ -64,24 +64,29 @@ pub fn run_host_session<R: Wait, F: Feed, S: Sink>(
         seat,
         receipts,
     } = seated;
-    let place = Place {
+    let state = CallerState {
         seat,
         held,
         receipts,
     };
     SessionResult {
         end,
-        place,
+        state,
         session_receipts,
     }
 }
 
 /// Gives back the keys that are still out since they were taken, as far as memory reaches; the others stay held. The receipts go to the store.
 #[tactic(auto, using(crate::proofs::SessionLemmas::leads))]
-pub fn give_back_all<R: Wait>(rt: &R, shared: &Shared, store: &ReceiptStore, place: &mut Place)
+pub fn give_back_all<R: Wait>(
+    rt: &R,
+    shared: &Shared,
+    store: &ReceiptStore,
+    state: &mut CallerState,
+)
     // The seat goes on where the calls lead.
-    ensures { LeadsTo place.old.seat place.new.seat }
+    ensures { LeadsTo state.old.seat state.new.seat }
 {
-    give_back_held(rt, shared, place);
-    store.add(rt, &mut place.receipts);
+    give_back_held(rt, shared, state);
+    store.add(rt, &mut state.receipts);
 }

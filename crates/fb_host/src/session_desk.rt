@@ -8,7 +8,7 @@ use fb_locked::bench::{
 };
 use fb_locked::jobs::{Finished, Key};
 use fb_locked::library::Change;
-use fb_serve::{Held, Place, forget, hold};
+use fb_serve::{CallerState, Held, forget, hold};
 use fb_shared::{Seated, Shared};
 use std::marker::Model;
 use std::sync::Wait;
@@ -32,20 +32,20 @@ impl<'a, R: Wait> Model for SessionDesk<'a, R> {
 }
 
 impl<'a, R: Wait> SessionDesk<'a, R> {
-    /// The desk at this place, of which nothing was asked yet.
+    /// The desk of this caller, of which nothing was asked yet.
     pub(crate) fn new(
         rt: &'a R,
         shared: &'a Shared,
         store: &'a ReceiptStore,
-        place: Place,
+        state: CallerState,
     ) -> SessionDesk<'a, R>
-        ensures { result ≡ record { seat = place.seat; receipts = [] } }
+        ensures { result ≡ record { seat = state.seat; receipts = [] } }
     {
-        let Place {
+        let CallerState {
             seat,
             held,
             receipts,
-        } = place;
+        } = state;
         SessionDesk {
             seated: Seated {
                 rt,

@@ -7,7 +7,7 @@ use crate::connection::{Connection, ConnectionReader};
 use crate::connection_queue::ConnectionQueue;
 use crate::receipt_store::ReceiptStore;
 use crate::session::{SessionResult, give_back_all, run_host_session};
-use fb_serve::{Place, keep_working, pause, say_error};
+use fb_serve::{CallerState, keep_working, pause, say_error};
 use fb_shared::{Seat, Shared, WorkEnd};
 use fb_wire::{FromRead, IntoWrite, RunEnd, error_of};
 use std::alloc::Global;
@@ -49,12 +49,12 @@ pub(crate) struct Results {
 }
 
 impl Results {
-    fn add<R: Wait>(&mut self, rt: &R, store: &ReceiptStore, place: Place) {
-        let Place {
+    fn add<R: Wait>(&mut self, rt: &R, store: &ReceiptStore, state: CallerState) {
+        let CallerState {
             seat,
             held: _,
             mut receipts,
-        } = place;
+        } = state;
         store.add(rt, &mut receipts);
         self.is_whole &= receipts.is_empty() && self.seats.push(seat).is_ok();
     }
@@ -63,7 +63,7 @@ impl Results {
         &mut self,
         rt: &R,
         store: &ReceiptStore,
-        started: Started<Place>,
+        started: Started<CallerState>,
     ) {
         let Started { threads, is_whole } = started;
         for thread in threads {
@@ -92,15 +92,15 @@ pub(crate) fn run_threads<R: Threads + Wait + Clock + Sync, E: Write + Send>(
     workers: Vec<Seat>,
 ) -> Results {
     thread::scope(thread::scope_env(), rt, |scope| {
-        let working = start_workers(scope, rt, alloc, host, workers);
-        let seated = start_sessions(scope, rt, alloc, host, errors, sessions);
-        let keeping = start_admission(scope, rt, alloc, host, secret);
-        let mut is_whole = working.is_whole && seated.is_whole && keeping.is_whole;
+        let workers = start_workers(scope, rt, alloc, host, workers);
+        let sessions = start_sessions(scope, rt, alloc, host, errors, sessions);
+        let admission = start_admission(scope, rt, alloc, host, secret);
+        let mut is_whole = workers.is_whole && sessions.is_whole && admission.is_whole;
         if is_whole {
             is_whole = accept_connections(rt, alloc, listener, host);
         }
         host.admission.close(rt);
-        for thread in keeping.threads {
+        for thread in admission.threads {
             thread.join(rt);
         }
         host.seats.close(rt);
@@ -108,9 +108,9 @@ pub(crate) fn run_threads<R: Threads + Wait + Clock + Sync, E: Write + Send>(
             seats: Vec::new(alloc),
             is_whole,
         };
-        results.add_all(rt, &host.receipts, seated);
+        results.add_all(rt, &host.receipts, sessions);
         host.shared.stop(rt);
-        results.add_all(rt, &host.receipts, working);
+        results.add_all(rt, &host.receipts, workers);
         results
     })
 }
@@ -121,7 +121,7 @@ fn start_workers<'s, Env, R: Threads + Wait + Clock + Sync>(
     alloc: Global,
     host: &'s HostState,
     seats: Vec<Seat>,
-) -> Started<Place> {
+) -> Started<CallerState> {
     let mut threads = Vec::new(alloc);
     let mut is_whole = true;
     for seat in seats {
@@ -129,7 +129,7 @@ fn start_workers<'s, Env, R: Threads + Wait + Clock + Sync>(
             is_whole = false;
             break;
         }
-        match scope.spawn(move || run_worker(rt, alloc, host, Place::new(alloc, seat))) {
+        match scope.spawn(move || run_worker(rt, alloc, host, CallerState::new(alloc, seat))) {
             Ok(thread) => threads.push_reserved(thread),
             Err(_) => {
                 is_whole = false;
@@ -147,7 +147,7 @@ fn start_sessions<'s, Env, R: Threads + Wait + Clock + Sync, E: Write + Send>(
     host: &'s HostState,
     errors: &'s Mutex<E>,
     seats: Vec<Seat>,
-) -> Started<Place> {
+) -> Started<CallerState> {
     let mut threads = Vec::new(alloc);
     let mut is_whole = true;
     for seat in seats {
@@ -155,7 +155,13 @@ fn start_sessions<'s, Env, R: Threads + Wait + Clock + Sync, E: Write + Send>(
             is_whole = false;
             break;
         }
-        match scope.spawn(move || run_sessions(rt, alloc, host, errors, Place::new(alloc, seat))) {
+        match scope.spawn(move || run_sessions(
+            rt,
+            alloc,
+            host,
+            errors,
+            CallerState::new(alloc, seat),
+        )) {
             Ok(thread) => threads.push_reserved(thread),
             Err(_) => {
                 is_whole = false;
@@ -219,17 +225,22 @@ fn accept<R: Clock>(rt: &R, listener: &TcpListener) -> Option<TcpStream> {
 
 /// A worker's thread. Its receipts go to the store now and then.
 #[tactic(auto, using(crate::proofs::SessionLemmas::leads))]
-fn run_worker<R: Wait + Clock>(rt: &R, alloc: Global, host: &HostState, place: Place) -> Place
-    ensures { LeadsTo place.seat result.seat }
+fn run_worker<R: Wait + Clock>(
+    rt: &R,
+    alloc: Global,
+    host: &HostState,
+    state: CallerState,
+) -> CallerState
+    ensures { LeadsTo state.seat result.seat }
 {
-    let mut place = place;
+    let mut state = state;
     for _ in rt.forever() {
-        let end = keep_working(rt, alloc, &host.shared, &mut place, BATCH);
-        host.receipts.add(rt, &mut place.receipts);
+        let end = keep_working(rt, alloc, &host.shared, &mut state, BATCH);
+        host.receipts.add(rt, &mut state.receipts);
         match end {
             WorkEnd::TurnsOver => {}
             WorkEnd::Memory | WorkEnd::HistoryFull => pause(rt),
-            WorkEnd::Stopped | WorkEnd::SeatDiffers { .. } | WorkEnd::Behind { .. } => return place,
+            WorkEnd::Stopped | WorkEnd::SeatDiffers { .. } | WorkEnd::Behind { .. } => return state,
         }
     }
     unreachable!()
@@ -241,17 +252,17 @@ fn run_sessions<R: Wait, E: Write>(
     alloc: Global,
     host: &HostState,
     errors: &Mutex<E>,
-    place: Place,
-) -> Place
-    ensures { LeadsTo place.seat result.seat }
+    state: CallerState,
+) -> CallerState
+    ensures { LeadsTo state.seat result.seat }
 {
-    let mut place = place;
+    let mut state = state;
     for _ in rt.forever() {
         let Some(connection) = host.seats.next(rt) else {
-            return place;
+            return state;
         };
-        place = serve_connection(rt, alloc, host, errors, place, &connection);
-        give_back_all(rt, &host.shared, &host.receipts, &mut place);
+        state = serve_connection(rt, alloc, host, errors, state, &connection);
+        give_back_all(rt, &host.shared, &host.receipts, &mut state);
         host.seats.add_idle(rt);
     }
     unreachable!()
@@ -264,36 +275,36 @@ fn serve_connection<R: Wait, E: Write>(
     alloc: Global,
     host: &HostState,
     errors: &Mutex<E>,
-    place: Place,
+    state: CallerState,
     connection: &Connection,
-) -> Place
-    ensures { LeadsTo place.seat result.seat }
+) -> CallerState
+    ensures { LeadsTo state.seat result.seat }
 {
-    let caller = place.seat.caller();
+    let caller = state.seat.caller();
     let idle = (0 < host.idle_timeout).then_some(Duration::from_millis(host.idle_timeout));
     let _ = connection.stream.set_read_timeout(idle);
     let _ = connection.stream.set_write_timeout(idle);
-    let mut rest = ConnectionReader::of(connection);
+    let mut input = ConnectionReader::of(connection);
     let mut writer = IntoWrite::new(&connection.stream);
     let SessionResult {
         end,
-        place,
+        state,
         session_receipts: _,
     } = {
-        let mut reader = FromRead::new(&mut rest);
+        let mut reader = FromRead::new(&mut input);
         run_host_session(
             rt,
             alloc,
             &host.shared,
             &host.receipts,
-            place,
+            state,
             &mut reader,
             &mut writer,
             TURNS,
         )
     };
-    report_end(rt, errors, caller, end, rest.is_idle);
-    place
+    report_end(rt, errors, caller, end, input.is_idle);
+    state
 }
 
 fn report_end<R: Wait, E: Write>(
@@ -303,13 +314,13 @@ fn report_end<R: Wait, E: Write>(
     end: RunEnd,
     is_idle: bool,
 ) {
-    let Some(fault) = error_of(end) else {
+    let Some(error) = error_of(end) else {
         return;
     };
     let mut errors = errors.lock(rt);
     if end == RunEnd::ReadFailed && is_idle {
         let _ = writeln!(&mut *errors, "session {caller}: idle");
     } else {
-        say_error(&mut *errors, caller, fault);
+        say_error(&mut *errors, caller, error);
     }
 }

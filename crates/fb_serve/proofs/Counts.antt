@@ -10,7 +10,7 @@ use Rattle.fb_shared.specs.Locked.Book.{is_caller}
 use Rattle.fb_shared.specs.Locked.Closing.{AgreesWith, has_seat, receipts_of}
 use Rattle.fb_shared.specs.Locked.Runs.{IsRun}
 use Rattle.fb_shared.specs.Locked.Seats.{ReceiptView, SeatView, seat_after}
-use Rattle.fb_serve.specs.Places.{AddsRun}
+use Rattle.fb_serve.specs.AddedReceipts.{AddsRun}
 use Rattle.fb_serve.specs.Shown.{AreShown, IsNew, IsShown, ShowsAll}
 
 -- 1 for a receipt of this caller

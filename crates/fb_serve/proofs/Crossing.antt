@@ -11,8 +11,8 @@ use Rattle.fb_serve.specs.contracts.callers.NewSeat as NewSeat
 use Rattle.fb_serve.specs.contracts.callers.ThreadResult as ThreadResult
 use Rattle.fb_serve.specs.contracts.callers.Results as Results
 use Rattle.fb_serve.specs.contracts.callers.SessionFault as SessionFault
-use Rattle.fb_serve.specs.contracts.place.Held as Held
-use Rattle.fb_serve.specs.contracts.place.Place as Place
+use Rattle.fb_serve.specs.contracts.caller_state.Held as Held
+use Rattle.fb_serve.specs.contracts.caller_state.CallerState as CallerState
 use Rattle.fb_wire.specs.contracts.run_error.RunError as RunError
 
 pub new_seat_field_send : IsSend (NewSeat.the_field).row
@@ -39,11 +39,11 @@ held_field_send = search (crosses, sendable) depth 60 fits 20000
 held_send : IsSend Held.the_row
 held_send = search (held_field_send, crosses, sendable) depth 60 fits 20000
 
-place_field_send : IsSend (Place.the_field).row
-place_field_send = search (seat_send, receipt_send, held_send, crosses, sendable) depth 60 fits 20000
+caller_state_field_send : IsSend (CallerState.the_field).row
+caller_state_field_send = search (seat_send, receipt_send, held_send, crosses, sendable) depth 60 fits 20000
 
-pub place_send : IsSend Place.the_row
-place_send = search (place_field_send, crosses, sendable) depth 60 fits 20000
+pub caller_state_send : IsSend CallerState.the_row
+caller_state_send = search (caller_state_field_send, crosses, sendable) depth 60 fits 20000
 
 fault_field_send : IsSend (RunError.the_field).row
 fault_field_send = search (crosses, sendable) depth 60 fits 20000

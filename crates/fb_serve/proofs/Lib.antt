@@ -1,5 +1,5 @@
 pub mod Counts
 pub mod Crossing
-pub mod Places
+pub mod AddedReceipts
 pub mod Prints
 pub mod Sessions

@@ -1,4 +1,4 @@
 pub mod Lines
-pub mod Places
+pub mod AddedReceipts
 pub mod Sessions
 pub mod Shown

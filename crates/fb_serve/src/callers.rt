@@ -2,7 +2,7 @@
 ghost use Rattle.std.specs.Prelude.{◌≡◌, [], if◌then◌else◌, List};
 ghost use Rattle.fb_serve.specs.Shown.{AreShown, IsNew, IsShown};
 
-use crate::place::Place;
+use crate::caller_state::CallerState;
 use crate::say::say_error;
 use crate::session::{Session, run_session};
 use crate::worker::keep_working;
@@ -24,7 +24,7 @@ const TURNS: u64 = 1_000_000_000;
 #[derive(Clone, Copy)]
 pub(crate) struct SessionFault {
     pub(crate) caller: u32,
-    pub(crate) fault: RunError,
+    pub(crate) error: RunError,
 }
 
 /// A seat with which no call was made.
@@ -121,9 +121,9 @@ pub(crate) fn run_callers<R: Threads + Wait + Clock + Sync, E: Write>(
     thread::scope(thread::scope_env(), rt, |scope| {
         let working = start_workers(scope, rt, alloc, shared, workers);
         let sessions = seats_beside(&working, sessions);
-        let door = start_door(scope, rt, alloc, listener, shared, sessions, faults);
+        let accepting = start_accepting(scope, rt, alloc, listener, shared, sessions, faults);
         report_faults(rt, reported, errors);
-        let mut results = join_door(rt, alloc, door);
+        let mut results = join_accepting(rt, alloc, accepting);
         shared.stop(rt);
         results.add_all(rt, working);
         results
@@ -144,13 +144,13 @@ fn seats_beside(working: &Started, seats: Vec<NewSeat>) -> Vec<NewSeat>
 /// Reports the faults of the sessions as they come, until all have ended.
 fn report_faults<R: Wait, E: Write>(rt: &R, reported: &Receiver<SessionFault>, errors: &mut E) {
     for it in reported.iter(rt) {
-        let SessionFault { caller, fault } = it;
-        say_error(errors, caller, fault);
+        let SessionFault { caller, error } = it;
+        say_error(errors, caller, error);
     }
 }
 
 /// Starts the thread that lets connections in.
-fn start_door<'s, E, R: Threads + Wait + Sync>(
+fn start_accepting<'s, E, R: Threads + Wait + Sync>(
     scope: &Scope<'s, E>,
     rt: &'s R,
     alloc: Global,
@@ -165,8 +165,12 @@ fn start_door<'s, E, R: Threads + Wait + Sync>(
 }
 
 /// What the sessions left; nothing whole if no connection could be let in.
-fn join_door<R: Threads>(rt: &R, alloc: Global, door: Option<JoinHandle<Results>>) -> Results {
-    match door {
+fn join_accepting<R: Threads>(
+    rt: &R,
+    alloc: Global,
+    accepting: Option<JoinHandle<Results>>,
+) -> Results {
+    match accepting {
         Some(thread) => thread.join(rt),
         None => Results::new(alloc, false),
     }
@@ -255,13 +259,13 @@ fn worker_thread<R: Wait + Clock>(
     seat: NewSeat,
 ) -> ThreadResult {
     let NewSeat { seat } = seat;
-    let mut place = Place::new(alloc, seat);
-    let _end = keep_working(rt, alloc, shared, &mut place, TURNS);
-    let Place {
+    let mut state = CallerState::new(alloc, seat);
+    let _end = keep_working(rt, alloc, shared, &mut state, TURNS);
+    let CallerState {
         seat,
         held: _,
         receipts,
-    } = place;
+    } = state;
     ThreadResult::of(seat, receipts)
 }
 
@@ -283,8 +287,8 @@ fn session_thread<R: Wait>(
         seat,
         receipts,
     } = run_session(rt, alloc, shared, seat, &mut reader, &mut writer, TURNS);
-    if let Some(fault) = error_of(end) {
-        let _ = faults.send(rt, SessionFault { caller, fault });
+    if let Some(error) = error_of(end) {
+        let _ = faults.send(rt, SessionFault { caller, error });
     }
     ThreadResult::of(seat, receipts)
 }

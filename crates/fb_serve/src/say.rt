@@ -26,6 +26,6 @@ pub fn greet<S: Sink>(alloc: Global, listener: &TcpListener, out: &mut S) -> Res
 }
 
 /// Prints the fault of a session.
-pub fn say_error<E: Write>(errors: &mut E, caller: u32, fault: RunError) {
-    let _ = writeln!(errors, "session {caller}: {fault}");
+pub fn say_error<E: Write>(errors: &mut E, caller: u32, error: RunError) {
+    let _ = writeln!(errors, "session {caller}: {error}");
 }

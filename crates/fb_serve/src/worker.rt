@@ -1,8 +1,8 @@
 //! A worker, which begins again after it found no memory.
 ghost use Rattle.std.specs.Prelude.{◌≡◌};
-ghost use Rattle.fb_serve.specs.Places.{AddsRun};
+ghost use Rattle.fb_serve.specs.AddedReceipts.{AddsRun};
 
-use crate::place::{Held, Place, give_back_held, hold};
+use crate::caller_state::{CallerState, Held, give_back_held, hold};
 use fb_shared::bench::Reply;
 use fb_shared::{Plain, Receipt, Shared, WorkEnd, work_on};
 use std::alloc::Global;
@@ -23,15 +23,15 @@ pub fn keep_working<R: Wait + Clock>(
     rt: &R,
     alloc: Global,
     shared: &Shared,
-    place: &mut Place,
+    state: &mut CallerState,
     turns: u64,
 ) -> WorkEnd
     // The receipts of its calls, one after another, are added at the end, and lead to the seat as it is then.
-    ensures { AddsRun place.old.seat place.old.receipts.items
-        place.new.seat place.new.receipts.items }
+    ensures { AddsRun state.old.seat state.old.receipts.items
+        state.new.seat state.new.receipts.items }
 {
     for _ in 0..turns {
-        match look_once(rt, alloc, shared, place) {
+        match look_once(rt, alloc, shared, state) {
             WorkEnd::TurnsOver => {}
             WorkEnd::Memory => pause(rt),
             end => return end,
@@ -41,31 +41,31 @@ pub fn keep_working<R: Wait + Clock>(
 }
 
 /// Looks once, and gives back the keys that it then still has.
-fn look_once<R: Wait>(rt: &R, alloc: Global, shared: &Shared, place: &mut Place) -> WorkEnd
-    ensures { AddsRun place.old.seat place.old.receipts.items
-        place.new.seat place.new.receipts.items }
+fn look_once<R: Wait>(rt: &R, alloc: Global, shared: &Shared, state: &mut CallerState) -> WorkEnd
+    ensures { AddsRun state.old.seat state.old.receipts.items
+        state.new.seat state.new.receipts.items }
 {
     let end = work_on(
         rt,
         alloc,
         shared,
-        &mut place.seat,
-        &mut place.receipts,
+        &mut state.seat,
+        &mut state.receipts,
         &Plain,
         1,
     );
-    hold_unsettled(place);
-    give_back_held(rt, shared, place);
+    hold_unsettled(state);
+    give_back_held(rt, shared, state);
     end
 }
 
 /// Holds the key of a job that was taken and not settled.
-fn hold_unsettled(place: &mut Place)
-    ensures seat { place.new.seat ≡ place.old.seat }
-    ensures receipts { place.new.receipts.items ≡ place.old.receipts.items }
+fn hold_unsettled(state: &mut CallerState)
+    ensures seat { state.new.seat ≡ state.old.seat }
+    ensures receipts { state.new.receipts.items ≡ state.old.receipts.items }
 {
-    if let Some(it) = unsettled(&place.receipts) {
-        hold(&mut place.held, it);
+    if let Some(it) = unsettled(&state.receipts) {
+        hold(&mut state.held, it);
     }
 }
 

@@ -1,7 +1,7 @@
-//! A session of a host of which each allocation is refused in turn, those of a history that begins anew among them. Another session then goes on at its place, and the
+//! A session of a host of which each allocation is refused in turn, those of a history that begins anew among them. Another session then goes on with its seat, and the
 //! workbench closes with the receipts of all calls since the start.
 use fb_host::{ReceiptStore, SessionResult, give_back_all, run_host_session};
-use fb_serve::Place;
+use fb_serve::CallerState;
 use fb_shared::Shared;
 use fb_wire::bench::Limits;
 use fb_wire::{IntoWrite, MemoryFeed, RunEnd};
@@ -37,26 +37,26 @@ fn say_lines<R: Wait>(
     alloc: Global,
     shared: &Shared,
     store: &ReceiptStore,
-    place: Place,
+    state: CallerState,
     number: u32,
-) -> Result<(Place, Session), Fail> {
+) -> Result<(CallerState, Session), Fail> {
     let mut output = Vec::with_capacity(alloc, 1000)?;
     let mut feed = MemoryFeed::new(REQUESTS.as_bytes(), 8192, u64::MAX);
     let mut sink = IntoWrite::new(&mut output);
     refuse(alloc, number);
     let SessionResult {
         end,
-        mut place,
+        mut state,
         session_receipts: _,
-    } = run_host_session(rt, alloc, shared, store, place, &mut feed, &mut sink, 1000);
+    } = run_host_session(rt, alloc, shared, store, state, &mut feed, &mut sink, 1000);
     let is_refused = was_refused(alloc);
-    give_back_all(rt, shared, store, &mut place);
+    give_back_all(rt, shared, store, &mut state);
     let session = Session {
         end,
         output,
         is_refused,
     };
-    Ok((place, session))
+    Ok((state, session))
 }
 
 // Whether a session may end so.
@@ -74,14 +74,14 @@ fn is_closed<R: Wait>(
     alloc: Global,
     shared: Shared,
     store: ReceiptStore,
-    place: Place,
+    state: CallerState,
 ) -> Result<bool, Fail> {
     let receipts = store.into_receipts(shared.before(rt));
-    let Place {
+    let CallerState {
         seat,
         held: _,
         receipts: _,
-    } = place;
+    } = state;
     let mut seats = Vec::new(alloc);
     seats.push(seat)?;
     match shared.close(alloc, seats, &receipts) {
@@ -90,16 +90,16 @@ fn is_closed<R: Wait>(
     }
 }
 
-// Two sessions at one place, the first without the allocation of this number.
+// Two sessions with one seat, the first without the allocation of this number.
 fn tried<R: Wait>(rt: &R, alloc: Global, number: u32) -> Result<Session, Fail> {
     let limits = Limits::new(4, HISTORY).ok_or("limits")?;
     let (shared, mut seats) = Shared::rolling(alloc, limits, 1)?;
     let store = ReceiptStore::new(alloc, HISTORY);
-    let place = Place::new(alloc, seats.pop().ok_or("no seat")?);
-    let (place, first) = say_lines(rt, alloc, &shared, &store, place, number)?;
-    let (place, last) = say_lines(rt, alloc, &shared, &store, place, 0)?;
+    let state = CallerState::new(alloc, seats.pop().ok_or("no seat")?);
+    let (state, first) = say_lines(rt, alloc, &shared, &store, state, number)?;
+    let (state, last) = say_lines(rt, alloc, &shared, &store, state, 0)?;
     let is_done = last.end == RunEnd::End && last.output.ends_with(LAST.as_bytes());
-    let is_closed = is_closed(rt, alloc, shared, store, place)?;
+    let is_closed = is_closed(rt, alloc, shared, store, state)?;
     if !is_done || !is_closed || !is_right(&first) {
         return Err(Fail::from("another end"));
     }

@@ -2,4 +2,4 @@ use Rattle.fb_host.specs.HostSessions.{LeadsTo}
 use Rattle.fb_host.proofs.threads.run_worker.Given as goal
 
 abbrev pub invariant-loop : goal.invariant-loop
-invariant-loop g l = LeadsTo l.fn.place.seat l.place.seat
+invariant-loop g l = LeadsTo l.fn.state.seat l.state.seat

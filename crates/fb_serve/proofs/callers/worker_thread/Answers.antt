@@ -5,4 +5,4 @@ use Rattle.fb_serve.proofs.callers.worker_thread.Goals as goal
 
 pub of-requires : goal.of-requires
 of-requires g c =
-    adds_shown _ _ _ _ (ap (λ (s : SeatView). s.turns) c.new-place.ensures.seat ∙ c.args.seat.is_new) c.new-place.ensures.none c.keep_working-end.ensures
+    adds_shown _ _ _ _ (ap (λ (s : SeatView). s.turns) c.new-state.ensures.seat ∙ c.args.seat.is_new) c.new-state.ensures.none c.keep_working-end.ensures

@@ -1,4 +1,4 @@
-use Rattle.fb_serve.proofs.Places.{adds_on}
+use Rattle.fb_serve.proofs.AddedReceipts.{adds_on}
 use Rattle.fb_serve.proofs.worker.keep_working.Goals as goal
 
 pub loop-preserved : goal.loop-preserved

@@ -1,5 +1,5 @@
 use Rattle.std.proofs.Common.{Some}
-use Rattle.fb_serve.proofs.Places.{adds_on, adds_same, adds_work}
+use Rattle.fb_serve.proofs.AddedReceipts.{adds_on, adds_same, adds_work}
 use Rattle.fb_serve.proofs.worker.look_once.Goals as goal
 
 pub returns : goal.returns

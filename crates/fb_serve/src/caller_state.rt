@@ -1,6 +1,6 @@
-//! The place of a caller: its seat, the receipts of its calls, and the keys that it must give back.
+//! What is kept of a caller: its seat, the receipts of its calls, and the keys that it must give back.
 ghost use Rattle.std.specs.Prelude.{◌≡◌, []};
-ghost use Rattle.fb_serve.specs.Places.{AddsRun};
+ghost use Rattle.fb_serve.specs.AddedReceipts.{AddsRun};
 
 use fb_shared::{Receipt, Seat, Shared};
 use fb_wire::jobs::Key;
@@ -16,21 +16,21 @@ pub struct Held {
 
 /// A seat, the keys that were taken there and must be given back, and the receipts of its calls that nobody else keeps.
 #[derive(Drop)]
-pub struct Place {
+pub struct CallerState {
     pub seat: Seat,
     pub held: Vec<Held>,
     pub receipts: Vec<Receipt>,
 }
 
-impl Place {
-    /// A place with no key and no receipt. It has room for a key, if there is memory.
-    pub fn new(alloc: Global, seat: Seat) -> Place
+impl CallerState {
+    /// With no key and no receipt. It has room for a key, if there is memory.
+    pub fn new(alloc: Global, seat: Seat) -> CallerState
         ensures seat { result.seat ≡ seat }
         ensures none { result.receipts.items ≡ [] }
     {
         let mut held = Vec::new(alloc);
         let _room = held.reserve(1);
-        Place {
+        CallerState {
             seat,
             held,
             receipts: Vec::new(alloc),
@@ -50,30 +50,30 @@ pub fn forget(held: &mut Vec<Held>, key: &Key) {
 }
 
 /// Gives back the last key that is held, if it is still out since it was taken. If the call is refused, the key stays held. The result is whether to continue.
-#[tactic(auto, using(crate::proofs::Places::adds))]
-fn give_back_last<R: Wait>(rt: &R, shared: &Shared, place: &mut Place) -> bool
-    ensures { AddsRun place.old.seat place.old.receipts.items
-        place.new.seat place.new.receipts.items }
+#[tactic(auto, using(crate::proofs::AddedReceipts::adds))]
+fn give_back_last<R: Wait>(rt: &R, shared: &Shared, state: &mut CallerState) -> bool
+    ensures { AddsRun state.old.seat state.old.receipts.items
+        state.new.seat state.new.receipts.items }
 {
-    let Some(it) = place.held.pop() else {
+    let Some(it) = state.held.pop() else {
         return false;
     };
-    let given = shared.give_back_held(rt, &mut place.seat, &mut place.receipts, it.key, it.since);
+    let given = shared.give_back_held(rt, &mut state.seat, &mut state.receipts, it.key, it.since);
     if given.is_err() {
-        let _ = place.held.push(it);
+        let _ = state.held.push(it);
         return false;
     }
     true
 }
 
 /// Gives back the keys that are still out since they were taken. If a call is refused, the keys that are left stay held.
-pub fn give_back_held<R: Wait>(rt: &R, shared: &Shared, place: &mut Place)
+pub fn give_back_held<R: Wait>(rt: &R, shared: &Shared, state: &mut CallerState)
     // The receipts of its calls, one after another, are added at the end, and lead to the seat as it is then.
-    ensures { AddsRun place.old.seat place.old.receipts.items
-        place.new.seat place.new.receipts.items }
+    ensures { AddsRun state.old.seat state.old.receipts.items
+        state.new.seat state.new.receipts.items }
 {
-    for _ in 0..place.held.len() {
-        if !give_back_last(rt, shared, place) {
+    for _ in 0..state.held.len() {
+        if !give_back_last(rt, shared, state) {
             return;
         }
     }

@@ -1,4 +1,4 @@
--- What calls at a place add to its receipts.
+-- What calls with a seat add to its receipts.
 use Rattle.std.proofs.Common.{◌≡◌, ℕ, [], ◌∷◌, ◌++◌, ◌∙◌, Err, List, Ok, Option, Result, ap, append-nil, append_assoc, inl, inr, refl, subst, sym}
 use Rattle.fb_wire.specs.History.Machine.{Call}
 use Rattle.fb_shared.specs.Locked.Jobs.declared.key.Key.{Key}
@@ -7,7 +7,7 @@ use Rattle.fb_shared.specs.Locked.Runs.{Empty, IsRun, Works}
 use Rattle.fb_shared.specs.Locked.Seats.{IsReceiptOf, ReceiptView, SeatView, seat_after}
 use Rattle.fb_shared.specs.Locked.declared.locked.SharedRefused.{SharedRefused}
 use Rattle.fb_shared.specs.Locked.declared.look.WorkEnd.{WorkEnd}
-use Rattle.fb_serve.specs.Places.{AddsRun}
+use Rattle.fb_serve.specs.AddedReceipts.{AddsRun}
 
 pub run_append : (seat : SeatView) (xs ys : List ReceiptView) (middle after : SeatView) → IsRun seat xs middle → IsRun middle ys after → IsRun seat (xs ++ ys) after
 run_append seat [] ys middle after one two = subst (λ (s : SeatView). IsRun s ys after) one two
