@@ -84,7 +84,7 @@ pub fn give_back_all<R: Wait>(
     store: &ReceiptStore,
     state: &mut CallerState,
 )
-    // The seat goes on where the calls lead.
+    // The calls lead from the old seat to the new one.
     ensures { LeadsTo state.old.seat state.new.seat }
 {
     give_back_held(rt, shared, state);

@@ -46,11 +46,11 @@ takes_at bench key number = takes_in key (record_numbered bench number)
 abbrev pub IsTakenAfter : BenchView → Key → ℕ → Type 0
 IsTakenAfter bench key since = (number : ℕ) × (since < number) × (takes_at bench key number ≡ true)
 
--- it is handed out, and nobody has taken it after that number
+-- it is handed out, and no record since the start that is behind this number hands it out
 abbrev pub IsOutSince : BenchView → Key → ℕ → Type 0
 IsOutSince bench key since = ((state_of bench).out key ≡ true) × (IsTakenAfter bench key since → ⊥)
 
--- Where it is out since then it is given back, by a recorded call whose receipt is kept, or that is refused as any call. Otherwise nothing changes.
+-- If it is out since then, it is given back by a recorded call whose receipt is kept, or that is refused as any call. If not, nothing changes.
 abbrev pub Returns : {T : Type 0} → ℕ → LockedView → SeatView → Key → Result T SharedRefused → List ReceiptView → LockedView → SeatView → List ReceiptView → Type 0
 Returns since locked seat key (Ok done) old locked' seat' new =
     (IsOutSince locked.bench key since × Keeps locked seat (ToGiveBack key) old locked' seat' new) ⊎ ((IsOutSince locked.bench key since → ⊥) × Stays locked seat old locked' seat' new)

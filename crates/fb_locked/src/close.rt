@@ -38,7 +38,7 @@ pub struct NotClosed<T> {
 }
 
 impl Locked {
-    /// Ends the calls. It is refused where a seat or a receipt does not fit.
+    /// Ends the calls. It is refused if a seat or a receipt does not fit.
     pub fn close(
         self,
         alloc: Global,
@@ -62,7 +62,7 @@ impl Locked {
     }
 }
 
-/// Ends the calls, where seats were made for this number of callers: for a holder that knows by itself how many there are.
+/// Ends the calls of a workbench with seats for this number of callers, which its holder knows.
 pub fn close_for(
     locked: Locked,
     alloc: Global,

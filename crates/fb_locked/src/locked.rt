@@ -49,7 +49,7 @@ impl Model for Locked {
     ghost view = { λ it. record { bench = it.bench; callers = it.callers; stopped = it.stopped } };
 }
 
-// Where a request is made, both types that it can lend are named: the check of loans has to have met them.
+// Each function that makes a request names both types that a request can lend, since the check of loans has to have met them.
 impl Locked {
     /// An empty workbench, with the seats of callers 1 to `callers`.
     pub fn new(

@@ -19,7 +19,7 @@ pub enum ResumeError {
     Memory,
 }
 
-/// What is handed back where a workbench does not come under a lock.
+/// What is handed back if a workbench does not come under a lock.
 #[derive(Drop)]
 pub struct NotResumed {
     pub fault: ResumeError,

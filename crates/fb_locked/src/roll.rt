@@ -37,7 +37,7 @@ impl Locked {
         }
     }
 
-    /// Rolls where the history is full, and only there.
+    /// Rolls if the history is full, and only then.
     pub fn make_room(&mut self, limits: Limits) -> Result<(), CheckpointError>
         ensures { MakesRoom limits self.old result self.new }
     {
@@ -51,7 +51,7 @@ impl Locked {
         }
     }
 
-    /// Whether the key is handed out, and nobody has taken it after the record of this number.
+    /// Whether the key is handed out, and no record since the start that is behind this number hands it out.
     pub fn is_out_since(&self, key: &Key, since: u64) -> bool
         ensures { IsTrue result ↔ IsOutSince self.now.bench key.now since }
     {

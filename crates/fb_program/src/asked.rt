@@ -24,7 +24,7 @@ pub struct HostSettings<'a> {
     pub workers: u8,
     /// How many sessions there are at once.
     pub sessions: u8,
-    /// How many units there may be, and after how many calls the history begins anew.
+    /// How many units there may be, and after how many calls the history begins again.
     pub limits: Limits,
     /// The file whose first line connections have to say first.
     pub secret: Option<&'a str>,

@@ -118,7 +118,7 @@ pub fn run<'a, F: Feed, S: Sink, E: Write>(
         × (F.given reader.new ≡ F.given reader.old ++ bytes)
         × (S.held writer.new ≡ S.held writer.old ++ out)
         × HasDone (map (λ word. word.now) words.now) result bytes out }
-    // Where the status is 0, the input was read to its end.
+    // If the status is 0, the input was read to its end.
     ensures whole { result ≡ Outcome.Ended 0 → IsAtEnd (F.left reader.new) }
     // All that was written is flushed, if it was before and no write failed.
     ensures flushed { StaysFlushed (S.is_flushed writer.old) (S.has_failed writer.new)

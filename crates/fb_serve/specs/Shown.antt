@@ -8,7 +8,7 @@ use Rattle.fb_shared.specs.Locked.Seats.{ReceiptView, SeatView}
 abbrev pub IsNew : SeatView → Type 0
 IsNew seat = seat.turns ≡ 0
 
--- there are as many receipts of the seat's caller as calls that were made with it
+-- there are at least as many receipts of the seat's caller as calls that were made with it
 abbrev pub IsShown : List ReceiptView → SeatView → Type 0
 IsShown receipts seat = seat.turns ≤ receipts_of seat.caller receipts
 

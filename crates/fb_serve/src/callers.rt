@@ -58,7 +58,7 @@ impl ThreadResult {
     }
 }
 
-/// What the threads left: their seats, and the receipts of all calls with these. It is whole where each
+/// What the threads left: their seats, and the receipts of all calls with these. It is whole if each
 /// thread was started and what it left was kept.
 #[derive(Drop)]
 pub(crate) struct Results {
@@ -130,7 +130,7 @@ pub(crate) fn run_callers<R: Threads + Wait + Clock + Sync, E: Write>(
     })
 }
 
-/// The seats, or none of them where a worker was not started.
+/// The seats, or none of them if a worker was not started.
 fn seats_beside(working: &Started, seats: Vec<NewSeat>) -> Vec<NewSeat>
     ensures { result.items ≡ (if working.now.is_whole then seats.items else []) }
 {

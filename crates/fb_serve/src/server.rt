@@ -76,7 +76,7 @@ impl Ended {
     }
 }
 
-/// Lets in as many connections as there are sessions, with workers beside them, and closes when all sessions have ended. Where a thread or
+/// Lets in as many connections as there are sessions, with workers beside them, and closes when all sessions have ended. If a thread or
 /// a connection fails, it lets no further one in. A fault of a session is printed on `errors` at once, and the others continue.
 pub fn serve_sessions<R: Threads + Wait + Clock + Sync, E: Write>(
     rt: &R,

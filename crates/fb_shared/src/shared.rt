@@ -129,7 +129,7 @@ impl Shared {
         }
     }
 
-    /// Takes the lock for one call, and makes room in a full history, where it ever begins anew. Where memory is wanting for that it stays full.
+    /// Takes the lock for one call. If the workbench rolls and its history is full, it makes room; without memory for that the history stays full.
     pub(crate) fn hold<R: Wait>(&self, rt: &R) -> Hold<'_> {
         let mut state = self.state.lock(rt);
         if let Some(limits) = self.rolls {
@@ -257,7 +257,7 @@ impl Shared {
         self.changed.notify_all();
     }
 
-    /// Ends the calls. It is refused where a seat or a receipt does not fit, and then hands all back.
+    /// Ends the calls. If a seat or a receipt does not fit, it is refused and hands all back.
     pub fn close(
         self,
         alloc: Global,

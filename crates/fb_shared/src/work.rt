@@ -10,7 +10,7 @@ use fb_locked::{Look, Receipt, Seat, WorkEnd};
 use std::alloc::{AllocError, Global};
 use std::sync::Wait;
 
-/// Where a job is run. No lock is held meanwhile.
+/// How a job is run. No lock is held meanwhile.
 pub trait Gate {
     /// The result of the job, which this worker has taken.
     fn run(&self, alloc: Global, worker: u32, job: &Job) -> Result<Finished, AllocError>

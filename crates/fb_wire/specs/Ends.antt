@@ -78,9 +78,9 @@ streams given left reads read_has_failed held is_flushed write_has_failed reader
   write_has_failed = write_has_failed writer;
 }
 
--- At the end of the input nothing is left. The reads are at most the turns, and equal to them if these are over. Each read gave something but for the
--- last one, after which nothing is read; where the turns are over, that one too. A read or a write has failed exactly where the end says so, and else
--- all that was written is flushed, if it was before.
+-- At the end of the input nothing is left. The reads are at most the turns, and equal to them if these are over. There is at most one read more than
+-- bytes that came; if the turns are over, none more. A read or a write has failed exactly if the end says so, and if no write has failed, all that was
+-- written is flushed if it was before.
 pub record ShowsEnd (end : RunEnd) (turns : ℕ) (old new : Streams) : Type 0 where
   pub whole : end ≡ End → IsAtEnd new.left
   pub turns_are : new.reads ≤ old.reads + turns
