@@ -25,8 +25,7 @@ SECTIONS = (
     ("Networks and plans", "The flat network of a unit, and the placement and the plan of a system.", (("fb_flatten", "net"), ("fb_mapping", "place"), ("fb_deploy", "plan"))),
     ("The lines", "What a conversation writes is what its lines ask and the answers give.", (("fb_wire", "run_lines"), ("fb_wire", "run_script"))),
     ("The lock", "Calls with seats, workers, and the close.", (
-        ("fb_shared", "Shared::commit"), ("fb_shared", "Shared::take"), ("fb_shared", "Shared::deliver"), ("fb_shared", "Shared::give_back"), ("fb_shared", "Shared::ask"),
-        ("fb_shared", "Shared::close"), ("fb_shared", "Shared::resume"), ("fb_shared", "work_on"),
+        ("fb_locked", "Locked::perform_into"), ("fb_shared", "Shared::perform_into"), ("fb_shared", "Shared::ask"), ("fb_shared", "Shared::close"), ("fb_shared", "Shared::resume"), ("fb_shared", "work_on"),
     )),
 )
 ITEM = re.compile(r"(?:abbrev |unfoldable )?(?:pub )?(record |data )?([^\s:(){}]+)(?= ?[:({]| :)")
