@@ -88,7 +88,7 @@ fn takes_secret(head: &mut Vec<u8>, secret: &[u8]) -> bool {
     true
 }
 
-/// Reads until the first line has come, or the end of the input or as many bytes as are waited for. Not within the time it has not come.
+/// Reads until the first line, the end of the input or `FIRST_LINE_SIZE` bytes have come. False if none of these came in time.
 fn has_head<R: Clock>(rt: &R, connection: &mut Connection, first_line_timeout: Duration) -> bool {
     let Ok(begun) = Instant::now(rt) else {
         return false;

@@ -22,7 +22,7 @@ use std::time::Clock;
 /// How many milliseconds a connection may take to send its first line.
 pub const FIRST_LINE_TIMEOUT: u64 = 10_000;
 
-/// How many callers of each sort a host has, the limits of its workbench, of which `history` is how many calls an epoch has, and whom it lets in.
+/// How many callers of each sort a host has, the limits of its workbench (`history` is the number of calls of an epoch), and whom it admits.
 #[derive(Clone, Copy)]
 pub struct HostConfig {
     pub workers: u8,
@@ -36,8 +36,8 @@ pub struct HostConfig {
     pub connections: u64,
 }
 
-/// Lets connections in, each to a free seat, if its first line is the secret or there is none, with workers beside them, and closes after this number of connections, when all sessions have ended. A fault of a
-/// session is printed on `errors` at once.
+/// Gives each connection a free seat, if its first line is the secret or no secret is set, with workers beside the sessions. After `config.connections`
+/// connections it closes, once all sessions have ended. A fault of a session is printed on `errors` at once.
 fn host_sessions<R: Threads + Wait + Clock + Sync, E: Write + Send>(
     rt: &R,
     alloc: Global,

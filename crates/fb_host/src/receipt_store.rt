@@ -6,9 +6,9 @@ use std::alloc::Global;
 use std::mem;
 use std::sync::{Mutex, Wait};
 
-/// The receipts of all calls of one epoch. A history begins again if it is full and only there, so an epoch has `span` calls, and which one a receipt is
-/// of follows from its number. Those of the epoch before stay in `past` until they are dropped, two with each new one and the last ones first. The workbench
-/// drops its records so too, so no record outlives its place in the history for long.
+/// The receipts of all calls of one epoch. A history begins again when it is full, and only then, so an epoch has `span` calls, and the epoch of a receipt
+/// follows from its number. Receipts of the epoch before stay in `past` until they are dropped, two with each new one and the last ones first. The workbench
+/// drops its records in the same way, so no record outlives its place in the history for long.
 pub struct EpochReceipts {
     alloc: Global,
     span: u64,
@@ -61,7 +61,7 @@ impl EpochReceipts {
         let _added = self.receipts.append(receipts);
     }
 
-    /// Drops so many receipts of the epoch before, if there are as many.
+    /// Drops up to `count` receipts of the epoch before.
     fn drop_past(&mut self, count: usize) {
         self.past.truncate(self.past.len().saturating_sub(count));
         if self.past.is_empty() {

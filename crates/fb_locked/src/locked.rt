@@ -49,7 +49,7 @@ impl Model for Locked {
     ghost view = { λ it. record { bench = it.bench; callers = it.callers; stopped = it.stopped } };
 }
 
-// Each function that makes a request names both types that a request can lend, since the check of loans has to have met them.
+// Works around the borrow checker: both types that a `Request` can borrow must occur in a function that makes one.
 impl Locked {
     /// An empty workbench, with the seats of callers 1 to `callers`.
     pub fn new(

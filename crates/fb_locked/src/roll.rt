@@ -116,8 +116,8 @@ fn takes(it: &Record, key: &Key) -> bool
     }
 }
 
-/// After a roll with its own limits a workbench under a lock is unchanged, but for its records, and a seat against which nothing but a full history was
-/// is one against which nothing is.
+/// A roll with its own limits changes nothing of a workbench under a lock but its records, and a seat that only a full history kept from calling
+/// can call after it.
 pub fn rolls_are_unseen()
     ensures { (limits : Bounds) (locked : LockedView) → IsOrigin locked.bench.origin
         → limits.units ≡ locked.bench.origin.most_units → 1 ≤ limits.history

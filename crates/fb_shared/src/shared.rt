@@ -17,8 +17,8 @@ use std::alloc::{AllocError, Global};
 use std::marker::Model;
 use std::sync::{Condvar, Mutex, MutexGuard, Wait};
 
-/// A workbench that threads share. Each call holds the lock once. For how many callers seats were made is beside the lock, and with which limits
-/// a full history begins again, if it ever does.
+/// A workbench that threads share. Each call holds the lock once. Beside the lock are the number of callers for whom seats were made, and the limits with
+/// which a full history begins again, if it does.
 pub struct Shared {
     pub(crate) state: Mutex<Locked>,
     pub(crate) callers: u32,
@@ -37,7 +37,7 @@ impl Drop for Shared {
     }
 }
 
-/// A hold of the lock. It is no value that may be dropped: each is ended, or waits.
+/// A hold of the lock. It can't be dropped: each is ended, or waits.
 pub(crate) struct Hold<'a> {
     pub(crate) state: MutexGuard<'a, Locked>,
     changed: &'a Condvar,
@@ -87,7 +87,7 @@ impl Shared {
         Ok((shared, seats))
     }
 
-    /// As `new`, with a history that begins again if it is full: before each call a full one is made what has led to it, with the same limits.
+    /// As `new`, but before each call a full history begins again: its present state becomes its start, with the same limits.
     pub fn rolling(
         alloc: Global,
         limits: Limits,
@@ -129,7 +129,7 @@ impl Shared {
         }
     }
 
-    /// Takes the lock for one call. If the workbench rolls and its history is full, it makes room; without memory for that the history stays full.
+    /// Takes the lock for one call. If the history is full and may begin again, it does so first; without memory for that it stays full.
     pub(crate) fn hold<R: Wait>(&self, rt: &R) -> Hold<'_> {
         let mut state = self.state.lock(rt);
         if let Some(limits) = self.rolls {

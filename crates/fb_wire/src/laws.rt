@@ -1,4 +1,4 @@
-//! What is decided of a conversation.
+//! What decides a conversation.
 ghost use Rattle.std.specs.Prelude.{◌≡◌, ℕ, List};
 ghost use Rattle.fb_bench.specs.Calls.{Exchange};
 ghost use Rattle.fb_bench.specs.Solo.{IsStep};

@@ -1,5 +1,5 @@
 //! Why a run fails.
-//! The texts are here because `fb_program` and `fb_serve` both print them.
+//! The texts are here because the crates of the program and of both servers print them.
 ghost use Rattle.std.specs.Prelude.{◌≡◌};
 ghost use Rattle.fb_wire.specs.RunErrors.{error_of};
 
