@@ -5,7 +5,6 @@ files, with {a,b}, * and **. Each file that has a word of the example is named b
 files, and each of its files has a word of the example or such a name. If the second cell has **all**, each file of the row has each variant of the enum that
 the line of the example names (`crate: Enum`)."""
 import functools
-import glob
 import os
 import re
 
