@@ -1,4 +1,4 @@
-"""Reads the parts of the crates that documents speak of: functions with their contracts, definitions, refusals, edits and tests."""
+"""Reads the parts of the crates that documents are about: functions with their contracts, definitions, refusals, edits and tests."""
 import functools
 import glob
 import os

@@ -1,7 +1,8 @@
 """Makes docs/HEADLINE.md: all definitions on which a promise rests, each after those that it uses.
 
 A definition is an item of a file of specs/, with the comment above it; a type or constant of the program that definitions name is listed with its Rust text,
-and a trait that a call is generic in with what its methods ensure. What the kit defines (numbers, lists, options) is not listed. `tools/check-docs` compares the page with what would be made now, and `tools/check-docs --mend` makes it."""
+and a trait that a call is generic in with what its methods ensure. What the kit defines (numbers, lists, options) is not listed. `tools/check-docs` compares
+the page with what would be made now, and `tools/check-docs --mend` makes it."""
 import functools
 import os
 import re

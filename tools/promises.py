@@ -1,6 +1,7 @@
-"""Makes the blocks of docs/PROMISES.md: of each promise its contracts, definitions, laws, wrong bodies and tests; a table of all promises; and the table of the crates of docs/ARCHITECTURE.md.
+"""Makes the blocks of docs/PROMISES.md: of each promise its contracts, definitions, laws, wrong bodies and tests; a table of all promises; and the table of
+the crates of docs/ARCHITECTURE.md.
 
-Which calls carry a promise, and which laws say it again, is said in tools/shown.rows; the wrong bodies are those whose line in a must-fail/README.md names it."""
+tools/shown.rows has which calls carry a promise, and which laws state it again; the wrong bodies are those whose line in a must-fail/README.md names it."""
 import functools
 import os
 import re

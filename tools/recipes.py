@@ -1,11 +1,10 @@
 """Looks up the recipes of docs/RECIPES.md, for tools/check-docs.
 
-A recipe is a section with a line `Example: ` and words that stand where a thing of that sort stands today, and a table whose first cells name files, with {a,b}, *
-and **. Each file that has a word of the example is named by the recipe. What a row's second cell names between backquotes is in one of its files, and each of its
-files has a word of the example or such a name. Where the second cell has **all**, each file of the row has each variant of the enum that the line of the example
-names (`crate: Enum`)."""
+A recipe is a section with a line `Example: `, with the words by which an existing thing of that sort is named in files, and a table whose first cells name
+files, with {a,b}, * and **. Each file that has a word of the example is named by the recipe. What a row's second cell names between backquotes is in one of its
+files, and each of its files has a word of the example or such a name. If the second cell has **all**, each file of the row has each variant of the enum that
+the line of the example names (`crate: Enum`)."""
 import functools
-import glob
 import os
 import re
 
