@@ -1,4 +1,4 @@
-" bench61499 in Vim 9 with ALE. In .vimrc, behind what loads ALE: source /path/to/editors/vim-ale.vim
+" bench61499 in Vim 9 with ALE. In .vimrc, after what loads ALE: source /path/to/editors/vim-ale.vim
 " Another command for the language server, before that: let g:bench61499_server = ['/path/to/clients/lsp', '--connect', ':6149']
 let s:server = get(g:, 'bench61499_server', [expand('<sfile>:p:h:h') . '/clients/lsp'])
 

@@ -113,9 +113,10 @@ class FolderTest(BoardTest):
         self.copy_conveyor()
         cases: list[tuple[list[str], str]] = [
             (["nowhere"], "nowhere: there is no such file or folder"),
-            ([], "say what to show: a folder, or --connect to a workbench that serves"),
-            ([".", "--connect", ":1"], "say what to show: a folder, or --connect to a workbench that serves"),
-            ([".", "--files", "."], "--files and --unit go with --connect"),
+            ([], "name what to show: a folder, or --connect for a server"),
+            ([".", "--connect", ":1"], "give either a folder or --connect; with --connect, --files names the folder"),
+            ([".", "--files", "."], "--files, --unit and --calls go with --connect"),
+            ([".", "--calls", "3"], "--files, --unit and --calls go with --connect"),
             ([""], "an empty word names no file or folder"),
             ([".", "--port", "65536"], "there is no port 65536"),
             (["--connect", f":{free_port()}"], "connection refused"),

@@ -84,7 +84,7 @@ class SharedTest(InFolder):
             self.assertEqual(self.check(port, "--replace", "--secret", "secret").returncode, 0)
             self.assertEqual(self.check(port, BENCH61499_SECRET_FILE="secret").returncode, 0)
             ran = self.check(port)
-            self.assertEqual((ran.returncode, ran.stderr), (2, f"check: the workbench at 127.0.0.1:{port} hung up before it answered: it may want a secret\n"))
+            self.assertEqual((ran.returncode, ran.stderr), (2, f"check: the workbench at 127.0.0.1:{port} closed the connection before it answered: it may require a secret\n"))
         for file, why in ("nowhere", "No such file or directory"), ("empty", "so it has no secret"):
             self.write("empty", "\nno")
             self.assertIn(why, self.check(port, "--secret", file).stderr)

@@ -46,7 +46,7 @@ class HooksTest(ServerTest):
         return {name: self.run_words(*its) for name, its in words.items()}
 
     def test_a_sound_plant(self) -> None:
-        self.assertEqual(self.run_hooks(), {"bench61499-check": (0, "7 units, no faults\nnetworks: 1 of 1, plans: 1 of 1\n"), "bench61499-format": (0, "")})
+        self.assertEqual(self.run_hooks(), {"bench61499-check": (0, "7 units, no faults\nnetworks of subapplications: 1 of 1, plans of systems: 1 of 1\n"), "bench61499-format": (0, "")})
 
     def test_a_spoiled_plant(self) -> None:
         self.spoil()

@@ -65,7 +65,7 @@ class ImportTest(ExchangeTest):
         self.write("lib", "a file")
         ran = run("exchange", "import", "F.fbt", "--to", "lib", folder=self.folder)
         self.assertEqual((ran.returncode, ran.stderr), (2, "exchange: lib/F.fb: can't be written: File exists\n"))
-        self.assertEqual(ran.stdout, "1 file, 0 units in lib: all whole\n")
+        self.assertEqual(ran.stdout, "1 file, 0 units in lib: not complete\n")
 
     def test_words(self) -> None:
         self.write("F.fbt", BLOCK.format("F", ' Comment="a *) b" GUID="1"'))

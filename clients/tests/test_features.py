@@ -405,7 +405,7 @@ class RenameTest(ConveyorTest):
         text = self.file("FEEDER").read_text().replace("    IDLE;", "    IDLE; IDLE;")
         self.server.change(self.file("FEEDER"), text)
         self.write("FEEDER.fb", text)
-        self.assertEqual(self.refused("rename", "FEEDER", "IDLE;", newName="REST"), "IDLE is declared more than once in FEEDER; mend this first")
+        self.assertEqual(self.refused("rename", "FEEDER", "IDLE;", newName="REST"), "IDLE is declared more than once in FEEDER; correct this first")
         self.write("again.fb", "ADAPTER HANDOVER END_ADAPTER")
         self.server.save(self.file("FEEDER"))
         both = "HANDOVER is declared by HANDOVER.fb and again.fb; a unit has one text"

@@ -82,12 +82,12 @@ class FormatsTest(InFolder):
             'inner/two ä.fb:3:55: SYNTAX: expected ";" after 1\n'
             "    EC_TRANSITIONS IDEL TO IDLE := 1; IDLE TO IDLE := 1 END_TRANSITIONS END_FUNCTION_BLOCK\n"
             "                                                        ^~~~~~~~~~~~~~~\n"
-            "inner/two ä.fb:3:18: STATE_UNKNOWN: no state IDEL in this chart; did you mean IDLE? (not checked by the workbench: mend the SYNTAX first)\n"
+            "inner/two ä.fb:3:18: STATE_UNKNOWN: no state IDEL in this chart; did you mean IDLE? (not checked by the workbench: correct the SYNTAX fault first)\n"
             "    EC_TRANSITIONS IDEL TO IDLE := 1; IDLE TO IDLE := 1 END_TRANSITIONS END_FUNCTION_BLOCK\n"
             "                   ^~~~\n"
-            "2 faults in 2 of 4 units\n"
+            "2 faults in 2 of 4 units; 1 reason why networks or plans are missing\n"
             "1 note on texts with a SYNTAX fault, not checked by the workbench\n"
-            "networks: 0 of 0, plans: 0 of 1\n"
+            "networks of subapplications: 0 of 0, plans of systems: 0 of 1\n"
         )
         self.assertEqual(self.check("human"), expected)
 
@@ -106,7 +106,7 @@ class FormatsTest(InFolder):
             "::error file=four.fb,line=1,endLine=1,col=31,endColumn=31,title=UNMAPPED::no mapping gives L.X a resource",
             '::error file=inner/two ä.fb,line=3,endLine=3,col=55,endColumn=69,title=SYNTAX::expected ";" after 1',
             "::notice file=inner/two ä.fb,line=3,endLine=3,col=18,endColumn=21,title=STATE_UNKNOWN::no state IDEL in this chart; did you mean IDLE? "
-            "(not checked by the workbench: mend the SYNTAX first)",
+            "(not checked by the workbench: correct the SYNTAX fault first)",
         ]
         self.assertEqual(self.check("github").splitlines(), expected)
 
@@ -122,7 +122,7 @@ class FormatsTest(InFolder):
         self.assertEqual(self.check("github", 0), "")
         self.assertEqual(json.loads(self.check("sarif", 0))["runs"][0]["results"], [])
         self.assertEqual(ElementTree.fromstring(self.check("junit", 0)).attrib["failures"], "0")
-        self.assertEqual(self.check("human", 0), "1 unit, no faults\nnetworks: 0 of 0, plans: 0 of 0\n")
+        self.assertEqual(self.check("human", 0), "1 unit, no faults\nnetworks of subapplications: 0 of 0, plans of systems: 0 of 0\n")
 
     def test_junit(self) -> None:
         suites = ElementTree.fromstring(self.check("junit"))

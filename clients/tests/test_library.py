@@ -252,7 +252,7 @@ class TroubleTest(InFolder):
     def test_a_server_that_hangs_up(self):
         with answering(GREETING, b'{"accepted":1}\n') as port, Session.connect("127.0.0.1", port) as session:
             self.assertEqual(session.work(1), 1)
-            with self.assertRaisesRegex(ConnectionEnded, "hung up"):
+            with self.assertRaisesRegex(ConnectionEnded, "closed the connection"):
                 session.work(1)
 
     def test_replies_that_are_no_json(self):
@@ -281,8 +281,8 @@ class HostTest(InFolder):
         with hosting("--secret", str(secret)) as port:
             with Session.connect("127.0.0.1", port, secret="open sesame") as session:
                 self.assertEqual(session.commit([Put("A", 0, A)]), 1)
-            for wrong, why in ("sesame", "the secret may be wrong"), (None, "it may want a secret"):
-                with self.assertRaisesRegex(NotLetIn, f"the workbench at 127.0.0.1:{port} hung up before it answered: {why}"):
+            for wrong, why in ("sesame", "the secret may be wrong"), (None, "it may require a secret"):
+                with self.assertRaisesRegex(NotLetIn, f"the workbench at 127.0.0.1:{port} closed the connection before it answered: {why}"):
                     Session.connect("127.0.0.1", port, secret=wrong)
 
     def test_a_secret_that_nobody_asks_for(self):

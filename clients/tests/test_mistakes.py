@@ -6,7 +6,7 @@ import unittest
 from support import CLIENTS, run, workbench
 
 MISTAKES = CLIENTS / "tests" / "mistakes"
-NOTE = "(not checked by the workbench: mend the SYNTAX first)"
+NOTE = "(not checked by the workbench: correct the SYNTAX fault first)"
 TOLD = f"""\
 CAMERA.fb:14:20: MEMBER_UNKNOWN: no field CAP_OKAY in BOTTLE, the type of ACTUAL; did you mean CAP_OK?
 CELL.fb:6:37: LITERAL: ML_PER_PULSE is INT, and 5.5 is no whole number

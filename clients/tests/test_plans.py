@@ -23,7 +23,7 @@ class PlansTest(InFolder):
         return lines
 
     def test_all_are_there(self) -> None:
-        self.assertEqual(self.check("--plans"), ["7 units, no faults", "networks: 1 of 1, plans: 1 of 1"])
+        self.assertEqual(self.check("--plans"), ["7 units, no faults", "networks of subapplications: 1 of 1, plans of systems: 1 of 1"])
         self.assertEqual(self.check(), ["7 units, no faults"])
 
     def test_blocks_without_a_resource_and_mappings_of_nothing(self) -> None:
@@ -33,8 +33,8 @@ class PlansTest(InFolder):
             "PLANT.fb:4:30: UNMAPPED: no mapping gives LINE.SECOND.LIFT a resource",
             "PLANT.fb:5:9: UNMAPPED: no mapping gives LINE.PANEL a resource",
             "PLANT.fb:23:5: NO_SUCH_BLOCK: a mapping is of LINE.LAMP, which is not there",
-            "7 units, no faults",
-            "networks: 1 of 1, plans: 0 of 1",
+            "7 units, no faults; 3 reasons why networks or plans are missing",
+            "networks of subapplications: 1 of 1, plans of systems: 0 of 1",
         ]
         self.assertEqual(self.check("--plans"), expected)
         self.assertEqual(self.check(), ["7 units, no faults"])
@@ -51,8 +51,8 @@ class PlansTest(InFolder):
             "C.fb:1:26: RECURSIVE: C has no network: A and B contain themselves",
             "D.fb:1:26: RECURSIVE: D has no network: A and B contain themselves",
             "PLANT.fb:4:48: RECURSIVE: PLANT has no plan: A and B contain themselves",
-            "11 units, no faults",
-            "networks: 1 of 5, plans: 0 of 1",
+            "11 units, no faults; 5 reasons why networks or plans are missing",
+            "networks of subapplications: 1 of 5, plans of systems: 0 of 1",
         ]
         self.assertEqual(self.check("--plans"), expected)
 
@@ -83,8 +83,8 @@ class PlansTest(InFolder):
             "PLANT.fb:5:66: UNKNOWN_TYPE: there is no type CRANE",
             "PLANT.fb:5:59: BLOCKED: PLANT has no plan: CRANE is absent, FEEDER and PLANT have faults",
             "STATION.fb:8:5: BLOCKED: STATION has no network: FEEDER has faults",
-            "4 faults in 4 of 9 units",
-            "networks: 0 of 3, plans: 0 of 1",
+            "4 faults in 4 of 9 units; 3 reasons why networks or plans are missing",
+            "networks of subapplications: 0 of 3, plans of systems: 0 of 1",
         ]
         self.assertEqual(self.check("--plans"), expected)
         self.write("ALONE.fb", "SUBAPPLICATION ALONE EVENT_INPUT E WITH X; END_EVENT END_SUBAPPLICATION")

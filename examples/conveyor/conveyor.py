@@ -1,19 +1,22 @@
 #!/usr/bin/env python3
 """Commits the plant of this folder, breaks each rule of the language once, and shows the fault with the words at its place.
 
-    python3 examples/conveyor/conveyor.py              prints a table; runs BENCH61499_PROGRAM script, or ./run script
+    python3 examples/conveyor/conveyor.py              prints a table; runs BENCH61499_PROGRAM script, or the one built here
     python3 examples/conveyor/conveyor.py --requests   prints the request lines alone
 
 Ends with status 1 where a fault is not the one that breaks.json expects.
 """
 import json
 import os
+import shutil
 import subprocess
 import sys
 from pathlib import Path
 
 HERE = Path(__file__).resolve().parent
-PROGRAM = [os.environ.get("BENCH61499_PROGRAM") or str(HERE.parent.parent / "run"), "script"]
+TOP = HERE.parent.parent
+BUILT = [str(it) for it in (TOP / "crates/bench61499/out/bench61499", TOP / "bin/bench61499") if it.exists()]
+PROGRAM = os.environ.get("BENCH61499_PROGRAM") or (BUILT or ["bench61499"])[0]
 
 
 def read_texts():
@@ -56,7 +59,9 @@ def main():
     if "--requests" in sys.argv[1:]:
         print("\n".join(lines))
         return 0
-    ran = subprocess.run(PROGRAM, input="\n".join(lines), stdout=subprocess.PIPE, text=True)
+    if not shutil.which(PROGRAM):
+        sys.exit(f"there is no program {PROGRAM}: build it with ./run script </dev/null, which proves for up to an hour, or name one in BENCH61499_PROGRAM")
+    ran = subprocess.run([PROGRAM, "script"], input="\n".join(lines), stdout=subprocess.PIPE, text=True)
     replies = [json.loads(line) for line in ran.stdout.splitlines()]
     if len(replies) < len(lines):
         return ran.returncode or 1

@@ -1,17 +1,20 @@
 #!/usr/bin/env python3
 """Asks what each resource of the plant is told, moves one block to the other controller, and asks again.
 
-    python3 examples/conveyor/moving.py              prints networks and plans; runs BENCH61499_PROGRAM script, or ./run script
+    python3 examples/conveyor/moving.py              prints networks and plans; runs BENCH61499_PROGRAM script, or the one built here
     python3 examples/conveyor/moving.py --requests   prints the request lines alone
 """
 import json
 import os
+import shutil
 import subprocess
 import sys
 from pathlib import Path
 
 HERE = Path(__file__).resolve().parent
-PROGRAM = [os.environ.get("BENCH61499_PROGRAM") or str(HERE.parent.parent / "run"), "script"]
+TOP = HERE.parent.parent
+BUILT = [str(it) for it in (TOP / "crates/bench61499/out/bench61499", TOP / "bin/bench61499") if it.exists()]
+PROGRAM = os.environ.get("BENCH61499_PROGRAM") or (BUILT or ["bench61499"])[0]
 MAPPED = "    LINE.SECOND ON SOUTH.MOTION;\n"
 MOVED = MAPPED + "    LINE.SECOND.LIFT ON NORTH.MOTION;\n"
 
@@ -61,7 +64,9 @@ def main():
     if "--requests" in sys.argv[1:]:
         print("\n".join(lines))
         return 0
-    ran = subprocess.run(PROGRAM, input="\n".join(lines), stdout=subprocess.PIPE, text=True)
+    if not shutil.which(PROGRAM):
+        sys.exit(f"there is no program {PROGRAM}: build it with ./run script </dev/null, which proves for up to an hour, or name one in BENCH61499_PROGRAM")
+    ran = subprocess.run([PROGRAM, "script"], input="\n".join(lines), stdout=subprocess.PIPE, text=True)
     replies = [json.loads(line) for line in ran.stdout.splitlines()]
     if len(replies) < len(lines):
         return ran.returncode or 1

@@ -429,7 +429,7 @@ class _Connection:
     def receive(self) -> bytes:
         line = self._try(self._reader.readline)
         if not line.endswith(b"\n"):
-            raise ConnectionEnded(f"the workbench at {self._address} hung up before it answered")
+            raise ConnectionEnded(f"the workbench at {self._address} closed the connection before it answered")
         return line
 
     def _try(self, act: Callable[[], Value]) -> Value:
@@ -500,7 +500,7 @@ class Session:
             if self._greeted() == "BadRequest" and secret is not None:
                 self._greeted()  # The line of a secret that this server does not ask for was refused.
         except ConnectionEnded as error:
-            raise NotLetIn(f"{error}: {'it may want a secret' if secret is None else 'the secret may be wrong'}") from error
+            raise NotLetIn(f"{error}: {'it may require a secret' if secret is None else 'the secret may be wrong'}") from error
 
     def _greeted(self) -> str:
         """How the next reply refuses."""

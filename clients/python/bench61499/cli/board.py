@@ -28,7 +28,7 @@ def main() -> int:
             board = Board(title(options), bool(options.connect))
             serve(board, options.port)
             if options.connect:
-                watch = SharedWatch(board, session, folder, options.unit, options.calls)
+                watch = SharedWatch(board, session, folder, options.unit, options.calls or CALLS_A_SECOND)
                 keep_connected(board, watch, lambda: open_once(options), say)
             elif folder:
                 keep(board, FolderWatch(board, session, folder))
@@ -53,15 +53,17 @@ def read_options() -> argparse.Namespace:
     reader.add_argument("path", nargs="*", type=read_path, metavar="FOLDER|FILE", help="*.fb files, or folders of them")
     reader.add_argument("--files", nargs="+", type=read_path, metavar="FOLDER|FILE", help="with --connect: show the units of these files, with their texts")
     reader.add_argument("--unit", nargs="+", type=read_name, default=[], metavar="NAME", help=UNITS)
-    reader.add_argument("--calls", type=read_rate, default=CALLS_A_SECOND, metavar="N",
+    reader.add_argument("--calls", type=read_rate, metavar="N",
                         help=f"with --connect: recorded calls in a second, at most, on average (default {CALLS_A_SECOND:g}); more show changes in large plants sooner")
     reader.add_argument("--port", type=int, default=0, help=PORT)
     add_workbench(reader)
     options = reader.parse_args()
-    if bool(options.path) == bool(options.connect):
-        reader.error("say what to show: a folder, or --connect to a workbench that serves")
-    if not options.connect and (options.files or options.unit):
-        reader.error("--files and --unit go with --connect")
+    if options.path and options.connect:
+        reader.error("give either a folder or --connect; with --connect, --files names the folder")
+    if not options.path and not options.connect:
+        reader.error("name what to show: a folder, or --connect for a server")
+    if not options.connect and (options.files or options.unit or options.calls):
+        reader.error("--files, --unit and --calls go with --connect")
     if not 0 <= options.port < 65_536:
         reader.error(f"there is no port {options.port}")
     return options

@@ -13,7 +13,7 @@ from bench61499.cli.looking import ONLY_ASKED, Looked, look
 from bench61499.cli.version import add_version
 from bench61499.language.units import Misuse, Unit, commit_units, read_units
 
-PLANS = """also compute all networks and plans. Each reason why one is missing counts as a fault: UNMAPPED at the instance, NO_SUCH_BLOCK at the mapping, RECURSIVE at the
+PLANS = """also compute all networks and plans. Each reason why one is missing is printed and gives status 1: UNMAPPED at the instance, NO_SUCH_BLOCK at the mapping, RECURSIVE at the
 instance by which a type contains itself or leads to such a type, BLOCKED at the instance that leads to units that are absent or have faults, TOO_LARGE at the declared name.
 A unit that only its own faults block gets no further line"""
 

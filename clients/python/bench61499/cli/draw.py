@@ -104,7 +104,7 @@ def write_svg(picture: str, file: Path) -> None:
     try:
         subprocess.run(["dot", "-Tsvg", "-o", str(file)], input=picture, text=True, check=True)
     except FileNotFoundError:
-        raise Misuse("there is no program dot here; install Graphviz, or leave --svg away") from None
+        raise Misuse("there is no program dot here; install Graphviz, or leave out --svg") from None
     except subprocess.CalledProcessError:
         raise Misuse(f"dot could not write {file}") from None
 

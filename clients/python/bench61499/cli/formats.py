@@ -18,7 +18,7 @@ from bench61499.language import codes, plans
 from bench61499.language.units import Unit
 from bench61499.language.wording import counted
 
-NOT_CHECKED = "(not checked by the workbench: mend the SYNTAX first)"
+NOT_CHECKED = "(not checked by the workbench: correct the SYNTAX fault first)"
 _NOT_IN_XML = re.compile("[^\t\n\r\x20-\ud7ff\ue000-\ufffd\U00010000-\U0010ffff]")
 _SCHEMA = "https://docs.oasis-open.org/sarif/sarif/v2.1.0/errata01/os/schemas/sarif-schema-2.1.0.json"
 _GITHUB_LEVELS = {"error": "error", "note": "notice"}
@@ -55,13 +55,14 @@ def lines(found: Found, quiet: bool) -> Iterator[str]:
 def summary(found: Found) -> Iterator[str]:
     units = counted(len(found.units) - len(found.unchecked), "unit")
     faulty = len({it.unit.name for it in found.faults})
-    yield f"{counted(len(found.faults), 'fault')} in {faulty:,} of {units}" if found.faults else f"{units}, no faults"
+    missing = f"; {counted(len(found.reasons), 'reason')} why networks or plans are missing" if found.reasons else ""
+    yield (f"{counted(len(found.faults), 'fault')} in {faulty:,} of {units}" if found.faults else f"{units}, no faults") + missing
     if found.unchecked:
         yield f"{counted(len(found.unchecked), 'unit')} not checked"
     if found.notes:
         yield f"{counted(len(found.notes), 'note')} on texts with a SYNTAX fault, not checked by the workbench"
     if found.answers:
-        yield f"networks: {_there(found.answers, 'networks')}, plans: {_there(found.answers, 'plans')}"
+        yield f"networks of subapplications: {_there(found.answers, 'networks')}, plans of systems: {_there(found.answers, 'plans')}"
 
 
 def _there(answers: Answers, what: str) -> str:

@@ -57,12 +57,12 @@ class Report:
         return found
 
 
-def summary(head: str, reports: list[Report]) -> str:
-    """The last line."""
+def summary(head: str, reports: list[Report], has_failed: bool = False) -> str:
+    """The last line; `has_failed` if a file was not read or not written."""
     counts = sum((it.counts() for it in reports), Counter[str]())
     parts = [_counted(counts[kind], kind) for kind in COUNTED if counts[kind]]
     positions = "; positions are not kept" if any(it.has_positions for it in reports) else ""
-    return f"{head}: {', '.join(parts) or 'all whole'}{positions}"
+    return f"{head}: {', '.join(parts) or ('not complete' if has_failed else 'all whole')}{positions}"
 
 
 def _counted(number: int, kind: str) -> str:
@@ -105,4 +105,4 @@ class Run:
         for report in self.reports:
             yield from report.lines(quiet)
         if not quiet:
-            yield summary(self.outcome(), self.reports)
+            yield summary(self.outcome(), self.reports, self._has_failed)

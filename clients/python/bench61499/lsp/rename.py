@@ -26,7 +26,7 @@ def check_target(plant: Plant, found: Found | None) -> Found:
     if len(texts) > 1:
         raise CantRename(f"{key.unit} is declared by {_listed([it.file.name for it in texts])}; a unit has one text")
     if sum(it.key == key for it in texts[0].unit.declared) > 1:
-        raise CantRename(f"{key.name} is declared more than once in {key.unit}; mend this first")
+        raise CantRename(f"{key.name} is declared more than once in {key.unit}; correct this first")
     return found
 
 
