@@ -9,6 +9,8 @@ import io
 import json
 import os
 import random
+import resource
+import signal
 import subprocess
 import sys
 from collections import Counter
@@ -19,17 +21,21 @@ import seen
 from conversations import Conversation
 
 BUILT = Path(__file__).resolve().parents[1] / "crates/bench61499/out/bench61499"
-LONGEST = 60
+LONGEST = 60  # seconds of a processor
 SHOWN = 3
 LONGEST_SHOWN = 1000
 
 
+def bounded():
+    """Ends this process once it has used so much of a processor: time alone would end it on a machine with other work."""
+    resource.setrlimit(resource.RLIMIT_CPU, (LONGEST, LONGEST + 1))
+
+
 def by_program(program, words, given):
     """Output, status and standard error; of a wrong command line no more than the status is known."""
-    try:
-        done = subprocess.run([program, "script", *words], input=given, capture_output=True, timeout=LONGEST)
-    except subprocess.TimeoutExpired:
-        return b"", None, "no end in %d seconds" % LONGEST
+    done = subprocess.run([program, "script", *words], input=given, capture_output=True, preexec_fn=bounded)
+    if done.returncode in (-signal.SIGXCPU, -signal.SIGKILL):
+        return b"", None, "no end in %d seconds of a processor" % LONGEST
     return done.stdout, done.returncode, None if done.returncode == 2 else done.stderr.decode(errors="replace")
 
 
@@ -110,6 +116,7 @@ class Comparison:
         parts = given.split(b"\n")
         print("difference in conversation", name, *words)
         if not differs(parts):
+            print("  there is none when it is repeated", flush=True)
             return
         parts = with_fewer_changes(smallest(parts, differs), differs)
         given = b"\n".join(parts)
