@@ -42,56 +42,79 @@ fn secret_bytes(rt: &HostRuntime, path: Option<&str>) -> Vec<u8> {
     }
 }
 
-fn server_config(settings: ServerSettings) -> ServerConfig {
-    ServerConfig {
-        workers: settings.workers,
-        sessions: settings.sessions,
-        limits: settings.limits,
-    }
+/// The status of a server that is asked for.
+fn run_server(rt: &HostRuntime, settings: ServerSettings) -> u8 {
+    let ServerSettings {
+        port,
+        workers,
+        sessions,
+        limits,
+    } = settings;
+    let config = ServerConfig {
+        workers,
+        sessions,
+        limits,
+    };
+    let mut writer = IntoWrite::new(rt.stdout());
+    let mut errors = rt.stderr();
+    let ended = serve(rt, rt.alloc(), port, config, &mut writer, &mut errors);
+    ended.status
 }
 
-fn host_config(settings: HostSettings<'_>) -> HostConfig {
-    HostConfig {
-        workers: settings.workers,
-        sessions: settings.sessions,
-        limits: settings.limits,
-        first_line_timeout: FIRST_LINE_TIMEOUT,
-        idle_timeout: settings.idle.saturating_mul(MINUTE),
-        connections: settings.connections,
+/// The status of a server that stays, which needs its secret if a file is named.
+fn run_host(rt: &HostRuntime, settings: HostSettings<'_>) -> u8 {
+    let HostSettings {
+        port,
+        workers,
+        sessions,
+        limits,
+        secret,
+        idle,
+        connections,
+    } = settings;
+    let bytes = secret_bytes(rt, secret);
+    let line = secret_in(&bytes).unwrap_or(&[]);
+    if let Some(path) = secret {
+        if line.is_empty() {
+            return refuse_secret(path, &mut rt.stderr());
+        }
     }
+    let config = HostConfig {
+        workers,
+        sessions,
+        limits,
+        first_line_timeout: FIRST_LINE_TIMEOUT,
+        idle_timeout: idle.saturating_mul(MINUTE),
+        connections,
+    };
+    let mut writer = IntoWrite::new(rt.stdout());
+    let errors = Mutex::new(rt.stderr());
+    let ended = host(rt, rt.alloc(), port, config, line, &mut writer, &errors);
+    ended.status
 }
 
 fn main(rt: HostRuntime) -> ExitCode {
-    let alloc = rt.alloc();
     let words = match words(&rt) {
         Ok(words) => words,
         Err(error) => return ExitCode::from(refuse_words(error.kind(), &mut rt.stderr())),
     };
-    let Ok(texts) = texts(alloc, &words) else {
+    let Ok(texts) = texts(rt.alloc(), &words) else {
         return ExitCode::from(refuse_words(io::ErrorKind::OutOfMemory, &mut rt.stderr()));
     };
     let mut reader = FromRead::new(rt.stdin());
     let mut writer = IntoWrite::new(rt.stdout());
     let mut errors = rt.stderr();
-    let outcome = run(alloc, &texts, &mut reader, &mut writer, &mut errors, TURNS);
-    let mut writer = IntoWrite::new(rt.stdout());
+    let outcome = run(
+        rt.alloc(),
+        &texts,
+        &mut reader,
+        &mut writer,
+        &mut errors,
+        TURNS,
+    );
     ExitCode::from(match outcome {
         Outcome::Ended(status) => status,
-        Outcome::Serves(it) => {
-            let config = server_config(it);
-            serve(&rt, alloc, it.port, config, &mut writer, &mut errors).status
-        }
-        Outcome::Hosts(it) => {
-            let bytes = secret_bytes(&rt, it.secret);
-            let secret = secret_in(&bytes).unwrap_or(&[]);
-            if let Some(path) = it.secret {
-                if secret.is_empty() {
-                    return ExitCode::from(refuse_secret(path, &mut errors));
-                }
-            }
-            let config = host_config(it);
-            let errors = Mutex::new(errors);
-            host(&rt, alloc, it.port, config, secret, &mut writer, &errors).status
-        }
+        Outcome::Serves(settings) => run_server(&rt, settings),
+        Outcome::Hosts(settings) => run_host(&rt, settings),
     })
 }
