@@ -42,57 +42,6 @@ fn secret_bytes(rt: &HostRuntime, path: Option<&str>) -> Vec<u8> {
     }
 }
 
-/// The status of a server that is asked for.
-fn run_server(rt: &HostRuntime, settings: ServerSettings) -> u8 {
-    let ServerSettings {
-        port,
-        workers,
-        sessions,
-        limits,
-    } = settings;
-    let config = ServerConfig {
-        workers,
-        sessions,
-        limits,
-    };
-    let mut writer = IntoWrite::new(rt.stdout());
-    let mut errors = rt.stderr();
-    let ended = serve(rt, rt.alloc(), port, config, &mut writer, &mut errors);
-    ended.status
-}
-
-/// The status of a server that stays, which needs its secret if a file is named.
-fn run_host(rt: &HostRuntime, settings: HostSettings<'_>) -> u8 {
-    let HostSettings {
-        port,
-        workers,
-        sessions,
-        limits,
-        secret,
-        idle,
-        connections,
-    } = settings;
-    let bytes = secret_bytes(rt, secret);
-    let line = secret_in(&bytes).unwrap_or(&[]);
-    if let Some(path) = secret {
-        if line.is_empty() {
-            return refuse_secret(path, &mut rt.stderr());
-        }
-    }
-    let config = HostConfig {
-        workers,
-        sessions,
-        limits,
-        first_line_timeout: FIRST_LINE_TIMEOUT,
-        idle_timeout: idle.saturating_mul(MINUTE),
-        connections,
-    };
-    let mut writer = IntoWrite::new(rt.stdout());
-    let errors = Mutex::new(rt.stderr());
-    let ended = host(rt, rt.alloc(), port, config, line, &mut writer, &errors);
-    ended.status
-}
-
 fn main(rt: HostRuntime) -> ExitCode {
     let words = match words(&rt) {
         Ok(words) => words,
@@ -112,9 +61,51 @@ fn main(rt: HostRuntime) -> ExitCode {
         &mut errors,
         TURNS,
     );
-    ExitCode::from(match outcome {
-        Outcome::Ended(status) => status,
-        Outcome::Serves(settings) => run_server(&rt, settings),
-        Outcome::Hosts(settings) => run_host(&rt, settings),
-    })
+    match outcome {
+        Outcome::Ended(status) => ExitCode::from(status),
+        Outcome::Serves(settings) => {
+            let ServerSettings {
+                port,
+                workers,
+                sessions,
+                limits,
+            } = settings;
+            let config = ServerConfig {
+                workers,
+                sessions,
+                limits,
+            };
+            let ended = serve(&rt, rt.alloc(), port, config, &mut writer, &mut errors);
+            ExitCode::from(ended.status)
+        }
+        Outcome::Hosts(settings) => {
+            let HostSettings {
+                port,
+                workers,
+                sessions,
+                limits,
+                secret,
+                idle,
+                connections,
+            } = settings;
+            let bytes = secret_bytes(&rt, secret);
+            let line = secret_in(&bytes).unwrap_or(&[]);
+            if let Some(path) = secret {
+                if line.is_empty() {
+                    return ExitCode::from(refuse_secret(path, &mut errors));
+                }
+            }
+            let config = HostConfig {
+                workers,
+                sessions,
+                limits,
+                first_line_timeout: FIRST_LINE_TIMEOUT,
+                idle_timeout: idle.saturating_mul(MINUTE),
+                connections,
+            };
+            let errors = Mutex::new(rt.stderr());
+            let ended = host(&rt, rt.alloc(), port, config, line, &mut writer, &errors);
+            ExitCode::from(ended.status)
+        }
+    }
 }
