@@ -75,6 +75,7 @@ fn main(rt: HostRuntime) -> ExitCode {
                 sessions,
                 limits,
             };
+            let mut writer = IntoWrite::new(rt.stdout());
             let ended = serve(&rt, rt.alloc(), port, config, &mut writer, &mut errors);
             ExitCode::from(ended.status)
         }
@@ -103,6 +104,7 @@ fn main(rt: HostRuntime) -> ExitCode {
                 idle_timeout: idle.saturating_mul(MINUTE),
                 connections,
             };
+            let mut writer = IntoWrite::new(rt.stdout());
             let errors = Mutex::new(rt.stderr());
             let ended = host(&rt, rt.alloc(), port, config, line, &mut writer, &errors);
             ExitCode::from(ended.status)
