@@ -1,5 +1,5 @@
 //! A worker of which each allocation is refused in turn. It begins again, so that of two jobs one is left at most.
-use fb_serve::{Place, Session, keep_working, run_session};
+use fb_serve::{CallerState, Session, keep_working, run_session};
 use fb_shared::{Receipt, Seat, Shared};
 use fb_wire::bench::Limits;
 use fb_wire::{IntoWrite, MemoryFeed};
@@ -65,19 +65,19 @@ fn left_without<R: Wait + Clock>(
 ) -> Result<(String, bool), Fail> {
     let limits = Limits::new(4, 100).ok_or("limits")?;
     let (shared, mut seats) = Shared::new(alloc, limits, 2)?;
-    let mut place = Place::new(alloc, seats.pop().ok_or("no seat")?);
+    let mut state = CallerState::new(alloc, seats.pop().ok_or("no seat")?);
     let first = seats.pop().ok_or("no seat")?;
     let mut receipts = Vec::new(alloc);
     let (first, _) = talk(rt, alloc, &shared, first, &mut receipts, COMMIT)?;
     refuse(alloc, number);
-    let _end = keep_working(rt, alloc, &shared, &mut place, KEYS);
+    let _end = keep_working(rt, alloc, &shared, &mut state, KEYS);
     let is_refused = was_refused(alloc);
     let (first, left) = talk(rt, alloc, &shared, first, &mut receipts, WORK)?;
-    let Place {
+    let CallerState {
         seat,
         held: _,
         receipts: mut more,
-    } = place;
+    } = state;
     receipts.append(&mut more)?;
     if !is_closed(alloc, shared, first, seat, &receipts)? {
         return Err(Fail::from("not closed"));
