@@ -21,13 +21,11 @@ impl Trial for Words {
     }
 
     fn call(&mut self, alloc: Global) -> bool {
-        match settings(alloc, self.words) {
-            Ok(found) => {
-                self.found = Some(found);
-                true
-            }
-            Err(_) => false,
-        }
+        let Ok(found) = settings(alloc, self.words) else {
+            return false;
+        };
+        self.found = Some(found);
+        true
     }
 
     fn told(&self, alloc: Global) -> Result<String, Fail> {
