@@ -68,7 +68,9 @@ class ComparisonTest(unittest.TestCase):
             path = Path(folder, "program")
             path.write_text("#!/bin/sh\nexec sleep 60\n")
             path.chmod(0o700)
-            self.assertEqual((b"", None, "no end in 1 seconds"), compare.by_program(path, [], b""))
+            self.assertEqual((b"", None, "no end in 10 seconds"), compare.by_program(path, [], b""))
+            path.write_text("#!/bin/sh\nwhile :; do :; done\n")
+            self.assertEqual((b"", None, "no end in 1 seconds of a processor"), compare.by_program(path, [], b""))
 
     def test_files_that_are_absent(self):
         with contextlib.redirect_stderr(io.StringIO()) as said:
