@@ -34,7 +34,7 @@ pub trait Reader {
         ensures { Gives view result (reads self.now tokens.now) };
 }
 
-/// A token of a kind, and a value behind it.
+/// A token of a kind, and a value after it.
 #[derive(Drop)]
 struct Behind<'r, R> {
     kind: Kind,

@@ -6,7 +6,7 @@ ghost use Rattle.std.specs.Prelude.{◌≡◌};
 use crate::lexeme::Lexeme;
 use std::alloc::{AllocError, AllocFailed};
 
-/// Memory ran out, or the tokens from a first one on don't go on as the grammar wants.
+/// Memory ran out, or from a first one on the tokens do not continue as the grammar requires.
 #[derive(Debug, Drop)]
 pub enum Stop<'a> {
     Memory,

@@ -39,7 +39,7 @@ impl Body {
         }
     }
 
-    /// The body of a text of so many bytes with these tokens.
+    /// The body of a text of this number of bytes with these tokens.
     fn of_lexemes(alloc: Global, lexemes: &[Lexeme], end: usize) -> Result<Body, AllocError>
         ensures { IfOk result (λ body. body_tree body ≡ body_read end (read unit lexemes.now)) }
     {
@@ -64,7 +64,7 @@ impl Body {
         }
     }
 
-    /// The declaration, unless tokens are left behind it.
+    /// The declaration, unless tokens are left after it.
     fn whole_or_broken(decl: Decl, rest: &[Lexeme], end: usize) -> Body
         ensures { body_tree result ≡ whole_or_broken end (decl_tree decl) rest.now }
     {

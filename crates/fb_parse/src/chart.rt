@@ -26,7 +26,7 @@ fn bracketed(alloc: Global, tokens: &[Lexeme]) -> Result<(Expr, &[Lexeme]), Stop
     Ok((test, rest))
 }
 
-/// An expression behind `&` or `AND`.
+/// An expression after `&` or `AND`.
 #[tactic(auto, unfolding(crate::specs::Chart::joined_test))]
 fn joined_test(alloc: Global, tokens: &[Lexeme]) -> Result<(Expr, &[Lexeme]), Stop<'_>>
     ensures { Gives expression_tree result (read joined_test tokens.now) }
@@ -35,7 +35,7 @@ fn joined_test(alloc: Global, tokens: &[Lexeme]) -> Result<(Expr, &[Lexeme]), St
     expression(alloc, rest)
 }
 
-/// What is tested when an event comes, where it is written.
+/// What is tested when an event comes, if it is written.
 #[tactic(auto, unfolding(crate::specs::Chart::optional_test, crate::specs::Chart::bracketed, crate::specs::Chart::joined_test))]
 fn optional_test(alloc: Global, tokens: &[Lexeme]) -> Result<(Option<Expr>, &[Lexeme]), Stop<'_>>
     ensures { Gives (option_map expression_tree) result (read optional_test tokens.now) }
@@ -139,7 +139,7 @@ struct AlgorithmBody {
     statements: Vec<Stmt>,
 }
 
-/// The tokens behind a colon, or all where there is none.
+/// The tokens after a colon, or all if there is none.
 #[tactic(auto, unfolding(crate::specs::Chart::optional_colon))]
 fn optional_colon(tokens: &[Lexeme]) -> &[Lexeme]
     ensures { read optional_colon tokens.now ≡ Ok (tt, result.now) }

@@ -27,7 +27,7 @@ pub fn optional_name(
     Ok((Some(found), rest))
 }
 
-/// The name of a token, where there is one.
+/// The name of a token, if there is one.
 pub fn name_in(alloc: Global, token: Option<&Lexeme>) -> Result<Option<NameUse>, AllocError>
     ensures { IfOk result (λ name. name ≡ option_map (λ t. name_use t.now) token.entry) }
 {

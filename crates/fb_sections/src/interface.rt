@@ -13,7 +13,7 @@ use fb_tree::text::NameUse;
 use fb_tree::{Constant, Event, Section, Side, Variables};
 use std::alloc::Global;
 
-/// The names behind WITH, where it is written.
+/// The names after WITH, if it is written.
 #[tactic(auto, unfolding(crate::specs::Interface::with_names))]
 fn with_names(alloc: Global, tokens: &[Lexeme]) -> Result<(Vec<NameUse>, &[Lexeme]), Stop<'_>>
     ensures { Gives (λ names. names.items) result (read with_names tokens.now) }
@@ -84,7 +84,7 @@ pub fn events(alloc: Global, tokens: &[Lexeme]) -> Result<(Vec<Event>, &[Lexeme]
     }
 }
 
-/// The initial value, where one is written.
+/// The initial value, if one is written.
 #[tactic(auto, unfolding(crate::specs::Interface::initial))]
 fn initial(alloc: Global, tokens: &[Lexeme]) -> Result<(Option<Constant>, &[Lexeme]), Stop<'_>>
     ensures { Gives (option_map constant_tree) result (read initial tokens.now) }

@@ -70,7 +70,7 @@ pub fn mappings(alloc: Global, tokens: &[Lexeme]) -> Result<(Vec<Mapping>, &[Lex
     )
 }
 
-/// The tokens behind a semicolon, or all where there is none.
+/// The tokens after a semicolon, or all if there is none.
 #[tactic(auto, unfolding(crate::specs::SystemParts::optional_semicolon))]
 pub fn optional_semicolon(tokens: &[Lexeme]) -> &[Lexeme]
     ensures { read optional_semicolon tokens.now ≡ Ok (tt, result.now) }

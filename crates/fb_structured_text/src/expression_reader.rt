@@ -47,7 +47,7 @@ fn flat_primary(alloc: Global, tokens: &[Lexeme]) -> Result<(Expr, &[Lexeme]), S
     Ok((Expr::Reference(variable, subscripts), rest))
 }
 
-/// An expression in parentheses, with so many levels below it.
+/// An expression in parentheses, which may nest `below` levels.
 #[cycle(expression)]
 #[tactic(auto, unfolding(crate::specs::Expression::parenthesized))]
 fn parenthesized(alloc: Global, below: u8, tokens: &[Lexeme]) -> Result<(Expr, &[Lexeme]), Stop<'_>>
@@ -60,7 +60,7 @@ fn parenthesized(alloc: Global, below: u8, tokens: &[Lexeme]) -> Result<(Expr, &
     Ok((Expr::Parentheses(Box::new(alloc, inner)?, span), rest))
 }
 
-/// An operand, with so many levels below it.
+/// An operand, which may nest `left` levels.
 #[cycle(expression)]
 fn primary(alloc: Global, left: u8, tokens: &[Lexeme]) -> Result<(Expr, &[Lexeme]), Stop<'_>>
     ensures { Gives expression_tree result (read (primary left) tokens.now) }
@@ -72,7 +72,7 @@ fn primary(alloc: Global, left: u8, tokens: &[Lexeme]) -> Result<(Expr, &[Lexeme
     }
 }
 
-/// An operand whose parts have so many levels below them.
+/// An operand whose parts may nest `below` levels.
 #[cycle(expression)]
 #[tactic(auto, unfolding(crate::specs::Expression::deep_primary))]
 fn deep_primary(alloc: Global, below: u8, tokens: &[Lexeme]) -> Result<(Expr, &[Lexeme]), Stop<'_>>
@@ -101,7 +101,7 @@ fn variable_operand(
     Ok((Expr::Reference(variable, subscripts), rest))
 }
 
-/// A name, perhaps with subscripts that have so many levels below them.
+/// A name, perhaps with subscripts that may nest `below` levels.
 #[cycle(expression)]
 #[tactic(auto, unfolding(crate::specs::Expression::deep_part, crate::specs::Expression::subscripts))]
 fn deep_part(alloc: Global, below: u8, tokens: &[Lexeme]) -> Result<(Part, &[Lexeme]), Stop<'_>>
@@ -130,7 +130,7 @@ fn further_part(alloc: Global, below: u8, tokens: &[Lexeme]) -> Result<(Part, &[
     deep_part(alloc, below, rest)
 }
 
-/// The names behind the first one.
+/// The names after the first one.
 #[cycle(expression)]
 fn further_parts(
     alloc: Global,
@@ -151,7 +151,7 @@ fn further_parts(
     Ok((parts, rest))
 }
 
-/// A reference whose subscripts have so many levels below them.
+/// A reference whose subscripts may nest `below` levels.
 #[cycle(expression)]
 #[tactic(auto, unfolding(crate::specs::Expression::deep_reference))]
 fn deep_reference(
@@ -218,7 +218,7 @@ fn further_expression(
     expression_at(alloc, below, rest)
 }
 
-/// An operand with a sign before it, where one is written.
+/// An operand, with a sign before it if one is written.
 #[cycle(expression)]
 #[tactic(auto, unfolding(crate::specs::Expression::unary))]
 fn unary(alloc: Global, left: u8, tokens: &[Lexeme]) -> Result<(Expr, &[Lexeme]), Stop<'_>>
@@ -237,7 +237,7 @@ fn unary(alloc: Global, left: u8, tokens: &[Lexeme]) -> Result<(Expr, &[Lexeme])
 }
 
 /// An expression with the operators of a strength and of the stronger ones. The first operand is
-/// read once; then rows are built from the strongest operators to the weakest, where one is next.
+/// read once; then rows are built from the strongest operators to the weakest, as far as one is next.
 #[cycle(expression)]
 fn row(
     alloc: Global,
@@ -303,7 +303,7 @@ fn operand(
     Ok(((operator, value), rest))
 }
 
-/// An expression with so many levels below it.
+/// An expression that may nest `left` levels.
 #[cycle(expression)]
 pub fn expression_at(
     alloc: Global,
@@ -315,15 +315,15 @@ pub fn expression_at(
     row(alloc, 0, left, tokens)
 }
 
-/// An expression at the outermost level, and the tokens behind it. On a fault the tokens from the
-/// first one that does not go on.
+/// An expression at the outermost level, and the tokens after it. On a fault the tokens from the
+/// first one that does not continue.
 pub fn expression(alloc: Global, tokens: &[Lexeme]) -> Result<(Expr, &[Lexeme]), Stop<'_>>
     ensures { Gives expression_tree result (read (expression levels) tokens.now) }
 {
     expression_at(alloc, LEVELS, tokens)
 }
 
-/// A reference with its subscripts, in an expression or statement with so many levels below it.
+/// A reference with its subscripts, in an expression or statement that may nest `left` levels.
 #[tactic(auto, unfolding(crate::specs::Expression::reference))]
 pub fn reference(
     alloc: Global,

@@ -35,7 +35,7 @@ use fb_grammar::{Kind, Lexeme, Stop, is_next, key, name};
 use fb_tree::{Counting, Expr, Stmt};
 use std::alloc::Global;
 
-/// A word with `;` behind it.
+/// A word followed by `;`.
 #[tactic(auto, unfolding(crate::specs::Statement::ended))]
 fn ended(tokens: &[Lexeme], word: Kind) -> Result<(&Lexeme, &[Lexeme]), Stop<'_>>
     ensures { Gives (λ token. token.now) result (read (ended word) tokens.now) }
@@ -45,7 +45,7 @@ fn ended(tokens: &[Lexeme], word: Kind) -> Result<(&Lexeme, &[Lexeme]), Stop<'_>
     Ok((first, rest))
 }
 
-/// A word with an expression behind it.
+/// A word followed by an expression.
 #[tactic(auto, unfolding(crate::specs::Statement::announced))]
 fn announced(
     alloc: Global,
@@ -93,7 +93,7 @@ fn simple_statement(
     }
 }
 
-/// Whether a statement comes next, with so many levels below it.
+/// Whether a statement comes next, which may nest `left` levels.
 fn begins_statement(left: u8, tokens: &[Lexeme]) -> bool
     ensures { result ≡ is_next (first (statement left)) tokens.now }
 {
@@ -123,7 +123,7 @@ fn begins_simple(tokens: &[Lexeme]) -> bool
     )
 }
 
-/// Statements with so many levels below them.
+/// Statements that may nest `left` levels.
 #[cycle(statement)]
 fn statements_at(
     alloc: Global,
@@ -143,7 +143,7 @@ fn statements_at(
     Ok((statements, rest))
 }
 
-/// A statement with so many levels below it.
+/// A statement that may nest `left` levels.
 #[cycle(statement)]
 fn statement(alloc: Global, left: u8, tokens: &[Lexeme]) -> Result<(Stmt, &[Lexeme]), Stop<'_>>
     ensures { Gives statement_tree result (read (statement left) tokens.now) }
@@ -198,7 +198,7 @@ fn enclosed(
     Ok((statements, rest))
 }
 
-/// `ELSE` and what is done behind it; nothing where it is not written.
+/// `ELSE` and what is done after it; nothing if it is not written.
 #[cycle(statement)]
 #[tactic(auto, unfolding(crate::specs::Statement::otherwise))]
 fn otherwise(
@@ -215,7 +215,7 @@ fn otherwise(
     statements_at(alloc, below, rest)
 }
 
-/// A condition behind `IF` or `ELSIF`, and what is done where it holds.
+/// A condition after `IF` or `ELSIF`, and what is done if it holds.
 #[cycle(statement)]
 #[tactic(auto, unfolding(crate::specs::Statement::arm))]
 fn arm(
@@ -268,7 +268,7 @@ fn if_statement(alloc: Global, left: u8, tokens: &[Lexeme]) -> Result<(Stmt, &[L
     Ok((Stmt::If(arms, otherwise), rest))
 }
 
-/// The statements of one case, behind its labels.
+/// The statements of one case, after its labels.
 #[cycle(statement)]
 #[tactic(auto, unfolding(crate::specs::Statement::case))]
 fn case(alloc: Global, below: u8, tokens: &[Lexeme]) -> Result<(Vec<Stmt>, &[Lexeme]), Stop<'_>>
@@ -373,8 +373,8 @@ fn repeat_statement(
     Ok((Stmt::Repeat(body, condition), rest))
 }
 
-/// The statements at the outermost level, and the tokens behind them. On a fault the tokens from
-/// the first one that does not go on.
+/// The statements at the outermost level, and the tokens after them. On a fault the tokens from
+/// the first one that does not continue.
 pub fn statements(alloc: Global, tokens: &[Lexeme]) -> Result<(Vec<Stmt>, &[Lexeme]), Stop<'_>>
     ensures { GivesEach statement_tree result (read (many (statement levels)) tokens.now) }
 {
