@@ -78,11 +78,7 @@ const ROLLS_BETWEEN: &[Step<'static>] = &[
     Step::Ask(0, COMMIT, FIRST),
     Step::Ask(0, TAKE, JOB_A),
     Step::Repeat(0, 3, ASK, NO_KEY),
-    Step::Ask(
-        0,
-        "{\"op\":\"deliver\",\"job\":1}\n",
-        "{\"delivered\":\"accepted\"}\n",
-    ),
+    Step::Ask(0, "{\"op\":\"deliver\",\"job\":1}\n", DELIVERED),
     Step::Ask(0, COMMIT, STALE),
     Step::Repeat(0, 3, ASK_FAULTS, KNOWN),
     Step::Ask(0, COMMIT, STALE),
@@ -165,16 +161,25 @@ fn a_seat_is_taken(rt: HostRuntime) -> Result<(), Fail> {
     compare(&rt, rt.alloc(), &play)
 }
 
+const DELIVERED: &str = "{\"delivered\":\"accepted\"}\n";
+
 const COMMIT_ALL: &str =
     "{\"op\":\"commit\",\"changes\":[{\"put\":\"A\",\"base\":0,\"text\":\"FUNCTION_BLOCK A END_FUNCTION_BLOCK\"},\
     {\"put\":\"B\",\"base\":0,\"text\":\"FUNCTION_BLOCK B END_FUNCTION_BLOCK\"},\
     {\"put\":\"C\",\"base\":0,\"text\":\"FUNCTION_BLOCK C END_FUNCTION_BLOCK\"}]}\n";
 
+const COMMIT_ONCE_MORE: &str =
+    "{\"op\":\"commit\",\"changes\":[{\"put\":\"A\",\"base\":2,\"text\":\"FUNCTION_BLOCK A END_FUNCTION_BLOCK\"}]}\n";
+
+const COMMIT_S: &str =
+    "{\"op\":\"commit\",\"changes\":[{\"put\":\"S\",\"base\":0,\"text\":\"SUBAPPLICATION S END_SUBAPPLICATION\"}]}\n";
+
 const JOB_B: &str = "{\"job\":2,\"kind\":\"faults\",\"unit\":\"B\"}\n";
 
 const JOB_C: &str = "{\"job\":3,\"kind\":\"faults\",\"unit\":\"C\"}\n";
 
-// It takes three keys and goes. The next session is given them again, goes half way, and all of them are worked for in the third.
+// It takes three keys and goes. The next session is given them again, goes half way, and all of them are worked for in the third. Of those behind it one
+// delivers a stale result, and one settles one key of two of a unit.
 const GIVEN_BACK: &[Step<'static>] = &[
     Step::Connect(1),
     Step::Ask(0, COMMIT_ALL, FIRST),
@@ -192,6 +197,30 @@ const GIVEN_BACK: &[Step<'static>] = &[
     Step::Connect(1),
     Step::Ask(2, "{\"op\":\"work\",\"turns\":9}\n", "{\"accepted\":3}\n"),
     Step::Leave(2, ""),
+    // A result that is stale leaves its key out, so that it is given back.
+    Step::Connect(1),
+    Step::Ask(3, COMMIT_AGAIN, SECOND),
+    Step::Ask(3, TAKE, JOB_A),
+    Step::Ask(3, COMMIT_ONCE_MORE, "{\"commit\":3}\n"),
+    Step::Ask(3, TAKE, "{\"job\":2,\"kind\":\"faults\",\"unit\":\"A\"}\n"),
+    Step::Ask(
+        3,
+        "{\"op\":\"deliver\",\"job\":1}\n",
+        "{\"refused\":\"Stale\",\"unit\":\"A\"}\n",
+    ),
+    Step::Leave(3, ""),
+    // Of two keys of one unit one is settled, and the other is given back.
+    Step::Connect(1),
+    Step::Ask(4, TAKE, JOB_A),
+    Step::Ask(4, "{\"op\":\"deliver\",\"job\":1}\n", DELIVERED),
+    Step::Ask(4, COMMIT_S, "{\"commit\":4}\n"),
+    Step::Ask(4, TAKE, "{\"job\":2,\"kind\":\"faults\",\"unit\":\"S\"}\n"),
+    Step::Ask(4, TAKE, "{\"job\":3,\"kind\":\"net\",\"unit\":\"S\"}\n"),
+    Step::Ask(4, "{\"op\":\"deliver\",\"job\":2}\n", DELIVERED),
+    Step::Leave(4, ""),
+    Step::Connect(1),
+    Step::Ask(5, TAKE, "{\"job\":1,\"kind\":\"net\",\"unit\":\"S\"}\n"),
+    Step::Leave(5, ""),
 ];
 
 #[test]
@@ -202,11 +231,11 @@ fn keys_are_given_back(rt: HostRuntime) -> Result<(), Fail> {
         history: 100,
         first_line_timeout: LONG,
         idle_timeout: 0,
-        connections: 3,
+        connections: 6,
         secret: "",
         steps: GIVEN_BACK,
         errors: "",
-        counts: Some((21, 21)),
+        counts: Some((36, 36)),
     };
     compare(&rt, rt.alloc(), &play)
 }
