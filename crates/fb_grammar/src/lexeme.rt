@@ -120,7 +120,7 @@ fn symbol_kind(bytes: &[u8]) -> Kind
 }
 
 #[tactic(auto, unfolding(crate::specs::Lexemes::kind_of))]
-fn kind_of(kind: TokenKind, bytes: &[u8]) -> Kind
+pub(crate) fn kind_of(kind: TokenKind, bytes: &[u8]) -> Kind
     ensures { result ≡ kind_of kind bytes.now }
 {
     match kind {

@@ -7,7 +7,7 @@ ghost use Rattle.fb_structured_text.specs.Expression.{PartTree, flat_part, flat_
 ghost use Rattle.fb_structured_text.specs.Part.{part_tree};
 ghost use Rattle.std.specs.Prelude.{◌≡◌, IfOk, None, map};
 
-use fb_grammar::{Kind, Lexeme, Reader, Stop, key, name, several};
+use fb_grammar::{Kind, Reader, Stop, Tokens, key, name, several};
 use fb_tree::text::NameUse;
 use fb_tree::{Expr, Member, Reference};
 use std::alloc::{AllocError, Global};
@@ -22,14 +22,15 @@ pub struct Part {
 }
 
 /// A name without subscripts.
-pub fn alone(alloc: Global, name: &Lexeme) -> Result<Part, AllocError>
-    ensures { IfOk result (λ part. part_tree part ≡ part_of (name_use name.now) None) }
+pub fn alone(alloc: Global, name: NameUse) -> Part
+    ensures { part_tree result ≡ part_of name None }
 {
-    Ok(Part {
-        name: name.name_use(alloc)?,
+    let end = name.span.end();
+    Part {
+        name,
         subscripts: Vec::new(alloc),
-        end: name.span.end(),
-    })
+        end,
+    }
 }
 
 /// The reference of these parts, and the subscripts of all of them.
@@ -60,11 +61,11 @@ pub fn joined(
 
 /// A name without subscripts.
 #[tactic(auto, unfolding(crate::specs::Expression::flat_part))]
-fn flat_part(alloc: Global, tokens: &[Lexeme]) -> Result<(Part, &[Lexeme]), Stop<'_>>
-    ensures { Gives part_tree result (read flat_part tokens.now) }
+fn flat_part(alloc: Global, tokens: &mut Tokens<'_>) -> Result<Part, Stop>
+    ensures { Gives part_tree result tokens.new (read flat_part tokens.old) }
 {
-    let (name, rest) = name(tokens)?;
-    Ok((alone(alloc, name)?, rest))
+    let name = name(alloc, tokens)?;
+    Ok(alone(alloc, name))
 }
 
 /// Reads a point and a name.
@@ -80,19 +81,19 @@ impl Reader for FlatReader {
 
     ghost reads = { λ _. read (further_part flat_part) };
 
-    fn read<'a>(
+    fn read(
         &self,
         alloc: Global,
-        tokens: &'a [Lexeme],
-    ) -> Result<(Part, &'a [Lexeme]), Stop<'a>> {
-        let (_, rest) = key(tokens, Kind::Point)?;
-        flat_part(alloc, rest)
+        tokens: &mut Tokens<'_>,
+    ) -> Result<Part, Stop> {
+        key(tokens, Kind::Point)?;
+        flat_part(alloc, tokens)
     }
 }
 
 /// The names behind the first one, each behind a point.
-fn flat_members(alloc: Global, tokens: &[Lexeme]) -> Result<(Vec<Part>, &[Lexeme]), Stop<'_>>
-    ensures { GivesEach part_tree result (read (many (further_part flat_part)) tokens.now) }
+fn flat_members(alloc: Global, tokens: &mut Tokens<'_>) -> Result<Vec<Part>, Stop>
+    ensures { GivesEach part_tree result tokens.new (read (many (further_part flat_part)) tokens.old) }
 {
     several(&FlatReader, alloc, &[Kind::Point], tokens)
 }
@@ -101,11 +102,11 @@ fn flat_members(alloc: Global, tokens: &[Lexeme]) -> Result<(Vec<Part>, &[Lexeme
 #[tactic(auto, unfolding(crate::specs::Expression::flat_reference))]
 pub fn flat_reference(
     alloc: Global,
-    tokens: &[Lexeme],
-) -> Result<((Box<Reference>, Vec<Expr>), &[Lexeme]), Stop<'_>>
-    ensures { Gives variable_tree result (read flat_reference tokens.now) }
+    tokens: &mut Tokens<'_>,
+) -> Result<(Box<Reference>, Vec<Expr>), Stop>
+    ensures { Gives variable_tree result tokens.new (read flat_reference tokens.old) }
 {
-    let (first, rest) = flat_part(alloc, tokens)?;
-    let (others, rest) = flat_members(alloc, rest)?;
-    Ok((joined(alloc, first, others)?, rest))
+    let first = flat_part(alloc, tokens)?;
+    let others = flat_members(alloc, tokens)?;
+    Ok(joined(alloc, first, others)?)
 }
