@@ -9,10 +9,11 @@ ghost use Rattle.fb_expr.specs.Statements.{faults_at_place};
 
 use crate::classes::{broken, changed, operated};
 use crate::names::Names;
-use crate::references::{referred, report_reference};
+use crate::references::{referred, referred_variable, report_reference};
 use crate::rules::{ClassPlace, report_class};
 use crate::spans::{span_of, span_of_names};
 use fb_iface::{Class, Fault, class_by_form};
+use fb_tree::text::NameUse;
 use fb_tree::{BinaryUse, Expr, Reference, UnaryUse};
 use std::alloc::AllocError;
 
@@ -27,6 +28,7 @@ pub fn judge(names: Names<'_>, expr: &Expr, found: &mut Vec<Fault>) -> Result<Cl
 {
     match expr {
         Expr::Literal(literal) => Ok(class_by_form(literal.form)),
+        Expr::Name(used) => judge_name(names, used, found),
         Expr::Reference(reference, subscripts) => {
             judge_reference(names, reference, subscripts.as_slice(), found)
         }
@@ -40,6 +42,18 @@ pub fn judge(names: Names<'_>, expr: &Expr, found: &mut Vec<Fault>) -> Result<Cl
         }
         Expr::Parentheses(inner, _) => judge(names, inner, found),
     }
+}
+
+/// The class of a variable that is a name alone.
+pub fn judge_name(
+    names: Names<'_>,
+    used: &NameUse,
+    found: &mut Vec<Fault>,
+) -> Result<Class, AllocError>
+{
+    let referent = referred_variable(names.scope, &used.name.name(), false);
+    report_reference(&referent, used.span.span(), found)?;
+    Ok(referent.class())
 }
 
 /// The class of a variable with its subscripts.

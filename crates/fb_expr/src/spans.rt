@@ -34,6 +34,7 @@ pub fn span_of(expr: &Expr) -> Span
 {
     match expr {
         Expr::Literal(literal) => literal.span.span(),
+        Expr::Name(used) => used.span.span(),
         Expr::Reference(reference, _) => reference.span.span(),
         Expr::Unary(operator, operand) => across(operator.span.span(), span_of(operand)),
         Expr::Row(first, operands) => {

@@ -6,7 +6,7 @@ ghost use Rattle.fb_expr.specs.Names.{names_in};
 ghost use Rattle.fb_expr.specs.Statements.{assignment_faults, counter_faults, range_faults, statement_faults, statements_faults};
 
 use crate::classes::joined;
-use crate::expressions::{judge, judge_at, judge_reference};
+use crate::expressions::{judge, judge_at, judge_name, judge_reference};
 use crate::names::Names;
 use crate::references::{referred_variable, report_reference};
 use crate::rules::{ClassPlace, report_class};
@@ -45,6 +45,7 @@ fn report_statement(
 {
     match statement {
         Stmt::Empty | Stmt::Exit | Stmt::Return => Ok(()),
+        Stmt::Set(name, place, value) => report_set(names, name, place.span(), value, found),
         Stmt::Assign(variable, subscripts, place, value) => {
             report_assignment(
                 names,
@@ -80,6 +81,20 @@ fn report_statement(
             judge_at(ClassPlace::Condition, names, condition, found)
         }
     }
+}
+
+/// Reports the faults of an assignment to a name alone. `place` is that of `:=`.
+fn report_set(
+    names: Names<'_>,
+    name: &NameUse,
+    place: Span,
+    value: &Expr,
+    found: &mut Vec<Fault>,
+) -> Result<(), AllocError>
+{
+    let target = judge_name(names, name, found)?;
+    let value = judge(names, value, found)?;
+    report_class(joined(target, value).is_some(), place, found)
 }
 
 /// Reports the faults of an assignment. `place` is that of `:=`.

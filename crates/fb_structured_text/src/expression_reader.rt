@@ -27,10 +27,10 @@ ghost use Rattle.fb_tree.specs.Expression.{expression_tree, operand_tree};
 ghost use Rattle.std.specs.Prelude.{◌≡◌, ◌≤◌, ◌<◌, map};
 
 use crate::operators::{SIGNS, is_literal, literal, next_strength, operator, operators, sign};
-use crate::references::{Part, alone, flat_reference, joined};
+use crate::references::{Part, Variable, alone, flat_reference, joined};
 use fb_grammar::{Kind, NAMES, Stop, Tokens, is_next, key, name};
-use fb_tree::text::Place;
-use fb_tree::{BinaryUse, Expr, Reference};
+use fb_tree::text::{NameUse, Place};
+use fb_tree::{BinaryUse, Expr};
 use std::alloc::Global;
 
 /// How many levels there are below the outermost expressions and statements.
@@ -44,8 +44,7 @@ fn flat_primary(alloc: Global, tokens: &mut Tokens<'_>) -> Result<Expr, Stop>
     if is_literal(tokens) {
         return literal(tokens);
     }
-    let (variable, subscripts) = flat_reference(alloc, tokens)?;
-    Ok(Expr::Reference(variable, subscripts))
+    Ok(flat_reference(alloc, tokens)?.expression())
 }
 
 /// An expression in parentheses, with so many levels below it.
@@ -98,8 +97,7 @@ fn variable_operand(
     ensures { Gives expression_tree result tokens.new
         (read (as_value reference_value (deep_reference (expression below))) tokens.old) }
 {
-    let (variable, subscripts) = deep_reference(alloc, below, tokens)?;
-    Ok(Expr::Reference(variable, subscripts))
+    Ok(deep_reference(alloc, below, tokens)?.expression())
 }
 
 /// A name, perhaps with subscripts that have so many levels below them.
@@ -109,6 +107,18 @@ fn deep_part(alloc: Global, below: u8, tokens: &mut Tokens<'_>) -> Result<Part, 
     ensures { Gives part_tree result tokens.new (read (deep_part (expression below)) tokens.old) }
 {
     let name = name(alloc, tokens)?;
+    part_behind(alloc, below, name, tokens)
+}
+
+/// A name that was read, perhaps with subscripts that have so many levels below them.
+#[cycle(expression)]
+fn part_behind(
+    alloc: Global,
+    below: u8,
+    name: NameUse,
+    tokens: &mut Tokens<'_>,
+) -> Result<Part, Stop>
+{
     if !is_next(tokens, &[Kind::OpenBracket]) {
         return Ok(alone(alloc, name));
     }
@@ -157,10 +167,14 @@ fn deep_reference(
     alloc: Global,
     below: u8,
     tokens: &mut Tokens<'_>,
-) -> Result<(Box<Reference>, Vec<Expr>), Stop>
+) -> Result<Variable, Stop>
     ensures { Gives variable_tree result tokens.new (read (deep_reference (expression below)) tokens.old) }
 {
-    let first = deep_part(alloc, below, tokens)?;
+    let name = name(alloc, tokens)?;
+    if !is_next(tokens, &[Kind::OpenBracket, Kind::Point]) {
+        return Ok(Variable::Name(name));
+    }
+    let first = part_behind(alloc, below, name, tokens)?;
     let others = further_parts(alloc, below, tokens)?;
     Ok(joined(alloc, first, others)?)
 }
@@ -324,7 +338,7 @@ pub fn reference(
     alloc: Global,
     left: u8,
     tokens: &mut Tokens<'_>,
-) -> Result<(Box<Reference>, Vec<Expr>), Stop>
+) -> Result<Variable, Stop>
     ensures { Gives variable_tree result tokens.new (read (reference left) tokens.old) }
 {
     if left == 0 {

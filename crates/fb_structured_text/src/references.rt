@@ -7,7 +7,7 @@ ghost use Rattle.fb_structured_text.specs.Expression.{PartTree, flat_part, flat_
 ghost use Rattle.fb_structured_text.specs.Part.{part_tree};
 ghost use Rattle.std.specs.Prelude.{◌≡◌, IfOk, None, map};
 
-use fb_grammar::{Kind, Reader, Stop, Tokens, key, name, several};
+use fb_grammar::{Kind, Reader, Stop, Tokens, is_next, key, name, several};
 use fb_tree::text::NameUse;
 use fb_tree::{Expr, Member, Reference};
 use std::alloc::{AllocError, Global};
@@ -33,12 +33,29 @@ pub fn alone(alloc: Global, name: NameUse) -> Part
     }
 }
 
-/// The reference of these parts, and the subscripts of all of them.
+/// A variable: a name alone, or a reference with the subscripts of all its names.
+#[derive(Drop)]
+pub enum Variable {
+    Name(NameUse),
+    Reference(Box<Reference>, Vec<Expr>),
+}
+
+impl Variable {
+    /// The variable as an expression.
+    pub fn expression(self) -> Expr {
+        match self {
+            Variable::Name(name) => Expr::Name(name),
+            Variable::Reference(reference, subscripts) => Expr::Reference(reference, subscripts),
+        }
+    }
+}
+
+/// The variable of these parts.
 pub fn joined(
     alloc: Global,
     first: Part,
     others: Vec<Part>,
-) -> Result<(Box<Reference>, Vec<Expr>), AllocError>
+) -> Result<Variable, AllocError>
     ensures { IfOk result
         (λ v. variable_tree v ≡ reference_in (part_tree first, map part_tree others.items)) }
 {
@@ -56,7 +73,7 @@ pub fn joined(
         end = part.end;
     }
     let reference = Reference::new(alloc, first.name, count, members, end)?;
-    Ok((Box::new(alloc, reference)?, subscripts))
+    Ok(Variable::Reference(Box::new(alloc, reference)?, subscripts))
 }
 
 /// A name without subscripts.
@@ -103,10 +120,13 @@ fn flat_members(alloc: Global, tokens: &mut Tokens<'_>) -> Result<Vec<Part>, Sto
 pub fn flat_reference(
     alloc: Global,
     tokens: &mut Tokens<'_>,
-) -> Result<(Box<Reference>, Vec<Expr>), Stop>
+) -> Result<Variable, Stop>
     ensures { Gives variable_tree result tokens.new (read flat_reference tokens.old) }
 {
-    let first = flat_part(alloc, tokens)?;
+    let first = name(alloc, tokens)?;
+    if !is_next(tokens, &[Kind::Point]) {
+        return Ok(Variable::Name(first));
+    }
     let others = flat_members(alloc, tokens)?;
-    Ok(joined(alloc, first, others)?)
+    Ok(joined(alloc, alone(alloc, first), others)?)
 }

@@ -31,6 +31,7 @@ ghost use Rattle.std.specs.Prelude.{◌≡◌, ◌<◌, option_map};
 
 use crate::expression_reader::{LEVELS, expression_at, reference};
 use crate::labels::{begins_label, labels};
+use crate::references::Variable;
 use fb_grammar::{Kind, Stop, Tokens, is_next, key, name};
 use fb_tree::text::Place;
 use fb_tree::{Counting, Expr, Stmt};
@@ -64,11 +65,15 @@ fn announced(
 fn assignment(alloc: Global, left: u8, tokens: &mut Tokens<'_>) -> Result<Stmt, Stop>
     ensures { Gives statement_tree result tokens.new (read (assignment_statement left) tokens.old) }
 {
-    let (variable, subscripts) = reference(alloc, left, tokens)?;
+    let variable = reference(alloc, left, tokens)?;
     let assign = key(tokens, Kind::Assign)?;
     let value = expression_at(alloc, left, tokens)?;
     key(tokens, Kind::Semicolon)?;
-    Ok(Stmt::Assign(variable, subscripts, assign, value))
+    let statement = match variable {
+        Variable::Name(name) => Stmt::Set(name, assign, value),
+        Variable::Reference(reference, subscripts) => Stmt::Assign(reference, subscripts, assign, value),
+    };
+    Ok(statement)
 }
 
 /// A statement that contains no others.

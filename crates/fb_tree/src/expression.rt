@@ -2,7 +2,7 @@
 
 use crate::constant::Literal;
 use crate::reference::Reference;
-use fb_text::Place;
+use fb_text::{NameUse, Place};
 
 /// What stands before an operand.
 #[derive(Clone, Copy, Debug, PartialEq, Eq)]
@@ -49,7 +49,9 @@ pub struct BinaryUse {
 /// An expression.
 pub enum Expr {
     Literal(Literal),
-    /// A variable with its subscripts.
+    /// A variable that is a name alone. Most are.
+    Name(NameUse),
+    /// Any other variable, with its subscripts.
     Reference(Box<Reference>, Vec<Expr>),
     Unary(UnaryUse, Box<Expr>),
     /// An operand, and the operators of one strength that follow it, each with its operand.
@@ -62,6 +64,7 @@ impl Drop for Expr {
     fn drop(self) {
         match self {
             Self::Literal(_)
+            | Self::Name(_)
             | Self::Reference(_, _)
             | Self::Unary(_, _)
             | Self::Row(_, _)

@@ -388,6 +388,7 @@ impl Tell for Stmt {
 fn tell_expression(expression: &Expr, told: &mut String) -> Result<(), AllocError> {
     match expression {
         Expr::Literal(literal) => write!(told, "{:?}", literal.form),
+        Expr::Name(used) => told.push_str(used.name.as_str()),
         Expr::Reference(reference, subscripts) => {
             tell_reference(reference, subscripts.as_slice(), told)
         }
@@ -460,6 +461,10 @@ fn tell_members<'a>(
 fn tell_statement(statement: &Stmt, told: &mut String) -> Result<(), AllocError> {
     match statement {
         Stmt::Empty => told.push_str("EMPTY"),
+        Stmt::Set(name, _, value) => {
+            told.push_str(name.name.as_str())?;
+            tell_value(" := ", value, told)
+        }
         Stmt::Assign(variable, subscripts, _, value) => {
             tell_reference(variable, subscripts.as_slice(), told)?;
             tell_value(" := ", value, told)
