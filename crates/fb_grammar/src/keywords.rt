@@ -351,6 +351,22 @@ fn symbol_of_1(b: u8) -> Option<Kind>
     }
 }
 
+/// The symbol of one byte that begins no longer symbol and no comment.
+pub fn lone_symbol(b: u8) -> Option<Kind>
+{
+    match b {
+        b';' => Some(Kind::Semicolon),
+        b',' => Some(Kind::Comma),
+        b')' => Some(Kind::CloseParenthesis),
+        b'[' => Some(Kind::OpenBracket),
+        b']' => Some(Kind::CloseBracket),
+        b'=' => Some(Kind::Equal),
+        b'+' => Some(Kind::Plus),
+        b'&' => Some(Kind::Ampersand),
+        _ => None,
+    }
+}
+
 /// The symbols of two bytes.
 #[tactic(auto, unfolding(crate::specs::ByLength::symbols_of))]
 fn symbol_of_2(a: u8, b: u8) -> Option<Kind>

@@ -2,8 +2,11 @@
 ghost use Rattle.std.specs.Prelude.{◌≡◌, ◌<◌, length};
 
 use crate::kind::Kind;
-use crate::lexeme::kind_of;
-use fb_tree::text::{OpenQuotes, Piece, Place, next_piece};
+use crate::keywords::lone_symbol;
+use crate::lexeme::{kind_of, word_kind};
+use fb_tree::text::{
+    OpenQuotes, Piece, Place, TokenKind, is_blank, is_word_start, next_piece, typed_len, word_run,
+};
 
 /// The tokens of a text from one of them on. A contract sees the list of these tokens.
 #[derive(Drop)]
@@ -72,25 +75,57 @@ impl<'t> Tokens<'t> {
 
     /// Finds the token at or behind a place.
     fn advance(&mut self, from: usize) {
+        let bytes = self.text.as_bytes();
         let mut place = from;
-        while place < self.text.len() {
-            match next_piece(self.text, place, &mut self.quotes) {
-                Piece::Gap(len) => place += len,
-                Piece::Unclosed => {
-                    self.kind = None;
-                    self.is_closed = false;
-                    self.place = Place::new(place as u32, self.text.len() as u32);
-                    return;
-                }
-                Piece::Found(kind, len) => {
-                    let end = place + len;
-                    self.kind = Some(kind_of(kind, self.text[place..end].as_bytes()));
-                    self.place = Place::new(place as u32, end as u32);
-                    return;
+        while place < bytes.len() {
+            let first = bytes[place];
+            if is_blank(first) {
+                place += 1;
+            } else if is_word_start(first) {
+                return self.advance_word(place);
+            } else if let Some(kind) = lone_symbol(first) {
+                return self.stand_at(kind, place, place + 1);
+            } else {
+                match next_piece(self.text, place, &mut self.quotes) {
+                    Piece::Gap(len) => place += len,
+                    Piece::Unclosed => {
+                        self.kind = None;
+                        self.is_closed = false;
+                        self.place = Place::new(place as u32, bytes.len() as u32);
+                        return;
+                    }
+                    Piece::Found(kind, len) => {
+                        let end = place + len;
+                        return self.stand_at(kind_of(kind, &bytes[place..end]), place, end);
+                    }
                 }
             }
         }
         self.kind = None;
-        self.place = Place::new(self.text.len() as u32, self.text.len() as u32);
+        self.place = Place::new(bytes.len() as u32, bytes.len() as u32);
+    }
+
+    /// Finds the word or typed literal at a place.
+    fn advance_word(&mut self, place: usize) {
+        let bytes = self.text.as_bytes();
+        let rest = &bytes[place..];
+        let word = word_run(rest);
+        let kind = if word < rest.len() && rest[word] == b'#' {
+            let typed = typed_len(rest, word);
+            if typed > 0 {
+                let end = place + word + typed;
+                return self.stand_at(kind_of(TokenKind::Typed, &bytes[place..end]), place, end);
+            }
+            word_kind(&rest[..word])
+        } else {
+            word_kind(&rest[..word])
+        };
+        self.stand_at(kind, place, place + word)
+    }
+
+    /// The next token is of this kind, from a place up to another.
+    fn stand_at(&mut self, kind: Kind, start: usize, end: usize) {
+        self.kind = Some(kind);
+        self.place = Place::new(start as u32, end as u32);
     }
 }
