@@ -12,7 +12,7 @@ use crate::repetition::{Reader, listed};
 use crate::stop::Stop;
 use crate::upcoming::Tokens;
 use fb_tree::text::{CompactName, NameUse, Place};
-use std::alloc::{AllocError, Global};
+use std::alloc::Global;
 
 /// A token that was taken.
 #[derive(Clone, Copy, Debug)]
@@ -59,20 +59,13 @@ pub fn key(tokens: &mut Tokens<'_>, kind: Kind) -> Result<Place, Stop>
 /// The kinds of names.
 pub const NAMES: [Kind; 4] = [Kind::Name, Kind::NameIn, Kind::NameOn, Kind::NameSt];
 
-fn spelled(alloc: Global, text: &str) -> Result<CompactName, AllocError> {
-    match CompactName::read(alloc, text)? {
-        Ok(name) => Ok(name),
-        Err(_) => Ok(CompactName::underscore()),
-    }
-}
-
 /// A token of one of these kinds of names.
 pub fn name_of(alloc: Global, tokens: &mut Tokens<'_>, kinds: &[Kind]) -> Result<NameUse, Stop>
 {
     if !is_next(tokens, kinds) {
         return Err(Stop::Broken);
     }
-    let name = spelled(alloc, tokens.spelling())?;
+    let name = CompactName::of_word(alloc, tokens.spelling())?;
     let span = tokens.place();
     tokens.take();
     Ok(NameUse { name, span })
