@@ -261,13 +261,11 @@ fn row(
     ensures { Gives expression_tree result tokens.new (read (row_at strength left) tokens.old) }
 {
     let mut value = unary(alloc, left, tokens)?;
-    let mut level = 8;
-    while level > strength {
-        level -= 1;
-        if next_strength(tokens) == level {
-            let operands = operands(alloc, level, left, tokens)?;
-            value = Expr::Row(Box::new(alloc, value)?, operands);
-        }
+    let mut level = next_strength(tokens);
+    while level >= strength && level < 8 {
+        let operands = operands(alloc, level, left, tokens)?;
+        value = Expr::Row(Box::new(alloc, value)?, operands);
+        level = next_strength(tokens);
     }
     Ok(value)
 }
