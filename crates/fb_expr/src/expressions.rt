@@ -36,6 +36,11 @@ pub fn judge(names: Names<'_>, expr: &Expr, found: &mut Vec<Fault>) -> Result<Cl
             let class = judge(names, operand, found)?;
             judge_change(operator, class, found)
         }
+        Expr::Pair(pair) => {
+            let left = judge(names, &pair.0, found)?;
+            let right = judge(names, &pair.2, found)?;
+            judge_pair(&pair.1, left, right, found)
+        }
         Expr::Row(first, operands) => {
             let left = judge(names, first, found)?;
             judge_row(names, left, operands.as_slice(), found)

@@ -37,6 +37,7 @@ pub fn span_of(expr: &Expr) -> Span
         Expr::Name(used) => used.span.span(),
         Expr::Reference(reference, _) => reference.span.span(),
         Expr::Unary(operator, operand) => across(operator.span.span(), span_of(operand)),
+        Expr::Pair(pair) => across(span_of(&pair.0), span_of(&pair.2)),
         Expr::Row(first, operands) => {
             let mut span = span_of(first);
             for (_, operand) in operands {

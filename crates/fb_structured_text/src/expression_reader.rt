@@ -263,29 +263,35 @@ fn row(
     let mut value = unary(alloc, left, tokens)?;
     let mut level = next_strength(tokens);
     while level >= strength && level < 8 {
-        let operands = operands(alloc, level, left, tokens)?;
-        value = Expr::Row(Box::new(alloc, value)?, operands);
+        let (operator, operand) = next_operand(alloc, level, left, tokens)?;
+        if next_strength(tokens) == level {
+            let operands = further_operands(alloc, level, left, operator, operand, tokens)?;
+            value = Expr::Row(Box::new(alloc, value)?, operands);
+        } else {
+            value = Expr::Pair(Box::new(alloc, (value, operator, operand))?);
+        }
         level = next_strength(tokens);
     }
     Ok(value)
 }
 
-/// Operators of a strength, each with its operand.
+/// An operator of a strength with its operand, and those behind them.
 #[cycle(expression)]
-fn operands(
+fn further_operands(
     alloc: Global,
     strength: u8,
     left: u8,
+    operator: BinaryUse,
+    operand: Expr,
     tokens: &mut Tokens<'_>,
 ) -> Result<Vec<(BinaryUse, Expr)>, Stop>
     requires { strength < 8 }
     ensures { GivesEach operand_tree result tokens.new (read (many (operand_at strength left)) tokens.old) }
 {
-    // Most rows have one operator.
-    let mut operands = Vec::with_capacity(alloc, 1)?;
+    let mut operands = Vec::with_capacity(alloc, 2)?;
+    operands.push((operator, operand))?;
     while is_next(tokens, operators(strength)) {
-        let next = operand(alloc, strength, left, tokens)?;
-        operands.push(next)?;
+        operands.push(next_operand(alloc, strength, left, tokens)?)?;
     }
     Ok(operands)
 }
@@ -293,7 +299,7 @@ fn operands(
 /// An operator of a strength and its operand.
 #[cycle(expression)]
 #[tactic(auto, unfolding(crate::specs::Expression::operand))]
-fn operand(
+fn next_operand(
     alloc: Global,
     strength: u8,
     left: u8,

@@ -54,7 +54,9 @@ pub enum Expr {
     /// Any other variable, with its subscripts.
     Reference(Box<Reference>, Vec<Expr>),
     Unary(UnaryUse, Box<Expr>),
-    /// An operand, and the operators of one strength that follow it, each with its operand.
+    /// An operator between two operands. Most rows have one.
+    Pair(Box<(Expr, BinaryUse, Expr)>),
+    /// An operand, and two or more operators of one strength that follow it, each with its operand.
     Row(Box<Expr>, Vec<(BinaryUse, Expr)>),
     /// In parentheses, which the span takes in.
     Parentheses(Box<Expr>, Place),
@@ -67,6 +69,7 @@ impl Drop for Expr {
             | Self::Name(_)
             | Self::Reference(_, _)
             | Self::Unary(_, _)
+            | Self::Pair(_)
             | Self::Row(_, _)
             | Self::Parentheses(_, _) => {}
         }

@@ -397,6 +397,14 @@ fn tell_expression(expression: &Expr, told: &mut String) -> Result<(), AllocErro
             write!(told, "{:?} {start}..{end} ", operator.operator)?;
             tell_expression(operand, told)
         }
+        Expr::Pair(pair) => {
+            let Span { start, end } = pair.1.span.span();
+            told.push_str("{")?;
+            tell_expression(&pair.0, told)?;
+            write!(told, " {:?} {start}..{end} ", pair.1.operator)?;
+            tell_expression(&pair.2, told)?;
+            told.push_str("}")
+        }
         Expr::Row(first, operands) => {
             told.push_str("{")?;
             tell_expression(first, told)?;
