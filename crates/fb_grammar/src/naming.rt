@@ -1,11 +1,14 @@
 //! Single tokens, names and lists of names.
 
-ghost use Rattle.fb_grammar.specs.Form.{one};
+ghost use Rattle.fb_grammar.specs.Form.{as_value, one};
 ghost use Rattle.fb_grammar.specs.Gives.{Gives};
 ghost use Rattle.fb_grammar.specs.Reading.{is_next, read};
+ghost use Rattle.fb_grammar.specs.Kind.{is_among, name_kinds};
+ghost use Rattle.fb_grammar.specs.Lexemes.{name_use};
+ghost use Rattle.fb_grammar.specs.Upcoming.{are_tokens, front};
 ghost use Rattle.fb_grammar.specs.Words.{key, name, names};
 ghost use Rattle.fb_tree.specs.Text.declared.name.NameUse.{NameUse};
-ghost use Rattle.std.specs.Prelude.{◌≡◌};
+ghost use Rattle.std.specs.Prelude.{◌≡◌, ◌∷◌, [], All, IfOk, true};
 
 use crate::kind::Kind;
 use crate::repetition::{Reader, listed};
@@ -23,37 +26,39 @@ pub struct Taken {
 
 /// Whether the next token is of one of these kinds.
 pub fn is_next(tokens: &Tokens<'_>, kinds: &[Kind]) -> bool
+    ensures { result ≡ is_next kinds.now tokens.now }
 {
-    match tokens.kind() {
-        Some(kind) => kind.is_among(kinds),
-        None => false,
-    }
+    tokens.kind().is_among(kinds)
 }
 
 /// A token of one of these kinds.
 pub fn one_of(tokens: &mut Tokens<'_>, kinds: &[Kind]) -> Result<Taken, Stop>
+    requires { are_tokens kinds.now }
+    ensures reads { Gives (λ taken. front tokens.old) result tokens.new (read (one kinds.now) tokens.old) }
+    ensures kind { IfOk result (λ taken. taken.kind ≡ (front tokens.old).kind) }
+    ensures place { IfOk result (λ taken. taken.span ≡ (front tokens.old).span) }
 {
-    match tokens.kind() {
-        Some(kind) if kind.is_among(kinds) => {
-            let span = tokens.place();
-            tokens.take();
-            Ok(Taken { kind, span })
-        }
-        _ => Err(Stop::Broken),
+    let kind = tokens.kind();
+    if !kind.is_among(kinds) {
+        return Err(Stop::Broken);
     }
+    let span = tokens.place();
+    tokens.take();
+    Ok(Taken { kind, span })
 }
 
 /// A token of this kind.
 pub fn key(tokens: &mut Tokens<'_>, kind: Kind) -> Result<Place, Stop>
+    requires { are_tokens (kind ∷ []) }
+    ensures reads { Gives (λ place. front tokens.old) result tokens.new (read (key kind) tokens.old) }
+    ensures place { IfOk result (λ place. place ≡ (front tokens.old).span) }
 {
-    match tokens.kind() {
-        Some(next) if next.code() == kind.code() => {
-            let span = tokens.place();
-            tokens.take();
-            Ok(span)
-        }
-        _ => Err(Stop::Broken),
+    if tokens.kind().code() != kind.code() {
+        return Err(Stop::Broken);
     }
+    let span = tokens.place();
+    tokens.take();
+    Ok(span)
 }
 
 /// The kinds of names.
@@ -61,6 +66,8 @@ pub const NAMES: [Kind; 4] = [Kind::Name, Kind::NameIn, Kind::NameOn, Kind::Name
 
 /// A token of one of these kinds of names.
 pub fn name_of(alloc: Global, tokens: &mut Tokens<'_>, kinds: &[Kind]) -> Result<NameUse, Stop>
+    requires { All (λ kind. is_among name_kinds kind ≡ true) kinds.now }
+    ensures { Gives (λ name. name) result tokens.new (read (as_value name_use (one kinds.now)) tokens.old) }
 {
     if !is_next(tokens, kinds) {
         return Err(Stop::Broken);
@@ -72,7 +79,9 @@ pub fn name_of(alloc: Global, tokens: &mut Tokens<'_>, kinds: &[Kind]) -> Result
 }
 
 /// A name.
+#[tactic(auto, unfolding(crate::specs::Words::name))]
 pub fn name(alloc: Global, tokens: &mut Tokens<'_>) -> Result<NameUse, Stop>
+    ensures { Gives (λ name. name) result tokens.new (read name tokens.old) }
 {
     name_of(alloc, tokens, &NAMES)
 }

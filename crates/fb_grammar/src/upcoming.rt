@@ -1,54 +1,74 @@
 //! The tokens of a text that are still to be read. Each is found when the one before it is taken, and no list of them is made.
-ghost use Rattle.std.specs.Prelude.{◌≡◌, ◌<◌, length};
+ghost use Rattle.fb_grammar.specs.Upcoming.{are_over, closing, front, tokens_to_end};
+ghost use Rattle.std.specs.Prelude.{◌≡◌, ◌<◌, false, drop, length, slice_range};
 
-use crate::kind::Kind;
 use crate::keywords::lone_symbol;
+use crate::kind::Kind;
 use crate::lexeme::{kind_of, word_kind};
 use fb_tree::text::{
     OpenQuotes, Piece, Place, TokenKind, is_blank, is_word_start, next_piece, typed_len, word_run,
 };
+use std::marker::Model;
 
-/// The tokens of a text from one of them on. A contract sees the list of these tokens.
+/// The tokens of a text from one of them on, and then its end or a comment that is never closed. A contract sees the list of these.
 #[derive(Drop)]
 pub struct Tokens<'t> {
     text: &'t str,
-    /// The kind of the next token; none at the end, and before a comment that is never closed.
-    kind: Option<Kind>,
-    /// Where the next token stands, the empty place at the end, or the comment.
+    /// The kind of the next token, `End` at the end, `NeverClosed` before a comment that is never closed.
+    kind: Kind,
+    /// Where that stands.
     place: Place,
     quotes: OpenQuotes,
-    is_closed: bool,
+}
+
+impl<'t> Model for Tokens<'t> {
+    ghost use Rattle.fb_grammar.specs.declared.lexeme.Lexeme.{Lexeme};
+    ghost use Rattle.std.specs.Prelude.{List};
+
+    ghost Value = { List Lexeme };
+
+    ghost use Rattle.fb_grammar.specs.Pulled.{IsPulled, pulled};
+
+    ghost view = { pulled };
+
+    ghost invariant = { IsPulled };
 }
 
 impl<'t> Tokens<'t> {
-    /// All tokens of a text of less than 4 GiB, up to a comment that is never closed.
+    /// All tokens of a text of less than 4 GiB.
     pub fn of(text: &'t str) -> Tokens<'t>
         requires { length text.now < 4294967296 }
+        ensures { result ≡ tokens_to_end text.now }
     {
         let mut tokens = Tokens {
             text,
-            kind: None,
+            kind: Kind::End,
             place: Place::new(0, 0),
             quotes: OpenQuotes::new(),
-            is_closed: true,
         };
         tokens.advance(0);
         tokens
     }
 
-    /// The kind of the next token, if there is one.
-    pub fn kind(&self) -> Option<Kind> {
+    /// The kind of the next token.
+    pub fn kind(&self) -> Kind
+        ensures { result ≡ (front self.now).kind }
+    {
         self.kind
     }
 
-    /// Where the next token stands, or the empty place at the end.
-    pub fn place(&self) -> Place {
+    /// Where the next token stands.
+    pub fn place(&self) -> Place
+        ensures { result ≡ (front self.now).span }
+    {
         self.place
     }
 
-    /// Whether nothing is left.
-    pub fn is_whole(&self) -> bool {
-        self.is_closed && self.kind.is_none()
+    /// Whether no token is left.
+    pub fn is_over(&self) -> bool
+        ensures { result ≡ are_over self.now }
+    {
+        self.kind.is_among(&[Kind::End, Kind::NeverClosed])
     }
 
     /// The text of the next token.
@@ -57,19 +77,23 @@ impl<'t> Tokens<'t> {
     }
 
     /// Goes past the next token.
-    pub fn take(&mut self) {
+    pub fn take(&mut self)
+        requires { are_over self.old ≡ false }
+        ensures { self.new ≡ drop 1 self.old }
+    {
         self.advance(self.place.end() as usize);
     }
 
     /// The comment that is never closed, if there is one, behind all tokens that are left.
-    pub fn unclosed(mut self) -> Option<Place> {
-        while self.kind.is_some() {
+    pub fn unclosed(mut self) -> Option<Place>
+        ensures { result ≡ closing self }
+    {
+        while !self.is_over() {
             self.take();
         }
-        if self.is_closed {
-            None
-        } else {
-            Some(self.place)
+        match self.kind {
+            Kind::NeverClosed => Some(self.place),
+            _ => None,
         }
     }
 
@@ -89,10 +113,7 @@ impl<'t> Tokens<'t> {
                 match next_piece(self.text, place, &mut self.quotes) {
                     Piece::Gap(len) => place += len,
                     Piece::Unclosed => {
-                        self.kind = None;
-                        self.is_closed = false;
-                        self.place = Place::new(place as u32, bytes.len() as u32);
-                        return;
+                        return self.stand_at(Kind::NeverClosed, place, bytes.len());
                     }
                     Piece::Found(kind, len) => {
                         let end = place + len;
@@ -101,31 +122,27 @@ impl<'t> Tokens<'t> {
                 }
             }
         }
-        self.kind = None;
-        self.place = Place::new(bytes.len() as u32, bytes.len() as u32);
+        self.stand_at(Kind::End, bytes.len(), bytes.len());
     }
 
     /// Finds the word or typed literal at a place.
     fn advance_word(&mut self, place: usize) {
-        let bytes = self.text.as_bytes();
-        let rest = &bytes[place..];
+        let rest = &self.text.as_bytes()[place..];
         let word = word_run(rest);
-        let kind = if word < rest.len() && rest[word] == b'#' {
+        if word < rest.len() && rest[word] == b'#' {
             let typed = typed_len(rest, word);
             if typed > 0 {
-                let end = place + word + typed;
-                return self.stand_at(kind_of(TokenKind::Typed, &bytes[place..end]), place, end);
+                let end = word + typed;
+                let kind = kind_of(TokenKind::Typed, &rest[..end]);
+                return self.stand_at(kind, place, place + end);
             }
-            word_kind(&rest[..word])
-        } else {
-            word_kind(&rest[..word])
-        };
-        self.stand_at(kind, place, place + word)
+        }
+        self.stand_at(word_kind(&rest[..word]), place, place + word);
     }
 
     /// The next token is of this kind, from a place up to another.
     fn stand_at(&mut self, kind: Kind, start: usize, end: usize) {
-        self.kind = Some(kind);
+        self.kind = kind;
         self.place = Place::new(start as u32, end as u32);
     }
 }

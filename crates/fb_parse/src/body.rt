@@ -8,7 +8,7 @@ ghost use Rattle.fb_tree.specs.Tree.{DeclTree};
 ghost use Rattle.std.specs.Prelude.{◌≡◌, ◌<◌, ℕ, IfOk, List, length};
 
 use crate::units::unit;
-use fb_structured_text::grammar::{Stop, Tokens};
+use fb_structured_text::grammar::{Kind, Stop, Tokens};
 use fb_tree::text::Span;
 use fb_tree::{Decl, Mentions, mentions_of};
 use std::alloc::{AllocError, Global};
@@ -67,10 +67,9 @@ impl Body {
     /// The declaration, unless tokens or a comment that is never closed are left behind it.
     fn whole_or_broken(decl: Decl, tokens: Tokens<'_>) -> Body
     {
-        if tokens.is_whole() {
-            Body::Tree(decl)
-        } else {
-            Self::broken(tokens)
+        match tokens.kind() {
+            Kind::End => Body::Tree(decl),
+            _ => Self::broken(tokens),
         }
     }
 }

@@ -12,10 +12,7 @@ use fb_grammar::{Kind, Stop, Tokens, key};
 pub fn skip(tokens: &mut Tokens<'_>, end: Kind)
     ensures { read (skipped end) tokens.old ≡ Ok (tt, tokens.new) }
 {
-    while let Some(kind) = tokens.kind() {
-        if kind.is_among(&[end]) {
-            break;
-        }
+    while !tokens.is_over() && !tokens.kind().is_among(&[end]) {
         tokens.take();
     }
 }

@@ -69,7 +69,7 @@ pub fn labels(tokens: &mut Tokens<'_>) -> Result<(), Stop>
 /// Whether a label comes next.
 #[tactic(auto, unfolding(crate::specs::Statement::labels, crate::specs::Statement::label, crate::specs::Statement::int))]
 pub fn begins_label(tokens: &Tokens<'_>) -> bool
-    ensures { result ≡ is_next (first labels) tokens.old }
+    ensures { result ≡ is_next (first labels) tokens.now }
 {
     is_next(tokens, &TYPED) || is_next(tokens, &PLUS_OR_MINUS) || is_next(tokens, &NUMBERS)
 }

@@ -58,12 +58,9 @@ fn strength_of(kind: Kind) -> u8
 
 /// The strength of the operator that comes next, 8 where none comes.
 pub fn next_strength(tokens: &Tokens<'_>) -> u8
-    ensures { result ≡ next_strength tokens.old }
+    ensures { result ≡ next_strength tokens.now }
 {
-    match tokens.kind() {
-        Some(kind) => strength_of(kind),
-        None => 8,
-    }
+    strength_of(tokens.kind())
 }
 
 fn unary_operator(kind: Kind) -> UnaryOperator
@@ -146,7 +143,7 @@ const LITERALS: [Kind; 12] = [
 /// Whether the next token is a literal.
 #[tactic(auto, unfolding(crate::specs::Expression::literal))]
 pub fn is_literal(tokens: &Tokens<'_>) -> bool
-    ensures { result ≡ is_next (first literal) tokens.old }
+    ensures { result ≡ is_next (first literal) tokens.now }
 {
     is_next(tokens, &LITERALS)
 }

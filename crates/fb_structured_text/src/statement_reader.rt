@@ -101,7 +101,7 @@ fn simple_statement(
 
 /// Whether a statement comes next, with so many levels below it.
 fn begins_statement(left: u8, tokens: &Tokens<'_>) -> bool
-    ensures { result ≡ is_next (first (statement left)) tokens.old }
+    ensures { result ≡ is_next (first (statement left)) tokens.now }
 {
     begins_simple(tokens)
         || left > 0
@@ -113,7 +113,7 @@ fn begins_statement(left: u8, tokens: &Tokens<'_>) -> bool
 
 /// Whether a statement comes next that contains no others.
 fn begins_simple(tokens: &Tokens<'_>) -> bool
-    ensures { result ≡ is_next simple_firsts tokens.old }
+    ensures { result ≡ is_next simple_firsts tokens.now }
 {
     is_next(
         tokens,

@@ -38,7 +38,7 @@ pub enum Part {
 /// How many tokens are left.
 fn left(tokens: &mut Tokens<'_>) -> usize {
     let mut count = 0;
-    while tokens.kind().is_some() {
+    while !tokens.is_over() {
         tokens.take();
         count += 1;
     }
