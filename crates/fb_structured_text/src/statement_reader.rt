@@ -144,6 +144,7 @@ fn statements_at(
         let next = statement(alloc, left, tokens)?;
         statements.push(next)?;
     }
+    statements.shrink_to_fit();
     Ok(statements)
 }
 
