@@ -54,8 +54,7 @@ pub fn judge_name(
     names: Names<'_>,
     used: &NameUse,
     found: &mut Vec<Fault>,
-) -> Result<Class, AllocError>
-{
+) -> Result<Class, AllocError> {
     let referent = referred_variable(names.scope, &used.name.name(), false);
     report_reference(&referent, used.span.span(), found)?;
     Ok(referent.class())

@@ -90,8 +90,7 @@ fn report_set(
     place: Span,
     value: &Expr,
     found: &mut Vec<Fault>,
-) -> Result<(), AllocError>
-{
+) -> Result<(), AllocError> {
     let target = judge_name(names, name, found)?;
     let value = judge(names, value, found)?;
     report_class(joined(target, value).is_some(), place, found)

@@ -582,8 +582,7 @@ fn symbol_of_1(b: u8) -> Option<Kind>
 }
 
 /// The symbol of one byte that begins no longer symbol and no comment.
-pub fn lone_symbol(b: u8) -> Option<Kind>
-{
+pub fn lone_symbol(b: u8) -> Option<Kind> {
     match b {
         b';' => Some(Kind::Semicolon),
         b',' => Some(Kind::Comma),

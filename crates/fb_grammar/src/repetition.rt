@@ -26,11 +26,7 @@ pub trait Reader {
     ghost reads: { Self → List Lexeme → Outcome Tree };
 
     /// Reads one value.
-    fn read(
-        &self,
-        alloc: Global,
-        tokens: &mut Tokens<'_>,
-    ) -> Result<Self::Item, Stop>
+    fn read(&self, alloc: Global, tokens: &mut Tokens<'_>) -> Result<Self::Item, Stop>
         ensures { Gives view result tokens.new (reads self.now tokens.old) };
 }
 
@@ -50,11 +46,7 @@ impl<R: Reader> Reader for Behind<'_, R> {
 
     ghost reads = { λ behind. read_behind behind.kind (R.reads behind.reader.now) };
 
-    fn read(
-        &self,
-        alloc: Global,
-        tokens: &mut Tokens<'_>,
-    ) -> Result<R::Item, Stop> {
+    fn read(&self, alloc: Global, tokens: &mut Tokens<'_>) -> Result<R::Item, Stop> {
         key(tokens, self.kind)?;
         self.reader.read(alloc, tokens)
     }

@@ -41,8 +41,7 @@ impl Body {
     }
 
     /// A comment that is never closed, or else the next token, or the end.
-    fn broken(tokens: Tokens<'_>) -> Body
-    {
+    fn broken(tokens: Tokens<'_>) -> Body {
         let place = tokens.place();
         match tokens.unclosed() {
             Some(comment) => Body::Broken(comment.span()),
@@ -65,8 +64,7 @@ impl Body {
     }
 
     /// The declaration, unless tokens or a comment that is never closed are left behind it.
-    fn whole_or_broken(decl: Decl, tokens: Tokens<'_>) -> Body
-    {
+    fn whole_or_broken(decl: Decl, tokens: Tokens<'_>) -> Body {
         match tokens.kind() {
             Kind::End => Body::Tree(decl),
             _ => Self::broken(tokens),

@@ -9,7 +9,9 @@ ghost use Rattle.fb_tree.specs.Tree.{TransitionTree, algorithm_tree, condition_t
 ghost use Rattle.std.specs.Prelude.{◌≡◌, Ok, map, option_map};
 
 use fb_sections::{end, section, skip};
-use fb_structured_text::grammar::{Kind, Reader, Stop, Tokens, is_next, key, name, name_of, one_of};
+use fb_structured_text::grammar::{
+    Kind, Reader, Stop, Tokens, is_next, key, name, name_of, one_of,
+};
 use fb_structured_text::{expression, statements};
 use fb_tree::text::NameUse;
 use fb_tree::{Algorithm, Condition, Expr, Stmt, Transition};
@@ -95,11 +97,7 @@ impl Reader for TransitionReader {
     ghost reads = { λ _. read transition };
 
     #[tactic(auto, unfolding(crate::specs::Chart::transition))]
-    fn read(
-        &self,
-        alloc: Global,
-        tokens: &mut Tokens<'_>,
-    ) -> Result<Transition, Stop> {
+    fn read(&self, alloc: Global, tokens: &mut Tokens<'_>) -> Result<Transition, Stop> {
         let source = name(alloc, tokens)?;
         key(tokens, Kind::To)?;
         let destination = name(alloc, tokens)?;
@@ -117,10 +115,7 @@ impl Reader for TransitionReader {
 
 /// A section of transitions.
 #[tactic(auto, unfolding(crate::specs::Chart::transitions, crate::specs::Chart::transition, crate::specs::Chart::name))]
-pub fn transitions(
-    alloc: Global,
-    tokens: &mut Tokens<'_>,
-) -> Result<Vec<Transition>, Stop>
+pub fn transitions(alloc: Global, tokens: &mut Tokens<'_>) -> Result<Vec<Transition>, Stop>
     ensures { GivesEach transition_tree result tokens.new (read transitions tokens.old) }
 {
     section(

@@ -40,11 +40,7 @@ impl Reader for SectionReader {
 
     ghost reads = { λ reader. read (section_of reader.frame) };
 
-    fn read(
-        &self,
-        alloc: Global,
-        tokens: &mut Tokens<'_>,
-    ) -> Result<Contents, Stop> {
+    fn read(&self, alloc: Global, tokens: &mut Tokens<'_>) -> Result<Contents, Stop> {
         match self.frame {
             Frame::Block => block_section(alloc, tokens),
             Frame::Adapter => adapter_section(alloc, tokens),
@@ -93,9 +89,6 @@ pub fn framed(
     let name = name(alloc, tokens)?;
     let contents = sections(alloc, frame, firsts, tokens)?;
     key(tokens, end)?;
-    let named = Named {
-        name,
-        contents,
-    };
+    let named = Named { name, contents };
     Ok(named)
 }

@@ -165,10 +165,7 @@ pub fn adapter_section(alloc: Global, tokens: &mut Tokens<'_>) -> Result<Content
 }
 
 /// Subapplication instances.
-fn subapplication_instances(
-    alloc: Global,
-    tokens: &mut Tokens<'_>,
-) -> Result<Contents, Stop>
+fn subapplication_instances(alloc: Global, tokens: &mut Tokens<'_>) -> Result<Contents, Stop>
     ensures { Gives contents_tree result tokens.new (read (as_value of_instances subapplications) tokens.old) }
 {
     let instances = subapplications(alloc, tokens)?;
@@ -177,10 +174,7 @@ fn subapplication_instances(
 
 /// A section of an application.
 #[tactic(auto, unfolding(crate::specs::Grammar::application_section, crate::specs::Grammar::network_section, crate::specs::Grammar::blocks, crate::specs::Grammar::connections))]
-pub fn application_section(
-    alloc: Global,
-    tokens: &mut Tokens<'_>,
-) -> Result<Contents, Stop>
+pub fn application_section(alloc: Global, tokens: &mut Tokens<'_>) -> Result<Contents, Stop>
     ensures { Gives contents_tree result tokens.new (read application_section tokens.old) }
 {
     if is_next(tokens, &NETWORK) {
@@ -192,10 +186,7 @@ pub fn application_section(
 
 /// A section of a subapplication type.
 #[tactic(auto, unfolding(crate::specs::Grammar::subapplication_section, crate::specs::Grammar::application_section, crate::specs::Grammar::interface_section, crate::specs::Grammar::data_section, crate::specs::Grammar::events, crate::specs::Grammar::data_variables, crate::specs::Grammar::plugs, crate::specs::Grammar::sockets, crate::specs::Grammar::network_section, crate::specs::Grammar::blocks, crate::specs::Grammar::connections, crate::specs::Grammar::subapplications))]
-pub fn subapplication_section(
-    alloc: Global,
-    tokens: &mut Tokens<'_>,
-) -> Result<Contents, Stop>
+pub fn subapplication_section(alloc: Global, tokens: &mut Tokens<'_>) -> Result<Contents, Stop>
     ensures { Gives contents_tree result tokens.new (read subapplication_section tokens.old) }
 {
     if is_next(tokens, &INTERFACE) {

@@ -113,11 +113,7 @@ impl Reader for SystemReader {
 
     ghost reads = { λ _. read system_section };
 
-    fn read(
-        &self,
-        alloc: Global,
-        tokens: &mut Tokens<'_>,
-    ) -> Result<SystemContents, Stop> {
+    fn read(&self, alloc: Global, tokens: &mut Tokens<'_>) -> Result<SystemContents, Stop> {
         system_section(alloc, tokens)
     }
 }

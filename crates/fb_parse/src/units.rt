@@ -109,10 +109,7 @@ fn adapter(alloc: Global, tokens: &mut Tokens<'_>) -> Result<TypeDeclaration, St
 }
 
 #[tactic(auto, unfolding(crate::specs::Grammar::subapplication), using(crate::proofs::Predictive::subapplication_sections_begin))]
-fn subapplication(
-    alloc: Global,
-    tokens: &mut Tokens<'_>,
-) -> Result<TypeDeclaration, Stop>
+fn subapplication(alloc: Global, tokens: &mut Tokens<'_>) -> Result<TypeDeclaration, Stop>
     ensures { Gives type_tree result tokens.new (read subapplication tokens.old) }
 {
     let named = framed(
@@ -156,10 +153,7 @@ fn structure(alloc: Global, tokens: &mut Tokens<'_>) -> Result<Structure, Stop>
     let fields = fields(alloc, tokens)?;
     optional_semicolon(tokens);
     key(tokens, Kind::EndType)?;
-    let structure = Structure {
-        name,
-        fields,
-    };
+    let structure = Structure { name, fields };
     Ok(structure)
 }
 

@@ -56,11 +56,7 @@ impl Reader for ActionReader {
 
     ghost reads = { λ _. read action };
 
-    fn read(
-        &self,
-        alloc: Global,
-        tokens: &mut Tokens<'_>,
-    ) -> Result<Action, Stop> {
+    fn read(&self, alloc: Global, tokens: &mut Tokens<'_>) -> Result<Action, Stop> {
         action(alloc, tokens)
     }
 }
@@ -91,18 +87,11 @@ impl Reader for StateReader {
     ghost reads = { λ _. read state };
 
     #[tactic(auto, unfolding(crate::specs::Chart::state))]
-    fn read(
-        &self,
-        alloc: Global,
-        tokens: &mut Tokens<'_>,
-    ) -> Result<State, Stop> {
+    fn read(&self, alloc: Global, tokens: &mut Tokens<'_>) -> Result<State, Stop> {
         let name = name(alloc, tokens)?;
         let actions = actions(alloc, tokens)?;
         key(tokens, Kind::Semicolon)?;
-        let state = State {
-            name,
-            actions,
-        };
+        let state = State { name, actions };
         Ok(state)
     }
 }

@@ -37,11 +37,7 @@ impl Reader for ConnectionReader {
     ghost reads = { λ reader. read (connection reader.sort) };
 
     #[tactic(auto, unfolding(crate::specs::Network::connection))]
-    fn read(
-        &self,
-        alloc: Global,
-        tokens: &mut Tokens<'_>,
-    ) -> Result<Connection, Stop> {
+    fn read(&self, alloc: Global, tokens: &mut Tokens<'_>) -> Result<Connection, Stop> {
         let source = end(alloc, tokens)?;
         key(tokens, Kind::To)?;
         let destination = end(alloc, tokens)?;
@@ -57,10 +53,7 @@ impl Reader for ConnectionReader {
 
 /// A section of connections.
 #[tactic(auto, unfolding(crate::specs::Network::connections, crate::specs::Network::connection, crate::specs::Network::end, fb_grammar::specs::Words::name), using(fb_grammar::proofs::Repeating::as_they_are))]
-pub fn connections(
-    alloc: Global,
-    tokens: &mut Tokens<'_>,
-) -> Result<Vec<Connection>, Stop>
+pub fn connections(alloc: Global, tokens: &mut Tokens<'_>) -> Result<Vec<Connection>, Stop>
     ensures { Gives (λ connections. connections.items) result tokens.new (read connections tokens.old) }
 {
     if is_next(tokens, &[Kind::EventConnections]) {

@@ -70,11 +70,7 @@ impl Reader for RangeReader {
     ghost reads = { λ _. read range };
 
     #[tactic(auto, unfolding(crate::specs::Constants::range))]
-    fn read(
-        &self,
-        _alloc: Global,
-        tokens: &mut Tokens<'_>,
-    ) -> Result<(), Stop> {
+    fn read(&self, _alloc: Global, tokens: &mut Tokens<'_>) -> Result<(), Stop> {
         number(tokens)?;
         key(tokens, Kind::Range)?;
         number(tokens)?;
@@ -184,11 +180,7 @@ impl Reader for SimpleReader {
 
     ghost reads = { λ _. read simple };
 
-    fn read(
-        &self,
-        alloc: Global,
-        tokens: &mut Tokens<'_>,
-    ) -> Result<Simple, Stop> {
+    fn read(&self, alloc: Global, tokens: &mut Tokens<'_>) -> Result<Simple, Stop> {
         simple(alloc, tokens)
     }
 }

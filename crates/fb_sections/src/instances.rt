@@ -26,28 +26,18 @@ impl Reader for ParameterReader {
     ghost reads = { λ _. read parameter };
 
     #[tactic(auto, unfolding(crate::specs::Network::parameter))]
-    fn read(
-        &self,
-        alloc: Global,
-        tokens: &mut Tokens<'_>,
-    ) -> Result<Parameter, Stop> {
+    fn read(&self, alloc: Global, tokens: &mut Tokens<'_>) -> Result<Parameter, Stop> {
         let name = name(alloc, tokens)?;
         key(tokens, Kind::Assign)?;
         let value = constant(alloc, tokens)?;
-        let parameter = Parameter {
-            name,
-            value,
-        };
+        let parameter = Parameter { name, value };
         Ok(parameter)
     }
 }
 
 /// Parameters with commas between them, or none.
 #[tactic(auto, unfolding(crate::specs::Network::listed_parameters, crate::specs::Network::parameter, fb_grammar::specs::Words::name))]
-fn listed_parameters(
-    alloc: Global,
-    tokens: &mut Tokens<'_>,
-) -> Result<Vec<Parameter>, Stop>
+fn listed_parameters(alloc: Global, tokens: &mut Tokens<'_>) -> Result<Vec<Parameter>, Stop>
     ensures { GivesEach parameter_tree result tokens.new (read listed_parameters tokens.old) }
 {
     if is_next(tokens, &NAMES) {
@@ -59,10 +49,7 @@ fn listed_parameters(
 
 /// Parameters in parentheses, where they are written.
 #[tactic(auto, unfolding(crate::specs::Network::optional_parameters, crate::specs::Network::parameters))]
-pub fn optional_parameters(
-    alloc: Global,
-    tokens: &mut Tokens<'_>,
-) -> Result<Vec<Parameter>, Stop>
+pub fn optional_parameters(alloc: Global, tokens: &mut Tokens<'_>) -> Result<Vec<Parameter>, Stop>
     ensures { GivesEach parameter_tree result tokens.new (read optional_parameters tokens.old) }
 {
     if !is_next(tokens, &[Kind::OpenParenthesis]) {
@@ -90,11 +77,7 @@ impl Reader for InstanceReader {
     ghost reads = { λ reader. read (instance reader.role) };
 
     #[tactic(auto, unfolding(crate::specs::Network::instance))]
-    fn read(
-        &self,
-        alloc: Global,
-        tokens: &mut Tokens<'_>,
-    ) -> Result<Instance, Stop> {
+    fn read(&self, alloc: Global, tokens: &mut Tokens<'_>) -> Result<Instance, Stop> {
         let own_name = name(alloc, tokens)?;
         key(tokens, Kind::Colon)?;
         let type_name = name(alloc, tokens)?;
@@ -166,11 +149,7 @@ impl Reader for SubapplicationReader {
     ghost reads = { λ _. read inner_subapplication };
 
     #[tactic(auto, unfolding(crate::specs::Network::inner_subapplication))]
-    fn read(
-        &self,
-        alloc: Global,
-        tokens: &mut Tokens<'_>,
-    ) -> Result<Instance, Stop> {
+    fn read(&self, alloc: Global, tokens: &mut Tokens<'_>) -> Result<Instance, Stop> {
         let own_name = name(alloc, tokens)?;
         key(tokens, Kind::Colon)?;
         let type_name = name(alloc, tokens)?;
@@ -187,10 +166,7 @@ impl Reader for SubapplicationReader {
 
 /// A section of subapplication instances.
 #[tactic(auto, unfolding(crate::specs::Network::subapplications, crate::specs::Network::inner_subapplication, fb_grammar::specs::Words::name))]
-pub fn subapplications(
-    alloc: Global,
-    tokens: &mut Tokens<'_>,
-) -> Result<Vec<Instance>, Stop>
+pub fn subapplications(alloc: Global, tokens: &mut Tokens<'_>) -> Result<Vec<Instance>, Stop>
     ensures { GivesEach instance_tree result tokens.new (read subapplications tokens.old) }
 {
     section(

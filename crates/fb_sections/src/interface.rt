@@ -41,11 +41,7 @@ impl Reader for EventReader {
     ghost reads = { λ reader. read (event reader.side) };
 
     #[tactic(auto, unfolding(crate::specs::Interface::event))]
-    fn read(
-        &self,
-        alloc: Global,
-        tokens: &mut Tokens<'_>,
-    ) -> Result<Event, Stop> {
+    fn read(&self, alloc: Global, tokens: &mut Tokens<'_>) -> Result<Event, Stop> {
         let name = name(alloc, tokens)?;
         let type_name = optional_name(alloc, tokens, Kind::Colon)?;
         let with = with_names(alloc, tokens)?;
@@ -113,11 +109,7 @@ impl Reader for VariablesReader {
     ghost reads = { λ reader. read (variables reader.section) };
 
     #[tactic(auto, unfolding(crate::specs::Interface::variables))]
-    fn read(
-        &self,
-        alloc: Global,
-        tokens: &mut Tokens<'_>,
-    ) -> Result<Variables, Stop> {
+    fn read(&self, alloc: Global, tokens: &mut Tokens<'_>) -> Result<Variables, Stop> {
         let names = names(alloc, tokens)?;
         key(tokens, Kind::Colon)?;
         let type_use = match type_use(alloc, tokens) {
@@ -138,10 +130,7 @@ impl Reader for VariablesReader {
 
 /// A section of data inputs or outputs.
 #[tactic(auto, unfolding(crate::specs::Interface::data_variables, crate::specs::Interface::variables, fb_grammar::specs::Words::names, fb_grammar::specs::Words::name))]
-pub fn data_variables(
-    alloc: Global,
-    tokens: &mut Tokens<'_>,
-) -> Result<Vec<Variables>, Stop>
+pub fn data_variables(alloc: Global, tokens: &mut Tokens<'_>) -> Result<Vec<Variables>, Stop>
     ensures { GivesEach variables_tree result tokens.new (read data_variables tokens.old) }
 {
     if is_next(tokens, &[Kind::VarInput]) {
@@ -169,10 +158,7 @@ pub fn data_variables(
 
 /// A section of internal variables.
 #[tactic(auto, unfolding(crate::specs::Interface::internal_variables, crate::specs::Interface::variables, fb_grammar::specs::Words::names, fb_grammar::specs::Words::name))]
-pub fn internal_variables(
-    alloc: Global,
-    tokens: &mut Tokens<'_>,
-) -> Result<Vec<Variables>, Stop>
+pub fn internal_variables(alloc: Global, tokens: &mut Tokens<'_>) -> Result<Vec<Variables>, Stop>
     ensures { GivesEach variables_tree result tokens.new (read internal_variables tokens.old) }
 {
     section(

@@ -36,11 +36,7 @@ impl Reader for MappingReader {
     ghost reads = { λ _. read mapping };
 
     #[tactic(auto, unfolding(crate::specs::SystemParts::mapping))]
-    fn read(
-        &self,
-        alloc: Global,
-        tokens: &mut Tokens<'_>,
-    ) -> Result<Mapping, Stop> {
+    fn read(&self, alloc: Global, tokens: &mut Tokens<'_>) -> Result<Mapping, Stop> {
         let path = path(alloc, tokens)?;
         key(tokens, Kind::NameOn)?;
         let device = name(alloc, tokens)?;
@@ -119,11 +115,7 @@ impl Reader for ResourceReader {
     ghost reads = { λ _. read resource };
 
     #[tactic(auto, unfolding(crate::specs::SystemParts::resource))]
-    fn read(
-        &self,
-        alloc: Global,
-        tokens: &mut Tokens<'_>,
-    ) -> Result<Resource, Stop> {
+    fn read(&self, alloc: Global, tokens: &mut Tokens<'_>) -> Result<Resource, Stop> {
         key(tokens, Kind::Resource)?;
         let header = header(alloc, tokens)?;
         key(tokens, Kind::EndResource)?;

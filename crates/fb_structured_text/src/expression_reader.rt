@@ -89,11 +89,7 @@ fn deep_primary(alloc: Global, below: u8, tokens: &mut Tokens<'_>) -> Result<Exp
 
 /// A reference as an operand.
 #[cycle(expression)]
-fn variable_operand(
-    alloc: Global,
-    below: u8,
-    tokens: &mut Tokens<'_>,
-) -> Result<Expr, Stop>
+fn variable_operand(alloc: Global, below: u8, tokens: &mut Tokens<'_>) -> Result<Expr, Stop>
     ensures { Gives expression_tree result tokens.new
         (read (as_value reference_value (deep_reference (expression below))) tokens.old) }
 {
@@ -117,8 +113,7 @@ fn part_behind(
     below: u8,
     name: NameUse,
     tokens: &mut Tokens<'_>,
-) -> Result<Part, Stop>
-{
+) -> Result<Part, Stop> {
     if !is_next(tokens, &[Kind::OpenBracket]) {
         return Ok(alone(alloc, name));
     }
@@ -143,11 +138,7 @@ fn further_part(alloc: Global, below: u8, tokens: &mut Tokens<'_>) -> Result<Par
 
 /// The names behind the first one.
 #[cycle(expression)]
-fn further_parts(
-    alloc: Global,
-    below: u8,
-    tokens: &mut Tokens<'_>,
-) -> Result<Vec<Part>, Stop>
+fn further_parts(alloc: Global, below: u8, tokens: &mut Tokens<'_>) -> Result<Vec<Part>, Stop>
     ensures { GivesEach part_tree result tokens.new
         (read (many (further_part (deep_part (expression below)))) tokens.old) }
 {
@@ -163,11 +154,7 @@ fn further_parts(
 /// A reference whose subscripts have so many levels below them.
 #[cycle(expression)]
 #[tactic(auto, unfolding(crate::specs::Expression::deep_reference))]
-fn deep_reference(
-    alloc: Global,
-    below: u8,
-    tokens: &mut Tokens<'_>,
-) -> Result<Variable, Stop>
+fn deep_reference(alloc: Global, below: u8, tokens: &mut Tokens<'_>) -> Result<Variable, Stop>
     ensures { Gives variable_tree result tokens.new (read (deep_reference (expression below)) tokens.old) }
 {
     let name = name(alloc, tokens)?;
@@ -182,11 +169,7 @@ fn deep_reference(
 /// Subscripts in brackets, with the bracket that closes them.
 #[cycle(expression)]
 #[tactic(auto, unfolding(crate::specs::Expression::subscripts))]
-fn subscripts(
-    alloc: Global,
-    below: u8,
-    tokens: &mut Tokens<'_>,
-) -> Result<(Vec<Expr>, Place), Stop>
+fn subscripts(alloc: Global, below: u8, tokens: &mut Tokens<'_>) -> Result<(Vec<Expr>, Place), Stop>
     ensures { Gives (λ s. (map expression_tree s.0.items, s.1.now)) result tokens.new
         (read (subscripts (expression below)) tokens.old) }
 {
@@ -199,11 +182,7 @@ fn subscripts(
 /// Expressions with commas between them.
 #[cycle(expression)]
 #[tactic(auto, unfolding(crate::specs::Expression::expressions))]
-fn expressions(
-    alloc: Global,
-    below: u8,
-    tokens: &mut Tokens<'_>,
-) -> Result<Vec<Expr>, Stop>
+fn expressions(alloc: Global, below: u8, tokens: &mut Tokens<'_>) -> Result<Vec<Expr>, Stop>
     ensures { GivesEach expression_tree result tokens.new (read (expressions (expression below)) tokens.old) }
 {
     let first = expression_at(alloc, below, tokens)?;
@@ -219,11 +198,7 @@ fn expressions(
 
 /// A comma and an expression.
 #[cycle(expression)]
-fn further_expression(
-    alloc: Global,
-    below: u8,
-    tokens: &mut Tokens<'_>,
-) -> Result<Expr, Stop>
+fn further_expression(alloc: Global, below: u8, tokens: &mut Tokens<'_>) -> Result<Expr, Stop>
     ensures { Gives expression_tree result tokens.new (read (further (expression below)) tokens.old) }
 {
     key(tokens, Kind::Comma)?;
@@ -251,12 +226,7 @@ fn unary(alloc: Global, left: u8, tokens: &mut Tokens<'_>) -> Result<Expr, Stop>
 /// An expression with the operators of a strength and of the stronger ones. The first operand is
 /// read once; then rows are built from the strongest operators to the weakest, where one is next.
 #[cycle(expression)]
-fn row(
-    alloc: Global,
-    strength: u8,
-    left: u8,
-    tokens: &mut Tokens<'_>,
-) -> Result<Expr, Stop>
+fn row(alloc: Global, strength: u8, left: u8, tokens: &mut Tokens<'_>) -> Result<Expr, Stop>
     requires { strength ≤ 8 }
     ensures { Gives expression_tree result tokens.new (read (row_at strength left) tokens.old) }
 {
@@ -318,11 +288,7 @@ fn next_operand(
 
 /// An expression with so many levels below it.
 #[cycle(expression)]
-pub fn expression_at(
-    alloc: Global,
-    left: u8,
-    tokens: &mut Tokens<'_>,
-) -> Result<Expr, Stop>
+pub fn expression_at(alloc: Global, left: u8, tokens: &mut Tokens<'_>) -> Result<Expr, Stop>
     ensures { Gives expression_tree result tokens.new (read (expression left) tokens.old) }
 {
     row(alloc, 0, left, tokens)
@@ -338,11 +304,7 @@ pub fn expression(alloc: Global, tokens: &mut Tokens<'_>) -> Result<Expr, Stop>
 
 /// A reference with its subscripts, in an expression or statement with so many levels below it.
 #[tactic(auto, unfolding(crate::specs::Expression::reference))]
-pub fn reference(
-    alloc: Global,
-    left: u8,
-    tokens: &mut Tokens<'_>,
-) -> Result<Variable, Stop>
+pub fn reference(alloc: Global, left: u8, tokens: &mut Tokens<'_>) -> Result<Variable, Stop>
     ensures { Gives variable_tree result tokens.new (read (reference left) tokens.old) }
 {
     if left == 0 {

@@ -51,11 +51,7 @@ impl Variable {
 }
 
 /// The variable of these parts.
-pub fn joined(
-    alloc: Global,
-    first: Part,
-    others: Vec<Part>,
-) -> Result<Variable, AllocError>
+pub fn joined(alloc: Global, first: Part, others: Vec<Part>) -> Result<Variable, AllocError>
     ensures { IfOk result
         (λ v. variable_tree v ≡ reference_in (part_tree first, map part_tree others.items)) }
 {
@@ -98,11 +94,7 @@ impl Reader for FlatReader {
 
     ghost reads = { λ _. read (further_part flat_part) };
 
-    fn read(
-        &self,
-        alloc: Global,
-        tokens: &mut Tokens<'_>,
-    ) -> Result<Part, Stop> {
+    fn read(&self, alloc: Global, tokens: &mut Tokens<'_>) -> Result<Part, Stop> {
         key(tokens, Kind::Point)?;
         flat_part(alloc, tokens)
     }
@@ -117,10 +109,7 @@ fn flat_members(alloc: Global, tokens: &mut Tokens<'_>) -> Result<Vec<Part>, Sto
 
 /// A reference without subscripts.
 #[tactic(auto, unfolding(crate::specs::Expression::flat_reference))]
-pub fn flat_reference(
-    alloc: Global,
-    tokens: &mut Tokens<'_>,
-) -> Result<Variable, Stop>
+pub fn flat_reference(alloc: Global, tokens: &mut Tokens<'_>) -> Result<Variable, Stop>
     ensures { Gives variable_tree result tokens.new (read flat_reference tokens.old) }
 {
     let first = name(alloc, tokens)?;

@@ -49,12 +49,7 @@ fn ended(tokens: &mut Tokens<'_>, word: Kind) -> Result<Place, Stop>
 
 /// A word with an expression behind it.
 #[tactic(auto, unfolding(crate::specs::Statement::announced))]
-fn announced(
-    alloc: Global,
-    word: Kind,
-    left: u8,
-    tokens: &mut Tokens<'_>,
-) -> Result<Expr, Stop>
+fn announced(alloc: Global, word: Kind, left: u8, tokens: &mut Tokens<'_>) -> Result<Expr, Stop>
     ensures { Gives expression_tree result tokens.new (read (announced word (expression left)) tokens.old) }
 {
     key(tokens, word)?;
@@ -71,18 +66,16 @@ fn assignment(alloc: Global, left: u8, tokens: &mut Tokens<'_>) -> Result<Stmt, 
     key(tokens, Kind::Semicolon)?;
     let statement = match variable {
         Variable::Name(name) => Stmt::Set(name, assign, value),
-        Variable::Reference(reference, subscripts) => Stmt::Assign(reference, subscripts, assign, value),
+        Variable::Reference(reference, subscripts) => Stmt::Assign(
+            reference, subscripts, assign, value,
+        ),
     };
     Ok(statement)
 }
 
 /// A statement that contains no others.
 #[tactic(auto, unfolding(crate::specs::Statement::simple_statement, crate::specs::Statement::ended))]
-fn simple_statement(
-    alloc: Global,
-    left: u8,
-    tokens: &mut Tokens<'_>,
-) -> Result<Stmt, Stop>
+fn simple_statement(alloc: Global, left: u8, tokens: &mut Tokens<'_>) -> Result<Stmt, Stop>
     ensures { Gives statement_tree result tokens.new (read (simple_statement left) tokens.old) }
 {
     if is_next(tokens, &[Kind::Semicolon]) {
@@ -131,11 +124,7 @@ fn begins_simple(tokens: &Tokens<'_>) -> bool
 
 /// Statements with so many levels below them.
 #[cycle(statement)]
-fn statements_at(
-    alloc: Global,
-    left: u8,
-    tokens: &mut Tokens<'_>,
-) -> Result<Vec<Stmt>, Stop>
+fn statements_at(alloc: Global, left: u8, tokens: &mut Tokens<'_>) -> Result<Vec<Stmt>, Stop>
     ensures { GivesEach statement_tree result tokens.new (read (many (statement left)) tokens.old) }
 {
     // Many are one statement alone.
@@ -163,11 +152,7 @@ fn statement(alloc: Global, left: u8, tokens: &mut Tokens<'_>) -> Result<Stmt, S
 /// A statement that contains others.
 #[cycle(statement)]
 #[tactic(auto, unfolding(crate::specs::Statement::nested_statement))]
-fn nested_statement(
-    alloc: Global,
-    left: u8,
-    tokens: &mut Tokens<'_>,
-) -> Result<Stmt, Stop>
+fn nested_statement(alloc: Global, left: u8, tokens: &mut Tokens<'_>) -> Result<Stmt, Stop>
     requires { 0 < left }
     ensures { Gives statement_tree result tokens.new (read (at_level nested_statement left) tokens.old) }
 {
@@ -206,11 +191,7 @@ fn enclosed(
 /// `ELSE` and what is done behind it; nothing where it is not written.
 #[cycle(statement)]
 #[tactic(auto, unfolding(crate::specs::Statement::otherwise))]
-fn otherwise(
-    alloc: Global,
-    below: u8,
-    tokens: &mut Tokens<'_>,
-) -> Result<Vec<Stmt>, Stop>
+fn otherwise(alloc: Global, below: u8, tokens: &mut Tokens<'_>) -> Result<Vec<Stmt>, Stop>
     ensures { GivesEach statement_tree result tokens.new (read (otherwise (statement below)) tokens.old) }
 {
     if !is_next(tokens, &[Kind::Else]) {
@@ -241,11 +222,7 @@ fn arm(
 /// The conditions of `IF` and each `ELSIF`, with what is done.
 #[cycle(statement)]
 #[tactic(auto, unfolding(crate::specs::Statement::arms))]
-fn arms(
-    alloc: Global,
-    left: u8,
-    tokens: &mut Tokens<'_>,
-) -> Result<Vec<(Expr, Vec<Stmt>)>, Stop>
+fn arms(alloc: Global, left: u8, tokens: &mut Tokens<'_>) -> Result<Vec<(Expr, Vec<Stmt>)>, Stop>
     requires { 0 < left }
     ensures { GivesEach arm_tree result tokens.new (read (at_level arms left) tokens.old) }
 {
@@ -347,11 +324,7 @@ fn for_statement(alloc: Global, left: u8, tokens: &mut Tokens<'_>) -> Result<Stm
 
 #[cycle(statement)]
 #[tactic(auto, unfolding(crate::specs::Statement::while_statement))]
-fn while_statement(
-    alloc: Global,
-    left: u8,
-    tokens: &mut Tokens<'_>,
-) -> Result<Stmt, Stop>
+fn while_statement(alloc: Global, left: u8, tokens: &mut Tokens<'_>) -> Result<Stmt, Stop>
     requires { 0 < left }
     ensures { Gives statement_tree result tokens.new (read (at_level while_statement left) tokens.old) }
 {
@@ -362,11 +335,7 @@ fn while_statement(
 
 #[cycle(statement)]
 #[tactic(auto, unfolding(crate::specs::Statement::repeat_statement))]
-fn repeat_statement(
-    alloc: Global,
-    left: u8,
-    tokens: &mut Tokens<'_>,
-) -> Result<Stmt, Stop>
+fn repeat_statement(alloc: Global, left: u8, tokens: &mut Tokens<'_>) -> Result<Stmt, Stop>
     requires { 0 < left }
     ensures { Gives statement_tree result tokens.new (read (at_level repeat_statement left) tokens.old) }
 {

@@ -1,6 +1,8 @@
 //! The readers of the parts of declarations, each over a text of its own.
 use crate::told::{Tell, words};
-use fb_grammar::{Kind, Lexeme, NAMES, NameReader, Stop, Tokens, lexemes, names, separated, several};
+use fb_grammar::{
+    Kind, Lexeme, NAMES, NameReader, Stop, Tokens, lexemes, names, separated, several,
+};
 use fb_sections::{
     blocks, connections, data_variables, device, events, fields, internal_variables, mappings,
     plugs, service, sockets, states, subapplications,
@@ -74,7 +76,11 @@ pub fn read(alloc: Global, part: Part, text: &str) -> Result<(String, usize), Fa
     let tokens = &mut Tokens::of(text);
     match part {
         Part::Listed => told(alloc, names(alloc, tokens), tokens),
-        Part::Path => told(alloc, separated(&NameReader, Kind::Point, alloc, tokens), tokens),
+        Part::Path => told(
+            alloc,
+            separated(&NameReader, Kind::Point, alloc, tokens),
+            tokens,
+        ),
         Part::Several => told(alloc, several(&NameReader, alloc, &NAMES, tokens), tokens),
         Part::Expression => told(alloc, expression(alloc, tokens), tokens),
         Part::Statements => told(alloc, statements(alloc, tokens), tokens),
@@ -82,7 +88,11 @@ pub fn read(alloc: Global, part: Part, text: &str) -> Result<(String, usize), Fa
     }
 }
 
-fn read_section(alloc: Global, part: Part, tokens: &mut Tokens<'_>) -> Result<(String, usize), Fail> {
+fn read_section(
+    alloc: Global,
+    part: Part,
+    tokens: &mut Tokens<'_>,
+) -> Result<(String, usize), Fail> {
     match part {
         Part::Events => told(alloc, events(alloc, tokens), tokens),
         Part::Data => told(alloc, data_variables(alloc, tokens), tokens),
@@ -99,7 +109,11 @@ fn read_section(alloc: Global, part: Part, tokens: &mut Tokens<'_>) -> Result<(S
     }
 }
 
-fn read_of_network(alloc: Global, part: Part, tokens: &mut Tokens<'_>) -> Result<(String, usize), Fail> {
+fn read_of_network(
+    alloc: Global,
+    part: Part,
+    tokens: &mut Tokens<'_>,
+) -> Result<(String, usize), Fail> {
     match part {
         Part::Plugs => told(alloc, plugs(alloc, tokens), tokens),
         Part::Sockets => told(alloc, sockets(alloc, tokens), tokens),
