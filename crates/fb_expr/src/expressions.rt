@@ -1,6 +1,6 @@
 //! The classes of expressions.
 ghost use Rattle.std.specs.Prelude.{◌≡◌, ◌++◌, IfOk, OnOk, is_some, map};
-ghost use Rattle.fb_tree.specs.Expression.{expression_tree, expressions_of, operands_of, reference_expression, reference_tree};
+ghost use Rattle.fb_tree.specs.Expression.{alone_tree, expression_tree, expressions_of, no_expressions, operands_of, reference_expression, reference_tree};
 ghost use Rattle.fb_expr.specs.Classes.{change, combined, pair_class, unary_class};
 ghost use Rattle.fb_expr.specs.Expressions.{class_in, faults_in, row_class, row_faults, subscript_faults};
 ghost use Rattle.fb_expr.specs.Names.{names_in};
@@ -54,7 +54,13 @@ pub fn judge_name(
     names: Names<'_>,
     used: &NameUse,
     found: &mut Vec<Fault>,
-) -> Result<Class, AllocError> {
+) -> Result<Class, AllocError>
+    ensures class { IfOk result (λ class. class ≡ class_in (names_in names.entry)
+        (reference_expression (alone_tree used.now) no_expressions)) }
+    ensures faults { OnOk result
+        (found.new.items ≡ found.old.items ++ faults_in (names_in names.entry)
+        (reference_expression (alone_tree used.now) no_expressions)) }
+{
     let referent = referred_variable(names.scope, &used.name.name(), false);
     report_reference(&referent, used.span.span(), found)?;
     Ok(referent.class())

@@ -1,6 +1,6 @@
 //! The check of statements.
 ghost use Rattle.std.specs.Prelude.{◌≡◌, ◌++◌, OnOk, map, option_map};
-ghost use Rattle.fb_tree.specs.Expression.{expression_tree, expressions_of, reference_expression, reference_tree};
+ghost use Rattle.fb_tree.specs.Expression.{alone_tree, expression_tree, expressions_of, no_expressions, reference_expression, reference_tree};
 ghost use Rattle.fb_tree.specs.Statement.{statement_tree, statements_of};
 ghost use Rattle.fb_expr.specs.Names.{names_in};
 ghost use Rattle.fb_expr.specs.Statements.{assignment_faults, counter_faults, range_faults, statement_faults, statements_faults};
@@ -90,7 +90,11 @@ fn report_set(
     place: Span,
     value: &Expr,
     found: &mut Vec<Fault>,
-) -> Result<(), AllocError> {
+) -> Result<(), AllocError>
+    ensures { OnOk result
+        (found.new.items ≡ found.old.items ++ assignment_faults (names_in names.entry)
+        (reference_expression (alone_tree name.now) no_expressions) place (expression_tree value.now)) }
+{
     let target = judge_name(names, name, found)?;
     let value = judge(names, value, found)?;
     report_class(joined(target, value).is_some(), place, found)

@@ -22,12 +22,12 @@ pub enum Body {
 
 impl Body {
     ghost use Rattle.fb_structured_text.specs.Forms.Reading.{read};
-    ghost use Rattle.fb_parse.specs.Body.{body_read, body_tree, mentions_in_body, whole_or_broken};
+    ghost use Rattle.fb_parse.specs.Body.{body_tree, broken_at, mentions_in_body, whole_if_over};
     ghost use Rattle.fb_tree.specs.Mentions.{mentioned};
     ghost use Rattle.fb_tree.specs.Tree.{decl_tree};
 
     /// The body of a text of less than 4 GiB.
-    #[tactic(auto, unfolding(crate::specs::Body::body_of))]
+    #[tactic(auto, using(crate::proofs::Bodies::pulled_body))]
     pub fn of_text(alloc: Global, text: &str) -> Result<Body, AllocError>
         requires { length text.now < 4294967296 }
         ensures { IfOk result (λ body. body_tree body ≡ body_of text.now) }
@@ -41,7 +41,9 @@ impl Body {
     }
 
     /// A comment that is never closed, or else the next token, or the end.
-    fn broken(tokens: Tokens<'_>) -> Body {
+    fn broken(tokens: Tokens<'_>) -> Body
+        ensures { body_tree result ≡ broken_at tokens }
+    {
         let place = tokens.place();
         match tokens.unclosed() {
             Some(comment) => Body::Broken(comment.span()),
@@ -64,7 +66,9 @@ impl Body {
     }
 
     /// The declaration, unless tokens or a comment that is never closed are left behind it.
-    fn whole_or_broken(decl: Decl, tokens: Tokens<'_>) -> Body {
+    fn whole_or_broken(decl: Decl, tokens: Tokens<'_>) -> Body
+        ensures { body_tree result ≡ whole_if_over (decl_tree decl) tokens }
+    {
         match tokens.kind() {
             Kind::End => Body::Tree(decl),
             _ => Self::broken(tokens),

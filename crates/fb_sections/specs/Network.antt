@@ -63,10 +63,6 @@ subapplications = section Subapps inner_subapplication EndSubapps
 unfoldable pub end : Form End
 end = as_value (λ v. record { name = v.0; port = v.1 }) (both name (optional_name Point))
 
--- the end that its tokens spell
-abbrev pub end_in : EndTokens → End
-end_in tokens = record { name = name_use tokens.name.now; port = option_map (λ l. name_use l.now) tokens.port }
-
 -- end 'TO' end ';'
 unfoldable pub connection : Sort → Form Connection
 connection s = as_value (λ v. record { sort = s; source = v.0; destination = v.1 }) (both end (behind (key To) (before end (key Semicolon))))

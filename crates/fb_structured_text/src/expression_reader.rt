@@ -1,5 +1,5 @@
 //! Reading expressions.
-ghost use Rattle.fb_grammar.specs.Form.{as_value, many};
+ghost use Rattle.fb_grammar.specs.Form.{as_value, many, option};
 ghost use Rattle.fb_grammar.specs.Gives.{Gives, GivesEach};
 ghost use Rattle.fb_grammar.specs.Reading.{read};
 ghost use Rattle.fb_grammar.specs.Words.{further};
@@ -14,6 +14,7 @@ ghost use Rattle.fb_structured_text.specs.Expression.{
   levels,
   operand_at,
   parenthesized,
+  part_of,
   primary,
   reference,
   reference_value,
@@ -113,7 +114,10 @@ fn part_behind(
     below: u8,
     name: NameUse,
     tokens: &mut Tokens<'_>,
-) -> Result<Part, Stop> {
+) -> Result<Part, Stop>
+    ensures { Gives part_tree result tokens.new
+        (read (as_value (part_of name) (option (subscripts (expression below)))) tokens.old) }
+{
     if !is_next(tokens, &[Kind::OpenBracket]) {
         return Ok(alone(alloc, name));
     }

@@ -3,7 +3,8 @@ ghost use Rattle.fb_grammar.specs.Form.{many};
 ghost use Rattle.fb_grammar.specs.Gives.{Gives, GivesEach};
 ghost use Rattle.fb_grammar.specs.Lexemes.{name_use};
 ghost use Rattle.fb_grammar.specs.Reading.{read};
-ghost use Rattle.fb_structured_text.specs.Expression.{PartTree, flat_part, flat_reference, further_part, part_of, reference_in, variable_tree};
+ghost use Rattle.fb_structured_text.specs.Expression.{PartTree, flat_part, flat_reference, further_part, part_of, reference_in, reference_value, variable_tree};
+ghost use Rattle.fb_tree.specs.Expression.{expression_tree};
 ghost use Rattle.fb_structured_text.specs.Part.{part_tree};
 ghost use Rattle.std.specs.Prelude.{◌≡◌, IfOk, None, map};
 
@@ -42,7 +43,9 @@ pub enum Variable {
 
 impl Variable {
     /// The variable as an expression.
-    pub fn expression(self) -> Expr {
+    pub fn expression(self) -> Expr
+        ensures { expression_tree result ≡ reference_value (variable_tree self) }
+    {
         match self {
             Variable::Name(name) => Expr::Name(name),
             Variable::Reference(reference, subscripts) => Expr::Reference(reference, subscripts),
