@@ -13,7 +13,6 @@ use Rattle.fb_tree.specs.declared.network.Sort.{Sort}
 use Rattle.fb_tree.specs.declared.network.Sort.TheVariants as sort
 use Rattle.fb_sections.specs.Constants.{constant}
 use Rattle.fb_sections.specs.Sections.{optional_name, section}
-use Rattle.fb_sections.specs.declared.connecting.EndTokens.{EndTokens}
 
 -- name ':=' constant
 unfoldable pub parameter : Form ParameterTree

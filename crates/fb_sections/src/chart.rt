@@ -3,7 +3,6 @@
 ghost use Rattle.fb_grammar.specs.Gives.{Gives, GivesEach};
 ghost use Rattle.fb_grammar.specs.Reading.{read};
 ghost use Rattle.fb_sections.specs.Chart.{action, actions, sent_event, state, states};
-ghost use Rattle.fb_sections.specs.Network.{end_in};
 ghost use Rattle.fb_tree.specs.Tree.{StateTree, state_tree};
 ghost use Rattle.fb_tree.specs.declared.chart.Action.{Action};
 ghost use Rattle.std.specs.Prelude.{◌≡◌, map};

@@ -2,7 +2,7 @@
 
 ghost use Rattle.fb_grammar.specs.Gives.{Gives};
 ghost use Rattle.fb_grammar.specs.Reading.{read};
-ghost use Rattle.fb_sections.specs.Network.{connection, connections, end, end_in};
+ghost use Rattle.fb_sections.specs.Network.{connection, connections, end};
 ghost use Rattle.fb_tree.specs.declared.network.Connection.{Connection};
 ghost use Rattle.std.specs.Prelude.{◌≡◌, IfOk};
 
