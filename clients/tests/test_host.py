@@ -80,6 +80,23 @@ class HostTest(unittest.TestCase):
         self.assertEqual((0, b"closed\n", b"session 1: read failed\n"), self.closed())
 
 
+class IdleTest(unittest.TestCase):
+    def test_a_silent_session_ends_after_a_minute(self) -> None:
+        words = [workbench(), "host", "--port", "0", "--connections", "1", "--sessions", "1", "--idle", "1"]
+        with subprocess.Popen(words, stdin=subprocess.DEVNULL, stdout=subprocess.PIPE, stderr=subprocess.PIPE) as host:
+            self.addCleanup(host.kill)
+            assert host.stdout is not None
+            port = int(host.stdout.readline().rpartition(b":")[2])
+            begun = time.monotonic()
+            with socket.create_connection(("127.0.0.1", port)) as peer:
+                peer.sendall(TAKE)
+                out, errors = host.communicate(timeout=120)
+            passed = time.monotonic() - begun
+        self.assertEqual((0, b"closed\n", b"session 1: idle\n"), (host.returncode, out, errors))
+        self.assertLess(59, passed)
+        self.assertLess(passed, 90)
+
+
 class SecretTest(unittest.TestCase):
     def test_a_secret_that_cannot_be_had_admits_nobody(self) -> None:
         with tempfile.TemporaryDirectory() as folder:
