@@ -1,6 +1,5 @@
 -- That a key is due, said by places.
-use Rattle.fb_laws.proofs.Common.{◌≡◌, ℕ, zero, suc, ◌<◌, Bool, true, false, true≢false, ◌||◌, ◌&&◌, not, ◌⊎◌, inl, inr, List, [], ◌∷◌, Some, refl, sym, ap, ◌∙◌, subst, arith, false≢true, or_left, or_right, and_from, and_parts, not-true, or_cases, none-some, same_Some}
-use Rattle.std.specs.Prelude.{take, slice_get}
+use Rattle.fb_laws.proofs.Common.{◌≡◌, ℕ, zero, suc, ◌<◌, Bool, true, false, true≢false, ◌||◌, ◌&&◌, not, ◌⊎◌, inl, inr, List, [], ◌∷◌, Some, refl, sym, ap, ◌∙◌, subst, arith, false≢true, or_left, or_right, and_from, and_parts, not-true, or_cases, none-some, same_Some, take, slice_get, false_from_ne_true, ◌≤◌}
 use Rattle.fb_jobs.specs.declared.key.Key.{Key}
 use Rattle.fb_history.specs.Limits.{Bounds}
 use Rattle.fb_history.specs.Machine.{State, Call, after}
@@ -32,6 +31,11 @@ module _ (test : State → Call → Key → Bool) where
   unfolding replay
   at_first s c cs k (d, at, is) = subst (λ x. test s x k ≡ true) (sym (same_Some c d at)) is
 
+  -- where no place from there on passes behind the first call, none does behind it
+  none_later : (s : State) (c : Call) (cs : List Call) (k : Key) (p : ℕ) → ((later : ℕ) → p ≤ later → IsAt (after s c) cs k later → ⊥) → (later : ℕ) → p < later → IsAt s (c ∷ cs) k later → ⊥
+  none_later s c cs k p none zero beyond found = absurd (omega (arith, beyond))
+  none_later s c cs k p none (suc later) beyond found = none later (omega (arith, beyond)) (from_later s c cs k later found)
+
   nowhere : (s : State) (k : Key) (p : ℕ) → IsAt s [] k p → ⊥
   nowhere s k p (c, at, is) = none-some c at
 
@@ -50,9 +54,8 @@ settled_where s (c ∷ cs) k is = split (settles s c k) refl is (λ e. settled_w
   split true here e on = (0, at_here settles s c cs k here)
   split false here e on = let found = on e in (suc found.0, at_later settles s c cs k found.0 (found.1))
 
-open_if : (s : State) (cs : List Call) (k : Key) (b : Bool) → settled s cs k ≡ b → ((p : ℕ) → IsSettledAt s cs k p → ⊥) → b ≡ false
-open_if s cs k true is none = let found = settled_where s cs k is in absurd (none found.0 found.1)
-open_if s cs k false is none = refl
+open_if : (s : State) (cs : List Call) (k : Key) → ((p : ℕ) → IsSettledAt s cs k p → ⊥) → settled s cs k ≡ false
+open_if s cs k none = false_from_ne_true (settled s cs k) (λ is. let found = settled_where s cs k is in none found.0 found.1)
 
 not_settled : (s : State) (cs : List Call) (k : Key) (p : ℕ) → settled s cs k ≡ false → IsSettledAt s cs k p → ⊥
 not_settled s cs k p clear at = true≢false (sym (settled_if s cs k p at) ∙ clear)
@@ -64,7 +67,7 @@ due_if_marked s [] k p at clear = absurd (nowhere marks s k p at)
 due_if_marked s (c ∷ cs) k zero at clear =
     or_left _ (due (after s c) cs k)
     (and_from (marks s c k) (not (settled (after s c) cs k)) (at_first marks s c cs k at)
-    (ap not (open_if (after s c) cs k (settled (after s c) cs k) refl (λ later found. clear (suc later) (omega arith) (at_later settles s c cs k later found)))))
+    (ap not (open_if (after s c) cs k (λ later found. clear (suc later) (omega arith) (at_later settles s c cs k later found)))))
 due_if_marked s (c ∷ cs) k (suc p) at clear =
     or_right (marks s c k && not (settled (after s c) cs k)) _
     (due_if_marked (after s c) cs k p (from_later marks s c cs k p at) (λ later beyond found. clear (suc later) (omega (arith, beyond)) (at_later settles s c cs k later found)))
@@ -80,27 +83,20 @@ unfolding due
 marked_last s [] k is = absurd (false≢true is)
 marked_last s (c ∷ cs) k is = split (due (after s c) cs k) refl is (λ e. marked_last (after s c) cs k e) where
   behind : IsMarkedLast (after s c) cs k → IsMarkedLast s (c ∷ cs) k
-  behind it =
-      record { place = suc it.place; marked = at_later marks s c cs k it.place it.marked; last = last_one; unsettled = open_one } where
-        last_one : (later : ℕ) → suc it.place < later → IsMarkedAt s (c ∷ cs) k later → ⊥
-        last_one zero beyond found = absurd (omega (arith, beyond))
-        last_one (suc later) beyond found = it.last later (omega (arith, beyond)) (from_later marks s c cs k later found)
-
-        open_one : (later : ℕ) → suc it.place < later → IsSettledAt s (c ∷ cs) k later → ⊥
-        open_one zero beyond found = absurd (omega (arith, beyond))
-        open_one (suc later) beyond found = it.unsettled later (omega (arith, beyond)) (from_later settles s c cs k later found)
+  behind it = record {
+    place = suc it.place;
+    marked = at_later marks s c cs k it.place it.marked;
+    last = none_later marks s c cs k (suc it.place) it.last;
+    unsettled = none_later settles s c cs k (suc it.place) it.unsettled;
+  }
 
   here : due (after s c) cs k ≡ false → (marks s c k ≡ true) × (settled (after s c) cs k ≡ false) → IsMarkedLast s (c ∷ cs) k
-  here none (marks_it, clear) =
-      record { place = 0; marked = at_here marks s c cs k marks_it; last = last_one; unsettled = open_one } where
-        last_one : (later : ℕ) → 0 < later → IsMarkedAt s (c ∷ cs) k later → ⊥
-        last_one zero beyond found = absurd (omega (arith, beyond))
-        last_one (suc later) beyond found =
-            true≢false (sym (due_if_marked (after s c) cs k later (from_later marks s c cs k later found) (λ p past at. not_settled (after s c) cs k p clear at)) ∙ none)
-
-        open_one : (later : ℕ) → 0 < later → IsSettledAt s (c ∷ cs) k later → ⊥
-        open_one zero beyond found = absurd (omega (arith, beyond))
-        open_one (suc later) beyond found = not_settled (after s c) cs k later clear (from_later settles s c cs k later found)
+  here none (marks_it, clear) = record {
+    place = 0;
+    marked = at_here marks s c cs k marks_it;
+    last = none_later marks s c cs k 0 (λ later from found. true≢false (sym (due_if_marked (after s c) cs k later found (λ p past at. not_settled (after s c) cs k p clear at)) ∙ none));
+    unsettled = none_later settles s c cs k 0 (λ later from found. not_settled (after s c) cs k later clear found);
+  }
 
   split : (b : Bool) → due (after s c) cs k ≡ b → ((marks s c k && not (settled (after s c) cs k)) || due (after s c) cs k) ≡ true → (due (after s c) cs k ≡ true → IsMarkedLast (after s c) cs k) → IsMarkedLast s (c ∷ cs) k
   split true is_due e on = behind (on is_due)
@@ -123,7 +119,7 @@ due_by_places s cs k = (forth (due s cs k) refl, back) where
 
   back : IsMarkedLast s cs k ⊎ IsLeftPending s cs k → due_from s cs k ≡ true
   back (inl it) = or_right (s.pending k && not (settled s cs k)) _ (due_if_marked s cs k it.place it.marked it.unsettled)
-  back (inr it) = or_left _ (due s cs k) (and_from (s.pending k) (not (settled s cs k)) it.pending (ap not (open_if s cs k (settled s cs k) refl it.unsettled)))
+  back (inr it) = or_left _ (due s cs k) (and_from (s.pending k) (not (settled s cs k)) it.pending (ap not (open_if s cs k it.unsettled)))
 
 pub due_goes_on : (limits : Bounds) (story : BenchView) → IsOrigin story.origin → DueGoesOn limits story
 due_goes_on limits story begins key =

@@ -1,28 +1,23 @@
 -- The types of values that references of a block type meet: it carries them, or one of its parts does, so the check knows their fields.
-use Rattle.fb_laws.proofs.Common.{◌≡◌, ℕ, Bool, true, false, true≢false, cond, not, List, [], ◌∷◌, Option, Some, None, refl, sym, ap, ◌∙◌, subst, nat_list_cmp_total, slice_cmp-IsAntisymmetric, nat_cmp-IsAntisymmetric, Contains, flat_map, Contains-append_left, Contains-append_right, not-true, is_elementary, name_cmp, NameUse, contains_filter, contains_here, contains_later, contains_map, contains_nothing, origin_in_flat_map, origin_in_map, passes_in_filter, in_order-members, types_in, value_types, variable_types, DeclTree, InstanceTree, NetworkTree, StructureTree, TypeTree, VariablesTree, adapter_type, block_type, structure_type, Carries, directly, onward, bases_at, carried_of, Sources, mentions_of_tree, parts_at, parts_in, tree_at, values_at, values_in, NoFields, fields_in, fields_near, fields_of_tree, is_same, stands_for, instances_in, meanings_in_type, variables_in, variables_together, DeclaredInstance, DeclaredVariable, in_order_has, stands_for-first_ones, carried_is_all, Contains-has, has-Contains}
-use Rattle.std.proofs.Common.{filter}
+use Rattle.fb_laws.proofs.Common.{◌≡◌, ℕ, Bool, true, false, true≢false, cond, not, List, [], ◌∷◌, Option, Some, None, refl, sym, ap, ◌∙◌, subst, nat_list_cmp_total, slice_cmp-IsAntisymmetric, nat_cmp-IsAntisymmetric, Contains, flat_map, Contains-append_left, Contains-append_right, not-true, is_elementary, name_cmp, NameUse, contains_filter, contains_here, contains_later, contains_map, contains_nothing, origin_in_flat_map, origin_in_map, passes_in_filter, in_order-members, types_in, value_types, variable_types, DeclTree, InstanceTree, NetworkTree, StructureTree, TypeTree, VariablesTree, adapter_type, block_type, structure_type, Carries, directly, onward, bases_at, carried_of, Sources, mentions_of_tree, parts_at, parts_in, tree_at, values_at, values_in, NoFields, fields_in, fields_near, fields_of_tree, is_same, stands_for, instances_in, meanings_in_type, variables_in, variables_together, DeclaredInstance, DeclaredVariable, in_order_has, stands_for-first_ones, carried_is_all, Contains-has, has-Contains, filter}
 use Rattle.fb_deploy.specs.Library.Seen.{has_name}
 
 -- what a name stands for is declared, under some name
-record IsDeclared {D : Type 0} (all : List (List ℕ × D)) (d : D) : Type 0 where
-  name : List ℕ
-  among : Contains all (name, d)
-
-declared_among : {D : Type 0} (all : List (List ℕ × D)) (q : List ℕ) (d : D) → stands_for all q ≡ Some d → IsDeclared all d
+declared_among : {D : Type 0} (all : List (List ℕ × D)) (q : List ℕ) (d : D) → stands_for all q ≡ Some d → (name : List ℕ) × Contains all (name, d)
 declared_among [] q d e = absurd (let no : ⊥ = cc in no)
 declared_among {D = D} (x ∷ xs) q d e = by (is_same x.0 q) e (declared_among xs q d)
   where
-    by : (b : Bool) → cond b (Some x.1) (stands_for xs q) ≡ Some d → (stands_for xs q ≡ Some d → IsDeclared xs d) → IsDeclared (x ∷ xs) d
-    by true e more = let same : x.1 ≡ d = cc in record { name = x.0; among = subst (λ (y : D). Contains (x ∷ xs) (x.0, y)) same (contains_here x xs) }
-    by false e more = let o = more e in record { name = o.name; among = contains_later x xs (o.name, d) o.among }
+    by : (b : Bool) → cond b (Some x.1) (stands_for xs q) ≡ Some d → (stands_for xs q ≡ Some d → (name : List ℕ) × Contains xs (name, d)) → (name : List ℕ) × Contains (x ∷ xs) (name, d)
+    by true e more = let same : x.1 ≡ d = cc in (x.0, subst (λ (y : D). Contains (x ∷ xs) (x.0, y)) same (contains_here x xs))
+    by false e more = let o = more e in (o.0, contains_later x xs (o.0, d) o.1)
 
 -- the type of a variable or field is one of those of the groups
 typed_among : (groups : List VariablesTree) (q : List ℕ) (v : DeclaredVariable) → stands_for (flat_map variables_together groups) q ≡ Some v → Contains (variable_types groups) v.type_use.name.name
 typed_among groups q v e =
     let it = declared_among (flat_map variables_together groups) q v e in
-    let g = origin_in_flat_map variables_together groups (it.name, v) it.among in
+    let g = origin_in_flat_map variables_together groups (it.0, v) it.1 in
     let variable : NameUse → List ℕ × DeclaredVariable = λ n. (n.name, record { section = g.origin.section; type_use = g.origin.type_use }) in
-    let n = origin_in_map variable g.origin.names (it.name, v) g.has in
+    let n = origin_in_map variable g.origin.names (it.0, v) g.has in
     subst (λ (t : List ℕ). Contains (variable_types groups) t) (ap (λ (p : List ℕ × DeclaredVariable). p.1.type_use.name.name) n.gives)
     (contains_map (λ (w : VariablesTree). w.type_use.name.name) groups g.origin g.among)
 
@@ -31,7 +26,7 @@ part_among : (n : NetworkTree) (q : List ℕ) (i : DeclaredInstance) → stands_
 part_among n q i e =
     let it = declared_among (instances_in n) q i e in
     let instance : InstanceTree → List ℕ × DeclaredInstance = λ x. (x.name.name, record { role = x.role; type_name = x.type_name }) in
-    let o = origin_in_map instance n.instances (it.name, i) it.among in
+    let o = origin_in_map instance n.instances (it.0, i) it.1 in
     subst (λ (t : List ℕ). Contains (types_in n.instances) t) (ap (λ (p : List ℕ × DeclaredInstance). p.1.type_name.name) o.gives)
     (contains_map (λ (x : InstanceTree). x.type_name.name) n.instances o.origin o.among)
 

@@ -1,6 +1,5 @@
 -- A chain of a clean network, by the connections that it passes.
-use Rattle.fb_laws.proofs.Common.{ℕ, ◌≡◌, List, [], ◌∷◌, ◌++◌, map, Some, ◌⊎◌, inl, inr, refl, sym, ◌∙◌, ap, subst, Sort, Input, PlainNetwork, View, Place, IsInner, IsConnected, Step, Within, IsBorderPlace, IsLeafPlace, Chain, One, More, side_at, IsCleanThroughout, Passed, passed_at, passed_by, StaysInside, nothing_before, border_before, IsAfter, nothing_after, border_after, CrossesOnce, LinksAreComposed, CrossesFrom, BordersAreComposed, LeavesInner, EntersInner}
-use Rattle.std.proofs.Common.{filter}
+use Rattle.fb_laws.proofs.Common.{ℕ, ◌≡◌, List, [], ◌∷◌, ◌++◌, map, Some, ◌⊎◌, inl, inr, refl, sym, ◌∙◌, ap, subst, Sort, Input, PlainNetwork, View, Place, IsInner, IsConnected, Step, Within, IsBorderPlace, IsLeafPlace, Chain, One, More, side_at, IsCleanThroughout, Passed, passed_at, passed_by, StaysInside, nothing_before, border_before, IsAfter, nothing_after, border_after, CrossesOnce, LinksAreComposed, CrossesFrom, BordersAreComposed, LeavesInner, EntersInner, filter}
 use Rattle.fb_wiring.specs.Network.declared.network.End.{End}
 use Rattle.fb_wiring.specs.Network.declared.network.End.TheVariants.{Own, Of}
 use Rattle.fb_wiring.specs.Network.Network.{place_of, Holds}
@@ -10,26 +9,11 @@ use Rattle.fb_laws.specs.Chains.{own, inside, is_own, IsBefore}
 
 -- ---- steps and chains of equal networks and places
 
-record StepPassing (view : View) (sort : Sort) (network : PlainNetwork) (a b : Place) (p : Passed) : Type 0 where
-  step : Step view sort network a b
-  passes : passed_at step ≡ p
+step_moved : {view : View} {sort : Sort} {n m : PlainNetwork} {x y z w : Place} → n ≡ m → x ≡ y → z ≡ w → (s : Step view sort n x z) → (step : Step view sort m y w) × (passed_at step ≡ passed_at s)
+step_moved e f g s = rw (← e, ← f, ← g) (s, refl)
 
-record ChainPassing (view : View) (sort : Sort) (network : PlainNetwork) (a b : Place) (list : List Passed) : Type 0 where
-  chain : Chain view sort network a b
-  passes : passed_by chain ≡ list
-
-step_moved : {view : View} {sort : Sort} {n m : PlainNetwork} {x y z w : Place} → n ≡ m → x ≡ y → z ≡ w → (s : Step view sort n x z) → StepPassing view sort m y w (passed_at s)
-step_moved {view = view} {sort = sort} {n = n} {m = m} {x = x} {y = y} {z = z} {w = w} e f g s =
-    let first : StepPassing view sort n x z (passed_at s) = record { step = s; passes = refl } in
-    let there : StepPassing view sort m x z (passed_at s) = subst (λ (k : PlainNetwork). StepPassing view sort k x z (passed_at s)) e first in
-    let left : StepPassing view sort m y z (passed_at s) = subst (λ (q : Place). StepPassing view sort m q z (passed_at s)) f there in
-    subst (λ (q : Place). StepPassing view sort m y q (passed_at s)) g left
-
-chain_moved : {view : View} {sort : Sort} {n m : PlainNetwork} {x y z : Place} → n ≡ m → x ≡ y → (c : Chain view sort n x z) → ChainPassing view sort m y z (passed_by c)
-chain_moved {view = view} {sort = sort} {n = n} {m = m} {x = x} {y = y} {z = z} e f c =
-    let first : ChainPassing view sort n x z (passed_by c) = record { chain = c; passes = refl } in
-    let there : ChainPassing view sort m x z (passed_by c) = subst (λ (k : PlainNetwork). ChainPassing view sort k x z (passed_by c)) e first in
-    subst (λ (q : Place). ChainPassing view sort m q z (passed_by c)) f there
+chain_moved : {view : View} {sort : Sort} {n m : PlainNetwork} {x y z : Place} → n ≡ m → x ≡ y → (c : Chain view sort n x z) → (chain : Chain view sort m y z) × (passed_by chain ≡ passed_by c)
+chain_moved e f c = rw (← e, ← f) (c, refl)
 
 -- a list of what is passed inside an instance, by another name and another list
 renamed : {name other : List ℕ} {list more : List Passed} → other ≡ name → more ≡ list → map (inside other) list ≡ map (inside name) more
@@ -51,7 +35,7 @@ step_stays {view = view} {sort = sort} {network = network} {inner = inner} {name
     let same_from : a' ≡ from = cc in
     let there : IsInner view network name inner2 = subst (λ (m : List ℕ). IsInner view network m inner2) same_name i2 in
     let t = step_moved (same_inner there i) same_from refl s in
-    record { to = b'; to_is = cc; step = t.step; passes = ap (λ (m : List ℕ). inside m (passed_at s)) same_name ∙ ap (λ (p : Passed). inside name p) (sym t.passes) }
+    record { to = b'; to_is = cc; step = t.0; passes = ap (λ (m : List ℕ). inside m (passed_at s)) same_name ∙ ap (λ (p : Passed). inside name p) (sym t.1) }
 
 record ChainStays (view : View) (sort : Sort) (inner : PlainNetwork) (name : List ℕ) (from b : Place) (list : List Passed) : Type 0 where
   to : Place
@@ -124,8 +108,8 @@ step_before {view = view} {sort = sort} {network = network} {list = list} inner 
       to = l.to;
       from_is = refl;
       to_is = cc;
-      chain = More to s (border_inside to i border f (no_step_to_nothing s)) t.chain;
-      whole = ap (λ (rest : List Passed). inside name (passed_at s) ∷ rest) (l.whole ∙ renamed same_name t.passes);
+      chain = More to s (border_inside to i border f (no_step_to_nothing s)) t.0;
+      whole = ap (λ (rest : List Passed). inside name (passed_at s) ∷ rest) (l.whole ∙ renamed same_name t.1);
     })
 step_before {view = view} {sort = sort} {network = network} {b = b} inner name from to i f s border (inr x) =
     inr (record {
@@ -153,8 +137,8 @@ step_before {view = view} {sort = sort} {network = network} {b = b} inner name f
           from = from;
           end_is = ap (λ (m : List ℕ). Of m p) same_name;
           from_is = refl;
-          chain = One t.step;
-          whole = ap (λ (q : Passed). inside name q ∷ []) (sym t.passes);
+          chain = One t.0;
+          whole = ap (λ (q : Passed). inside name q ∷ []) (sym t.1);
         }
 
     left_by : (end : End) (list : List Passed) → Before view sort network b end list → LeavesInner view sort network (name ∷ from) end (inside name (passed_at s) ∷ list)
@@ -172,8 +156,8 @@ step_before {view = view} {sort = sort} {network = network} {b = b} inner name f
           from = from;
           end_is = cc;
           from_is = refl;
-          chain = More to s (border_inside to i border f (no_step_to_nothing s)) t.chain;
-          whole = ap (λ (rest : List Passed). inside name (passed_at s) ∷ rest) (l.whole ∙ renamed same_name t.passes);
+          chain = More to s (border_inside to i border f (no_step_to_nothing s)) t.0;
+          whole = ap (λ (rest : List Passed). inside name (passed_at s) ∷ rest) (l.whole ∙ renamed same_name t.1);
         }
 
 -- a connection of the network itself before a chain

@@ -1,5 +1,5 @@
 -- Each code of charts, by what its list of faults has.
-use Rattle.fb_laws.proofs.Common.{◌≡◌, ◌≢◌, ℕ, Bool, true, false, List, [], ◌∷◌, Option, Some, None, map, refl, sym, ap, ◌∙◌, subst, true≢false, ◌⊎◌, inl, inr, if◌then◌else◌, Contains, flat_map, slice_get, option_map_or, Contains-append_left, Contains-append_right, NameUse, Span, AlgorithmTree, ChartTree, DeclTree, StateTree, TransitionTree, TypeTree, block_type, Side, Input, Output, End, Role, Plug, Socket, Sources, tree_at, Code, AlgorithmUnknown, EventUnknown, StateUnknown, Fault, DeclaredEvent, DeclaredInstance, fault_at, has_name, stands_for, Meanings, meanings_in_type, same_side, Scope, instance_ports, scope_of_type, usable, contains_cases, contains_flat_map, contains_here, contains_later, contains_map, contains_nothing, contains_single, in_unless, in_written, origin_in_flat_map, origin_in_map, unless, written, chart_faults, chart_faults_in, ecc_faults_of, none_named, not_named, IsAdapter, IsNotJudged, of_unusable}
+use Rattle.fb_laws.proofs.Common.{◌≡◌, ◌≢◌, ℕ, Bool, true, false, List, [], ◌∷◌, Option, Some, None, map, refl, sym, ap, ◌∙◌, subst, true≢false, inl, inr, if◌then◌else◌, Contains, flat_map, slice_get, option_map_or, Contains-append_left, Contains-append_right, NameUse, Span, AlgorithmTree, ChartTree, DeclTree, StateTree, TransitionTree, TypeTree, block_type, Side, Input, Output, End, Role, Plug, Socket, Sources, tree_at, Code, AlgorithmUnknown, EventUnknown, StateUnknown, Fault, DeclaredEvent, DeclaredInstance, fault_at, has_name, stands_for, Meanings, meanings_in_type, same_side, Scope, instance_ports, scope_of_type, usable, contains_flat_map, contains_here, contains_later, contains_map, contains_nothing, contains_single, in_unless, in_written, origin_in_flat_map, origin_in_map, unless, written, chart_faults, chart_faults_in, ecc_faults_of, none_named, not_named, IsAdapter, IsNotJudged, of_unusable, append-nil, ◌++◌}
 use Rattle.fb_tree.specs.declared.chart.Action.{Action}
 use Rattle.fb_ecc.specs.Algorithms.{algorithm_fault, algorithm_faults, algorithm_names, run_faults}
 use Rattle.fb_ecc.specs.declared.events.EventTarget.{EventTarget}
@@ -268,25 +268,14 @@ module _ (sources : Sources) (unit : List ℕ) where
       (elim (tree_at sources unit) as (λ o. tree_at sources unit ≡ o → Contains (chart_faults_in sources o) f → Finds f) [ Some (block_type d) ↦ λ e h. chart_found d e f h | o ↦ λ e h. absurd (contains_nothing f h) ]) refl c
 
 pub states_listed : StatesAreListed
-states_listed sources unit span = (found sources unit _, from)
-  where
-    from : HasUnknownState sources unit span → Contains (ecc_faults_of sources unit) (record { code = StateUnknown; span = span })
-    from h =
-        reported sources unit h.block h.declared 0 (state_faults h.block.chart) refl h.place
-        (contains_flat_map (transition_faults names) h.block.chart.transitions h.transition (fault_at StateUnknown h.state) h.written (by (contains_cases h.transition.source (h.transition.destination ∷ []) h.state h.named)))
-      where
-        names : List ℕ → Bool
-        names = has_name (state_names h.block.chart)
-
-        one : Contains (state_fault names h.state) (fault_at StateUnknown h.state)
-        one = unless (names h.state.name) (fault_at StateUnknown h.state) (none_listed (λ (s : StateTree). s.name) h.block.chart.states h.state.name h.unlisted)
-
-        same : (n : NameUse) → n ≡ h.state → Contains (state_fault names n) (fault_at StateUnknown h.state)
-        same n e = subst (λ (m : NameUse). Contains (state_fault names m) (fault_at StateUnknown h.state)) (sym e) one
-
-        by : (h.transition.source ≡ h.state) ⊎ Contains (h.transition.destination ∷ []) h.state → Contains (transition_faults names h.transition) (fault_at StateUnknown h.state)
-        by (inl e) = Contains-append_left (state_fault names h.transition.source) (state_fault names h.transition.destination) _ (same h.transition.source e)
-        by (inr c) = Contains-append_right (state_fault names h.transition.source) (state_fault names h.transition.destination) _ (same h.transition.destination (contains_single h.transition.destination h.state c))
+states_listed sources unit span =
+    iff (found sources unit _)
+    (λ h. let names : List ℕ → Bool = has_name (state_names h.block.chart) in
+    let fault = fault_at StateUnknown h.state in
+    let one = unless (names h.state.name) fault (none_listed (λ (s : StateTree). s.name) h.block.chart.states h.state.name h.unlisted) in
+    let both = contains_flat_map (state_fault names) (h.transition.source ∷ h.transition.destination ∷ []) h.state fault h.named one in
+    let whole = subst (λ (l : List Fault). Contains (state_fault names h.transition.source ++ l) fault) (append-nil (state_fault names h.transition.destination)) both in
+    reported sources unit h.block h.declared 0 (state_faults h.block.chart) refl h.place (contains_flat_map (transition_faults names) h.block.chart.transitions h.transition fault h.written whole))
 
 pub algorithms_declared : AlgorithmsAreDeclared
 algorithms_declared sources unit span =

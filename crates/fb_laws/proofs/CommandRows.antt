@@ -1,12 +1,11 @@
 -- The commands of each resource, in words of their own.
-use Rattle.fb_laws.proofs.Common.{ℕ, ◌≡◌, ◌≢◌, Bool, true, false, not, ◌||◌, cond, List, [], ◌∷◌, ◌++◌, Option, Some, None, inl, inr, refl, sym, ◌∙◌, ap, subst, map, append_assoc, ◌==◌, true≢false, filter, option_map, codes, filter_map, flat_map, bytes_eq, IsStrictlySortedBy-filter, eqb-false, not-true, or_cases, in_order-members, in_order-sorted, contains_cases, contains_filter, contains_flat_map, contains_here, contains_later, contains_map, contains_nothing, origin_in_flat_map, origin_in_map, passes_in_filter, ApplicationTree, DeclTree, ParameterTree, Sources, text_or_empty, tree_at, link_cmp, FlatBlock, Link, PlainFlat, home_at, nearest, block_home, PlainResolved, path_names, resolved_at, applications_in, devices_in, Home, create_command, create_commands, create_text, home_commands, command_cmp, command_cmp_total, commands_at, write_command, write_commands, write_text, connection_commands, without_place, link_resource, system_commands, start_command, start_text, dotted, PlainResource, commands_for, resource_plan, resource_plans, resources_of, PlacedCommand, ResourceCommand, IsPlanned, AllBegin, BeginsWith, BlocksAreMadeAtHome, CommandsAreInOrder, IsInOrder, IsWithin, LinksAreMadeAtHome, MakesBlock, MakesItsBlocks, MakesItsLinks, NoneBegins, ParametersAreSetAtHome, ResourcesHaveTheirCommands, SetsItsParameters, SetsParameter, StandsOnce}
-use Rattle.std.specs.Prelude.{Contains}
+use Rattle.fb_laws.proofs.Common.{ℕ, ◌≡◌, ◌≢◌, Bool, true, false, not, ◌||◌, cond, List, [], ◌∷◌, ◌++◌, Option, Some, None, inl, inr, refl, sym, ◌∙◌, ap, subst, map, append_assoc, ◌==◌, true≢false, filter, option_map, codes, filter_map, flat_map, bytes_eq, IsStrictlySortedBy-filter, eqb-false, not-true, or_cases, in_order-members, in_order-sorted, contains_cases, contains_filter, contains_flat_map, contains_here, contains_later, contains_map, contains_nothing, origin_in_flat_map, origin_in_map, passes_in_filter, ApplicationTree, DeclTree, ParameterTree, Sources, text_or_empty, tree_at, link_cmp, FlatBlock, Link, PlainFlat, home_at, nearest, block_home, PlainResolved, path_names, resolved_at, applications_in, devices_in, Home, create_command, create_commands, create_text, home_commands, command_cmp, command_cmp_total, commands_at, write_command, write_commands, write_text, connection_commands, without_place, link_resource, system_commands, start_command, start_text, dotted, PlainResource, commands_for, resource_plan, resource_plans, resources_of, PlacedCommand, ResourceCommand, IsPlanned, AllBegin, BeginsWith, BlocksAreMadeAtHome, CommandsAreInOrder, IsInOrder, IsWithin, LinksAreMadeAtHome, MakesBlock, MakesItsBlocks, MakesItsLinks, NoneBegins, ParametersAreSetAtHome, ResourcesHaveTheirCommands, SetsItsParameters, SetsParameter, StandsOnce, Contains}
 use Rattle.fb_placing.proofs.PlacedLemmas.{command_cmp-IsAntisymmetric}
 use Rattle.fb_placing.specs.ConstantTexts.{written}
-use Rattle.fb_laws.proofs.Joined.{of_either}
-use Rattle.fb_laws.proofs.HomeLemmas.{bytes_same, home_listed, nearest_of, of_nearest, same_bytes}
+use Rattle.fb_laws.proofs.Joined.{given, gives_member, of_either}
+use Rattle.fb_laws.proofs.HomeLemmas.{IsHomed, bytes_same, home_listed, nearest_of, of_home, of_nearest, same_bytes}
 use Rattle.fb_laws.proofs.PlannedLemmas.{Known, home_there, homes_in, known, links_sorted, mapped, names_in, stands}
-use Rattle.fb_laws.proofs.CommandLemmas.{commands_append, for_lines, for_links, for_starts, given, gives_member, is_of, is_resource, link_command, link_on, lines_on, links_on, of_is, on_link}
+use Rattle.fb_laws.proofs.CommandLemmas.{commands_append, for_each, for_links, is_of, is_resource, link_command, link_on, lines_on, links_on, of_is, on_link}
 
 -- ---- what commands begin with
 
@@ -56,7 +55,7 @@ module _ (sources : Sources) (system : List ℕ) (flat : PlainFlat) where
         let d = map start_command (names_in sources system) in
         commands_append (a ++ b ++ c) d r
         ∙ ap (λ (l : List (List ℕ)). l ++ commands_for d r) (commands_append (a ++ b) c r ∙ ap (λ (l : List (List ℕ)). l ++ commands_for c r) (commands_append a b r))
-        ∙ (λ i. for_lines (create_commands homes flat.blocks) r i ++ for_lines (write_commands sources system (applications_in (tree_at sources system)) (homes_in sources system flat)) r i ++ for_links homes flat.links r i ++ for_starts (names_in sources system) r i)
+        ∙ (λ i. for_each without_place (create_commands homes flat.blocks) r i ++ for_each without_place (write_commands sources system (applications_in (tree_at sources system)) (homes_in sources system flat)) r i ++ for_links homes flat.links r i ++ for_each start_command (names_in sources system) r i)
 
     -- each line that makes a block
 
@@ -145,20 +144,12 @@ module _ (sources : Sources) (system : List ℕ) (flat : PlainFlat) (cuts : List
   abbrev it : Known sources system flat cuts resources
   it = known sources system flat cuts resources p
 
-  -- the resource of an entry
-  record IsEntry (entry : PlainResource) : Type 0 where
-    name : List ℕ
-    listed : Contains (names_in sources system) name
-    is : record { name = name; commands = commands sources system flat name } ≡ entry
-
-  entry_of : (entry : PlainResource) → Contains resources entry → IsEntry entry
-  entry_of entry c =
+  -- what is so of the commands of each resource is so of each entry
+  of_entry : (P : PlainResource → Type 0) → ((r : List ℕ) → Contains (names_in sources system) r → P (record { name = r; commands = commands sources system flat r })) → (entry : PlainResource) → Contains resources entry → P entry
+  of_entry P each entry c =
       let orders = system_commands sources system (applications_in (tree_at sources system)) (names_in sources system) flat (homes_in sources system flat) in
       let o = origin_in_map (resource_plan orders) (names_in sources system) entry (subst (λ (l : List PlainResource). Contains l entry) it.resources_are c) in
-      record { name = o.origin; listed = o.among; is = o.gives }
-
-  of_entry : (P : PlainResource → Type 0) → ((r : List ℕ) → Contains (names_in sources system) r → P (record { name = r; commands = commands sources system flat r })) → (entry : PlainResource) → Contains resources entry → P entry
-  of_entry P each entry c = let e = entry_of entry c in subst P e.is (each e.name e.listed)
+      subst P o.gives (each o.origin o.among)
 
   -- blocks
 
@@ -212,37 +203,19 @@ module _ (sources : Sources) (system : List ℕ) (flat : PlainFlat) (cuts : List
   abbrev applications : List ApplicationTree
   applications = applications_in (tree_at sources system)
 
-  -- the home of a block of the flat network
-  record IsHomeOfBlock (home : Home) : Type 0 where
-    block : FlatBlock
-    listed : Contains flat.blocks block
-    placed : home.path ≡ block.path
-    is_home : nearest (mapped sources system) block.path ≡ Some home.resource
-
-  of_block : (home : Home) → Contains (homes_in sources system flat) home → IsHomeOfBlock home
-  of_block home c =
-      let o = given (block_home (mapped sources system)) flat.blocks home c in
-      by o.origin o.among (nearest (mapped sources system) o.origin.path) refl o.gives
-    where
-      by : (b : FlatBlock) → Contains flat.blocks b → (o : Option (List ℕ)) → nearest (mapped sources system) b.path ≡ o → option_map (λ (q : List ℕ). (let h : Home = record { path = b.path; resource = q } in h)) o ≡ Some home → IsHomeOfBlock home
-      by b among None e g = absurd (let no : ⊥ = cc in no)
-      by b among (Some q) e g =
-          let same : (let h : Home = record { path = b.path; resource = q } in h) ≡ home = cc in
-          record { block = b; listed = among; placed = sym (ap (λ (h : Home). h.path) same); is_home = e ∙ ap (λ (h : Home). Some h.resource) same }
-
-  setting : (r : List ℕ) (line : PlacedCommand) (home : Home) (block : FlatBlock) (s : PlainResolved) (parameter : ParameterTree) → Contains flat.blocks block → home.path ≡ block.path → nearest (mapped sources system) block.path ≡ Some home.resource → resolved_at sources system applications (path_names home.path) ≡ Some s → Contains s.instance.parameters parameter → write_command (text_or_empty sources s.unit) home parameter ≡ line → line.resource ≡ r → SetsParameter sources system flat r line
+  setting : (r : List ℕ) (line : PlacedCommand) (home : Home) (block : FlatBlock) (s : PlainResolved) (parameter : ParameterTree) → Contains flat.blocks block → block.path ≡ home.path → nearest (mapped sources system) home.path ≡ Some home.resource → resolved_at sources system applications (path_names home.path) ≡ Some s → Contains s.instance.parameters parameter → write_command (text_or_empty sources s.unit) home parameter ≡ line → line.resource ≡ r → SetsParameter sources system flat r line
   setting r line home block s parameter listed placed is_home stands among gives on =
       let same : home.resource ≡ r = ap (λ (l : PlacedCommand). l.resource) gives ∙ on in
       record {
         block = block;
         listed = listed;
-        home = of_nearest (mapped sources system) block.path r (is_home ∙ ap (λ (w : List ℕ). Some w) same);
+        home = of_nearest (mapped sources system) block.path r (ap (nearest (mapped sources system)) placed ∙ is_home ∙ ap (λ (w : List ℕ). Some w) same);
         standing = s;
-        stands = ap (λ (t : List ℕ). resolved_at sources system applications (path_names t)) (sym placed) ∙ stands;
+        stands = ap (λ (t : List ℕ). resolved_at sources system applications (path_names t)) placed ∙ stands;
         parameter = parameter;
         given = among;
-        place = sym (ap (λ (l : PlacedCommand). l.place) gives) ∙ ap (λ (t : List ℕ). dotted t parameter.name.name) placed;
-        command = sym (ap (λ (l : PlacedCommand). l.command) gives) ∙ ap (λ (t : List ℕ). write_text (dotted t parameter.name.name) (written (text_or_empty sources s.unit) parameter.value)) placed;
+        place = sym (ap (λ (l : PlacedCommand). l.place) gives) ∙ ap (λ (t : List ℕ). dotted t parameter.name.name) (sym placed);
+        command = sym (ap (λ (l : PlacedCommand). l.command) gives) ∙ ap (λ (t : List ℕ). write_text (dotted t parameter.name.name) (written (text_or_empty sources s.unit) parameter.value)) (sym placed);
         on_home = on;
       }
 
@@ -251,13 +224,13 @@ module _ (sources : Sources) (system : List ℕ) (flat : PlainFlat) (cuts : List
       let kept = passes_in_filter (λ (l : PlacedCommand). bytes_eq r l.resource) (write_commands sources system applications (homes_in sources system flat)) line c in
       let lines = flat_map (home_commands sources system applications) (homes_in sources system flat) in
       let w = origin_in_flat_map (home_commands sources system applications) (homes_in sources system flat) line ((in_order-members command_cmp command_cmp_total command_cmp-IsAntisymmetric lines line).0 kept.among) in
-      by w.origin (of_block w.origin w.among) (sym (same_bytes r line.resource kept.passes)) (resolved_at sources system applications (path_names w.origin.path)) refl w.has
+      by w.origin (of_home (mapped sources system) flat.blocks w.origin w.among) (sym (same_bytes r line.resource kept.passes)) (resolved_at sources system applications (path_names w.origin.path)) refl w.has
     where
-      by : (home : Home) → IsHomeOfBlock home → line.resource ≡ r → (o : Option PlainResolved) → resolved_at sources system applications (path_names home.path) ≡ o → Contains (commands_at sources home o) line → SetsParameter sources system flat r line
+      by : (home : Home) → IsHomed (mapped sources system) flat.blocks home.path home.resource → line.resource ≡ r → (o : Option PlainResolved) → resolved_at sources system applications (path_names home.path) ≡ o → Contains (commands_at sources home o) line → SetsParameter sources system flat r line
       by home b on None e d = absurd (contains_nothing line d)
       by home b on (Some s) e d =
           let o = origin_in_map (write_command (text_or_empty sources s.unit) home) s.instance.parameters line d in
-          setting r line home b.block s o.origin b.listed b.placed b.is_home e o.among o.gives on
+          setting r line home b.block s o.origin b.listed b.placed b.home e o.among o.gives on
 
   set_from : (r : List ℕ) (line : PlacedCommand) → SetsParameter sources system flat r line → Contains (writes sources system flat r) line
   set_from r line m =

@@ -9,6 +9,7 @@ pub use Rattle.fb_deploy.proofs.Iface.ScopeLocal.{in_order_has}
 pub use Rattle.fb_deploy.proofs.Iface.TableLemmas.{stands_for-first_ones}
 pub use Rattle.fb_deploy.proofs.Library.CarriedLemmas.{carried_is_all}
 pub use Rattle.fb_deploy.proofs.Library.Locality.{part_mention, parts_more, rests_more, value_mention}
+pub use Rattle.fb_deploy.proofs.Library.Opening.{from_names}
 pub use Rattle.fb_deploy.proofs.Library.SeenLemmas.{Contains-has, has-Contains}
 pub use Rattle.fb_deploy.proofs.Parse.Bodies.{told}
 pub use Rattle.fb_deploy.specs.Deploy.{IsPlan, faulty, planned, planned_by, with_homes}
@@ -26,14 +27,8 @@ pub use Rattle.fb_deploy.specs.Iface.Scope.{Scope, instance_ports, ports_of, sco
 pub use Rattle.fb_deploy.specs.Iface.Sides.{goes_with, is_data_on}
 pub use Rattle.fb_deploy.specs.Iface.Spaces.{chart_spaces, interface_spaces, is_block, network_spaces, parameter_names, resource_names, spaces_of, system_spaces, type_spaces}
 pub use Rattle.fb_deploy.specs.Iface.Types.{instance_faults, instances_of, suits, type_fault, type_faults}
-pub use Rattle.fb_deploy.specs.Iface.declared.classes.Class.TheVariants.{Any, B, Free, I, Num, O, W}
 pub use Rattle.fb_deploy.specs.Iface.declared.classes.Class.{Class}
-pub use Rattle.fb_deploy.specs.Iface.declared.code.Code.TheVariants.{AlgorithmUnknown, DataType, Duplicate, EventUnknown, Literal, MappedTwice, MemberUnknown, MixedKind, NameDiffers, NoSuchResource, ParameterUnknown, PassThrough, PortSide, PortUnknown, SecondAdapter, SecondSource, StateUnknown, StructRecursive, Syntax, UnknownType, VariableUnknown, WithUnknown, WrongKind}
 pub use Rattle.fb_deploy.specs.Iface.declared.code.Code.{Code}
-pub use Rattle.fb_deploy.specs.Iface.declared.fault.Fault.{Fault}
-pub use Rattle.fb_deploy.specs.Iface.declared.ports.DeclaredEvent.{DeclaredEvent}
-pub use Rattle.fb_deploy.specs.Iface.declared.ports.DeclaredInstance.{DeclaredInstance}
-pub use Rattle.fb_deploy.specs.Iface.declared.ports.DeclaredVariable.{DeclaredVariable}
 pub use Rattle.fb_deploy.specs.Library.Near.{Carries, bases_at, carried_of, directly, onward}
 pub use Rattle.fb_deploy.specs.Library.Rests.{PartRests, Rests, itself, on_itself}
 pub use Rattle.fb_deploy.specs.Library.View.{Sources, mentions_at, mentions_of_tree, parts_at, parts_in, text_or_empty, tree_at, tree_in, tree_of, type_in, values_at, values_in}
@@ -50,11 +45,10 @@ pub use Rattle.fb_expr.specs.Rules.{allows}
 pub use Rattle.fb_expr.specs.Spans.{names_span, span_of, through_second}
 pub use Rattle.fb_expr.specs.declared.references.Referent.TheVariants.{NoMember, Unjudged, Variable}
 pub use Rattle.fb_expr.specs.declared.references.Referent.{Referent}
-pub use Rattle.fb_expr.specs.declared.rules.ClassPlace.TheVariants.{Condition, Count, Counter, Selector}
-pub use Rattle.fb_expr.specs.declared.rules.ClassPlace.{ClassPlace}
 pub use Rattle.fb_laws.specs.Alone.{ReadsAlone, nearer, nearer_constant, nearer_simple, nearer_span}
 pub use Rattle.fb_laws.specs.Chains.{BordersAreComposed, CrossesFrom, CrossesOnce, EntersInner, FlatBordersAreComposed, FlatLinksAreComposed, FlatUnitsAreClean, HasFlatNet, InnerBordersAreListed, InnerNetsAreFlat, IsAfter, IsOwnNetwork, LeavesInner, LinksAreComposed, Passed, StaysInside, border_after, border_before, nothing_after, nothing_before, passed_at, passed_by}
 pub use Rattle.fb_laws.specs.Classes.{Calculates, Changes, Combines, Compares, Divides, Fits, HasClass, IsArithmetic, IsLogical, IsPairIn, Joins, JoinsTruths, Makes, Results, RowHasClass, Spoils, Takes, first_pair, later_pair, of_broken, of_element, of_literal, of_no_array, of_no_variable, of_operator, of_parentheses, of_row, of_variable}
+pub use Rattle.fb_laws.specs.Common.{AlgorithmTree, AlgorithmUnknown, Any, ApplicationTree, B, BinaryUse, Block, ChartTree, ClassPlace, Condition, ConditionTree, Connection, ConstantTree, Count, Counter, DataType, DeclTree, DeclaredEvent, DeclaredInstance, DeclaredVariable, Destination, DeviceTree, Duplicate, End, EventTree, EventUnknown, Fault, FlatBlock, Free, I, Input, InstanceTree, InterfaceTree, Kind, Lexeme, Link, Literal, MappedTwice, MappingTree, Member, MemberUnknown, MixedKind, NameDiffers, NameUse, NetworkTree, NoSuchResource, O, OfInstance, OfPlug, OfSocket, Output, Own, ParameterTree, ParameterUnknown, PassThrough, PlainFlat, PlainResource, Plug, PortSide, PortUnknown, Position, ResourceTree, Role, SecondAdapter, SecondSource, Section, Selector, Side, Socket, Sort, Source, Span, StateTree, StateUnknown, StructRecursive, StructureTree, Subapplication, Syntax, SystemTree, Token, TransitionTree, TypeTree, TypeUse, UnaryUse, UnitKind, UnknownType, VariableUnknown, VariablesTree, WithUnknown, WrongKind, adapter_type, block_type, constant_span, guard, guarded, one_value, structure_type, subapplication_type, system_configuration, value_list, value_span}
 pub use Rattle.fb_laws.specs.Declarations.{DuplicatesAreReported, HasDuplicate, HasMixedKind, HasOtherName, HasSelfCarrying, HasUnknownType, HasUnknownWith, HasWrongKind, IsDeclaredAt, IsMisfit, MisfitsAreReported, MixedKindsAreReported, OtherNamesAreReported, RecursiveStructuresAreReported, Suits, UnknownTypesAreReported, UnknownWithsAreReported, WrongKindsAreReported, no_array, no_list}
 pub use Rattle.fb_laws.specs.Declared.{AreDeclaredIn, Cell, IsBefore, IsDataOn, IsEventOn, IsFirstEvent, IsFirstInstance, IsFirstItem, IsFirstVariable, IsHeldIn, IsInstanceAs, IsItemOf, IsType, IsVariableIn, data_input, data_output, fields_of_structure, in_earlier_row, in_same_row, instance_of_application, instance_of_type, of_adapter, of_block, of_subapplication, variables_of_type}
 pub use Rattle.fb_laws.specs.Ends.{HaveSameNames, IsEndOf, IsNetworkOf, IsPort, IsReached, IsReachedBy, IsRightSide, NamesRight, Site, destination, event, instance_destination, instance_source, of_block_instance, of_plug, of_socket, of_subapplication_instance, own_destination, own_port, own_source, place_of, plug, plug_destination, plug_source, port_of, socket, socket_destination, socket_source, source}
@@ -84,9 +78,6 @@ pub use Rattle.fb_netcheck.specs.Repeats.{adapter_ends, all_adapter_ends, data_d
 pub use Rattle.fb_netcheck.specs.Settings.{NetworkPlace}
 pub use Rattle.fb_netcheck.specs.Sides.{connection_span, end_faults, fault_of, is_own, is_own_port, pass_through_faults}
 pub use Rattle.fb_netcheck.specs.Types.{flows_agree, home_of, joined_types, same_at_ends, targets_agree}
-pub use Rattle.fb_netcheck.specs.declared.ends.Holder.TheVariants.{OfInstance, OfPlug, OfSocket, Own}
-pub use Rattle.fb_netcheck.specs.declared.ends.Position.TheVariants.{Destination, Source}
-pub use Rattle.fb_netcheck.specs.declared.ends.Position.{Position}
 pub use Rattle.fb_netcheck.specs.declared.ends.Target.TheVariants.{Found, NotJudged, Unknown}
 pub use Rattle.fb_netcheck.specs.declared.ends.Target.{Target}
 pub use Rattle.fb_placing.specs.Cuts.{cuts_of, home_at, is_cut, same_home}
@@ -96,7 +87,6 @@ pub use Rattle.fb_placing.specs.PlacedCommands.{create_command, create_commands,
 pub use Rattle.fb_placing.specs.Mappings.{mapping_home, mapping_path, names_used, resource_at}
 pub use Rattle.fb_placing.specs.ResourceCommand.{ResourceCommand}
 pub use Rattle.fb_placing.specs.SystemCommands.{connection_commands, connection_text, without_place, link_resource, system_commands, start_command, start_text}
-pub use Rattle.fb_placing.specs.PlainResource.{PlainResource}
 pub use Rattle.fb_placing.specs.Resources.{commands_for, device_resources, resource_plan, resource_plans, resources_of}
 pub use Rattle.fb_placing.specs.Resolved.{PlainResolved, application_called, inner_instances, is_placed, leads_nowhere, on_first, resolved_among, resolved_at, resolved_beyond, resolved_inside}
 unfoldable pub use Rattle.fb_placing.specs.Resolved.{path_names}
@@ -108,24 +98,23 @@ pub use Rattle.fb_placing.specs.declared.plan.write_commands.PlacedCommand.{Plac
 pub use Rattle.fb_sections.specs.Constants.{array_of, element_or_sized, in_brackets, number_with, other_literal_kinds, ranges}
 unfoldable pub use Rattle.fb_sections.specs.Constants.{array_type, constant, constant_list, length_of_string, number, plain_type, simple, type_use}
 unfoldable pub use Rattle.fb_sections.specs.Network.{blocks, connection, connections, end, inner_subapplication, instance, listed_parameters, optional_parameters, parameter, parameters, plugs, sockets, subapplications}
+pub use Rattle.fb_structured_text.proofs.Forms.Forms.{among_left, among_right}
 pub use Rattle.fb_structured_text.specs.Expression.{PartTree, further_part, in_parentheses, last_end, levels, member_in, part_of, parts, reference_in, reference_value, row_of, subscripts_in, with_sign}
 unfoldable pub use Rattle.fb_structured_text.specs.Expression.{deep_part, deep_primary, deep_reference, expression, expressions, flat_part, flat_primary, flat_reference, literal, operand, parenthesized, reference, row, rows, subscripts, unary}
 pub use Rattle.fb_structured_text.specs.Forms.Form.{Form, Spells, SpellsEach, SpellsOption, as_value, both, either, many, one, option}
-pub use Rattle.fb_structured_text.specs.Forms.Kind.{is_among, name_kinds, same_kind}
+pub use Rattle.fb_structured_text.specs.Forms.Kind.{is_among, name_kinds}
 pub use Rattle.fb_structured_text.specs.Forms.Lexemes.{kind_of, lexemes_in, name_or, name_use, spelled_name}
 unfoldable pub use Rattle.fb_structured_text.specs.Forms.Lexemes.{lexeme_of, lexemes_of}
 pub use Rattle.fb_structured_text.specs.Forms.Literals.{across, literal_kinds}
 pub use Rattle.fb_structured_text.specs.Forms.Words.{before, behind, cons, key, list, optional_list, or_none, separated}
 unfoldable pub use Rattle.fb_structured_text.specs.Forms.Words.{name, names}
 pub use Rattle.fb_structured_text.specs.Forms.declared.kind.Kind.TheVariants.{Assign, CloseBracket, Name, NameIn, NameOn, NameSt, Of, OpenBracket, Point}
-pub use Rattle.fb_structured_text.specs.Forms.declared.kind.Kind.{Kind}
-pub use Rattle.fb_structured_text.specs.Forms.declared.lexeme.Lexeme.{Lexeme}
 pub use Rattle.fb_structured_text.specs.Operators.{binary_use, signs, strengths, unary_use}
 unfoldable pub use Rattle.fb_structured_text.specs.Statement.{announced, arm, arms, assignment_statement, case, case_statement, cases, enclosed, for_statement, if_statement, nested_statement, otherwise, repeat_statement, simple_statement, statement, while_statement}
 pub use Rattle.fb_text.proofs.Members.{ComesThrough, contains_cases, contains_filter, contains_flat_map, contains_here, contains_later, contains_map, contains_nothing, contains_single, got_in_map, in_unless, in_written, map_gets, origin_in_flat_map, origin_in_map, passes_in_filter, passes_in_find, unless, written}
 pub use Rattle.fb_text.proofs.NameLemmas.{IsName-upper, is_word-all, name_of-ok}
 pub use Rattle.fb_text.proofs.OrderLemmas.{in_order-members, in_order-sorted}
-pub use Rattle.fb_text.proofs.Tests.{not_true}
+pub use Rattle.fb_text.proofs.Tests.{by_bool, not_true}
 pub use Rattle.fb_text.specs.Bytes.{first, is_blank}
 unfoldable pub use Rattle.fb_text.specs.Bytes.{is_word_byte, is_word_start}
 pub use Rattle.fb_text.specs.Elementary.{has_own_class, type_class_of}
@@ -138,29 +127,12 @@ pub use Rattle.fb_text.specs.Tokens.{FitsIn, IsLongest, IsSpelled, LiesIn, Spans
 unfoldable pub use Rattle.fb_text.specs.Words.{is_word}
 pub use Rattle.fb_text.specs.Words.{word_len}
 pub use Rattle.fb_text.specs.declared.name.NameFault.{NameFault}
-pub use Rattle.fb_text.specs.declared.name.NameUse.{NameUse}
-pub use Rattle.fb_text.specs.declared.token.Span.{Span}
-pub use Rattle.fb_text.specs.declared.token.Token.{Token}
 pub use Rattle.fb_text.specs.declared.token.TokenKind.TheVariants.{Other}
 pub use Rattle.fb_text.specs.declared.token.TokenKind.{TokenKind}
 pub use Rattle.fb_tree.specs.Expression.{Expression, Expressions, Operands, ReferenceTree, expression_then, expressions_of, literal_expression, no_expressions, no_operands, operand_then, operands_of, parentheses, reference_expression, row_expression, unary_expression}
 pub use Rattle.fb_tree.specs.Mentions.{instance_types, types_in, unit_kind_of, value_types, variable_types}
-pub use Rattle.fb_tree.specs.Statement.{Arms, Statement, Statements, arm_then, arms_of, assignment, choice, count, empty, exit, no_arms, no_statements, repeat_loop, return, selection, statement_then, statements_of, while_loop}
-pub use Rattle.fb_tree.specs.Tree.{AlgorithmTree, ApplicationTree, ChartTree, ConditionTree, ConstantTree, DeclTree, DeviceTree, EventTree, InstanceTree, InterfaceTree, MappingTree, NetworkTree, ParameterTree, ResourceTree, StateTree, StructureTree, SystemTree, TransitionTree, TypeTree, VariablesTree, adapter_type, block_type, constant_span, guard, guarded, one_value, structure_type, subapplication_type, system_configuration, value_list, value_span}
-pub use Rattle.fb_tree.specs.declared.expression.BinaryUse.{BinaryUse}
-pub use Rattle.fb_tree.specs.declared.expression.UnaryUse.{UnaryUse}
-pub use Rattle.fb_tree.specs.declared.interface.Section.{Section}
-pub use Rattle.fb_tree.specs.declared.interface.Side.TheVariants.{Input, Output}
-pub use Rattle.fb_tree.specs.declared.interface.Side.{Side}
+pub use Rattle.fb_tree.specs.Statement.{Arms, Statement, Statements, arm_then, arms_of, assignment, choice, count, no_arms, no_statements, repeat_loop, selection, statement_then, statements_of, while_loop}
 pub use Rattle.fb_tree.specs.declared.interface.TypeForm.{TypeForm}
-pub use Rattle.fb_tree.specs.declared.interface.TypeUse.{TypeUse}
-pub use Rattle.fb_tree.specs.declared.kinds.UnitKind.{UnitKind}
-pub use Rattle.fb_tree.specs.declared.network.Connection.{Connection}
-pub use Rattle.fb_tree.specs.declared.network.End.{End}
-pub use Rattle.fb_tree.specs.declared.network.Role.TheVariants.{Block, Plug, Socket, Subapplication}
-pub use Rattle.fb_tree.specs.declared.network.Role.{Role}
-pub use Rattle.fb_tree.specs.declared.network.Sort.{Sort}
-pub use Rattle.fb_tree.specs.declared.reference.Member.{Member}
 pub use Rattle.fb_wiring.proofs.Network.NearestLemmas.{is_nearest}
 pub use Rattle.fb_wiring.specs.Applications.{applications_of, plain_application}
 pub use Rattle.fb_wiring.specs.ByName.{applications_at, declared, kind_at}
@@ -173,12 +145,9 @@ pub use Rattle.fb_wiring.specs.Network.LinkOrder.{link_cmp}
 pub use Rattle.fb_wiring.specs.Network.Network.{BlockPort, Chain, IsBorderPlace, IsConnected, IsInner, IsLeafPlace, LeafWithin, More, One, Place, Step, View, Within}
 pub use Rattle.fb_wiring.specs.Network.Places.{dotted}
 pub use Rattle.fb_wiring.specs.Network.Plain.{PlainNetwork}
-pub use Rattle.fb_wiring.specs.Network.PlainFlat.{PlainFlat}
 pub use Rattle.fb_wiring.specs.Network.Printed.{printed}
 pub use Rattle.fb_wiring.specs.Network.SystemFlat.{IsSystemFlat, application_blocks}
 pub use Rattle.fb_wiring.specs.Network.declared.application.FlatApplication.{FlatApplication}
-pub use Rattle.fb_wiring.specs.Network.declared.flat.FlatBlock.{FlatBlock}
-pub use Rattle.fb_wiring.specs.Network.declared.flat.Link.{Link}
 pub use Rattle.fb_wiring.specs.Network.declared.network.Instance.{Instance}
 pub use Rattle.fb_wiring.specs.Network.declared.network.InstanceKind.{InstanceKind}
 pub use Rattle.fb_wiring.specs.Networks.{instance_in_role, network_of, plain_instance}
@@ -186,7 +155,8 @@ pub use Rattle.fb_wiring.specs.Units.{AreFlatApplications, Holds, IsFlatApplicat
 pub use Rattle.fb_wiring.specs.declared.systems.Application.{Application}
 pub use Rattle.std.proofs.Common.{Bool, Err, IsUtf8, List, None, Ok, Option, Result, Some, [], ap, append-nil, append_assoc, ap₂, arith, cond, drop, false, if◌then◌else◌, inl, inr, length, length-append, length-drop, length-take-le, map, not, refl, subst, suc, sym, take, take-append-drop, true, true≢false, unwrap_or, zero, ℕ, ◌&&◌, ◌++◌, ◌+◌, ◌-◌, ◌<◌, ◌==◌, ◌||◌, ◌↔◌, ◌∙◌, ◌∷◌, ◌≡◌, ◌≢◌, ◌≤◌, ◌⊎◌}
 pub use Rattle.std.proofs.Math.Seq.{drop-append-add, take-append_seam}
-pub use Rattle.std.proofs.lemmas.Bool.{and_from, and_parts, cases_lt, cases_order, eqb-false, eqb-true, false_from_ne_true, false≢true, ltb-false, not-false, not-true, or_cases, or_from, or_left, or_parts, or_right}
+pub use Rattle.std.proofs.lemmas.Bool.{and_from, and_parts, cases_lt, cases_order, eqb-false, eqb-true, false_from_ne_true, false≢true, ltb-false, not-false, not-true, or_cases, or_from, or_left, or_parts, or_right, true_from_ne_false}
+pub use Rattle.std.proofs.lemmas.Grind.{flat_map-append}
 pub use Rattle.std.proofs.lemmas.List.Elements.{All-contains, All-from_recursion, All-map, All-weaker, Contains-append_cases, Contains-append_left, Contains-append_right, filter-append}
 pub use Rattle.std.proofs.lemmas.List.Kept.{IsStrictlySortedBy-filter}
 pub use Rattle.std.proofs.lemmas.List.{append_cancel_left, drop-append-le, drop-drop, drop-take, map-append, nil_from_length, take-append-le, take-take, take_all}

@@ -1,7 +1,7 @@
--- The cut links are those between blocks with different homes.
-use Rattle.fb_laws.proofs.Common.{ℕ, ◌≡◌, ◌≢◌, true, false, not, List, Option, sym, ◌∙◌, ap, subst, IsStrictlySortedBy, bytes_eq, false≢true, false_from_ne_true, IsStrictlySortedBy-filter, contains_filter, passes_in_filter, Sources, link_cmp, Link, PlainFlat, home_at, is_cut, same_home, PlainResource, IsPlanned, CutsJoinResources, JoinsResources}
-use Rattle.std.specs.Prelude.{Contains}
-use Rattle.fb_laws.proofs.HomeLemmas.{bytes_same, same_bytes, some_home}
+-- The cut links are those between blocks with different homes; each other link is within a resource.
+use Rattle.fb_laws.proofs.Common.{ℕ, ◌≡◌, ◌≢◌, true, not, List, Option, sym, ◌∙◌, ap, subst, IsStrictlySortedBy, bytes_eq, false≢true, false_from_ne_true, IsStrictlySortedBy-filter, contains_filter, passes_in_filter, Sources, link_cmp, Link, PlainFlat, home_at, is_cut, same_home, PlainResource, IsPlanned, CutsJoinResources, JoinsResources, Contains, Some, ◌⊎◌, inl, inr, refl, StandsOn, IsMade, LinksAreCutOrMade, by_bool}
+use Rattle.fb_laws.proofs.EntryLemmas.{entry_named, home_named}
+use Rattle.fb_laws.proofs.HomeLemmas.{bytes_same, nearest_of, same_bytes, some_home}
 use Rattle.fb_laws.proofs.PlannedLemmas.{Known, home_there, homes_in, known, links_sorted, mapped, stands}
 use Rattle.fb_laws.proofs.PlanEnds.{net_prefixes}
 
@@ -38,8 +38,42 @@ module _ (sources : Sources) (system : List ℕ) (flat : PlainFlat) (cuts : List
   pub cuts_sorted : IsStrictlySortedBy link_cmp cuts
   cuts_sorted = subst (λ (l : List Link). IsStrictlySortedBy link_cmp l) (sym it.cuts_are) (IsStrictlySortedBy-filter link_cmp (is_cut homes) flat.links (links_sorted sources system flat p.is_flat))
 
+  made_on : (link : Link) → Contains flat.links link → (r : List ℕ) → StandsOn sources system flat.blocks link.from r → StandsOn sources system flat.blocks link.to r → IsMade sources system flat resources link
+  made_on link c r from to =
+      let named = home_named sources system flat p.is_flat from.block.path r (nearest_of (mapped sources system) from.block.path r from.home) in
+      let entry = entry_named sources system flat cuts resources p r named in
+      record {
+        entry = entry.0;
+        listed = entry.1;
+        within = record {
+          listed = c;
+          from = subst (λ (n : List ℕ). StandsOn sources system flat.blocks link.from n) (sym entry.2) from;
+          to = subst (λ (n : List ℕ). StandsOn sources system flat.blocks link.to n) (sym entry.2) to;
+        };
+      }
+
+  pub cut_or : (link : Link) → Contains flat.links link → Contains cuts link ⊎ IsMade sources system flat resources link
+  cut_or link c =
+      let prefixes = net_prefixes sources system flat p.is_flat link c in
+      let from = some_home (mapped sources system) flat.blocks it.homes link.from prefixes.0.block prefixes.0.listed prefixes.0.prefix in
+      let to = some_home (mapped sources system) flat.blocks it.homes link.to prefixes.1.block prefixes.1.listed prefixes.1.prefix in
+      by_bool (bytes_eq from.0 to.0)
+      (λ same. inr (made_on link c from.0 (stands sources system flat it.homes link.from from.0 from.1) (stands sources system flat it.homes link.to from.0 (to.1 ∙ ap (λ (w : List ℕ). Some w) (sym (same_bytes from.0 to.0 same))))))
+      (λ differs. let cut : is_cut homes link ≡ true = (λ i. not (same_home (from.1 i) (to.1 i))) ∙ ap not differs in
+      inl (subst (λ (l : List Link). Contains l link) (sym it.cuts_are) (contains_filter (is_cut homes) flat.links link c cut)))
+
+  pub no_cut : (link : Link) → Contains cuts link → ¬ IsMade sources system flat resources link
+  no_cut link c m =
+      let kept = passes_in_filter (is_cut homes) flat.links link (subst (λ (l : List Link). Contains l link) it.cuts_are c) in
+      let from = home_there sources system flat it.homes link.from m.entry.name m.within.from in
+      let to = home_there sources system flat it.homes link.to m.entry.name m.within.to in
+      false≢true (sym ((λ i. not (same_home (from i) (to i))) ∙ ap not (bytes_same m.entry.name m.entry.name refl)) ∙ kept.passes)
+
 pub cuts_join : CutsJoinResources
 cuts_join sources system flat cuts resources p = record {
   members = λ link. (joins_two sources system flat cuts resources p link, cuts_two sources system flat cuts resources p link);
   in_order = cuts_sorted sources system flat cuts resources p;
 }
+
+pub cut_or_made : LinksAreCutOrMade
+cut_or_made sources system flat cuts resources p link c = record { either = cut_or sources system flat cuts resources p link c; not_both = no_cut sources system flat cuts resources p link }

@@ -1,5 +1,5 @@
 -- The data inputs and outputs of a type.
-use Rattle.fb_laws.proofs.Common.{◌≡◌, ◌≢◌, ◌↔◌, ℕ, ◌<◌, Bool, true, List, Some, refl, sym, ap, ◌∙◌, subst, true≢false, slice_get, NameUse, InterfaceTree, VariablesTree, Section, Side, TypeUse, DeclaredVariable, first_ones, stands_for, variables_in, variables_together, is_data_on, Cell, IsBefore, IsDataOn, IsFirstVariable, IsVariableIn, data_input, data_output, of_adapter, of_block, of_subapplication, AreExactly, ComeAsDeclared, DataAreDeclared, HaveOwnNames, got_in_map, map_gets}
+use Rattle.fb_laws.proofs.Common.{◌≡◌, ◌≢◌, ◌↔◌, ℕ, ◌<◌, Bool, true, List, Some, refl, sym, ap, ◌∙◌, subst, slice_get, NameUse, InterfaceTree, VariablesTree, Section, Side, TypeUse, DeclaredVariable, first_ones, stands_for, variables_in, variables_together, is_data_on, Cell, IsBefore, IsDataOn, IsFirstVariable, IsVariableIn, data_input, data_output, of_block, AreExactly, ComeAsDeclared, DataAreDeclared, HaveOwnNames, got_in_map, map_gets, arith}
 use Rattle.fb_tree.specs.declared.interface.Section.TheVariants as sections
 use Rattle.fb_tree.specs.declared.interface.Side.TheVariants as sides
 use Rattle.fb_laws.specs.Declared.{StandsAt}
@@ -13,12 +13,10 @@ abbrev declared_as : VariablesTree → NameUse → List ℕ × DeclaredVariable
 declared_as v n = (n.name, meaning_of v)
 
 input_section : (section : Section) → is_data_on sides.Input section ≡ true → section ≡ sections.Input
-input_section sections.Input e = refl
-input_section section e = absurd (true≢false (sym e))
+input_section section e = grind arith
 
 output_section : (section : Section) → is_data_on sides.Output section ≡ true → section ≡ sections.Output
-output_section sections.Output e = refl
-output_section section e = absurd (true≢false (sym e))
+output_section section e = grind arith
 
 module _ (i : InterfaceTree) where
   abbrev number : Cell → ℕ
@@ -129,6 +127,5 @@ module _ (i : InterfaceTree) where
   )
 
 pub data_declared : DataAreDeclared
-data_declared decl type (of_block d) side = data_ports d.interface side
-data_declared decl type (of_adapter d) side = data_ports d.interface side
-data_declared decl type (of_subapplication d) side = data_ports d.interface side
+data_declared decl type (of_block d) side = data_ports type.interface side
+data_declared decl type is side = data_ports type.interface side

@@ -1,6 +1,5 @@
 -- Each code of declarations, by what its list of faults has.
-use Rattle.fb_laws.proofs.Common.{◌≡◌, ◌≢◌, ℕ, ◌+◌, Bool, true, false, not, ◌&&◌, List, [], ◌∷◌, take, Option, Some, None, refl, sym, ap, ◌∙◌, subst, true≢false, arith, Contains, enumerate_from, slice_get, option_map_or, false_from_ne_true, not_true, Span, NameUse, unit_kind_of, ConstantTree, DeclTree, InstanceTree, TypeTree, VariablesTree, block_type, adapter_type, subapplication_type, system_configuration, structure_type, one_value, value_list, value_span, Side, TypeForm, TypeUse, UnitKind, Role, Carries, carried_of, Sources, tree_at, type_in, Code, Duplicate, Literal, MixedKind, NameDiffers, StructRecursive, UnknownType, WithUnknown, WrongKind, Fault, DeclaredVariable, class_of_name, class_of_simple, class_of_type, is_free, takes, declaration_faults, declared_name, duplicate_faults, iface_faults_of, literal_faults_of, mixed_faults, name_faults, space_duplicates, variables_of, with_faults_of, fault_at, constant_faults, fits_alone, initial_faults, list_faults, literal_fault, has_name, is_same, stands_for, variables_in, DuplicatesAreReported, HasDuplicate, HasMixedKind, HasOtherName, HasSelfCarrying, HasUnknownType, HasUnknownWith, HasWrongKind, IsDeclaredAt, IsMisfit, MisfitsAreReported, MixedKindsAreReported, OtherNamesAreReported, RecursiveStructuresAreReported, UnknownTypesAreReported, Suits, UnknownWithsAreReported, WrongKindsAreReported, no_array, no_list, AreDeclaredIn, IsType, fields_of_structure, of_adapter, of_block, of_subapplication, variables_of_type, goes_with, spaces_of, instance_faults, instances_of, suits, type_fault, type_faults, contains_filter, contains_flat_map, contains_here, contains_map, contains_nothing, contains_single, origin_in_flat_map, origin_in_map, in_unless, in_written, passes_in_filter, unless, written, IsEarlier, earlier_name, in_places, same_exact, same_itself, carried_is_all, Contains-has, has-Contains}
-use Rattle.std.specs.List.{filter}
+use Rattle.fb_laws.proofs.Common.{◌≡◌, ◌≢◌, ℕ, ◌+◌, Bool, true, false, not, ◌&&◌, List, [], ◌∷◌, take, Option, Some, None, refl, sym, ap, ◌∙◌, subst, true≢false, arith, Contains, enumerate_from, slice_get, option_map_or, false_from_ne_true, not_true, Span, NameUse, unit_kind_of, ConstantTree, DeclTree, InstanceTree, TypeTree, VariablesTree, block_type, adapter_type, subapplication_type, system_configuration, structure_type, one_value, value_list, value_span, Side, TypeForm, TypeUse, UnitKind, Role, Carries, carried_of, Sources, tree_at, type_in, Code, Duplicate, Literal, MixedKind, NameDiffers, StructRecursive, UnknownType, WithUnknown, WrongKind, Fault, DeclaredVariable, class_of_name, class_of_simple, class_of_type, is_free, takes, declaration_faults, declared_name, duplicate_faults, iface_faults_of, literal_faults_of, mixed_faults, name_faults, space_duplicates, variables_of, with_faults_of, fault_at, constant_faults, fits_alone, initial_faults, list_faults, literal_fault, has_name, is_same, stands_for, variables_in, DuplicatesAreReported, HasDuplicate, HasMixedKind, HasOtherName, HasSelfCarrying, HasUnknownType, HasUnknownWith, HasWrongKind, IsDeclaredAt, IsMisfit, MisfitsAreReported, MixedKindsAreReported, OtherNamesAreReported, RecursiveStructuresAreReported, UnknownTypesAreReported, Suits, UnknownWithsAreReported, WrongKindsAreReported, no_array, no_list, AreDeclaredIn, IsType, fields_of_structure, of_adapter, of_block, of_subapplication, variables_of_type, goes_with, spaces_of, instance_faults, instances_of, suits, type_fault, type_faults, contains_filter, contains_flat_map, contains_here, contains_map, contains_nothing, contains_single, origin_in_flat_map, origin_in_map, in_unless, in_written, passes_in_filter, unless, written, IsEarlier, earlier_name, in_places, same_exact, same_itself, carried_is_all, Contains-has, has-Contains, filter}
 use Rattle.fb_tree.specs.declared.constant.Simple.{Simple}
 use Rattle.fb_tree.specs.declared.interface.TypeForm.TheVariants as forms
 use Rattle.fb_tree.specs.declared.kinds.UnitKind.TheVariants as kinds
@@ -24,8 +23,7 @@ known_suit roles.Subapplication kinds.Subapplication e = Suits.subapplication
 known_suit role kind e = absurd (true≢false (sym e))
 
 told_suit : (role : Role) (kind : UnitKind) → Suits role kind → suits role kind ≡ true
-told_suit role kind Suits.plug = refl
-told_suit role kind is = refl
+told_suit role kind is = grind arith
 
 pub not_suited : (role : Role) (kind : UnitKind) → suits role kind ≡ false → ¬ Suits role kind
 not_suited role kind e is = true≢false (sym (told_suit role kind is) ∙ e)
@@ -69,8 +67,7 @@ declared_in (structure_type s) v c = fields_of_structure c
 
 in_type : (decl : DeclTree) (type : TypeTree) (v : VariablesTree) → IsType decl type → Contains type.interface.variables v → Contains (variables_of decl) v
 in_type decl type v (of_block d) c = c
-in_type decl type v (of_adapter d) c = c
-in_type decl type v (of_subapplication d) c = c
+in_type decl type v is c = c
 
 pub among_declared : (decl : DeclTree) (v : VariablesTree) → AreDeclaredIn decl v → Contains (variables_of decl) v
 among_declared decl v (variables_of_type {type = type} is c) = in_type decl type v is c
@@ -150,9 +147,7 @@ module _ (sources : Sources) (unit : List ℕ) where
     where
       by : (a b : Bool) → d.chart.is_written ≡ a → d.network.is_written ≡ b → (a && b) ≡ true → fault_at MixedKind d.name ≡ f → Finds f
       by true true s n e is = subst Finds is (record { block = d; declared = declared; has_states = s; has_network = n; place = refl })
-      by true false s n e is = absurd (true≢false (sym e))
-      by false b s n e is = absurd (true≢false (sym e))
-  mixed_found (adapter_type d) declared f c = absurd (contains_nothing f c)
+      by a b s n e is = absurd (true≢false (sym e))
   mixed_found decl declared f c = absurd (contains_nothing f c)
 
   recursion_found : (decl : DeclTree) → IsDeclaredAt sources unit decl → (f : Fault) → Contains (recursion_faults sources unit decl) f → Finds f

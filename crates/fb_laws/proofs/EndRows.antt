@@ -54,9 +54,9 @@ module _ (sources : Sources) (unit : List ℕ) (here : Site) (n : NetworkTree) (
             end = end;
             is_end = is_end;
             holder = holder;
-            home = named.unit;
+            home = named.0;
             port = port;
-            names = named.names;
+            names = named.1;
             wrong = λ right. true≢false (sym (told_right position holder port.side right) ∙ fails.0);
             place = end_place end;
           })

@@ -1,6 +1,6 @@
 -- The homes of blocks are resources of the system.
-use Rattle.fb_laws.proofs.Common.{ℕ, ◌≡◌, Bool, true, false, cond, List, [], ◌∷◌, ◌++◌, Option, Some, None, inl, refl, sym, ◌∙◌, ap, subst, map, find, option_map, option_map_or, flat_map, bytes_eq, Contains-append_left, Contains-append_right, NameUse, contains_flat_map, contains_here, contains_map, contains_nothing, origin_in_map, passes_in_find, named_among, same_exact, those_reported, DeclTree, DeviceTree, MappingTree, ResourceTree, SystemTree, system_configuration, itself, Sources, tree_at, has_name, is_same, stands_for, NoSuchResource, Fault, faults_of, declared_mapping_faults, has_resource, home_faults, home_span, mapping_faults_of, resource_faults, resources_in, second_mappings, dotted, PlainFlat, Link, HasFlat, IsNearest, nearest, mapping_home, mapping_path, applications_in, devices_in, mappings_in, system_commands, PlainResource, device_resources, resource_plan, resources_of, IsPlanned, HomesHaveCommands}
-use Rattle.std.specs.Prelude.{Contains}
+use Rattle.fb_laws.proofs.Common.{ℕ, ◌≡◌, Bool, true, false, cond, List, [], ◌∷◌, ◌++◌, Option, Some, inl, refl, sym, ◌∙◌, ap, subst, map, find, option_map_or, flat_map, bytes_eq, Contains-append_left, Contains-append_right, NameUse, contains_flat_map, contains_here, contains_map, contains_nothing, origin_in_map, passes_in_find, named_among, same_exact, those_reported, DeclTree, DeviceTree, MappingTree, ResourceTree, SystemTree, system_configuration, itself, Sources, tree_at, has_name, is_same, stands_for, NoSuchResource, Fault, faults_of, declared_mapping_faults, has_resource, home_faults, home_span, mapping_faults_of, resource_faults, resources_in, second_mappings, dotted, PlainFlat, Link, HasFlat, nearest, mapping_home, mapping_path, applications_in, devices_in, mappings_in, system_commands, PlainResource, device_resources, resource_plan, resources_of, IsPlanned, HomesHaveCommands, Contains, by_bool}
+use Rattle.fb_laws.proofs.Joined.{by_option}
 use Rattle.fb_laws.proofs.HomeLemmas.{of_nearest}
 use Rattle.fb_laws.proofs.PlannedLemmas.{homes_in, known, mapped, names_in}
 
@@ -32,15 +32,12 @@ device_has (d ∷ ds) device resource e = by (is_same d.name.name device) refl e
 
 module _ (sources : Sources) (system : List ℕ) (flat : PlainFlat) (is : HasFlat sources system flat) where
   in_system : (s : SystemTree) (m : MappingTree) → tree_at sources system ≡ Some (system_configuration s) → Contains s.mappings m → Contains (resources_of s.devices) (mapping_home m)
-  in_system s m e c = by (has_resource s.devices m.device.name m.resource.name) refl
-    where
-      by : (t : Bool) → has_resource s.devices m.device.name m.resource.name ≡ t → Contains (resources_of s.devices) (mapping_home m)
-      by true g = device_has s.devices m.device.name m.resource.name g
-      by false g =
-          let fault : Fault = record { code = NoSuchResource; span = home_span m } in
-          let here : Contains (resource_faults s.devices m) fault = subst (λ (t : Bool). Contains (home_faults t m) fault) (sym g) (contains_here fault []) in
-          let among = Contains-append_right (second_mappings s.mappings) (flat_map (resource_faults s.devices) s.mappings) fault (contains_flat_map (resource_faults s.devices) s.mappings m fault c here) in
-          absurd (no_mapping_fault sources system flat is fault (subst (λ (t : Option DeclTree). Contains (declared_mapping_faults t) fault) (sym e) among))
+  in_system s m e c =
+      by_bool (has_resource s.devices m.device.name m.resource.name) (device_has s.devices m.device.name m.resource.name) (λ g.
+      let fault : Fault = record { code = NoSuchResource; span = home_span m } in
+      let here : Contains (resource_faults s.devices m) fault = subst (λ (t : Bool). Contains (home_faults t m) fault) (sym g) (contains_here fault []) in
+      let among = Contains-append_right (second_mappings s.mappings) (flat_map (resource_faults s.devices) s.mappings) fault (contains_flat_map (resource_faults s.devices) s.mappings m fault c here) in
+      absurd (no_mapping_fault sources system flat is fault (subst (λ (t : Option DeclTree). Contains (declared_mapping_faults t) fault) (sym e) among)))
 
   in_tree : (t : Option DeclTree) → tree_at sources system ≡ t → (m : MappingTree) → Contains (mappings_in t) m → Contains (resources_of (devices_in t)) (mapping_home m)
   in_tree (Some (system_configuration s)) e m c = in_system s m e c
@@ -48,20 +45,14 @@ module _ (sources : Sources) (system : List ℕ) (flat : PlainFlat) (is : HasFla
 
   -- what is mapped to is a resource of the system
   mapped_there : (prefix r : List ℕ) → mapped sources system prefix ≡ Some r → Contains (names_in sources system) r
-  mapped_there prefix r e = by (find (λ (m : MappingTree). bytes_eq (mapping_path m) prefix) (mappings_in (tree_at sources system))) refl e
-    where
-      by : (o : Option MappingTree) → find (λ (m : MappingTree). bytes_eq (mapping_path m) prefix) (mappings_in (tree_at sources system)) ≡ o → option_map mapping_home o ≡ Some r → Contains (names_in sources system) r
-      by None f g = absurd (let no : ⊥ = cc in no)
-      by (Some m) f g =
-          let found = passes_in_find (λ (m : MappingTree). bytes_eq (mapping_path m) prefix) (mappings_in (tree_at sources system)) m f in
-          let home : mapping_home m ≡ r = cc in
-          subst (λ (t : List ℕ). Contains (names_in sources system) t) home (in_tree (tree_at sources system) refl m found.among)
-
-  home_listed_there : (path r : List ℕ) → IsNearest (mapped sources system) path (Some r) → Contains (names_in sources system) r
-  home_listed_there path r (prefix, before, has, longer) = mapped_there prefix r has
+  mapped_there prefix r e =
+      by_option (find (λ (m : MappingTree). bytes_eq (mapping_path m) prefix) (mappings_in (tree_at sources system))) (λ none. absurd (let no : ⊥ = cc in no)) (λ m f.
+      let found = passes_in_find (λ (m : MappingTree). bytes_eq (mapping_path m) prefix) (mappings_in (tree_at sources system)) m f in
+      let home : mapping_home m ≡ r = cc in
+      subst (λ (t : List ℕ). Contains (names_in sources system) t) home (in_tree (tree_at sources system) refl m found.among))
 
   pub home_named : (path r : List ℕ) → nearest (mapped sources system) path ≡ Some r → Contains (names_in sources system) r
-  home_named path r e = home_listed_there path r (of_nearest (mapped sources system) path r e)
+  home_named path r e = let n = of_nearest (mapped sources system) path r e in mapped_there n.0 r n.2
 
 -- a resource of the system has an entry in the plan
 pub entry_named : (sources : Sources) (system : List ℕ) (flat : PlainFlat) (cuts : List Link) (resources : List PlainResource) → IsPlanned sources system flat cuts resources → (r : List ℕ) → Contains (names_in sources system) r → (entry : PlainResource) × Contains resources entry × (entry.name ≡ r)

@@ -1,5 +1,5 @@
 -- What an expression demands, by what occurs in it.
-use Rattle.fb_laws.proofs.Common.{◌≡◌, List, [], ◌∷◌, ◌++◌, ◌⊎◌, inl, inr, refl, sym, subst, append-nil, append_assoc, Contains, Contains-append_cases, Contains-append_left, Contains-append_right, ReferenceTree, Expression, literal_expression, reference_expression, unary_expression, row_expression, parentheses, Expressions, no_expressions, expression_then, Operands, no_operands, operand_then, BinaryUse, UnaryUse, Member, Class as ValueClass, contains_cases, contains_here, contains_later, contains_nothing, contains_single, pair_class, Demand, names_variable, names_field, suits_operand, suits_operands, suits_place, field_demands, reference_demands, demands_in, row_demands, subscript_demands, class_in, Names, Count, IsOneOf, first_one, later_one, IsOperandOf, first_operand, later_operand, OccursIn, in_subscript, behind_operator, in_first, in_operand}
+use Rattle.fb_laws.proofs.Common.{◌≡◌, List, [], ◌∷◌, ◌++◌, ◌⊎◌, inl, inr, refl, sym, subst, append-nil, append_assoc, Contains, Contains-append_cases, Contains-append_left, Contains-append_right, ReferenceTree, Expression, literal_expression, reference_expression, unary_expression, row_expression, parentheses, Expressions, no_expressions, expression_then, Operands, no_operands, operand_then, BinaryUse, UnaryUse, Member, Class as ValueClass, contains_cases, contains_here, contains_later, contains_nothing, contains_single, pair_class, Demand, names_variable, names_field, suits_operand, suits_operands, suits_place, field_demands, reference_demands, demands_in, row_demands, subscript_demands, class_in, Names, Count, IsOneOf, first_one, later_one, IsOperandOf, first_operand, later_operand, OccursIn, in_subscript, behind_operator, in_first, in_operand, demands_at}
 use Rattle.fb_laws.specs.Occurrences.{itself, in_parentheses}
 
 -- an operator of a row, the class of what stands before it, and the operand behind it
@@ -120,20 +120,14 @@ module _ (names : Names) where
 
   -- and the other way: what occurs in an expression is demanded by it
 
-  of_one : (x : Expression) (subscripts : Expressions) (demand : Demand) → IsOneOf x subscripts → Contains (demands_in names x) demand → Contains (subscript_demands names subscripts) demand
+  of_one : (x : Expression) (subscripts : Expressions) (demand : Demand) → IsOneOf x subscripts → Contains (demands_at Count names x) demand → Contains (subscript_demands names subscripts) demand
   of_one x no_expressions demand none c = elim none [ ]
-  of_one x (expression_then y others) demand first_one c = Contains-append_left (demands_in names x) (suits_place Count x ∷ subscript_demands names others) demand c
+  of_one x (expression_then y others) demand first_one c =
+      subst (λ (l : List Demand). Contains l demand) (append_assoc (demands_in names x) (suits_place Count x ∷ []) (subscript_demands names others))
+      (Contains-append_left (demands_at Count names x) (subscript_demands names others) demand c)
   of_one x (expression_then y others) demand (later_one one) c =
       Contains-append_right (demands_in names y) (suits_place Count y ∷ subscript_demands names others) demand
       (contains_later (suits_place Count y) (subscript_demands names others) demand (of_one x others demand one c))
-
-  one_placed : (x : Expression) (subscripts : Expressions) → IsOneOf x subscripts → Contains (subscript_demands names subscripts) (suits_place Count x)
-  one_placed x no_expressions none = elim none [ ]
-  one_placed x (expression_then y others) first_one =
-      Contains-append_right (demands_in names x) (suits_place Count x ∷ subscript_demands names others) (suits_place Count x) (contains_here (suits_place Count x) (subscript_demands names others))
-  one_placed x (expression_then y others) (later_one one) =
-      Contains-append_right (demands_in names y) (suits_place Count y ∷ subscript_demands names others) (suits_place Count x)
-      (contains_later (suits_place Count y) (subscript_demands names others) (suits_place Count x) (one_placed x others one))
 
   of_behind : (x : Expression) (left : ValueClass) (operands : Operands) (demand : Demand) → IsOperandOf x operands → Contains (demands_in names x) demand → Contains (row_demands names left operands) demand
   of_behind x left no_operands demand none c = elim none [ ]
@@ -157,7 +151,7 @@ module _ (names : Names) where
   demanded_inside : (x e : Expression) (demand : Demand) → OccursIn x e → Contains (demands_in names x) demand → Contains (demands_in names e) demand
   demanded_inside x e demand itself c = c
   demanded_inside x (reference_expression r subscripts) demand (in_subscript y one o) c =
-      Contains-append_right (reference_demands r) (subscript_demands names subscripts) demand (of_one y subscripts demand one (demanded_inside x y demand o c))
+      Contains-append_right (reference_demands r) (subscript_demands names subscripts) demand (of_one y subscripts demand one (Contains-append_left (demands_in names y) (suits_place Count y ∷ []) demand (demanded_inside x y demand o c)))
   demanded_inside x (unary_expression used y) demand (behind_operator o) c = Contains-append_left (demands_in names y) (suits_operand used y ∷ []) demand (demanded_inside x y demand o c)
   demanded_inside x (row_expression first operands) demand (in_first o) c =
       Contains-append_left (demands_in names first) (row_demands names (class_in names first) operands) demand (demanded_inside x first demand o c)
@@ -179,4 +173,4 @@ module _ (names : Names) where
       (Contains-append_right (demands_in names first) (row_demands names (class_in names first) operands) (suits_operands used before x) (pair_placed used before x (class_in names first) operands pair))
   demanded_in e demand (of_subscript r subscripts x o one) =
       demanded_inside (reference_expression r subscripts) e (suits_place Count x) o
-      (Contains-append_right (reference_demands r) (subscript_demands names subscripts) (suits_place Count x) (one_placed x subscripts one))
+      (Contains-append_right (reference_demands r) (subscript_demands names subscripts) (suits_place Count x) (of_one x subscripts (suits_place Count x) one (Contains-append_right (demands_in names x) (suits_place Count x ∷ []) (suits_place Count x) (contains_here (suits_place Count x) []))))

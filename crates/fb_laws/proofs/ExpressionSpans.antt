@@ -1,28 +1,21 @@
 -- The parts of expressions, at each level.
-use Rattle.fb_laws.proofs.Common.{◌≡◌, ℕ, ◌≤◌, arith, zero, suc, true, inl, inr, List, [], ◌∷◌, ◌++◌, map, Option, Some, None, refl, sym, ap, ◌∙◌, subst, append_assoc, flat_map, NameUse, Span, Form, both, either, many, as_value, Spells, SpellsOption, SpellsEach, across, literal_kinds, key, name, is_among, Kind, Point, Lexeme, ReferenceTree, Expression, reference_expression, unary_expression, Expressions, expressions_of, operands_of, BinaryUse, UnaryUse, signs, strengths, unary_use, binary_use, levels, expression, expressions, subscripts, PartTree, part_of, flat_part, deep_part, further_part, parts, member_in, last_end, subscripts_in, reference_in, flat_reference, deep_reference, reference_value, literal, in_parentheses, parenthesized, flat_primary, deep_primary, with_sign, unary, row_of, operand, row, rows, reference, Part, name_part, expression_part, sign_part, operator_part, name_parts, option_parts, reference_parts, expression_parts, expressions_parts, operands_parts, expression_span, span_through, SpellsPart, EndsAt, IsWritten, sign, operator}
-use Rattle.std.proofs.lemmas.List.{append-nil}
+use Rattle.fb_laws.proofs.Common.{◌≡◌, ℕ, ◌≤◌, arith, zero, suc, true, inl, inr, List, [], ◌∷◌, ◌++◌, map, Option, Some, None, refl, sym, ap, ◌∙◌, subst, append_assoc, flat_map, NameUse, Span, Form, both, either, many, as_value, Spells, SpellsOption, SpellsEach, across, literal_kinds, key, name, is_among, Kind, Point, Lexeme, ReferenceTree, Expression, reference_expression, unary_expression, Expressions, expressions_of, operands_of, BinaryUse, UnaryUse, signs, strengths, unary_use, binary_use, levels, expression, expressions, subscripts, PartTree, part_of, flat_part, deep_part, further_part, parts, member_in, last_end, subscripts_in, reference_in, flat_reference, deep_reference, reference_value, literal, in_parentheses, parenthesized, flat_primary, deep_primary, with_sign, unary, row_of, operand, row, rows, reference, Part, name_part, expression_part, sign_part, operator_part, name_parts, option_parts, reference_parts, expression_parts, expressions_parts, operands_parts, expression_span, span_through, SpellsPart, EndsAt, IsWritten, sign, operator, append-nil, among_left, among_right}
 use Rattle.fb_laws.proofs.Tokens.{Fills, begins_more, ends_more, written_whole, Each, each_append, each_prefix, each_rest, each_left, each_right}
 use Rattle.fb_laws.proofs.Filling.{Filled, filled_as, filled_either, filled_token, filled_name, Ends, ends_filled, ends_second, ends_behind, filled_across, filled_more, filled_from}
-use Rattle.fb_laws.proofs.Sound.{Sound, sound_nothing, sound_both, sound_first, sound_second, sound_as, sound_either, sound_option, sound_many, sound_behind, sound_separated, sound_own, sound_same, sound_name, each_items, among_more, among_right}
+use Rattle.fb_laws.proofs.Sound.{Sound, sound_nothing, sound_both, sound_first, sound_second, sound_as, sound_either, sound_option, sound_many, sound_behind, sound_separated, sound_own, sound_same, sound_name, each_items}
 
 -- Lists
 
-each_expressions : (P : Part → Type 0) (es : List Expression) → Each P (flat_map expression_parts es) → Each P (expressions_parts (expressions_of es))
-each_expressions P [] h = tt
-each_expressions P (e ∷ es) h =
-    let first = expression_parts e in
-    let others = flat_map expression_parts es in
-    each_append P first (expressions_parts (expressions_of es)) (each_prefix P first others h) (each_expressions P es (each_rest P first others h))
+flat_expressions : (es : List Expression) → flat_map expression_parts es ≡ expressions_parts (expressions_of es)
+flat_expressions [] = refl
+flat_expressions (e ∷ es) = ap (λ (l : List Part). expression_parts e ++ l) (flat_expressions es)
 
 abbrev operand_parts : BinaryUse × Expression → List Part
 operand_parts o = operator_part o.0 ∷ expression_parts o.1
 
-each_operands : (P : Part → Type 0) (os : List (BinaryUse × Expression)) → Each P (flat_map operand_parts os) → Each P (operands_parts (operands_of os))
-each_operands P [] h = tt
-each_operands P (o ∷ os) h =
-    let first = operand_parts o in
-    let others = flat_map operand_parts os in
-    each_append P first (operands_parts (operands_of os)) (each_prefix P first others h) (each_operands P os (each_rest P first others h))
+flat_operands : (os : List (BinaryUse × Expression)) → flat_map operand_parts os ≡ operands_parts (operands_of os)
+flat_operands [] = refl
+flat_operands (o ∷ os) = ap (λ (l : List Part). operator_part o.0 ∷ (expression_parts o.1 ++ l)) (flat_operands os)
 
 -- References
 
@@ -120,7 +113,7 @@ each_reference P p ps h =
     let all = p.subscripts ++ subscripts_in ps in (
       first.0,
       each_append P (map (λ m. name_part m.name) (map member_in ps)) (expressions_parts (expressions_of all)) (each_member P ps others)
-          (each_expressions P all (each_items P expression_parts p.subscripts (subscripts_in ps) first.1 (each_subscript P ps others))),
+          (subst (Each P) (flat_expressions all) (each_items P expression_parts p.subscripts (subscripts_in ps) first.1 (each_subscript P ps others))),
     )
 
 sound_parts_of : (part : Form PartTree) → Sound part named_parts → Sound (parts part) (λ v. subscripted_parts (reference_in v))
@@ -285,7 +278,7 @@ module _ (kinds : List Kind) (x : Form Expression) (are : AreOperators kinds) (s
       let operands = flat_map operand_parts (o ∷ os) in (
         written_whole us (expression_part (row_of e (o ∷ os))) ((filled_row kinds x suits.filled).fills us (row_of e (o ∷ os)) whole) (is.spells us (row_of e (o ∷ os)) whole),
         each_append (IsWritten us) (expression_parts e) (operands_parts (operands_of (o ∷ os))) (each_prefix (IsWritten us) (expression_parts e) operands h)
-            (each_operands (IsWritten us) (o ∷ os) (each_rest (IsWritten us) (expression_parts e) operands h)),
+            (subst (Each (IsWritten us)) (flat_operands (o ∷ os)) (each_rest (IsWritten us) (expression_parts e) operands h)),
       )
 
   sound_row_parts : Sound (both x (many (operand kinds x))) (λ v. expression_parts v.0 ++ flat_map operand_parts v.1)
@@ -304,7 +297,7 @@ suits_rows : (all : List (List Kind)) (x : Form Expression) → AreOperators (fl
 unfolding rows
 suits_rows [] x are h = h
 suits_rows (kinds ∷ stronger) x are h =
-    suits_row kinds (rows stronger x) (λ k m. are k (among_more kinds (flat_map (λ ks. ks) stronger) k m))
+    suits_row kinds (rows stronger x) (λ k m. are k (among_left kinds (flat_map (λ ks. ks) stronger) k m))
     (suits_rows stronger x (λ k m. are k (among_right kinds (flat_map (λ ks. ks) stronger) k m)) h)
 
 -- Levels

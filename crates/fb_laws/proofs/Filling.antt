@@ -1,6 +1,5 @@
 -- Values that keep where the tokens stand that spell them.
-use Rattle.fb_laws.proofs.Common.{◌≡◌, inl, inr, List, ◌++◌, Option, Some, None, refl, sym, subst, ◌∙◌, Span, Form, one, both, either, option, as_value, Spells, SpellsOption, across, behind, name, Kind, Lexeme, BeginsAt, EndsAt}
-use Rattle.std.proofs.lemmas.List.{append-nil}
+use Rattle.fb_laws.proofs.Common.{◌≡◌, inl, inr, List, ◌++◌, Option, Some, None, refl, sym, subst, ◌∙◌, Span, Form, one, both, either, option, as_value, Spells, SpellsOption, across, behind, name, Kind, Lexeme, BeginsAt, EndsAt, append-nil}
 use Rattle.fb_laws.proofs.Tokens.{Fills, begins_more, ends_more}
 
 -- the tokens that spell a value begin and end where it stands

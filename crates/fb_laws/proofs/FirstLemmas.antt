@@ -1,9 +1,54 @@
 -- The first declarations of their names, by places.
-use Rattle.fb_laws.proofs.Common.{◌≡◌, ◌≢◌, zero, suc, ℕ, ◌+◌, ◌<◌, Bool, true, false, cond, List, [], ◌∷◌, length, map, take, Option, Some, None, refl, sym, ap, ◌∙◌, subst, true≢false, inl, inr, arith, filter, enumerate_from, slice_get, cases_order, take_all, slice_get_read, first_ones, is_same, stands_for, same_exact, same_itself, at_place, contains_filter, contains_map}
-use Rattle.std.proofs.Common.{is_none}
-use Rattle.std.specs.Prelude.{Contains}
+use Rattle.fb_laws.proofs.Common.{◌≡◌, ◌≢◌, zero, suc, ℕ, ◌+◌, ◌<◌, Bool, true, false, cond, List, [], ◌∷◌, length, map, take, Option, Some, None, refl, sym, ap, ◌∙◌, subst, true≢false, inl, inr, arith, filter, enumerate_from, slice_get, cases_order, take_all, slice_get_read, first_ones, is_same, stands_for, same_exact, same_itself, at_place, contains_filter, contains_map, is_none, Contains}
 use Rattle.std.proofs.lemmas.Map.Entries.{place_from_lookup}
-use Rattle.fb_laws.proofs.PickLemmas.{IsPicked, picked, picked_in_turn}
+
+-- what stands at the places of a list of those items that pass
+
+-- an item that passes and gives the member
+pub record IsPicked {X Y : Type 0} (f : X → Y) (passes : X → Bool) (xs : List X) (y : Y) : Type 0 where
+  pub place : ℕ
+  pub item : X
+  pub there : slice_get xs place ≡ Some item
+  pub passed : passes item ≡ true
+  pub gives : f item ≡ y
+
+-- two of them, the first before the other
+pub record ArePicked {X Y : Type 0} (f : X → Y) (passes : X → Bool) (xs : List X) (a b : Y) : Type 0 where
+  pub one : IsPicked f passes xs a
+  pub other : IsPicked f passes xs b
+  pub earlier : one.place < other.place
+
+abbrev later : {X Y : Type 0} (f : X → Y) (passes : X → Bool) (x : X) (xs : List X) (y : Y) → IsPicked f passes xs y → IsPicked f passes (x ∷ xs) y
+later f passes x xs y o = record { place = suc o.place; item = o.item; there = o.there; passed = o.passed; gives = o.gives }
+
+pub picked : {X Y : Type 0} (f : X → Y) (passes : X → Bool) (xs : List X) (i : ℕ) (y : Y) → slice_get (map f (filter passes xs)) i ≡ Some y → IsPicked f passes xs y
+picked f passes [] i y e = absurd (let no : ⊥ = cc in no)
+picked {X = X} f passes (x ∷ xs) i y e = by (passes x) refl i e (λ k h. picked f passes xs k y h)
+  where
+    by : (b : Bool) → passes x ≡ b → (k : ℕ) → slice_get (map f (cond b (x ∷ filter passes xs) (filter passes xs))) k ≡ Some y → ((n : ℕ) → slice_get (map f (filter passes xs)) n ≡ Some y → IsPicked f passes xs y) → IsPicked f passes (x ∷ xs) y
+    by true g zero h more = record { place = 0; item = x; there = refl; passed = g; gives = (let same : f x ≡ y = cc in same) }
+    by true g (suc k) h more = later f passes x xs y (more k h)
+    by false g k h more = later f passes x xs y (more k h)
+
+pub picked_in_turn : {X Y : Type 0} (f : X → Y) (passes : X → Bool) (xs : List X) (i j : ℕ) (a b : Y) → i < j → slice_get (map f (filter passes xs)) i ≡ Some a → slice_get (map f (filter passes xs)) j ≡ Some b → ArePicked f passes xs a b
+picked_in_turn f passes [] i j a b before first again = absurd (let no : ⊥ = cc in no)
+picked_in_turn {X = X} f passes (x ∷ xs) i j a b before first again = by (passes x) refl i j before first again (λ k n h one other. picked_in_turn f passes xs k n a b h one other)
+  where
+    both : ArePicked f passes xs a b → ArePicked f passes (x ∷ xs) a b
+    both o = let h : o.one.place < o.other.place = o.earlier in record { one = later f passes x xs a o.one; other = later f passes x xs b o.other; earlier = omega (arith, h) }
+
+    by : (c : Bool) → passes x ≡ c → (k n : ℕ) → k < n → slice_get (map f (cond c (x ∷ filter passes xs) (filter passes xs))) k ≡ Some a → slice_get (map f (cond c (x ∷ filter passes xs) (filter passes xs))) n ≡ Some b → ((k n : ℕ) → k < n → slice_get (map f (filter passes xs)) k ≡ Some a → slice_get (map f (filter passes xs)) n ≡ Some b → ArePicked f passes xs a b) → ArePicked f passes (x ∷ xs) a b
+    by true g zero zero h one other more = absurd (omega arith)
+    by true g zero (suc n) h one other more = record {
+      one = record { place = 0; item = x; there = refl; passed = g; gives = (let same : f x ≡ a = cc in same) };
+      other = later f passes x xs b (picked f passes xs n b other);
+      earlier = omega arith;
+    }
+    by true g (suc k) zero h one other more = absurd (omega arith)
+    by true g (suc k) (suc n) h one other more = both (more k n (omega arith) one other)
+    by false g k n h one other more = both (more k n h one other)
+
+-- first declarations
 
 pub at_contained : {X : Type 0} (xs : List X) (x : X) (c : Contains xs x) → slice_get xs c.0 ≡ Some x
 at_contained xs x c = slice_get_read xs (length xs) c.0 x refl c.1 (sym c.2)
@@ -24,11 +69,10 @@ module _ {D : Type 0} where
       by false s h (suc k) less at more = more h k y (omega arith) at
 
   pub before_none : (xs : List (List ℕ × D)) (place : ℕ) (name : List ℕ) → NoneBefore xs place name → stands_for (take place xs) name ≡ None
-  before_none [] zero name h = refl
-  before_none [] (suc place) name h = refl
-  before_none (x ∷ xs) zero name h = refl
   before_none (x ∷ xs) (suc place) name h =
       (elim (is_same x.0 name) as (λ b. is_same x.0 name ≡ b → stands_for (take place xs) name ≡ None → cond b (Some x.1) (stands_for (take place xs) name) ≡ None) [ true ↦ λ s e. absurd (h 0 x (omega arith) refl (same_exact x.0 name s)) | false ↦ λ s e. e ]) refl (before_none xs place name (λ k y lt there. h (suc k) y (omega arith) there))
+  before_none [] (suc place) name h = refl
+  before_none xs zero name h = refl
 
   placed : (n : ℕ) (xs : List (List ℕ × D)) (k : ℕ) (p : ℕ × (List ℕ × D)) → slice_get (enumerate_from n xs) k ≡ Some p → (p.0 ≡ n + k) × (slice_get xs k ≡ Some p.1)
   placed n [] k p e = absurd (let no : ⊥ = cc in no)

@@ -1,6 +1,6 @@
 -- The homes of blocks, and of the ends of links.
-use Rattle.fb_laws.proofs.Common.{ℕ, ◌≡◌, ◌<◌, Bool, true, false, cond, List, [], ◌∷◌, Option, Some, None, ◌⊎◌, inl, inr, refl, sym, ◌∙◌, ap, subst, take, length, arith, option_map, find, cons_option, bytes_eq, take-append_seam, take_all, dec_lt, contains_cases, contains_here, contains_later, contains_nothing, is_nearest, FlatBlock, home_at, first_at, IsPrefix, IsNearest, nearest, block_homes, Home, IsBlockAt}
-use Rattle.std.specs.Prelude.{Contains}
+use Rattle.fb_laws.proofs.Common.{ℕ, ◌≡◌, ◌<◌, Bool, true, false, cond, List, [], ◌∷◌, Option, Some, None, ◌⊎◌, inl, inr, refl, sym, ◌∙◌, ap, subst, take, length, arith, option_map, find, cons_option, bytes_eq, take-append_seam, take_all, dec_lt, contains_cases, contains_nothing, is_nearest, FlatBlock, home_at, first_at, IsPrefix, IsNearest, nearest, block_homes, Home, IsBlockAt, Contains, block_home, passes_in_find}
+use Rattle.fb_laws.proofs.Joined.{by_option, given}
 use Rattle.std.proofs.lemmas.Slice.Eq.{bytes_eq-Decides}
 
 -- ---- what is nearest is one only
@@ -10,6 +10,19 @@ same_bytes a b e = (bytes_eq-Decides a b).0 e
 
 pub bytes_same : (a b : List ℕ) → a ≡ b → bytes_eq a b ≡ true
 bytes_same a b e = (bytes_eq-Decides a b).1 e
+
+-- the item that is found under a text
+pub record IsFound {X Y : Type 0} (key : X → List ℕ) (value : X → Y) (xs : List X) (name : List ℕ) (y : Y) : Type 0 where
+  pub item : X
+  pub among : Contains xs item
+  pub named : key item ≡ name
+  pub gives : value item ≡ y
+
+pub found_in : {X Y : Type 0} (key : X → List ℕ) (value : X → Y) (xs : List X) (name : List ℕ) (y : Y) → first_at key value xs name ≡ Some y → IsFound key value xs name y
+found_in {X = X} key value xs name y e =
+    by_option (find (λ (x : X). bytes_eq (key x) name) xs) (λ none. absurd (let no : ⊥ = cc in no)) (λ x found.
+    let p = passes_in_find (λ (z : X). bytes_eq (key z) name) xs x found in
+    record { item = x; among = p.among; named = same_bytes (key x) name p.passes; gives = cc })
 
 prefix_begins : (prefix path : List ℕ) → IsPrefix prefix path → take (length prefix) path ≡ prefix
 prefix_begins prefix path (inl e) = ap (take (length prefix)) e ∙ take_all (length prefix) prefix (omega arith)
@@ -62,22 +75,22 @@ module _ (resources : List ℕ → Option (List ℕ)) where
     pub placed : block.path ≡ path
     pub home : nearest resources path ≡ Some r
 
-  pub homed : (blocks : List FlatBlock) (path r : List ℕ) → home_at (block_homes resources blocks) path ≡ Some r → IsHomed blocks path r
-  homed [] path r e = absurd (cc)
-  homed (z ∷ zs) path r e = by_home (nearest resources z.path) refl e (homed zs path r)
+  -- the block of a home
+  pub of_home : (blocks : List FlatBlock) (home : Home) → Contains (block_homes resources blocks) home → IsHomed blocks home.path home.resource
+  of_home blocks home c = let o = given (block_home resources) blocks home c in by o.origin o.among (nearest resources o.origin.path) refl o.gives
     where
-      later : IsHomed zs path r → IsHomed (z ∷ zs) path r
-      later o = record { block = o.block; listed = contains_later z zs o.block o.listed; placed = o.placed; home = o.home }
+      by : (b : FlatBlock) → Contains blocks b → (o : Option (List ℕ)) → nearest resources b.path ≡ o → option_map (λ (q : List ℕ). (let h : Home = record { path = b.path; resource = q } in h)) o ≡ Some home → IsHomed blocks home.path home.resource
+      by b among None e g = absurd (let no : ⊥ = cc in no)
+      by b among (Some q) e g =
+          let same : (let h : Home = record { path = b.path; resource = q } in h) ≡ home = cc in
+          let placed : b.path ≡ home.path = ap (λ (h : Home). h.path) same in
+          record { block = b; listed = among; placed = placed; home = ap (nearest resources) (sym placed) ∙ e ∙ ap (λ (h : Home). Some h.resource) same }
 
-      by_test : (q : List ℕ) → nearest resources z.path ≡ Some q → (t : Bool) → bytes_eq z.path path ≡ t → option_map (λ (h : Home). h.resource) (cond t (Some (record { path = z.path; resource = q })) (find (λ (h : Home). bytes_eq h.path path) (block_homes resources zs))) ≡ Some r → (home_at (block_homes resources zs) path ≡ Some r → IsHomed zs path r) → IsHomed (z ∷ zs) path r
-      by_test q home true same g more =
-          let there = same_bytes z.path path same in
-          record { block = z; listed = contains_here z zs; placed = there; home = ap (nearest resources) (sym there) ∙ home ∙ g }
-      by_test q home false differs g more = later (more g)
-
-      by_home : (o : Option (List ℕ)) → nearest resources z.path ≡ o → first_at (λ (h : Home). h.path) (λ (h : Home). h.resource) (cons_option (option_map (λ (q : List ℕ). (let h : Home = record { path = z.path; resource = q } in h)) o) (block_homes resources zs)) path ≡ Some r → (home_at (block_homes resources zs) path ≡ Some r → IsHomed zs path r) → IsHomed (z ∷ zs) path r
-      by_home None none g more = later (more g)
-      by_home (Some q) home g more = by_test q home (bytes_eq z.path path) refl g more
+  pub homed : (blocks : List FlatBlock) (path r : List ℕ) → home_at (block_homes resources blocks) path ≡ Some r → IsHomed blocks path r
+  homed blocks path r e =
+      let f = found_in (λ (h : Home). h.path) (λ (h : Home). h.resource) (block_homes resources blocks) path r e in
+      let o = of_home blocks f.item f.among in
+      subst (λ (q : List ℕ). IsHomed blocks path q) f.gives (subst (λ (p : List ℕ). IsHomed blocks p f.item.resource) f.named o)
 
   -- ---- homes of ends
 
@@ -97,7 +110,7 @@ module _ (resources : List ℕ → Option (List ℕ)) where
     nothing_at b c none = let h = all b c in let there = home_listed blocks b h.on_resource c h.home in cc
 
     pub end_home : (end r : List ℕ) → nearest (home_at (block_homes resources blocks)) end ≡ Some r → EndHome blocks end r
-    end_home end r e = by_prefix (of_nearest (home_at (block_homes resources blocks)) end r e)
+    end_home end r e = let n = of_nearest (home_at (block_homes resources blocks)) end r e in made n.0 n.1 n.3 (homed blocks n.0 r n.2)
       where
         made : (prefix : List ℕ) → IsPrefix prefix end → ((other : List ℕ) → IsPrefix other end → length prefix < length other → home_at (block_homes resources blocks) other ≡ None) → IsHomed blocks prefix r → EndHome blocks end r
         made prefix is longer o = record {
@@ -113,26 +126,21 @@ module _ (resources : List ℕ → Option (List ℕ)) where
           home = subst (λ (p : List ℕ). IsNearest resources p (Some r)) (sym o.placed) (of_nearest resources prefix r o.home);
         }
 
-        by_prefix : IsNearest (home_at (block_homes resources blocks)) end (Some r) → EndHome blocks end r
-        by_prefix (prefix, is, has, longer) = made prefix is longer (homed blocks prefix r has)
-
     pub home_end : (end r : List ℕ) → EndHome blocks end r → nearest (home_at (block_homes resources blocks)) end ≡ Some r
     home_end end r o =
-        nearest_of (home_at (block_homes resources blocks)) end r
-        (o.block.path, o.is_at.prefix, home_listed blocks o.block r o.is_at.listed (nearest_of resources o.block.path r o.home), λ other prefix longer. by_other other prefix longer (home_at (block_homes resources blocks) other) refl)
-      where
-        by_other : (other : List ℕ) → IsPrefix other end → length o.block.path < length other → (h : Option (List ℕ)) → home_at (block_homes resources blocks) other ≡ h → home_at (block_homes resources blocks) other ≡ None
-        by_other other prefix longer None e = e
-        by_other other prefix longer (Some q) e =
-            let w = homed blocks other q e in
-            let short = o.is_at.longest w.block w.listed (subst (λ (p : List ℕ). IsPrefix p end) (sym w.placed) prefix) in
-            let same = ap length w.placed in
-            absurd (omega (arith, short, same, longer))
+        nearest_of (home_at (block_homes resources blocks)) end r (
+          o.block.path,
+          o.is_at.prefix,
+          home_listed blocks o.block r o.is_at.listed (nearest_of resources o.block.path r o.home),
+          λ other prefix longer. by_option (home_at (block_homes resources blocks) other) (λ none. none) (λ q e.
+              let w = homed blocks other q e in
+              let short = o.is_at.longest w.block w.listed (subst (λ (p : List ℕ). IsPrefix p end) (sym w.placed) prefix) in
+              let same = ap length w.placed in
+              absurd (omega (arith, short, same, longer))),
+        )
 
     -- some block stands in front of the end
     pub some_home : (end : List ℕ) (b : FlatBlock) → Contains blocks b → IsPrefix b.path end → (r : List ℕ) × (nearest (home_at (block_homes resources blocks)) end ≡ Some r)
-    some_home end b c prefix = by (nearest (home_at (block_homes resources blocks)) end) refl (is_nearest (home_at (block_homes resources blocks)) end)
-      where
-        by : (o : Option (List ℕ)) → nearest (home_at (block_homes resources blocks)) end ≡ o → IsNearest (home_at (block_homes resources blocks)) end (nearest (home_at (block_homes resources blocks)) end) → (r : List ℕ) × (nearest (home_at (block_homes resources blocks)) end ≡ Some r)
-        by None e is = absurd (nothing_at b c ((subst (λ (o : Option (List ℕ)). IsNearest (home_at (block_homes resources blocks)) end o) e is) b.path prefix))
-        by (Some r) e is = (r, e)
+    some_home end b c prefix =
+        let at = home_at (block_homes resources blocks) in
+        by_option (nearest at end) (λ none. absurd (nothing_at b c (subst (λ (o : Option (List ℕ)). IsNearest at end o) none (is_nearest at end) b.path prefix))) (λ r e. (r, e))

@@ -1,23 +1,26 @@
 -- The events of a type, and its plugs, sockets and instances in other roles.
-use Rattle.fb_laws.proofs.Common.{◌≡◌, ◌↔◌, ℕ, ◌<◌, Bool, true, List, Option, Some, map, refl, sym, ap, ◌∙◌, true≢false, NameUse, EventTree, InstanceTree, InterfaceTree, NetworkTree, Side, Role, Plug, Socket, Block, Subapplication, DeclaredEvent, DeclaredInstance, first_ones, stands_for, events_in, instances_in, same_role, same_side, got_in_map, map_gets, IsEventOn, IsFirstEvent, IsFirstInstance, IsFirstItem, IsInstanceAs, IsItemOf, of_adapter, of_block, of_subapplication, AdaptersAreDeclared, AreExactly, ComeAsDeclared, EventsAreDeclared, HaveOwnNames}
+use Rattle.fb_laws.proofs.Common.{◌≡◌, ◌↔◌, ℕ, ◌<◌, Bool, true, List, Option, Some, map, refl, sym, ap, ◌∙◌, true≢false, NameUse, EventTree, InstanceTree, InterfaceTree, NetworkTree, Side, Role, Plug, Socket, Block, Subapplication, DeclaredEvent, DeclaredInstance, first_ones, stands_for, events_in, instances_in, same_role, same_side, got_in_map, map_gets, IsEventOn, IsFirstEvent, IsFirstInstance, IsFirstItem, IsInstanceAs, IsItemOf, of_block, AdaptersAreDeclared, AreExactly, ComeAsDeclared, EventsAreDeclared, HaveOwnNames, arith}
 use Rattle.fb_tree.specs.declared.interface.Side.TheVariants as sides
 use Rattle.fb_laws.proofs.FirstLemmas.{IsFirst, IsPort, among_ports, first_stands, in_turn, is_port, once, ports, stands_first}
 
 -- what items mean is their sort and their type
 record Meaning (D S T : Type 0) : Type 0 where
-  make : S → T → D
   sort : D → S
   type : D → T
-  made : (d : D) → make (sort d) (type d) ≡ d
-  sort_made : (s : S) (t : T) → sort (make s t) ≡ s
-  type_made : (s : S) (t : T) → type (make s t) ≡ t
+  equal : (d e : D) → sort d ≡ sort e → type d ≡ type e → d ≡ e
   same : S → S → Bool
   exact : (a b : S) → same a b ≡ true → a ≡ b
   itself : (a : S) → same a a ≡ true
 
-module _ {A D S T : Type 0} (of : Meaning D S T) (name_of : A → NameUse) (sort_of : A → S) (type_of : A → T) (items : List A) where
+module _ {A D S T : Type 0} (of : Meaning D S T) (name_of : A → NameUse) (meaning_of : A → D) (items : List A) where
+  abbrev sort_of : A → S
+  sort_of x = of.sort (meaning_of x)
+
+  abbrev type_of : A → T
+  type_of x = of.type (meaning_of x)
+
   abbrev entry : A → List ℕ × D
-  entry x = ((name_of x).name, of.make (sort_of x) (type_of x))
+  entry x = ((name_of x).name, meaning_of x)
 
   abbrev declared : List (List ℕ × D)
   declared = map entry items
@@ -34,14 +37,14 @@ module _ {A D S T : Type 0} (of : Meaning D S T) (name_of : A → NameUse) (sort
       record {
         place = o.place;
         declared = first_of name m o;
-        of_sort = sym (of.sort_made (sort_of e.0) (type_of e.0)) ∙ ap (λ (p : List ℕ × D). of.sort p.1) e.2;
-        typed = sym (of.type_made (sort_of e.0) (type_of e.0)) ∙ ap (λ (p : List ℕ × D). of.type p.1) e.2;
+        of_sort = ap (λ (p : List ℕ × D). of.sort p.1) e.2;
+        typed = ap (λ (p : List ℕ × D). of.type p.1) e.2;
       }
 
   of_item : (name : List ℕ) (m : D) → IsItemOf name_of sort_of type_of items (of.sort m) name (of.type m) → IsFirst declared name m
   of_item name m h =
       let d = h.declared in
-      let means : of.make (sort_of d.item) (type_of d.item) ≡ m = (λ i. of.make (h.of_sort i) (h.typed i)) ∙ of.made m in
+      let means = of.equal (meaning_of d.item) m h.of_sort h.typed in
       record {
         place = h.place;
         there = map_gets entry items h.place d.item d.there ∙ (λ i. Some (d.named i, means i));
@@ -62,13 +65,12 @@ module _ {A D S T : Type 0} (of : Meaning D S T) (name_of : A → NameUse) (sort
 
     item_is : (name : List ℕ) (type : T) → IsItemOf name_of sort_of type_of items sort name type → IsPort keeps of.type declared name type
     item_is name type h =
-        let s = of.sort_made sort type in
-        let t = of.type_made sort type in
+        let m = meaning_of h.declared.item in
         record {
-          meaning = of.make sort type;
-          origin = of_item name (of.make sort type) (record { place = h.place; declared = h.declared; of_sort = h.of_sort ∙ sym s; typed = h.typed ∙ sym t });
-          kept = ap (λ (x : S). of.same x sort) s ∙ of.itself sort;
-          gives = t;
+          meaning = m;
+          origin = of_item name m (record { place = h.place; declared = h.declared; of_sort = refl; typed = refl });
+          kept = ap (λ (x : S). of.same x sort) h.of_sort ∙ of.itself sort;
+          gives = h.typed;
         }
 
     are_exactly : AreExactly (ports keeps of.type declared) (IsItemOf name_of sort_of type_of items sort)
@@ -93,38 +95,36 @@ same_sides sides.Output sides.Output e = refl
 same_sides a b e = absurd (true≢false (sym e))
 
 pub side_itself : (a : Side) → same_side a a ≡ true
-side_itself sides.Input = refl
-side_itself sides.Output = refl
+side_itself a = grind arith
 
 abbrev of_events : Meaning DeclaredEvent Side (Option NameUse)
 of_events = record {
-  make = λ side type. record { side = side; type_name = type };
   sort = λ d. d.side;
   type = λ d. d.type_name;
-  made = λ d. refl;
-  sort_made = λ s t. refl;
-  type_made = λ s t. refl;
+  equal = λ d e s t i. record { side = s i; type_name = t i };
   same = same_side;
   exact = same_sides;
   itself = side_itself;
 }
 
+abbrev event_meaning : EventTree → DeclaredEvent
+event_meaning e = record { side = e.side; type_name = e.type_name }
+
 pub events_stand : (i : InterfaceTree) (name : List ℕ) (m : DeclaredEvent) → stands_for (first_ones (events_in i)) name ≡ Some m ↔ IsEventOn i m.side name m.type_name
-events_stand i = stand of_events (λ (e : EventTree). e.name) (λ e. e.side) (λ e. e.type_name) i.events
+events_stand i = stand of_events (λ (e : EventTree). e.name) event_meaning i.events
 
 pub events_once : (i : InterfaceTree) (side : Side) → HaveOwnNames (ports (λ (d : DeclaredEvent). same_side d.side side) (λ d. d.type_name) (events_in i))
 events_once i side = once (λ (d : DeclaredEvent). same_side d.side side) (λ d. d.type_name) (events_in i)
 
 pub events_in_turn : (i : InterfaceTree) (side : Side) → ComeAsDeclared (ports (λ (d : DeclaredEvent). same_side d.side side) (λ d. d.type_name) (events_in i)) (IsFirstEvent i) (λ place later. place < later)
-events_in_turn i side = come_in_turn of_events (λ (e : EventTree). e.name) (λ e. e.side) (λ e. e.type_name) i.events side
+events_in_turn i side = come_in_turn of_events (λ (e : EventTree). e.name) event_meaning i.events side
 
 events : (i : InterfaceTree) (side : Side) → AreExactly (ports (λ (d : DeclaredEvent). same_side d.side side) (λ d. d.type_name) (events_in i)) (IsEventOn i side)
-events i side = are_exactly of_events (λ (e : EventTree). e.name) (λ e. e.side) (λ e. e.type_name) i.events side
+events i side = are_exactly of_events (λ (e : EventTree). e.name) event_meaning i.events side
 
 pub events_declared : EventsAreDeclared
-events_declared decl type (of_block d) side = events d.interface side
-events_declared decl type (of_adapter d) side = events d.interface side
-events_declared decl type (of_subapplication d) side = events d.interface side
+events_declared decl type (of_block d) side = events type.interface side
+events_declared decl type is side = events type.interface side
 
 -- plugs, sockets, and instances in other roles
 
@@ -136,35 +136,33 @@ same_roles Subapplication Subapplication e = refl
 same_roles a b e = absurd (true≢false (sym e))
 
 role_itself : (a : Role) → same_role a a ≡ true
-role_itself Plug = refl
-role_itself a = refl
+role_itself a = grind arith
 
 abbrev of_instances : Meaning DeclaredInstance Role NameUse
 of_instances = record {
-  make = λ role type. record { role = role; type_name = type };
   sort = λ d. d.role;
   type = λ d. d.type_name;
-  made = λ d. refl;
-  sort_made = λ s t. refl;
-  type_made = λ s t. refl;
+  equal = λ d e s t i. record { role = s i; type_name = t i };
   same = same_role;
   exact = same_roles;
   itself = role_itself;
 }
 
+abbrev instance_meaning : InstanceTree → DeclaredInstance
+instance_meaning i = record { role = i.role; type_name = i.type_name }
+
 pub instances_stand : (n : NetworkTree) (name : List ℕ) (m : DeclaredInstance) → stands_for (first_ones (instances_in n)) name ≡ Some m ↔ IsInstanceAs n m.role name m.type_name
-instances_stand n = stand of_instances (λ (x : InstanceTree). x.name) (λ x. x.role) (λ x. x.type_name) n.instances
+instances_stand n = stand of_instances (λ (x : InstanceTree). x.name) instance_meaning n.instances
 
 pub adapters_once : (n : NetworkTree) (role : Role) → HaveOwnNames (ports (λ (d : DeclaredInstance). same_role d.role role) (λ d. d.type_name) (instances_in n))
 adapters_once n role = once (λ (d : DeclaredInstance). same_role d.role role) (λ d. d.type_name) (instances_in n)
 
 pub adapters_in_turn : (n : NetworkTree) (role : Role) → ComeAsDeclared (ports (λ (d : DeclaredInstance). same_role d.role role) (λ d. d.type_name) (instances_in n)) (IsFirstInstance n) (λ place later. place < later)
-adapters_in_turn n role = come_in_turn of_instances (λ (x : InstanceTree). x.name) (λ x. x.role) (λ x. x.type_name) n.instances role
+adapters_in_turn n role = come_in_turn of_instances (λ (x : InstanceTree). x.name) instance_meaning n.instances role
 
 instances : (n : NetworkTree) (role : Role) → AreExactly (ports (λ (d : DeclaredInstance). same_role d.role role) (λ d. d.type_name) (instances_in n)) (IsInstanceAs n role)
-instances n role = are_exactly of_instances (λ (x : InstanceTree). x.name) (λ x. x.role) (λ x. x.type_name) n.instances role
+instances n role = are_exactly of_instances (λ (x : InstanceTree). x.name) instance_meaning n.instances role
 
 pub adapters_declared : AdaptersAreDeclared
-adapters_declared decl type (of_block d) role = instances d.network role
-adapters_declared decl type (of_adapter d) role = instances d.network role
-adapters_declared decl type (of_subapplication d) role = instances d.network role
+adapters_declared decl type (of_block d) role = instances type.network role
+adapters_declared decl type is role = instances type.network role

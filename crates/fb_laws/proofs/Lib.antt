@@ -14,7 +14,6 @@ pub mod Subscripts
 pub mod Cutting
 pub mod Alone
 pub mod Constants
-pub mod PickLemmas
 pub mod FirstLemmas
 pub mod RowLemmas
 pub mod ItemRows
@@ -53,11 +52,9 @@ pub mod PlannedLemmas
 pub mod CommandLemmas
 pub mod CommandRows
 pub mod PlanEnds
-pub mod CutRows
 pub mod EntryLemmas
-pub mod LinkRows
+pub mod CutRows
 pub mod PlacedRows
-pub mod OneHome
 pub mod PlainNames
 pub mod PathTexts
 pub mod PathNames

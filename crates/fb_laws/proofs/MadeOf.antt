@@ -1,15 +1,14 @@
 -- What a unit is made of is what it rests on, and what blocks its net is reported there.
-use Rattle.fb_laws.proofs.Common.{◌≡◌, ◌≢◌, ℕ, false, List, [], ◌∷◌, Option, Some, None, inl, inr, refl, sym, ap, ◌∙◌, subst, get, Contains, option_and_then, Contains-append_cases, is_elementary, contains_flat_map, contains_here, contains_map, contains_nothing, origin_in_flat_map, origin_in_map, passes_in_filter, instance_types, types_in, value_types, variable_types, ApplicationTree, DeclTree, InstanceTree, TypeTree, VariablesTree, adapter_type, block_type, structure_type, subapplication_type, system_configuration, Rests, itself, Sources, mentions_at, parts_at, parts_in, tree_at, tree_of, values_at, values_in, variables_of, instances_of, UnknownType, Fault, faults_of, IsNet, IsWhole, PlainNet, blocked, flat_net, recursive, too_large, part_mention, rests_more, value_mention, in_order_has, net_at_is, no_names_sorted, HasUnknownType, IsDeclaredAt, AreDeclaredIn, IsHeldIn, IsType, instance_of_application, instance_of_type, of_adapter, of_block, of_subapplication, Declarations}
-use Rattle.std.proofs.Common.{filter}
+use Rattle.fb_laws.proofs.Common.{◌≡◌, ◌≢◌, ℕ, false, List, [], ◌∷◌, Option, Some, None, inl, inr, refl, sym, ap, ◌∙◌, subst, get, Contains, option_and_then, Contains-append_cases, is_elementary, contains_flat_map, contains_here, contains_map, contains_nothing, origin_in_flat_map, origin_in_map, passes_in_filter, instance_types, types_in, value_types, variable_types, ApplicationTree, DeclTree, InstanceTree, TypeTree, VariablesTree, adapter_type, block_type, structure_type, subapplication_type, system_configuration, Rests, itself, Sources, mentions_at, parts_at, parts_in, tree_at, tree_of, values_at, values_in, variables_of, instances_of, UnknownType, Fault, faults_of, IsNet, IsWhole, PlainNet, blocked, flat_net, recursive, too_large, part_mention, rests_more, value_mention, net_at_is, no_names_sorted, HasUnknownType, IsDeclaredAt, AreDeclaredIn, IsHeldIn, IsType, instance_of_application, instance_of_type, of_adapter, of_block, of_subapplication, Declarations, filter, from_names}
 use Rattle.fb_deploy.specs.Library.Rests.{through}
 use Rattle.fb_deploy.specs.Flatten.Blocking.{AreThose, IsBlocking}
-use Rattle.fb_deploy.proofs.Library.Opening.{from_names}
 use Rattle.fb_wiring.specs.Reaches.{IsRecursive, Reaches, directly, onward}
 use Rattle.fb_wiring.proofs.StackLemmas.{reaches_more}
 use Rattle.fb_laws.specs.MadeOf.{BlockedIsTold, BlockedUnitsHaveFaultsBelow, HasFaultBelow, HasNoFaultsBelow, Holds, IsInTheWay, IsMadeOf, OtherNetsHaveNoFaultsBelow, OtherNetsHoldNothingInItself, RecursiveIsTold, WholeUnitsHaveNoFaultsBelow, absent_type, faulty_unit, inner_part, own_part, own_unit, type_of_part, type_of_value}
 use Rattle.fb_laws.proofs.CarriedTypes.{is_plain, no_elementary, value_of}
 use Rattle.fb_laws.proofs.DeclarationRows.{among_declared, declared_in, unknown_types}
 use Rattle.fb_laws.proofs.PartLemmas.{whole_units}
+use Rattle.fb_laws.proofs.PathHolders.{part_among}
 
 -- ---- declarations
 
@@ -34,21 +33,9 @@ instance_there (system_configuration s) name c =
     record { instance = o.origin; held = instance_of_application a.among o.among; typed = o.gives }
 instance_there (structure_type s) name c = absurd (contains_nothing name c)
 
-of_type_listed : (decl : DeclTree) (type : TypeTree) (i : InstanceTree) → IsType decl type → Contains type.network.instances i → Contains (instance_types decl) i.type_name.name
-of_type_listed decl type i (of_block d) c = contains_map (λ (j : InstanceTree). j.type_name.name) d.network.instances i c
-of_type_listed decl type i (of_adapter d) c = contains_map (λ (j : InstanceTree). j.type_name.name) d.network.instances i c
-of_type_listed decl type i (of_subapplication d) c = contains_map (λ (j : InstanceTree). j.type_name.name) d.network.instances i c
-
-type_listed : (decl : DeclTree) (i : InstanceTree) → IsHeldIn decl i → Contains (instance_types decl) i.type_name.name
-type_listed decl i (instance_of_type {type = type} is c) = of_type_listed decl type i is c
-type_listed decl i (instance_of_application {s = s} {application = a} among c) =
-    contains_flat_map (λ (b : ApplicationTree). types_in b.network.instances) s.applications a i.type_name.name among
-    (contains_map (λ (j : InstanceTree). j.type_name.name) a.network.instances i c)
-
 of_type_held : (decl : DeclTree) (type : TypeTree) (i : InstanceTree) → IsType decl type → Contains type.network.instances i → Contains (instances_of decl) i
 of_type_held decl type i (of_block d) c = c
-of_type_held decl type i (of_adapter d) c = c
-of_type_held decl type i (of_subapplication d) c = c
+of_type_held decl type i is c = c
 
 held_listed : (decl : DeclTree) (i : InstanceTree) → IsHeldIn decl i → Contains (instances_of decl) i
 held_listed decl i (instance_of_type {type = type} is c) = of_type_held decl type i is c
@@ -62,10 +49,7 @@ record HasVariables (decl : DeclTree) (name : List ℕ) : Type 0 where
 
 types_by_variables : (decl : DeclTree) → value_types decl ≡ variable_types (variables_of decl)
 types_by_variables (block_type d) = refl
-types_by_variables (adapter_type d) = refl
-types_by_variables (subapplication_type d) = refl
-types_by_variables (system_configuration s) = refl
-types_by_variables (structure_type s) = refl
+types_by_variables decl = refl
 
 variables_there : (decl : DeclTree) (name : List ℕ) → Contains (value_types decl) name → HasVariables decl name
 variables_there decl name c =
@@ -79,31 +63,29 @@ type_among decl v declared =
     (contains_map (λ (w : VariablesTree). w.type_use.name.name) (variables_of decl) v (among_declared decl v declared))
 
 part_held : (sources : Sources) (holder : List ℕ) (decl : DeclTree) (i : InstanceTree) → IsDeclaredAt sources holder decl → IsHeldIn decl i → Contains (parts_at sources holder) i.type_name.name
-part_held sources holder decl i is held =
-    subst (λ (o : Option DeclTree). Contains (parts_in o) i.type_name.name) (sym is) (in_order_has (instance_types decl) i.type_name.name (type_listed decl i held))
+part_held sources holder decl i is held = part_among sources holder decl i is (held_listed decl i held)
+
+-- what is so of the types of instances in the text of a unit is so of what it has as parts
+of_parts : (sources : Sources) (holder : List ℕ) (P : List ℕ → Type 0) → ((decl : DeclTree) (i : InstanceTree) → IsDeclaredAt sources holder decl → IsHeldIn decl i → P i.type_name.name) → (name : List ℕ) → Contains (parts_at sources holder) name → P name
+of_parts sources holder P each name = by (tree_at sources holder) refl
+  where
+    by : (tree : Option DeclTree) → tree_at sources holder ≡ tree → Contains (parts_in tree) name → P name
+    by None is c = absurd (contains_nothing name c)
+    by (Some decl) is c = let i = instance_there decl name (from_names (instance_types decl) name c) in subst P i.typed (each decl i.instance is i.held)
 
 -- ---- what a unit holds
 
 module _ (sources : Sources) (unit : List ℕ) where
-  own_held : (name : List ℕ) (tree : Option DeclTree) → tree_at sources unit ≡ tree → Contains (parts_in tree) name → Holds sources unit name
-  own_held name None is c = absurd (contains_nothing name c)
-  own_held name (Some decl) is c =
-      let i = instance_there decl name (from_names (instance_types decl) name c) in
-      subst (λ (n : List ℕ). Holds sources unit n) i.typed (own_part decl i.instance is i.held)
-
-  inner_held : (holder name : List ℕ) → Holds sources unit holder → (tree : Option DeclTree) → tree_at sources holder ≡ tree → Contains (parts_in tree) name → Holds sources unit name
-  inner_held holder name holds None is c = absurd (contains_nothing name c)
-  inner_held holder name holds (Some decl) is c =
-      let i = instance_there decl name (from_names (instance_types decl) name c) in
-      subst (λ (n : List ℕ). Holds sources unit n) i.typed (inner_part decl i.instance holds is i.held)
+  inner_held : (holder : List ℕ) → Holds sources unit holder → (name : List ℕ) → Contains (parts_at sources holder) name → Holds sources unit name
+  inner_held holder holds = of_parts sources holder (Holds sources unit) (λ decl i. inner_part decl i holds)
 
   holds_on : {holder name : List ℕ} → Holds sources unit holder → Reaches sources holder name → Holds sources unit name
-  holds_on {holder = holder} {name = name} holds (directly m) = inner_held holder name holds (tree_at sources holder) refl m
-  holds_on {holder = holder} holds (onward {w = w} m r) = holds_on (inner_held holder w holds (tree_at sources holder) refl m) r
+  holds_on {holder = holder} {name = name} holds (directly m) = inner_held holder holds name m
+  holds_on {holder = holder} holds (onward {w = w} m r) = holds_on (inner_held holder holds w m) r
 
   reaches_holds : {name : List ℕ} → Reaches sources unit name → Holds sources unit name
-  reaches_holds {name = name} (directly m) = own_held name (tree_at sources unit) refl m
-  reaches_holds (onward {w = w} m r) = holds_on (own_held w (tree_at sources unit) refl m) r
+  reaches_holds {name = name} (directly m) = of_parts sources unit (Holds sources unit) own_part name m
+  reaches_holds (onward {w = w} m r) = holds_on (of_parts sources unit (Holds sources unit) own_part w m) r
 
   holds_reaches : {name : List ℕ} → Holds sources unit name → Reaches sources unit name
   holds_reaches (own_part decl i is held) = directly (part_held sources unit decl i is held)
@@ -113,12 +95,6 @@ module _ (sources : Sources) (unit : List ℕ) where
 
 module _ (sources : Sources) (unit : List ℕ) where
   -- a mention of what the unit is made of is something that it is made of
-
-  part_made : (holder name : List ℕ) → IsMadeOf sources unit holder → (tree : Option DeclTree) → tree_at sources holder ≡ tree → Contains (parts_in tree) name → IsMadeOf sources unit name
-  part_made holder name made None is c = absurd (contains_nothing name c)
-  part_made holder name made (Some decl) is c =
-      let i = instance_there decl name (from_names (instance_types decl) name c) in
-      subst (λ (n : List ℕ). IsMadeOf sources unit n) i.typed (type_of_part decl i.instance made is i.held)
 
   value_made : (holder name : List ℕ) → IsMadeOf sources unit holder → (tree : Option DeclTree) → tree_at sources holder ≡ tree → Contains (values_in tree) name → IsMadeOf sources unit name
   value_made holder name made None is c = absurd (contains_nothing name c)
@@ -130,7 +106,7 @@ module _ (sources : Sources) (unit : List ℕ) where
 
   mention_made : (holder name : List ℕ) → IsMadeOf sources unit holder → Contains (mentions_at sources holder) name → IsMadeOf sources unit name
   mention_made holder name made m =
-      elim (Contains-append_cases (parts_at sources holder) (values_at sources holder) name m) [ inl c ↦ part_made holder name made (tree_at sources holder) refl c | inr c ↦ value_made holder name made (tree_at sources holder) refl c ]
+      elim (Contains-append_cases (parts_at sources holder) (values_at sources holder) name m) [ inl c ↦ of_parts sources holder (IsMadeOf sources unit) (λ decl i. type_of_part decl i made) name c | inr c ↦ value_made holder name made (tree_at sources holder) refl c ]
 
   made_on : {holder name : List ℕ} → IsMadeOf sources unit holder → Rests sources holder name → IsMadeOf sources unit name
   made_on made itself = made
@@ -159,15 +135,10 @@ module _ (sources : Sources) (unit : List ℕ) where
 
   -- what blocks the unit is in the way, and what is in the way blocks it
 
-  absent_in_way : (holder name : List ℕ) → IsMadeOf sources unit holder → (tree : Option DeclTree) → tree_at sources holder ≡ tree → Contains (parts_in tree) name → get sources name ≡ None → IsInTheWay sources unit name
-  absent_in_way holder name made None is c absent = absurd (contains_nothing name c)
-  absent_in_way holder name made (Some decl) is c absent =
-      let i = instance_there decl name (from_names (instance_types decl) name c) in
-      subst (λ (n : List ℕ). IsInTheWay sources unit n) i.typed (absent_type decl i.instance made is i.held (ap (get sources) i.typed ∙ absent))
-
   in_the_way : (name : List ℕ) → Rests sources unit name → IsBlocking sources unit name → IsInTheWay sources unit name
   in_the_way name r (inl faulty) = faulty_unit (rests_made r) faulty
-  in_the_way name r (inr (absent, (holder, below, part))) = absent_in_way holder name (rests_made below) (tree_at sources holder) refl part absent
+  in_the_way name r (inr (absent, (holder, below, part))) =
+      of_parts sources holder (λ n. get sources n ≡ None → IsInTheWay sources unit n) (λ decl i. absent_type decl i (rests_made below)) name part absent
 
   way_below : {name : List ℕ} → IsInTheWay sources unit name → Rests sources unit name
   way_below (faulty_unit made faulty) = made_rests made

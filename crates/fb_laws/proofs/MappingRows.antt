@@ -1,6 +1,6 @@
 -- Each code of mappings, by what its list of faults has.
 use Rattle.fb_laws.proofs.Common.{◌≡◌, ℕ, true, List, ◌∷◌, ◌++◌, map, sym, ap, ◌∙◌, subst, Bool, false, Option, Some, None, ◌⊎◌, inl, inr, refl, true≢false, ◌≢◌, cond, [], length, ◌-◌, arith, Contains-append_left, Contains-append_right, Contains, flat_map, slice_get, option_map_or, NameUse, Span, DeclTree, DeviceTree, MappingTree, ResourceTree, SystemTree, system_configuration, declared_mapping_faults, has_resource, home_faults, home_span, mapping_faults_of, resource_faults, resources_in, second_mappings, system_mapping_faults, has_name, is_same, stands_for, Code, MappedTwice, NoSuchResource, Fault, Sources, tree_at, PathUse, path_of_names, contains_cases, contains_flat_map, contains_here, contains_later, contains_map, contains_nothing, contains_single, origin_in_flat_map, origin_in_map, none_named, not_named, same_exact, same_itself, HasLostMapping, HasSecondMapping, IsFirstDevice, IsLost, IsSystemAt, MappingsHaveHomes, MappingsHaveOwnPaths, no_device, no_resource, last_of, place_of_path}
-use Rattle.fb_laws.proofs.Joined.{iff, of_either}
+use Rattle.fb_laws.proofs.Joined.{iff, of_either, by_option}
 use Rattle.fb_laws.proofs.RepeatedPaths.{repeat_origin, repeat_reported}
 
 -- what is so where a unit has a fault of this code
@@ -81,14 +81,11 @@ none_stands (x ∷ devices) name fails =
     (elim (is_same x.name.name name) as (λ b. is_same x.name.name name ≡ b → stands_for (resources_in devices) name ≡ None → cond b (Some (names_in x)) (stands_for (resources_in devices) name) ≡ None) [ true ↦ λ s h. absurd (fails x (contains_here x devices) (same_exact x.name.name name s)) | false ↦ λ s h. h ]) refl (none_stands devices name (λ d c. fails d (contains_later x devices d c)))
 
 lost_where : (s : SystemTree) (m : MappingTree) → has_resource s.devices m.device.name m.resource.name ≡ false → IsLost s m
-lost_where s m e = by (stands_for (resources_in s.devices) m.device.name) refl e
-  where
-    by : (o : Option (List NameUse)) → stands_for (resources_in s.devices) m.device.name ≡ o → holds o m.resource.name ≡ false → IsLost s m
-    by None g h = no_device (none_of s.devices m.device.name g)
-    by (Some names) g h =
-        let o = first_of s.devices m.device.name names g in
-        let none = ap (λ (l : List NameUse). has_name l m.resource.name) o.has ∙ h in
-        no_resource o.device o.is_first (λ r c. not_named (names_in o.device) m.resource.name none r.name (contains_map (λ (r : ResourceTree). r.name) o.device.resources r c))
+lost_where s m e =
+    by_option (stands_for (resources_in s.devices) m.device.name) (λ g. no_device (none_of s.devices m.device.name g)) (λ names g.
+    let o = first_of s.devices m.device.name names g in
+    let none = ap (λ (l : List NameUse). has_name l m.resource.name) o.has ∙ sym (ap (λ (o : Option (List NameUse)). holds o m.resource.name) g) ∙ e in
+    no_resource o.device o.is_first (λ r c. not_named (names_in o.device) m.resource.name none r.name (contains_map (λ (r : ResourceTree). r.name) o.device.resources r c)))
 
 lost_found_where : (s : SystemTree) (m : MappingTree) → IsLost s m → has_resource s.devices m.device.name m.resource.name ≡ false
 lost_found_where s m (no_device none) = ap (λ (o : Option (List NameUse)). holds o m.resource.name) (none_stands s.devices m.device.name none)

@@ -1,5 +1,5 @@
 -- What ends name, by the tests of the check.
-use Rattle.fb_laws.proofs.Common.{◌≡◌, ◌≢◌, ℕ, true, false, List, Option, Some, None, refl, sym, ap, ◌∙◌, subst, true≢false, option_map, option_and_then, option_map_or, and_from, and_parts, NameUse, NetworkTree, Section, Side, Input, Output, UnitKind, End, Role, Sort, Sources, tree_at, DeclaredEvent, DeclaredInstance, DeclaredVariable, first_ones, stands_for, Meanings, instances_in, same_side, instance_ports, usable, Own, OfInstance, OfPlug, OfSocket, Position, Source, Destination, Target, Unknown, NotJudged, Found, adapter_port, data_port, event_port, holder_of, is_right, port_in, port_in_role, port_in_section, right_side, target, target_held, target_in, target_named, target_of, target_of_instance, NetworkPlace, is_own, is_own_port, home_of, IsPort, IsReached, IsReachedBy, IsRightSide, NamesRight, Site, event, socket, plug, of_block_instance, of_subapplication_instance, of_plug, of_socket, own_port, port_of, own_source, own_destination, instance_source, instance_destination, plug_source, plug_destination, socket_source, socket_destination, IsNotJudged, of_unusable}
+use Rattle.fb_laws.proofs.Common.{◌≡◌, ◌≢◌, ℕ, true, List, Option, Some, None, refl, sym, ap, ◌∙◌, subst, true≢false, option_map, option_and_then, option_map_or, and_from, and_parts, NameUse, NetworkTree, Section, Side, Input, Output, UnitKind, End, Role, Sort, Sources, tree_at, DeclaredEvent, DeclaredInstance, DeclaredVariable, first_ones, stands_for, Meanings, instances_in, same_side, instance_ports, usable, Own, OfInstance, OfPlug, OfSocket, Position, Source, Destination, Target, Unknown, NotJudged, Found, adapter_port, data_port, event_port, holder_of, is_right, port_in, port_in_role, port_in_section, right_side, target, target_held, target_in, target_named, target_of, target_of_instance, NetworkPlace, is_own, is_own_port, home_of, IsPort, IsReached, IsReachedBy, IsRightSide, NamesRight, Site, event, socket, plug, of_block_instance, of_subapplication_instance, of_plug, of_socket, own_port, port_of, own_source, own_destination, instance_source, instance_destination, plug_source, plug_destination, socket_source, socket_destination, IsNotJudged, of_unusable, arith}
 use Rattle.fb_tree.specs.declared.interface.Section.TheVariants as sections
 use Rattle.fb_tree.specs.declared.kinds.UnitKind.TheVariants as kinds
 use Rattle.fb_tree.specs.declared.network.Role.TheVariants as roles
@@ -65,12 +65,10 @@ module _ (here : Site) (sort : Sort) (i : DeclaredInstance) where
       by kind s role k t r e = absurd (let fails : ⊥ = cc in fails)
 
   plug_holder : (s : Sort) → s ≢ sorts.Adapter → holder_of kinds.Block s roles.Plug ≡ Some OfPlug
-  plug_holder sorts.Adapter other = absurd (other refl)
-  plug_holder o other = refl
+  plug_holder s other = grind arith
 
   socket_holder : (s : Sort) → s ≢ sorts.Adapter → holder_of kinds.Block s roles.Socket ≡ Some OfSocket
-  socket_holder sorts.Adapter other = absurd (other refl)
-  socket_holder o other = refl
+  socket_holder s other = grind arith
 
   told_holder : (holder : Holder) → IsReached here sort i holder → holder_of here.kind sort i.role ≡ Some holder
   told_holder holder (of_block_instance r) = ap (holder_of here.kind sort) r
@@ -145,21 +143,15 @@ module _ (sources : Sources) (here : Site) (n : NetworkTree) (own : here.own.ins
       by t (is_not_judged n) = absurd (judged n)
       by t is_unknown = refl
 
-  -- an end with this target
-  pub record IsNamed (name : NameUse) (port : Option NameUse) (holder : Holder) (p : Port) : Type 0 where
-    pub unit : List ℕ
-    pub names : Names sources here sort name port holder unit p
-
-  pub known_names : (name : NameUse) (port : Option NameUse) (holder : Holder) (p : Port) → target_named at sort name.name port ≡ Found holder p → IsNamed name port holder p
+  pub known_names : (name : NameUse) (port : Option NameUse) (holder : Holder) (p : Port) → target_named at sort name.name port ≡ Found holder p → (unit : List ℕ) × Names sources here sort name port holder unit p
   known_names name port holder p e = by (target_named at sort name.name port) (is_target name port) e
     where
-      by : (t : Target) → IsTarget sources here sort name port t → t ≡ Found holder p → IsNamed name port holder p
+      by : (t : Target) → IsTarget sources here sort name port t → t ≡ Found holder p → (unit : List ℕ) × Names sources here sort name port holder unit p
       by t (is_found {holder = h} {p = q} unit n) e =
           let holders : h ≡ holder = cc in
           let ports : q ≡ p = cc in
-          record { unit = unit; names = subst (λ (r : Port). Names sources here sort name port holder unit r) ports (subst (λ (g : Holder). Names sources here sort name port g unit q) holders n) }
-      by t (is_not_judged n) e = absurd (let fails : ⊥ = cc in fails)
-      by t is_unknown e = absurd (let fails : ⊥ = cc in fails)
+          (unit, subst (λ (r : Port). Names sources here sort name port holder unit r) ports (subst (λ (g : Holder). Names sources here sort name port g unit q) holders n))
+      by t none e = absurd (let fails : ⊥ = cc in fails)
 
 -- the right sides
 
@@ -174,8 +166,7 @@ pub known_right : (position : Position) (holder : Holder) (side : Side) → same
 known_right position holder side e = subst (IsRightSide position holder) (sym (same_sides side (right_side position holder) e)) (is_side position holder)
 
 pub told_right : (position : Position) (holder : Holder) (side : Side) → IsRightSide position holder side → same_side side (right_side position holder) ≡ true
-told_right position holder side own_source = refl
-told_right position holder side is = refl
+told_right position holder side is = grind arith
 
 -- ends that name ports of the right sides
 
@@ -188,8 +179,7 @@ module _ (sources : Sources) (here : Site) (n : NetworkTree) (own : here.own.ins
     where
       by : (t : Target) → IsTarget sources here sort end.name end.port t → is_right position t ≡ true → NamesRight sources here sort position end
       by t (is_found {holder = holder} {p = p} unit n) e = record { holder = holder; unit = unit; port = p; names = n; right = known_right position holder p.side e }
-      by t (is_not_judged n) e = absurd (true≢false (sym e))
-      by t is_unknown e = absurd (true≢false (sym e))
+      by t none e = absurd (true≢false (sym e))
 
   pub end_target : (r : NamesRight sources here sort position end) → there ≡ Found r.holder r.port
   end_target r = told_names sources here n own sort end.name end.port r.holder r.unit r.port r.names
@@ -198,8 +188,7 @@ module _ (sources : Sources) (here : Site) (n : NetworkTree) (own : here.own.ins
   told_end r = ap (is_right position) (end_target r) ∙ told_right position r.holder r.port.side r.right
 
   own_exact : (holder : Holder) → is_own holder ≡ true → holder ≡ Own
-  own_exact Own e = refl
-  own_exact holder e = absurd (true≢false (sym e))
+  own_exact holder e = grind arith
 
   -- own ones among them
   pub known_own : is_own_port position there ≡ true → (r : NamesRight sources here sort position end) × (r.holder ≡ Own)
@@ -209,8 +198,7 @@ module _ (sources : Sources) (here : Site) (n : NetworkTree) (own : here.own.ins
       by t (is_found {holder = holder} {p = p} unit n) e =
           let test = same_side p.side (right_side position holder) in
           (record { holder = holder; unit = unit; port = p; names = n; right = known_right position holder p.side (and_parts (is_own holder) test e).1 }, own_exact holder (and_parts (is_own holder) test e).0)
-      by t (is_not_judged n) e = absurd (true≢false (sym e))
-      by t is_unknown e = absurd (true≢false (sym e))
+      by t none e = absurd (true≢false (sym e))
 
   pub told_own : (r : NamesRight sources here sort position end) → r.holder ≡ Own → is_own_port position there ≡ true
   told_own r e = ap (is_own_port position) (end_target r) ∙ and_from (is_own r.holder) (same_side r.port.side (right_side position r.holder)) (ap is_own e) (told_right position r.holder r.port.side r.right)

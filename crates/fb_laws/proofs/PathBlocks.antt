@@ -1,14 +1,11 @@
 -- The blocks of a system's flat network are those that stand at its paths.
-use Rattle.fb_laws.proofs.Common.{◌≡◌, ℕ, List, [], ◌∷◌, ◌++◌, Option, Some, None, ◌⊎◌, inl, inr, refl, sym, ap, ◌∙◌, subst, append_assoc, option_map, filter_map, flat_map, Contains-append_cases, Contains-append_left, Contains-append_right, contains_cases, contains_flat_map, contains_here, contains_later, contains_map, contains_nothing, origin_in_flat_map, origin_in_map, ApplicationTree, DeclTree, InstanceTree, SystemTree, subapplication_type, unit_kind_of, Role, Sources, tree_at, HasFlat, applications_of, plain_application, declared, instance_in_role, network_of, plain_instance, AreFlatApplications, IsFlatApplication, IsUnitFlat, NoApplication, OfSubapplication, OfSystem, ThenApplication, Application, block_within, AreInstances, Held, NoInstance, ThenBlock, ThenSubapplication, held_as, held_within, leaf_first, leaves_of, View, PlainNetwork, PlainFlat, printed, dotted, IsSystemFlat, application_blocks, FlatApplication, FlatBlock, Instance, InstanceKind, IsSystemAt, IsAtPath, in_application, inside, with_points}
-use Rattle.std.specs.Prelude.{Contains, map}
+use Rattle.fb_laws.proofs.Common.{◌≡◌, ℕ, List, [], ◌∷◌, ◌++◌, Option, Some, None, ◌⊎◌, inl, inr, refl, sym, ap, ◌∙◌, subst, append_assoc, option_map, filter_map, flat_map, Contains-append_cases, Contains-append_left, Contains-append_right, contains_cases, contains_flat_map, contains_here, contains_later, contains_map, contains_nothing, origin_in_flat_map, origin_in_map, ApplicationTree, DeclTree, InstanceTree, SystemTree, subapplication_type, unit_kind_of, Role, Sources, tree_at, HasFlat, applications_of, plain_application, declared, instance_in_role, network_of, plain_instance, AreFlatApplications, IsUnitFlat, OfSubapplication, OfSystem, Application, block_within, AreInstances, Held, NoInstance, ThenBlock, ThenSubapplication, held_as, held_within, leaf_first, leaves_of, View, PlainNetwork, PlainFlat, printed, dotted, IsSystemFlat, application_blocks, FlatApplication, FlatBlock, Instance, InstanceKind, IsSystemAt, IsAtPath, in_application, inside, with_points, Contains, map, Path}
+use Rattle.fb_laws.proofs.PathHolders.{within}
 use Rattle.fb_tree.specs.declared.network.Role.TheVariants as roles
 use Rattle.fb_wiring.specs.Network.declared.network.InstanceKind.TheVariants.{Block, Subapplication}
-use Rattle.fb_laws.proofs.CommandLemmas.{given, gives_member}
-use Rattle.fb_laws.proofs.PlanEnds.{instance_held, leaf_listed}
+use Rattle.fb_laws.proofs.Joined.{given, gives_member}
+use Rattle.fb_laws.proofs.PlanEnds.{instance_held, leaf_listed, application_of, flat_of}
 use Rattle.fb_laws.proofs.PathTexts.{same_print}
-
-abbrev Path : Type 0
-Path = List (List ℕ)
 
 -- ---- instances in plain
 
@@ -96,39 +93,12 @@ module _ (view : View) where
 
 -- ---- from paths to what is held
 
--- the application, and what is held of it wherever its instances are
-record IsHeldIn (sources : Sources) (s : SystemTree) (path : Path) (i : InstanceTree) : Type 0 where
-  application : ApplicationTree
-  listed : Contains s.applications application
-  first : List ℕ
-  others : Path
-  is_path : path ≡ application.name.name ∷ first ∷ others
-  held :
-      (kind : InstanceKind) → i.role ≡ role_of kind
-      → (list : List Held) → AreInstances (declared sources) (plain_application application).network.instances list
-      → Contains list (record { path = first ∷ others; kind = kind; typed = i.type_name.name })
-
-held_in : (sources : Sources) (s : SystemTree) (path : Path) (i : InstanceTree) → IsAtPath sources s path i → IsHeldIn sources s path i
-held_in sources s path end (in_application a i ca ci) = record {
-  application = a;
-  listed = ca;
-  first = i.name.name;
-  others = [];
-  is_path = refl;
-  held = λ kind role list are. instance_held are (in_plain i kind) (among_plain a.network.instances i kind ci role);
-}
-held_in sources s path end (inside {path = before} {outer = outer} type i at role there ci) =
-    let o = held_in sources s before outer at in
-    record {
-      application = o.application;
-      listed = o.listed;
-      first = o.first;
-      others = o.others ++ i.name.name ∷ [];
-      is_path = ap (λ (p : Path). p ++ i.name.name ∷ []) o.is_path;
-      held = λ kind in_role list are.
-          held_more (declared sources) are (o.first ∷ o.others) outer.type_name.name (network_of (subapplication_type type)) (in_plain i kind) (o.held Subapplication role list are)
-          (ap (option_map network_of) there) (among_plain type.network.instances i kind ci in_role);
-    }
+-- it is held wherever the instances of its application are
+held_in : (sources : Sources) (s : SystemTree) (path : Path) (i : InstanceTree) (at : IsAtPath sources s path i) (kind : InstanceKind) → i.role ≡ role_of kind → (list : List Held) → AreInstances (declared sources) (plain_application (within at).application).network.instances list → Contains list (record { path = (within at).first ∷ (within at).others; kind = kind; typed = i.type_name.name })
+held_in sources s path end (in_application a i ca ci) kind role list are = instance_held are (in_plain i kind) (among_plain a.network.instances i kind ci role)
+held_in sources s path end (inside {path = before} {outer = outer} type i at role there ci) kind in_role list are =
+    held_more (declared sources) are ((within at).first ∷ (within at).others) outer.type_name.name (network_of (subapplication_type type)) (in_plain i kind) (held_in sources s before outer at Subapplication role list are)
+    (ap (option_map network_of) there) (among_plain type.network.instances i kind ci in_role)
 
 -- ---- from what is held to paths
 
@@ -199,25 +169,6 @@ leaf_origin (h ∷ hs) b c = by h.kind refl c (leaf_origin hs b)
     ]
     by Subapplication k d more = later (more d)
 
--- the flat network of an application, and the application of a flat network
-record IsPair (view : View) (applications : List Application) (flats : List FlatApplication) (a : Application) (f : FlatApplication) : Type 0 where
-  application_listed : Contains applications a
-  flat_listed : Contains flats f
-  is : IsFlatApplication view a f
-
-later_pair : {view : View} {applications : List Application} {flats : List FlatApplication} {a : Application} {f : FlatApplication} (z : Application) (y : FlatApplication) → IsPair view applications flats a f → IsPair view (z ∷ applications) (y ∷ flats) a f
-later_pair {applications = applications} {flats = flats} {a = a} {f = f} z y p = record { application_listed = contains_later z applications a p.application_listed; flat_listed = contains_later y flats f p.flat_listed; is = p.is }
-
-flat_of : {view : View} {applications : List Application} {flats : List FlatApplication} → AreFlatApplications view applications flats → (a : Application) → Contains applications a → (f : FlatApplication) × IsPair view applications flats a f
-flat_of NoApplication a c = absurd (contains_nothing a c)
-flat_of {view = view} (ThenApplication {rest = rest} {others = others} z y is more) a c =
-    elim (contains_cases z rest a c) [ inl same ↦ (y, subst (λ (w : Application). IsPair view (z ∷ rest) (y ∷ others) w y) same (record { application_listed = contains_here z rest; flat_listed = contains_here y others; is = is })) | inr d ↦ let p = (flat_of more a d) in (p.0, later_pair z y p.1) ]
-
-application_of : {view : View} {applications : List Application} {flats : List FlatApplication} → AreFlatApplications view applications flats → (f : FlatApplication) → Contains flats f → (a : Application) × IsPair view applications flats a f
-application_of NoApplication f c = absurd (contains_nothing f c)
-application_of {view = view} (ThenApplication {rest = rest} {others = others} z y is more) f c =
-    elim (contains_cases y others f c) [ inl same ↦ (z, subst (λ (w : FlatApplication). IsPair view (z ∷ rest) (y ∷ others) z w) same (record { application_listed = contains_here z rest; flat_listed = contains_here y others; is = is })) | inr d ↦ let p = (application_of more f d) in (p.0, later_pair z y p.1) ]
-
 -- ---- the blocks of the system
 
 -- what stands at the path of a block
@@ -244,11 +195,11 @@ printed_next x q y ys e = ap (λ (w : Path). printed (x ∷ w)) e ∙ ap (λ (w 
 module _ (sources : Sources) (s : SystemTree) (flats : List FlatApplication) (flat : PlainFlat) (are : AreFlatApplications (declared sources) (map plain_application s.applications) flats) (whole : IsSystemFlat flats flat) where
   listed_in : (path : Path) (i : InstanceTree) → IsAtPath sources s path i → i.role ≡ roles.Block → Contains flat.blocks (record { path = with_points path; type_name = i.type_name.name })
   listed_in path i at role =
-      let o = held_in sources s path i at in
+      let o = within at in
       let p = flat_of are (plain_application o.application) (contains_map plain_application s.applications o.application o.listed) in
       let net = p.1.is.net.blocks in
       let it : FlatBlock = record { path = printed (o.first ∷ o.others); type_name = i.type_name.name } in
-      let leaf = leaf_listed net.held (o.first ∷ o.others) i.type_name.name (o.held Block role net.held net.instances) in
+      let leaf = leaf_listed net.held (o.first ∷ o.others) i.type_name.name (held_in sources s path i at Block role net.held net.instances) in
       let own : Contains p.0.flat.blocks it = subst (λ (l : List FlatBlock). Contains l it) (sym net.blocks_are) leaf in
       let place : dotted p.0.name it.path ≡ with_points path = ap (λ (n : List ℕ). dotted n it.path) p.1.is.name ∙ sym (ap with_points o.is_path ∙ same_print (o.application.name.name ∷ o.first ∷ o.others)) in
       subst (λ (l : List FlatBlock). Contains l (record { path = with_points path; type_name = i.type_name.name })) (sym whole.blocks)
@@ -273,7 +224,7 @@ module _ (sources : Sources) (s : SystemTree) (flats : List FlatApplication) (fl
       let own = subst (λ (a : Application). AreInstances (declared sources) a.network.instances net.held) (sym t.gives) net.instances in
       let name = t.origin.name.name in
       let stands = held_stands sources s own (name ∷ []) (each_in t.origin t.among) (record { path = leaf.path; kind = Block; typed = o.origin.type_name }) leaf.listed in
-      let there = held_in sources s (name ∷ leaf.path) stands.instance stands.at in
+      let there = within stands.at in
       let named : name ≡ f.origin.name = ap (λ (a : Application). a.name) t.gives ∙ sym p.1.is.name in
       record {
         path = name ∷ leaf.path;

@@ -1,6 +1,5 @@
 -- The units whose texts have what stands at the paths of a sound system: these have no faults, so each name stands for one instance of theirs.
-use Rattle.fb_laws.proofs.Common.{◌≡◌, ℕ, Bool, true, false, cond, List, [], ◌∷◌, ◌++◌, Option, Some, refl, sym, ◌∙◌, subst, true≢false, find, option_map, flat_map, bytes_eq, nat_list_cmp_total, nat_cmp-IsAntisymmetric, slice_cmp-IsAntisymmetric, Contains-append_left, Contains-append_right, NameUse, name_cmp, in_order-members, contains_flat_map, contains_here, contains_later, contains_map, contains_nothing, origin_in_flat_map, instance_types, types_in, unit_kind_of, ApplicationTree, DeclTree, DeviceTree, InstanceTree, SystemTree, TypeTree, block_type, adapter_type, subapplication_type, system_configuration, structure_type, Role, PartRests, on_itself, Sources, parts_at, parts_in, tree_at, is_same, stands_for, chart_spaces, interface_spaces, network_spaces, resource_names, instances_of, suits, WrongKind, Fault, IsSound, same_exact, same_itself, parts_more, unit_faultless, sound_below, first_at, IsSystemAt, IsAtPath, in_application, inside}
-use Rattle.std.specs.Prelude.{Contains, map}
+use Rattle.fb_laws.proofs.Common.{◌≡◌, ℕ, Bool, true, false, cond, List, [], ◌∷◌, ◌++◌, Option, Some, refl, sym, ◌∙◌, subst, true≢false, find, option_map, flat_map, bytes_eq, Contains-append_left, Contains-append_right, NameUse, contains_flat_map, contains_here, contains_later, contains_map, contains_nothing, origin_in_flat_map, instance_types, types_in, unit_kind_of, ApplicationTree, DeclTree, DeviceTree, InstanceTree, SystemTree, TypeTree, block_type, adapter_type, subapplication_type, system_configuration, structure_type, Role, PartRests, on_itself, Sources, parts_at, parts_in, tree_at, is_same, stands_for, chart_spaces, interface_spaces, network_spaces, resource_names, instances_of, suits, WrongKind, Fault, IsSound, same_exact, same_itself, parts_more, unit_faultless, sound_below, first_at, IsSystemAt, IsAtPath, in_application, inside, Contains, map, in_order_has, true_from_ne_false, ap, arith}
 use Rattle.fb_tree.specs.declared.kinds.UnitKind.TheVariants as kinds
 use Rattle.fb_tree.specs.declared.network.Role.TheVariants as roles
 use Rattle.fb_deploy.specs.Flatten.Nothing.{HasNoReport}
@@ -45,10 +44,10 @@ type_among (system_configuration s) i c =
     (contains_map (λ (j : InstanceTree). j.type_name.name) o.origin.network.instances i o.has)
 type_among (structure_type s) i c = absurd (contains_nothing i c)
 
-part_among : (sources : Sources) (name : List ℕ) (tree : DeclTree) (i : InstanceTree) → tree_at sources name ≡ Some tree → Contains (instances_of tree) i → Contains (parts_at sources name) i.type_name.name
+pub part_among : (sources : Sources) (name : List ℕ) (tree : DeclTree) (i : InstanceTree) → tree_at sources name ≡ Some tree → Contains (instances_of tree) i → Contains (parts_at sources name) i.type_name.name
 part_among sources name tree i declared c =
     subst (λ (o : Option DeclTree). Contains (parts_in o) i.type_name.name) (sym declared)
-    ((in_order-members name_cmp nat_list_cmp_total (slice_cmp-IsAntisymmetric nat_cmp-IsAntisymmetric) (instance_types tree) i.type_name.name).1 (type_among tree i c))
+    (in_order_has (instance_types tree) i.type_name.name (type_among tree i c))
 
 -- and the unit rests on the type of the instance
 pub type_below : (sources : Sources) (unit : List ℕ) (i : InstanceTree) → Holder sources unit i → PartRests sources unit i.type_name.name
@@ -60,6 +59,26 @@ holder_of sources unit s is path end (in_application a i ca ci) =
 holder_of sources unit s is path end (inside {path = before} {outer = outer} type i at role there ci) =
     let h = holder_of sources unit s is before outer at in
     record { name = outer.type_name.name; below = type_below sources unit outer h; tree = subapplication_type type; declared = there; among = ci }
+
+-- the application of a path, and the names behind it
+pub record InApplication (s : SystemTree) (path : List (List ℕ)) : Type 0 where
+  pub application : ApplicationTree
+  pub listed : Contains s.applications application
+  pub first : List ℕ
+  pub others : List (List ℕ)
+  pub is_path : path ≡ application.name.name ∷ first ∷ others
+
+abbrev pub within : {sources : Sources} {s : SystemTree} {path : List (List ℕ)} {i : InstanceTree} → IsAtPath sources s path i → InApplication s path
+within (in_application a i ca ci) = record { application = a; listed = ca; first = i.name.name; others = []; is_path = refl }
+within (inside type i at role there ci) =
+    let o = within at in
+    record {
+      application = o.application;
+      listed = o.listed;
+      first = o.first;
+      others = o.others ++ i.name.name ∷ [];
+      is_path = ap (λ (p : List (List ℕ)). p ++ i.name.name ∷ []) o.is_path;
+    }
 
 module _ (sources : Sources) (unit : List ℕ) (sound : IsSound sources unit) where
   -- a unit that it rests on has no faults
@@ -75,20 +94,14 @@ module _ (sources : Sources) (unit : List ℕ) (sound : IsSound sources unit) wh
 
   -- an instance whose type is a subapplication is one
   fits : (i : InstanceTree) → Holder sources unit i → (type : DeclTree) → tree_at sources i.type_name.name ≡ Some type → suits i.role (unit_kind_of type) ≡ true
-  fits i h type there = by (suits i.role (unit_kind_of type)) refl
-    where
-      fault : Fault
-      fault = record { code = WrongKind; span = i.type_name.span }
-
-      by : (b : Bool) → suits i.role (unit_kind_of type) ≡ b → b ≡ true
-      by true e = refl
-      by false e =
-          let has = (wrong_kinds sources h.name i.type_name.span).1 (record { decl = h.tree; declared = h.declared; instance = i; among = h.among; type = type; known = there; unsuited = not_suited i.role (unit_kind_of type) e; place = refl }) in
-          absurd (contains_nothing fault (subst (λ (l : List Fault). Contains l fault) (no_report h.name h.below).declarations has))
+  fits i h type there =
+      true_from_ne_false (suits i.role (unit_kind_of type)) (λ e.
+      let fault : Fault = record { code = WrongKind; span = i.type_name.span } in
+      let has = (wrong_kinds sources h.name i.type_name.span).1 (record { decl = h.tree; declared = h.declared; instance = i; among = h.among; type = type; known = there; unsuited = not_suited i.role (unit_kind_of type) e; place = refl }) in
+      contains_nothing fault (subst (λ (l : List Fault). Contains l fault) (no_report h.name h.below).declarations has))
 
   subapplication_role : (role : Role) → suits role kinds.Subapplication ≡ true → role ≡ roles.Subapplication
-  subapplication_role roles.Subapplication e = refl
-  subapplication_role o e = absurd (true≢false (sym e))
+  subapplication_role role e = grind arith
 
   pub is_subapplication : (i : InstanceTree) → Holder sources unit i → (d : TypeTree) → tree_at sources i.type_name.name ≡ Some (subapplication_type d) → i.role ≡ roles.Subapplication
   is_subapplication i h d there = subapplication_role i.role (fits i h (subapplication_type d) there)

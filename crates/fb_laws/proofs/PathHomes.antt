@@ -1,15 +1,11 @@
 -- The home of what stands at a path is the resource of the nearest mapping of it or above it.
-use Rattle.fb_laws.proofs.Common.{◌≡◌, ◌≢◌, ℕ, ◌<◌, Bool, true, false, cond, length, List, [], ◌∷◌, ◌++◌, Option, Some, None, ◌⊎◌, inl, inr, refl, sym, ap, ◌∙◌, subst, append_assoc, append-nil, arith, find, option_map, bytes_eq, dec_lt, Contains-append_right, contains_cases, contains_here, contains_nothing, Span, MappingTree, SystemTree, on_itself, Sources, MappedTwice, Fault, IsSound, IsPrefix, IsNearest, mapping_home, mapping_path, resource_at, IsSystemAt, place_of_path, IsAbove, IsMappedTo, path_of, with_points}
-use Rattle.std.specs.Prelude.{Contains}
-use Rattle.fb_laws.proofs.HomeLemmas.{bytes_same, same_bytes}
+use Rattle.fb_laws.proofs.Common.{◌≡◌, ◌≢◌, ℕ, ◌<◌, Bool, true, false, cond, length, List, [], ◌∷◌, ◌++◌, Some, None, ◌⊎◌, inl, inr, refl, sym, ap, ◌∙◌, subst, append_assoc, append-nil, arith, find, option_map, bytes_eq, dec_lt, Contains-append_right, contains_cases, contains_here, contains_nothing, Span, MappingTree, SystemTree, on_itself, Sources, MappedTwice, Fault, IsSound, IsPrefix, IsNearest, mapping_home, mapping_path, resource_at, IsSystemAt, place_of_path, IsAbove, IsMappedTo, path_of, with_points, Contains, Path}
+use Rattle.fb_laws.proofs.Joined.{by_option}
+use Rattle.fb_laws.proofs.HomeLemmas.{bytes_same, found_in, same_bytes}
 use Rattle.fb_laws.proofs.MappingRows.{own_paths}
 use Rattle.fb_laws.proofs.PathHolders.{no_report}
 use Rattle.fb_laws.proofs.PathNames.{mapping_plain}
-use Rattle.fb_laws.proofs.PathStanding.{found_in}
 use Rattle.fb_laws.proofs.PathTexts.{ArePlain, prefix_has_name, prefix_of, goes_on, longer_text, longer_text_by, same_names, same_print, split_paths}
-
-abbrev Path : Type 0
-Path = List (List ℕ)
 
 -- where a member stands
 split_of : {X : Type 0} (xs : List X) (x : X) → Contains xs x → (before : List X) × (after : List X) × (xs ≡ before ++ x ∷ after)
@@ -76,9 +72,9 @@ module _ (sources : Sources) (unit : List ℕ) (s : SystemTree) (is : IsSystemAt
     text_length m = ap length (sym (same_print (path_of m)))
 
     -- a longer text that stands in front of the path is no mapping's
-    none_longer : (r : List ℕ) (h : IsMappedTo s path r) (other : List ℕ) → IsPrefix other (with_points path) → length (mapping_path h.mapping) < length other → (o : Option (List ℕ)) → resource_at s.mappings other ≡ o → resource_at s.mappings other ≡ None
-    none_longer r h other prefix longer None e = e
-    none_longer r h other prefix longer (Some q) e =
+    none_longer : (r : List ℕ) (h : IsMappedTo s path r) (other : List ℕ) → IsPrefix other (with_points path) → length (mapping_path h.mapping) < length other → resource_at s.mappings other ≡ None
+    none_longer r h other prefix longer =
+        by_option (resource_at s.mappings other) (λ none. none) (λ q e.
         let f = found_in mapping_path mapping_home s.mappings other q e in
         let m = f.item in
         let there : IsPrefix (mapping_path m) (with_points path) = subst (λ (t : List ℕ). IsPrefix t (with_points path)) (sym f.named) prefix in
@@ -87,14 +83,14 @@ module _ (sources : Sources) (unit : List ℕ) (s : SystemTree) (is : IsSystemAt
         let rest = split_paths (path_of m) (path_of h.mapping) above.inner h.above.inner (sym above.goes_on ∙ h.above.goes_on) (h.nearest m f.among above) in
         let short = longer_text (path_of m) rest.0 in
         let same = ap (λ (p : Path). length (with_points p)) rest.1 in
-        absurd (omega (arith, longer, ap length f.named, text_length m, text_length h.mapping, short, same))
+        absurd (omega (arith, longer, ap length f.named, text_length m, text_length h.mapping, short, same)))
 
     pub home_there : (r : List ℕ) → IsMappedTo s path r → IsNearest (resource_at s.mappings) (with_points path) (Some r)
     home_there r h = (
       mapping_path h.mapping,
       above_prefix h.mapping h.above,
       mapped_there h.mapping h.listed ∙ ap (λ (q : List ℕ). Some q) h.names,
-      λ other prefix longer. none_longer r h other prefix longer (resource_at s.mappings other) refl,
+      none_longer r h,
     )
 
     pub mapped_to : (r : List ℕ) → IsNearest (resource_at s.mappings) (with_points path) (Some r) → IsMappedTo s path r

@@ -1,6 +1,5 @@
 -- What is made where, and what is misplaced, by what stands at the paths of a system and what its mappings name.
-use Rattle.fb_laws.proofs.Common.{◌≡◌, ◌≢◌, ℕ, Bool, true, false, List, [], ◌∷◌, ◌++◌, Option, Some, None, ◌⊎◌, inl, inr, refl, sym, ap, ◌∙◌, subst, map, true≢false, filter, is_none, codes, nat_list_cmp_total, nat_cmp-IsAntisymmetric, slice_cmp-IsAntisymmetric, append_cancel_left, Contains-append_cases, Contains-append_left, Contains-append_right, name_cmp, names_in_order, in_order-members, contains_filter, contains_map, contains_nothing, origin_in_map, passes_in_filter, DeclTree, InstanceTree, MappingTree, SystemTree, system_configuration, Sources, tree_at, faulty, planned, planned_by, with_homes, HasFlat, IsNet, IsSound, PlainNet, blocked, flat_net, recursive, too_large, plan_at_is, PlainFlat, FlatBlock, Link, IsNearest, nearest, unmatched, block_homes, homeless, misplaced, unless_faulty, create_text, mapping_path, names_used, resource_at, PlainResource, leads_nowhere, mappings_in, Home, Misplaced, NoSuchBlock, Unmapped, PlacedCommand, is_nearest, IsSystemAt, AllBlocksAreMade, BlocksAreMadeWhereMapped, IsAbove, IsAtPath, IsMappedTo, IsMisplaced, IsOfSomething, MakesMapped, MisplacedIsTold, NothingPlannedIsMisplaced, OnlyBlocksAreMade, making, of_nothing, path_of, unmapped, with_points, IsHome, BeginsWith, MakesItsBlocks}
-use Rattle.std.specs.Prelude.{Contains, ◌↔◌}
+use Rattle.fb_laws.proofs.Common.{◌≡◌, ◌≢◌, ℕ, Bool, true, false, List, [], ◌∷◌, ◌++◌, Option, Some, None, ◌⊎◌, inl, inr, refl, sym, ap, ◌∙◌, subst, map, true≢false, filter, is_none, codes, append_cancel_left, Contains-append_cases, Contains-append_left, Contains-append_right, names_in_order, contains_filter, contains_map, contains_nothing, origin_in_map, passes_in_filter, DeclTree, InstanceTree, MappingTree, SystemTree, system_configuration, Sources, tree_at, faulty, planned, planned_by, with_homes, HasFlat, IsNet, IsSound, PlainNet, flat_net, plan_at_is, PlainFlat, FlatBlock, Link, IsNearest, nearest, unmatched, block_homes, homeless, misplaced, unless_faulty, create_text, mapping_path, names_used, resource_at, PlainResource, leads_nowhere, mappings_in, Home, Misplaced, NoSuchBlock, Unmapped, PlacedCommand, is_nearest, IsSystemAt, AllBlocksAreMade, BlocksAreMadeWhereMapped, IsAbove, IsAtPath, IsMappedTo, IsMisplaced, IsOfSomething, MakesMapped, MisplacedIsTold, NothingPlannedIsMisplaced, OnlyBlocksAreMade, making, of_nothing, path_of, unmapped, with_points, IsHome, BeginsWith, MakesItsBlocks, Contains, Path, from_names, in_order_has, true_from_ne_false}
 use Rattle.fb_tree.specs.declared.network.Role.TheVariants as roles
 use Rattle.fb_deploy.specs.Plans.{plan_at}
 use Rattle.fb_laws.specs.Paths.{IsMade}
@@ -14,16 +13,11 @@ use Rattle.fb_laws.proofs.PathStanding.{of_something, somewhere}
 use Rattle.fb_laws.proofs.PathTexts.{same_path, same_print}
 use Rattle.fb_laws.proofs.PlannedLemmas.{known}
 
-abbrev Path : Type 0
-Path = List (List ℕ)
-
 -- ---- the flat network of a plan
 
 flat_planned : (sources : Sources) (unit : List ℕ) (cuts : List Link) (resources : List PlainResource) (net : PlainNet) → IsNet sources unit net → planned cuts resources ≡ planned_by sources unit net → (flat : PlainFlat) × HasFlat sources unit flat
-flat_planned sources unit cuts resources (blocked names) net e = absurd (let no : ⊥ = cc in no)
-flat_planned sources unit cuts resources (recursive names) net e = absurd (let no : ⊥ = cc in no)
-flat_planned sources unit cuts resources too_large net e = absurd (let no : ⊥ = cc in no)
 flat_planned sources unit cuts resources (flat_net flat) net e = (flat, net)
+flat_planned sources unit cuts resources other net e = absurd (let no : ⊥ = cc in no)
 
 -- a plan that tells what is misplaced, of a system with this flat network
 record IsFaulty (sources : Sources) (unit : List ℕ) (found : List Misplaced) : Type 0 where
@@ -33,9 +27,6 @@ record IsFaulty (sources : Sources) (unit : List ℕ) (found : List Misplaced) :
   some : found ≢ []
 
 flat_faulty : (sources : Sources) (unit : List ℕ) (found : List Misplaced) (net : PlainNet) → IsNet sources unit net → faulty found ≡ planned_by sources unit net → IsFaulty sources unit found
-flat_faulty sources unit found (blocked names) net e = absurd (let no : ⊥ = cc in no)
-flat_faulty sources unit found (recursive names) net e = absurd (let no : ⊥ = cc in no)
-flat_faulty sources unit found too_large net e = absurd (let no : ⊥ = cc in no)
 flat_faulty sources unit found (flat_net flat) net e = by (misplaced sources unit (tree_at sources unit) flat.blocks) refl e
   where
     homes : List Home
@@ -46,6 +37,7 @@ flat_faulty sources unit found (flat_net flat) net e = by (misplaced sources uni
     by (m ∷ ms) is g =
         let same : m ∷ ms ≡ found = cc in
         record { flat = flat; is_flat = net; is = is ∙ same; some = λ none. (let empty = same ∙ none in cc) }
+flat_faulty sources unit found other net e = absurd (let no : ⊥ = cc in no)
 
 module _ (sources : Sources) (unit : List ℕ) (s : SystemTree) (is : IsSystemAt sources unit s) where
   module _ (flat : PlainFlat) (net : HasFlat sources unit flat) where
@@ -125,9 +117,6 @@ module _ (sources : Sources) (unit : List ℕ) (s : SystemTree) (is : IsSystemAt
     abbrev without_home : FlatBlock → Bool
     without_home b = is_none (nearest (resource_at s.mappings) b.path)
 
-    ordered : (names : List (List ℕ)) (name : List ℕ) → Contains (names_in_order names) name ↔ Contains names name
-    ordered names name = in_order-members name_cmp nat_list_cmp_total (slice_cmp-IsAntisymmetric nat_cmp-IsAntisymmetric) names name
-
     nothing_near : (path : List ℕ) (o : Option (List ℕ)) → nearest (resource_at s.mappings) path ≡ o → is_none o ≡ true → IsNearest (resource_at s.mappings) path None
     nothing_near path None e t = subst (λ (o : Option (List ℕ)). IsNearest (resource_at s.mappings) path o) e (is_nearest (resource_at s.mappings) path)
     nothing_near path (Some r) e t = absurd (true≢false (sym t))
@@ -159,10 +148,10 @@ module _ (sources : Sources) (unit : List ℕ) (s : SystemTree) (is : IsSystemAt
         by : Contains (map (λ (p : List ℕ). Unmapped p) (names_in_order homeless_in)) item ⊎ Contains (map (λ (p : List ℕ). NoSuchBlock p) (names_in_order astray_in)) item → IsMisplaced sources s item
         by (inl d) =
             let o = origin_in_map (λ (p : List ℕ). Unmapped p) (names_in_order homeless_in) item d in
-            subst (λ (m : Misplaced). IsMisplaced sources s m) o.gives (homeless_is o.origin ((ordered homeless_in o.origin).0 o.among))
+            subst (λ (m : Misplaced). IsMisplaced sources s m) o.gives (homeless_is o.origin (from_names homeless_in o.origin o.among))
         by (inr d) =
             let o = origin_in_map (λ (p : List ℕ). NoSuchBlock p) (names_in_order astray_in) item d in
-            subst (λ (m : Misplaced). IsMisplaced sources s m) o.gives (astray_is o.origin ((ordered astray_in o.origin).0 o.among))
+            subst (λ (m : Misplaced). IsMisplaced sources s m) o.gives (astray_is o.origin (from_names astray_in o.origin o.among))
 
     -- and the other way
 
@@ -176,20 +165,16 @@ module _ (sources : Sources) (unit : List ℕ) (s : SystemTree) (is : IsSystemAt
     leads_somewhere [] some e = absurd (some refl)
     leads_somewhere (first ∷ others) some e = somewhere sources unit s is sound first others e
 
-    lost : (m : MappingTree) → path_of m ≢ [] → ¬ IsOfSomething sources s (path_of m) → (t : Bool) → nowhere m ≡ t → nowhere m ≡ true
-    lost m written none true e = e
-    lost m written none false e = absurd (none (leads_somewhere (path_of m) written e))
-
     is_told : (item : Misplaced) → IsMisplaced sources s item → Contains told item
     is_told item (unmapped path i at role none) =
         let block : FlatBlock = record { path = with_points path; type_name = i.type_name.name } in
         let c = contains_filter without_home flat.blocks block (blocks.listed path i at role) (no_home path i at none (nearest (resource_at s.mappings) (with_points path)) refl) in
-        let d = (ordered homeless_in (with_points path)).1 (contains_map (λ (b : FlatBlock). b.path) (filter without_home flat.blocks) block c) in
+        let d = in_order_has homeless_in (with_points path) (contains_map (λ (b : FlatBlock). b.path) (filter without_home flat.blocks) block c) in
         Contains-append_left (map (λ (p : List ℕ). Unmapped p) (names_in_order homeless_in)) (map (λ (p : List ℕ). NoSuchBlock p) (names_in_order astray_in)) (Unmapped (with_points path))
         (contains_map (λ (p : List ℕ). Unmapped p) (names_in_order homeless_in) (with_points path) d)
     is_told item (of_nothing m listed written none) =
-        let c = contains_filter nowhere s.mappings m listed (lost m written none (nowhere m) refl) in
-        let d = (ordered astray_in (mapping_path m)).1 (contains_map mapping_path (filter nowhere s.mappings) m c) in
+        let c = contains_filter nowhere s.mappings m listed (true_from_ne_false (nowhere m) (λ e. none (leads_somewhere (path_of m) written e))) in
+        let d = in_order_has astray_in (mapping_path m) (contains_map mapping_path (filter nowhere s.mappings) m c) in
         subst (λ (p : List ℕ). Contains told (NoSuchBlock p)) (sym (same_print (path_of m)))
         (Contains-append_right (map (λ (p : List ℕ). Unmapped p) (names_in_order homeless_in)) (map (λ (p : List ℕ). NoSuchBlock p) (names_in_order astray_in)) (NoSuchBlock (mapping_path m))
         (contains_map (λ (p : List ℕ). NoSuchBlock p) (names_in_order astray_in) (mapping_path m) d))

@@ -1,30 +1,11 @@
 -- Where names lead to in a sound system is what stands at their path.
-use Rattle.fb_laws.proofs.Common.{◌≡◌, ℕ, Bool, true, false, not, List, [], ◌∷◌, ◌++◌, Option, Some, None, ◌⊎◌, inl, inr, refl, sym, ap, ◌∙◌, subst, append_assoc, append-nil, true≢false, find, is_none, option_map, option_map_or, bytes_eq, not-false, contains_nothing, passes_in_find, ApplicationTree, DeclTree, InstanceTree, SystemTree, subapplication_type, Role, Sources, tree_at, IsSound, first_at, PlainResolved, application_called, inner_instances, is_placed, leads_nowhere, resolved_among, resolved_at, resolved_beyond, resolved_inside, IsSystemAt, IsAtPath, IsOfSomething, in_application, inside, of_application}
-use Rattle.std.specs.Prelude.{Contains, option_and_then}
+use Rattle.fb_laws.proofs.Common.{◌≡◌, ℕ, Bool, true, false, not, List, [], ◌∷◌, ◌++◌, Option, Some, None, ◌⊎◌, inl, inr, refl, sym, ap, ◌∙◌, subst, append_assoc, append-nil, true≢false, is_none, option_map_or, not-false, contains_nothing, ApplicationTree, DeclTree, InstanceTree, SystemTree, subapplication_type, Role, Sources, tree_at, IsSound, PlainResolved, application_called, inner_instances, is_placed, leads_nowhere, resolved_among, resolved_at, resolved_beyond, resolved_inside, IsSystemAt, IsAtPath, IsOfSomething, in_application, inside, of_application, Contains, option_and_then, Path}
+use Rattle.fb_laws.proofs.Joined.{by_option}
 use Rattle.fb_tree.specs.declared.network.Role.TheVariants as roles
 use Rattle.fb_placing.proofs.ResolvedLemmas.{beyond_nothing}
 use Rattle.fb_laws.specs.Paths.{of_block, of_subapplication}
-use Rattle.fb_laws.proofs.HomeLemmas.{same_bytes}
-use Rattle.fb_laws.proofs.PathHolders.{applications_apart, first_own, holder_of, instances_apart, is_subapplication, type_apart, type_below}
-
-abbrev Path : Type 0
-Path = List (List ℕ)
-
--- the item that is found under a text
-pub record IsFound {X Y : Type 0} (key : X → List ℕ) (value : X → Y) (xs : List X) (name : List ℕ) (y : Y) : Type 0 where
-  pub item : X
-  pub among : Contains xs item
-  pub named : key item ≡ name
-  pub gives : value item ≡ y
-
-pub found_in : {X Y : Type 0} (key : X → List ℕ) (value : X → Y) (xs : List X) (name : List ℕ) (y : Y) → first_at key value xs name ≡ Some y → IsFound key value xs name y
-found_in {X = X} {Y = Y} key value xs name y e = by (find (λ (x : X). bytes_eq (key x) name) xs) refl e
-  where
-    by : (o : Option X) → find (λ (x : X). bytes_eq (key x) name) xs ≡ o → option_map value o ≡ Some y → IsFound key value xs name y
-    by None f g = absurd (let no : ⊥ = cc in no)
-    by (Some x) f g =
-        let p = passes_in_find (λ (z : X). bytes_eq (key z) name) xs x f in
-        record { item = x; among = p.among; named = same_bytes (key x) name p.passes; gives = cc }
+use Rattle.fb_laws.proofs.HomeLemmas.{found_in}
+use Rattle.fb_laws.proofs.PathHolders.{applications_apart, first_own, holder_of, instances_apart, is_subapplication, type_apart, type_below, within}
 
 -- ---- from names to what stands there
 
@@ -76,54 +57,32 @@ module _ (sources : Sources) (unit : List ℕ) (s : SystemTree) (is : IsSystemAt
   beyond_push o [] name = refl
   beyond_push o (first ∷ names) name = beyond_push (option_and_then (resolved_inside sources first) o) names name
 
-  -- the application and the names behind it, and where these lead to
-  pub record Leads (path : Path) (i : InstanceTree) : Type 0 where
-    pub application : ApplicationTree
-    pub listed : Contains s.applications application
-    pub first : List ℕ
-    pub others : Path
-    pub is_path : path ≡ application.name.name ∷ first ∷ others
-    pub holder : List ℕ
-    pub leads : resolved_beyond sources (resolved_among unit application.network.instances first) others ≡ Some (record { unit = holder; instance = i })
-
-  pub leads_at : (path : Path) (i : InstanceTree) → IsAtPath sources s path i → Leads path i
-  leads_at path end (in_application a i ca ci) = record {
-    application = a;
-    listed = ca;
-    first = i.name.name;
-    others = [];
-    is_path = refl;
-    holder = unit;
-    leads = first_own (λ (j : InstanceTree). j.name) (λ (j : InstanceTree). (let it : PlainResolved = record { unit = unit; instance = j } in it)) a.network.instances (instances_apart sources unit sound s is a ca) i ci;
-  }
+  -- where the names behind its application lead to
+  leads_at : (path : Path) (i : InstanceTree) (at : IsAtPath sources s path i) → (holder : List ℕ) × (resolved_beyond sources (resolved_among unit (within at).application.network.instances (within at).first) (within at).others ≡ Some (record { unit = holder; instance = i }))
+  leads_at path end (in_application a i ca ci) =
+      (unit, first_own (λ (j : InstanceTree). j.name) (λ (j : InstanceTree). (let it : PlainResolved = record { unit = unit; instance = j } in it)) a.network.instances (instances_apart sources unit sound s is a ca) i ci)
   leads_at path end (inside {path = before} {outer = outer} type i at role there ci) =
-      let o = leads_at before outer at in
+      let o = within at in
       let below = type_below sources unit outer (holder_of sources unit s is before outer at) in
       let name = outer.type_name.name in
-      let own = first_own (λ (j : InstanceTree). j.name) (λ (j : InstanceTree). (let it : PlainResolved = record { unit = name; instance = j } in it)) type.network.instances (type_apart sources unit sound name type below there) i ci in
-      record {
-        application = o.application;
-        listed = o.listed;
-        first = o.first;
-        others = o.others ++ i.name.name ∷ [];
-        is_path = ap (λ (p : Path). p ++ i.name.name ∷ []) o.is_path;
-        holder = name;
-        leads =
-            beyond_push (resolved_among unit o.application.network.instances o.first) o.others i.name.name
-            ∙ ap (option_and_then (resolved_inside sources i.name.name)) o.leads
-            ∙ ap (λ (t : Option DeclTree). resolved_among name (inner_instances t) i.name.name) there ∙ own;
-      }
+      let own = first_own (λ (j : InstanceTree). j.name) (λ (j : InstanceTree). (let it : PlainResolved = record { unit = name; instance = j } in it)) type.network.instances (type_apart sources unit sound name type below there) i ci in (
+        name,
+        beyond_push (resolved_among unit o.application.network.instances o.first) o.others i.name.name
+            ∙ ap (option_and_then (resolved_inside sources i.name.name)) (leads_at before outer at).1
+            ∙ ap (λ (t : Option DeclTree). resolved_among name (inner_instances t) i.name.name) there ∙ own,
+      )
 
   called : (a : ApplicationTree) → Contains s.applications a → application_called s.applications a.name.name ≡ Some a
   called a c = first_own (λ (x : ApplicationTree). x.name) (λ (x : ApplicationTree). x) s.applications (applications_apart sources unit sound s is) a c
 
   pub led_to : (path : Path) (i : InstanceTree) → IsAtPath sources s path i → (holder : List ℕ) × (resolved_at sources unit s.applications path ≡ Some (record { unit = holder; instance = i }))
   led_to path i at =
-      let o = leads_at path i at in (
-        o.holder,
+      let o = within at in
+      let l = leads_at path i at in (
+        l.0,
         ap (resolved_at sources unit s.applications) o.is_path
             ∙ ap (option_and_then (λ (it : ApplicationTree). resolved_beyond sources (resolved_among unit it.network.instances o.first) o.others)) (called o.application o.listed)
-            ∙ o.leads,
+            ∙ l.1,
       )
 
   -- ---- what leads nowhere
@@ -138,13 +97,10 @@ module _ (sources : Sources) (unit : List ℕ) (s : SystemTree) (is : IsSystemAt
 
   -- names that lead somewhere
   pub somewhere : (first : List ℕ) (others : Path) → nowhere (first ∷ others) ≡ false → IsOfSomething sources s (first ∷ others)
-  somewhere first [] e = by (application_called s.applications first) refl e
-    where
-      by : (o : Option ApplicationTree) → application_called s.applications first ≡ o → is_none o ≡ false → IsOfSomething sources s (first ∷ [])
-      by None f g = absurd (true≢false g)
-      by (Some it) f g =
-          let found = found_in (λ (x : ApplicationTree). x.name.name) (λ (x : ApplicationTree). x) s.applications first it f in
-          subst (λ (n : List ℕ). IsOfSomething sources s (n ∷ [])) found.named (of_application found.item found.among)
+  somewhere first [] e =
+      by_option (application_called s.applications first) (λ none. absurd (true≢false (sym (ap is_none none) ∙ e))) (λ it f.
+      let found = found_in (λ (x : ApplicationTree). x.name.name) (λ (x : ApplicationTree). x) s.applications first it f in
+      subst (λ (n : List ℕ). IsOfSomething sources s (n ∷ [])) found.named (of_application found.item found.among))
   somewhere first (name ∷ names) e = by (resolved_at sources unit s.applications (first ∷ name ∷ names)) refl e
     where
       by : (o : Option PlainResolved) → resolved_at sources unit s.applications (first ∷ name ∷ names) ≡ o → option_map_or (λ (t : PlainResolved). not (is_placed t.instance.role)) o true ≡ false → IsOfSomething sources s (first ∷ name ∷ names)
@@ -154,7 +110,7 @@ module _ (sources : Sources) (unit : List ℕ) (s : SystemTree) (is : IsSystemAt
   -- a path has two names at least
   placed_at : (path : Path) (i : InstanceTree) → IsAtPath sources s path i → is_placed i.role ≡ true → nowhere path ≡ false
   placed_at path i at placed =
-      let o = leads_at path i at in
+      let o = within at in
       let there = led_to path i at in
       let long = o.application.name.name ∷ o.first ∷ o.others in
       let leads : resolved_at sources unit s.applications long ≡ Some (record { unit = there.0; instance = i }) = ap (resolved_at sources unit s.applications) (sym o.is_path) ∙ there.1 in

@@ -1,9 +1,6 @@
 -- Paths of names without points and blanks, as texts.
-use Rattle.fb_laws.proofs.Common.{◌≡◌, ◌≢◌, ℕ, ◌<◌, ◌≤◌, ◌==◌, true, false, cond, length, List, [], ◌∷◌, ◌++◌, inl, inr, refl, sym, ap, ◌∙◌, append_assoc, append-nil, length-append, arith, flat_map, eqb-true, printed, IsPrefix, on_first, path_names, with_points}
+use Rattle.fb_laws.proofs.Common.{◌≡◌, ◌≢◌, ℕ, ◌<◌, ◌≤◌, ◌==◌, true, false, cond, length, List, [], ◌∷◌, ◌++◌, inl, inr, refl, sym, ap, ◌∙◌, append_assoc, append-nil, length-append, arith, flat_map, eqb-true, printed, IsPrefix, on_first, path_names, with_points, Path}
 use Rattle.fb_laws.proofs.PlainNames.{AllPlain, IsPlain}
-
-abbrev Path : Type 0
-Path = List (List ℕ)
 
 abbrev pub ArePlain : List (List ℕ) → Type 0
 ArePlain [] = Unit {0}

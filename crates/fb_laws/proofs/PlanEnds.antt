@@ -1,6 +1,5 @@
 -- Each end of a link of a flat network is that of a block.
-use Rattle.fb_laws.proofs.Common.{ℕ, ◌≡◌, List, [], ◌∷◌, ◌++◌, Some, ◌⊎◌, inl, inr, sym, ◌∙◌, ap, subst, map, append_assoc, Contains-append_left, Contains-append_right, name_cmp, contains_cases, contains_flat_map, contains_here, contains_later, contains_map, contains_nothing, passes_in_find, Sources, Sort, FlatBlock, Link, Instance, InstanceKind, IsFlat, AreBlocks, AreInstances, Held, NoInstance, ThenBlock, ThenSubapplication, held_as, held_within, leaf_first, leaves_of, BlockPort, IsLeafPlace, LeafWithin, Place, View, dotted, PlainNetwork, PlainFlat, printed, HasFlat, AreFlatApplications, IsUnitFlat, NoApplication, OfSubapplication, OfSystem, ThenApplication, Application, block_within, IsSystemFlat, application_blocks, FlatApplication, IsPrefix}
-use Rattle.std.specs.Prelude.{Contains}
+use Rattle.fb_laws.proofs.Common.{ℕ, ◌≡◌, List, [], ◌∷◌, ◌++◌, Some, ◌⊎◌, inl, inr, sym, ◌∙◌, ap, subst, map, append_assoc, Contains-append_left, Contains-append_right, name_cmp, contains_cases, contains_flat_map, contains_here, contains_later, contains_map, contains_nothing, passes_in_find, Sources, Sort, FlatBlock, Link, Instance, InstanceKind, IsFlat, AreBlocks, AreInstances, Held, NoInstance, ThenBlock, ThenSubapplication, held_as, held_within, leaf_first, leaves_of, BlockPort, IsLeafPlace, LeafWithin, Place, View, dotted, PlainNetwork, PlainFlat, printed, HasFlat, AreFlatApplications, IsUnitFlat, NoApplication, OfSubapplication, OfSystem, ThenApplication, Application, block_within, IsSystemFlat, application_blocks, FlatApplication, IsPrefix, Contains, IsFlatApplication}
 use Rattle.std.specs.BTreeMap.{is_at}
 use Rattle.fb_wiring.proofs.Network.Equals.{same_bytes}
 use Rattle.fb_placing.proofs.NameLemmas.{printed-push}
@@ -151,15 +150,24 @@ flat_prefixes {flat = flat} is link c =
 
 -- ---- the ends of a unit's links
 
--- the flat network of one of the applications
-record IsOfApplication (view : View) (flat : FlatApplication) : Type 0 where
-  network : PlainNetwork
-  is : IsFlat view network flat.flat
+-- the flat network of an application, and the application of a flat network
+pub record IsPair (view : View) (applications : List Application) (flats : List FlatApplication) (a : Application) (f : FlatApplication) : Type 0 where
+  pub application_listed : Contains applications a
+  pub flat_listed : Contains flats f
+  pub is : IsFlatApplication view a f
 
-application_flat : {view : View} {applications : List Application} {flats : List FlatApplication} → AreFlatApplications view applications flats → (f : FlatApplication) → Contains flats f → IsOfApplication view f
-application_flat NoApplication f c = absurd (contains_nothing f c)
-application_flat {view = view} (ThenApplication {others = others} a z is more) f c =
-    elim (contains_cases z others f c) [ inl same ↦ subst (λ (w : FlatApplication). IsOfApplication view w) same (record { network = a.network; is = is.net }) | inr d ↦ application_flat more f d ]
+later_pair : {view : View} {applications : List Application} {flats : List FlatApplication} {a : Application} {f : FlatApplication} (z : Application) (y : FlatApplication) → IsPair view applications flats a f → IsPair view (z ∷ applications) (y ∷ flats) a f
+later_pair {applications = applications} {flats = flats} {a = a} {f = f} z y p = record { application_listed = contains_later z applications a p.application_listed; flat_listed = contains_later y flats f p.flat_listed; is = p.is }
+
+pub flat_of : {view : View} {applications : List Application} {flats : List FlatApplication} → AreFlatApplications view applications flats → (a : Application) → Contains applications a → (f : FlatApplication) × IsPair view applications flats a f
+flat_of NoApplication a c = absurd (contains_nothing a c)
+flat_of {view = view} (ThenApplication {rest = rest} {others = others} z y is more) a c =
+    elim (contains_cases z rest a c) [ inl same ↦ (y, subst (λ (w : Application). IsPair view (z ∷ rest) (y ∷ others) w y) same (record { application_listed = contains_here z rest; flat_listed = contains_here y others; is = is })) | inr d ↦ let p = (flat_of more a d) in (p.0, later_pair z y p.1) ]
+
+pub application_of : {view : View} {applications : List Application} {flats : List FlatApplication} → AreFlatApplications view applications flats → (f : FlatApplication) → Contains flats f → (a : Application) × IsPair view applications flats a f
+application_of NoApplication f c = absurd (contains_nothing f c)
+application_of {view = view} (ThenApplication {rest = rest} {others = others} z y is more) f c =
+    elim (contains_cases y others f c) [ inl same ↦ (z, subst (λ (w : FlatApplication). IsPair view (z ∷ rest) (y ∷ others) z w) same (record { application_listed = contains_here z rest; flat_listed = contains_here y others; is = is })) | inr d ↦ let p = (application_of more f d) in (p.0, later_pair z y p.1) ]
 
 prefix_within : (name prefix path : List ℕ) → IsPrefix prefix path → IsPrefix (dotted name prefix) (dotted name path)
 prefix_within name prefix path (inl e) = inl (ap (dotted name) e)
@@ -177,7 +185,7 @@ prefixes_within flats flat whole f c end h = record {
 system_prefixes : {view : View} {applications : List Application} {flats : List FlatApplication} {flat : PlainFlat} → AreFlatApplications view applications flats → IsSystemFlat flats flat → (link : Link) → Contains flat.links link → HasPrefix flat.blocks link.from × HasPrefix flat.blocks link.to
 system_prefixes {flats = flats} {flat = flat} are whole link c =
     let l = (whole.links link).0 c in
-    let ends = flat_prefixes (application_flat are l.application l.among).is l.own l.is_own in (
+    let ends = flat_prefixes (application_of are l.application l.among).1.is.net l.own l.is_own in (
       subst (λ (w : Link). HasPrefix flat.blocks w.from) (sym l.inside) (prefixes_within flats flat whole l.application l.among l.own.from ends.0),
       subst (λ (w : Link). HasPrefix flat.blocks w.to) (sym l.inside) (prefixes_within flats flat whole l.application l.among l.own.to ends.1),
     )

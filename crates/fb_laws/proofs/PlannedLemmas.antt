@@ -1,8 +1,7 @@
 -- What is known of a system with a plan.
-use Rattle.fb_laws.proofs.Common.{ℕ, ◌≡◌, List, [], ◌∷◌, Option, Some, None, refl, ◌∙◌, ap, subst, map, filter, is_none, IsStrictlySortedBy, nat_list_cmp_total, nat_cmp-IsAntisymmetric, slice_cmp-IsAntisymmetric, Contains-append_left, name_cmp, names_in_order, in_order-members, contains_filter, contains_map, contains_nothing, plan_at_is, Sources, tree_at, FlatBlock, Link, PlainFlat, HasFlat, flat_net, IsUnitFlat, OfSubapplication, OfSystem, link_cmp, cuts_of, home_at, nearest, block_homes, homeless, misplaced, unless_faulty, resource_at, IsSystem, applications_in, devices_in, mappings_in, Home, Misplaced, Unmapped, IsPlan, planned, planned_by, with_homes, system_commands, PlainResource, resource_plans, resources_of, IsPlanned, StandsOn}
-use Rattle.std.specs.Prelude.{Contains}
+use Rattle.fb_laws.proofs.Common.{ℕ, ◌≡◌, List, [], ◌∷◌, Option, Some, None, refl, ◌∙◌, ap, subst, map, filter, is_none, IsStrictlySortedBy, nat_list_cmp_total, nat_cmp-IsAntisymmetric, slice_cmp-IsAntisymmetric, Contains-append_left, name_cmp, names_in_order, in_order-members, contains_filter, contains_map, contains_nothing, plan_at_is, Sources, tree_at, FlatBlock, Link, PlainFlat, HasFlat, flat_net, IsUnitFlat, OfSubapplication, OfSystem, link_cmp, cuts_of, home_at, nearest, block_homes, homeless, misplaced, unless_faulty, resource_at, IsSystem, applications_in, devices_in, mappings_in, Home, Misplaced, Unmapped, IsPlan, planned, planned_by, with_homes, system_commands, PlainResource, resource_plans, resources_of, IsPlanned, StandsOn, Contains, arith, IsHome, BlocksHaveOneHome, EndsHaveOneHome}
 use Rattle.fb_deploy.proofs.Flatten.OneNet.{one_net_only}
-use Rattle.fb_laws.proofs.HomeLemmas.{HasHome, end_home, home_end}
+use Rattle.fb_laws.proofs.HomeLemmas.{HasHome, end_home, home_end, one_nearest, one_prefix}
 
 -- the resources that a system maps to
 abbrev pub mapped : Sources → List ℕ → List ℕ → Option (List ℕ)
@@ -63,3 +62,14 @@ module _ (sources : Sources) (system : List ℕ) (flat : PlainFlat) (all : (b : 
 
   pub home_there : (end r : List ℕ) → StandsOn sources system flat.blocks end r → nearest (home_at (homes_in sources system flat)) end ≡ Some r
   home_there end r s = home_end (mapped sources system) flat.blocks all end r (record { block = s.block; is_at = s.is_at; home = s.home })
+
+-- what stands at a path has one home
+pub one_home : BlocksHaveOneHome
+one_home sources system path a b p q = let same = one_nearest (mapped sources system) path (Some a) (Some b) p q in cc
+
+pub one_end_home : EndsHaveOneHome
+one_end_home sources system blocks end a b p q =
+    let first = p.is_at.longest q.block q.is_at.listed q.is_at.prefix in
+    let second = q.is_at.longest p.block p.is_at.listed p.is_at.prefix in
+    let same = one_prefix p.block.path q.block.path end p.is_at.prefix q.is_at.prefix (omega (arith, first, second)) in
+    one_home sources system q.block.path a b (subst (λ (path : List ℕ). IsHome sources system path a) same p.home) q.home

@@ -1,5 +1,5 @@
 -- Ports once and in order, and internal variables.
-use Rattle.fb_laws.proofs.Common.{◌≡◌, ℕ, List, Some, sym, ap, ◌∙◌, subst, inl, inr, slice_get, cases_order, InterfaceTree, TypeTree, VariablesTree, adapter_type, block_type, structure_type, subapplication_type, system_configuration, Section, Side, TypeUse, meanings_in_type, Cell, IsBefore, IsDataOn, IsFirstVariable, IsVariableIn, data_input, data_output, in_earlier_row, of_adapter, of_block, of_subapplication, ComeAsDeclaredEach, HaveOwnNamesEach, InternalVariablesAreNoPorts, NamesStandForFirst, PortsComeAsDeclared, PortsHaveOwnNames, StandForFirst}
+use Rattle.fb_laws.proofs.Common.{◌≡◌, ℕ, List, Some, sym, ap, ◌∙◌, subst, inl, inr, slice_get, cases_order, InterfaceTree, TypeTree, VariablesTree, adapter_type, block_type, subapplication_type, Section, Side, TypeUse, meanings_in_type, Cell, IsBefore, IsDataOn, IsFirstVariable, IsVariableIn, data_input, data_output, in_earlier_row, of_block, ComeAsDeclaredEach, HaveOwnNamesEach, InternalVariablesAreNoPorts, NamesStandForFirst, PortsComeAsDeclared, PortsHaveOwnNames, StandForFirst}
 use Rattle.fb_tree.specs.declared.interface.Section.TheVariants as sections
 use Rattle.fb_laws.proofs.DataRows.{data_declared, data_in_turn, data_once, variables_stand}
 use Rattle.fb_laws.proofs.ItemRows.{adapters_in_turn, adapters_once, events_in_turn, events_once, events_stand, instances_stand}
@@ -11,12 +11,7 @@ pub own_names : PortsHaveOwnNames
 own_names (block_type d) = once_each d
 own_names (adapter_type d) = once_each d
 own_names (subapplication_type d) = once_each d
-own_names (system_configuration s) = record {
-  of_events = λ side i j one other e. absurd (let no : ⊥ = cc in no);
-  of_data = λ side i j one other e. absurd (let no : ⊥ = cc in no);
-  of_adapters = λ role i j one other e. absurd (let no : ⊥ = cc in no);
-}
-own_names (structure_type s) = record {
+own_names decl = record {
   of_events = λ side i j one other e. absurd (let no : ⊥ = cc in no);
   of_data = λ side i j one other e. absurd (let no : ⊥ = cc in no);
   of_adapters = λ role i j one other e. absurd (let no : ⊥ = cc in no);
@@ -26,9 +21,8 @@ in_order : (d : TypeTree) → ComeAsDeclaredEach d (meanings_in_type d)
 in_order d = record { of_events = events_in_turn d.interface; of_data = data_in_turn d.interface; of_adapters = adapters_in_turn d.network }
 
 pub come_as_declared : PortsComeAsDeclared
-come_as_declared decl type (of_block d) = in_order d
-come_as_declared decl type (of_adapter d) = in_order d
-come_as_declared decl type (of_subapplication d) = in_order d
+come_as_declared decl type (of_block d) = in_order type
+come_as_declared decl type is = in_order type
 
 not_before : (i : InterfaceTree) (name : List ℕ) (p q : Cell) → IsFirstVariable i name p → IsFirstVariable i name q → IsBefore p q → ⊥
 not_before i name p q v w h = w.first p v.row v.spelled h v.there v.named
@@ -58,6 +52,5 @@ stand_each : (d : TypeTree) → StandForFirst d (meanings_in_type d)
 stand_each d = record { of_events = events_stand d.interface; of_variables = variables_stand d.interface; of_instances = instances_stand d.network }
 
 pub stand_for_first : NamesStandForFirst
-stand_for_first decl type (of_block d) = stand_each d
-stand_for_first decl type (of_adapter d) = stand_each d
-stand_for_first decl type (of_subapplication d) = stand_each d
+stand_for_first decl type (of_block d) = stand_each type
+stand_for_first decl type is = stand_each type

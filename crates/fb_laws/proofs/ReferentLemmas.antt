@@ -26,16 +26,13 @@ shown false fields = fields
 shown true fields = unless_judged fields
 
 open_shown : (on : Bool) → shown on NotJudged ≡ NotJudged
-open_shown false = refl
-open_shown true = refl
+open_shown on = grind arith
 
 none_shown : (on : Bool) → shown on NoFields ≡ NoFields
-none_shown false = refl
-none_shown true = refl
+none_shown on = grind arith
 
 found_known : (o : Option DeclaredVariable) (m : Member) → is_known (field_referent o m) ≡ true
-found_known None m = refl
-found_known (Some v) m = refl
+found_known o m = grind arith
 
 among_known : (fields : Fields) (m : Member) → is_known (member_among fields m) ≡ true
 among_known (HasFields found) m = found_known (stands_for found m.name.name) m
@@ -46,8 +43,7 @@ data_section s (inl input) = ap is_data input
 data_section s (inr output) = ap is_data output
 
 has_role : (i : DeclaredInstance) → IsAdapter i → is_adapter i.role ≡ true
-has_role i (inl r) = ap is_adapter r
-has_role i (inr r) = ap is_adapter r
+has_role i is = grind arith
 
 of_role : (i : DeclaredInstance) → is_adapter i.role ≡ true → IsAdapter i
 of_role i e =
@@ -218,18 +214,14 @@ module _ (sources : Sources) (unit : List ℕ) (d : TypeTree) (declared : tree_a
   port_told r i m behind at = (λ k. not (is_some_count (at.plain k)) && is_at_adapter (at.stands k)) ∙ has_role i at.adapter
 
   -- a reference at a plug or a socket
-  record AtPort (r : ReferenceTree) (m : Member) (behind : List Member) : Type 0 where
-    instance : DeclaredInstance
-    at_port : IsAtPort d r instance m behind
-
-  port_found : (r : ReferenceTree) (m : Member) (behind : List Member) → r.members ≡ m ∷ behind → is_before_port names.scope r.name.name r.subscripts ≡ true → AtPort r m behind
+  port_found : (r : ReferenceTree) (m : Member) (behind : List Member) → r.members ≡ m ∷ behind → is_before_port names.scope r.name.name r.subscripts ≡ true → (i : DeclaredInstance) × IsAtPort d r i m behind
   port_found r m behind second e = by_count (is_some_count r.subscripts) refl e
     where
-      by_instance : r.subscripts ≡ 0 → (o : Option DeclaredInstance) → stands_for (meanings_in_type d).instances r.name.name ≡ o → is_at_adapter o ≡ true → AtPort r m behind
+      by_instance : r.subscripts ≡ 0 → (o : Option DeclaredInstance) → stands_for (meanings_in_type d).instances r.name.name ≡ o → is_at_adapter o ≡ true → (i : DeclaredInstance) × IsAtPort d r i m behind
       by_instance none None stands e = absurd (true≢false (sym e))
-      by_instance none (Some i) stands e = record { instance = i; at_port = record { stands = stands; adapter = of_role i e; plain = none; second = second } }
+      by_instance none (Some i) stands e = (i, record { stands = stands; adapter = of_role i e; plain = none; second = second })
 
-      by_count : (b : Bool) → is_some_count r.subscripts ≡ b → (not b && is_at_adapter (stands_for (meanings_in_type d).instances r.name.name)) ≡ true → AtPort r m behind
+      by_count : (b : Bool) → is_some_count r.subscripts ≡ b → (not b && is_at_adapter (stands_for (meanings_in_type d).instances r.name.name)) ≡ true → (i : DeclaredInstance) × IsAtPort d r i m behind
       by_count false none e = let few = ltb-false 0 r.subscripts none in by_instance (omega (arith, few)) (stands_for (meanings_in_type d).instances r.name.name) refl e
       by_count true some e = absurd (true≢false (sym e))
 
@@ -250,7 +242,7 @@ module _ (sources : Sources) (unit : List ℕ) (d : TypeTree) (declared : tree_a
       by_port : (m : Member) (behind : List Member) → r.members ≡ m ∷ behind → (b : Bool) → is_before_port names.scope r.name.name r.subscripts ≡ b → Start r
       by_port m behind second true e =
           let at = port_found r m behind second e in
-          record { base = port_named names.scope r.name.name m; skipped = m ∷ []; behind = behind; starts = at_second at.instance m behind at.at_port }
+          record { base = port_named names.scope r.name.name m; skipped = m ∷ []; behind = behind; starts = at_second at.0 m behind at.1 }
       by_port m behind second false e = record {
         base = variable_named names.scope r.name.name (is_some_count r.subscripts);
         skipped = [];
@@ -276,7 +268,7 @@ module _ (sources : Sources) (unit : List ℕ) (d : TypeTree) (declared : tree_a
   pub walked : (r : ReferenceTree) (base : Referent) (skipped behind : List Member) → Starts r base skipped behind → (before others : List Member) → behind ≡ before ++ others → referent_through names r (skipped ++ before) ≡ walk names base before
   walked r base [] behind (at_first none) [] others parted = refl
   walked r base [] behind (at_first none) (m ∷ ms) others parted =
-      (elim (is_before_port names.scope r.name.name r.subscripts) as (λ b. is_before_port names.scope r.name.name r.subscripts ≡ b → cond b (walk names (port_named names.scope r.name.name m) ms) (walk names base (m ∷ ms)) ≡ walk names base (m ∷ ms)) [ true ↦ λ e. let at = port_found r m (ms ++ others) parted e in absurd (none at.instance m (ms ++ others) at.at_port) | false ↦ λ e. refl ]) refl
+      (elim (is_before_port names.scope r.name.name r.subscripts) as (λ b. is_before_port names.scope r.name.name r.subscripts ≡ b → cond b (walk names (port_named names.scope r.name.name m) ms) (walk names base (m ∷ ms)) ≡ walk names base (m ∷ ms)) [ true ↦ λ e. let at = port_found r m (ms ++ others) parted e in absurd (none at.0 m (ms ++ others) at.1) | false ↦ λ e. refl ]) refl
   walked r base (n ∷ []) behind (at_second i m rest at) before others parted =
       ap (λ b. cond b (walk names (port_named names.scope r.name.name m) before) (walk names (variable_named names.scope r.name.name (is_some_count r.subscripts)) (m ∷ before))) (port_told r i m rest at)
   walked r base (n ∷ (q ∷ qs)) behind none before others parted = elim none [ ]

@@ -1,11 +1,10 @@
 -- Paths that stand twice in a list.
-use Rattle.fb_laws.proofs.Common.{◌≡◌, ℕ, ◌+◌, true, false, ◌||◌, length, List, [], ◌∷◌, ◌++◌, map, take, Some, inl, inr, refl, sym, ap, ◌∙◌, subst, true≢false, arith, nat_cmp-IsAntisymmetric, slice_cmp-IsAntisymmetric, Contains, enumerate_from, take-append_seam, Code, Fault, at_place, in_places, contains_cases, contains_filter, contains_here, contains_later, contains_map, contains_nothing, origin_in_map, passes_in_filter, Path, PathUse, fault_at_path, has_path, is_repeated, repeated, repeated_faults, same_path}
-use Rattle.std.specs.List.{filter}
+use Rattle.fb_laws.proofs.Common.{map-append, ◌≡◌, ℕ, ◌+◌, true, false, ◌||◌, length, List, [], ◌∷◌, ◌++◌, map, take, Some, inl, inr, refl, sym, ap, ◌∙◌, subst, true≢false, arith, nat_cmp-IsAntisymmetric, slice_cmp-IsAntisymmetric, Contains, enumerate_from, take-append_seam, Code, Fault, at_place, in_places, contains_cases, contains_filter, contains_here, contains_later, contains_map, contains_nothing, origin_in_map, passes_in_filter, Path, PathUse, fault_at_path, has_path, is_repeated, repeated, repeated_faults, same_path, filter}
 use Rattle.std.specs.Ordering.{is_eq}
 use Rattle.std.proofs.Math.Bool.{or-true}
 use Rattle.std.proofs.lemmas.Cmp.{lists_total, nat_list_cmp_total, tied_itself}
 use Rattle.std.proofs.lemmas.Map.Views.{tells_apart}
-use Rattle.fb_laws.proofs.SplitLemmas.{SplitImages, at_split, images_split, split_at, split_images}
+use Rattle.fb_laws.proofs.SplitLemmas.{SplitImages, at_split, split_at, split_images}
 
 path_exact : (a b : Path) → same_path a b ≡ true → a ≡ b
 path_exact a b e = tells_apart (slice_cmp-IsAntisymmetric (slice_cmp-IsAntisymmetric nat_cmp-IsAntisymmetric)) a b e
@@ -95,6 +94,6 @@ repeat_reported path code items before after item other split seen same =
     (record {
       before = map path before;
       after = map path after;
-      split = ap (map path) split ∙ images_split path before item after;
+      split = ap (map path) split ∙ map-append path before (item ∷ after);
       seen = among_paths (map path before) (path item).names (path other) (contains_map path before other seen) same;
     }))

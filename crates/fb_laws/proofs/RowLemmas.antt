@@ -18,9 +18,8 @@ behind (x ∷ xs) ys j = let number : length (x ∷ xs) + j ≡ suc (length xs +
 module _ {X Y : Type 0} (f : X → List Y) where
   -- the number of a place among all
   pub number_of : List X → ℕ → ℕ → ℕ
-  number_of [] row column = column
-  number_of (x ∷ xs) zero column = column
   number_of (x ∷ xs) (suc row) column = length (f x) + number_of xs row column
+  number_of xs row column = column
 
   -- what stands at a place of the rows
   pub record IsAt (xs : List X) (row column : ℕ) (y : Y) : Type 0 where
@@ -74,9 +73,8 @@ module _ {X Y : Type 0} (f : X → List Y) where
 
   columns_in_turn : (xs : List X) (row column column' : ℕ) → column < column' → number_of xs row column < number_of xs row column'
   unfolding number_of
-  columns_in_turn [] row column column' less = less
-  columns_in_turn (x ∷ xs) zero column column' less = less
   columns_in_turn (x ∷ xs) (suc row) column column' less = let more = columns_in_turn xs row column column' less in omega (arith, more)
+  columns_in_turn xs row column column' less = less
 
   pub numbers_in_turn : (xs : List X) (a b : Cell) (y : Y) → IsAt xs a.row a.column y → IsBefore a b → number_of xs a.row a.column < number_of xs b.row b.column
   numbers_in_turn xs a b y o (in_earlier_row less) = rows_in_turn xs a.row a.column b.row b.column y o less

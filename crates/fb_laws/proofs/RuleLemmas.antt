@@ -1,5 +1,5 @@
 -- The rules of classes, by the functions of the check.
-use Rattle.fb_laws.proofs.Common.{◌≡◌, ◌≢◌, Bool, true, false, Option, Some, None, unwrap_or, refl, sym, ap, ◌∙◌, true≢false, option_and_then, false_from_ne_true, is_free, takes, Class, B, I, W, O, Free, Num, Any, arithmetical, change, class_of_broken, combined, join, logical, operation, pair_class, whole as whole_of, allows, ClassPlace, Condition, Count, Counter, Selector, Joins, Takes, IsLogical, Calculates, Divides, Changes, JoinsTruths, Compares, IsArithmetic, Makes, Combines, Spoils, Results, Fits}
+use Rattle.fb_laws.proofs.Common.{◌≡◌, ◌≢◌, Bool, true, false, Option, Some, None, unwrap_or, refl, sym, ap, ◌∙◌, true≢false, option_and_then, false_from_ne_true, is_free, takes, Class, B, I, Free, Any, arithmetical, change, class_of_broken, combined, join, logical, operation, pair_class, whole as whole_of, allows, ClassPlace, Condition, Joins, Takes, IsLogical, Calculates, Divides, Changes, JoinsTruths, Compares, IsArithmetic, Makes, Combines, Spoils, Results, Fits, arith}
 use Rattle.fb_tree.specs.declared.expression.BinaryOperator.{BinaryOperator}
 use Rattle.fb_tree.specs.declared.expression.BinaryOperator.TheVariants.{Modulo}
 use Rattle.fb_tree.specs.declared.expression.UnaryOperator.{UnaryOperator}
@@ -35,28 +35,8 @@ joins a Any = gives (Joins.any_right a)
 joins Any b = gives (Joins.any_left b)
 joins a b = search (known, joined)
 
-equal_joins : (c : Class) → join c c ≡ Some c
-equal_joins B = refl
-equal_joins c = refl
-
-left_joins : (c : Class) → join Any c ≡ Some c
-left_joins B = refl
-left_joins c = refl
-
-right_joins : (c : Class) → join c Any ≡ Some c
-right_joins B = refl
-right_joins c = refl
-
-free_joins : (c : Class) → join c Free ≡ Some Free
-free_joins B = refl
-free_joins c = refl
-
 pub told_join : (a b c : Class) → Joins a b c → join a b ≡ Some c
-told_join a b c (Joins.equal d) = equal_joins d
-told_join a b c (Joins.any_left d) = left_joins d
-told_join a b c (Joins.any_right d) = right_joins d
-told_join a b c (Joins.free_right d) = free_joins d
-told_join a b c is = refl
+told_join a b c is = grind arith
 
 -- constants
 
@@ -67,13 +47,8 @@ known_take Free constant e = Takes.free_type constant
 known_take kind Free e = Takes.free_constant kind
 known_take kind constant e = first_of (search constants, cc)
 
-free_taken : (kind : Class) → takes kind Free ≡ true
-free_taken B = refl
-free_taken kind = refl
-
 told_take : (kind constant : Class) → Takes kind constant → takes kind constant ≡ true
-told_take kind constant (Takes.free_constant c) = free_taken c
-told_take kind constant is = refl
+told_take kind constant is = grind arith
 
 pub not_taken : (kind constant : Class) → takes kind constant ≡ false → ¬ Takes kind constant
 not_taken kind constant e is = true≢false (sym (told_take kind constant is) ∙ e)
@@ -109,16 +84,13 @@ divided I = gives Divides.whole
 divided c = search (known, kinds)
 
 told_logic : (c : Class) → IsLogical c → logical c ≡ Some c
-told_logic c IsLogical.truth = refl
-told_logic c is = refl
+told_logic c is = grind arith
 
 told_calculated : (c g : Class) → Calculates c g → arithmetical c ≡ Some g
-told_calculated c g Calculates.whole = refl
-told_calculated c g is = refl
+told_calculated c g is = grind arith
 
 told_divided : (c g : Class) → Divides c g → whole_of c ≡ Some g
-told_divided c g Divides.whole = refl
-told_divided c g is = refl
+told_divided c g is = grind arith
 
 not_of : (c g : Class) → Keeps c g → Changes Not c g
 not_of c g (keeps l) = Changes.not l
@@ -197,13 +169,7 @@ spoils Modulo = Spoils.modulo
 spoils operator = search (spoilt, logics, comparisons, calculations)
 
 told_spoils : (operator : BinaryOperator) (g : Class) → Spoils operator g → class_of_broken operator ≡ g
-told_spoils operator g (Spoils.logic JoinsTruths.or) = refl
-told_spoils operator g (Spoils.logic is) = refl
-told_spoils operator g (Spoils.comparison Compares.equal) = refl
-told_spoils operator g (Spoils.comparison is) = refl
-told_spoils operator g (Spoils.arithmetic IsArithmetic.add) = refl
-told_spoils operator g (Spoils.arithmetic is) = refl
-told_spoils operator g Spoils.modulo = refl
+told_spoils operator g is = grind arith
 
 pub results : (operator : BinaryOperator) (a b : Class) → Results operator a b (pair_class operator a b)
 results operator a b = by_case (combined operator a b) refl (combines operator a b)
@@ -227,36 +193,15 @@ is_truth c = false
 no_truth : (c : Class) → is_truth c ≡ false → c ≢ B
 no_truth c e is = true≢false (sym (ap is_truth is) ∙ e)
 
+ruleset fitting = (Fits.truth, Fits.any_truth, Fits.whole, Fits.number, Fits.any_number, Fits.counter, Fits.selector, no_truth)
+
 pub fits : (place : ClassPlace) (c : Class) → allows place c ≡ true → Fits place c
 fits Condition B e = Fits.truth
-fits Condition Free e = Fits.free Condition
-fits Condition Any e = Fits.any_truth
-fits Count I e = Fits.whole
-fits Count Free e = Fits.free Count
-fits Count Num e = Fits.number
-fits Count Any e = Fits.any_number
-fits Counter I e = Fits.counter
-fits Counter Free e = Fits.free Counter
-fits Selector I e = Fits.selector I (no_truth I refl)
-fits Selector W e = Fits.selector W (no_truth W refl)
-fits Selector O e = Fits.selector O (no_truth O refl)
-fits Selector Free e = Fits.free Selector
-fits Selector Num e = Fits.selector Num (no_truth Num refl)
-fits Selector Any e = Fits.selector Any (no_truth Any refl)
-fits place c e = absurd (true≢false (sym e))
-
-all_free : (place : ClassPlace) → allows place Free ≡ true
-all_free Condition = refl
-all_free place = refl
-
-selects : (c : Class) → c ≢ B → allows Selector c ≡ true
-selects B other = absurd (other refl)
-selects c other = refl
+fits place Free e = Fits.free place
+fits place c e = first_of (search fitting, cc)
 
 pub told_fit : (place : ClassPlace) (c : Class) → Fits place c → allows place c ≡ true
-told_fit place c (Fits.selector d other) = selects d other
-told_fit place c (Fits.free p) = all_free p
-told_fit place c is = refl
+told_fit place c is = grind arith
 
 pub misfits : (place : ClassPlace) (c : Class) → allows place c ≡ false → ¬ Fits place c
 misfits place c e f = true≢false (sym (told_fit place c f) ∙ e)

@@ -1,7 +1,8 @@
 -- The parts of constants, types, interfaces, networks, states and parts of systems.
-use Rattle.fb_laws.proofs.Common.{inl, inr, refl, List, ◌∷◌, ◌++◌, map, Option, Some, None, flat_map, NameUse, one, key, behind, list, name, names, OpenBracket, CloseBracket, Of, Lexeme, number, ranges, length_of_string, element_or_sized, plain_type, array_of, array_type, type_use, other_literal_kinds, simple, in_brackets, constant_list, constant, parameter, listed_parameters, parameters, optional_parameters, instance, plugs, sockets, blocks, inner_subapplication, subapplications, end, connection, connections, ParameterTree, one_value, value_span, Section, Side, TypeUse, Role, Sort, Part, name_part, constant_part, type_part, name_parts, names_in, option_parts, simple_parts, constant_parts, type_use_parts, event_parts, variables_parts, parameter_parts, instance_parts, end_parts, connection_parts, action_parts, state_parts, resource_parts, device_parts, mapping_parts}
+use Rattle.fb_laws.proofs.Common.{inl, inr, refl, List, ◌∷◌, ◌++◌, map, Option, Some, None, flat_map, NameUse, one, key, behind, list, name, names, OpenBracket, CloseBracket, Of, Lexeme, number, ranges, length_of_string, element_or_sized, plain_type, array_of, array_type, type_use, other_literal_kinds, simple, in_brackets, constant_list, constant, parameter, listed_parameters, parameters, optional_parameters, instance, inner_subapplication, end, connection, connections, ParameterTree, one_value, value_span, Section, Side, TypeUse, Role, Sort, Part, name_part, constant_part, type_part, name_parts, names_in, option_parts, simple_parts, constant_parts, type_use_parts, event_parts, variables_parts, parameter_parts, instance_parts, end_parts, connection_parts, action_parts, state_parts, resource_parts, device_parts, mapping_parts, Kind, subapplications}
 use Rattle.fb_sections.specs.Chart.{sent_event, action, actions, state, states}
-use Rattle.fb_sections.specs.Interface.{with_names, event, events, initial, variables, data_variables, internal_variables, fields}
+use Rattle.fb_sections.specs.Interface.{with_names, event, events, initial, variables, data_variables}
+use Rattle.fb_sections.specs.Sections.{section}
 use Rattle.fb_sections.specs.SystemParts.{path, mapping, mappings, header, resource, device}
 use Rattle.fb_laws.proofs.Tokens.{Each}
 use Rattle.fb_laws.proofs.Filling.{Filled, filled_as, filled_either, filled_token, filled_name, Ends, ends_filled, ends_second, ends_behind, filled_across, filled_more, filled_from}
@@ -106,7 +107,7 @@ sound_initial : Sound initial (option_parts constant_parts)
 unfolding initial
 sound_initial = sound_option _ constant_parts (sound_behind _ constant constant_parts sound_constant)
 
-sound_variables : (s : Section) → Sound (variables s) variables_parts
+pub sound_variables : (s : Section) → Sound (variables s) variables_parts
 unfolding variables
 sound_variables s =
     sound_as _ _ variables_parts
@@ -116,14 +117,6 @@ sound_variables s =
 pub sound_data_variables : Sound data_variables (flat_map variables_parts)
 unfolding data_variables
 sound_data_variables = sound_either _ _ (flat_map variables_parts) (sound_section _ _ _ variables_parts (sound_variables _)) (sound_section _ _ _ variables_parts (sound_variables _))
-
-pub sound_internal_variables : Sound internal_variables (flat_map variables_parts)
-unfolding internal_variables
-sound_internal_variables = sound_section _ _ _ variables_parts (sound_variables _)
-
-pub sound_fields : Sound fields (flat_map variables_parts)
-unfolding fields
-sound_fields = sound_section _ _ _ variables_parts (sound_variables _)
 
 -- Networks
 
@@ -145,17 +138,9 @@ sound_instance r =
     (sound_both name _ name_parts (λ v. name_parts v.0 ++ flat_map parameter_parts v.1) sound_name
     (sound_behind _ _ _ (sound_both name _ name_parts (flat_map parameter_parts) sound_name (sound_before _ _ (flat_map parameter_parts) sound_optional_parameters))))
 
-pub sound_plugs : Sound plugs (flat_map instance_parts)
-unfolding plugs
-sound_plugs = sound_section _ _ _ instance_parts (sound_instance _)
-
-pub sound_sockets : Sound sockets (flat_map instance_parts)
-unfolding sockets
-sound_sockets = sound_section _ _ _ instance_parts (sound_instance _)
-
-pub sound_blocks : Sound blocks (flat_map instance_parts)
-unfolding blocks
-sound_blocks = sound_section _ _ _ instance_parts (sound_instance _)
+-- plugs, sockets or blocks
+pub sound_instances : (start : Kind) (r : Role) (last : Kind) → Sound (section start (instance r) last) (flat_map instance_parts)
+sound_instances start r last = sound_section start (instance r) last instance_parts (sound_instance r)
 
 sound_subapplication : Sound inner_subapplication instance_parts
 unfolding inner_subapplication

@@ -1,9 +1,8 @@
 -- The parts of what a form reads are written in the tokens that spell it.
-use Rattle.fb_laws.proofs.Common.{refl, ◌≡◌, inl, inr, List, [], ◌∷◌, ◌++◌, map, Option, Some, None, sym, subst, flat_map, or_right, NameUse, Form, one, both, either, option, many, as_value, Spells, SpellsOption, SpellsEach, key, before, behind, or_none, optional_list, cons, separated, name, names, is_among, name_kinds, same_kind, name_use, Kind, Lexeme, Part, name_part, mark_part, name_parts, option_parts, part_span, SpellsPart, IsWritten, mark}
-use Rattle.std.specs.Prelude.{Bool, true, false, ◌||◌}
+use Rattle.fb_laws.proofs.Common.{refl, ◌≡◌, inl, inr, List, [], ◌∷◌, ◌++◌, map, Option, Some, None, sym, subst, flat_map, NameUse, Form, one, both, either, option, many, as_value, Spells, SpellsOption, SpellsEach, key, before, behind, or_none, optional_list, cons, separated, name, names, is_among, name_kinds, name_use, Kind, Lexeme, Part, name_part, mark_part, name_parts, option_parts, part_span, SpellsPart, IsWritten, mark, true, flat_map-append}
 use Rattle.fb_sections.specs.Sections.{section, optional_name}
 use Rattle.fb_laws.proofs.Filling.{Filled, filled_as, filled_token, filled_name}
-use Rattle.fb_laws.proofs.Tokens.{Each, each_append, each_prefix, each_rest, each_left, each_right, written_whole}
+use Rattle.fb_laws.proofs.Tokens.{Each, each_append, each_left, each_right, written_whole}
 
 pub record Sound {A : Type 0} (x : Form A) (parts : A → List Part) : Type 0 where
   pub stands : (us : List Lexeme) (v : A) → Spells x us v → Each (IsWritten us) (parts v)
@@ -122,19 +121,4 @@ each_none P ps h = each_append P ps [] h tt
 
 -- the parts of the items of two lists
 pub each_items : {A : Type 0} (P : Part → Type 0) (f : A → List Part) (xs ys : List A) → Each P (flat_map f xs) → Each P (flat_map f ys) → Each P (flat_map f (xs ++ ys))
-each_items P f [] ys h k = k
-each_items P f (x ∷ xs) ys h k = each_append P (f x) (flat_map f (xs ++ ys)) (each_prefix P (f x) (flat_map f xs) h) (each_items P f xs ys (each_rest P (f x) (flat_map f xs) h) k)
-
--- Kinds in lists
-
-or_more : (a b c : Bool) → (b ≡ true → c ≡ true) → (a || b) ≡ true → (a || c) ≡ true
-or_more true b c f h = refl
-or_more false b c f h = f h
-
-pub among_more : (kinds more : List Kind) (k : Kind) → is_among kinds k ≡ true → is_among (kinds ++ more) k ≡ true
-among_more [] more k h = cc
-among_more (x ∷ kinds) more k h = or_more (same_kind x k) (is_among kinds k) (is_among (kinds ++ more) k) (among_more kinds more k) h
-
-pub among_right : (kinds more : List Kind) (k : Kind) → is_among more k ≡ true → is_among (kinds ++ more) k ≡ true
-among_right [] more k h = h
-among_right (x ∷ kinds) more k h = or_right (same_kind x k) (is_among (kinds ++ more) k) (among_right kinds more k h)
+each_items P f xs ys h k = subst (Each P) (sym (flat_map-append f xs ys)) (each_append P (flat_map f xs) (flat_map f ys) h k)

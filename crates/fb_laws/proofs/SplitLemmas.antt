@@ -1,6 +1,10 @@
 -- Lists that are split at an item.
-use Rattle.fb_laws.proofs.Common.{zero, suc, ◌≡◌, ℕ, length, List, [], ◌∷◌, ◌++◌, map, take, Some, ◌⊎◌, inl, inr, refl, sym, ap, ◌∙◌, append_assoc, flat_map, slice_get, map-append}
-use Rattle.std.proofs.lemmas.Grind.{flat_map-append}
+use Rattle.fb_laws.proofs.Common.{zero, suc, ◌≡◌, ℕ, length, List, [], ◌∷◌, ◌++◌, map, take, Some, ◌⊎◌, inl, inr, refl, sym, ap, ◌∙◌, append_assoc, flat_map, slice_get, flat_map-append}
+
+-- the empty list is not split
+pub nothing_split : {A : Type 0} (before : List A) (x : A) (after : List A) → [] ≡ before ++ x ∷ after → ⊥
+nothing_split [] x after e = let fails : ⊥ = cc in fails
+nothing_split (y ∷ before) x after e = let fails : ⊥ = cc in fails
 
 -- what stands at a place splits the list
 pub split_at : {A : Type 0} (xs : List A) (j : ℕ) (x : A) → slice_get xs j ≡ Some x → (after : List A) × (xs ≡ take j xs ++ x ∷ after)
@@ -38,8 +42,7 @@ pub record SplitImages {X Y : Type 0} (f : X → Y) (xs : List X) (before : List
   pub gives : f origin ≡ y
 
 pub split_images : {X Y : Type 0} (f : X → Y) (xs : List X) (before after : List Y) (y : Y) → map f xs ≡ before ++ y ∷ after → SplitImages f xs before y
-split_images f [] [] after y e = absurd (let fails : ⊥ = cc in fails)
-split_images f [] (b ∷ before) after y e = absurd (let fails : ⊥ = cc in fails)
+split_images f [] before after y e = absurd (nothing_split before y after e)
 split_images f (x ∷ xs) [] after y e = record { earlier = []; origin = x; later = xs; split = refl; passed = refl; gives = cc }
 split_images {X = X} {Y = Y} f (x ∷ xs) (b ∷ before) after y e = by (split_images f xs before after y tails)
   where
@@ -64,8 +67,7 @@ pub record SplitThrough {X Y : Type 0} (f : X → List Y) (xs : List X) (before 
   pub passed : before ≡ flat_map f earlier ++ inside
 
 pub split_through : {X Y : Type 0} (f : X → List Y) (xs : List X) (before after : List Y) (y : Y) → flat_map f xs ≡ before ++ y ∷ after → SplitThrough f xs before y
-split_through f [] [] after y e = absurd (let fails : ⊥ = cc in fails)
-split_through f [] (b ∷ before) after y e = absurd (let fails : ⊥ = cc in fails)
+split_through f [] before after y e = absurd (nothing_split before y after e)
 split_through {X = X} {Y = Y} f (x ∷ xs) before after y e = by (split_append (f x) (flat_map f xs) before after y e) (λ inside split. split_through f xs inside after y split)
   where
     later_on : (inside : List Y) → before ≡ f x ++ inside → SplitThrough f xs inside y → SplitThrough f (x ∷ xs) before y
@@ -91,6 +93,3 @@ through_split f earlier later x inside rest y parts =
     ∙ ap (λ l. flat_map f earlier ++ (l ++ flat_map f later)) parts
     ∙ ap (λ l. flat_map f earlier ++ l) (append_assoc inside (y ∷ rest) (flat_map f later))
     ∙ sym (append_assoc (flat_map f earlier) inside (y ∷ (rest ++ flat_map f later)))
-
-pub images_split : {X Y : Type 0} (f : X → Y) (before : List X) (x : X) (after : List X) → map f (before ++ x ∷ after) ≡ map f before ++ f x ∷ map f after
-images_split f before x after = map-append f before (x ∷ after)

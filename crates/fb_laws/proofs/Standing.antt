@@ -1,6 +1,5 @@
 -- Parts that are written in the tokens as the grammar sees them stand in the text.
-use Rattle.fb_laws.proofs.Common.{◌≡◌, ℕ, zero, suc, ◌<◌, ◌≤◌, Bool, true, false, cond, List, [], ◌∷◌, ◌++◌, length, map, refl, sym, ap, ◌∙◌, subst, arith, Result, Ok, Err, All, IsOk, nat_lt, slice_index_or, slice_range, IsCharBoundary, str_to_ascii_uppercase, map-append, Contains-append_left, All-contains, All-from_recursion, All-map, All-weaker, Contains-append_right, name_of, tokens_of, spans_of, IsSpelled, LiesIn, SpansRise, HasForm, is_word, word_len, NameFault, NameUse, Span, Token, TokenKind, name_of-ok, IsBody, IsBodyIn, body_of, Whole, name as name_form, Spells, is_among, name_kinds, lexeme_of, lexemes_in, lexemes_of, name_or, name_use, Lexeme, DeclTree, told, Part, name_part, tree_parts, PartsAreWritten, SpansCoverTokens, SpansLieInText, NamesAreWords, part_span, BeginsAt, EndsAt, IsWritten}
-use Rattle.std.specs.Prelude.{Contains, ◌==◌}
+use Rattle.fb_laws.proofs.Common.{◌≡◌, ℕ, zero, suc, ◌<◌, ◌≤◌, Bool, true, false, cond, List, [], ◌∷◌, ◌++◌, length, map, refl, sym, ap, ◌∙◌, subst, arith, Result, Ok, Err, All, IsOk, nat_lt, slice_index_or, slice_range, IsCharBoundary, str_to_ascii_uppercase, map-append, Contains-append_left, All-contains, All-from_recursion, All-map, All-weaker, Contains-append_right, name_of, tokens_of, spans_of, IsSpelled, LiesIn, SpansRise, HasForm, is_word, word_len, NameFault, NameUse, Span, Token, TokenKind, name_of-ok, IsBody, IsBodyIn, body_of, Whole, name as name_form, Spells, is_among, name_kinds, lexeme_of, lexemes_in, lexemes_of, name_or, name_use, Lexeme, DeclTree, told, Part, name_part, tree_parts, PartsAreWritten, SpansCoverTokens, SpansLieInText, NamesAreWords, part_span, BeginsAt, EndsAt, IsWritten, Contains, ◌==◌}
 use Rattle.fb_text.specs.declared.name.NameFault.TheVariants.{Empty, BadByte, TooLong}
 use Rattle.fb_structured_text.proofs.Forms.NameWords.{names as names_are_words}
 use Rattle.fb_laws.specs.Standing.{Covers, IsWord}
@@ -11,10 +10,8 @@ use Rattle.fb_laws.proofs.UnitSpans.{sound_unit}
 
 ok_name : (a b c : Bool) (e f g : NameFault) (name other : List ℕ)
     → IsOk (cond a (Err e) (cond b (Err f) (cond c (Err g) (Ok name)))) → name_or (cond a (Err e) (cond b (Err f) (cond c (Err g) (Ok name)))) other ≡ name
-ok_name true b c e f g name other h = cc
-ok_name false true c e f g name other h = cc
-ok_name false false true e f g name other h = cc
 ok_name false false false e f g name other h = refl
+ok_name a b c e f g name other h = cc
 
 -- a word of at most 64 bytes spells its name
 pub spelled_word : (bytes other : List ℕ) → is_word bytes ≡ true → length bytes ≤ 64 → name_or (name_of bytes) other ≡ str_to_ascii_uppercase bytes

@@ -1,5 +1,5 @@
 -- What a statement demands, by what stands in it.
-use Rattle.fb_laws.proofs.Common.{◌≡◌, List, [], ◌∷◌, ◌++◌, Option, Some, None, ◌⊎◌, inl, inr, refl, sym, subst, Contains, option_map_or, Contains-append_cases, Contains-append_left, Contains-append_right, NameUse, Span, ReferenceTree, Expression, reference_expression, Expressions, no_expressions, Statement, empty, assignment, exit, return, choice, selection, count, while_loop, repeat_loop, Statements, no_statements, statement_then, Arms, no_arms, arm_then, contains_cases, contains_here, contains_later, contains_nothing, contains_single, Demand, names_variable, suits_place, assigns, demands_in, demands_at, name_alone, counter_demands, range_demands, statement_demands, statements_demands, arms_demands, Names, ClassPlace, Condition, Count, Counter, Selector, IsArmOf, first_arm, later_arm, Asks, selector, from, to, by, while_condition, until_condition, HasExpression, in_place, value, this, in_arm, behind_else, in_case, behind_cases, in_for, in_while, in_repeat, IsAmong, in_first_statement, in_later_statement}
+use Rattle.fb_laws.proofs.Common.{◌≡◌, List, [], ◌∷◌, ◌++◌, Option, Some, None, ◌⊎◌, inl, inr, refl, sym, subst, Contains, option_map_or, Contains-append_cases, Contains-append_left, Contains-append_right, NameUse, Span, ReferenceTree, Expression, reference_expression, Expressions, no_expressions, Statement, assignment, choice, selection, count, while_loop, repeat_loop, Statements, no_statements, statement_then, Arms, no_arms, arm_then, contains_cases, contains_here, contains_later, contains_nothing, contains_single, Demand, names_variable, suits_place, assigns, demands_in, demands_at, name_alone, counter_demands, range_demands, statement_demands, statements_demands, arms_demands, Names, ClassPlace, Condition, Count, Counter, Selector, IsArmOf, first_arm, later_arm, Asks, selector, from, to, by, while_condition, until_condition, HasExpression, in_place, value, this, in_arm, behind_else, in_case, behind_cases, in_for, in_while, in_repeat, IsAmong, in_first_statement, in_later_statement}
 use Rattle.fb_laws.specs.Occurrences.{arm, destination, IsWithin}
 use Rattle.fb_laws.proofs.ExpressionLemmas.{Asked, asked_in, demanded_in}
 
@@ -113,12 +113,9 @@ module _ (names : Names) where
 
   mutual
     asked_within : (s : Statement) (demand : Demand) → Contains (statement_demands names s) demand → Within names s demand
-    asked_within empty demand c = absurd (contains_nothing demand c)
     asked_within (assignment r subscripts place e) demand c =
         itself_demands (assignment r subscripts place e) demand
         (of_assignment r subscripts place e demand (in_three (demands_in names (reference_expression r subscripts)) (demands_in names e) (assigns (reference_expression r subscripts) place e ∷ []) demand c))
-    asked_within exit demand c = absurd (contains_nothing demand c)
-    asked_within return demand c = absurd (contains_nothing demand c)
     asked_within (choice arms otherwise) demand c =
         of_choice arms otherwise demand (Contains-append_cases (arms_demands names arms) (statements_demands names otherwise) demand c) (asked_in_arms arms demand) (asked_among otherwise demand)
     asked_within (selection e cases otherwise) demand c =
@@ -129,6 +126,7 @@ module _ (names : Names) where
         of_loop (while_loop condition body) condition body demand while_condition (λ t o. in_while o) (Contains-append_cases (demands_at Condition names condition) (statements_demands names body) demand c) (asked_among body demand)
     asked_within (repeat_loop body condition) demand c =
         of_loop (repeat_loop body condition) condition body demand until_condition (λ t o. in_repeat o) (swapped (Contains-append_cases (statements_demands names body) (demands_at Condition names condition) demand c)) (asked_among body demand)
+    asked_within s demand c = absurd (contains_nothing demand c)
 
     pub asked_among : (ss : Statements) (demand : Demand) → Contains (statements_demands names ss) demand → Among names ss demand
     asked_among no_statements demand c = absurd (contains_nothing demand c)
@@ -159,10 +157,6 @@ module _ (names : Names) where
       three_in (counter_demands name) (range_demands names a b step) (statements_demands names body) demand (second (three_in (demands_at Count names a) (demands_at Count names b) (step_demands step) demand h))
 
   place_demanded : (s : Statement) (place : ClassPlace) (x : Expression) (demand : Demand) → Asks s place x → Contains (demands_at place names x) demand → Contains (statement_demands names s) demand
-  place_demanded empty place x demand none c = elim none [ ]
-  place_demanded (assignment r subscripts at e) place x demand none c = elim none [ ]
-  place_demanded exit place x demand none c = elim none [ ]
-  place_demanded return place x demand none c = elim none [ ]
   place_demanded (choice arms otherwise) place x demand (arm {body = body} is) c =
       Contains-append_left (arms_demands names arms) (statements_demands names otherwise) demand (condition_demanded x body arms demand is c)
   place_demanded (selection e cases otherwise) place x demand selector c = three_in (demands_at Selector names e) (statements_demands names cases) (statements_demands names otherwise) demand (first c)
@@ -171,6 +165,7 @@ module _ (names : Names) where
   place_demanded (count name a b (Some e) body) place x demand by c = range_demanded name a b (Some e) body demand (third c)
   place_demanded (while_loop condition body) place x demand while_condition c = Contains-append_left (demands_at Condition names condition) (statements_demands names body) demand c
   place_demanded (repeat_loop body condition) place x demand until_condition c = Contains-append_right (statements_demands names body) (demands_at Condition names condition) demand c
+  place_demanded s place x demand none c = elim none [ ]
 
   inside_demanded : (s : Statement) (x : Expression) (demand : Demand) → HasExpression s x → Contains (demands_in names x) demand → Contains (statement_demands names s) demand
   inside_demanded s x demand (in_place place asks) c = place_demanded s place x demand asks (Contains-append_left (demands_in names x) (suits_place place x ∷ []) demand c)

@@ -1,6 +1,5 @@
 -- Parts that are written among tokens.
-use Rattle.fb_laws.proofs.Common.{ℕ, List, [], ◌∷◌, ◌++◌, sym, ap, ◌∙◌, append_assoc, AllByRecursion, Span, Lexeme, Part, part_span, BeginsAt, EndsAt, SpellsPart, IsWritten}
-use Rattle.std.proofs.lemmas.List.{append-nil}
+use Rattle.fb_laws.proofs.Common.{ℕ, List, [], ◌∷◌, ◌++◌, sym, ap, ◌∙◌, append_assoc, AllByRecursion, Span, Lexeme, Part, part_span, BeginsAt, EndsAt, SpellsPart, IsWritten, append-nil}
 
 -- Where tokens begin and end
 

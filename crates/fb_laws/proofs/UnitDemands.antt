@@ -1,5 +1,5 @@
 -- What the guards and the algorithms of a block type demand, and the faults of what is not met.
-use Rattle.fb_laws.proofs.Common.{◌≡◌, ℕ, false, List, [], ◌∷◌, ◌++◌, Option, Some, None, ◌⊎◌, inl, inr, refl, subst, Contains, flat_map, Contains-append_cases, Contains-append_left, Contains-append_right, NameUse, Span, ReferenceTree, Expression, reference_expression, unary_expression, row_expression, Expressions, no_expressions, Operands, Statement, assignment, count, Statements, statements_of, ConditionTree, guarded, guard, DeclTree, TypeTree, block_type, adapter_type, BinaryUse, UnaryUse, Member, Sources, tree_at, Class as ValueClass, Fault, contains_flat_map, contains_here, contains_nothing, contains_single, origin_in_flat_map, expr_faults_of, faults_in_unit, Demand, names_variable, names_field, suits_operand, suits_operands, suits_place, assigns, is_met, demands_in, demands_at, name_alone, guard_demands, transition_demands, algorithm_demands, chart_demands, class_in, Names, names_of_type, ClassPlace, Condition, Count, Counter, IsOneOf, OccursIn, Asks, IsGuardOf, with_event, IsRunIn, IsTestedIn, IsWrittenIn, in_guard, in_statement}
+use Rattle.fb_laws.proofs.Common.{◌≡◌, ℕ, false, List, [], ◌∷◌, ◌++◌, Option, Some, ◌⊎◌, inl, inr, refl, subst, Contains, flat_map, Contains-append_cases, Contains-append_left, Contains-append_right, NameUse, Span, ReferenceTree, Expression, reference_expression, unary_expression, row_expression, Expressions, no_expressions, Operands, Statement, assignment, count, Statements, statements_of, ConditionTree, guarded, guard, DeclTree, TypeTree, block_type, BinaryUse, UnaryUse, Member, Sources, tree_at, Class as ValueClass, Fault, contains_flat_map, contains_here, contains_nothing, contains_single, origin_in_flat_map, expr_faults_of, faults_in_unit, Demand, names_variable, names_field, suits_operand, suits_operands, suits_place, assigns, is_met, demands_in, demands_at, name_alone, guard_demands, transition_demands, algorithm_demands, chart_demands, class_in, Names, names_of_type, ClassPlace, Condition, Count, Counter, IsOneOf, OccursIn, Asks, IsGuardOf, with_event, IsRunIn, IsTestedIn, IsWrittenIn, in_guard, in_statement}
 use Rattle.fb_expr.specs.Demands.{fault_of}
 use Rattle.fb_expr.proofs.DemandLemmas.{faults_unmet}
 use Rattle.fb_laws.specs.Occurrences.{alone}
@@ -105,11 +105,9 @@ pub unmet : (sources : Sources) (unit : List ℕ) (f : Fault) → Contains (expr
 unmet sources unit f c = by (tree_at sources unit) refl c
   where
     by : (o : Option DeclTree) → tree_at sources unit ≡ o → Contains (faults_in_unit sources unit o) f → Unmet sources unit f
-    by None e h = absurd (contains_nothing f h)
     by (Some (block_type d)) e h =
         let u = (faults_unmet sources unit d e f).0 c in
         record { block = d; declared = e; demand = u.0; of_block = demand_of (names_of_type sources unit d) d u.0 u.1; fails = u.2; is = u.3 }
-    by (Some (adapter_type d)) e h = absurd (contains_nothing f h)
     by o e h = absurd (contains_nothing f h)
 
 pub reported : (sources : Sources) (unit : List ℕ) (f : Fault) → Unmet sources unit f → Contains (expr_faults_of sources unit) f

@@ -3,27 +3,29 @@ use Rattle.fb_laws.proofs.Common.{List, [], ◌∷◌, ◌++◌, flat_map, NameU
 use Rattle.fb_deploy.specs.Parse.Contents.{ContentsTree, of_events, of_variables, of_adapters, of_instances, of_connections, of_states, of_transitions, of_algorithm, interfaces_merged, networks_merged, charts_merged, merged, joined}
 use Rattle.fb_deploy.specs.Parse.Grammar.{data_section, service_section, interface_section, network_section, chart_section, block_section, adapter_section, application_section, subapplication_section, framed, type_of, block, adapter, subapplication, application_of, application, system_section, system, structure, unit}
 use Rattle.fb_deploy.specs.Parse.SystemContents.{SystemContentsTree, of_application, of_device, of_mappings, system_joined}
+use Rattle.fb_sections.specs.Interface.{internal_variables, fields}
 use Rattle.fb_laws.proofs.Tokens.{Each, each_append, each_prefix, each_rest}
-use Rattle.fb_laws.proofs.Sound.{Sound, sound_nothing, sound_both, sound_as, sound_either, sound_many, sound_behind, sound_before, sound_name, sound_same, each_none, each_items}
-use Rattle.fb_laws.proofs.Sections.{sound_events, sound_data_variables, sound_internal_variables, sound_fields, sound_plugs, sound_sockets, sound_blocks, sound_subapplications, sound_connections, sound_states, sound_mappings, sound_device}
+use Rattle.fb_laws.proofs.Sound.{Sound, sound_nothing, sound_both, sound_as, sound_either, sound_many, sound_behind, sound_before, sound_section, sound_name, sound_same, each_none, each_items}
+use Rattle.fb_laws.proofs.Sections.{sound_events, sound_data_variables, sound_variables, sound_instances, sound_subapplications, sound_connections, sound_states, sound_mappings, sound_device}
 use Rattle.fb_laws.proofs.ChartSpans.{sound_transitions, sound_algorithm}
 
--- The parts of items of two kinds, joined with others
+-- Parts in two lists, each joined with others
+each_two : (P : Part → Type 0) (a b c d ac bd : List Part) → (Each P a → Each P c → Each P ac) → (Each P b → Each P d → Each P bd) → Each P (a ++ b) → Each P (c ++ d) → Each P (ac ++ bd)
+each_two P a b c d ac bd first second h k = each_append P ac bd (first (each_prefix P a b h) (each_prefix P c d k)) (second (each_rest P a b h) (each_rest P c d k))
+
+-- those of items of two kinds
 each_joined : {A B : Type 0} (P : Part → Type 0) (f : A → List Part) (g : B → List Part) (xs ys : List A) (zs ws : List B)
     → Each P (flat_map f xs ++ flat_map g zs) → Each P (flat_map f ys ++ flat_map g ws) → Each P (flat_map f (xs ++ ys) ++ flat_map g (zs ++ ws))
-each_joined P f g xs ys zs ws h k =
-    each_append P (flat_map f (xs ++ ys)) (flat_map g (zs ++ ws))
-    (each_items P f xs ys (each_prefix P (flat_map f xs) (flat_map g zs) h) (each_prefix P (flat_map f ys) (flat_map g ws) k))
-    (each_items P g zs ws (each_rest P (flat_map f xs) (flat_map g zs) h) (each_rest P (flat_map f ys) (flat_map g ws) k))
+each_joined P f g xs ys zs ws =
+    each_two P (flat_map f xs) (flat_map g zs) (flat_map f ys) (flat_map g ws) (flat_map f (xs ++ ys)) (flat_map g (zs ++ ws)) (each_items P f xs ys) (each_items P g zs ws)
 
 -- and of items of three kinds
 each_joined_3 : {A B C : Type 0} (P : Part → Type 0) (f : A → List Part) (g : B → List Part) (o : C → List Part) (xs ys : List A) (zs ws : List B) (vs us : List C)
     → Each P (flat_map f xs ++ (flat_map g zs ++ flat_map o vs)) → Each P (flat_map f ys ++ (flat_map g ws ++ flat_map o us))
     → Each P (flat_map f (xs ++ ys) ++ (flat_map g (zs ++ ws) ++ flat_map o (vs ++ us)))
-each_joined_3 P f g o xs ys zs ws vs us h k =
-    each_append P (flat_map f (xs ++ ys)) (flat_map g (zs ++ ws) ++ flat_map o (vs ++ us))
-    (each_items P f xs ys (each_prefix P (flat_map f xs) (flat_map g zs ++ flat_map o vs) h) (each_prefix P (flat_map f ys) (flat_map g ws ++ flat_map o us) k))
-    (each_joined P g o zs ws vs us (each_rest P (flat_map f xs) (flat_map g zs ++ flat_map o vs) h) (each_rest P (flat_map f ys) (flat_map g ws ++ flat_map o us) k))
+each_joined_3 P f g o xs ys zs ws vs us =
+    each_two P (flat_map f xs) (flat_map g zs ++ flat_map o vs) (flat_map f ys) (flat_map g ws ++ flat_map o us) (flat_map f (xs ++ ys)) (flat_map g (zs ++ ws) ++ flat_map o (vs ++ us))
+    (each_items P f xs ys) (each_joined P g o zs ws vs us)
 
 -- Sections
 
@@ -40,16 +42,12 @@ each_charts : (P : Part → Type 0) (a b : ChartTree) → Each P (chart_parts a)
 each_charts P a b h k = each_joined_3 P state_parts transition_parts algorithm_parts a.states b.states a.transitions b.transitions a.algorithms b.algorithms h k
 
 each_merged : (P : Part → Type 0) (a b : ContentsTree) → Each P (contents_parts a) → Each P (contents_parts b) → Each P (contents_parts (merged a b))
-each_merged P a b h k =
-    let inner_a = network_parts a.network ++ chart_parts a.chart in
-    let inner_b = network_parts b.network ++ chart_parts b.chart in
-    let h' = each_rest P (interface_parts a.interface) inner_a h in
-    let k' = each_rest P (interface_parts b.interface) inner_b k in
-    each_append P (interface_parts (interfaces_merged a.interface b.interface)) (network_parts (networks_merged a.network b.network) ++ chart_parts (charts_merged a.chart b.chart))
-    (each_interfaces P a.interface b.interface (each_prefix P (interface_parts a.interface) inner_a h) (each_prefix P (interface_parts b.interface) inner_b k))
-    (each_append P (network_parts (networks_merged a.network b.network)) (chart_parts (charts_merged a.chart b.chart))
-    (each_networks P a.network b.network (each_prefix P (network_parts a.network) (chart_parts a.chart) h') (each_prefix P (network_parts b.network) (chart_parts b.chart) k'))
-    (each_charts P a.chart b.chart (each_rest P (network_parts a.network) (chart_parts a.chart) h') (each_rest P (network_parts b.network) (chart_parts b.chart) k')))
+each_merged P a b =
+    each_two P (interface_parts a.interface) (network_parts a.network ++ chart_parts a.chart) (interface_parts b.interface) (network_parts b.network ++ chart_parts b.chart)
+    (interface_parts (interfaces_merged a.interface b.interface)) (network_parts (networks_merged a.network b.network) ++ chart_parts (charts_merged a.chart b.chart))
+    (each_interfaces P a.interface b.interface)
+    (each_two P (network_parts a.network) (chart_parts a.chart) (network_parts b.network) (chart_parts b.chart) (network_parts (networks_merged a.network b.network)) (chart_parts (charts_merged a.chart b.chart))
+    (each_networks P a.network b.network) (each_charts P a.chart b.chart))
 
 each_section : (P : Part → Type 0) (all : List ContentsTree) → Each P (flat_map contents_parts all) → Each P (contents_parts (joined all))
 each_section P [] h = tt
@@ -76,18 +74,18 @@ each_instances : (P : Part → Type 0) (f : List Part) → Each P f → Each P (
 each_instances P f h = each_none P (f ++ []) (each_none P f h)
 
 sound_interface_section : Sound interface_section contents_parts
-unfolding interface_section
+unfolding interface_section plugs sockets
 sound_interface_section =
     sound_either _ _ contents_parts sound_data_section
     (sound_either _ _ contents_parts
-    (sound_as of_adapters plugs contents_parts (sound_of plugs of_adapters (flat_map instance_parts) (λ P v h. each_instances P (flat_map instance_parts v) h) sound_plugs))
-    (sound_as of_adapters sockets contents_parts (sound_of sockets of_adapters (flat_map instance_parts) (λ P v h. each_instances P (flat_map instance_parts v) h) sound_sockets)))
+    (sound_as of_adapters plugs contents_parts (sound_of plugs of_adapters (flat_map instance_parts) (λ P v h. each_instances P (flat_map instance_parts v) h) (sound_instances _ _ _)))
+    (sound_as of_adapters sockets contents_parts (sound_of sockets of_adapters (flat_map instance_parts) (λ P v h. each_instances P (flat_map instance_parts v) h) (sound_instances _ _ _))))
 
 sound_network_section : Sound network_section contents_parts
-unfolding network_section
+unfolding network_section blocks
 sound_network_section =
     sound_either _ _ contents_parts
-    (sound_as of_instances blocks contents_parts (sound_of blocks of_instances (flat_map instance_parts) (λ P v h. each_instances P (flat_map instance_parts v) h) sound_blocks))
+    (sound_as of_instances blocks contents_parts (sound_of blocks of_instances (flat_map instance_parts) (λ P v h. each_instances P (flat_map instance_parts v) h) (sound_instances _ _ _)))
     (sound_as of_connections connections contents_parts (sound_of connections of_connections (flat_map connection_parts) (λ P v h. each_none P (flat_map connection_parts v) h) sound_connections))
 
 sound_chart_section : Sound chart_section contents_parts
@@ -100,11 +98,11 @@ sound_chart_section =
     (sound_as of_algorithm _ contents_parts (sound_of _ of_algorithm algorithm_parts (λ P v h. each_none P (algorithm_parts v) h) sound_algorithm)))
 
 sound_block_section : Sound block_section contents_parts
-unfolding block_section
+unfolding block_section internal_variables
 sound_block_section =
     sound_either _ _ contents_parts sound_interface_section
     (sound_either _ _ contents_parts
-    (sound_as of_variables _ contents_parts (sound_of _ of_variables (flat_map variables_parts) (λ P v h. each_none P (flat_map variables_parts v) h) sound_internal_variables))
+    (sound_as of_variables _ contents_parts (sound_of _ of_variables (flat_map variables_parts) (λ P v h. each_none P (flat_map variables_parts v) h) (sound_section _ _ _ variables_parts (sound_variables _))))
     (sound_either _ _ contents_parts sound_network_section
     (sound_either _ _ contents_parts sound_chart_section sound_service_section)))
 
@@ -201,11 +199,11 @@ sound_system =
 -- Structures
 
 sound_structure : Sound structure structure_parts
-unfolding structure
+unfolding structure fields
 sound_structure =
     sound_as _ _ structure_parts
     (sound_behind _ _ _ (sound_both name _ name_parts (flat_map variables_parts) sound_name
-    (sound_behind _ _ _ (sound_before _ _ (flat_map variables_parts) sound_fields))))
+    (sound_behind _ _ _ (sound_before _ _ (flat_map variables_parts) (sound_section _ _ _ variables_parts (sound_variables _))))))
 
 -- Units
 

@@ -1,2 +1,2 @@
 pub returns : Rattle.fb_laws.proofs.plans.blocks_have_one_home.Goals.returns
-returns c = Rattle.fb_laws.proofs.OneHome.one_home
+returns c = Rattle.fb_laws.proofs.PlannedLemmas.one_home
