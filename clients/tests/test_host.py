@@ -1,30 +1,30 @@
-"""A host by its lines alone: its secret, first lines of any form, workers that go on, and what it prints of a session."""
+"""A host by its lines alone: first lines of any form, workers after the last connection, and what it prints of a session."""
 from __future__ import annotations
 
 import json
 import socket
 import struct
 import subprocess
-import tempfile
 import time
 import unittest
-from pathlib import Path
 
 from support import workbench
 
 TAKE = b'{"op":"take"}\n'
 NO_JOB = b'{"job":0}\n'
 BLOCK = "FUNCTION_BLOCK {name} END_FUNCTION_BLOCK"
-# A first line may have so many bytes before its end is waited for no longer.
+# A host waits for the end of a first line of up to so many bytes.
 LONGEST_HEAD = 8_192
 SECONDS = 60.0
 
 
-class HostTest(unittest.TestCase):
+class OneConnection(unittest.TestCase):
     """Each test starts a host that closes after one connection."""
 
+    more: tuple[str, ...] = ()
+
     def setUp(self) -> None:
-        words = [workbench(), "host", "--port", "0", "--connections", "1", "--sessions", "1"]
+        words = [workbench(), "host", "--port", "0", "--connections", "1", "--sessions", "1", *self.more]
         self.host = subprocess.Popen(words, stdin=subprocess.DEVNULL, stdout=subprocess.PIPE, stderr=subprocess.PIPE)
         self.addCleanup(self.host.communicate)
         self.addCleanup(self.host.kill)
@@ -37,7 +37,7 @@ class HostTest(unittest.TestCase):
 
     def closed(self) -> tuple[int, bytes, bytes]:
         """The status of the host, and what it printed behind its address."""
-        out, errors = self.host.communicate(timeout=SECONDS)
+        out, errors = self.host.communicate(timeout=2 * SECONDS)
         return self.host.returncode, out, errors
 
     def asked(self, request: object) -> bytes:
@@ -45,6 +45,8 @@ class HostTest(unittest.TestCase):
         self.peer.sendall(json.dumps(request).encode() + b"\n")
         return self.lines.readline()
 
+
+class HostTest(OneConnection):
     def test_a_first_line_without_an_end_is_answered_at_the_end_of_the_stream(self) -> None:
         self.peer.sendall(TAKE.rstrip())
         self.peer.shutdown(socket.SHUT_WR)
@@ -63,7 +65,7 @@ class HostTest(unittest.TestCase):
             time.sleep(0.01)
         self.assertEqual(NO_JOB, self.lines.readline())
 
-    def test_workers_go_on_behind_the_last_connection(self) -> None:
+    def test_workers_go_on_after_the_last_connection(self) -> None:
         changes = [{"put": f"U{number}", "base": 0, "text": BLOCK.format(name=f"U{number}")} for number in range(16)]
         self.assertEqual(b'{"commit":1}\n', self.asked({"op": "commit", "changes": changes}))
         end = time.monotonic() + SECONDS
@@ -80,32 +82,16 @@ class HostTest(unittest.TestCase):
         self.assertEqual((0, b"closed\n", b"session 1: read failed\n"), self.closed())
 
 
-class IdleTest(unittest.TestCase):
+class IdleTest(OneConnection):
+    more = ("--idle", "1")
+
     def test_a_silent_session_ends_after_a_minute(self) -> None:
-        words = [workbench(), "host", "--port", "0", "--connections", "1", "--sessions", "1", "--idle", "1"]
-        with subprocess.Popen(words, stdin=subprocess.DEVNULL, stdout=subprocess.PIPE, stderr=subprocess.PIPE) as host:
-            self.addCleanup(host.kill)
-            assert host.stdout is not None
-            port = int(host.stdout.readline().rpartition(b":")[2])
-            begun = time.monotonic()
-            with socket.create_connection(("127.0.0.1", port)) as peer:
-                peer.sendall(TAKE)
-                out, errors = host.communicate(timeout=120)
-            passed = time.monotonic() - begun
-        self.assertEqual((0, b"closed\n", b"session 1: idle\n"), (host.returncode, out, errors))
+        begun = time.monotonic()
+        self.peer.sendall(TAKE)
+        self.assertEqual((0, b"closed\n", b"session 1: idle\n"), self.closed())
+        passed = time.monotonic() - begun
         self.assertLess(59, passed)
         self.assertLess(passed, 90)
-
-
-class SecretTest(unittest.TestCase):
-    def test_a_secret_that_cannot_be_had_admits_nobody(self) -> None:
-        with tempfile.TemporaryDirectory() as folder:
-            empty = Path(folder, "empty")
-            empty.write_bytes(b"\nsecret\n")
-            for path in (empty, Path(folder, "absent"), Path(folder)):
-                words = [workbench(), "host", "--port", "0", "--connections", "1", "--secret", str(path)]
-                done = subprocess.run(words, stdin=subprocess.DEVNULL, capture_output=True, text=True, timeout=SECONDS)
-                self.assertEqual((1, "", f"bench61499: no secret in {path}\n"), (done.returncode, done.stdout, done.stderr))
 
 
 if __name__ == "__main__":

@@ -1,11 +1,13 @@
-"""The words of the program: its help, its version, and a port that is taken."""
+"""The words of the program: its help, its version, a port that is taken, and a secret that can't be read."""
 from __future__ import annotations
 
 import re
 import socket
 import subprocess
+import tempfile
 import tomllib
 import unittest
+from pathlib import Path
 
 from support import CLIENTS, workbench
 
@@ -39,6 +41,14 @@ class WordsTest(unittest.TestCase):
             port = taken.getsockname()[1]
             status, out, errors = ran("host", "--port", str(port))
         self.assertEqual((status, out, errors), (1, "", f"bench61499: cannot listen on 127.0.0.1:{port}\n"))
+
+    def test_a_secret_that_cannot_be_read_admits_nobody(self) -> None:
+        with tempfile.TemporaryDirectory() as folder:
+            empty = Path(folder, "empty")
+            empty.write_bytes(b"\nsecret\n")
+            for path in (empty, Path(folder, "absent"), Path(folder)):
+                told = (1, "", f"bench61499: no secret in {path}\n")
+                self.assertEqual(ran("host", "--port", "0", "--connections", "1", "--secret", str(path)), told)
 
 
 if __name__ == "__main__":

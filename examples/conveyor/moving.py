@@ -5,16 +5,15 @@
     python3 examples/conveyor/moving.py --requests   prints the request lines alone
 """
 import json
-import os
-import shutil
 import subprocess
 import sys
 from pathlib import Path
 
 HERE = Path(__file__).resolve().parent
-TOP = HERE.parent.parent
-BUILT = [str(it) for it in (TOP / "crates/bench61499/out/bench61499", TOP / "bin/bench61499") if it.exists()]
-PROGRAM = os.environ.get("BENCH61499_PROGRAM") or (BUILT or ["bench61499"])[0]
+sys.path.insert(0, str(HERE.parents[1] / "clients/python"))
+
+from bench61499 import NoWorkbench, find_program
+
 MAPPED = "    LINE.SECOND ON SOUTH.MOTION;\n"
 MOVED = MAPPED + "    LINE.SECOND.LIFT ON NORTH.MOTION;\n"
 
@@ -64,9 +63,10 @@ def main():
     if "--requests" in sys.argv[1:]:
         print("\n".join(lines))
         return 0
-    if not shutil.which(PROGRAM):
-        sys.exit(f"there is no program {PROGRAM}: build it with ./run script </dev/null, which proves for up to an hour, or name one in BENCH61499_PROGRAM")
-    ran = subprocess.run([PROGRAM, "script"], input="\n".join(lines), stdout=subprocess.PIPE, text=True)
+    try:
+        ran = subprocess.run([find_program(), "script"], input="\n".join(lines), stdout=subprocess.PIPE, text=True)
+    except (NoWorkbench, OSError) as error:
+        sys.exit(str(error))
     replies = [json.loads(line) for line in ran.stdout.splitlines()]
     if len(replies) < len(lines):
         return ran.returncode or 1
