@@ -1,6 +1,6 @@
 //! The classes of expressions.
 ghost use Rattle.std.specs.Prelude.{◌≡◌, ◌++◌, IfOk, OnOk, is_some, map};
-ghost use Rattle.fb_tree.specs.Expression.{expression_tree, expressions_of, operands_of, reference_expression, reference_tree};
+ghost use Rattle.fb_tree.specs.Expression.{alone_tree, expression_tree, expressions_of, no_expressions, operands_of, reference_expression, reference_tree};
 ghost use Rattle.fb_expr.specs.Classes.{change, combined, pair_class, unary_class};
 ghost use Rattle.fb_expr.specs.Expressions.{class_in, faults_in, row_class, row_faults, subscript_faults};
 ghost use Rattle.fb_expr.specs.Names.{names_in};
@@ -9,10 +9,11 @@ ghost use Rattle.fb_expr.specs.Statements.{faults_at_place};
 
 use crate::classes::{broken, changed, operated};
 use crate::names::Names;
-use crate::references::{referred, report_reference};
+use crate::references::{referred, referred_variable, report_reference};
 use crate::rules::{ClassPlace, report_class};
 use crate::spans::{span_of, span_of_names};
 use fb_iface::{Class, Fault, class_by_form};
+use fb_tree::text::NameUse;
 use fb_tree::{BinaryUse, Expr, Reference, UnaryUse};
 use std::alloc::AllocError;
 
@@ -27,6 +28,7 @@ pub fn judge(names: Names<'_>, expr: &Expr, found: &mut Vec<Fault>) -> Result<Cl
 {
     match expr {
         Expr::Literal(literal) => Ok(class_by_form(literal.form)),
+        Expr::Name(used) => judge_name(names, used, found),
         Expr::Reference(reference, subscripts) => {
             judge_reference(names, reference, subscripts.as_slice(), found)
         }
@@ -34,12 +36,34 @@ pub fn judge(names: Names<'_>, expr: &Expr, found: &mut Vec<Fault>) -> Result<Cl
             let class = judge(names, operand, found)?;
             judge_change(operator, class, found)
         }
+        Expr::Pair(pair) => {
+            let left = judge(names, &pair.0, found)?;
+            let right = judge(names, &pair.2, found)?;
+            judge_pair(&pair.1, left, right, found)
+        }
         Expr::Row(first, operands) => {
             let left = judge(names, first, found)?;
             judge_row(names, left, operands.as_slice(), found)
         }
         Expr::Parentheses(inner, _) => judge(names, inner, found),
     }
+}
+
+/// The class of a variable that is a name alone.
+pub fn judge_name(
+    names: Names<'_>,
+    used: &NameUse,
+    found: &mut Vec<Fault>,
+) -> Result<Class, AllocError>
+    ensures class { IfOk result (λ class. class ≡ class_in (names_in names.entry)
+        (reference_expression (alone_tree used.now) no_expressions)) }
+    ensures faults { OnOk result
+        (found.new.items ≡ found.old.items ++ faults_in (names_in names.entry)
+        (reference_expression (alone_tree used.now) no_expressions)) }
+{
+    let referent = referred_variable(names.scope, &used.name.name(), false);
+    report_reference(&referent, used.span.span(), found)?;
+    Ok(referent.class())
 }
 
 /// The class of a variable with its subscripts.

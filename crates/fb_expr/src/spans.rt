@@ -34,8 +34,10 @@ pub fn span_of(expr: &Expr) -> Span
 {
     match expr {
         Expr::Literal(literal) => literal.span.span(),
+        Expr::Name(used) => used.span.span(),
         Expr::Reference(reference, _) => reference.span.span(),
         Expr::Unary(operator, operand) => across(operator.span.span(), span_of(operand)),
+        Expr::Pair(pair) => across(span_of(&pair.0), span_of(&pair.2)),
         Expr::Row(first, operands) => {
             let mut span = span_of(first);
             for (_, operand) in operands {

@@ -1,12 +1,12 @@
 //! The check of statements.
 ghost use Rattle.std.specs.Prelude.{◌≡◌, ◌++◌, OnOk, map, option_map};
-ghost use Rattle.fb_tree.specs.Expression.{expression_tree, expressions_of, reference_expression, reference_tree};
+ghost use Rattle.fb_tree.specs.Expression.{alone_tree, expression_tree, expressions_of, no_expressions, reference_expression, reference_tree};
 ghost use Rattle.fb_tree.specs.Statement.{statement_tree, statements_of};
 ghost use Rattle.fb_expr.specs.Names.{names_in};
 ghost use Rattle.fb_expr.specs.Statements.{assignment_faults, counter_faults, range_faults, statement_faults, statements_faults};
 
 use crate::classes::joined;
-use crate::expressions::{judge, judge_at, judge_reference};
+use crate::expressions::{judge, judge_at, judge_name, judge_reference};
 use crate::names::Names;
 use crate::references::{referred_variable, report_reference};
 use crate::rules::{ClassPlace, report_class};
@@ -45,6 +45,7 @@ fn report_statement(
 {
     match statement {
         Stmt::Empty | Stmt::Exit | Stmt::Return => Ok(()),
+        Stmt::Set(name, place, value) => report_set(names, name, place.span(), value, found),
         Stmt::Assign(variable, subscripts, place, value) => {
             report_assignment(
                 names,
@@ -80,6 +81,23 @@ fn report_statement(
             judge_at(ClassPlace::Condition, names, condition, found)
         }
     }
+}
+
+/// Reports the faults of an assignment to a name alone. `place` is that of `:=`.
+fn report_set(
+    names: Names<'_>,
+    name: &NameUse,
+    place: Span,
+    value: &Expr,
+    found: &mut Vec<Fault>,
+) -> Result<(), AllocError>
+    ensures { OnOk result
+        (found.new.items ≡ found.old.items ++ assignment_faults (names_in names.entry)
+        (reference_expression (alone_tree name.now) no_expressions) place (expression_tree value.now)) }
+{
+    let target = judge_name(names, name, found)?;
+    let value = judge(names, value, found)?;
+    report_class(joined(target, value).is_some(), place, found)
 }
 
 /// Reports the faults of an assignment. `place` is that of `:=`.

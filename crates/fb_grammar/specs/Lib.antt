@@ -9,3 +9,5 @@ pub mod Words
 pub mod Literals
 pub mod Repetition
 pub mod Gives
+pub mod Upcoming
+pub mod Pulled

@@ -14,20 +14,45 @@ use fb_tree::text::same_word;
 fn word_of_2(word: &[u8]) -> Option<Kind>
     ensures { result ≡ lookup (same_word word.now) (words_between 2 2) }
 {
-    if same_word(word, b"TO") {
-        Some(Kind::To)
-    } else if same_word(word, b"OF") {
-        Some(Kind::Of)
-    } else if same_word(word, b"IF") {
-        Some(Kind::If)
-    } else if same_word(word, b"BY") {
-        Some(Kind::By)
-    } else if same_word(word, b"DO") {
-        Some(Kind::Do)
-    } else if same_word(word, b"OR") {
-        Some(Kind::Or)
-    } else {
-        None
+    match word {
+        [b'T' | b't', ..] => {
+            if same_word(word, b"TO") {
+                Some(Kind::To)
+            } else {
+                None
+            }
+        }
+        [b'O' | b'o', ..] => {
+            if same_word(word, b"OF") {
+                Some(Kind::Of)
+            } else if same_word(word, b"OR") {
+                Some(Kind::Or)
+            } else {
+                None
+            }
+        }
+        [b'I' | b'i', ..] => {
+            if same_word(word, b"IF") {
+                Some(Kind::If)
+            } else {
+                None
+            }
+        }
+        [b'B' | b'b', ..] => {
+            if same_word(word, b"BY") {
+                Some(Kind::By)
+            } else {
+                None
+            }
+        }
+        [b'D' | b'd', ..] => {
+            if same_word(word, b"DO") {
+                Some(Kind::Do)
+            } else {
+                None
+            }
+        }
+        _ => None,
     }
 }
 
@@ -36,22 +61,52 @@ fn word_of_2(word: &[u8]) -> Option<Kind>
 fn word_of_3(word: &[u8]) -> Option<Kind>
     ensures { result ≡ lookup (same_word word.now) (words_between 3 3) }
 {
-    if same_word(word, b"VAR") {
-        Some(Kind::Var)
-    } else if same_word(word, b"FBS") {
-        Some(Kind::Fbs)
-    } else if same_word(word, b"FOR") {
-        Some(Kind::For)
-    } else if same_word(word, b"AND") {
-        Some(Kind::And)
-    } else if same_word(word, b"XOR") {
-        Some(Kind::Xor)
-    } else if same_word(word, b"NOT") {
-        Some(Kind::Not)
-    } else if same_word(word, b"MOD") {
-        Some(Kind::Mod)
-    } else {
-        None
+    match word {
+        [b'V' | b'v', ..] => {
+            if same_word(word, b"VAR") {
+                Some(Kind::Var)
+            } else {
+                None
+            }
+        }
+        [b'F' | b'f', ..] => {
+            if same_word(word, b"FBS") {
+                Some(Kind::Fbs)
+            } else if same_word(word, b"FOR") {
+                Some(Kind::For)
+            } else {
+                None
+            }
+        }
+        [b'A' | b'a', ..] => {
+            if same_word(word, b"AND") {
+                Some(Kind::And)
+            } else {
+                None
+            }
+        }
+        [b'X' | b'x', ..] => {
+            if same_word(word, b"XOR") {
+                Some(Kind::Xor)
+            } else {
+                None
+            }
+        }
+        [b'N' | b'n', ..] => {
+            if same_word(word, b"NOT") {
+                Some(Kind::Not)
+            } else {
+                None
+            }
+        }
+        [b'M' | b'm', ..] => {
+            if same_word(word, b"MOD") {
+                Some(Kind::Mod)
+            } else {
+                None
+            }
+        }
+        _ => None,
     }
 }
 
@@ -60,22 +115,42 @@ fn word_of_3(word: &[u8]) -> Option<Kind>
 fn word_of_4(word: &[u8]) -> Option<Kind>
     ensures { result ≡ lookup (same_word word.now) (words_between 4 4) }
 {
-    if same_word(word, b"WITH") {
-        Some(Kind::With)
-    } else if same_word(word, b"THEN") {
-        Some(Kind::Then)
-    } else if same_word(word, b"ELSE") {
-        Some(Kind::Else)
-    } else if same_word(word, b"CASE") {
-        Some(Kind::Case)
-    } else if same_word(word, b"EXIT") {
-        Some(Kind::Exit)
-    } else if same_word(word, b"TRUE") {
-        Some(Kind::True)
-    } else if same_word(word, b"TYPE") {
-        Some(Kind::TypeWord)
-    } else {
-        None
+    match word {
+        [b'W' | b'w', ..] => {
+            if same_word(word, b"WITH") {
+                Some(Kind::With)
+            } else {
+                None
+            }
+        }
+        [b'T' | b't', ..] => {
+            if same_word(word, b"THEN") {
+                Some(Kind::Then)
+            } else if same_word(word, b"TRUE") {
+                Some(Kind::True)
+            } else if same_word(word, b"TYPE") {
+                Some(Kind::TypeWord)
+            } else {
+                None
+            }
+        }
+        [b'E' | b'e', ..] => {
+            if same_word(word, b"ELSE") {
+                Some(Kind::Else)
+            } else if same_word(word, b"EXIT") {
+                Some(Kind::Exit)
+            } else {
+                None
+            }
+        }
+        [b'C' | b'c', ..] => {
+            if same_word(word, b"CASE") {
+                Some(Kind::Case)
+            } else {
+                None
+            }
+        }
+        _ => None,
     }
 }
 
@@ -84,20 +159,50 @@ fn word_of_4(word: &[u8]) -> Option<Kind>
 fn word_of_5(word: &[u8]) -> Option<Kind>
     ensures { result ≡ lookup (same_word word.now) (words_between 5 5) }
 {
-    if same_word(word, b"PLUGS") {
-        Some(Kind::Plugs)
-    } else if same_word(word, b"ARRAY") {
-        Some(Kind::Array)
-    } else if same_word(word, b"ELSIF") {
-        Some(Kind::Elsif)
-    } else if same_word(word, b"WHILE") {
-        Some(Kind::While)
-    } else if same_word(word, b"UNTIL") {
-        Some(Kind::Until)
-    } else if same_word(word, b"FALSE") {
-        Some(Kind::False)
-    } else {
-        None
+    match word {
+        [b'P' | b'p', ..] => {
+            if same_word(word, b"PLUGS") {
+                Some(Kind::Plugs)
+            } else {
+                None
+            }
+        }
+        [b'A' | b'a', ..] => {
+            if same_word(word, b"ARRAY") {
+                Some(Kind::Array)
+            } else {
+                None
+            }
+        }
+        [b'E' | b'e', ..] => {
+            if same_word(word, b"ELSIF") {
+                Some(Kind::Elsif)
+            } else {
+                None
+            }
+        }
+        [b'W' | b'w', ..] => {
+            if same_word(word, b"WHILE") {
+                Some(Kind::While)
+            } else {
+                None
+            }
+        }
+        [b'U' | b'u', ..] => {
+            if same_word(word, b"UNTIL") {
+                Some(Kind::Until)
+            } else {
+                None
+            }
+        }
+        [b'F' | b'f', ..] => {
+            if same_word(word, b"FALSE") {
+                Some(Kind::False)
+            } else {
+                None
+            }
+        }
+        _ => None,
     }
 }
 
@@ -106,20 +211,40 @@ fn word_of_5(word: &[u8]) -> Option<Kind>
 fn word_of_6(word: &[u8]) -> Option<Kind>
     ensures { result ≡ lookup (same_word word.now) (words_between 6 6) }
 {
-    if same_word(word, b"SYSTEM") {
-        Some(Kind::System)
-    } else if same_word(word, b"DEVICE") {
-        Some(Kind::Device)
-    } else if same_word(word, b"END_IF") {
-        Some(Kind::EndIf)
-    } else if same_word(word, b"REPEAT") {
-        Some(Kind::Repeat)
-    } else if same_word(word, b"RETURN") {
-        Some(Kind::Return)
-    } else if same_word(word, b"STRUCT") {
-        Some(Kind::Struct)
-    } else {
-        None
+    match word {
+        [b'S' | b's', ..] => {
+            if same_word(word, b"SYSTEM") {
+                Some(Kind::System)
+            } else if same_word(word, b"STRUCT") {
+                Some(Kind::Struct)
+            } else {
+                None
+            }
+        }
+        [b'D' | b'd', ..] => {
+            if same_word(word, b"DEVICE") {
+                Some(Kind::Device)
+            } else {
+                None
+            }
+        }
+        [b'E' | b'e', ..] => {
+            if same_word(word, b"END_IF") {
+                Some(Kind::EndIf)
+            } else {
+                None
+            }
+        }
+        [b'R' | b'r', ..] => {
+            if same_word(word, b"REPEAT") {
+                Some(Kind::Repeat)
+            } else if same_word(word, b"RETURN") {
+                Some(Kind::Return)
+            } else {
+                None
+            }
+        }
+        _ => None,
     }
 }
 
@@ -128,22 +253,37 @@ fn word_of_6(word: &[u8]) -> Option<Kind>
 fn word_of_7(word: &[u8]) -> Option<Kind>
     ensures { result ≡ lookup (same_word word.now) (words_between 7 7) }
 {
-    if same_word(word, b"ADAPTER") {
-        Some(Kind::Adapter)
-    } else if same_word(word, b"END_VAR") {
-        Some(Kind::EndVar)
-    } else if same_word(word, b"SOCKETS") {
-        Some(Kind::Sockets)
-    } else if same_word(word, b"END_FBS") {
-        Some(Kind::EndFbs)
-    } else if same_word(word, b"SUBAPPS") {
-        Some(Kind::Subapps)
-    } else if same_word(word, b"SERVICE") {
-        Some(Kind::Service)
-    } else if same_word(word, b"END_FOR") {
-        Some(Kind::EndFor)
-    } else {
-        None
+    match word {
+        [b'A' | b'a', ..] => {
+            if same_word(word, b"ADAPTER") {
+                Some(Kind::Adapter)
+            } else {
+                None
+            }
+        }
+        [b'E' | b'e', ..] => {
+            if same_word(word, b"END_VAR") {
+                Some(Kind::EndVar)
+            } else if same_word(word, b"END_FBS") {
+                Some(Kind::EndFbs)
+            } else if same_word(word, b"END_FOR") {
+                Some(Kind::EndFor)
+            } else {
+                None
+            }
+        }
+        [b'S' | b's', ..] => {
+            if same_word(word, b"SOCKETS") {
+                Some(Kind::Sockets)
+            } else if same_word(word, b"SUBAPPS") {
+                Some(Kind::Subapps)
+            } else if same_word(word, b"SERVICE") {
+                Some(Kind::Service)
+            } else {
+                None
+            }
+        }
+        _ => None,
     }
 }
 
@@ -152,16 +292,31 @@ fn word_of_7(word: &[u8]) -> Option<Kind>
 fn word_of_8(word: &[u8]) -> Option<Kind>
     ensures { result ≡ lookup (same_word word.now) (words_between 8 8) }
 {
-    if same_word(word, b"RESOURCE") {
-        Some(Kind::Resource)
-    } else if same_word(word, b"MAPPINGS") {
-        Some(Kind::Mappings)
-    } else if same_word(word, b"END_CASE") {
-        Some(Kind::EndCase)
-    } else if same_word(word, b"END_TYPE") {
-        Some(Kind::EndType)
-    } else {
-        None
+    match word {
+        [b'R' | b'r', ..] => {
+            if same_word(word, b"RESOURCE") {
+                Some(Kind::Resource)
+            } else {
+                None
+            }
+        }
+        [b'M' | b'm', ..] => {
+            if same_word(word, b"MAPPINGS") {
+                Some(Kind::Mappings)
+            } else {
+                None
+            }
+        }
+        [b'E' | b'e', ..] => {
+            if same_word(word, b"END_CASE") {
+                Some(Kind::EndCase)
+            } else if same_word(word, b"END_TYPE") {
+                Some(Kind::EndType)
+            } else {
+                None
+            }
+        }
+        _ => None,
     }
 }
 
@@ -170,20 +325,35 @@ fn word_of_8(word: &[u8]) -> Option<Kind>
 fn word_of_9(word: &[u8]) -> Option<Kind>
     ensures { result ≡ lookup (same_word word.now) (words_between 9 9) }
 {
-    if same_word(word, b"END_EVENT") {
-        Some(Kind::EndEvent)
-    } else if same_word(word, b"VAR_INPUT") {
-        Some(Kind::VarInput)
-    } else if same_word(word, b"END_PLUGS") {
-        Some(Kind::EndPlugs)
-    } else if same_word(word, b"EC_STATES") {
-        Some(Kind::EcStates)
-    } else if same_word(word, b"ALGORITHM") {
-        Some(Kind::Algorithm)
-    } else if same_word(word, b"END_WHILE") {
-        Some(Kind::EndWhile)
-    } else {
-        None
+    match word {
+        [b'E' | b'e', ..] => {
+            if same_word(word, b"END_EVENT") {
+                Some(Kind::EndEvent)
+            } else if same_word(word, b"END_PLUGS") {
+                Some(Kind::EndPlugs)
+            } else if same_word(word, b"EC_STATES") {
+                Some(Kind::EcStates)
+            } else if same_word(word, b"END_WHILE") {
+                Some(Kind::EndWhile)
+            } else {
+                None
+            }
+        }
+        [b'V' | b'v', ..] => {
+            if same_word(word, b"VAR_INPUT") {
+                Some(Kind::VarInput)
+            } else {
+                None
+            }
+        }
+        [b'A' | b'a', ..] => {
+            if same_word(word, b"ALGORITHM") {
+                Some(Kind::Algorithm)
+            } else {
+                None
+            }
+        }
+        _ => None,
     }
 }
 
@@ -192,20 +362,30 @@ fn word_of_9(word: &[u8]) -> Option<Kind>
 fn word_of_10(word: &[u8]) -> Option<Kind>
     ensures { result ≡ lookup (same_word word.now) (words_between 10 10) }
 {
-    if same_word(word, b"END_SYSTEM") {
-        Some(Kind::EndSystem)
-    } else if same_word(word, b"END_DEVICE") {
-        Some(Kind::EndDevice)
-    } else if same_word(word, b"VAR_OUTPUT") {
-        Some(Kind::VarOutput)
-    } else if same_word(word, b"END_STATES") {
-        Some(Kind::EndStates)
-    } else if same_word(word, b"END_REPEAT") {
-        Some(Kind::EndRepeat)
-    } else if same_word(word, b"END_STRUCT") {
-        Some(Kind::EndStruct)
-    } else {
-        None
+    match word {
+        [b'E' | b'e', ..] => {
+            if same_word(word, b"END_SYSTEM") {
+                Some(Kind::EndSystem)
+            } else if same_word(word, b"END_DEVICE") {
+                Some(Kind::EndDevice)
+            } else if same_word(word, b"END_STATES") {
+                Some(Kind::EndStates)
+            } else if same_word(word, b"END_REPEAT") {
+                Some(Kind::EndRepeat)
+            } else if same_word(word, b"END_STRUCT") {
+                Some(Kind::EndStruct)
+            } else {
+                None
+            }
+        }
+        [b'V' | b'v', ..] => {
+            if same_word(word, b"VAR_OUTPUT") {
+                Some(Kind::VarOutput)
+            } else {
+                None
+            }
+        }
+        _ => None,
     }
 }
 
@@ -214,20 +394,30 @@ fn word_of_10(word: &[u8]) -> Option<Kind>
 fn word_of_11(word: &[u8]) -> Option<Kind>
     ensures { result ≡ lookup (same_word word.now) (words_between 11 11) }
 {
-    if same_word(word, b"END_ADAPTER") {
-        Some(Kind::EndAdapter)
-    } else if same_word(word, b"APPLICATION") {
-        Some(Kind::Application)
-    } else if same_word(word, b"EVENT_INPUT") {
-        Some(Kind::EventInput)
-    } else if same_word(word, b"END_SOCKETS") {
-        Some(Kind::EndSockets)
-    } else if same_word(word, b"END_SUBAPPS") {
-        Some(Kind::EndSubapps)
-    } else if same_word(word, b"END_SERVICE") {
-        Some(Kind::EndService)
-    } else {
-        None
+    match word {
+        [b'E' | b'e', ..] => {
+            if same_word(word, b"END_ADAPTER") {
+                Some(Kind::EndAdapter)
+            } else if same_word(word, b"EVENT_INPUT") {
+                Some(Kind::EventInput)
+            } else if same_word(word, b"END_SOCKETS") {
+                Some(Kind::EndSockets)
+            } else if same_word(word, b"END_SUBAPPS") {
+                Some(Kind::EndSubapps)
+            } else if same_word(word, b"END_SERVICE") {
+                Some(Kind::EndService)
+            } else {
+                None
+            }
+        }
+        [b'A' | b'a', ..] => {
+            if same_word(word, b"APPLICATION") {
+                Some(Kind::Application)
+            } else {
+                None
+            }
+        }
+        _ => None,
     }
 }
 
@@ -236,16 +426,21 @@ fn word_of_11(word: &[u8]) -> Option<Kind>
 fn word_of_12_to_13(word: &[u8]) -> Option<Kind>
     ensures { result ≡ lookup (same_word word.now) (words_between 12 13) }
 {
-    if same_word(word, b"END_RESOURCE") {
-        Some(Kind::EndResource)
-    } else if same_word(word, b"END_MAPPINGS") {
-        Some(Kind::EndMappings)
-    } else if same_word(word, b"EVENT_OUTPUT") {
-        Some(Kind::EventOutput)
-    } else if same_word(word, b"END_ALGORITHM") {
-        Some(Kind::EndAlgorithm)
-    } else {
-        None
+    match word {
+        [b'E' | b'e', ..] => {
+            if same_word(word, b"END_RESOURCE") {
+                Some(Kind::EndResource)
+            } else if same_word(word, b"END_MAPPINGS") {
+                Some(Kind::EndMappings)
+            } else if same_word(word, b"EVENT_OUTPUT") {
+                Some(Kind::EventOutput)
+            } else if same_word(word, b"END_ALGORITHM") {
+                Some(Kind::EndAlgorithm)
+            } else {
+                None
+            }
+        }
+        _ => None,
     }
 }
 
@@ -254,14 +449,29 @@ fn word_of_12_to_13(word: &[u8]) -> Option<Kind>
 fn word_of_14(word: &[u8]) -> Option<Kind>
     ensures { result ≡ lookup (same_word word.now) (words_between 14 14) }
 {
-    if same_word(word, b"FUNCTION_BLOCK") {
-        Some(Kind::FunctionBlock)
-    } else if same_word(word, b"SUBAPPLICATION") {
-        Some(Kind::Subapplication)
-    } else if same_word(word, b"EC_TRANSITIONS") {
-        Some(Kind::EcTransitions)
-    } else {
-        None
+    match word {
+        [b'F' | b'f', ..] => {
+            if same_word(word, b"FUNCTION_BLOCK") {
+                Some(Kind::FunctionBlock)
+            } else {
+                None
+            }
+        }
+        [b'S' | b's', ..] => {
+            if same_word(word, b"SUBAPPLICATION") {
+                Some(Kind::Subapplication)
+            } else {
+                None
+            }
+        }
+        [b'E' | b'e', ..] => {
+            if same_word(word, b"EC_TRANSITIONS") {
+                Some(Kind::EcTransitions)
+            } else {
+                None
+            }
+        }
+        _ => None,
     }
 }
 
@@ -270,16 +480,26 @@ fn word_of_14(word: &[u8]) -> Option<Kind>
 fn word_of_15_to_16(word: &[u8]) -> Option<Kind>
     ensures { result ≡ lookup (same_word word.now) (words_between 15 16) }
 {
-    if same_word(word, b"END_APPLICATION") {
-        Some(Kind::EndApplication)
-    } else if same_word(word, b"DATA_CONNECTIONS") {
-        Some(Kind::DataConnections)
-    } else if same_word(word, b"END_CONNECTIONS") {
-        Some(Kind::EndConnections)
-    } else if same_word(word, b"END_TRANSITIONS") {
-        Some(Kind::EndTransitions)
-    } else {
-        None
+    match word {
+        [b'E' | b'e', ..] => {
+            if same_word(word, b"END_APPLICATION") {
+                Some(Kind::EndApplication)
+            } else if same_word(word, b"END_CONNECTIONS") {
+                Some(Kind::EndConnections)
+            } else if same_word(word, b"END_TRANSITIONS") {
+                Some(Kind::EndTransitions)
+            } else {
+                None
+            }
+        }
+        [b'D' | b'd', ..] => {
+            if same_word(word, b"DATA_CONNECTIONS") {
+                Some(Kind::DataConnections)
+            } else {
+                None
+            }
+        }
+        _ => None,
     }
 }
 
@@ -288,16 +508,26 @@ fn word_of_15_to_16(word: &[u8]) -> Option<Kind>
 fn word_of_17_to_19(word: &[u8]) -> Option<Kind>
     ensures { result ≡ lookup (same_word word.now) (words_between 17 19) }
 {
-    if same_word(word, b"END_FUNCTION_BLOCK") {
-        Some(Kind::EndFunctionBlock)
-    } else if same_word(word, b"END_SUBAPPLICATION") {
-        Some(Kind::EndSubapplication)
-    } else if same_word(word, b"EVENT_CONNECTIONS") {
-        Some(Kind::EventConnections)
-    } else if same_word(word, b"ADAPTER_CONNECTIONS") {
-        Some(Kind::AdapterConnections)
-    } else {
-        None
+    match word {
+        [b'E' | b'e', ..] => {
+            if same_word(word, b"END_FUNCTION_BLOCK") {
+                Some(Kind::EndFunctionBlock)
+            } else if same_word(word, b"END_SUBAPPLICATION") {
+                Some(Kind::EndSubapplication)
+            } else if same_word(word, b"EVENT_CONNECTIONS") {
+                Some(Kind::EventConnections)
+            } else {
+                None
+            }
+        }
+        [b'A' | b'a', ..] => {
+            if same_word(word, b"ADAPTER_CONNECTIONS") {
+                Some(Kind::AdapterConnections)
+            } else {
+                None
+            }
+        }
+        _ => None,
     }
 }
 
@@ -346,6 +576,21 @@ fn symbol_of_1(b: u8) -> Option<Kind>
         b'-' => Some(Kind::Minus),
         b'*' => Some(Kind::Times),
         b'/' => Some(Kind::Divide),
+        b'&' => Some(Kind::Ampersand),
+        _ => None,
+    }
+}
+
+/// The symbol of one byte that begins no longer symbol and no comment.
+pub fn lone_symbol(b: u8) -> Option<Kind> {
+    match b {
+        b';' => Some(Kind::Semicolon),
+        b',' => Some(Kind::Comma),
+        b')' => Some(Kind::CloseParenthesis),
+        b'[' => Some(Kind::OpenBracket),
+        b']' => Some(Kind::CloseBracket),
+        b'=' => Some(Kind::Equal),
+        b'+' => Some(Kind::Plus),
         b'&' => Some(Kind::Ampersand),
         _ => None,
     }

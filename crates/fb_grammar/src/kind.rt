@@ -133,6 +133,9 @@ pub enum Kind {
     EndType,
     Struct,
     EndStruct,
+    // behind all tokens: the end of the text, or a comment that is never closed
+    End,
+    NeverClosed,
 }
 
 impl Kind {

@@ -57,7 +57,7 @@ fn name_kind(word: &[u8]) -> Kind
 }
 
 #[tactic(auto, unfolding(crate::specs::Lexemes::word_kind))]
-fn word_kind(word: &[u8]) -> Kind
+pub(crate) fn word_kind(word: &[u8]) -> Kind
     ensures { result ≡ word_kind word.now }
 {
     match keyword(word) {
@@ -120,7 +120,7 @@ fn symbol_kind(bytes: &[u8]) -> Kind
 }
 
 #[tactic(auto, unfolding(crate::specs::Lexemes::kind_of))]
-fn kind_of(kind: TokenKind, bytes: &[u8]) -> Kind
+pub(crate) fn kind_of(kind: TokenKind, bytes: &[u8]) -> Kind
     ensures { result ≡ kind_of kind bytes.now }
 {
     match kind {

@@ -5,7 +5,7 @@ ghost use Rattle.fb_grammar.specs.Kind.{is_among};
 ghost use Rattle.std.specs.Prelude.{◌≡◌, true};
 
 use crate::kind::Kind;
-use crate::lexeme::Lexeme;
+use crate::naming::Taken;
 use fb_tree::text::TypeClass;
 use fb_tree::{Literal, LiteralForm};
 
@@ -33,7 +33,7 @@ pub fn literal_form(kind: Kind) -> LiteralForm
 }
 
 /// The literal where it stands.
-pub fn literal_use(token: &Lexeme) -> Literal
+pub fn literal_use(token: &Taken) -> Literal
     requires { is_among literal_kinds token.now.kind ≡ true }
     ensures { result ≡ literal_use token.now }
 {

@@ -8,9 +8,9 @@ ghost use Rattle.fb_grammar.specs.declared.lexeme.Lexeme.{Lexeme};
 ghost use Rattle.std.specs.Prelude.{◌≡◌, List, length, map};
 
 use crate::kind::Kind;
-use crate::lexeme::Lexeme;
 use crate::naming::{is_next, key};
 use crate::stop::Stop;
+use crate::upcoming::Tokens;
 use std::alloc::Global;
 
 /// What reads a value of a form, so that the form can be read again and again.
@@ -26,12 +26,8 @@ pub trait Reader {
     ghost reads: { Self → List Lexeme → Outcome Tree };
 
     /// Reads one value.
-    fn read<'a>(
-        &self,
-        alloc: Global,
-        tokens: &'a [Lexeme],
-    ) -> Result<(Self::Item, &'a [Lexeme]), Stop<'a>>
-        ensures { Gives view result (reads self.now tokens.now) };
+    fn read(&self, alloc: Global, tokens: &mut Tokens<'_>) -> Result<Self::Item, Stop>
+        ensures { Gives view result tokens.new (reads self.now tokens.old) };
 }
 
 /// A token of a kind, and a value behind it.
@@ -50,76 +46,67 @@ impl<R: Reader> Reader for Behind<'_, R> {
 
     ghost reads = { λ behind. read_behind behind.kind (R.reads behind.reader.now) };
 
-    fn read<'a>(
-        &self,
-        alloc: Global,
-        tokens: &'a [Lexeme],
-    ) -> Result<(R::Item, &'a [Lexeme]), Stop<'a>> {
-        let (_, rest) = key(tokens, self.kind)?;
-        self.reader.read(alloc, rest)
+    fn read(&self, alloc: Global, tokens: &mut Tokens<'_>) -> Result<R::Item, Stop> {
+        key(tokens, self.kind)?;
+        self.reader.read(alloc, tokens)
     }
 }
 
 /// Appends values as long as the next token is of one of these kinds. Each takes a token, so there are no more than tokens.
-fn append_each<'a, R: Reader>(
+fn append_each<R: Reader>(
     reader: &R,
     alloc: Global,
     kinds: &[Kind],
     mut items: Vec<R::Item>,
-    tokens: &'a [Lexeme],
-) -> Result<(Vec<R::Item>, &'a [Lexeme]), Stop<'a>>
-    ensures { GivesEach R.view result
-        (with_prefix (map R.view items.items) (read_each (R.reads reader.now) kinds.now (length tokens.now) tokens.now)) }
+    tokens: &mut Tokens<'_>,
+) -> Result<Vec<R::Item>, Stop>
+    ensures { GivesEach R.view result tokens.new
+        (with_prefix (map R.view items.items) (read_each (R.reads reader.now) kinds.now (length tokens.old) tokens.old)) }
 {
-    let mut rest = tokens;
-    for _ in 0..tokens.len() {
-        if !is_next(rest, kinds) {
-            break;
-        }
-        let (item, behind) = reader.read(alloc, rest)?;
+    while is_next(tokens, kinds) {
+        let item = reader.read(alloc, tokens)?;
         items.push(item)?;
-        rest = behind;
     }
-    Ok((items, rest))
+    Ok(items)
 }
 
 /// Values as long as the next token is of one of these kinds, which begin a value.
 #[tactic(auto, using(crate::proofs::Repeating::none_in_prefix))]
-pub fn several<'a, R: Reader>(
+pub fn several<R: Reader>(
     reader: &R,
     alloc: Global,
     kinds: &[Kind],
-    tokens: &'a [Lexeme],
-) -> Result<(Vec<R::Item>, &'a [Lexeme]), Stop<'a>>
-    ensures { GivesEach R.view result
-        (read_each (R.reads reader.now) kinds.now (length tokens.now) tokens.now) }
+    tokens: &mut Tokens<'_>,
+) -> Result<Vec<R::Item>, Stop>
+    ensures { GivesEach R.view result tokens.new
+        (read_each (R.reads reader.now) kinds.now (length tokens.old) tokens.old) }
 {
     append_each(reader, alloc, kinds, Vec::new(alloc), tokens)
 }
 
 /// One value or more, with a token of this kind between them.
-pub fn separated<'a, R: Reader>(
+pub fn separated<R: Reader>(
     reader: &R,
     kind: Kind,
     alloc: Global,
-    tokens: &'a [Lexeme],
-) -> Result<(Vec<R::Item>, &'a [Lexeme]), Stop<'a>>
-    ensures { GivesEach R.view result (read_separated kind (R.reads reader.now) tokens.now) }
+    tokens: &mut Tokens<'_>,
+) -> Result<Vec<R::Item>, Stop>
+    ensures { GivesEach R.view result tokens.new (read_separated kind (R.reads reader.now) tokens.old) }
 {
-    let (first, rest) = reader.read(alloc, tokens)?;
+    let first = reader.read(alloc, tokens)?;
     // Most lists have one item.
     let mut items = Vec::with_capacity(alloc, 1)?;
     items.push(first)?;
-    append_each(&Behind { kind, reader }, alloc, &[kind], items, rest)
+    append_each(&Behind { kind, reader }, alloc, &[kind], items, tokens)
 }
 
 /// One value or more, with commas between them.
-pub fn listed<'a, R: Reader>(
+pub fn listed<R: Reader>(
     reader: &R,
     alloc: Global,
-    tokens: &'a [Lexeme],
-) -> Result<(Vec<R::Item>, &'a [Lexeme]), Stop<'a>>
-    ensures { GivesEach R.view result (read_separated Comma (R.reads reader.now) tokens.now) }
+    tokens: &mut Tokens<'_>,
+) -> Result<Vec<R::Item>, Stop>
+    ensures { GivesEach R.view result tokens.new (read_separated Comma (R.reads reader.now) tokens.old) }
 {
     separated(reader, Kind::Comma, alloc, tokens)
 }

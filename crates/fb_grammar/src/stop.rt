@@ -3,17 +3,16 @@
 ghost use Rattle.fb_grammar.specs.declared.stop.Stop.TheVariants.{Memory};
 ghost use Rattle.std.specs.Prelude.{◌≡◌};
 
-use crate::lexeme::Lexeme;
 use std::alloc::{AllocError, AllocFailed};
 
-/// Memory ran out, or the tokens from a first one on don't go on as the grammar wants.
-#[derive(Debug, Drop)]
-pub enum Stop<'a> {
+/// Memory ran out, or the tokens from the next one on don't go on as the grammar wants.
+#[derive(Clone, Copy, Debug)]
+pub enum Stop {
     Memory,
-    Broken(&'a [Lexeme]),
+    Broken,
 }
 
-impl From<AllocError> for Stop<'_> {
+impl From<AllocError> for Stop {
     ghost from_gives = { λ _ e. e ≡ Memory };
 
     fn from(_e: AllocError) -> Self {
@@ -21,7 +20,7 @@ impl From<AllocError> for Stop<'_> {
     }
 }
 
-impl<T: Drop> From<AllocFailed<T>> for Stop<'_> {
+impl<T: Drop> From<AllocFailed<T>> for Stop {
     ghost from_gives = { λ _ e. e ≡ Memory };
 
     fn from(_e: AllocFailed<T>) -> Self {

@@ -1,5 +1,5 @@
 -- The body of a text: the tree that its tokens spell, or the place where they spell none.
-use Rattle.std.specs.Prelude.{◌≡◌, ℕ, List, [], ◌∷◌, length, Result, Ok, Err}
+use Rattle.std.specs.Prelude.{◌≡◌, ℕ, List, [], ◌∷◌, length, if◌then◌else◌, Some, None, Result, Ok, Err}
 use Rattle.fb_tree.specs.Text.declared.token.Span.{Span}
 use Rattle.fb_tree.specs.Tree.{DeclTree, decl_tree}
 use Rattle.fb_tree.specs.Mentions.{Mentioned, all_mentions_of, nothing_mentioned}
@@ -11,6 +11,9 @@ use Rattle.fb_structured_text.specs.Forms.Fault.{IsFault}
 use Rattle.fb_parse.specs.Grammar.{unit}
 use Rattle.fb_structured_text.specs.Forms.Lexemes.{lexemes_of, place}
 use Rattle.fb_structured_text.specs.Forms.Reading.{Outcome, read}
+use Rattle.fb_structured_text.specs.Forms.Upcoming.{closing, front}
+use Rattle.fb_structured_text.specs.Forms.Kind.{same_kind}
+use Rattle.fb_structured_text.specs.Forms.declared.kind.Kind.TheVariants.{End}
 
 -- a body without where it lies in memory
 pub data BodyTree : Type 0 where
@@ -49,6 +52,19 @@ body_read end (Err rest) = BrokenAt (place end rest)
 abbrev pub body_in : ℕ → Result (List Lexeme) Span → BodyTree
 body_in end (Err bad) = BrokenAt bad
 body_in end (Ok lexemes) = body_read end (read unit lexemes)
+
+-- By all that is pulled of a text, from the first token that does not go on: a comment that is never closed, or else this token.
+abbrev pub broken_at : List Lexeme → BodyTree
+broken_at tokens = elim (closing tokens) [ Some comment ↦ BrokenAt comment | None ↦ BrokenAt (front tokens).span ]
+
+-- the tree, unless tokens or a comment that is never closed are left
+abbrev pub whole_if_over : DeclTree → List Lexeme → BodyTree
+whole_if_over tree tokens = if same_kind (front tokens).kind End then Whole tree else broken_at tokens
+
+-- the body by all that is pulled of the text; it is `body_of` of the text
+abbrev pub body_pulled : Outcome DeclTree → BodyTree
+body_pulled (Ok found) = whole_if_over found.0 found.1
+body_pulled (Err rest) = broken_at rest
 
 -- the same, computed
 unfoldable pub body_of : List ℕ → BodyTree

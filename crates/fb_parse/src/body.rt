@@ -8,8 +8,8 @@ ghost use Rattle.fb_tree.specs.Tree.{DeclTree};
 ghost use Rattle.std.specs.Prelude.{◌≡◌, ◌<◌, ℕ, IfOk, List, length};
 
 use crate::units::unit;
-use fb_structured_text::grammar::{Lexeme, Stop, lexemes, place_of};
-use fb_tree::text::{Span, TokenFault};
+use fb_structured_text::grammar::{Kind, Stop, Tokens};
+use fb_tree::text::Span;
 use fb_tree::{Decl, Mentions, mentions_of};
 use std::alloc::{AllocError, Global};
 
@@ -22,31 +22,32 @@ pub enum Body {
 
 impl Body {
     ghost use Rattle.fb_structured_text.specs.Forms.Reading.{read};
-    ghost use Rattle.fb_parse.specs.Body.{body_read, body_tree, mentions_in_body, whole_or_broken};
+    ghost use Rattle.fb_parse.specs.Body.{body_tree, broken_at, mentions_in_body, whole_if_over};
     ghost use Rattle.fb_tree.specs.Mentions.{mentioned};
     ghost use Rattle.fb_tree.specs.Tree.{decl_tree};
 
     /// The body of a text of less than 4 GiB.
-    #[tactic(auto, unfolding(crate::specs::Body::body_of))]
+    #[tactic(auto, using(crate::proofs::Bodies::pulled_body))]
     pub fn of_text(alloc: Global, text: &str) -> Result<Body, AllocError>
         requires { length text.now < 4294967296 }
         ensures { IfOk result (λ body. body_tree body ≡ body_of text.now) }
     {
-        match lexemes(alloc, text) {
-            Ok(lexemes) => Self::of_lexemes(alloc, &lexemes, text.len()),
-            Err(TokenFault::BadToken(span)) => Ok(Body::Broken(span)),
-            Err(TokenFault::Memory) => Err(AllocError),
+        let mut tokens = Tokens::of(text);
+        match unit(alloc, &mut tokens) {
+            Ok(decl) => Ok(Self::whole_or_broken(decl, tokens)),
+            Err(Stop::Broken) => Ok(Self::broken(tokens)),
+            Err(Stop::Memory) => Err(AllocError),
         }
     }
 
-    /// The body of a text of so many bytes with these tokens.
-    fn of_lexemes(alloc: Global, lexemes: &[Lexeme], end: usize) -> Result<Body, AllocError>
-        ensures { IfOk result (λ body. body_tree body ≡ body_read end (read unit lexemes.now)) }
+    /// A comment that is never closed, or else the next token, or the end.
+    fn broken(tokens: Tokens<'_>) -> Body
+        ensures { body_tree result ≡ broken_at tokens }
     {
-        match unit(alloc, lexemes) {
-            Ok((decl, rest)) => Ok(Self::whole_or_broken(decl, rest, end)),
-            Err(Stop::Broken(rest)) => Ok(Body::Broken(place_of(rest, end))),
-            Err(Stop::Memory) => Err(AllocError),
+        let place = tokens.place();
+        match tokens.unclosed() {
+            Some(comment) => Body::Broken(comment.span()),
+            None => Body::Broken(place.span()),
         }
     }
 
@@ -64,13 +65,13 @@ impl Body {
         }
     }
 
-    /// The declaration, unless tokens are left behind it.
-    fn whole_or_broken(decl: Decl, rest: &[Lexeme], end: usize) -> Body
-        ensures { body_tree result ≡ whole_or_broken end (decl_tree decl) rest.now }
+    /// The declaration, unless tokens or a comment that is never closed are left behind it.
+    fn whole_or_broken(decl: Decl, tokens: Tokens<'_>) -> Body
+        ensures { body_tree result ≡ whole_if_over (decl_tree decl) tokens }
     {
-        match rest {
-            [] => Body::Tree(decl),
-            [lexeme, ..] => Body::Broken(lexeme.span.span()),
+        match tokens.kind() {
+            Kind::End => Body::Tree(decl),
+            _ => Self::broken(tokens),
         }
     }
 }

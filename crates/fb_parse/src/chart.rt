@@ -9,7 +9,9 @@ ghost use Rattle.fb_tree.specs.Tree.{TransitionTree, algorithm_tree, condition_t
 ghost use Rattle.std.specs.Prelude.{◌≡◌, Ok, map, option_map};
 
 use fb_sections::{end, section, skip};
-use fb_structured_text::grammar::{Kind, Lexeme, Reader, Stop, is_next, key, name, one_of};
+use fb_structured_text::grammar::{
+    Kind, Reader, Stop, Tokens, is_next, key, name, name_of, one_of,
+};
 use fb_structured_text::{expression, statements};
 use fb_tree::text::NameUse;
 use fb_tree::{Algorithm, Condition, Expr, Stmt, Transition};
@@ -17,65 +19,65 @@ use std::alloc::Global;
 
 /// An expression in brackets.
 #[tactic(auto, unfolding(crate::specs::Chart::bracketed))]
-fn bracketed(alloc: Global, tokens: &[Lexeme]) -> Result<(Expr, &[Lexeme]), Stop<'_>>
-    ensures { Gives expression_tree result (read bracketed tokens.now) }
+fn bracketed(alloc: Global, tokens: &mut Tokens<'_>) -> Result<Expr, Stop>
+    ensures { Gives expression_tree result tokens.new (read bracketed tokens.old) }
 {
-    let (_, rest) = key(tokens, Kind::OpenBracket)?;
-    let (test, rest) = expression(alloc, rest)?;
-    let (_, rest) = key(rest, Kind::CloseBracket)?;
-    Ok((test, rest))
+    key(tokens, Kind::OpenBracket)?;
+    let test = expression(alloc, tokens)?;
+    key(tokens, Kind::CloseBracket)?;
+    Ok(test)
 }
 
 /// An expression behind `&` or `AND`.
 #[tactic(auto, unfolding(crate::specs::Chart::joined_test))]
-fn joined_test(alloc: Global, tokens: &[Lexeme]) -> Result<(Expr, &[Lexeme]), Stop<'_>>
-    ensures { Gives expression_tree result (read joined_test tokens.now) }
+fn joined_test(alloc: Global, tokens: &mut Tokens<'_>) -> Result<Expr, Stop>
+    ensures { Gives expression_tree result tokens.new (read joined_test tokens.old) }
 {
-    let (_, rest) = one_of(tokens, &[Kind::Ampersand, Kind::And])?;
-    expression(alloc, rest)
+    one_of(tokens, &[Kind::Ampersand, Kind::And])?;
+    expression(alloc, tokens)
 }
 
 /// What is tested when an event comes, where it is written.
 #[tactic(auto, unfolding(crate::specs::Chart::optional_test, crate::specs::Chart::bracketed, crate::specs::Chart::joined_test))]
-fn optional_test(alloc: Global, tokens: &[Lexeme]) -> Result<(Option<Expr>, &[Lexeme]), Stop<'_>>
-    ensures { Gives (option_map expression_tree) result (read optional_test tokens.now) }
+fn optional_test(alloc: Global, tokens: &mut Tokens<'_>) -> Result<Option<Expr>, Stop>
+    ensures { Gives (option_map expression_tree) result tokens.new (read optional_test tokens.old) }
 {
     if is_next(tokens, &[Kind::OpenBracket]) {
-        let (test, rest) = bracketed(alloc, tokens)?;
-        Ok((Some(test), rest))
+        let test = bracketed(alloc, tokens)?;
+        Ok(Some(test))
     } else if is_next(tokens, &[Kind::Ampersand, Kind::And]) {
-        let (test, rest) = joined_test(alloc, tokens)?;
-        Ok((Some(test), rest))
+        let test = joined_test(alloc, tokens)?;
+        Ok(Some(test))
     } else {
-        Ok((None, tokens))
+        Ok(None)
     }
 }
 
 /// An event, and what is tested when it comes.
 #[tactic(auto, unfolding(crate::specs::Chart::event_condition))]
-fn event_condition(alloc: Global, tokens: &[Lexeme]) -> Result<(Condition, &[Lexeme]), Stop<'_>>
-    ensures { Gives condition_tree result (read event_condition tokens.now) }
+fn event_condition(alloc: Global, tokens: &mut Tokens<'_>) -> Result<Condition, Stop>
+    ensures { Gives condition_tree result tokens.new (read event_condition tokens.old) }
 {
-    let (event, rest) = end(tokens)?;
-    let (test, rest) = optional_test(alloc, rest)?;
+    let event = end(alloc, tokens)?;
+    let test = optional_test(alloc, tokens)?;
     let condition = match test {
-        Some(test) => Condition::Guarded(event.end(alloc)?, test),
-        None => Condition::Event(event.end(alloc)?),
+        Some(test) => Condition::Guarded(event, test),
+        None => Condition::Event(event),
     };
-    Ok((condition, rest))
+    Ok(condition)
 }
 
 /// The condition of a transition.
 #[tactic(auto, unfolding(crate::specs::Chart::condition, crate::specs::Chart::bracketed))]
-fn condition(alloc: Global, tokens: &[Lexeme]) -> Result<(Condition, &[Lexeme]), Stop<'_>>
-    ensures { Gives condition_tree result (read condition tokens.now) }
+fn condition(alloc: Global, tokens: &mut Tokens<'_>) -> Result<Condition, Stop>
+    ensures { Gives condition_tree result tokens.new (read condition tokens.old) }
 {
     if is_next(tokens, &[Kind::One]) {
-        let (one, rest) = key(tokens, Kind::One)?;
-        Ok((Condition::Always(one.span), rest))
+        let one = key(tokens, Kind::One)?;
+        Ok(Condition::Always(one))
     } else if is_next(tokens, &[Kind::OpenBracket]) {
-        let (test, rest) = bracketed(alloc, tokens)?;
-        Ok((Condition::Guard(test), rest))
+        let test = bracketed(alloc, tokens)?;
+        Ok(Condition::Guard(test))
     } else {
         event_condition(alloc, tokens)
     }
@@ -95,33 +97,26 @@ impl Reader for TransitionReader {
     ghost reads = { λ _. read transition };
 
     #[tactic(auto, unfolding(crate::specs::Chart::transition))]
-    fn read<'a>(
-        &self,
-        alloc: Global,
-        tokens: &'a [Lexeme],
-    ) -> Result<(Transition, &'a [Lexeme]), Stop<'a>> {
-        let (source, rest) = name(tokens)?;
-        let (_, rest) = key(rest, Kind::To)?;
-        let (destination, rest) = name(rest)?;
-        let (_, rest) = key(rest, Kind::Assign)?;
-        let (condition, rest) = condition(alloc, rest)?;
-        let (_, rest) = key(rest, Kind::Semicolon)?;
+    fn read(&self, alloc: Global, tokens: &mut Tokens<'_>) -> Result<Transition, Stop> {
+        let source = name(alloc, tokens)?;
+        key(tokens, Kind::To)?;
+        let destination = name(alloc, tokens)?;
+        key(tokens, Kind::Assign)?;
+        let condition = condition(alloc, tokens)?;
+        key(tokens, Kind::Semicolon)?;
         let transition = Transition {
-            source: source.name_use(alloc)?,
-            destination: destination.name_use(alloc)?,
+            source,
+            destination,
             condition,
         };
-        Ok((transition, rest))
+        Ok(transition)
     }
 }
 
 /// A section of transitions.
 #[tactic(auto, unfolding(crate::specs::Chart::transitions, crate::specs::Chart::transition, crate::specs::Chart::name))]
-pub fn transitions(
-    alloc: Global,
-    tokens: &[Lexeme],
-) -> Result<(Vec<Transition>, &[Lexeme]), Stop<'_>>
-    ensures { GivesEach transition_tree result (read transitions tokens.now) }
+pub fn transitions(alloc: Global, tokens: &mut Tokens<'_>) -> Result<Vec<Transition>, Stop>
+    ensures { GivesEach transition_tree result tokens.new (read transitions tokens.old) }
 {
     section(
         Kind::EcTransitions,
@@ -139,47 +134,48 @@ struct AlgorithmBody {
     statements: Vec<Stmt>,
 }
 
-/// The tokens behind a colon, or all where there is none.
+/// Passes over a colon, where there is one.
 #[tactic(auto, unfolding(crate::specs::Chart::optional_colon))]
-fn optional_colon(tokens: &[Lexeme]) -> &[Lexeme]
-    ensures { read optional_colon tokens.now ≡ Ok (tt, result.now) }
+fn optional_colon(tokens: &mut Tokens<'_>)
+    ensures { read optional_colon tokens.old ≡ Ok (tt, tokens.new) }
 {
-    match tokens {
-        [token, rest @ ..] if token.kind.is_among(&[Kind::Colon]) => rest,
-        _ => tokens,
+    if is_next(tokens, &[Kind::Colon]) {
+        tokens.take();
     }
 }
 
 /// An algorithm in Structured Text.
 #[tactic(auto, unfolding(crate::specs::Chart::structured_text))]
-fn structured_text(alloc: Global, tokens: &[Lexeme]) -> Result<(AlgorithmBody, &[Lexeme]), Stop<'_>>
-    ensures { Gives algorithm_body_tree result (read structured_text tokens.now) }
+fn structured_text(alloc: Global, tokens: &mut Tokens<'_>) -> Result<AlgorithmBody, Stop>
+    ensures { Gives algorithm_body_tree result tokens.new (read structured_text tokens.old) }
 {
-    let (language, rest) = key(tokens, Kind::NameSt)?;
-    let (statements, rest) = statements(alloc, optional_colon(rest))?;
+    let language = name_of(alloc, tokens, &[Kind::NameSt])?;
+    optional_colon(tokens);
+    let statements = statements(alloc, tokens)?;
     let body = AlgorithmBody {
-        language: language.name_use(alloc)?,
+        language,
         statements,
     };
-    Ok((body, rest))
+    Ok(body)
 }
 
 /// An algorithm in another language, which is not kept.
 #[tactic(auto, unfolding(crate::specs::Chart::other_language))]
-fn other_language(alloc: Global, tokens: &[Lexeme]) -> Result<(AlgorithmBody, &[Lexeme]), Stop<'_>>
-    ensures { Gives algorithm_body_tree result (read other_language tokens.now) }
+fn other_language(alloc: Global, tokens: &mut Tokens<'_>) -> Result<AlgorithmBody, Stop>
+    ensures { Gives algorithm_body_tree result tokens.new (read other_language tokens.old) }
 {
-    let (language, rest) = one_of(tokens, &[Kind::Name, Kind::NameIn, Kind::NameOn])?;
+    let language = name_of(alloc, tokens, &[Kind::Name, Kind::NameIn, Kind::NameOn])?;
+    skip(tokens, Kind::EndAlgorithm);
     let body = AlgorithmBody {
-        language: language.name_use(alloc)?,
+        language,
         statements: Vec::new(alloc),
     };
-    Ok((body, skip(rest, Kind::EndAlgorithm)))
+    Ok(body)
 }
 
 #[tactic(auto, unfolding(crate::specs::Chart::algorithm_body, crate::specs::Chart::structured_text))]
-fn algorithm_body(alloc: Global, tokens: &[Lexeme]) -> Result<(AlgorithmBody, &[Lexeme]), Stop<'_>>
-    ensures { Gives algorithm_body_tree result (read algorithm_body tokens.now) }
+fn algorithm_body(alloc: Global, tokens: &mut Tokens<'_>) -> Result<AlgorithmBody, Stop>
+    ensures { Gives algorithm_body_tree result tokens.new (read algorithm_body tokens.old) }
 {
     if is_next(tokens, &[Kind::NameSt]) {
         structured_text(alloc, tokens)
@@ -190,18 +186,18 @@ fn algorithm_body(alloc: Global, tokens: &[Lexeme]) -> Result<(AlgorithmBody, &[
 
 /// An algorithm.
 #[tactic(auto, unfolding(crate::specs::Chart::algorithm))]
-pub fn algorithm(alloc: Global, tokens: &[Lexeme]) -> Result<(Algorithm, &[Lexeme]), Stop<'_>>
-    ensures { Gives algorithm_tree result (read algorithm tokens.now) }
+pub fn algorithm(alloc: Global, tokens: &mut Tokens<'_>) -> Result<Algorithm, Stop>
+    ensures { Gives algorithm_tree result tokens.new (read algorithm tokens.old) }
 {
-    let (_, rest) = key(tokens, Kind::Algorithm)?;
-    let (name, rest) = name(rest)?;
-    let (_, rest) = key(rest, Kind::NameIn)?;
-    let (body, rest) = algorithm_body(alloc, rest)?;
-    let (_, rest) = key(rest, Kind::EndAlgorithm)?;
+    key(tokens, Kind::Algorithm)?;
+    let name = name(alloc, tokens)?;
+    key(tokens, Kind::NameIn)?;
+    let body = algorithm_body(alloc, tokens)?;
+    key(tokens, Kind::EndAlgorithm)?;
     let algorithm = Algorithm {
-        name: name.name_use(alloc)?,
+        name,
         language: body.language,
         statements: body.statements,
     };
-    Ok((algorithm, rest))
+    Ok(algorithm)
 }

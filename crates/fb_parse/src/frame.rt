@@ -12,7 +12,7 @@ use crate::contents::{Contents, joined};
 use crate::sections::{
     adapter_section, application_section, block_section, subapplication_section,
 };
-use fb_structured_text::grammar::{Kind, Lexeme, Reader, Stop, key, name, several};
+use fb_structured_text::grammar::{Kind, Reader, Stop, Tokens, key, name, several};
 use fb_tree::text::NameUse;
 use std::alloc::Global;
 
@@ -40,11 +40,7 @@ impl Reader for SectionReader {
 
     ghost reads = { λ reader. read (section_of reader.frame) };
 
-    fn read<'a>(
-        &self,
-        alloc: Global,
-        tokens: &'a [Lexeme],
-    ) -> Result<(Contents, &'a [Lexeme]), Stop<'a>> {
+    fn read(&self, alloc: Global, tokens: &mut Tokens<'_>) -> Result<Contents, Stop> {
         match self.frame {
             Frame::Block => block_section(alloc, tokens),
             Frame::Adapter => adapter_section(alloc, tokens),
@@ -62,40 +58,37 @@ pub struct Named {
 }
 
 /// Sections of a frame, which begin with these kinds, as long as they come.
-fn sections<'a>(
+fn sections(
     alloc: Global,
     frame: Frame,
     firsts: &[Kind],
-    tokens: &'a [Lexeme],
-) -> Result<(Contents, &'a [Lexeme]), Stop<'a>>
+    tokens: &mut Tokens<'_>,
+) -> Result<Contents, Stop>
     requires { first (section_of frame) ≡ firsts.now }
-    ensures { Gives contents_tree result
-        (read (as_value joined (many (section_of frame))) tokens.now) }
+    ensures { Gives contents_tree result tokens.new
+        (read (as_value joined (many (section_of frame))) tokens.old) }
 {
-    let (sections, rest) = several(&SectionReader { frame }, alloc, firsts, tokens)?;
-    Ok((joined(alloc, sections)?, rest))
+    let sections = several(&SectionReader { frame }, alloc, firsts, tokens)?;
+    Ok(joined(alloc, sections)?)
 }
 
 /// A word, a name, sections of a frame, and another word.
-pub fn framed<'a>(
+pub fn framed(
     alloc: Global,
     start: Kind,
     frame: Frame,
     firsts: &[Kind],
     end: Kind,
-    tokens: &'a [Lexeme],
-) -> Result<(Named, &'a [Lexeme]), Stop<'a>>
+    tokens: &mut Tokens<'_>,
+) -> Result<Named, Stop>
     requires { first (section_of frame) ≡ firsts.now }
-    ensures { Gives (λ named. (named.name, contents_tree named.contents)) result
-        (read (framed start (section_of frame) end) tokens.now) }
+    ensures { Gives (λ named. (named.name, contents_tree named.contents)) result tokens.new
+        (read (framed start (section_of frame) end) tokens.old) }
 {
-    let (_, rest) = key(tokens, start)?;
-    let (name, rest) = name(rest)?;
-    let (contents, rest) = sections(alloc, frame, firsts, rest)?;
-    let (_, rest) = key(rest, end)?;
-    let named = Named {
-        name: name.name_use(alloc)?,
-        contents,
-    };
-    Ok((named, rest))
+    key(tokens, start)?;
+    let name = name(alloc, tokens)?;
+    let contents = sections(alloc, frame, firsts, tokens)?;
+    key(tokens, end)?;
+    let named = Named { name, contents };
+    Ok(named)
 }

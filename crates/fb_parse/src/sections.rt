@@ -15,7 +15,7 @@ use fb_sections::{
     blocks, connections, data_variables, events, internal_variables, plugs, service, sockets,
     states, subapplications,
 };
-use fb_structured_text::grammar::{Kind, Lexeme, Stop, is_next};
+use fb_structured_text::grammar::{Kind, Stop, Tokens, is_next};
 use std::alloc::Global;
 
 /// What begins a section of an interface.
@@ -38,31 +38,31 @@ const NETWORK: [Kind; 4] = [
 
 /// Events or data.
 #[tactic(auto, unfolding(crate::specs::Grammar::data_section, crate::specs::Grammar::events))]
-fn data_section(alloc: Global, tokens: &[Lexeme]) -> Result<(Contents, &[Lexeme]), Stop<'_>>
-    ensures { Gives contents_tree result (read data_section tokens.now) }
+fn data_section(alloc: Global, tokens: &mut Tokens<'_>) -> Result<Contents, Stop>
+    ensures { Gives contents_tree result tokens.new (read data_section tokens.old) }
 {
     if is_next(tokens, &[Kind::EventInput, Kind::EventOutput]) {
-        let (events, rest) = events(alloc, tokens)?;
-        Ok((Contents::of_events(alloc, events), rest))
+        let events = events(alloc, tokens)?;
+        Ok(Contents::of_events(alloc, events))
     } else {
-        let (variables, rest) = data_variables(alloc, tokens)?;
-        Ok((Contents::of_variables(alloc, variables), rest))
+        let variables = data_variables(alloc, tokens)?;
+        Ok(Contents::of_variables(alloc, variables))
     }
 }
 
 /// A section that is not kept.
 #[tactic(auto, unfolding(crate::specs::Grammar::service_section))]
-fn service_section(alloc: Global, tokens: &[Lexeme]) -> Result<(Contents, &[Lexeme]), Stop<'_>>
-    ensures { Gives contents_tree result (read service_section tokens.now) }
+fn service_section(alloc: Global, tokens: &mut Tokens<'_>) -> Result<Contents, Stop>
+    ensures { Gives contents_tree result tokens.new (read service_section tokens.old) }
 {
-    let rest = service(tokens)?;
-    Ok((Contents::nothing(alloc), rest))
+    let tokens = service(tokens)?;
+    Ok(Contents::nothing(alloc))
 }
 
 /// Events, data, plugs or sockets.
 #[tactic(auto, unfolding(crate::specs::Grammar::interface_section, crate::specs::Grammar::data_section, crate::specs::Grammar::events, crate::specs::Grammar::data_variables, crate::specs::Grammar::plugs))]
-fn interface_section(alloc: Global, tokens: &[Lexeme]) -> Result<(Contents, &[Lexeme]), Stop<'_>>
-    ensures { Gives contents_tree result (read interface_section tokens.now) }
+fn interface_section(alloc: Global, tokens: &mut Tokens<'_>) -> Result<Contents, Stop>
+    ensures { Gives contents_tree result tokens.new (read interface_section tokens.old) }
 {
     if is_next(
         tokens,
@@ -75,58 +75,58 @@ fn interface_section(alloc: Global, tokens: &[Lexeme]) -> Result<(Contents, &[Le
     ) {
         data_section(alloc, tokens)
     } else if is_next(tokens, &[Kind::Plugs]) {
-        let (instances, rest) = plugs(alloc, tokens)?;
-        Ok((Contents::of_adapters(alloc, instances), rest))
+        let instances = plugs(alloc, tokens)?;
+        Ok(Contents::of_adapters(alloc, instances))
     } else {
-        let (instances, rest) = sockets(alloc, tokens)?;
-        Ok((Contents::of_adapters(alloc, instances), rest))
+        let instances = sockets(alloc, tokens)?;
+        Ok(Contents::of_adapters(alloc, instances))
     }
 }
 
 /// Block instances or connections.
 #[tactic(auto, unfolding(crate::specs::Grammar::network_section, crate::specs::Grammar::blocks))]
-fn network_section(alloc: Global, tokens: &[Lexeme]) -> Result<(Contents, &[Lexeme]), Stop<'_>>
-    ensures { Gives contents_tree result (read network_section tokens.now) }
+fn network_section(alloc: Global, tokens: &mut Tokens<'_>) -> Result<Contents, Stop>
+    ensures { Gives contents_tree result tokens.new (read network_section tokens.old) }
 {
     if is_next(tokens, &[Kind::Fbs]) {
-        let (instances, rest) = blocks(alloc, tokens)?;
-        Ok((Contents::of_instances(alloc, instances), rest))
+        let instances = blocks(alloc, tokens)?;
+        Ok(Contents::of_instances(alloc, instances))
     } else {
-        let (connections, rest) = connections(alloc, tokens)?;
-        Ok((Contents::of_connections(alloc, connections), rest))
+        let connections = connections(alloc, tokens)?;
+        Ok(Contents::of_connections(alloc, connections))
     }
 }
 
 /// States, transitions or an algorithm.
 #[tactic(auto, unfolding(crate::specs::Grammar::chart_section, crate::specs::Grammar::states, crate::specs::Chart::transitions))]
-fn chart_section(alloc: Global, tokens: &[Lexeme]) -> Result<(Contents, &[Lexeme]), Stop<'_>>
-    ensures { Gives contents_tree result (read chart_section tokens.now) }
+fn chart_section(alloc: Global, tokens: &mut Tokens<'_>) -> Result<Contents, Stop>
+    ensures { Gives contents_tree result tokens.new (read chart_section tokens.old) }
 {
     if is_next(tokens, &[Kind::EcStates]) {
-        let (states, rest) = states(alloc, tokens)?;
-        Ok((Contents::of_states(alloc, states), rest))
+        let states = states(alloc, tokens)?;
+        Ok(Contents::of_states(alloc, states))
     } else if is_next(tokens, &[Kind::EcTransitions]) {
-        let (transitions, rest) = transitions(alloc, tokens)?;
-        Ok((Contents::of_transitions(alloc, transitions), rest))
+        let transitions = transitions(alloc, tokens)?;
+        Ok(Contents::of_transitions(alloc, transitions))
     } else {
-        let (algorithm, rest) = algorithm(alloc, tokens)?;
-        Ok((Contents::of_algorithm(alloc, algorithm)?, rest))
+        let algorithm = algorithm(alloc, tokens)?;
+        Ok(Contents::of_algorithm(alloc, algorithm)?)
     }
 }
 
 /// Internal variables.
-fn internal_section(alloc: Global, tokens: &[Lexeme]) -> Result<(Contents, &[Lexeme]), Stop<'_>>
-    ensures { Gives contents_tree result
-        (read (as_value of_variables internal_variables) tokens.now) }
+fn internal_section(alloc: Global, tokens: &mut Tokens<'_>) -> Result<Contents, Stop>
+    ensures { Gives contents_tree result tokens.new
+        (read (as_value of_variables internal_variables) tokens.old) }
 {
-    let (variables, rest) = internal_variables(alloc, tokens)?;
-    Ok((Contents::of_variables(alloc, variables), rest))
+    let variables = internal_variables(alloc, tokens)?;
+    Ok(Contents::of_variables(alloc, variables))
 }
 
 /// A section of a block type.
 #[tactic(auto, unfolding(crate::specs::Grammar::block_section, crate::specs::Grammar::interface_section, crate::specs::Grammar::data_section, crate::specs::Grammar::network_section, crate::specs::Grammar::chart_section, crate::specs::Grammar::events, crate::specs::Grammar::data_variables, crate::specs::Grammar::internal_variables, crate::specs::Grammar::plugs, crate::specs::Grammar::sockets, crate::specs::Grammar::blocks, crate::specs::Grammar::connections, crate::specs::Grammar::states, crate::specs::Chart::transitions, crate::specs::Chart::algorithm))]
-pub fn block_section(alloc: Global, tokens: &[Lexeme]) -> Result<(Contents, &[Lexeme]), Stop<'_>>
-    ensures { Gives contents_tree result (read block_section tokens.now) }
+pub fn block_section(alloc: Global, tokens: &mut Tokens<'_>) -> Result<Contents, Stop>
+    ensures { Gives contents_tree result tokens.new (read block_section tokens.old) }
 {
     if is_next(tokens, &INTERFACE) {
         interface_section(alloc, tokens)
@@ -146,8 +146,8 @@ pub fn block_section(alloc: Global, tokens: &[Lexeme]) -> Result<(Contents, &[Le
 
 /// A section of an adapter type.
 #[tactic(auto, unfolding(crate::specs::Grammar::adapter_section, crate::specs::Grammar::data_section, crate::specs::Grammar::events, crate::specs::Grammar::data_variables))]
-pub fn adapter_section(alloc: Global, tokens: &[Lexeme]) -> Result<(Contents, &[Lexeme]), Stop<'_>>
-    ensures { Gives contents_tree result (read adapter_section tokens.now) }
+pub fn adapter_section(alloc: Global, tokens: &mut Tokens<'_>) -> Result<Contents, Stop>
+    ensures { Gives contents_tree result tokens.new (read adapter_section tokens.old) }
 {
     if is_next(
         tokens,
@@ -165,23 +165,17 @@ pub fn adapter_section(alloc: Global, tokens: &[Lexeme]) -> Result<(Contents, &[
 }
 
 /// Subapplication instances.
-fn subapplication_instances(
-    alloc: Global,
-    tokens: &[Lexeme],
-) -> Result<(Contents, &[Lexeme]), Stop<'_>>
-    ensures { Gives contents_tree result (read (as_value of_instances subapplications) tokens.now) }
+fn subapplication_instances(alloc: Global, tokens: &mut Tokens<'_>) -> Result<Contents, Stop>
+    ensures { Gives contents_tree result tokens.new (read (as_value of_instances subapplications) tokens.old) }
 {
-    let (instances, rest) = subapplications(alloc, tokens)?;
-    Ok((Contents::of_instances(alloc, instances), rest))
+    let instances = subapplications(alloc, tokens)?;
+    Ok(Contents::of_instances(alloc, instances))
 }
 
 /// A section of an application.
 #[tactic(auto, unfolding(crate::specs::Grammar::application_section, crate::specs::Grammar::network_section, crate::specs::Grammar::blocks, crate::specs::Grammar::connections))]
-pub fn application_section(
-    alloc: Global,
-    tokens: &[Lexeme],
-) -> Result<(Contents, &[Lexeme]), Stop<'_>>
-    ensures { Gives contents_tree result (read application_section tokens.now) }
+pub fn application_section(alloc: Global, tokens: &mut Tokens<'_>) -> Result<Contents, Stop>
+    ensures { Gives contents_tree result tokens.new (read application_section tokens.old) }
 {
     if is_next(tokens, &NETWORK) {
         network_section(alloc, tokens)
@@ -192,11 +186,8 @@ pub fn application_section(
 
 /// A section of a subapplication type.
 #[tactic(auto, unfolding(crate::specs::Grammar::subapplication_section, crate::specs::Grammar::application_section, crate::specs::Grammar::interface_section, crate::specs::Grammar::data_section, crate::specs::Grammar::events, crate::specs::Grammar::data_variables, crate::specs::Grammar::plugs, crate::specs::Grammar::sockets, crate::specs::Grammar::network_section, crate::specs::Grammar::blocks, crate::specs::Grammar::connections, crate::specs::Grammar::subapplications))]
-pub fn subapplication_section(
-    alloc: Global,
-    tokens: &[Lexeme],
-) -> Result<(Contents, &[Lexeme]), Stop<'_>>
-    ensures { Gives contents_tree result (read subapplication_section tokens.now) }
+pub fn subapplication_section(alloc: Global, tokens: &mut Tokens<'_>) -> Result<Contents, Stop>
+    ensures { Gives contents_tree result tokens.new (read subapplication_section tokens.old) }
 {
     if is_next(tokens, &INTERFACE) {
         interface_section(alloc, tokens)

@@ -10,7 +10,7 @@ ghost use Rattle.std.specs.Prelude.{◌≡◌, IfOk, map};
 
 use crate::units::application;
 use fb_sections::{device, mappings};
-use fb_structured_text::grammar::{Kind, Lexeme, Reader, Stop, is_next, key, name, several};
+use fb_structured_text::grammar::{Kind, Reader, Stop, Tokens, is_next, key, name, several};
 use fb_tree::{Application, Device, Mapping, System};
 use std::alloc::{AllocError, Global};
 
@@ -85,18 +85,18 @@ fn joined(alloc: Global, sections: Vec<SystemContents>) -> Result<SystemContents
 
 /// An application, a device or mappings.
 #[tactic(auto, unfolding(crate::specs::Grammar::system_section, crate::specs::Grammar::application, crate::specs::Grammar::device))]
-fn system_section(alloc: Global, tokens: &[Lexeme]) -> Result<(SystemContents, &[Lexeme]), Stop<'_>>
-    ensures { Gives system_contents_tree result (read system_section tokens.now) }
+fn system_section(alloc: Global, tokens: &mut Tokens<'_>) -> Result<SystemContents, Stop>
+    ensures { Gives system_contents_tree result tokens.new (read system_section tokens.old) }
 {
     if is_next(tokens, &[Kind::Application]) {
-        let (application, rest) = application(alloc, tokens)?;
-        Ok((SystemContents::of_application(alloc, application)?, rest))
+        let application = application(alloc, tokens)?;
+        Ok(SystemContents::of_application(alloc, application)?)
     } else if is_next(tokens, &[Kind::Device]) {
-        let (device, rest) = device(alloc, tokens)?;
-        Ok((SystemContents::of_device(alloc, device)?, rest))
+        let device = device(alloc, tokens)?;
+        Ok(SystemContents::of_device(alloc, device)?)
     } else {
-        let (mappings, rest) = mappings(alloc, tokens)?;
-        Ok((SystemContents::of_mappings(alloc, mappings), rest))
+        let mappings = mappings(alloc, tokens)?;
+        Ok(SystemContents::of_mappings(alloc, mappings))
     }
 }
 
@@ -113,39 +113,35 @@ impl Reader for SystemReader {
 
     ghost reads = { λ _. read system_section };
 
-    fn read<'a>(
-        &self,
-        alloc: Global,
-        tokens: &'a [Lexeme],
-    ) -> Result<(SystemContents, &'a [Lexeme]), Stop<'a>> {
+    fn read(&self, alloc: Global, tokens: &mut Tokens<'_>) -> Result<SystemContents, Stop> {
         system_section(alloc, tokens)
     }
 }
 
 /// Sections of a system, as long as they come.
 #[tactic(auto, unfolding(crate::specs::Grammar::system_section, crate::specs::Grammar::application, crate::specs::Grammar::device, crate::specs::Grammar::mappings))]
-fn sections(alloc: Global, tokens: &[Lexeme]) -> Result<(SystemContents, &[Lexeme]), Stop<'_>>
-    ensures { Gives system_contents_tree result
-        (read (as_value system_joined (many system_section)) tokens.now) }
+fn sections(alloc: Global, tokens: &mut Tokens<'_>) -> Result<SystemContents, Stop>
+    ensures { Gives system_contents_tree result tokens.new
+        (read (as_value system_joined (many system_section)) tokens.old) }
 {
     let firsts = [Kind::Application, Kind::Device, Kind::Mappings];
-    let (sections, rest) = several(&SystemReader, alloc, &firsts, tokens)?;
-    Ok((joined(alloc, sections)?, rest))
+    let sections = several(&SystemReader, alloc, &firsts, tokens)?;
+    Ok(joined(alloc, sections)?)
 }
 
 #[tactic(auto, unfolding(crate::specs::Grammar::system))]
-pub fn system(alloc: Global, tokens: &[Lexeme]) -> Result<(System, &[Lexeme]), Stop<'_>>
-    ensures { Gives system_tree result (read system tokens.now) }
+pub fn system(alloc: Global, tokens: &mut Tokens<'_>) -> Result<System, Stop>
+    ensures { Gives system_tree result tokens.new (read system tokens.old) }
 {
-    let (_, rest) = key(tokens, Kind::System)?;
-    let (name, rest) = name(rest)?;
-    let (contents, rest) = sections(alloc, rest)?;
-    let (_, rest) = key(rest, Kind::EndSystem)?;
+    key(tokens, Kind::System)?;
+    let name = name(alloc, tokens)?;
+    let contents = sections(alloc, tokens)?;
+    key(tokens, Kind::EndSystem)?;
     let system = System {
-        name: name.name_use(alloc)?,
+        name,
         applications: contents.applications,
         devices: contents.devices,
         mappings: contents.mappings,
     };
-    Ok((system, rest))
+    Ok(system)
 }

@@ -10,7 +10,7 @@ ghost use Rattle.std.specs.Prelude.{◌≡◌};
 use crate::frame::{Frame, Named, framed};
 use crate::system::system;
 use fb_sections::{fields, optional_semicolon};
-use fb_structured_text::grammar::{Kind, Lexeme, Stop, is_next, key, name};
+use fb_structured_text::grammar::{Kind, Stop, Tokens, is_next, key, name};
 use fb_tree::{Application, Decl, Structure, TypeDeclaration};
 use std::alloc::Global;
 
@@ -79,10 +79,10 @@ fn type_of(named: Named) -> TypeDeclaration
 }
 
 #[tactic(auto, unfolding(crate::specs::Grammar::block), using(crate::proofs::Predictive::block_sections_begin))]
-fn block(alloc: Global, tokens: &[Lexeme]) -> Result<(TypeDeclaration, &[Lexeme]), Stop<'_>>
-    ensures { Gives type_tree result (read block tokens.now) }
+fn block(alloc: Global, tokens: &mut Tokens<'_>) -> Result<TypeDeclaration, Stop>
+    ensures { Gives type_tree result tokens.new (read block tokens.old) }
 {
-    let (named, rest) = framed(
+    let named = framed(
         alloc,
         Kind::FunctionBlock,
         Frame::Block,
@@ -90,14 +90,14 @@ fn block(alloc: Global, tokens: &[Lexeme]) -> Result<(TypeDeclaration, &[Lexeme]
         Kind::EndFunctionBlock,
         tokens,
     )?;
-    Ok((type_of(named), rest))
+    Ok(type_of(named))
 }
 
 #[tactic(auto, unfolding(crate::specs::Grammar::adapter), using(crate::proofs::Predictive::adapter_sections_begin))]
-fn adapter(alloc: Global, tokens: &[Lexeme]) -> Result<(TypeDeclaration, &[Lexeme]), Stop<'_>>
-    ensures { Gives type_tree result (read adapter tokens.now) }
+fn adapter(alloc: Global, tokens: &mut Tokens<'_>) -> Result<TypeDeclaration, Stop>
+    ensures { Gives type_tree result tokens.new (read adapter tokens.old) }
 {
-    let (named, rest) = framed(
+    let named = framed(
         alloc,
         Kind::Adapter,
         Frame::Adapter,
@@ -105,17 +105,14 @@ fn adapter(alloc: Global, tokens: &[Lexeme]) -> Result<(TypeDeclaration, &[Lexem
         Kind::EndAdapter,
         tokens,
     )?;
-    Ok((type_of(named), rest))
+    Ok(type_of(named))
 }
 
 #[tactic(auto, unfolding(crate::specs::Grammar::subapplication), using(crate::proofs::Predictive::subapplication_sections_begin))]
-fn subapplication(
-    alloc: Global,
-    tokens: &[Lexeme],
-) -> Result<(TypeDeclaration, &[Lexeme]), Stop<'_>>
-    ensures { Gives type_tree result (read subapplication tokens.now) }
+fn subapplication(alloc: Global, tokens: &mut Tokens<'_>) -> Result<TypeDeclaration, Stop>
+    ensures { Gives type_tree result tokens.new (read subapplication tokens.old) }
 {
-    let (named, rest) = framed(
+    let named = framed(
         alloc,
         Kind::Subapplication,
         Frame::Subapplication,
@@ -123,15 +120,15 @@ fn subapplication(
         Kind::EndSubapplication,
         tokens,
     )?;
-    Ok((type_of(named), rest))
+    Ok(type_of(named))
 }
 
 /// An application of a system.
 #[tactic(auto, unfolding(crate::specs::Grammar::application), using(crate::proofs::Predictive::application_sections_begin))]
-pub fn application(alloc: Global, tokens: &[Lexeme]) -> Result<(Application, &[Lexeme]), Stop<'_>>
-    ensures { Gives application_tree result (read application tokens.now) }
+pub fn application(alloc: Global, tokens: &mut Tokens<'_>) -> Result<Application, Stop>
+    ensures { Gives application_tree result tokens.new (read application tokens.old) }
 {
-    let (named, rest) = framed(
+    let named = framed(
         alloc,
         Kind::Application,
         Frame::Application,
@@ -143,44 +140,42 @@ pub fn application(alloc: Global, tokens: &[Lexeme]) -> Result<(Application, &[L
         name: named.name,
         network: named.contents.network,
     };
-    Ok((application, rest))
+    Ok(application)
 }
 
 #[tactic(auto, unfolding(crate::specs::Grammar::structure))]
-fn structure(alloc: Global, tokens: &[Lexeme]) -> Result<(Structure, &[Lexeme]), Stop<'_>>
-    ensures { Gives structure_tree result (read structure tokens.now) }
+fn structure(alloc: Global, tokens: &mut Tokens<'_>) -> Result<Structure, Stop>
+    ensures { Gives structure_tree result tokens.new (read structure tokens.old) }
 {
-    let (_, rest) = key(tokens, Kind::TypeWord)?;
-    let (name, rest) = name(rest)?;
-    let (_, rest) = key(rest, Kind::Colon)?;
-    let (fields, rest) = fields(alloc, rest)?;
-    let (_, rest) = key(optional_semicolon(rest), Kind::EndType)?;
-    let structure = Structure {
-        name: name.name_use(alloc)?,
-        fields,
-    };
-    Ok((structure, rest))
+    key(tokens, Kind::TypeWord)?;
+    let name = name(alloc, tokens)?;
+    key(tokens, Kind::Colon)?;
+    let fields = fields(alloc, tokens)?;
+    optional_semicolon(tokens);
+    key(tokens, Kind::EndType)?;
+    let structure = Structure { name, fields };
+    Ok(structure)
 }
 
 /// A unit at the front of the tokens.
 #[tactic(auto, unfolding(crate::specs::Grammar::unit, crate::specs::Grammar::block, crate::specs::Grammar::adapter, crate::specs::Grammar::subapplication, crate::specs::Grammar::system))]
-pub fn unit(alloc: Global, tokens: &[Lexeme]) -> Result<(Decl, &[Lexeme]), Stop<'_>>
-    ensures { Gives decl_tree result (read unit tokens.now) }
+pub fn unit(alloc: Global, tokens: &mut Tokens<'_>) -> Result<Decl, Stop>
+    ensures { Gives decl_tree result tokens.new (read unit tokens.old) }
 {
     if is_next(tokens, &[Kind::FunctionBlock]) {
-        let (block, rest) = block(alloc, tokens)?;
-        Ok((Decl::Block(block), rest))
+        let block = block(alloc, tokens)?;
+        Ok(Decl::Block(block))
     } else if is_next(tokens, &[Kind::Adapter]) {
-        let (adapter, rest) = adapter(alloc, tokens)?;
-        Ok((Decl::Adapter(adapter), rest))
+        let adapter = adapter(alloc, tokens)?;
+        Ok(Decl::Adapter(adapter))
     } else if is_next(tokens, &[Kind::Subapplication]) {
-        let (subapplication, rest) = subapplication(alloc, tokens)?;
-        Ok((Decl::Subapplication(subapplication), rest))
+        let subapplication = subapplication(alloc, tokens)?;
+        Ok(Decl::Subapplication(subapplication))
     } else if is_next(tokens, &[Kind::System]) {
-        let (system, rest) = system(alloc, tokens)?;
-        Ok((Decl::System(system), rest))
+        let system = system(alloc, tokens)?;
+        Ok(Decl::System(system))
     } else {
-        let (structure, rest) = structure(alloc, tokens)?;
-        Ok((Decl::Structure(structure), rest))
+        let structure = structure(alloc, tokens)?;
+        Ok(Decl::Structure(structure))
     }
 }

@@ -13,7 +13,6 @@ use Rattle.fb_tree.specs.declared.network.Sort.{Sort}
 use Rattle.fb_tree.specs.declared.network.Sort.TheVariants as sort
 use Rattle.fb_sections.specs.Constants.{constant}
 use Rattle.fb_sections.specs.Sections.{optional_name, section}
-use Rattle.fb_sections.specs.declared.connecting.EndTokens.{EndTokens}
 
 -- name ':=' constant
 unfoldable pub parameter : Form ParameterTree
@@ -62,10 +61,6 @@ subapplications = section Subapps inner_subapplication EndSubapps
 -- name ['.' name]
 unfoldable pub end : Form End
 end = as_value (λ v. record { name = v.0; port = v.1 }) (both name (optional_name Point))
-
--- the end that its tokens spell
-abbrev pub end_in : EndTokens → End
-end_in tokens = record { name = name_use tokens.name.now; port = option_map (λ l. name_use l.now) tokens.port }
 
 -- end 'TO' end ';'
 unfoldable pub connection : Sort → Form Connection

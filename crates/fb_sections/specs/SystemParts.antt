@@ -33,7 +33,7 @@ unfoldable pub header : Form (NameUse × (NameUse × List ParameterTree))
 header = both name (behind (key Colon) (both name (before optional_parameters optional_semicolon)))
 
 abbrev pub header_tree : HeaderParts → NameUse × (NameUse × List ParameterTree)
-header_tree h = (name_use h.name.now, (name_use h.type_name.now, map parameter_tree h.parameters.items))
+header_tree h = (h.name, (h.type_name, map parameter_tree h.parameters.items))
 
 -- 'RESOURCE' name ':' name [params] [';'] 'END_RESOURCE'
 unfoldable pub resource : Form ResourceTree

@@ -3,46 +3,43 @@
 ghost use Rattle.fb_grammar.specs.Gives.{Gives, GivesEach};
 ghost use Rattle.fb_grammar.specs.Reading.{read};
 ghost use Rattle.fb_sections.specs.Chart.{action, actions, sent_event, state, states};
-ghost use Rattle.fb_sections.specs.Network.{end_in};
 ghost use Rattle.fb_tree.specs.Tree.{StateTree, state_tree};
 ghost use Rattle.fb_tree.specs.declared.chart.Action.{Action};
 ghost use Rattle.std.specs.Prelude.{◌≡◌, map};
 
-use crate::connecting::{EndTokens, end};
+use crate::connecting::end;
 use crate::frame::section;
-use fb_grammar::{Kind, Lexeme, NAMES, Reader, Stop, is_next, key, listed, name};
-use fb_tree::{Action, State};
+use fb_grammar::{Kind, NAMES, Reader, Stop, Tokens, is_next, key, listed, name};
+use fb_tree::{Action, End, State};
 use std::alloc::Global;
 
 /// An arrow and the event that is sent.
 #[tactic(auto, unfolding(crate::specs::Chart::sent_event))]
-fn sent_event(tokens: &[Lexeme]) -> Result<(EndTokens<'_>, &[Lexeme]), Stop<'_>>
-    ensures { Gives end_in result (read sent_event tokens.now) }
+fn sent_event(alloc: Global, tokens: &mut Tokens<'_>) -> Result<End, Stop>
+    ensures { Gives (λ end. end) result tokens.new (read sent_event tokens.old) }
 {
-    let (_, rest) = key(tokens, Kind::Arrow)?;
-    end(rest)
+    key(tokens, Kind::Arrow)?;
+    end(alloc, tokens)
 }
 
 #[tactic(auto, unfolding(crate::specs::Chart::action, crate::specs::Chart::sent_event, fb_grammar::specs::Words::name))]
-fn action(alloc: Global, tokens: &[Lexeme]) -> Result<(Action, &[Lexeme]), Stop<'_>>
-    ensures { Gives (λ action. action) result (read action tokens.now) }
+fn action(alloc: Global, tokens: &mut Tokens<'_>) -> Result<Action, Stop>
+    ensures { Gives (λ action. action) result tokens.new (read action tokens.old) }
 {
     let mut action = Action {
         algorithm: None,
         event: None,
     };
-    let mut rest = tokens;
     if is_next(tokens, &NAMES) {
-        let (algorithm, behind) = name(tokens)?;
-        action.algorithm = Some(algorithm.name_use(alloc)?);
-        rest = behind;
-        if !is_next(rest, &[Kind::Arrow]) {
-            return Ok((action, rest));
+        let algorithm = name(alloc, tokens)?;
+        action.algorithm = Some(algorithm);
+        if !is_next(tokens, &[Kind::Arrow]) {
+            return Ok(action);
         }
     }
-    let (event, rest) = sent_event(rest)?;
-    action.event = Some(event.end(alloc)?);
-    Ok((action, rest))
+    let event = sent_event(alloc, tokens)?;
+    action.event = Some(event);
+    Ok(action)
 }
 
 /// Reads actions.
@@ -58,25 +55,21 @@ impl Reader for ActionReader {
 
     ghost reads = { λ _. read action };
 
-    fn read<'a>(
-        &self,
-        alloc: Global,
-        tokens: &'a [Lexeme],
-    ) -> Result<(Action, &'a [Lexeme]), Stop<'a>> {
+    fn read(&self, alloc: Global, tokens: &mut Tokens<'_>) -> Result<Action, Stop> {
         action(alloc, tokens)
     }
 }
 
 /// The actions of a state, where they are written.
 #[tactic(auto, unfolding(crate::specs::Chart::actions), using(fb_grammar::proofs::Repeating::as_they_are))]
-fn actions(alloc: Global, tokens: &[Lexeme]) -> Result<(Vec<Action>, &[Lexeme]), Stop<'_>>
-    ensures { Gives (λ actions. actions.items) result (read actions tokens.now) }
+fn actions(alloc: Global, tokens: &mut Tokens<'_>) -> Result<Vec<Action>, Stop>
+    ensures { Gives (λ actions. actions.items) result tokens.new (read actions tokens.old) }
 {
     if !is_next(tokens, &[Kind::Colon]) {
-        return Ok((Vec::new(alloc), tokens));
+        return Ok(Vec::new(alloc));
     }
-    let (_, rest) = key(tokens, Kind::Colon)?;
-    listed(&ActionReader, alloc, rest)
+    key(tokens, Kind::Colon)?;
+    listed(&ActionReader, alloc, tokens)
 }
 
 /// Reads states.
@@ -93,26 +86,19 @@ impl Reader for StateReader {
     ghost reads = { λ _. read state };
 
     #[tactic(auto, unfolding(crate::specs::Chart::state))]
-    fn read<'a>(
-        &self,
-        alloc: Global,
-        tokens: &'a [Lexeme],
-    ) -> Result<(State, &'a [Lexeme]), Stop<'a>> {
-        let (name, rest) = name(tokens)?;
-        let (actions, rest) = actions(alloc, rest)?;
-        let (_, rest) = key(rest, Kind::Semicolon)?;
-        let state = State {
-            name: name.name_use(alloc)?,
-            actions,
-        };
-        Ok((state, rest))
+    fn read(&self, alloc: Global, tokens: &mut Tokens<'_>) -> Result<State, Stop> {
+        let name = name(alloc, tokens)?;
+        let actions = actions(alloc, tokens)?;
+        key(tokens, Kind::Semicolon)?;
+        let state = State { name, actions };
+        Ok(state)
     }
 }
 
 /// A section of states.
 #[tactic(auto, unfolding(crate::specs::Chart::states, crate::specs::Chart::state, fb_grammar::specs::Words::name))]
-pub fn states(alloc: Global, tokens: &[Lexeme]) -> Result<(Vec<State>, &[Lexeme]), Stop<'_>>
-    ensures { GivesEach state_tree result (read states tokens.now) }
+pub fn states(alloc: Global, tokens: &mut Tokens<'_>) -> Result<Vec<State>, Stop>
+    ensures { GivesEach state_tree result tokens.new (read states tokens.old) }
 {
     section(Kind::EcStates, &StateReader, Kind::EndStates, alloc, tokens)
 }

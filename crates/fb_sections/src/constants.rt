@@ -8,9 +8,10 @@ ghost use Rattle.fb_tree.specs.declared.constant.Simple.{Simple};
 ghost use Rattle.std.specs.Prelude.{◌≡◌};
 
 use fb_grammar::{
-    Kind, Lexeme, NAMES, NUMBERS, Reader, Stop, is_next, key, listed, literal_form, literal_use,
+    Kind, NAMES, NUMBERS, Reader, Stop, Tokens, is_next, key, listed, literal_form, literal_use,
     name, one_of,
 };
+use fb_tree::text::Place;
 use fb_tree::{Constant, Literal, LiteralForm, Simple, TypeForm, TypeUse};
 use std::alloc::Global;
 
@@ -39,20 +40,20 @@ fn signed_form(form: LiteralForm) -> LiteralForm
 
 /// A number, perhaps with a sign.
 #[tactic(auto, unfolding(crate::specs::Constants::number))]
-fn number(tokens: &[Lexeme]) -> Result<(Literal, &[Lexeme]), Stop<'_>>
-    ensures { Gives (λ number. number) result (read number tokens.now) }
+fn number(tokens: &mut Tokens<'_>) -> Result<Literal, Stop>
+    ensures { Gives (λ number. number) result tokens.new (read number tokens.old) }
 {
     if !is_next(tokens, &SIGNS) {
-        let (token, rest) = one_of(tokens, &NUMBERS)?;
-        return Ok((literal_use(token), rest));
+        let token = one_of(tokens, &NUMBERS)?;
+        return Ok(literal_use(&token));
     }
-    let (sign, rest) = one_of(tokens, &SIGNS)?;
-    let (token, rest) = one_of(rest, &NUMBERS)?;
+    let sign = one_of(tokens, &SIGNS)?;
+    let token = one_of(tokens, &NUMBERS)?;
     let number = Literal {
         form: signed_form(literal_form(token.kind)),
         span: sign.span.through(token.span),
     };
-    Ok((number, rest))
+    Ok(number)
 }
 
 /// Reads the ranges of an array, which are not kept.
@@ -69,88 +70,80 @@ impl Reader for RangeReader {
     ghost reads = { λ _. read range };
 
     #[tactic(auto, unfolding(crate::specs::Constants::range))]
-    fn read<'a>(
-        &self,
-        _alloc: Global,
-        tokens: &'a [Lexeme],
-    ) -> Result<((), &'a [Lexeme]), Stop<'a>> {
-        // Not by `?`, which takes no copied place beside a reference.
-        let rest = match number(tokens) {
-            Ok((_, rest)) => rest,
-            Err(stop) => return Err(stop),
-        };
-        let (_, rest) = key(rest, Kind::Range)?;
-        let rest = match number(rest) {
-            Ok((_, rest)) => rest,
-            Err(stop) => return Err(stop),
-        };
-        Ok(((), rest))
+    fn read(&self, _alloc: Global, tokens: &mut Tokens<'_>) -> Result<(), Stop> {
+        number(tokens)?;
+        key(tokens, Kind::Range)?;
+        number(tokens)?;
+        Ok(())
     }
 }
 
 /// Ranges with commas between them.
 #[tactic(auto, unfolding(crate::specs::Constants::ranges))]
-fn ranges(alloc: Global, tokens: &[Lexeme]) -> Result<&[Lexeme], Stop<'_>>
-    ensures { Passes result (read ranges tokens.now) }
+fn ranges(alloc: Global, tokens: &mut Tokens<'_>) -> Result<(), Stop>
+    ensures { Passes result tokens.new (read ranges tokens.old) }
 {
-    let (_, rest) = listed(&RangeReader, alloc, tokens)?;
-    Ok(rest)
+    listed(&RangeReader, alloc, tokens)?;
+    Ok(())
 }
 
 /// A length in brackets. The closing one is given.
 #[tactic(auto, unfolding(crate::specs::Constants::length_of_string))]
-fn length_of_string(tokens: &[Lexeme]) -> Result<(&Lexeme, &[Lexeme]), Stop<'_>>
-    ensures { Gives (λ token. token.now) result (read length_of_string tokens.now) }
+fn length_of_string(tokens: &mut Tokens<'_>) -> Result<Place, Stop>
+    ensures { Gives (λ place. place) result tokens.new (read length_of_string tokens.old) }
 {
-    let (_, rest) = key(tokens, Kind::OpenBracket)?;
-    let (_, rest) = one_of(rest, &NUMBERS)?;
-    key(rest, Kind::CloseBracket)
+    key(tokens, Kind::OpenBracket)?;
+    one_of(tokens, &NUMBERS)?;
+    key(tokens, Kind::CloseBracket)
 }
 
 #[tactic(auto, unfolding(crate::specs::Constants::plain_type, crate::specs::Constants::length_of_string))]
-fn plain_type(alloc: Global, tokens: &[Lexeme]) -> Result<(TypeUse, &[Lexeme]), Stop<'_>>
-    ensures { Gives (λ type. type) result (read plain_type tokens.now) }
+fn plain_type(alloc: Global, tokens: &mut Tokens<'_>) -> Result<TypeUse, Stop>
+    ensures { Gives (λ type. type) result tokens.new (read plain_type tokens.old) }
 {
-    let (name, rest) = name(tokens)?;
-    if !is_next(rest, &[Kind::OpenBracket]) {
+    let name = name(alloc, tokens)?;
+    if !is_next(tokens, &[Kind::OpenBracket]) {
+        let span = name.span;
         let plain = TypeUse {
-            name: name.name_use(alloc)?,
+            name,
             form: TypeForm::Plain,
-            span: name.span,
+            span,
         };
-        return Ok((plain, rest));
+        return Ok(plain);
     }
-    let (close, rest) = length_of_string(rest)?;
+    let close = length_of_string(tokens)?;
+    let span = name.span.through(close);
     let sized = TypeUse {
-        name: name.name_use(alloc)?,
+        name,
         form: TypeForm::Sized,
-        span: name.span.through(close.span),
+        span,
     };
-    Ok((sized, rest))
+    Ok(sized)
 }
 
 #[tactic(auto, unfolding(crate::specs::Constants::array_type))]
-fn array_type(alloc: Global, tokens: &[Lexeme]) -> Result<(TypeUse, &[Lexeme]), Stop<'_>>
-    ensures { Gives (λ type. type) result (read array_type tokens.now) }
+fn array_type(alloc: Global, tokens: &mut Tokens<'_>) -> Result<TypeUse, Stop>
+    ensures { Gives (λ type. type) result tokens.new (read array_type tokens.old) }
 {
-    let (array, rest) = key(tokens, Kind::Array)?;
-    let (_, rest) = key(rest, Kind::OpenBracket)?;
-    let rest = ranges(alloc, rest)?;
-    let (_, rest) = key(rest, Kind::CloseBracket)?;
-    let (_, rest) = key(rest, Kind::Of)?;
-    let (element, rest) = name(rest)?;
+    let array = key(tokens, Kind::Array)?;
+    key(tokens, Kind::OpenBracket)?;
+    ranges(alloc, tokens)?;
+    key(tokens, Kind::CloseBracket)?;
+    key(tokens, Kind::Of)?;
+    let element = name(alloc, tokens)?;
+    let span = array.through(element.span);
     let array = TypeUse {
-        name: element.name_use(alloc)?,
+        name: element,
         form: TypeForm::Array,
-        span: array.span.through(element.span),
+        span,
     };
-    Ok((array, rest))
+    Ok(array)
 }
 
 /// A type where it is used.
 #[tactic(auto, unfolding(crate::specs::Constants::type_use, crate::specs::Constants::plain_type, fb_grammar::specs::Words::name))]
-pub fn type_use(alloc: Global, tokens: &[Lexeme]) -> Result<(TypeUse, &[Lexeme]), Stop<'_>>
-    ensures { Gives (λ type. type) result (read type_use tokens.now) }
+pub fn type_use(alloc: Global, tokens: &mut Tokens<'_>) -> Result<TypeUse, Stop>
+    ensures { Gives (λ type. type) result tokens.new (read type_use tokens.old) }
 {
     if is_next(tokens, &NAMES) {
         plain_type(alloc, tokens)
@@ -160,20 +153,17 @@ pub fn type_use(alloc: Global, tokens: &[Lexeme]) -> Result<(TypeUse, &[Lexeme])
 }
 
 #[tactic(auto, unfolding(crate::specs::Constants::simple, fb_grammar::specs::Words::name))]
-fn simple(alloc: Global, tokens: &[Lexeme]) -> Result<(Simple, &[Lexeme]), Stop<'_>>
-    ensures { Gives (λ constant. constant) result (read simple tokens.now) }
+fn simple(alloc: Global, tokens: &mut Tokens<'_>) -> Result<Simple, Stop>
+    ensures { Gives (λ constant. constant) result tokens.new (read simple tokens.old) }
 {
     if is_next(tokens, &NAMES) {
-        let (token, rest) = name(tokens)?;
-        Ok((Simple::Name(token.name_use(alloc)?), rest))
+        let token = name(alloc, tokens)?;
+        Ok(Simple::Name(token))
     } else if is_next(tokens, &OTHER_LITERALS) {
-        let (token, rest) = one_of(tokens, &OTHER_LITERALS)?;
-        Ok((Simple::Literal(literal_use(token)), rest))
+        let token = one_of(tokens, &OTHER_LITERALS)?;
+        Ok(Simple::Literal(literal_use(&token)))
     } else {
-        match number(tokens) {
-            Ok((number, rest)) => Ok((Simple::Literal(number), rest)),
-            Err(stop) => Err(stop),
-        }
+        Ok(Simple::Literal(number(tokens)?))
     }
 }
 
@@ -190,36 +180,29 @@ impl Reader for SimpleReader {
 
     ghost reads = { λ _. read simple };
 
-    fn read<'a>(
-        &self,
-        alloc: Global,
-        tokens: &'a [Lexeme],
-    ) -> Result<(Simple, &'a [Lexeme]), Stop<'a>> {
+    fn read(&self, alloc: Global, tokens: &mut Tokens<'_>) -> Result<Simple, Stop> {
         simple(alloc, tokens)
     }
 }
 
 /// Simple constants in brackets.
 #[tactic(auto, unfolding(crate::specs::Constants::constant_list), using(fb_grammar::proofs::Repeating::as_they_are))]
-fn constant_list(alloc: Global, tokens: &[Lexeme]) -> Result<(Constant, &[Lexeme]), Stop<'_>>
-    ensures { Gives constant_tree result (read constant_list tokens.now) }
+fn constant_list(alloc: Global, tokens: &mut Tokens<'_>) -> Result<Constant, Stop>
+    ensures { Gives constant_tree result tokens.new (read constant_list tokens.old) }
 {
-    let (open, rest) = key(tokens, Kind::OpenBracket)?;
-    let (values, rest) = listed(&SimpleReader, alloc, rest)?;
-    let (close, rest) = key(rest, Kind::CloseBracket)?;
-    Ok((Constant::List(values, open.span.through(close.span)), rest))
+    let open = key(tokens, Kind::OpenBracket)?;
+    let values = listed(&SimpleReader, alloc, tokens)?;
+    let close = key(tokens, Kind::CloseBracket)?;
+    Ok(Constant::List(values, open.through(close)))
 }
 
 /// A constant.
 #[tactic(auto, unfolding(crate::specs::Constants::constant, crate::specs::Constants::constant_list))]
-pub fn constant(alloc: Global, tokens: &[Lexeme]) -> Result<(Constant, &[Lexeme]), Stop<'_>>
-    ensures { Gives constant_tree result (read constant tokens.now) }
+pub fn constant(alloc: Global, tokens: &mut Tokens<'_>) -> Result<Constant, Stop>
+    ensures { Gives constant_tree result tokens.new (read constant tokens.old) }
 {
     if is_next(tokens, &[Kind::OpenBracket]) {
         return constant_list(alloc, tokens);
     }
-    match simple(alloc, tokens) {
-        Ok((value, rest)) => Ok((Constant::One(value), rest)),
-        Err(stop) => Err(stop),
-    }
+    Ok(Constant::One(simple(alloc, tokens)?))
 }

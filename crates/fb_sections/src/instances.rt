@@ -8,7 +8,7 @@ ghost use Rattle.std.specs.Prelude.{◌≡◌, map};
 
 use crate::constants::constant;
 use crate::frame::section;
-use fb_grammar::{Kind, Lexeme, NAMES, Reader, Stop, is_next, key, listed, name};
+use fb_grammar::{Kind, NAMES, Reader, Stop, Tokens, is_next, key, listed, name};
 use fb_tree::{Instance, Parameter, Role};
 use std::alloc::Global;
 
@@ -26,52 +26,39 @@ impl Reader for ParameterReader {
     ghost reads = { λ _. read parameter };
 
     #[tactic(auto, unfolding(crate::specs::Network::parameter))]
-    fn read<'a>(
-        &self,
-        alloc: Global,
-        tokens: &'a [Lexeme],
-    ) -> Result<(Parameter, &'a [Lexeme]), Stop<'a>> {
-        let (name, rest) = name(tokens)?;
-        let (_, rest) = key(rest, Kind::Assign)?;
-        let (value, rest) = constant(alloc, rest)?;
-        let parameter = Parameter {
-            name: name.name_use(alloc)?,
-            value,
-        };
-        Ok((parameter, rest))
+    fn read(&self, alloc: Global, tokens: &mut Tokens<'_>) -> Result<Parameter, Stop> {
+        let name = name(alloc, tokens)?;
+        key(tokens, Kind::Assign)?;
+        let value = constant(alloc, tokens)?;
+        let parameter = Parameter { name, value };
+        Ok(parameter)
     }
 }
 
 /// Parameters with commas between them, or none.
 #[tactic(auto, unfolding(crate::specs::Network::listed_parameters, crate::specs::Network::parameter, fb_grammar::specs::Words::name))]
-fn listed_parameters(
-    alloc: Global,
-    tokens: &[Lexeme],
-) -> Result<(Vec<Parameter>, &[Lexeme]), Stop<'_>>
-    ensures { GivesEach parameter_tree result (read listed_parameters tokens.now) }
+fn listed_parameters(alloc: Global, tokens: &mut Tokens<'_>) -> Result<Vec<Parameter>, Stop>
+    ensures { GivesEach parameter_tree result tokens.new (read listed_parameters tokens.old) }
 {
     if is_next(tokens, &NAMES) {
         listed(&ParameterReader, alloc, tokens)
     } else {
-        Ok((Vec::new(alloc), tokens))
+        Ok(Vec::new(alloc))
     }
 }
 
 /// Parameters in parentheses, where they are written.
 #[tactic(auto, unfolding(crate::specs::Network::optional_parameters, crate::specs::Network::parameters))]
-pub fn optional_parameters(
-    alloc: Global,
-    tokens: &[Lexeme],
-) -> Result<(Vec<Parameter>, &[Lexeme]), Stop<'_>>
-    ensures { GivesEach parameter_tree result (read optional_parameters tokens.now) }
+pub fn optional_parameters(alloc: Global, tokens: &mut Tokens<'_>) -> Result<Vec<Parameter>, Stop>
+    ensures { GivesEach parameter_tree result tokens.new (read optional_parameters tokens.old) }
 {
     if !is_next(tokens, &[Kind::OpenParenthesis]) {
-        return Ok((Vec::new(alloc), tokens));
+        return Ok(Vec::new(alloc));
     }
-    let (_, rest) = key(tokens, Kind::OpenParenthesis)?;
-    let (parameters, rest) = listed_parameters(alloc, rest)?;
-    let (_, rest) = key(rest, Kind::CloseParenthesis)?;
-    Ok((parameters, rest))
+    key(tokens, Kind::OpenParenthesis)?;
+    let parameters = listed_parameters(alloc, tokens)?;
+    key(tokens, Kind::CloseParenthesis)?;
+    Ok(parameters)
 }
 
 /// Reads instances with parameters, in a role.
@@ -90,30 +77,26 @@ impl Reader for InstanceReader {
     ghost reads = { λ reader. read (instance reader.role) };
 
     #[tactic(auto, unfolding(crate::specs::Network::instance))]
-    fn read<'a>(
-        &self,
-        alloc: Global,
-        tokens: &'a [Lexeme],
-    ) -> Result<(Instance, &'a [Lexeme]), Stop<'a>> {
-        let (own_name, rest) = name(tokens)?;
-        let (_, rest) = key(rest, Kind::Colon)?;
-        let (type_name, rest) = name(rest)?;
-        let (parameters, rest) = optional_parameters(alloc, rest)?;
-        let (_, rest) = key(rest, Kind::Semicolon)?;
+    fn read(&self, alloc: Global, tokens: &mut Tokens<'_>) -> Result<Instance, Stop> {
+        let own_name = name(alloc, tokens)?;
+        key(tokens, Kind::Colon)?;
+        let type_name = name(alloc, tokens)?;
+        let parameters = optional_parameters(alloc, tokens)?;
+        key(tokens, Kind::Semicolon)?;
         let instance = Instance {
             role: self.role,
-            name: own_name.name_use(alloc)?,
-            type_name: type_name.name_use(alloc)?,
+            name: own_name,
+            type_name,
             parameters,
         };
-        Ok((instance, rest))
+        Ok(instance)
     }
 }
 
 /// A section of plugs.
 #[tactic(auto, unfolding(crate::specs::Network::plugs, crate::specs::Network::instance, fb_grammar::specs::Words::name))]
-pub fn plugs(alloc: Global, tokens: &[Lexeme]) -> Result<(Vec<Instance>, &[Lexeme]), Stop<'_>>
-    ensures { GivesEach instance_tree result (read plugs tokens.now) }
+pub fn plugs(alloc: Global, tokens: &mut Tokens<'_>) -> Result<Vec<Instance>, Stop>
+    ensures { GivesEach instance_tree result tokens.new (read plugs tokens.old) }
 {
     section(
         Kind::Plugs,
@@ -126,8 +109,8 @@ pub fn plugs(alloc: Global, tokens: &[Lexeme]) -> Result<(Vec<Instance>, &[Lexem
 
 /// A section of sockets.
 #[tactic(auto, unfolding(crate::specs::Network::sockets, crate::specs::Network::instance, fb_grammar::specs::Words::name))]
-pub fn sockets(alloc: Global, tokens: &[Lexeme]) -> Result<(Vec<Instance>, &[Lexeme]), Stop<'_>>
-    ensures { GivesEach instance_tree result (read sockets tokens.now) }
+pub fn sockets(alloc: Global, tokens: &mut Tokens<'_>) -> Result<Vec<Instance>, Stop>
+    ensures { GivesEach instance_tree result tokens.new (read sockets tokens.old) }
 {
     section(
         Kind::Sockets,
@@ -140,8 +123,8 @@ pub fn sockets(alloc: Global, tokens: &[Lexeme]) -> Result<(Vec<Instance>, &[Lex
 
 /// A section of block instances.
 #[tactic(auto, unfolding(crate::specs::Network::blocks, crate::specs::Network::instance, fb_grammar::specs::Words::name))]
-pub fn blocks(alloc: Global, tokens: &[Lexeme]) -> Result<(Vec<Instance>, &[Lexeme]), Stop<'_>>
-    ensures { GivesEach instance_tree result (read blocks tokens.now) }
+pub fn blocks(alloc: Global, tokens: &mut Tokens<'_>) -> Result<Vec<Instance>, Stop>
+    ensures { GivesEach instance_tree result tokens.new (read blocks tokens.old) }
 {
     section(
         Kind::Fbs,
@@ -166,32 +149,25 @@ impl Reader for SubapplicationReader {
     ghost reads = { λ _. read inner_subapplication };
 
     #[tactic(auto, unfolding(crate::specs::Network::inner_subapplication))]
-    fn read<'a>(
-        &self,
-        alloc: Global,
-        tokens: &'a [Lexeme],
-    ) -> Result<(Instance, &'a [Lexeme]), Stop<'a>> {
-        let (own_name, rest) = name(tokens)?;
-        let (_, rest) = key(rest, Kind::Colon)?;
-        let (type_name, rest) = name(rest)?;
-        let (_, rest) = key(rest, Kind::Semicolon)?;
+    fn read(&self, alloc: Global, tokens: &mut Tokens<'_>) -> Result<Instance, Stop> {
+        let own_name = name(alloc, tokens)?;
+        key(tokens, Kind::Colon)?;
+        let type_name = name(alloc, tokens)?;
+        key(tokens, Kind::Semicolon)?;
         let instance = Instance {
             role: Role::Subapplication,
-            name: own_name.name_use(alloc)?,
-            type_name: type_name.name_use(alloc)?,
+            name: own_name,
+            type_name,
             parameters: Vec::new(alloc),
         };
-        Ok((instance, rest))
+        Ok(instance)
     }
 }
 
 /// A section of subapplication instances.
 #[tactic(auto, unfolding(crate::specs::Network::subapplications, crate::specs::Network::inner_subapplication, fb_grammar::specs::Words::name))]
-pub fn subapplications(
-    alloc: Global,
-    tokens: &[Lexeme],
-) -> Result<(Vec<Instance>, &[Lexeme]), Stop<'_>>
-    ensures { GivesEach instance_tree result (read subapplications tokens.now) }
+pub fn subapplications(alloc: Global, tokens: &mut Tokens<'_>) -> Result<Vec<Instance>, Stop>
+    ensures { GivesEach instance_tree result tokens.new (read subapplications tokens.old) }
 {
     section(
         Kind::Subapps,

@@ -7,22 +7,22 @@ ghost use Rattle.fb_tree.specs.Tree.{EventTree, VariablesTree, constant_tree, ev
 ghost use Rattle.std.specs.Prelude.{◌≡◌, map, option_map};
 
 use crate::constants::{constant, type_use};
-use crate::frame::{name_in, optional_name, section};
-use fb_grammar::{Kind, Lexeme, Reader, Stop, is_next, key, name, names};
+use crate::frame::{optional_name, section};
+use fb_grammar::{Kind, Reader, Stop, Tokens, is_next, key, name, names};
 use fb_tree::text::NameUse;
 use fb_tree::{Constant, Event, Section, Side, Variables};
 use std::alloc::Global;
 
 /// The names behind WITH, where it is written.
 #[tactic(auto, unfolding(crate::specs::Interface::with_names))]
-fn with_names(alloc: Global, tokens: &[Lexeme]) -> Result<(Vec<NameUse>, &[Lexeme]), Stop<'_>>
-    ensures { Gives (λ names. names.items) result (read with_names tokens.now) }
+fn with_names(alloc: Global, tokens: &mut Tokens<'_>) -> Result<Vec<NameUse>, Stop>
+    ensures { Gives (λ names. names.items) result tokens.new (read with_names tokens.old) }
 {
     if !is_next(tokens, &[Kind::With]) {
-        return Ok((Vec::new(alloc), tokens));
+        return Ok(Vec::new(alloc));
     }
-    let (_, rest) = key(tokens, Kind::With)?;
-    names(alloc, rest)
+    key(tokens, Kind::With)?;
+    names(alloc, tokens)
 }
 
 /// Reads events of a side.
@@ -41,29 +41,25 @@ impl Reader for EventReader {
     ghost reads = { λ reader. read (event reader.side) };
 
     #[tactic(auto, unfolding(crate::specs::Interface::event))]
-    fn read<'a>(
-        &self,
-        alloc: Global,
-        tokens: &'a [Lexeme],
-    ) -> Result<(Event, &'a [Lexeme]), Stop<'a>> {
-        let (name, rest) = name(tokens)?;
-        let (type_name, rest) = optional_name(rest, Kind::Colon)?;
-        let (with, rest) = with_names(alloc, rest)?;
-        let (_, rest) = key(rest, Kind::Semicolon)?;
+    fn read(&self, alloc: Global, tokens: &mut Tokens<'_>) -> Result<Event, Stop> {
+        let name = name(alloc, tokens)?;
+        let type_name = optional_name(alloc, tokens, Kind::Colon)?;
+        let with = with_names(alloc, tokens)?;
+        key(tokens, Kind::Semicolon)?;
         let event = Event {
             side: self.side,
-            name: name.name_use(alloc)?,
-            type_name: name_in(alloc, type_name)?,
+            name,
+            type_name,
             with,
         };
-        Ok((event, rest))
+        Ok(event)
     }
 }
 
 /// A section of events.
 #[tactic(auto, unfolding(crate::specs::Interface::events, crate::specs::Interface::event, fb_grammar::specs::Words::name))]
-pub fn events(alloc: Global, tokens: &[Lexeme]) -> Result<(Vec<Event>, &[Lexeme]), Stop<'_>>
-    ensures { GivesEach event_tree result (read events tokens.now) }
+pub fn events(alloc: Global, tokens: &mut Tokens<'_>) -> Result<Vec<Event>, Stop>
+    ensures { GivesEach event_tree result tokens.new (read events tokens.old) }
 {
     if is_next(tokens, &[Kind::EventInput]) {
         section(
@@ -86,15 +82,15 @@ pub fn events(alloc: Global, tokens: &[Lexeme]) -> Result<(Vec<Event>, &[Lexeme]
 
 /// The initial value, where one is written.
 #[tactic(auto, unfolding(crate::specs::Interface::initial))]
-fn initial(alloc: Global, tokens: &[Lexeme]) -> Result<(Option<Constant>, &[Lexeme]), Stop<'_>>
-    ensures { Gives (option_map constant_tree) result (read initial tokens.now) }
+fn initial(alloc: Global, tokens: &mut Tokens<'_>) -> Result<Option<Constant>, Stop>
+    ensures { Gives (option_map constant_tree) result tokens.new (read initial tokens.old) }
 {
     if !is_next(tokens, &[Kind::Assign]) {
-        return Ok((None, tokens));
+        return Ok(None);
     }
-    let (_, rest) = key(tokens, Kind::Assign)?;
-    let (value, rest) = constant(alloc, rest)?;
-    Ok((Some(value), rest))
+    key(tokens, Kind::Assign)?;
+    let value = constant(alloc, tokens)?;
+    Ok(Some(value))
 }
 
 /// Reads variables of a section.
@@ -113,36 +109,29 @@ impl Reader for VariablesReader {
     ghost reads = { λ reader. read (variables reader.section) };
 
     #[tactic(auto, unfolding(crate::specs::Interface::variables))]
-    fn read<'a>(
-        &self,
-        alloc: Global,
-        tokens: &'a [Lexeme],
-    ) -> Result<(Variables, &'a [Lexeme]), Stop<'a>> {
-        let (names, rest) = names(alloc, tokens)?;
-        let (_, rest) = key(rest, Kind::Colon)?;
-        let (type_use, rest) = match type_use(alloc, rest) {
+    fn read(&self, alloc: Global, tokens: &mut Tokens<'_>) -> Result<Variables, Stop> {
+        let names = names(alloc, tokens)?;
+        key(tokens, Kind::Colon)?;
+        let type_use = match type_use(alloc, tokens) {
             Ok(found) => found,
             Err(stop) => return Err(stop),
         };
-        let (initial, rest) = initial(alloc, rest)?;
-        let (_, rest) = key(rest, Kind::Semicolon)?;
+        let initial = initial(alloc, tokens)?;
+        key(tokens, Kind::Semicolon)?;
         let variables = Variables {
             section: self.section,
             names,
             type_use,
             initial,
         };
-        Ok((variables, rest))
+        Ok(variables)
     }
 }
 
 /// A section of data inputs or outputs.
 #[tactic(auto, unfolding(crate::specs::Interface::data_variables, crate::specs::Interface::variables, fb_grammar::specs::Words::names, fb_grammar::specs::Words::name))]
-pub fn data_variables(
-    alloc: Global,
-    tokens: &[Lexeme],
-) -> Result<(Vec<Variables>, &[Lexeme]), Stop<'_>>
-    ensures { GivesEach variables_tree result (read data_variables tokens.now) }
+pub fn data_variables(alloc: Global, tokens: &mut Tokens<'_>) -> Result<Vec<Variables>, Stop>
+    ensures { GivesEach variables_tree result tokens.new (read data_variables tokens.old) }
 {
     if is_next(tokens, &[Kind::VarInput]) {
         section(
@@ -169,11 +158,8 @@ pub fn data_variables(
 
 /// A section of internal variables.
 #[tactic(auto, unfolding(crate::specs::Interface::internal_variables, crate::specs::Interface::variables, fb_grammar::specs::Words::names, fb_grammar::specs::Words::name))]
-pub fn internal_variables(
-    alloc: Global,
-    tokens: &[Lexeme],
-) -> Result<(Vec<Variables>, &[Lexeme]), Stop<'_>>
-    ensures { GivesEach variables_tree result (read internal_variables tokens.now) }
+pub fn internal_variables(alloc: Global, tokens: &mut Tokens<'_>) -> Result<Vec<Variables>, Stop>
+    ensures { GivesEach variables_tree result tokens.new (read internal_variables tokens.old) }
 {
     section(
         Kind::Var,
@@ -188,8 +174,8 @@ pub fn internal_variables(
 
 /// The fields of a structure between their words.
 #[tactic(auto, unfolding(crate::specs::Interface::fields, crate::specs::Interface::variables, fb_grammar::specs::Words::names, fb_grammar::specs::Words::name))]
-pub fn fields(alloc: Global, tokens: &[Lexeme]) -> Result<(Vec<Variables>, &[Lexeme]), Stop<'_>>
-    ensures { GivesEach variables_tree result (read fields tokens.now) }
+pub fn fields(alloc: Global, tokens: &mut Tokens<'_>) -> Result<Vec<Variables>, Stop>
+    ensures { GivesEach variables_tree result tokens.new (read fields tokens.old) }
 {
     section(
         Kind::Struct,

@@ -15,7 +15,7 @@ mod skipped;
 mod system_parts;
 
 pub use chart::states;
-pub use connecting::{EndTokens, connections, end};
+pub use connecting::{connections, end};
 pub use frame::section;
 pub use instances::{blocks, plugs, sockets, subapplications};
 pub use interface::{data_variables, events, fields, internal_variables};

@@ -5,29 +5,25 @@ ghost use Rattle.fb_grammar.specs.Reading.{read};
 ghost use Rattle.fb_sections.specs.Skipped.{service, skipped};
 ghost use Rattle.std.specs.Prelude.{◌≡◌, Ok};
 
-use fb_grammar::{Kind, Lexeme, Stop, key};
+use fb_grammar::{Kind, Stop, Tokens, key};
 
 /// The tokens from the first of this kind on.
 #[tactic(auto, using(crate::proofs::Skipping::skip_more, crate::proofs::Skipping::skip_done, crate::proofs::Skipping::skip_none))]
-pub fn skip(tokens: &[Lexeme], end: Kind) -> &[Lexeme]
-    ensures { read (skipped end) tokens.now ≡ Ok (tt, result.now) }
+pub fn skip(tokens: &mut Tokens<'_>, end: Kind)
+    ensures { read (skipped end) tokens.old ≡ Ok (tt, tokens.new) }
 {
-    let mut rest = tokens;
-    while let Some((token, behind)) = rest.split_first() {
-        if token.kind.is_among(&[end]) {
-            break;
-        }
-        rest = behind;
+    while !tokens.is_over() && !tokens.kind().is_among(&[end]) {
+        tokens.take();
     }
-    rest
 }
 
 /// A description of services, which is not kept.
 #[tactic(auto, unfolding(crate::specs::Skipped::service))]
-pub fn service(tokens: &[Lexeme]) -> Result<&[Lexeme], Stop<'_>>
-    ensures { Passes result (read service tokens.now) }
+pub fn service(tokens: &mut Tokens<'_>) -> Result<(), Stop>
+    ensures { Passes result tokens.new (read service tokens.old) }
 {
-    let (_, rest) = key(tokens, Kind::Service)?;
-    let (_, rest) = key(skip(rest, Kind::EndService), Kind::EndService)?;
-    Ok(rest)
+    key(tokens, Kind::Service)?;
+    skip(tokens, Kind::EndService);
+    key(tokens, Kind::EndService)?;
+    Ok(())
 }

@@ -9,15 +9,15 @@ ghost use Rattle.std.specs.Prelude.{◌≡◌, Ok, map};
 
 use crate::frame::section;
 use crate::instances::optional_parameters;
-use fb_grammar::{Kind, Lexeme, NameReader, Reader, Stop, key, name, separated, several};
+use fb_grammar::{Kind, NameReader, Reader, Stop, Tokens, is_next, key, name, separated, several};
 use fb_tree::text::NameUse;
 use fb_tree::{Device, Mapping, Parameter, Resource};
 use std::alloc::Global;
 
 /// Names with points between them.
 #[tactic(auto, unfolding(crate::specs::SystemParts::path), using(fb_grammar::proofs::Repeating::as_they_are))]
-fn path(alloc: Global, tokens: &[Lexeme]) -> Result<(Vec<NameUse>, &[Lexeme]), Stop<'_>>
-    ensures { Gives (λ names. names.items) result (read path tokens.now) }
+fn path(alloc: Global, tokens: &mut Tokens<'_>) -> Result<Vec<NameUse>, Stop>
+    ensures { Gives (λ names. names.items) result tokens.new (read path tokens.old) }
 {
     separated(&NameReader, Kind::Point, alloc, tokens)
 }
@@ -36,30 +36,26 @@ impl Reader for MappingReader {
     ghost reads = { λ _. read mapping };
 
     #[tactic(auto, unfolding(crate::specs::SystemParts::mapping))]
-    fn read<'a>(
-        &self,
-        alloc: Global,
-        tokens: &'a [Lexeme],
-    ) -> Result<(Mapping, &'a [Lexeme]), Stop<'a>> {
-        let (path, rest) = path(alloc, tokens)?;
-        let (_, rest) = key(rest, Kind::NameOn)?;
-        let (device, rest) = name(rest)?;
-        let (_, rest) = key(rest, Kind::Point)?;
-        let (resource, rest) = name(rest)?;
-        let (_, rest) = key(rest, Kind::Semicolon)?;
+    fn read(&self, alloc: Global, tokens: &mut Tokens<'_>) -> Result<Mapping, Stop> {
+        let path = path(alloc, tokens)?;
+        key(tokens, Kind::NameOn)?;
+        let device = name(alloc, tokens)?;
+        key(tokens, Kind::Point)?;
+        let resource = name(alloc, tokens)?;
+        key(tokens, Kind::Semicolon)?;
         let mapping = Mapping {
             path,
-            device: device.name_use(alloc)?,
-            resource: resource.name_use(alloc)?,
+            device,
+            resource,
         };
-        Ok((mapping, rest))
+        Ok(mapping)
     }
 }
 
 /// A section of mappings.
 #[tactic(auto, unfolding(crate::specs::SystemParts::mappings, crate::specs::SystemParts::mapping, crate::specs::SystemParts::path, fb_grammar::specs::Words::name))]
-pub fn mappings(alloc: Global, tokens: &[Lexeme]) -> Result<(Vec<Mapping>, &[Lexeme]), Stop<'_>>
-    ensures { GivesEach mapping_tree result (read mappings tokens.now) }
+pub fn mappings(alloc: Global, tokens: &mut Tokens<'_>) -> Result<Vec<Mapping>, Stop>
+    ensures { GivesEach mapping_tree result tokens.new (read mappings tokens.old) }
 {
     section(
         Kind::Mappings,
@@ -70,39 +66,39 @@ pub fn mappings(alloc: Global, tokens: &[Lexeme]) -> Result<(Vec<Mapping>, &[Lex
     )
 }
 
-/// The tokens behind a semicolon, or all where there is none.
+/// Passes over a semicolon, where there is one.
 #[tactic(auto, unfolding(crate::specs::SystemParts::optional_semicolon))]
-pub fn optional_semicolon(tokens: &[Lexeme]) -> &[Lexeme]
-    ensures { read optional_semicolon tokens.now ≡ Ok (tt, result.now) }
+pub fn optional_semicolon(tokens: &mut Tokens<'_>)
+    ensures { read optional_semicolon tokens.old ≡ Ok (tt, tokens.new) }
 {
-    match tokens {
-        [token, rest @ ..] if token.kind.is_among(&[Kind::Semicolon]) => rest,
-        _ => tokens,
+    if is_next(tokens, &[Kind::Semicolon]) {
+        tokens.take();
     }
 }
 
 /// How a device or a resource begins.
 #[derive(Drop)]
-struct HeaderParts<'a> {
-    name: &'a Lexeme,
-    type_name: &'a Lexeme,
+struct HeaderParts {
+    name: NameUse,
+    type_name: NameUse,
     parameters: Vec<Parameter>,
 }
 
 #[tactic(auto, unfolding(crate::specs::SystemParts::header))]
-fn header(alloc: Global, tokens: &[Lexeme]) -> Result<(HeaderParts<'_>, &[Lexeme]), Stop<'_>>
-    ensures { Gives header_tree result (read header tokens.now) }
+fn header(alloc: Global, tokens: &mut Tokens<'_>) -> Result<HeaderParts, Stop>
+    ensures { Gives header_tree result tokens.new (read header tokens.old) }
 {
-    let (own_name, rest) = name(tokens)?;
-    let (_, rest) = key(rest, Kind::Colon)?;
-    let (type_name, rest) = name(rest)?;
-    let (parameters, rest) = optional_parameters(alloc, rest)?;
+    let own_name = name(alloc, tokens)?;
+    key(tokens, Kind::Colon)?;
+    let type_name = name(alloc, tokens)?;
+    let parameters = optional_parameters(alloc, tokens)?;
     let header = HeaderParts {
         name: own_name,
         type_name,
         parameters,
     };
-    Ok((header, optional_semicolon(rest)))
+    optional_semicolon(tokens);
+    Ok(header)
 }
 
 /// Reads resources.
@@ -119,37 +115,33 @@ impl Reader for ResourceReader {
     ghost reads = { λ _. read resource };
 
     #[tactic(auto, unfolding(crate::specs::SystemParts::resource))]
-    fn read<'a>(
-        &self,
-        alloc: Global,
-        tokens: &'a [Lexeme],
-    ) -> Result<(Resource, &'a [Lexeme]), Stop<'a>> {
-        let (_, rest) = key(tokens, Kind::Resource)?;
-        let (header, rest) = header(alloc, rest)?;
-        let (_, rest) = key(rest, Kind::EndResource)?;
+    fn read(&self, alloc: Global, tokens: &mut Tokens<'_>) -> Result<Resource, Stop> {
+        key(tokens, Kind::Resource)?;
+        let header = header(alloc, tokens)?;
+        key(tokens, Kind::EndResource)?;
         let resource = Resource {
-            name: header.name.name_use(alloc)?,
-            type_name: header.type_name.name_use(alloc)?,
+            name: header.name,
+            type_name: header.type_name,
             parameters: header.parameters,
         };
-        Ok((resource, rest))
+        Ok(resource)
     }
 }
 
 /// A device with its resources.
 #[tactic(auto, unfolding(crate::specs::SystemParts::device, crate::specs::SystemParts::resource))]
-pub fn device(alloc: Global, tokens: &[Lexeme]) -> Result<(Device, &[Lexeme]), Stop<'_>>
-    ensures { Gives device_tree result (read device tokens.now) }
+pub fn device(alloc: Global, tokens: &mut Tokens<'_>) -> Result<Device, Stop>
+    ensures { Gives device_tree result tokens.new (read device tokens.old) }
 {
-    let (_, rest) = key(tokens, Kind::Device)?;
-    let (header, rest) = header(alloc, rest)?;
-    let (resources, rest) = several(&ResourceReader, alloc, &[Kind::Resource], rest)?;
-    let (_, rest) = key(rest, Kind::EndDevice)?;
+    key(tokens, Kind::Device)?;
+    let header = header(alloc, tokens)?;
+    let resources = several(&ResourceReader, alloc, &[Kind::Resource], tokens)?;
+    key(tokens, Kind::EndDevice)?;
     let device = Device {
-        name: header.name.name_use(alloc)?,
-        type_name: header.type_name.name_use(alloc)?,
+        name: header.name,
+        type_name: header.type_name,
         parameters: header.parameters,
         resources,
     };
-    Ok((device, rest))
+    Ok(device)
 }

@@ -15,7 +15,9 @@ use Rattle.fb_tree.specs.declared.expression.Expr.{Expr}
 use Rattle.fb_tree.specs.declared.reference.Member.{Member}
 use Rattle.fb_tree.specs.declared.reference.Reference.{Reference}
 use Rattle.fb_tree.specs.declared.expression.UnaryUse.{UnaryUse}
-use Rattle.fb_tree.specs.Expression.{ReferenceTree, reference_tree, Expression, expression_tree, literal_expression, reference_expression, unary_expression, row_expression, parentheses, Expressions, expressions_of, operands_of}
+use Rattle.fb_tree.specs.Expression.{ReferenceTree, alone_tree, reference_tree, no_expressions, Expression, expression_tree, literal_expression, reference_expression, unary_expression, row_expression, parentheses, Expressions, expressions_of, operands_of}
+use Rattle.fb_structured_text.specs.declared.references.Variable.{Variable}
+use Rattle.fb_structured_text.specs.declared.references.Variable.TheVariants.{Name as IsName, Reference as IsReference}
 use Rattle.fb_structured_text.specs.Operators.{signs, strengths, operators, unary_use, binary_use}
 
 -- Expressions and statements nest at levels 0 to 64. The index of a form counts the levels below its own, so that level 0 has index 64.
@@ -82,8 +84,9 @@ reference_in v = (
 )
 
 -- the same, of what a reader returned
-abbrev pub variable_tree : Box Reference Global × Vec Expr Global → ReferenceTree × Expressions
-variable_tree v = (reference_tree v.0.value, expressions_of (map expression_tree v.1.items))
+abbrev pub variable_tree : Variable → ReferenceTree × Expressions
+variable_tree (IsName used) = (alone_tree used, no_expressions)
+variable_tree (IsReference r subscripts) = (reference_tree r.value, expressions_of (map expression_tree subscripts.items))
 
 -- a reference at the last level: name {'.' name}
 unfoldable pub flat_reference : Form (ReferenceTree × Expressions)

@@ -1,5 +1,5 @@
 //! Reading expressions.
-ghost use Rattle.fb_grammar.specs.Form.{as_value, many};
+ghost use Rattle.fb_grammar.specs.Form.{as_value, many, option};
 ghost use Rattle.fb_grammar.specs.Gives.{Gives, GivesEach};
 ghost use Rattle.fb_grammar.specs.Reading.{read};
 ghost use Rattle.fb_grammar.specs.Words.{further};
@@ -14,6 +14,7 @@ ghost use Rattle.fb_structured_text.specs.Expression.{
   levels,
   operand_at,
   parenthesized,
+  part_of,
   primary,
   reference,
   reference_value,
@@ -27,9 +28,10 @@ ghost use Rattle.fb_tree.specs.Expression.{expression_tree, operand_tree};
 ghost use Rattle.std.specs.Prelude.{◌≡◌, ◌≤◌, ◌<◌, map};
 
 use crate::operators::{SIGNS, is_literal, literal, next_strength, operator, operators, sign};
-use crate::references::{Part, alone, flat_reference, joined};
-use fb_grammar::{Kind, Lexeme, NAMES, Stop, is_next, key, name};
-use fb_tree::{BinaryUse, Expr, Reference};
+use crate::references::{Part, Variable, alone, flat_reference, joined};
+use fb_grammar::{Kind, NAMES, Stop, Tokens, is_next, key, name};
+use fb_tree::text::{NameUse, Place};
+use fb_tree::{BinaryUse, Expr};
 use std::alloc::Global;
 
 /// How many levels there are below the outermost expressions and statements.
@@ -37,33 +39,32 @@ pub const LEVELS: u8 = 64;
 
 /// An operand at the last level: a literal, or a reference without subscripts.
 #[tactic(auto, unfolding(crate::specs::Expression::flat_primary, crate::specs::Expression::literal))]
-fn flat_primary(alloc: Global, tokens: &[Lexeme]) -> Result<(Expr, &[Lexeme]), Stop<'_>>
-    ensures { Gives expression_tree result (read flat_primary tokens.now) }
+fn flat_primary(alloc: Global, tokens: &mut Tokens<'_>) -> Result<Expr, Stop>
+    ensures { Gives expression_tree result tokens.new (read flat_primary tokens.old) }
 {
     if is_literal(tokens) {
         return literal(tokens);
     }
-    let ((variable, subscripts), rest) = flat_reference(alloc, tokens)?;
-    Ok((Expr::Reference(variable, subscripts), rest))
+    Ok(flat_reference(alloc, tokens)?.expression())
 }
 
 /// An expression in parentheses, with so many levels below it.
 #[cycle(expression)]
 #[tactic(auto, unfolding(crate::specs::Expression::parenthesized))]
-fn parenthesized(alloc: Global, below: u8, tokens: &[Lexeme]) -> Result<(Expr, &[Lexeme]), Stop<'_>>
-    ensures { Gives expression_tree result (read (parenthesized (expression below)) tokens.now) }
+fn parenthesized(alloc: Global, below: u8, tokens: &mut Tokens<'_>) -> Result<Expr, Stop>
+    ensures { Gives expression_tree result tokens.new (read (parenthesized (expression below)) tokens.old) }
 {
-    let (open, rest) = key(tokens, Kind::OpenParenthesis)?;
-    let (inner, rest) = expression_at(alloc, below, rest)?;
-    let (close, rest) = key(rest, Kind::CloseParenthesis)?;
-    let span = open.span.through(close.span);
-    Ok((Expr::Parentheses(Box::new(alloc, inner)?, span), rest))
+    let open = key(tokens, Kind::OpenParenthesis)?;
+    let inner = expression_at(alloc, below, tokens)?;
+    let close = key(tokens, Kind::CloseParenthesis)?;
+    let span = open.through(close);
+    Ok(Expr::Parentheses(Box::new(alloc, inner)?, span))
 }
 
 /// An operand, with so many levels below it.
 #[cycle(expression)]
-fn primary(alloc: Global, left: u8, tokens: &[Lexeme]) -> Result<(Expr, &[Lexeme]), Stop<'_>>
-    ensures { Gives expression_tree result (read (primary left) tokens.now) }
+fn primary(alloc: Global, left: u8, tokens: &mut Tokens<'_>) -> Result<Expr, Stop>
+    ensures { Gives expression_tree result tokens.new (read (primary left) tokens.old) }
 {
     if left == 0 {
         flat_primary(alloc, tokens)
@@ -75,8 +76,8 @@ fn primary(alloc: Global, left: u8, tokens: &[Lexeme]) -> Result<(Expr, &[Lexeme
 /// An operand whose parts have so many levels below them.
 #[cycle(expression)]
 #[tactic(auto, unfolding(crate::specs::Expression::deep_primary))]
-fn deep_primary(alloc: Global, below: u8, tokens: &[Lexeme]) -> Result<(Expr, &[Lexeme]), Stop<'_>>
-    ensures { Gives expression_tree result (read (deep_primary (expression below)) tokens.now) }
+fn deep_primary(alloc: Global, below: u8, tokens: &mut Tokens<'_>) -> Result<Expr, Stop>
+    ensures { Gives expression_tree result tokens.new (read (deep_primary (expression below)) tokens.old) }
 {
     if is_literal(tokens) {
         literal(tokens)
@@ -89,248 +90,226 @@ fn deep_primary(alloc: Global, below: u8, tokens: &[Lexeme]) -> Result<(Expr, &[
 
 /// A reference as an operand.
 #[cycle(expression)]
-fn variable_operand(
-    alloc: Global,
-    below: u8,
-    tokens: &[Lexeme],
-) -> Result<(Expr, &[Lexeme]), Stop<'_>>
-    ensures { Gives expression_tree result
-        (read (as_value reference_value (deep_reference (expression below))) tokens.now) }
+fn variable_operand(alloc: Global, below: u8, tokens: &mut Tokens<'_>) -> Result<Expr, Stop>
+    ensures { Gives expression_tree result tokens.new
+        (read (as_value reference_value (deep_reference (expression below))) tokens.old) }
 {
-    let ((variable, subscripts), rest) = deep_reference(alloc, below, tokens)?;
-    Ok((Expr::Reference(variable, subscripts), rest))
+    Ok(deep_reference(alloc, below, tokens)?.expression())
 }
 
 /// A name, perhaps with subscripts that have so many levels below them.
 #[cycle(expression)]
 #[tactic(auto, unfolding(crate::specs::Expression::deep_part, crate::specs::Expression::subscripts))]
-fn deep_part(alloc: Global, below: u8, tokens: &[Lexeme]) -> Result<(Part, &[Lexeme]), Stop<'_>>
-    ensures { Gives part_tree result (read (deep_part (expression below)) tokens.now) }
+fn deep_part(alloc: Global, below: u8, tokens: &mut Tokens<'_>) -> Result<Part, Stop>
+    ensures { Gives part_tree result tokens.new (read (deep_part (expression below)) tokens.old) }
 {
-    let (name, rest) = name(tokens)?;
-    if !is_next(rest, &[Kind::OpenBracket]) {
-        return Ok((alone(alloc, name)?, rest));
+    let name = name(alloc, tokens)?;
+    part_behind(alloc, below, name, tokens)
+}
+
+/// A name that was read, perhaps with subscripts that have so many levels below them.
+#[cycle(expression)]
+fn part_behind(
+    alloc: Global,
+    below: u8,
+    name: NameUse,
+    tokens: &mut Tokens<'_>,
+) -> Result<Part, Stop>
+    ensures { Gives part_tree result tokens.new
+        (read (as_value (part_of name) (option (subscripts (expression below)))) tokens.old) }
+{
+    if !is_next(tokens, &[Kind::OpenBracket]) {
+        return Ok(alone(alloc, name));
     }
-    let ((subscripts, close), rest) = subscripts(alloc, below, rest)?;
+    let (subscripts, close) = subscripts(alloc, below, tokens)?;
     let part = Part {
-        name: name.name_use(alloc)?,
+        name,
         subscripts,
-        end: close.span.end(),
+        end: close.end(),
     };
-    Ok((part, rest))
+    Ok(part)
 }
 
 /// A point and a further name.
 #[cycle(expression)]
-fn further_part(alloc: Global, below: u8, tokens: &[Lexeme]) -> Result<(Part, &[Lexeme]), Stop<'_>>
-    ensures { Gives part_tree result
-        (read (further_part (deep_part (expression below))) tokens.now) }
+fn further_part(alloc: Global, below: u8, tokens: &mut Tokens<'_>) -> Result<Part, Stop>
+    ensures { Gives part_tree result tokens.new
+        (read (further_part (deep_part (expression below))) tokens.old) }
 {
-    let (_, rest) = key(tokens, Kind::Point)?;
-    deep_part(alloc, below, rest)
+    key(tokens, Kind::Point)?;
+    deep_part(alloc, below, tokens)
 }
 
 /// The names behind the first one.
 #[cycle(expression)]
-fn further_parts(
-    alloc: Global,
-    below: u8,
-    tokens: &[Lexeme],
-) -> Result<(Vec<Part>, &[Lexeme]), Stop<'_>>
-    ensures { GivesEach part_tree result
-        (read (many (further_part (deep_part (expression below)))) tokens.now) }
+fn further_parts(alloc: Global, below: u8, tokens: &mut Tokens<'_>) -> Result<Vec<Part>, Stop>
+    ensures { GivesEach part_tree result tokens.new
+        (read (many (further_part (deep_part (expression below)))) tokens.old) }
 {
     // Most references have one name.
     let mut parts = Vec::new(alloc);
-    let mut rest = tokens;
-    while is_next(rest, &[Kind::Point]) {
-        let (next, behind) = further_part(alloc, below, rest)?;
+    while is_next(tokens, &[Kind::Point]) {
+        let next = further_part(alloc, below, tokens)?;
         parts.push(next)?;
-        rest = behind;
     }
-    Ok((parts, rest))
+    Ok(parts)
 }
 
 /// A reference whose subscripts have so many levels below them.
 #[cycle(expression)]
 #[tactic(auto, unfolding(crate::specs::Expression::deep_reference))]
-fn deep_reference(
-    alloc: Global,
-    below: u8,
-    tokens: &[Lexeme],
-) -> Result<((Box<Reference>, Vec<Expr>), &[Lexeme]), Stop<'_>>
-    ensures { Gives variable_tree result (read (deep_reference (expression below)) tokens.now) }
+fn deep_reference(alloc: Global, below: u8, tokens: &mut Tokens<'_>) -> Result<Variable, Stop>
+    ensures { Gives variable_tree result tokens.new (read (deep_reference (expression below)) tokens.old) }
 {
-    let (first, rest) = deep_part(alloc, below, tokens)?;
-    let (others, rest) = further_parts(alloc, below, rest)?;
-    Ok((joined(alloc, first, others)?, rest))
+    let name = name(alloc, tokens)?;
+    if !is_next(tokens, &[Kind::OpenBracket, Kind::Point]) {
+        return Ok(Variable::Name(name));
+    }
+    let first = part_behind(alloc, below, name, tokens)?;
+    let others = further_parts(alloc, below, tokens)?;
+    Ok(joined(alloc, first, others)?)
 }
 
 /// Subscripts in brackets, with the bracket that closes them.
 #[cycle(expression)]
 #[tactic(auto, unfolding(crate::specs::Expression::subscripts))]
-fn subscripts(
-    alloc: Global,
-    below: u8,
-    tokens: &[Lexeme],
-) -> Result<((Vec<Expr>, &Lexeme), &[Lexeme]), Stop<'_>>
-    ensures { Gives (λ s. (map expression_tree s.0.items, s.1.now)) result
-        (read (subscripts (expression below)) tokens.now) }
+fn subscripts(alloc: Global, below: u8, tokens: &mut Tokens<'_>) -> Result<(Vec<Expr>, Place), Stop>
+    ensures { Gives (λ s. (map expression_tree s.0.items, s.1.now)) result tokens.new
+        (read (subscripts (expression below)) tokens.old) }
 {
-    let (_, rest) = key(tokens, Kind::OpenBracket)?;
-    let (subscripts, rest) = expressions(alloc, below, rest)?;
-    let (close, rest) = key(rest, Kind::CloseBracket)?;
-    Ok(((subscripts, close), rest))
+    key(tokens, Kind::OpenBracket)?;
+    let subscripts = expressions(alloc, below, tokens)?;
+    let close = key(tokens, Kind::CloseBracket)?;
+    Ok((subscripts, close))
 }
 
 /// Expressions with commas between them.
 #[cycle(expression)]
 #[tactic(auto, unfolding(crate::specs::Expression::expressions))]
-fn expressions(
-    alloc: Global,
-    below: u8,
-    tokens: &[Lexeme],
-) -> Result<(Vec<Expr>, &[Lexeme]), Stop<'_>>
-    ensures { GivesEach expression_tree result (read (expressions (expression below)) tokens.now) }
+fn expressions(alloc: Global, below: u8, tokens: &mut Tokens<'_>) -> Result<Vec<Expr>, Stop>
+    ensures { GivesEach expression_tree result tokens.new (read (expressions (expression below)) tokens.old) }
 {
-    let (first, mut rest) = expression_at(alloc, below, tokens)?;
+    let first = expression_at(alloc, below, tokens)?;
     // Most names have one subscript.
     let mut expressions = Vec::with_capacity(alloc, 1)?;
     expressions.push(first)?;
-    while is_next(rest, &[Kind::Comma]) {
-        let (next, behind) = further_expression(alloc, below, rest)?;
+    while is_next(tokens, &[Kind::Comma]) {
+        let next = further_expression(alloc, below, tokens)?;
         expressions.push(next)?;
-        rest = behind;
     }
-    Ok((expressions, rest))
+    Ok(expressions)
 }
 
 /// A comma and an expression.
 #[cycle(expression)]
-fn further_expression(
-    alloc: Global,
-    below: u8,
-    tokens: &[Lexeme],
-) -> Result<(Expr, &[Lexeme]), Stop<'_>>
-    ensures { Gives expression_tree result (read (further (expression below)) tokens.now) }
+fn further_expression(alloc: Global, below: u8, tokens: &mut Tokens<'_>) -> Result<Expr, Stop>
+    ensures { Gives expression_tree result tokens.new (read (further (expression below)) tokens.old) }
 {
-    let (_, rest) = key(tokens, Kind::Comma)?;
-    expression_at(alloc, below, rest)
+    key(tokens, Kind::Comma)?;
+    expression_at(alloc, below, tokens)
 }
 
 /// An operand with a sign before it, where one is written.
 #[cycle(expression)]
 #[tactic(auto, unfolding(crate::specs::Expression::unary))]
-fn unary(alloc: Global, left: u8, tokens: &[Lexeme]) -> Result<(Expr, &[Lexeme]), Stop<'_>>
-    ensures { Gives expression_tree result (read (unary (primary left)) tokens.now) }
+fn unary(alloc: Global, left: u8, tokens: &mut Tokens<'_>) -> Result<Expr, Stop>
+    ensures { Gives expression_tree result tokens.new (read (unary (primary left)) tokens.old) }
 {
     if !is_next(tokens, &SIGNS) {
         return primary(alloc, left, tokens);
     }
     // Not by `?`, which takes no copied place beside a reference.
-    let (sign, rest) = match sign(tokens) {
+    let sign = match sign(tokens) {
         Ok(found) => found,
         Err(stop) => return Err(stop),
     };
-    let (value, rest) = primary(alloc, left, rest)?;
-    Ok((Expr::Unary(sign, Box::new(alloc, value)?), rest))
+    let value = primary(alloc, left, tokens)?;
+    Ok(Expr::Unary(sign, Box::new(alloc, value)?))
 }
 
 /// An expression with the operators of a strength and of the stronger ones. The first operand is
 /// read once; then rows are built from the strongest operators to the weakest, where one is next.
 #[cycle(expression)]
-fn row(
-    alloc: Global,
-    strength: u8,
-    left: u8,
-    tokens: &[Lexeme],
-) -> Result<(Expr, &[Lexeme]), Stop<'_>>
+fn row(alloc: Global, strength: u8, left: u8, tokens: &mut Tokens<'_>) -> Result<Expr, Stop>
     requires { strength ≤ 8 }
-    ensures { Gives expression_tree result (read (row_at strength left) tokens.now) }
+    ensures { Gives expression_tree result tokens.new (read (row_at strength left) tokens.old) }
 {
-    let (mut value, mut rest) = unary(alloc, left, tokens)?;
-    let mut level = 8;
-    while level > strength {
-        level -= 1;
-        if next_strength(rest) == level {
-            let (operands, behind) = operands(alloc, level, left, rest)?;
+    let mut value = unary(alloc, left, tokens)?;
+    let mut level = next_strength(tokens);
+    while level >= strength && level < 8 {
+        let (operator, operand) = next_operand(alloc, level, left, tokens)?;
+        if next_strength(tokens) == level {
+            let operands = further_operands(alloc, level, left, operator, operand, tokens)?;
             value = Expr::Row(Box::new(alloc, value)?, operands);
-            rest = behind;
+        } else {
+            value = Expr::Pair(Box::new(alloc, (value, operator, operand))?);
         }
+        level = next_strength(tokens);
     }
-    Ok((value, rest))
+    Ok(value)
 }
 
-/// Operators of a strength, each with its operand.
+/// An operator of a strength with its operand, and those behind them.
 #[cycle(expression)]
-fn operands(
+fn further_operands(
     alloc: Global,
     strength: u8,
     left: u8,
-    tokens: &[Lexeme],
-) -> Result<(Vec<(BinaryUse, Expr)>, &[Lexeme]), Stop<'_>>
+    operator: BinaryUse,
+    operand: Expr,
+    tokens: &mut Tokens<'_>,
+) -> Result<Vec<(BinaryUse, Expr)>, Stop>
     requires { strength < 8 }
-    ensures { GivesEach operand_tree result (read (many (operand_at strength left)) tokens.now) }
+    ensures { GivesEach operand_tree result tokens.new (read (many (operand_at strength left)) tokens.old) }
 {
-    // Most rows have one operator.
-    let mut operands = Vec::with_capacity(alloc, 1)?;
-    let mut rest = tokens;
-    while is_next(rest, operators(strength)) {
-        let (next, behind) = operand(alloc, strength, left, rest)?;
-        operands.push(next)?;
-        rest = behind;
+    let mut operands = Vec::with_capacity(alloc, 2)?;
+    operands.push((operator, operand))?;
+    while is_next(tokens, operators(strength)) {
+        operands.push(next_operand(alloc, strength, left, tokens)?)?;
     }
-    Ok((operands, rest))
+    Ok(operands)
 }
 
 /// An operator of a strength and its operand.
 #[cycle(expression)]
 #[tactic(auto, unfolding(crate::specs::Expression::operand))]
-fn operand(
+fn next_operand(
     alloc: Global,
     strength: u8,
     left: u8,
-    tokens: &[Lexeme],
-) -> Result<((BinaryUse, Expr), &[Lexeme]), Stop<'_>>
+    tokens: &mut Tokens<'_>,
+) -> Result<(BinaryUse, Expr), Stop>
     requires { strength < 8 }
-    ensures { Gives operand_tree result (read (operand_at strength left) tokens.now) }
+    ensures { Gives operand_tree result tokens.new (read (operand_at strength left) tokens.old) }
 {
-    let (operator, rest) = match operator(tokens, strength) {
+    let operator = match operator(tokens, strength) {
         Ok(found) => found,
         Err(stop) => return Err(stop),
     };
-    let (value, rest) = row(alloc, strength + 1, left, rest)?;
-    Ok(((operator, value), rest))
+    let value = row(alloc, strength + 1, left, tokens)?;
+    Ok((operator, value))
 }
 
 /// An expression with so many levels below it.
 #[cycle(expression)]
-pub fn expression_at(
-    alloc: Global,
-    left: u8,
-    tokens: &[Lexeme],
-) -> Result<(Expr, &[Lexeme]), Stop<'_>>
-    ensures { Gives expression_tree result (read (expression left) tokens.now) }
+pub fn expression_at(alloc: Global, left: u8, tokens: &mut Tokens<'_>) -> Result<Expr, Stop>
+    ensures { Gives expression_tree result tokens.new (read (expression left) tokens.old) }
 {
     row(alloc, 0, left, tokens)
 }
 
 /// An expression at the outermost level, and the tokens behind it. On a fault the tokens from the
 /// first one that does not go on.
-pub fn expression(alloc: Global, tokens: &[Lexeme]) -> Result<(Expr, &[Lexeme]), Stop<'_>>
-    ensures { Gives expression_tree result (read (expression levels) tokens.now) }
+pub fn expression(alloc: Global, tokens: &mut Tokens<'_>) -> Result<Expr, Stop>
+    ensures { Gives expression_tree result tokens.new (read (expression levels) tokens.old) }
 {
     expression_at(alloc, LEVELS, tokens)
 }
 
 /// A reference with its subscripts, in an expression or statement with so many levels below it.
 #[tactic(auto, unfolding(crate::specs::Expression::reference))]
-pub fn reference(
-    alloc: Global,
-    left: u8,
-    tokens: &[Lexeme],
-) -> Result<((Box<Reference>, Vec<Expr>), &[Lexeme]), Stop<'_>>
-    ensures { Gives variable_tree result (read (reference left) tokens.now) }
+pub fn reference(alloc: Global, left: u8, tokens: &mut Tokens<'_>) -> Result<Variable, Stop>
+    ensures { Gives variable_tree result tokens.new (read (reference left) tokens.old) }
 {
     if left == 0 {
         flat_reference(alloc, tokens)

@@ -5,7 +5,7 @@ ghost use Rattle.fb_grammar.specs.Words.{further};
 ghost use Rattle.fb_structured_text.specs.Statement.{int, label, labels};
 ghost use Rattle.std.specs.Prelude.{◌≡◌};
 
-use fb_grammar::{Kind, Lexeme, NUMBERS, Stop, is_next, key, one_of};
+use fb_grammar::{Kind, NUMBERS, Stop, Tokens, is_next, key, one_of};
 
 const PLUS_OR_MINUS: [Kind; 2] = [Kind::Plus, Kind::Minus];
 
@@ -19,58 +19,56 @@ const TYPED: [Kind; 5] = [
 
 /// Passes over a number with its sign, or a typed literal.
 #[tactic(auto, unfolding(crate::specs::Statement::int))]
-fn int(tokens: &[Lexeme]) -> Result<&[Lexeme], Stop<'_>>
-    ensures { Passes result (read int tokens.now) }
+fn int(tokens: &mut Tokens<'_>) -> Result<(), Stop>
+    ensures { Passes result tokens.new (read int tokens.old) }
 {
     if is_next(tokens, &TYPED) {
-        let (_, rest) = one_of(tokens, &TYPED)?;
-        return Ok(rest);
+        one_of(tokens, &TYPED)?;
+        return Ok(());
     }
-    let rest = if is_next(tokens, &PLUS_OR_MINUS) {
-        one_of(tokens, &PLUS_OR_MINUS)?.1
-    } else {
-        tokens
-    };
-    let (_, rest) = one_of(rest, &NUMBERS)?;
-    Ok(rest)
+    if is_next(tokens, &PLUS_OR_MINUS) {
+        one_of(tokens, &PLUS_OR_MINUS)?;
+    }
+    one_of(tokens, &NUMBERS)?;
+    Ok(())
 }
 
 /// Passes over a label: one number, or a range of numbers.
 #[tactic(auto, unfolding(crate::specs::Statement::label))]
-fn label(tokens: &[Lexeme]) -> Result<&[Lexeme], Stop<'_>>
-    ensures { Passes result (read label tokens.now) }
+fn label(tokens: &mut Tokens<'_>) -> Result<(), Stop>
+    ensures { Passes result tokens.new (read label tokens.old) }
 {
-    let rest = int(tokens)?;
-    if !is_next(rest, &[Kind::Range]) {
-        return Ok(rest);
+    int(tokens)?;
+    if !is_next(tokens, &[Kind::Range]) {
+        return Ok(());
     }
-    let (_, rest) = key(rest, Kind::Range)?;
-    int(rest)
+    key(tokens, Kind::Range)?;
+    int(tokens)
 }
 
 /// Passes over a comma and a label.
-fn further_label(tokens: &[Lexeme]) -> Result<&[Lexeme], Stop<'_>>
-    ensures { Passes result (read (further label) tokens.now) }
+fn further_label(tokens: &mut Tokens<'_>) -> Result<(), Stop>
+    ensures { Passes result tokens.new (read (further label) tokens.old) }
 {
-    let (_, rest) = key(tokens, Kind::Comma)?;
-    label(rest)
+    key(tokens, Kind::Comma)?;
+    label(tokens)
 }
 
 /// Passes over one label or more, with commas between them.
 #[tactic(auto, unfolding(crate::specs::Statement::labels))]
-pub fn labels(tokens: &[Lexeme]) -> Result<&[Lexeme], Stop<'_>>
-    ensures { Passes result (read labels tokens.now) }
+pub fn labels(tokens: &mut Tokens<'_>) -> Result<(), Stop>
+    ensures { Passes result tokens.new (read labels tokens.old) }
 {
-    let mut rest = label(tokens)?;
-    while is_next(rest, &[Kind::Comma]) {
-        rest = further_label(rest)?;
+    label(tokens)?;
+    while is_next(tokens, &[Kind::Comma]) {
+        further_label(tokens)?;
     }
-    Ok(rest)
+    Ok(())
 }
 
 /// Whether a label comes next.
 #[tactic(auto, unfolding(crate::specs::Statement::labels, crate::specs::Statement::label, crate::specs::Statement::int))]
-pub fn begins_label(tokens: &[Lexeme]) -> bool
+pub fn begins_label(tokens: &Tokens<'_>) -> bool
     ensures { result ≡ is_next (first labels) tokens.now }
 {
     is_next(tokens, &TYPED) || is_next(tokens, &PLUS_OR_MINUS) || is_next(tokens, &NUMBERS)

@@ -15,6 +15,6 @@ pub use statement_reader::statements;
 /// Of `fb_grammar`, for the crates above.
 pub mod grammar {
     pub use fb_grammar::{
-        Kind, Lexeme, Reader, Stop, is_next, key, lexemes, name, one_of, place_of, several,
+        Kind, Reader, Stop, Tokens, is_next, key, name, name_of, one_of, several,
     };
 }

@@ -8,7 +8,7 @@ ghost use Rattle.fb_structured_text.specs.Operators.{binary_operator, binary_use
 ghost use Rattle.fb_tree.specs.Expression.{expression_tree};
 ghost use Rattle.std.specs.Prelude.{◌≡◌, ◌<◌, true};
 
-use fb_grammar::{Kind, Lexeme, Stop, is_next, literal_use, one_of};
+use fb_grammar::{Kind, Stop, Tokens, is_next, literal_use, one_of};
 use fb_tree::{BinaryOperator, BinaryUse, Expr, UnaryOperator, UnaryUse};
 
 /// The operators before an operand.
@@ -57,13 +57,10 @@ fn strength_of(kind: Kind) -> u8
 }
 
 /// The strength of the operator that comes next, 8 where none comes.
-pub fn next_strength(tokens: &[Lexeme]) -> u8
+pub fn next_strength(tokens: &Tokens<'_>) -> u8
     ensures { result ≡ next_strength tokens.now }
 {
-    match tokens.first() {
-        Some(token) => strength_of(token.kind),
-        None => 8,
-    }
+    strength_of(tokens.kind())
 }
 
 fn unary_operator(kind: Kind) -> UnaryOperator
@@ -103,29 +100,29 @@ fn binary_operator(kind: Kind) -> BinaryOperator
 }
 
 /// An operator before an operand.
-pub fn sign(tokens: &[Lexeme]) -> Result<(UnaryUse, &[Lexeme]), Stop<'_>>
-    ensures { Gives (λ sign. sign) result (read (as_value unary_use (one signs)) tokens.now) }
+pub fn sign(tokens: &mut Tokens<'_>) -> Result<UnaryUse, Stop>
+    ensures { Gives (λ sign. sign) result tokens.new (read (as_value unary_use (one signs)) tokens.old) }
 {
-    let (token, rest) = one_of(tokens, &SIGNS)?;
+    let token = one_of(tokens, &SIGNS)?;
     let sign = UnaryUse {
         operator: unary_operator(token.kind),
         span: token.span,
     };
-    Ok((sign, rest))
+    Ok(sign)
 }
 
 /// An operator of this strength between operands.
-pub fn operator(tokens: &[Lexeme], strength: u8) -> Result<(BinaryUse, &[Lexeme]), Stop<'_>>
+pub fn operator(tokens: &mut Tokens<'_>, strength: u8) -> Result<BinaryUse, Stop>
     requires { strength < 8 }
-    ensures { Gives (λ operator. operator) result
-        (read (as_value binary_use (one (operators strength))) tokens.now) }
+    ensures { Gives (λ operator. operator) result tokens.new
+        (read (as_value binary_use (one (operators strength))) tokens.old) }
 {
-    let (token, rest) = one_of(tokens, operators(strength))?;
+    let token = one_of(tokens, operators(strength))?;
     let operator = BinaryUse {
         operator: binary_operator(token.kind),
         span: token.span,
     };
-    Ok((operator, rest))
+    Ok(operator)
 }
 
 const LITERALS: [Kind; 12] = [
@@ -145,7 +142,7 @@ const LITERALS: [Kind; 12] = [
 
 /// Whether the next token is a literal.
 #[tactic(auto, unfolding(crate::specs::Expression::literal))]
-pub fn is_literal(tokens: &[Lexeme]) -> bool
+pub fn is_literal(tokens: &Tokens<'_>) -> bool
     ensures { result ≡ is_next (first literal) tokens.now }
 {
     is_next(tokens, &LITERALS)
@@ -153,9 +150,9 @@ pub fn is_literal(tokens: &[Lexeme]) -> bool
 
 /// A literal.
 #[tactic(auto, unfolding(crate::specs::Expression::literal))]
-pub fn literal(tokens: &[Lexeme]) -> Result<(Expr, &[Lexeme]), Stop<'_>>
-    ensures { Gives expression_tree result (read literal tokens.now) }
+pub fn literal(tokens: &mut Tokens<'_>) -> Result<Expr, Stop>
+    ensures { Gives expression_tree result tokens.new (read literal tokens.old) }
 {
-    let (token, rest) = one_of(tokens, &LITERALS)?;
-    Ok((Expr::Literal(literal_use(token)), rest))
+    let token = one_of(tokens, &LITERALS)?;
+    Ok(Expr::Literal(literal_use(&token)))
 }

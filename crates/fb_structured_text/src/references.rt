@@ -3,11 +3,12 @@ ghost use Rattle.fb_grammar.specs.Form.{many};
 ghost use Rattle.fb_grammar.specs.Gives.{Gives, GivesEach};
 ghost use Rattle.fb_grammar.specs.Lexemes.{name_use};
 ghost use Rattle.fb_grammar.specs.Reading.{read};
-ghost use Rattle.fb_structured_text.specs.Expression.{PartTree, flat_part, flat_reference, further_part, part_of, reference_in, variable_tree};
+ghost use Rattle.fb_structured_text.specs.Expression.{PartTree, flat_part, flat_reference, further_part, part_of, reference_in, reference_value, variable_tree};
+ghost use Rattle.fb_tree.specs.Expression.{expression_tree};
 ghost use Rattle.fb_structured_text.specs.Part.{part_tree};
 ghost use Rattle.std.specs.Prelude.{◌≡◌, IfOk, None, map};
 
-use fb_grammar::{Kind, Lexeme, Reader, Stop, key, name, several};
+use fb_grammar::{Kind, Reader, Stop, Tokens, is_next, key, name, several};
 use fb_tree::text::NameUse;
 use fb_tree::{Expr, Member, Reference};
 use std::alloc::{AllocError, Global};
@@ -22,22 +23,38 @@ pub struct Part {
 }
 
 /// A name without subscripts.
-pub fn alone(alloc: Global, name: &Lexeme) -> Result<Part, AllocError>
-    ensures { IfOk result (λ part. part_tree part ≡ part_of (name_use name.now) None) }
+pub fn alone(alloc: Global, name: NameUse) -> Part
+    ensures { part_tree result ≡ part_of name None }
 {
-    Ok(Part {
-        name: name.name_use(alloc)?,
+    let end = name.span.end();
+    Part {
+        name,
         subscripts: Vec::new(alloc),
-        end: name.span.end(),
-    })
+        end,
+    }
 }
 
-/// The reference of these parts, and the subscripts of all of them.
-pub fn joined(
-    alloc: Global,
-    first: Part,
-    others: Vec<Part>,
-) -> Result<(Box<Reference>, Vec<Expr>), AllocError>
+/// A variable: a name alone, or a reference with the subscripts of all its names.
+#[derive(Drop)]
+pub enum Variable {
+    Name(NameUse),
+    Reference(Box<Reference>, Vec<Expr>),
+}
+
+impl Variable {
+    /// The variable as an expression.
+    pub fn expression(self) -> Expr
+        ensures { expression_tree result ≡ reference_value (variable_tree self) }
+    {
+        match self {
+            Variable::Name(name) => Expr::Name(name),
+            Variable::Reference(reference, subscripts) => Expr::Reference(reference, subscripts),
+        }
+    }
+}
+
+/// The variable of these parts.
+pub fn joined(alloc: Global, first: Part, others: Vec<Part>) -> Result<Variable, AllocError>
     ensures { IfOk result
         (λ v. variable_tree v ≡ reference_in (part_tree first, map part_tree others.items)) }
 {
@@ -55,16 +72,16 @@ pub fn joined(
         end = part.end;
     }
     let reference = Reference::new(alloc, first.name, count, members, end)?;
-    Ok((Box::new(alloc, reference)?, subscripts))
+    Ok(Variable::Reference(Box::new(alloc, reference)?, subscripts))
 }
 
 /// A name without subscripts.
 #[tactic(auto, unfolding(crate::specs::Expression::flat_part))]
-fn flat_part(alloc: Global, tokens: &[Lexeme]) -> Result<(Part, &[Lexeme]), Stop<'_>>
-    ensures { Gives part_tree result (read flat_part tokens.now) }
+fn flat_part(alloc: Global, tokens: &mut Tokens<'_>) -> Result<Part, Stop>
+    ensures { Gives part_tree result tokens.new (read flat_part tokens.old) }
 {
-    let (name, rest) = name(tokens)?;
-    Ok((alone(alloc, name)?, rest))
+    let name = name(alloc, tokens)?;
+    Ok(alone(alloc, name))
 }
 
 /// Reads a point and a name.
@@ -80,32 +97,28 @@ impl Reader for FlatReader {
 
     ghost reads = { λ _. read (further_part flat_part) };
 
-    fn read<'a>(
-        &self,
-        alloc: Global,
-        tokens: &'a [Lexeme],
-    ) -> Result<(Part, &'a [Lexeme]), Stop<'a>> {
-        let (_, rest) = key(tokens, Kind::Point)?;
-        flat_part(alloc, rest)
+    fn read(&self, alloc: Global, tokens: &mut Tokens<'_>) -> Result<Part, Stop> {
+        key(tokens, Kind::Point)?;
+        flat_part(alloc, tokens)
     }
 }
 
 /// The names behind the first one, each behind a point.
-fn flat_members(alloc: Global, tokens: &[Lexeme]) -> Result<(Vec<Part>, &[Lexeme]), Stop<'_>>
-    ensures { GivesEach part_tree result (read (many (further_part flat_part)) tokens.now) }
+fn flat_members(alloc: Global, tokens: &mut Tokens<'_>) -> Result<Vec<Part>, Stop>
+    ensures { GivesEach part_tree result tokens.new (read (many (further_part flat_part)) tokens.old) }
 {
     several(&FlatReader, alloc, &[Kind::Point], tokens)
 }
 
 /// A reference without subscripts.
 #[tactic(auto, unfolding(crate::specs::Expression::flat_reference))]
-pub fn flat_reference(
-    alloc: Global,
-    tokens: &[Lexeme],
-) -> Result<((Box<Reference>, Vec<Expr>), &[Lexeme]), Stop<'_>>
-    ensures { Gives variable_tree result (read flat_reference tokens.now) }
+pub fn flat_reference(alloc: Global, tokens: &mut Tokens<'_>) -> Result<Variable, Stop>
+    ensures { Gives variable_tree result tokens.new (read flat_reference tokens.old) }
 {
-    let (first, rest) = flat_part(alloc, tokens)?;
-    let (others, rest) = flat_members(alloc, rest)?;
-    Ok((joined(alloc, first, others)?, rest))
+    let first = name(alloc, tokens)?;
+    if !is_next(tokens, &[Kind::Point]) {
+        return Ok(Variable::Name(first));
+    }
+    let others = flat_members(alloc, tokens)?;
+    Ok(joined(alloc, alone(alloc, first), others)?)
 }

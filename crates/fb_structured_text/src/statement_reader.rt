@@ -31,70 +31,69 @@ ghost use Rattle.std.specs.Prelude.{◌≡◌, ◌<◌, option_map};
 
 use crate::expression_reader::{LEVELS, expression_at, reference};
 use crate::labels::{begins_label, labels};
-use fb_grammar::{Kind, Lexeme, Stop, is_next, key, name};
+use crate::references::Variable;
+use fb_grammar::{Kind, Stop, Tokens, is_next, key, name};
+use fb_tree::text::Place;
 use fb_tree::{Counting, Expr, Stmt};
 use std::alloc::Global;
 
 /// A word with `;` behind it.
 #[tactic(auto, unfolding(crate::specs::Statement::ended))]
-fn ended(tokens: &[Lexeme], word: Kind) -> Result<(&Lexeme, &[Lexeme]), Stop<'_>>
-    ensures { Gives (λ token. token.now) result (read (ended word) tokens.now) }
+fn ended(tokens: &mut Tokens<'_>, word: Kind) -> Result<Place, Stop>
+    ensures { Gives (λ place. place) result tokens.new (read (as_value place_of (ended word)) tokens.old) }
 {
-    let (first, rest) = key(tokens, word)?;
-    let (_, rest) = key(rest, Kind::Semicolon)?;
-    Ok((first, rest))
+    let first = key(tokens, word)?;
+    key(tokens, Kind::Semicolon)?;
+    Ok(first)
 }
 
 /// A word with an expression behind it.
 #[tactic(auto, unfolding(crate::specs::Statement::announced))]
-fn announced(
-    alloc: Global,
-    word: Kind,
-    left: u8,
-    tokens: &[Lexeme],
-) -> Result<(Expr, &[Lexeme]), Stop<'_>>
-    ensures { Gives expression_tree result (read (announced word (expression left)) tokens.now) }
+fn announced(alloc: Global, word: Kind, left: u8, tokens: &mut Tokens<'_>) -> Result<Expr, Stop>
+    ensures { Gives expression_tree result tokens.new (read (announced word (expression left)) tokens.old) }
 {
-    let (_, rest) = key(tokens, word)?;
-    expression_at(alloc, left, rest)
+    key(tokens, word)?;
+    expression_at(alloc, left, tokens)
 }
 
 #[tactic(auto, unfolding(crate::specs::Statement::assignment_statement))]
-fn assignment(alloc: Global, left: u8, tokens: &[Lexeme]) -> Result<(Stmt, &[Lexeme]), Stop<'_>>
-    ensures { Gives statement_tree result (read (assignment_statement left) tokens.now) }
+fn assignment(alloc: Global, left: u8, tokens: &mut Tokens<'_>) -> Result<Stmt, Stop>
+    ensures { Gives statement_tree result tokens.new (read (assignment_statement left) tokens.old) }
 {
-    let ((variable, subscripts), rest) = reference(alloc, left, tokens)?;
-    let (assign, rest) = key(rest, Kind::Assign)?;
-    let (value, rest) = expression_at(alloc, left, rest)?;
-    let (_, rest) = key(rest, Kind::Semicolon)?;
-    Ok((Stmt::Assign(variable, subscripts, assign.span, value), rest))
+    let variable = reference(alloc, left, tokens)?;
+    let assign = key(tokens, Kind::Assign)?;
+    let value = expression_at(alloc, left, tokens)?;
+    key(tokens, Kind::Semicolon)?;
+    let statement = match variable {
+        Variable::Name(name) => Stmt::Set(name, assign, value),
+        Variable::Reference(reference, subscripts) => Stmt::Assign(
+            reference, subscripts, assign, value,
+        ),
+    };
+    Ok(statement)
 }
 
 /// A statement that contains no others.
 #[tactic(auto, unfolding(crate::specs::Statement::simple_statement, crate::specs::Statement::ended))]
-fn simple_statement(
-    alloc: Global,
-    left: u8,
-    tokens: &[Lexeme],
-) -> Result<(Stmt, &[Lexeme]), Stop<'_>>
-    ensures { Gives statement_tree result (read (simple_statement left) tokens.now) }
+fn simple_statement(alloc: Global, left: u8, tokens: &mut Tokens<'_>) -> Result<Stmt, Stop>
+    ensures { Gives statement_tree result tokens.new (read (simple_statement left) tokens.old) }
 {
     if is_next(tokens, &[Kind::Semicolon]) {
-        let (_, rest) = key(tokens, Kind::Semicolon)?;
-        Ok((Stmt::Empty, rest))
+        key(tokens, Kind::Semicolon)?;
+        Ok(Stmt::Empty)
     } else if is_next(tokens, &[Kind::Exit]) {
-        let (_, rest) = ended(tokens, Kind::Exit)?;
-        Ok((Stmt::Exit, rest))
+        ended(tokens, Kind::Exit)?;
+        Ok(Stmt::Exit)
     } else if is_next(tokens, &[Kind::Return]) {
-        let (_, rest) = ended(tokens, Kind::Return)?;
-        Ok((Stmt::Return, rest))
+        ended(tokens, Kind::Return)?;
+        Ok(Stmt::Return)
     } else {
         assignment(alloc, left, tokens)
     }
 }
 
 /// Whether a statement comes next, with so many levels below it.
-fn begins_statement(left: u8, tokens: &[Lexeme]) -> bool
+fn begins_statement(left: u8, tokens: &Tokens<'_>) -> bool
     ensures { result ≡ is_next (first (statement left)) tokens.now }
 {
     begins_simple(tokens)
@@ -106,7 +105,7 @@ fn begins_statement(left: u8, tokens: &[Lexeme]) -> bool
 }
 
 /// Whether a statement comes next that contains no others.
-fn begins_simple(tokens: &[Lexeme]) -> bool
+fn begins_simple(tokens: &Tokens<'_>) -> bool
     ensures { result ≡ is_next simple_firsts tokens.now }
 {
     is_next(
@@ -125,28 +124,23 @@ fn begins_simple(tokens: &[Lexeme]) -> bool
 
 /// Statements with so many levels below them.
 #[cycle(statement)]
-fn statements_at(
-    alloc: Global,
-    left: u8,
-    tokens: &[Lexeme],
-) -> Result<(Vec<Stmt>, &[Lexeme]), Stop<'_>>
-    ensures { GivesEach statement_tree result (read (many (statement left)) tokens.now) }
+fn statements_at(alloc: Global, left: u8, tokens: &mut Tokens<'_>) -> Result<Vec<Stmt>, Stop>
+    ensures { GivesEach statement_tree result tokens.new (read (many (statement left)) tokens.old) }
 {
     // Many are one statement alone.
     let mut statements = Vec::with_capacity(alloc, 1)?;
-    let mut rest = tokens;
-    while begins_statement(left, rest) {
-        let (next, behind) = statement(alloc, left, rest)?;
+    while begins_statement(left, tokens) {
+        let next = statement(alloc, left, tokens)?;
         statements.push(next)?;
-        rest = behind;
     }
-    Ok((statements, rest))
+    statements.shrink_to_fit();
+    Ok(statements)
 }
 
 /// A statement with so many levels below it.
 #[cycle(statement)]
-fn statement(alloc: Global, left: u8, tokens: &[Lexeme]) -> Result<(Stmt, &[Lexeme]), Stop<'_>>
-    ensures { Gives statement_tree result (read (statement left) tokens.now) }
+fn statement(alloc: Global, left: u8, tokens: &mut Tokens<'_>) -> Result<Stmt, Stop>
+    ensures { Gives statement_tree result tokens.new (read (statement left) tokens.old) }
 {
     if left == 0 || begins_simple(tokens) {
         simple_statement(alloc, left, tokens)
@@ -158,13 +152,9 @@ fn statement(alloc: Global, left: u8, tokens: &[Lexeme]) -> Result<(Stmt, &[Lexe
 /// A statement that contains others.
 #[cycle(statement)]
 #[tactic(auto, unfolding(crate::specs::Statement::nested_statement))]
-fn nested_statement(
-    alloc: Global,
-    left: u8,
-    tokens: &[Lexeme],
-) -> Result<(Stmt, &[Lexeme]), Stop<'_>>
+fn nested_statement(alloc: Global, left: u8, tokens: &mut Tokens<'_>) -> Result<Stmt, Stop>
     requires { 0 < left }
-    ensures { Gives statement_tree result (read (at_level nested_statement left) tokens.now) }
+    ensures { Gives statement_tree result tokens.new (read (at_level nested_statement left) tokens.old) }
 {
     if is_next(tokens, &[Kind::If]) {
         if_statement(alloc, left, tokens)
@@ -187,32 +177,28 @@ fn enclosed(
     word: Kind,
     below: u8,
     end: Kind,
-    tokens: &[Lexeme],
-) -> Result<(Vec<Stmt>, &[Lexeme]), Stop<'_>>
-    ensures { GivesEach statement_tree result
-        (read (enclosed word (statement below) end) tokens.now) }
+    tokens: &mut Tokens<'_>,
+) -> Result<Vec<Stmt>, Stop>
+    ensures { GivesEach statement_tree result tokens.new
+        (read (enclosed word (statement below) end) tokens.old) }
 {
-    let (_, rest) = key(tokens, word)?;
-    let (statements, rest) = statements_at(alloc, below, rest)?;
-    let (_, rest) = key(rest, end)?;
-    Ok((statements, rest))
+    key(tokens, word)?;
+    let statements = statements_at(alloc, below, tokens)?;
+    key(tokens, end)?;
+    Ok(statements)
 }
 
 /// `ELSE` and what is done behind it; nothing where it is not written.
 #[cycle(statement)]
 #[tactic(auto, unfolding(crate::specs::Statement::otherwise))]
-fn otherwise(
-    alloc: Global,
-    below: u8,
-    tokens: &[Lexeme],
-) -> Result<(Vec<Stmt>, &[Lexeme]), Stop<'_>>
-    ensures { GivesEach statement_tree result (read (otherwise (statement below)) tokens.now) }
+fn otherwise(alloc: Global, below: u8, tokens: &mut Tokens<'_>) -> Result<Vec<Stmt>, Stop>
+    ensures { GivesEach statement_tree result tokens.new (read (otherwise (statement below)) tokens.old) }
 {
     if !is_next(tokens, &[Kind::Else]) {
-        return Ok((Vec::new(alloc), tokens));
+        return Ok(Vec::new(alloc));
     }
-    let (_, rest) = key(tokens, Kind::Else)?;
-    statements_at(alloc, below, rest)
+    key(tokens, Kind::Else)?;
+    statements_at(alloc, below, tokens)
 }
 
 /// A condition behind `IF` or `ELSIF`, and what is done where it holds.
@@ -222,161 +208,147 @@ fn arm(
     alloc: Global,
     word: Kind,
     left: u8,
-    tokens: &[Lexeme],
-) -> Result<((Expr, Vec<Stmt>), &[Lexeme]), Stop<'_>>
+    tokens: &mut Tokens<'_>,
+) -> Result<(Expr, Vec<Stmt>), Stop>
     requires { 0 < left }
-    ensures { Gives arm_tree result (read (at_level (arm word) left) tokens.now) }
+    ensures { Gives arm_tree result tokens.new (read (at_level (arm word) left) tokens.old) }
 {
-    let (condition, rest) = announced(alloc, word, left, tokens)?;
-    let (_, rest) = key(rest, Kind::Then)?;
-    let (statements, rest) = statements_at(alloc, left - 1, rest)?;
-    Ok(((condition, statements), rest))
+    let condition = announced(alloc, word, left, tokens)?;
+    key(tokens, Kind::Then)?;
+    let statements = statements_at(alloc, left - 1, tokens)?;
+    Ok((condition, statements))
 }
 
 /// The conditions of `IF` and each `ELSIF`, with what is done.
 #[cycle(statement)]
 #[tactic(auto, unfolding(crate::specs::Statement::arms))]
-fn arms(
-    alloc: Global,
-    left: u8,
-    tokens: &[Lexeme],
-) -> Result<(Vec<(Expr, Vec<Stmt>)>, &[Lexeme]), Stop<'_>>
+fn arms(alloc: Global, left: u8, tokens: &mut Tokens<'_>) -> Result<Vec<(Expr, Vec<Stmt>)>, Stop>
     requires { 0 < left }
-    ensures { GivesEach arm_tree result (read (at_level arms left) tokens.now) }
+    ensures { GivesEach arm_tree result tokens.new (read (at_level arms left) tokens.old) }
 {
-    let (first, mut rest) = arm(alloc, Kind::If, left, tokens)?;
+    let first = arm(alloc, Kind::If, left, tokens)?;
     // Most have no `ELSIF`.
     let mut arms = Vec::with_capacity(alloc, 1)?;
     arms.push(first)?;
-    while is_next(rest, &[Kind::Elsif]) {
-        let (next, behind) = arm(alloc, Kind::Elsif, left, rest)?;
+    while is_next(tokens, &[Kind::Elsif]) {
+        let next = arm(alloc, Kind::Elsif, left, tokens)?;
         arms.push(next)?;
-        rest = behind;
     }
-    Ok((arms, rest))
+    Ok(arms)
 }
 
 #[cycle(statement)]
 #[tactic(auto, unfolding(crate::specs::Statement::if_statement))]
-fn if_statement(alloc: Global, left: u8, tokens: &[Lexeme]) -> Result<(Stmt, &[Lexeme]), Stop<'_>>
+fn if_statement(alloc: Global, left: u8, tokens: &mut Tokens<'_>) -> Result<Stmt, Stop>
     requires { 0 < left }
-    ensures { Gives statement_tree result (read (at_level if_statement left) tokens.now) }
+    ensures { Gives statement_tree result tokens.new (read (at_level if_statement left) tokens.old) }
 {
-    let (arms, rest) = arms(alloc, left, tokens)?;
-    let (otherwise, rest) = otherwise(alloc, left - 1, rest)?;
-    let (_, rest) = key(rest, Kind::EndIf)?;
-    Ok((Stmt::If(arms, otherwise), rest))
+    let arms = arms(alloc, left, tokens)?;
+    let otherwise = otherwise(alloc, left - 1, tokens)?;
+    key(tokens, Kind::EndIf)?;
+    Ok(Stmt::If(arms, otherwise))
 }
 
 /// The statements of one case, behind its labels.
 #[cycle(statement)]
 #[tactic(auto, unfolding(crate::specs::Statement::case))]
-fn case(alloc: Global, below: u8, tokens: &[Lexeme]) -> Result<(Vec<Stmt>, &[Lexeme]), Stop<'_>>
-    ensures { GivesEach statement_tree result (read (case (statement below)) tokens.now) }
+fn case(alloc: Global, below: u8, tokens: &mut Tokens<'_>) -> Result<Vec<Stmt>, Stop>
+    ensures { GivesEach statement_tree result tokens.new (read (case (statement below)) tokens.old) }
 {
-    let rest = labels(tokens)?;
-    let (_, rest) = key(rest, Kind::Colon)?;
-    statements_at(alloc, below, rest)
+    labels(tokens)?;
+    key(tokens, Kind::Colon)?;
+    statements_at(alloc, below, tokens)
 }
 
 /// The statements of all cases.
 #[cycle(statement)]
 #[tactic(auto, unfolding(crate::specs::Statement::cases))]
-fn cases(alloc: Global, below: u8, tokens: &[Lexeme]) -> Result<(Vec<Stmt>, &[Lexeme]), Stop<'_>>
-    ensures { GivesEach statement_tree result (read (cases (statement below)) tokens.now) }
+fn cases(alloc: Global, below: u8, tokens: &mut Tokens<'_>) -> Result<Vec<Stmt>, Stop>
+    ensures { GivesEach statement_tree result tokens.new (read (cases (statement below)) tokens.old) }
 {
-    let (mut statements, mut rest) = case(alloc, below, tokens)?;
-    while begins_label(rest) {
-        let (mut more, behind) = case(alloc, below, rest)?;
+    let mut statements = case(alloc, below, tokens)?;
+    while begins_label(tokens) {
+        let mut more = case(alloc, below, tokens)?;
         statements.append(&mut more)?;
-        rest = behind;
     }
-    Ok((statements, rest))
+    Ok(statements)
 }
 
 #[cycle(statement)]
 #[tactic(auto, unfolding(crate::specs::Statement::case_statement))]
-fn case_statement(alloc: Global, left: u8, tokens: &[Lexeme]) -> Result<(Stmt, &[Lexeme]), Stop<'_>>
+fn case_statement(alloc: Global, left: u8, tokens: &mut Tokens<'_>) -> Result<Stmt, Stop>
     requires { 0 < left }
-    ensures { Gives statement_tree result (read (at_level case_statement left) tokens.now) }
+    ensures { Gives statement_tree result tokens.new (read (at_level case_statement left) tokens.old) }
 {
-    let (selector, rest) = announced(alloc, Kind::Case, left, tokens)?;
-    let (_, rest) = key(rest, Kind::Of)?;
-    let (cases, rest) = cases(alloc, left - 1, rest)?;
-    let (otherwise, rest) = otherwise(alloc, left - 1, rest)?;
-    let (_, rest) = key(rest, Kind::EndCase)?;
-    Ok((Stmt::Case(selector, cases, otherwise), rest))
+    let selector = announced(alloc, Kind::Case, left, tokens)?;
+    key(tokens, Kind::Of)?;
+    let cases = cases(alloc, left - 1, tokens)?;
+    let otherwise = otherwise(alloc, left - 1, tokens)?;
+    key(tokens, Kind::EndCase)?;
+    Ok(Stmt::Case(selector, cases, otherwise))
 }
 
 /// `BY` and an expression, where they are written.
 #[tactic(auto, unfolding(crate::specs::Statement::announced))]
-fn step(alloc: Global, left: u8, tokens: &[Lexeme]) -> Result<(Option<Expr>, &[Lexeme]), Stop<'_>>
-    ensures { Gives (option_map expression_tree) result
-        (read (option (announced By (expression left))) tokens.now) }
+fn step(alloc: Global, left: u8, tokens: &mut Tokens<'_>) -> Result<Option<Expr>, Stop>
+    ensures { Gives (option_map expression_tree) result tokens.new
+        (read (option (announced By (expression left))) tokens.old) }
 {
     if !is_next(tokens, &[Kind::By]) {
-        return Ok((None, tokens));
+        return Ok(None);
     }
-    let (step, rest) = announced(alloc, Kind::By, left, tokens)?;
-    Ok((Some(step), rest))
+    let step = announced(alloc, Kind::By, left, tokens)?;
+    Ok(Some(step))
 }
 
 #[cycle(statement)]
 #[tactic(auto, unfolding(crate::specs::Statement::for_statement))]
-fn for_statement(alloc: Global, left: u8, tokens: &[Lexeme]) -> Result<(Stmt, &[Lexeme]), Stop<'_>>
+fn for_statement(alloc: Global, left: u8, tokens: &mut Tokens<'_>) -> Result<Stmt, Stop>
     requires { 0 < left }
-    ensures { Gives statement_tree result (read (at_level for_statement left) tokens.now) }
+    ensures { Gives statement_tree result tokens.new (read (at_level for_statement left) tokens.old) }
 {
-    let (_, rest) = key(tokens, Kind::For)?;
-    let (variable, rest) = name(rest)?;
-    let (from, rest) = announced(alloc, Kind::Assign, left, rest)?;
-    let (to, rest) = announced(alloc, Kind::To, left, rest)?;
-    let (by, rest) = step(alloc, left, rest)?;
-    let (body, rest) = enclosed(alloc, Kind::Do, left - 1, Kind::EndFor, rest)?;
+    key(tokens, Kind::For)?;
+    let variable = name(alloc, tokens)?;
+    let from = announced(alloc, Kind::Assign, left, tokens)?;
+    let to = announced(alloc, Kind::To, left, tokens)?;
+    let by = step(alloc, left, tokens)?;
+    let body = enclosed(alloc, Kind::Do, left - 1, Kind::EndFor, tokens)?;
     let counting = Counting {
-        variable: variable.name_use(alloc)?,
+        variable,
         from,
         to,
         by,
     };
-    Ok((Stmt::For(Box::new(alloc, counting)?, body), rest))
+    Ok(Stmt::For(Box::new(alloc, counting)?, body))
 }
 
 #[cycle(statement)]
 #[tactic(auto, unfolding(crate::specs::Statement::while_statement))]
-fn while_statement(
-    alloc: Global,
-    left: u8,
-    tokens: &[Lexeme],
-) -> Result<(Stmt, &[Lexeme]), Stop<'_>>
+fn while_statement(alloc: Global, left: u8, tokens: &mut Tokens<'_>) -> Result<Stmt, Stop>
     requires { 0 < left }
-    ensures { Gives statement_tree result (read (at_level while_statement left) tokens.now) }
+    ensures { Gives statement_tree result tokens.new (read (at_level while_statement left) tokens.old) }
 {
-    let (condition, rest) = announced(alloc, Kind::While, left, tokens)?;
-    let (body, rest) = enclosed(alloc, Kind::Do, left - 1, Kind::EndWhile, rest)?;
-    Ok((Stmt::While(condition, body), rest))
+    let condition = announced(alloc, Kind::While, left, tokens)?;
+    let body = enclosed(alloc, Kind::Do, left - 1, Kind::EndWhile, tokens)?;
+    Ok(Stmt::While(condition, body))
 }
 
 #[cycle(statement)]
 #[tactic(auto, unfolding(crate::specs::Statement::repeat_statement))]
-fn repeat_statement(
-    alloc: Global,
-    left: u8,
-    tokens: &[Lexeme],
-) -> Result<(Stmt, &[Lexeme]), Stop<'_>>
+fn repeat_statement(alloc: Global, left: u8, tokens: &mut Tokens<'_>) -> Result<Stmt, Stop>
     requires { 0 < left }
-    ensures { Gives statement_tree result (read (at_level repeat_statement left) tokens.now) }
+    ensures { Gives statement_tree result tokens.new (read (at_level repeat_statement left) tokens.old) }
 {
-    let (body, rest) = enclosed(alloc, Kind::Repeat, left - 1, Kind::Until, tokens)?;
-    let (condition, rest) = expression_at(alloc, left, rest)?;
-    let (_, rest) = key(rest, Kind::EndRepeat)?;
-    Ok((Stmt::Repeat(body, condition), rest))
+    let body = enclosed(alloc, Kind::Repeat, left - 1, Kind::Until, tokens)?;
+    let condition = expression_at(alloc, left, tokens)?;
+    key(tokens, Kind::EndRepeat)?;
+    Ok(Stmt::Repeat(body, condition))
 }
 
 /// The statements at the outermost level, and the tokens behind them. On a fault the tokens from
 /// the first one that does not go on.
-pub fn statements(alloc: Global, tokens: &[Lexeme]) -> Result<(Vec<Stmt>, &[Lexeme]), Stop<'_>>
-    ensures { GivesEach statement_tree result (read (many (statement levels)) tokens.now) }
+pub fn statements(alloc: Global, tokens: &mut Tokens<'_>) -> Result<Vec<Stmt>, Stop>
+    ensures { GivesEach statement_tree result tokens.new (read (many (statement levels)) tokens.old) }
 {
     statements_at(alloc, LEVELS, tokens)
 }

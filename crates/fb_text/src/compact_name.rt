@@ -1,5 +1,7 @@
 //! Names that are kept. Most are short, and take little memory.
-ghost use Rattle.std.specs.Prelude.{◌≡◌, IfOk, codes};
+ghost use Rattle.std.specs.Prelude.{◌≡◌, ◌≤◌, IfOk, codes, length, true};
+ghost use Rattle.std.specs.Str.{str_to_ascii_uppercase};
+ghost use Rattle.fb_text.specs.Words.{is_word};
 ghost use Rattle.std.specs.BTreeMap.{is_at};
 ghost use Rattle.fb_text.specs.Name.{name_of};
 ghost use Rattle.fb_text.specs.Order.{name_cmp};
@@ -60,6 +62,20 @@ impl CompactName {
             })),
             Err(fault) => Ok(Err(fault)),
         }
+    }
+
+    /// The name that a word spells in any case.
+    pub fn of_word(alloc: Global, word: &str) -> Result<CompactName, AllocError>
+        requires word { is_word word.now ≡ true }
+        requires short { length word.now ≤ 64 }
+        ensures { IfOk result (λ name. name ≡ str_to_ascii_uppercase word.now) }
+    {
+        let stored = if word.len() > SHORT_ROOM {
+            Stored::Long(Box::new(alloc, Name::of_word(word.as_bytes()))?)
+        } else {
+            Stored::Short(ShortName::of_word(word.as_bytes()))
+        };
+        Ok(CompactName { stored })
     }
 
     /// The name `_`.

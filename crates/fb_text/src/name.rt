@@ -100,7 +100,7 @@ impl Name {
         Ok(Name::of_word(bytes))
     }
 
-    fn of_word(word: &[u8]) -> Name
+    pub(crate) fn of_word(word: &[u8]) -> Name
         requires word { is_word word.now ≡ true }
         requires short { length word.now ≤ 64 }
         ensures { result ≡ str_to_ascii_uppercase word.now }

@@ -178,7 +178,7 @@ fn typed_tail_len(word: &[u8], bytes: &[u8]) -> usize
 
 /// The length of `#` and a value behind the word at the front, 0 where none stands there.
 #[tactic(auto, unfolding(crate::specs::Scan::typed_len))]
-fn typed_len(bytes: &[u8], word: usize) -> usize
+pub fn typed_len(bytes: &[u8], word: usize) -> usize
     requires { word ≡ prefix_len is_word_byte bytes.now }
     ensures value { result ≡ typed_len bytes.now }
     ensures within { word + result ≤ length bytes.now }

@@ -9,7 +9,7 @@ use Rattle.fb_tree.specs.declared.expression.UnaryUse.{UnaryUse}
 use Rattle.fb_tree.specs.declared.reference.Member.{Member}
 use Rattle.fb_tree.specs.declared.reference.Reference.{Reference as ReferenceUse}
 use Rattle.fb_tree.specs.declared.expression.Expr.{Expr}
-use Rattle.fb_tree.specs.declared.expression.Expr.TheOpen.{Expr-F, Literal, Reference, Unary, Row, Parentheses}
+use Rattle.fb_tree.specs.declared.expression.Expr.TheOpen.{Expr-F, Literal, Name, Reference, Unary, Pair, Row, Parentheses}
 use Rattle.fb_tree.specs.declared.expression.Expr.TheFolds.{fold-Expr}
 
 -- names with points between them, and how many subscripts stand behind each; the subscripts of all of them stand beside it in one list
@@ -29,6 +29,10 @@ reference_tree r = record {
   members = further_names r.names;
   span = r.span;
 }
+
+-- a name alone
+abbrev pub alone_tree : NameUse → ReferenceTree
+alone_tree used = record { name = used; subscripts = 0; members = []; span = used.span }
 
 mutual
   pub data Expression : Type 0 where
@@ -59,8 +63,10 @@ operands_of (o ∷ os) = operand_then o.0 o.1 (operands_of os)
 -- one level, with the expression of each part in its place
 abbrev pub expression_step : Expr-F Expression → Expression
 expression_step (Literal l) = literal_expression l
+expression_step (Name used) = reference_expression (alone_tree used) no_expressions
 expression_step (Reference r subscripts) = reference_expression (reference_tree (box_value r)) (expressions_of subscripts.items)
 expression_step (Unary operator e) = unary_expression operator (box_value e)
+expression_step (Pair p) = row_expression (box_value p).0 (operand_then (box_value p).1.0 (box_value p).1.1 no_operands)
 expression_step (Row e operands) = row_expression (box_value e) (operands_of operands.items)
 expression_step (Parentheses e span) = parentheses (box_value e) span
 

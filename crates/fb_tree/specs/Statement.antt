@@ -3,10 +3,10 @@ use Rattle.std.specs.Prelude.{List, [], ◌∷◌, Vec, map, Option, option_map,
 use Rattle.std.specs.declared.alloc.Global.{Global}
 use Rattle.fb_text.specs.declared.token.Span.{Span}
 use Rattle.fb_text.specs.declared.name.NameUse.{NameUse}
-use Rattle.fb_tree.specs.Expression.{ReferenceTree, reference_tree, Expression, Expressions, expressions_of, expression_tree}
+use Rattle.fb_tree.specs.Expression.{ReferenceTree, alone_tree, reference_tree, Expression, Expressions, expressions_of, no_expressions, expression_tree}
 use Rattle.fb_tree.specs.declared.expression.Expr.{Expr}
 use Rattle.fb_tree.specs.declared.statement.Stmt.{Stmt}
-use Rattle.fb_tree.specs.declared.statement.Stmt.TheOpen.{Stmt-F, Empty, Assign, Exit, Return, If, Case, For, While, Repeat}
+use Rattle.fb_tree.specs.declared.statement.Stmt.TheOpen.{Stmt-F, Empty, Set, Assign, Exit, Return, If, Case, For, While, Repeat}
 use Rattle.fb_tree.specs.declared.statement.Stmt.TheFolds.{fold-Stmt}
 
 mutual
@@ -44,6 +44,7 @@ arms_of (a ∷ others) = arm_then a.0 (statements_of a.1) (arms_of others)
 -- one level, with the statement of each part in its place
 abbrev pub statement_step : Stmt-F Statement → Statement
 statement_step Empty = empty
+statement_step (Set used place value) = assignment (alone_tree used) no_expressions place (expression_tree value)
 statement_step (Assign r subscripts place value) = assignment (reference_tree (box_value r)) (expressions_of (map expression_tree subscripts.items)) place (expression_tree value)
 statement_step Exit = exit
 statement_step Return = return

@@ -2,7 +2,7 @@
 
 use crate::constant::Literal;
 use crate::reference::Reference;
-use fb_text::Place;
+use fb_text::{NameUse, Place};
 
 /// What stands before an operand.
 #[derive(Clone, Copy, Debug, PartialEq, Eq)]
@@ -49,10 +49,14 @@ pub struct BinaryUse {
 /// An expression.
 pub enum Expr {
     Literal(Literal),
-    /// A variable with its subscripts.
+    /// A variable that is a name alone. Most are.
+    Name(NameUse),
+    /// Any other variable, with its subscripts.
     Reference(Box<Reference>, Vec<Expr>),
     Unary(UnaryUse, Box<Expr>),
-    /// An operand, and the operators of one strength that follow it, each with its operand.
+    /// An operator between two operands. Most rows have one.
+    Pair(Box<(Expr, BinaryUse, Expr)>),
+    /// An operand, and two or more operators of one strength that follow it, each with its operand.
     Row(Box<Expr>, Vec<(BinaryUse, Expr)>),
     /// In parentheses, which the span takes in.
     Parentheses(Box<Expr>, Place),
@@ -62,8 +66,10 @@ impl Drop for Expr {
     fn drop(self) {
         match self {
             Self::Literal(_)
+            | Self::Name(_)
             | Self::Reference(_, _)
             | Self::Unary(_, _)
+            | Self::Pair(_)
             | Self::Row(_, _)
             | Self::Parentheses(_, _) => {}
         }

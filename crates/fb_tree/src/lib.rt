@@ -37,7 +37,8 @@ pub use wide_type::WideTypeUse;
 /// Of `fb_text`, for the crates above.
 pub mod text {
     pub use fb_text::{
-        CompactName, Name, NameUse, Place, Span, Token, TokenFault, TokenKind, TypeClass, WideUse,
-        is_elementary, same_name, same_word, sorted_names, sorted_once, tokens, type_class,
+        CompactName, Name, NameUse, OpenQuotes, Piece, Place, Span, Token, TokenFault, TokenKind,
+        TypeClass, WideUse, is_blank, is_elementary, is_word_start, next_piece, same_name,
+        same_word, sorted_names, sorted_once, tokens, type_class, typed_len, word_run,
     };
 }

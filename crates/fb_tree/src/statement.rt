@@ -26,7 +26,9 @@ impl Drop for Counting {
 /// A statement. The labels of `CASE` are not kept.
 pub enum Stmt {
     Empty,
-    /// The variable with its subscripts, the place of `:=`, and the value.
+    /// A variable that is a name alone, the place of `:=`, and the value.
+    Set(NameUse, Place, Expr),
+    /// Any other variable with its subscripts, the place of `:=`, and the value.
     Assign(Box<Reference>, Vec<Expr>, Place, Expr),
     Exit,
     Return,
@@ -44,6 +46,7 @@ impl Drop for Stmt {
     fn drop(self) {
         match self {
             Self::Empty
+            | Self::Set(_, _, _)
             | Self::Assign(_, _, _, _)
             | Self::Exit
             | Self::Return

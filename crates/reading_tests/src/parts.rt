@@ -1,6 +1,7 @@
 //! The parts of declarations.
-use crate::readers::{Part, grammar_tokens, read};
+use crate::readers::{Part, read};
 use crate::told::words;
+use fb_grammar::Tokens;
 use fb_structured_text::expression;
 use fb_text::Span;
 use fb_tree::{Expr, LiteralForm};
@@ -320,11 +321,17 @@ static LITERALS: [(&str, LiteralForm); 5] = [
     ("false", LiteralForm::Truth),
 ];
 
+/// The expression at the front of a text.
+fn expression_of(alloc: Global, text: &str) -> Result<Expr, Fail> {
+    if text.len() >= 4_294_967_296 {
+        return Err(Fail::from("a text of 4 GiB"));
+    }
+    Ok(expression(alloc, &mut Tokens::of(text))?)
+}
+
 /// The form of the literal that a text is.
 fn form_of(alloc: Global, text: &str) -> Result<LiteralForm, Fail> {
-    let tokens = grammar_tokens(alloc, text)?;
-    let (expression, _) = expression(alloc, tokens.as_slice())?;
-    match &expression {
+    match &expression_of(alloc, text)? {
         Expr::Literal(literal) => Ok(literal.form),
         _ => Err(Fail::from("no literal")),
     }
@@ -333,9 +340,14 @@ fn form_of(alloc: Global, text: &str) -> Result<LiteralForm, Fail> {
 /// The variable that a text is, in words: its first name with its place and how many subscripts it has, where the variable is, and the
 /// further names in the same way.
 fn variable_told(alloc: Global, text: &str) -> Result<String, Fail> {
-    let tokens = grammar_tokens(alloc, text)?;
-    match &expression(alloc, tokens.as_slice())? {
-        (Expr::Reference(variable, _), _) => {
+    match &expression_of(alloc, text)? {
+        Expr::Name(used) => {
+            let Span { start, end } = used.span.span();
+            let mut told = format!(in alloc; "{} ", used.name.name())?;
+            write!(told, "{start}..{end} (0) in {start}..{end}")?;
+            Ok(told)
+        }
+        Expr::Reference(variable, _) => {
             let Span { start, end } = variable.span.span();
             let first = variable.name_span().span();
             let mut told = format!(in alloc; "{} ", variable.name())?;

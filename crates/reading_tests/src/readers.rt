@@ -1,6 +1,8 @@
 //! The readers of the parts of declarations, each over a text of its own.
 use crate::told::{Tell, words};
-use fb_grammar::{Kind, Lexeme, NAMES, NameReader, Stop, lexemes, names, separated, several};
+use fb_grammar::{
+    Kind, Lexeme, NAMES, NameReader, Stop, Tokens, lexemes, names, separated, several,
+};
 use fb_sections::{
     blocks, connections, data_variables, device, events, fields, internal_variables, mappings,
     plugs, service, sockets, states, subapplications,
@@ -35,14 +37,25 @@ pub enum Part {
     Statements,
 }
 
+/// How many tokens are left.
+fn left(tokens: &mut Tokens<'_>) -> usize {
+    let mut count = 0;
+    while !tokens.is_over() {
+        tokens.take();
+        count += 1;
+    }
+    count
+}
+
 /// What was read, or `stops`, and how many tokens are after it, or from the one that does not continue.
 fn told<T: Tell + Drop>(
     alloc: Global,
-    read: Result<(T, &[Lexeme]), Stop>,
+    read: Result<T, Stop>,
+    tokens: &mut Tokens<'_>,
 ) -> Result<(String, usize), Fail> {
     match read {
-        Ok((found, rest)) => Ok((words(alloc, &found)?, rest.len())),
-        Err(Stop::Broken(rest)) => Ok(("stops".to_string(alloc)?, rest.len())),
+        Ok(found) => Ok((words(alloc, &found)?, left(tokens))),
+        Err(Stop::Broken) => Ok(("stops".to_string(alloc)?, left(tokens))),
         Err(Stop::Memory) => Err(Fail::from("no memory")),
     }
 }
@@ -57,39 +70,56 @@ pub fn grammar_tokens(alloc: Global, text: &str) -> Result<Vec<Lexeme>, Fail> {
 
 /// What is read of this part at the front of the text, and how many tokens are left.
 pub fn read(alloc: Global, part: Part, text: &str) -> Result<(String, usize), Fail> {
-    let tokens = grammar_tokens(alloc, text)?;
-    let tokens = tokens.as_slice();
+    if text.len() >= 4_294_967_296 {
+        return Err(Fail::from("a text of 4 GiB"));
+    }
+    let tokens = &mut Tokens::of(text);
     match part {
-        Part::Listed => told(alloc, names(alloc, tokens)),
-        Part::Path => told(alloc, separated(&NameReader, Kind::Point, alloc, tokens)),
-        Part::Several => told(alloc, several(&NameReader, alloc, &NAMES, tokens)),
-        Part::Expression => told(alloc, expression(alloc, tokens)),
-        Part::Statements => told(alloc, statements(alloc, tokens)),
+        Part::Listed => told(alloc, names(alloc, tokens), tokens),
+        Part::Path => told(
+            alloc,
+            separated(&NameReader, Kind::Point, alloc, tokens),
+            tokens,
+        ),
+        Part::Several => told(alloc, several(&NameReader, alloc, &NAMES, tokens), tokens),
+        Part::Expression => told(alloc, expression(alloc, tokens), tokens),
+        Part::Statements => told(alloc, statements(alloc, tokens), tokens),
         _ => read_section(alloc, part, tokens),
     }
 }
 
-fn read_section(alloc: Global, part: Part, tokens: &[Lexeme]) -> Result<(String, usize), Fail> {
+fn read_section(
+    alloc: Global,
+    part: Part,
+    tokens: &mut Tokens<'_>,
+) -> Result<(String, usize), Fail> {
     match part {
-        Part::Events => told(alloc, events(alloc, tokens)),
-        Part::Data => told(alloc, data_variables(alloc, tokens)),
-        Part::Internal => told(alloc, internal_variables(alloc, tokens)),
-        Part::Fields => told(alloc, fields(alloc, tokens)),
-        Part::States => told(alloc, states(alloc, tokens)),
-        Part::Device => told(alloc, device(alloc, tokens)),
-        Part::Mappings => told(alloc, mappings(alloc, tokens)),
-        Part::Service => Ok((String::new(alloc), service(tokens)?.len())),
+        Part::Events => told(alloc, events(alloc, tokens), tokens),
+        Part::Data => told(alloc, data_variables(alloc, tokens), tokens),
+        Part::Internal => told(alloc, internal_variables(alloc, tokens), tokens),
+        Part::Fields => told(alloc, fields(alloc, tokens), tokens),
+        Part::States => told(alloc, states(alloc, tokens), tokens),
+        Part::Device => told(alloc, device(alloc, tokens), tokens),
+        Part::Mappings => told(alloc, mappings(alloc, tokens), tokens),
+        Part::Service => {
+            service(tokens)?;
+            Ok((String::new(alloc), left(tokens)))
+        }
         _ => read_of_network(alloc, part, tokens),
     }
 }
 
-fn read_of_network(alloc: Global, part: Part, tokens: &[Lexeme]) -> Result<(String, usize), Fail> {
+fn read_of_network(
+    alloc: Global,
+    part: Part,
+    tokens: &mut Tokens<'_>,
+) -> Result<(String, usize), Fail> {
     match part {
-        Part::Plugs => told(alloc, plugs(alloc, tokens)),
-        Part::Sockets => told(alloc, sockets(alloc, tokens)),
-        Part::Blocks => told(alloc, blocks(alloc, tokens)),
-        Part::Subapplications => told(alloc, subapplications(alloc, tokens)),
-        Part::Connections => told(alloc, connections(alloc, tokens)),
+        Part::Plugs => told(alloc, plugs(alloc, tokens), tokens),
+        Part::Sockets => told(alloc, sockets(alloc, tokens), tokens),
+        Part::Blocks => told(alloc, blocks(alloc, tokens), tokens),
+        Part::Subapplications => told(alloc, subapplications(alloc, tokens), tokens),
+        Part::Connections => told(alloc, connections(alloc, tokens), tokens),
         _ => Err(Fail::from("no part of a network")),
     }
 }

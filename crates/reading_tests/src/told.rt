@@ -388,6 +388,7 @@ impl Tell for Stmt {
 fn tell_expression(expression: &Expr, told: &mut String) -> Result<(), AllocError> {
     match expression {
         Expr::Literal(literal) => write!(told, "{:?}", literal.form),
+        Expr::Name(used) => told.push_str(used.name.as_str()),
         Expr::Reference(reference, subscripts) => {
             tell_reference(reference, subscripts.as_slice(), told)
         }
@@ -395,6 +396,14 @@ fn tell_expression(expression: &Expr, told: &mut String) -> Result<(), AllocErro
             let Span { start, end } = operator.span.span();
             write!(told, "{:?} {start}..{end} ", operator.operator)?;
             tell_expression(operand, told)
+        }
+        Expr::Pair(pair) => {
+            let Span { start, end } = pair.1.span.span();
+            told.push_str("{")?;
+            tell_expression(&pair.0, told)?;
+            write!(told, " {:?} {start}..{end} ", pair.1.operator)?;
+            tell_expression(&pair.2, told)?;
+            told.push_str("}")
         }
         Expr::Row(first, operands) => {
             told.push_str("{")?;
@@ -460,6 +469,10 @@ fn tell_members<'a>(
 fn tell_statement(statement: &Stmt, told: &mut String) -> Result<(), AllocError> {
     match statement {
         Stmt::Empty => told.push_str("EMPTY"),
+        Stmt::Set(name, _, value) => {
+            told.push_str(name.name.as_str())?;
+            tell_value(" := ", value, told)
+        }
         Stmt::Assign(variable, subscripts, _, value) => {
             tell_reference(variable, subscripts.as_slice(), told)?;
             tell_value(" := ", value, told)
