@@ -222,7 +222,7 @@ impl Bench {
         ensures full { IsFullRefusal self.old.log result }
         ensures err { OnErr result (self.new ≡ self.old) }
     {
-        // That the law of entries holds of what the history begins from.
+        // For the proof: the start of the history is one of which the law of entries holds.
         self.begins();
         let (answer, _share) = self.ask_recorded(caller, key)?;
         Ok(answer)
@@ -684,7 +684,7 @@ impl Bench {
         ensures full { IsFullRefusal self.old.log result }
         ensures err { OnErr result (self.new ≡ self.old) }
     {
-        // That the law of entries holds of what the history begins from.
+        // For the proof: the start of the history is one of which the law of entries holds.
         self.begins();
         match request {
             Request::Commit(changes) => {

@@ -45,7 +45,7 @@ pub fn net_at_is_local()
     ensures { NetAtIsLocal }
 {}
 
-/// Texts that say the same to networks as those before, and mention the same, leave a net unchanged to which nothing was in the way, where
+/// A net that is neither blocked nor recursive stays the same if the new texts show networks the same and mention the same, and
 /// all that its unit rests on is without faults.
 pub fn net_is_unchanged()
     ensures { NetIsLeft }

@@ -154,7 +154,7 @@ impl Kind {
     }
 }
 
-/// Each kind has a number of its own, so `is_among` tells the members of a list.
+/// Each kind has a number of its own, so `is_among` finds exactly the members of a list.
 pub fn own_numbers()
     ensures own { (a b : Kind) → code_of a ≡ code_of b → a ≡ b }
     ensures members { (kinds : List Kind) (kind : Kind) → (is_among kinds kind ≡ true)

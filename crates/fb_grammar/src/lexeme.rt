@@ -17,7 +17,7 @@ use fb_tree::text::{
 };
 use std::alloc::{AllocError, Global};
 
-/// A token: where it stands, its kind, and the name that it spells, `_` where it spells none.
+/// A token: its place, its kind, and the name that it spells, `_` if it spells none.
 #[derive(Debug, Drop)]
 pub struct Lexeme {
     pub span: Place,
@@ -28,7 +28,7 @@ pub struct Lexeme {
 impl Lexeme {
     ghost use Rattle.fb_grammar.specs.Lexemes.{name_use};
 
-    /// The name where it stands, of a token that spells one.
+    /// The name and its place, of a token that spells one.
     pub fn name_use(&self, alloc: Global) -> Result<NameUse, AllocError>
         ensures { IfOk result (λ used. used ≡ name_use self.now) }
     {
@@ -81,7 +81,7 @@ fn number_kind(number: &[u8]) -> Kind
     }
 }
 
-/// How many bytes stand before the first `#`.
+/// How many bytes are before the first `#`.
 fn type_len(literal: &[u8]) -> usize
     ensures value { result ≡ prefix_len (λ b. not (b == hash)) literal.now }
     ensures within { result ≤ length literal.now }
@@ -89,7 +89,7 @@ fn type_len(literal: &[u8]) -> usize
     literal.iter().take_while(|b| **b != b'#').count()
 }
 
-/// What stands before the first `#`.
+/// The bytes before the first `#`.
 fn type_name(literal: &[u8]) -> &[u8]
     ensures { result.now ≡ type_name literal.now }
 {
@@ -168,7 +168,7 @@ pub fn lexemes(alloc: Global, text: &str) -> Result<Vec<Lexeme>, TokenFault>
     Ok(lexemes)
 }
 
-/// Where tokens begin, or the end of the text where there are none.
+/// The place of the first token, or the end of the text if there is none.
 pub fn place_of(lexemes: &[Lexeme], end: usize) -> Span
     ensures { result ≡ place end lexemes.now }
 {
@@ -178,7 +178,7 @@ pub fn place_of(lexemes: &[Lexeme], end: usize) -> Span
     }
 }
 
-/// A token is a name where it is a word of at most 64 bytes that is not reserved.
+/// A token is a name if it is a word of at most 64 bytes that is not reserved.
 pub fn names_are_words()
     ensures { (token : TokenKind) (bytes : List ℕ)
         → (is_among name_kinds (kind_of token bytes) ≡ true)

@@ -30,7 +30,7 @@ pub trait Reader {
         ensures { Gives view result tokens.new (reads self.now tokens.old) };
 }
 
-/// A token of a kind, and a value behind it.
+/// A token of a kind, and a value after it.
 #[derive(Drop)]
 struct Behind<'r, R> {
     kind: Kind,

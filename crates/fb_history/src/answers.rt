@@ -25,7 +25,7 @@ pub enum Committed {
     TooManyUnits,
 }
 
-/// Whether a result was taken in.
+/// The result of a delivery: accepted, or the first reason against it.
 #[derive(Clone, Copy, PartialEq, Eq)]
 pub enum Delivered {
     Accepted,
@@ -35,7 +35,7 @@ pub enum Delivered {
     Stale(Name),
 }
 
-/// Whether a key was handed out.
+/// The result of a give-back: whether the key was handed out.
 #[derive(Clone, Copy, PartialEq, Eq)]
 pub enum GivenBack {
     Returned,

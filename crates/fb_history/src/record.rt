@@ -109,7 +109,7 @@ impl Drop for Call {
     }
 }
 
-/// The answer to a recorded call, in 16 bytes: what is larger stands in a box, or is shared.
+/// The answer to a recorded call, in 16 bytes: what is larger is in a box, or is shared.
 pub enum Reply {
     Committed(Box<Committed>),
     /// The job that is handed out.

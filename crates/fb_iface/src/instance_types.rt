@@ -1,4 +1,4 @@
-//! The types of instances, plugs and sockets.
+//! The check of the types of instances, plugs and sockets.
 ghost use Rattle.std.specs.Prelude.{◌≡◌, ◌++◌, OnOk};
 ghost use Rattle.std.specs.List.{flat_map};
 ghost use Rattle.fb_tree.specs.Tree.{decl_tree, instance_tree, network_tree};

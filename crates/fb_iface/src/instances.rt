@@ -1,4 +1,4 @@
-//! The types of instances, plugs and sockets.
+//! Which kinds of units the types of instances, plugs and sockets may be.
 ghost use Rattle.std.specs.Prelude.{◌≡◌};
 ghost use Rattle.fb_iface.specs.Types.{suits};
 

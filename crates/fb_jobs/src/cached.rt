@@ -193,7 +193,7 @@ fn is_faultless<K: Cache>(kept: &K, read: &Read) -> bool
     }
 }
 
-/// Adds the name that was read if its unit has faults, and tells whether that is known.
+/// Adds the name that was read if its unit has faults. The result is whether that is known.
 fn add_blocking<K: Cache>(kept: &K, names: &mut Vec<Name>, read: &Read) -> Result<bool, AllocError>
     ensures { IfOk result (λ is. is ≡ true
         → AddsBlocking (K.kept kept.now) (seen_of read.now) names.old.items names.new.items) }

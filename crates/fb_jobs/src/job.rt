@@ -169,8 +169,8 @@ impl Job {
         &self.cached.hints
     }
 
-    /// The value that the key had before, where what is read leaves it unchanged: a net to which nothing was in the way, or a plan by one, of a
-    /// unit whose own text is the same, and which rests on units without faults that say to networks what they said.
+    /// The value that the key had before, if what is read leaves it unchanged: a net that is flat or too large, or a plan of such a net. The text of the
+    /// unit must be the same, and all that it rests on without faults, with the same interfaces and mentions.
     fn reusable(&self, alloc: Global) -> Result<Option<&Arc<Value>>, AllocError>
         ensures { IfOk result (λ left. IfSome left
             (λ value. finding_of value.now.value ≡ scratch (read_texts self.now.reads) self.now.key)) }

@@ -10,7 +10,7 @@ use std::alloc::{AllocError, Global};
 use std::sync::Arc;
 
 /// Values by name, in the order of the names. A copy shares all that is not changed after it. A
-/// function leaves the entries as they were where there was no memory.
+/// function leaves the entries unchanged if there was no memory.
 pub(crate) trait Entries<V>: Drop {
     ghost entries: { Self → List (List ℕ × V) };
 

@@ -12,8 +12,8 @@ use std::alloc::{AllocError, Global};
 use std::marker::Model;
 use std::sync::Arc;
 
-// A full list becomes two halves, so it has some 24 names. A change makes one list anew, with a
-// count for each of its names: each lies in memory of its own, which is seldom in the cache.
+// A full list becomes two halves, so it has about 24 names. A change copies one list, with a
+// count for each of its names: each has memory of its own, which is seldom in the cache.
 const FULL: usize = 32;
 
 /// A value under its name.

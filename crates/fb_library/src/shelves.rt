@@ -12,10 +12,10 @@ use std::alloc::{AllocError, Global};
 use std::marker::{Model, PhantomData};
 use std::sync::Arc;
 
-// Full shelves become two halves. A change makes one shelf anew, and a copy costs a count for each.
+// Full shelves become two halves. A change copies one shelf, and a copy costs a count for each.
 const FULL: usize = 32;
 
-/// Entries of which no name is greater than the last one, which need not stand there.
+/// Entries of which no name is greater than the last one, which need not be among them.
 #[derive(Drop)]
 pub(crate) struct Shelf<E> {
     last: Name,
@@ -263,7 +263,7 @@ fn widen<V: Drop, E: Entries<V>>(
     }
 }
 
-/// Makes two shelves of one, where both halves have entries.
+/// Makes two shelves of one, if both halves have entries.
 fn halve<V: Drop, E: Entries<V>>(shelves: &mut Vec<Shelf<E>>, at: usize) -> Result<(), AllocError>
     requires at { at < length shelves.old.items }
     requires order { AreShelves (shelves_of E.entries shelves.old.items) }

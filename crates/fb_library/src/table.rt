@@ -18,7 +18,7 @@ use std::sync::Arc;
 
 /// Values by name, in the order of the names. A copy shares all that is not changed after it.
 pub struct Table<V: Drop> {
-    // A copy of n names costs a count for some n / 600 rooms of shelves.
+    // A copy of n names costs a count for about n / 600 rooms of shelves.
     rooms: Shelves<V, Shelves<V, Places<V>>>,
 }
 

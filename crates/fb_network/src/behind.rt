@@ -1,4 +1,4 @@
-//! The places of blocks behind an end of a connection.
+//! The places of blocks to which an end of a connection leads.
 ghost use Rattle.std.specs.Prelude.{◌≡◌, IfOk};
 ghost use Rattle.std.specs.BTreeMap.{get};
 ghost use Rattle.fb_tree.specs.Text.Order.{name_cmp};
@@ -18,7 +18,7 @@ fn is_border_of(edge: &Edge, sort: Sort, port: &Name) -> bool
     is_same_sort(edge.sort, sort) && same_name(&edge.port, port)
 }
 
-/// The places behind a port of a subapplication instance.
+/// The places to which a port of a subapplication instance leads.
 fn border_places_of(
     alloc: Global,
     borders: &[Edge],
@@ -37,7 +37,7 @@ fn border_places_of(
     Ok(places)
 }
 
-/// The places behind a port of an instance. That of the port itself is `own`.
+/// The places to which a port of an instance leads. The place of the port itself is `own`.
 fn places_of(
     alloc: Global,
     standing: &Standing,
@@ -58,7 +58,7 @@ fn places_of(
     }
 }
 
-/// The places behind an end: the port of a block itself, and those that a subapplication instance has behind its port.
+/// The places to which an end leads: the port of a block itself, or those to which the port of a subapplication instance leads inside.
 pub fn behind(
     alloc: Global,
     table: &Table,

@@ -15,7 +15,7 @@ use crate::table::Table;
 use fb_tree::Sort;
 use std::alloc::{AllocError, Global};
 
-/// Adds the borders of an end that is an own port, at the places behind the other end, which is itself at the place `own`.
+/// Adds the borders of an end that is an own port, at the places to which the other end leads, which is itself at the place `own`.
 fn push_borders_of_end(
     alloc: Global,
     edges: &mut Vec<Edge>,

@@ -35,7 +35,7 @@ pub struct Edge {
     pub place: Place,
 }
 
-/// Adds blocks of an inner network whose prefixes stand so many further.
+/// Adds blocks of an inner network, with `by` added to the numbers of their prefixes.
 pub fn push_leaves_moved(leaves: &mut Vec<Leaf>, by: u32, inner: &[Leaf]) -> Result<(), AllocError>
     ensures { OnOk result (leaves.new.items ≡ leaves.old.items ++ map (leaf_moved by) inner.now) }
 {
@@ -49,7 +49,7 @@ pub fn push_leaves_moved(leaves: &mut Vec<Leaf>, by: u32, inner: &[Leaf]) -> Res
     Ok(())
 }
 
-/// Adds links of an inner network whose prefixes stand so many further.
+/// Adds links of an inner network, with `by` added to the numbers of their prefixes.
 pub fn push_joins_moved(joins: &mut Vec<Join>, by: u32, inner: &[Join]) -> Result<(), AllocError>
     ensures { OnOk result (joins.new.items ≡ joins.old.items ++ map (join_moved by) inner.now) }
 {
@@ -64,7 +64,7 @@ pub fn push_joins_moved(joins: &mut Vec<Join>, by: u32, inner: &[Join]) -> Resul
     Ok(())
 }
 
-/// Borders of an inner network whose prefixes stand so many further.
+/// Borders of an inner network, with `by` added to the numbers of their prefixes.
 pub fn edges_moved(alloc: Global, by: u32, inner: &[Edge]) -> Result<Vec<Edge>, AllocError>
     ensures { IfOk result (λ edges. edges.items ≡ map (edge_moved by) inner.now) }
 {

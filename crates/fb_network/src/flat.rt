@@ -130,7 +130,7 @@ pub(crate) struct Tables {
 }
 
 /// A network with its subapplications replaced by what they hold: its blocks, the links between them, and the borders, which join its own
-/// ports with them. Paths are numbers: each has a prefix, which places of one network share, and an end behind it. Plans share the tables.
+/// ports with them. Paths are numbers: each has a prefix, which places of one network share, and an end after it. Plans share the tables.
 #[derive(Debug)]
 pub struct Flat {
     pub(crate) tables: Arc<Tables>,

@@ -9,7 +9,7 @@ ghost use Rattle.fb_network.specs.declared.application.FlatApplication.{FlatAppl
 ghost use Rattle.fb_network.specs.Composition.{ChainsAreComposed};
 ghost use Rattle.fb_network.specs.SystemFlat.{IsSystemFlat};
 
-/// The law that composing rests on: a chain lies inside one subapplication instance, or holds exactly one connection of the network
+/// The law that composing rests on: a chain is inside one subapplication instance, or holds exactly one connection of the network
 /// itself, and before and after it nothing or a border of an inner network.
 pub fn chains_are_composed()
     ensures { (view : View) (network : PlainNetwork)

@@ -24,7 +24,7 @@ use fb_tree::Sort;
 use std::alloc::{AllocError, Global};
 use std::sync::Arc;
 
-/// The place of the text of that number behind so many others of the network's own.
+/// The place of the text of that number, after `before` others of the network's own.
 pub fn own_text(before: usize, place: usize) -> Result<Place, AllocError>
     ensures { IfOk result (λ text. text ≡ own_place (before + place)) }
 {
@@ -75,7 +75,7 @@ fn push_pairs(
     push_join_pairs(&mut draft.joins, sort, froms, tos)
 }
 
-/// Adds the links by a connection between the places behind its ends: from each behind its source to each behind its destination.
+/// Adds the links by a connection: from each place to which its source leads to each to which its destination leads.
 fn push_between<V: Networks>(
     alloc: Global,
     draft: &mut Draft,

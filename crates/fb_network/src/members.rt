@@ -40,7 +40,7 @@ fn prefix_behind_place(
     Ok(Prefix::new(start, ends))
 }
 
-/// Adds a prefix behind each of the places, and gives their numbers.
+/// Adds the prefix of what is below each of the places, and gives their numbers.
 pub fn push_member_prefixes(
     alloc: Global,
     prefixes: &mut Vec<Prefix>,

@@ -1,4 +1,4 @@
-//! What stands at the numbers of a flat network.
+//! What the numbers of a flat network mean.
 ghost use Rattle.std.specs.Prelude.{◌≡◌, ◌++◌, length, map, slice_get};
 ghost use Rattle.fb_network.specs.Laid.{block_at, link_at};
 ghost use Rattle.fb_network.specs.Numbered.{block_numbered, block_or_nothing, link_numbered, link_or_nothing};

@@ -61,7 +61,7 @@ fn push_port_edges(
     Ok(())
 }
 
-/// Adds the borders of an end that is an own port, at the places behind the other end.
+/// Adds the borders of an end that is an own port, at the places to which the other end leads.
 pub fn push_end_edges(
     edges: &mut Vec<Edge>,
     sort: Sort,

@@ -12,7 +12,7 @@ use std::cmp::Ordering;
 use std::fmt;
 use std::marker::Model;
 
-/// The names of an instance from the network down, or such names with a port's behind them, joined by points. Paths are ordered by their
+/// The names of an instance from the network down, perhaps followed by that of a port, joined by points. Paths are ordered by their
 /// bytes, and a contract sees a path as the list of these.
 pub struct Path {
     text: String,
@@ -58,7 +58,7 @@ impl Path {
         Ok(Path { text })
     }
 
-    /// The path of two texts, the second right behind the first.
+    /// The path of two texts, the second directly after the first.
     pub fn of_parts(alloc: Global, start: &str, end: &str) -> Result<Path, AllocError>
         ensures { IfOk result (λ path. path ≡ start.now ++ end.now) }
     {
@@ -68,7 +68,7 @@ impl Path {
         Ok(Path { text })
     }
 
-    /// This path with a point behind it.
+    /// This path followed by a point.
     pub fn pointed(&self, alloc: Global) -> Result<Path, AllocError>
         ensures { IfOk result (λ path. path ≡ dotted self.now []) }
     {
@@ -84,7 +84,7 @@ impl Path {
         Ok(Path { text })
     }
 
-    /// This path, and a name behind it.
+    /// This path followed by a name.
     pub fn then(&self, alloc: Global, name: &Name) -> Result<Path, AllocError>
         ensures { IfOk result (λ path. path ≡ dotted self.now name.now) }
     {
@@ -100,7 +100,7 @@ impl Path {
         Ok(Path { text })
     }
 
-    /// The text of the path, which is given away.
+    /// The text of the path, which is consumed.
     pub fn into_string(self) -> String
         ensures { string_bytes result ≡ self }
     {

@@ -1,4 +1,4 @@
-//! What stands in front of paths.
+//! Prefixes of paths, and what they mean.
 ghost use Rattle.std.specs.Prelude.{◌≡◌, option_copied};
 ghost use Rattle.std.specs.HashMap.{get_by_text};
 ghost use Rattle.fb_network.specs.Prefixes.{nearest};
@@ -6,10 +6,10 @@ ghost use Rattle.fb_network.specs.Prefixes.{nearest};
 use crate::path::Path;
 use std::collections::HashMap;
 
-/// Paths by the texts that stand for them.
+/// Paths by the texts that mean them.
 pub type PathTable = HashMap<String, Path>;
 
-/// What the longest prefix of the path stands for, of those that stand for something.
+/// The meaning of the longest prefix of the path that has one.
 pub fn nearest<'a>(table: &'a PathTable, path: &str) -> Option<&'a Path>
     ensures { option_copied result ≡ nearest (get_by_text table.now) path.now }
 {

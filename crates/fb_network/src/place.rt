@@ -9,7 +9,7 @@ use crate::prefix::Prefix;
 use std::alloc::{AllocError, Global};
 use std::cmp::Ordering;
 
-/// A path by the number of its prefix, and by that of the text behind it among the prefix's ends.
+/// A path by the number of its prefix, and by that of the text after it among the prefix's ends.
 #[derive(Clone, Copy, Debug)]
 pub struct Place {
     pub prefix: u32,
@@ -43,7 +43,7 @@ pub fn compare_places(prefixes: &[Prefix], a: &Place, others: &[Prefix], b: &Pla
     compare_parts(start, end, other_start, other_end)
 }
 
-/// The place among prefixes that stand so many further.
+/// The place with `by` added to the number of its prefix.
 pub fn moved(place: &Place, by: u32) -> Result<Place, AllocError>
     ensures { IfOk result (λ there. there ≡ place_moved by place.now) }
 {
@@ -56,7 +56,7 @@ pub fn moved(place: &Place, by: u32) -> Result<Place, AllocError>
     }
 }
 
-/// A number of 32 bits. There are never so many items that it refuses.
+/// A number of 32 bits. It never refuses, since there are fewer items.
 pub fn number(count: usize) -> Result<u32, AllocError>
     ensures same { IfOk result (λ n. n ≡ count) }
     ensures refused { OnErr result (2 ^ 32 ≤ count) }

@@ -8,7 +8,7 @@ use std::alloc::{AllocError, Global};
 use std::marker::Model;
 use std::sync::Arc;
 
-/// The start of some paths, and the texts that may stand behind it, which places of one type share.
+/// The start of some paths, and the texts that may follow it, which places of one type share.
 #[derive(Debug, Drop)]
 pub struct Prefix {
     start: Path,

@@ -1,4 +1,4 @@
-//! What stands in a network under each name.
+//! What each name means in a network.
 ghost use Rattle.std.specs.Prelude.{◌≡◌, List, ℕ, OnOk};
 ghost use Rattle.std.specs.BTreeMap.{get};
 ghost use Rattle.fb_tree.specs.Text.Order.{name_cmp};
@@ -29,7 +29,7 @@ impl Drop for Standing {
 /// The first instance of each name.
 pub type Table = BTreeMap<Name, Standing>;
 
-/// Puts an instance into the table, unless one of its name stands there.
+/// Puts an instance into the table, unless there is one of its name.
 pub fn put(table: &mut Table, instance: &Instance, borders: Vec<Edge>) -> Result<(), AllocError>
     ensures { OnOk result
         ((name : List ℕ) → get name_cmp table.new name

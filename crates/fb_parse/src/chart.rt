@@ -28,7 +28,7 @@ fn bracketed(alloc: Global, tokens: &mut Tokens<'_>) -> Result<Expr, Stop>
     Ok(test)
 }
 
-/// An expression behind `&` or `AND`.
+/// An expression after `&` or `AND`.
 #[tactic(auto, unfolding(crate::specs::Chart::joined_test))]
 fn joined_test(alloc: Global, tokens: &mut Tokens<'_>) -> Result<Expr, Stop>
     ensures { Gives expression_tree result tokens.new (read joined_test tokens.old) }
@@ -37,7 +37,7 @@ fn joined_test(alloc: Global, tokens: &mut Tokens<'_>) -> Result<Expr, Stop>
     expression(alloc, tokens)
 }
 
-/// What is tested when an event comes, where it is written.
+/// What is tested when an event comes, if it is written.
 #[tactic(auto, unfolding(crate::specs::Chart::optional_test, crate::specs::Chart::bracketed, crate::specs::Chart::joined_test))]
 fn optional_test(alloc: Global, tokens: &mut Tokens<'_>) -> Result<Option<Expr>, Stop>
     ensures { Gives (option_map expression_tree) result tokens.new (read optional_test tokens.old) }

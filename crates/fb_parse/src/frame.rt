@@ -16,7 +16,7 @@ use fb_structured_text::grammar::{Kind, Reader, Stop, Tokens, key, name, several
 use fb_tree::text::NameUse;
 use std::alloc::Global;
 
-/// What sections stand in.
+/// The sort of declaration that has the sections.
 #[derive(Clone, Copy)]
 pub enum Frame {
     Block,
@@ -50,7 +50,7 @@ impl Reader for SectionReader {
     }
 }
 
-/// A name, and what the sections behind it hold.
+/// A name, and what the sections after it hold.
 #[derive(Drop)]
 pub struct Named {
     pub name: NameUse,

@@ -22,8 +22,8 @@ use fb_network::{Flat, Link};
 use std::alloc::{AllocError, Global};
 use std::marker::Model;
 
-/// The links between resources, and the commands of each resource, in the order of the text. What they are about are numbers of blocks and
-/// links of the flat network, with which the plan shares its tables.
+/// The links between resources, and the commands of each resource, in the order of the text. They refer to blocks and
+/// links of the flat network by number, and share its tables.
 #[derive(Debug)]
 pub struct Plan {
     flat: Flat,

@@ -13,7 +13,7 @@ use fb_tree::text::NameUse;
 use fb_tree::{Constant, Event, Section, Side, Variables};
 use std::alloc::Global;
 
-/// The names behind WITH, where it is written.
+/// The names after WITH, if it is written.
 #[tactic(auto, unfolding(crate::specs::Interface::with_names))]
 fn with_names(alloc: Global, tokens: &mut Tokens<'_>) -> Result<Vec<NameUse>, Stop>
     ensures { Gives (λ names. names.items) result tokens.new (read with_names tokens.old) }
@@ -80,7 +80,7 @@ pub fn events(alloc: Global, tokens: &mut Tokens<'_>) -> Result<Vec<Event>, Stop
     }
 }
 
-/// The initial value, where one is written.
+/// The initial value, if one is written.
 #[tactic(auto, unfolding(crate::specs::Interface::initial))]
 fn initial(alloc: Global, tokens: &mut Tokens<'_>) -> Result<Option<Constant>, Stop>
     ensures { Gives (option_map constant_tree) result tokens.new (read initial tokens.old) }

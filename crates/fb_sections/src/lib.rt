@@ -1,8 +1,8 @@
 //! Reading the sections of declarations (IEC 61499-1, annex B): events, variables, instances,
 //! connections, states, and the parts of systems.
 //!
-//! Each function reads one section from the prefix of the tokens, and gives it with the tokens behind
-//! it, or the tokens from the first one that does not go on.
+//! Each function reads one section from the beginning of the tokens, and gives it with the tokens after
+//! it, or the tokens from the first one that does not continue.
 #![tactic(auto)]
 
 mod chart;

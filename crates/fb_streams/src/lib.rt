@@ -1,4 +1,4 @@
-//! Where the bytes of lines come from and where they go: readers and writers that tell what they gave and took.
+//! Where the bytes of lines come from and where they go: readers and writers of which contracts see what they gave and took.
 #![tactic(auto)]
 
 mod feed;

@@ -1,4 +1,4 @@
-//! A sink in memory, which fails when it is told to.
+//! A sink in memory, which fails on request.
 ghost use Rattle.std.specs.Prelude.{◌≡◌, ◌≤◌, ◌<◌, [], true, false};
 
 use crate::feed::{Sink, StreamError};

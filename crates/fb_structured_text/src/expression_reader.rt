@@ -48,7 +48,7 @@ fn flat_primary(alloc: Global, tokens: &mut Tokens<'_>) -> Result<Expr, Stop>
     Ok(flat_reference(alloc, tokens)?.expression())
 }
 
-/// An expression in parentheses, with so many levels below it.
+/// An expression in parentheses, which may nest `below` levels.
 #[cycle(expression)]
 #[tactic(auto, unfolding(crate::specs::Expression::parenthesized))]
 fn parenthesized(alloc: Global, below: u8, tokens: &mut Tokens<'_>) -> Result<Expr, Stop>
@@ -61,7 +61,7 @@ fn parenthesized(alloc: Global, below: u8, tokens: &mut Tokens<'_>) -> Result<Ex
     Ok(Expr::Parentheses(Box::new(alloc, inner)?, span))
 }
 
-/// An operand, with so many levels below it.
+/// An operand, which may nest `left` levels.
 #[cycle(expression)]
 fn primary(alloc: Global, left: u8, tokens: &mut Tokens<'_>) -> Result<Expr, Stop>
     ensures { Gives expression_tree result tokens.new (read (primary left) tokens.old) }
@@ -73,7 +73,7 @@ fn primary(alloc: Global, left: u8, tokens: &mut Tokens<'_>) -> Result<Expr, Sto
     }
 }
 
-/// An operand whose parts have so many levels below them.
+/// An operand whose parts may nest `below` levels.
 #[cycle(expression)]
 #[tactic(auto, unfolding(crate::specs::Expression::deep_primary))]
 fn deep_primary(alloc: Global, below: u8, tokens: &mut Tokens<'_>) -> Result<Expr, Stop>
@@ -97,7 +97,7 @@ fn variable_operand(alloc: Global, below: u8, tokens: &mut Tokens<'_>) -> Result
     Ok(deep_reference(alloc, below, tokens)?.expression())
 }
 
-/// A name, perhaps with subscripts that have so many levels below them.
+/// A name, perhaps with subscripts that may nest `below` levels.
 #[cycle(expression)]
 #[tactic(auto, unfolding(crate::specs::Expression::deep_part, crate::specs::Expression::subscripts))]
 fn deep_part(alloc: Global, below: u8, tokens: &mut Tokens<'_>) -> Result<Part, Stop>
@@ -140,7 +140,7 @@ fn further_part(alloc: Global, below: u8, tokens: &mut Tokens<'_>) -> Result<Par
     deep_part(alloc, below, tokens)
 }
 
-/// The names behind the first one.
+/// The names after the first one.
 #[cycle(expression)]
 fn further_parts(alloc: Global, below: u8, tokens: &mut Tokens<'_>) -> Result<Vec<Part>, Stop>
     ensures { GivesEach part_tree result tokens.new
@@ -155,7 +155,7 @@ fn further_parts(alloc: Global, below: u8, tokens: &mut Tokens<'_>) -> Result<Ve
     Ok(parts)
 }
 
-/// A reference whose subscripts have so many levels below them.
+/// A reference whose subscripts may nest `below` levels.
 #[cycle(expression)]
 #[tactic(auto, unfolding(crate::specs::Expression::deep_reference))]
 fn deep_reference(alloc: Global, below: u8, tokens: &mut Tokens<'_>) -> Result<Variable, Stop>
@@ -209,7 +209,7 @@ fn further_expression(alloc: Global, below: u8, tokens: &mut Tokens<'_>) -> Resu
     expression_at(alloc, below, tokens)
 }
 
-/// An operand with a sign before it, where one is written.
+/// An operand, with a sign before it if one is written.
 #[cycle(expression)]
 #[tactic(auto, unfolding(crate::specs::Expression::unary))]
 fn unary(alloc: Global, left: u8, tokens: &mut Tokens<'_>) -> Result<Expr, Stop>
@@ -228,7 +228,7 @@ fn unary(alloc: Global, left: u8, tokens: &mut Tokens<'_>) -> Result<Expr, Stop>
 }
 
 /// An expression with the operators of a strength and of the stronger ones. The first operand is
-/// read once; then rows are built from the strongest operators to the weakest, where one is next.
+/// read once; then rows are built from the strongest operators to the weakest, as far as one is next.
 #[cycle(expression)]
 fn row(alloc: Global, strength: u8, left: u8, tokens: &mut Tokens<'_>) -> Result<Expr, Stop>
     requires { strength ≤ 8 }
@@ -290,7 +290,7 @@ fn next_operand(
     Ok((operator, value))
 }
 
-/// An expression with so many levels below it.
+/// An expression that may nest `left` levels.
 #[cycle(expression)]
 pub fn expression_at(alloc: Global, left: u8, tokens: &mut Tokens<'_>) -> Result<Expr, Stop>
     ensures { Gives expression_tree result tokens.new (read (expression left) tokens.old) }
@@ -306,7 +306,7 @@ pub fn expression(alloc: Global, tokens: &mut Tokens<'_>) -> Result<Expr, Stop>
     expression_at(alloc, LEVELS, tokens)
 }
 
-/// A reference with its subscripts, in an expression or statement with so many levels below it.
+/// A reference with its subscripts, in an expression or statement that may nest `left` levels.
 #[tactic(auto, unfolding(crate::specs::Expression::reference))]
 pub fn reference(alloc: Global, left: u8, tokens: &mut Tokens<'_>) -> Result<Variable, Stop>
     ensures { Gives variable_tree result tokens.new (read (reference left) tokens.old) }

@@ -1,4 +1,4 @@
-//! References: names with points between them, each perhaps with subscripts behind it.
+//! References: names with points between them, each perhaps followed by subscripts.
 ghost use Rattle.fb_grammar.specs.Form.{many};
 ghost use Rattle.fb_grammar.specs.Gives.{Gives, GivesEach};
 ghost use Rattle.fb_grammar.specs.Lexemes.{name_use};
@@ -13,12 +13,12 @@ use fb_tree::text::NameUse;
 use fb_tree::{Expr, Member, Reference};
 use std::alloc::{AllocError, Global};
 
-/// A name of a reference, with the subscripts behind it.
+/// A name of a reference, with the subscripts after it.
 #[derive(Drop)]
 pub struct Part {
     pub name: NameUse,
     pub subscripts: Vec<Expr>,
-    /// Where the bracket of the subscripts ends, or the name where none are written.
+    /// Where the bracket of the subscripts ends, or the name if none are written.
     pub end: u32,
 }
 

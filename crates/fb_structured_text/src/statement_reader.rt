@@ -37,7 +37,7 @@ use fb_tree::text::Place;
 use fb_tree::{Counting, Expr, Stmt};
 use std::alloc::Global;
 
-/// A word with `;` behind it.
+/// A word followed by `;`.
 #[tactic(auto, unfolding(crate::specs::Statement::ended))]
 fn ended(tokens: &mut Tokens<'_>, word: Kind) -> Result<Place, Stop>
     ensures { Gives (λ place. place) result tokens.new (read (as_value place_of (ended word)) tokens.old) }
@@ -47,7 +47,7 @@ fn ended(tokens: &mut Tokens<'_>, word: Kind) -> Result<Place, Stop>
     Ok(first)
 }
 
-/// A word with an expression behind it.
+/// A word followed by an expression.
 #[tactic(auto, unfolding(crate::specs::Statement::announced))]
 fn announced(alloc: Global, word: Kind, left: u8, tokens: &mut Tokens<'_>) -> Result<Expr, Stop>
     ensures { Gives expression_tree result tokens.new (read (announced word (expression left)) tokens.old) }
@@ -122,7 +122,7 @@ fn begins_simple(tokens: &Tokens<'_>) -> bool
     )
 }
 
-/// Statements with so many levels below them.
+/// Statements that may nest `left` levels.
 #[cycle(statement)]
 fn statements_at(alloc: Global, left: u8, tokens: &mut Tokens<'_>) -> Result<Vec<Stmt>, Stop>
     ensures { GivesEach statement_tree result tokens.new (read (many (statement left)) tokens.old) }
@@ -137,7 +137,7 @@ fn statements_at(alloc: Global, left: u8, tokens: &mut Tokens<'_>) -> Result<Vec
     Ok(statements)
 }
 
-/// A statement with so many levels below it.
+/// A statement that may nest `left` levels.
 #[cycle(statement)]
 fn statement(alloc: Global, left: u8, tokens: &mut Tokens<'_>) -> Result<Stmt, Stop>
     ensures { Gives statement_tree result tokens.new (read (statement left) tokens.old) }
@@ -188,7 +188,7 @@ fn enclosed(
     Ok(statements)
 }
 
-/// `ELSE` and what is done behind it; nothing where it is not written.
+/// `ELSE` and what is done after it; nothing if it is not written.
 #[cycle(statement)]
 #[tactic(auto, unfolding(crate::specs::Statement::otherwise))]
 fn otherwise(alloc: Global, below: u8, tokens: &mut Tokens<'_>) -> Result<Vec<Stmt>, Stop>
@@ -201,7 +201,7 @@ fn otherwise(alloc: Global, below: u8, tokens: &mut Tokens<'_>) -> Result<Vec<St
     statements_at(alloc, below, tokens)
 }
 
-/// A condition behind `IF` or `ELSIF`, and what is done where it holds.
+/// A condition after `IF` or `ELSIF`, and what is done if it holds.
 #[cycle(statement)]
 #[tactic(auto, unfolding(crate::specs::Statement::arm))]
 fn arm(
@@ -249,7 +249,7 @@ fn if_statement(alloc: Global, left: u8, tokens: &mut Tokens<'_>) -> Result<Stmt
     Ok(Stmt::If(arms, otherwise))
 }
 
-/// The statements of one case, behind its labels.
+/// The statements of one case, after its labels.
 #[cycle(statement)]
 #[tactic(auto, unfolding(crate::specs::Statement::case))]
 fn case(alloc: Global, below: u8, tokens: &mut Tokens<'_>) -> Result<Vec<Stmt>, Stop>

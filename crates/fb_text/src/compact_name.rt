@@ -12,7 +12,7 @@ use std::alloc::{AllocError, Global};
 use std::marker::Model;
 use std::{fmt, str};
 
-/// A name, in its place where it is short.
+/// A name, which is stored in place if it is short.
 #[derive(Drop)]
 enum Stored {
     Short(ShortName),
@@ -40,7 +40,7 @@ impl Model for CompactName {
     ghost view = { λ n. compact_name n.stored };
 }
 
-// Each name of a declaration takes so many bytes.
+// Each name of a declaration takes this number of bytes.
 const _: () = prove!(size_of::<CompactName>() == 24);
 
 impl CompactName {

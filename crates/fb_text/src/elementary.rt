@@ -4,7 +4,7 @@ ghost use Rattle.fb_text.specs.Elementary.{bit_types, integer_types, is_elementa
 
 use crate::scan::same_word;
 
-/// What the values of a type are, as far as its name tells.
+/// What the values of a type are, as far as its name shows.
 #[derive(Clone, Copy, Debug, PartialEq, Eq)]
 pub enum TypeClass {
     /// Truth values.

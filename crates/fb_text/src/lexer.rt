@@ -13,7 +13,7 @@ use crate::scan::{Piece, next_piece};
 use crate::token::{Span, Token, TokenFault};
 use std::alloc::Global;
 
-/// The tokens of a text, in order. Blanks and comments are none.
+/// The tokens of a text, in order. Blanks and comments are not tokens.
 pub fn tokens(alloc: Global, text: &str) -> Result<Vec<Token>, TokenFault>
     ensures exact { GivesReading result (tokens_of text.now) }
     ensures within { IfOk result (λ tokens. All (λ t. LiesIn text.now t.span) tokens.items) }

@@ -37,7 +37,7 @@ pub struct Name {
     len: u8,
 }
 
-/// A name where it stands.
+/// A name and its place.
 #[derive(Debug)]
 pub struct NameUse {
     pub name: CompactName,
@@ -50,7 +50,7 @@ impl Drop for NameUse {
     }
 }
 
-// Each use of a name in a declaration takes so many bytes.
+// Each use of a name in a declaration takes this number of bytes.
 const _: () = prove!(size_of::<NameUse>() == 32);
 
 impl Model for Name {

@@ -10,7 +10,7 @@ use crate::bytes::{is_line_end, is_quote};
 use crate::scan::Piece;
 use crate::token::TokenKind;
 
-/// Up to where the quotes of each kind open no string. Behind a quote that is not closed on its line no quote of its
+/// Up to where the quotes of each kind open no string. After a quote that is not closed on its line no quote of its
 /// kind opens one before the line's end, so a line is looked through once for each kind.
 #[derive(Clone, Copy)]
 pub struct OpenQuotes {
@@ -52,7 +52,7 @@ impl OpenQuotes {
     }
 }
 
-/// How many bytes go through the closing quote, where one comes before the line's end.
+/// How many bytes go through the closing quote, if one comes before the line's end.
 fn through_quote(quote: u8, bytes: &[u8]) -> Option<usize>
     ensures value { result ≡ through_quote quote false bytes.now }
     ensures within { IfSome result (λ n. n ≤ length bytes.now) }
@@ -70,7 +70,7 @@ fn through_quote(quote: u8, bytes: &[u8]) -> Option<usize>
     None
 }
 
-/// The length of a string, 0 where none stands there.
+/// The length of a string, 0 if there is none.
 #[tactic(auto, unfolding(crate::specs::Scan::string_len))]
 fn string_len(bytes: &[u8]) -> usize
     ensures value { result ≡ string_len bytes.now }
@@ -85,7 +85,7 @@ fn string_len(bytes: &[u8]) -> usize
     }
 }
 
-/// How many bytes stand before the line's end.
+/// How many bytes are before the line's end.
 fn line_rest(bytes: &[u8]) -> usize
     ensures value { result ≡ line_rest bytes.now }
     ensures within { result ≤ length bytes.now }
@@ -93,7 +93,7 @@ fn line_rest(bytes: &[u8]) -> usize
     bytes.iter().take_while(|b| !is_line_end(**b)).count()
 }
 
-/// What stands at a quote: a string, or the quote alone where it is not closed on its line.
+/// What is at a quote: a string, or the quote alone if it is not closed on its line.
 pub fn quoted(text: &str, place: usize, quotes: &mut OpenQuotes) -> Piece
     requires place { place < length text.now }
     requires boundary { IsCharBoundary text.now place }

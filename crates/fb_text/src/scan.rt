@@ -1,4 +1,4 @@
-//! The scanner: what stands at the front of a text, found in one pass over its bytes.
+//! The scanner: what a text begins with, found in one pass over its bytes.
 ghost use Rattle.std.specs.Prelude.{◌≡◌, ℕ, ◌+◌, ◌<◌, ◌≤◌, ◌==◌, not, length, true, false, nat_eq, drop, IfSome, slice_index};
 ghost use Rattle.std.specs.List.{prefix_len};
 ghost use Rattle.std.specs.Str.{continuation_len, IsCharBoundary};
@@ -14,10 +14,10 @@ use crate::bytes::{
 use crate::quotes::{OpenQuotes, quoted};
 use crate::token::TokenKind;
 
-/// What stands at a place of a text.
+/// What is at a place of a text.
 #[derive(Clone, Copy, Debug)]
 pub enum Piece {
-    /// So many bytes of a blank or a comment.
+    /// A blank or a comment of this number of bytes.
     Gap(usize),
     /// A comment that is never closed.
     Unclosed,
@@ -36,7 +36,7 @@ fn sign_len(bytes: &[u8]) -> usize
     }
 }
 
-/// The length of an exponent, 0 where none stands there.
+/// The length of an exponent, 0 if there is none.
 #[tactic(auto, unfolding(crate::specs::Scan::exponent_len))]
 fn exponent_len(bytes: &[u8]) -> usize
     ensures value { result ≡ exponent_len bytes.now }
@@ -51,7 +51,7 @@ fn exponent_len(bytes: &[u8]) -> usize
     if digits == 0 { 0 } else { 1 + sign + digits }
 }
 
-/// The length of digits and an exponent, 0 where no digit stands there.
+/// The length of digits and an exponent, 0 if there is no digit.
 #[tactic(auto, unfolding(crate::specs::Scan::fraction_len))]
 fn fraction_len(bytes: &[u8]) -> usize
     ensures value { result ≡ fraction_len bytes.now }
@@ -135,14 +135,14 @@ fn is_value_byte(date: bool, real: bool, before: u8, b: u8, after: u8) -> bool
             || (real && is_sign(b) && is_exponent_mark(before)))
 }
 
-/// The byte at a place, 0 behind the end.
+/// The byte at a place, 0 past the end.
 fn byte_at(bytes: &[u8], place: usize) -> u8
     ensures { result ≡ slice_index bytes.now place }
 {
     bytes.get(place).copied().unwrap_or(0)
 }
 
-/// The length of a value behind its `#` and sign.
+/// The length of a value after its `#` and sign.
 fn value_len(date: bool, real: bool, bytes: &[u8]) -> usize
     ensures value { result ≡ value_len date real 35 bytes.now }
     ensures within { result ≤ length bytes.now }
@@ -161,7 +161,7 @@ fn value_len(date: bool, real: bool, bytes: &[u8]) -> usize
     len
 }
 
-/// The length of `#` and a value of the type that the word names, 0 where none stands there.
+/// The length of `#` and a value of the type that the word names, 0 if there is none.
 #[tactic(auto, unfolding(crate::specs::Scan::typed_tail_len))]
 fn typed_tail_len(word: &[u8], bytes: &[u8]) -> usize
     ensures value { result ≡ typed_tail_len (is_date word.now) (is_real word.now) bytes.now }
@@ -176,7 +176,7 @@ fn typed_tail_len(word: &[u8], bytes: &[u8]) -> usize
     if value == 0 { 0 } else { 1 + sign + value }
 }
 
-/// The length of `#` and a value behind the word at the front, 0 where none stands there.
+/// The length of `#` and a value after the word at the beginning, 0 if there is none.
 #[tactic(auto, unfolding(crate::specs::Scan::typed_len))]
 pub fn typed_len(bytes: &[u8], word: usize) -> usize
     requires { word ≡ prefix_len is_word_byte bytes.now }
@@ -226,7 +226,7 @@ fn is_symbol_pair(a: u8, b: u8) -> bool
     }
 }
 
-/// The length of the symbol at the front, 0 where none stands there.
+/// The length of the symbol at the beginning, 0 if there is none.
 #[tactic(auto, unfolding(crate::specs::Scan::symbol_len))]
 fn symbol_len(bytes: &[u8]) -> usize
     ensures value { result ≡ symbol_len bytes.now }
@@ -254,7 +254,7 @@ fn char_len(first: u8) -> usize
     }
 }
 
-/// How many bytes stand before the first `*)`, if there is one.
+/// How many bytes are before the first `*)`, if there is one.
 fn before_close(bytes: &[u8]) -> Option<usize>
     ensures value { result ≡ before_close bytes.now }
     ensures within { IfSome result (λ n. n + 2 ≤ length bytes.now) }
@@ -267,7 +267,7 @@ fn before_close(bytes: &[u8]) -> Option<usize>
     None
 }
 
-/// The length of the line at the front, without its end.
+/// The length of the first line, without its end.
 fn line_len(bytes: &[u8]) -> usize
     ensures value { result ≡ prefix_len (λ b. not (b == 10)) bytes.now }
     ensures within { result ≤ length bytes.now }
@@ -275,7 +275,7 @@ fn line_len(bytes: &[u8]) -> usize
     bytes.iter().take_while(|b| **b != b'\n').count()
 }
 
-/// The comment at the front, which begins with `(*`.
+/// The comment at the beginning, which begins with `(*`.
 #[tactic(auto, unfolding(crate::specs::Tokens::comment_at))]
 fn comment(bytes: &[u8]) -> Piece
     requires { 2 ≤ length bytes.now }
@@ -287,7 +287,7 @@ fn comment(bytes: &[u8]) -> Piece
     }
 }
 
-/// The token at the front, where no quote stands there.
+/// The token at the beginning, if that is not a quote.
 fn token(bytes: &[u8]) -> Piece
     requires some { 0 < length bytes.now }
     requires plain { is_quote (slice_index bytes.now 0) ≡ false }
@@ -312,7 +312,7 @@ fn token(bytes: &[u8]) -> Piece
     Piece::Found(TokenKind::Other, char_len(first))
 }
 
-/// What stands at the front of some bytes, where no quote stands there.
+/// What some bytes begin with, if that is not a quote.
 #[tactic(auto, unfolding(crate::specs::Tokens::piece_at))]
 fn scan(bytes: &[u8]) -> Piece
     requires some { 0 < length bytes.now }
@@ -330,7 +330,7 @@ fn scan(bytes: &[u8]) -> Piece
     }
 }
 
-/// What stands at a place of a text. `quotes` keeps what is known of the quotes before the line's end.
+/// What is at a place of a text. `quotes` keeps what is known of the quotes before the line's end.
 pub fn next_piece(text: &str, place: usize, quotes: &mut OpenQuotes) -> Piece
     requires place { place < length text.now }
     requires boundary { IsCharBoundary text.now place }

@@ -87,7 +87,7 @@ impl ShortName {
 }
 
 impl Name {
-    /// The name as a short one, where it has at most 22 bytes.
+    /// The name as a short one, if it has at most 22 bytes.
     pub fn shortened(&self) -> Option<ShortName>
         ensures { result ≡ shortened self.now }
     {

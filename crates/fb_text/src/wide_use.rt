@@ -25,7 +25,7 @@ impl Model for WideUse {
 }
 
 impl WideUse {
-    /// A name that stands at a place.
+    /// A name at a place.
     pub fn new(name: Name, span: Place) -> WideUse
         ensures { result ≡ record { name = name; span = span } }
     {
@@ -49,7 +49,7 @@ impl WideUse {
         &self.name
     }
 
-    /// Where it stands.
+    /// Its place.
     pub fn place(&self) -> Place
         ensures { result ≡ self.now.span }
     {

@@ -93,7 +93,7 @@ pub struct Chart {
     pub states: Vec<State>,
     pub transitions: Vec<Transition>,
     pub algorithms: Vec<Algorithm>,
-    /// A section of states stood there, an empty one too.
+    /// There was a section of states, perhaps an empty one.
     pub is_written: bool,
 }
 

@@ -21,7 +21,7 @@ pub enum LiteralForm {
     Truth,
 }
 
-/// A literal where it stands. In a constant the span takes in the sign.
+/// A literal and its place. In a constant the span takes in the sign.
 #[derive(Clone, Copy, Debug)]
 pub struct Literal {
     pub form: LiteralForm,
@@ -44,7 +44,7 @@ impl Drop for Simple {
 }
 
 impl Simple {
-    /// Where it stands in its text.
+    /// Its place in its text.
     pub fn span(&self) -> Span
         ensures { result ≡ value_span self.now }
     {
@@ -71,7 +71,7 @@ impl Drop for Constant {
 }
 
 impl Constant {
-    /// Where it stands in its text.
+    /// Its place in its text.
     pub fn span(&self) -> Span
         ensures { result ≡ constant_span (constant_tree self.now) }
     {

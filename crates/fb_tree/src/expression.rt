@@ -4,7 +4,7 @@ use crate::constant::Literal;
 use crate::reference::Reference;
 use fb_text::{NameUse, Place};
 
-/// What stands before an operand.
+/// An operator before an operand.
 #[derive(Clone, Copy, Debug, PartialEq, Eq)]
 pub enum UnaryOperator {
     Plus,
@@ -12,7 +12,7 @@ pub enum UnaryOperator {
     Not,
 }
 
-/// What stands between two operands. `&` is `And`.
+/// An operator between two operands. `&` is `And`.
 #[derive(Clone, Copy, Debug, PartialEq, Eq)]
 pub enum BinaryOperator {
     Or,
@@ -32,14 +32,14 @@ pub enum BinaryOperator {
     Power,
 }
 
-/// An operator where it stands.
+/// An operator and its place.
 #[derive(Clone, Copy, Debug)]
 pub struct UnaryUse {
     pub operator: UnaryOperator,
     pub span: Place,
 }
 
-/// An operator where it stands.
+/// An operator and its place.
 #[derive(Clone, Copy, Debug)]
 pub struct BinaryUse {
     pub operator: BinaryOperator,

@@ -10,7 +10,7 @@ pub enum Side {
     Output,
 }
 
-/// An event with its type, where one is written, and the names behind `WITH`.
+/// An event with its type, if one is written, and the names after `WITH`.
 #[derive(Debug)]
 pub struct Event {
     pub side: Side,
@@ -30,7 +30,7 @@ impl Drop for Event {
     }
 }
 
-/// The section in which a variable stands.
+/// The section of a variable.
 #[derive(Clone, Copy, Debug, PartialEq, Eq)]
 pub enum Section {
     Input,
@@ -48,7 +48,7 @@ pub enum TypeForm {
     Array,
 }
 
-/// A type where it is used. The name is that of the elements where it is an array.
+/// A type at the place where it is used. If it is an array, the name is that of the elements.
 #[derive(Debug)]
 pub struct TypeUse {
     pub name: NameUse,
@@ -66,7 +66,7 @@ impl Drop for TypeUse {
     }
 }
 
-// Each type that a declaration uses takes so many bytes.
+// Each type that a declaration uses takes this number of bytes.
 const _: () = prove!(size_of::<TypeUse>() == 48);
 
 /// Variables that are declared together.
@@ -89,7 +89,7 @@ impl Drop for Variables {
     }
 }
 
-/// The events and the variables of a type, internal variables among them. Plugs and sockets stand in its network, with the instances,
+/// The events and the variables of a type, internal variables among them. Plugs and sockets are in its network, with the instances,
 /// whose name space they share.
 #[derive(Debug)]
 pub struct Interface {

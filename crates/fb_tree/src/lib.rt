@@ -1,6 +1,6 @@
 //! Trees of declarations: what the text of a unit declares, with the place of each name, operator and condition.
 //!
-//! Items stand in the order of the text, and those of one name space stand in one list. A contract sees a tree without where it lies
+//! Items are in the order of the text, and those of one name space in one list. A contract sees a tree without its addresses
 //! in memory, as `specs/Tree.antt` has it.
 #![tactic(auto)]
 

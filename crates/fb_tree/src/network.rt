@@ -3,7 +3,7 @@
 use crate::constant::Constant;
 use fb_text::NameUse;
 
-/// The section in which an instance stands.
+/// The section of an instance.
 #[derive(Clone, Copy, Debug, PartialEq, Eq)]
 pub enum Role {
     Plug,
@@ -84,7 +84,7 @@ impl Drop for Connection {
     }
 }
 
-// Each connection takes so many bytes.
+// Each connection takes this number of bytes.
 const _: () = prove!(size_of::<Connection>() == 152);
 
 /// Plugs, sockets and instances in one list, and the connections.
@@ -92,7 +92,7 @@ const _: () = prove!(size_of::<Connection>() == 152);
 pub struct Network {
     pub instances: Vec<Instance>,
     pub connections: Vec<Connection>,
-    /// A section of block instances or of connections stood there, an empty one too.
+    /// There was a section of block instances or of connections, perhaps an empty one.
     pub is_written: bool,
 }
 

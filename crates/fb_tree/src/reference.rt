@@ -6,7 +6,7 @@ ghost use Rattle.fb_tree.specs.Reference.{first_use, further_names};
 use fb_text::{Name, NameUse, Place};
 use std::alloc::{AllocError, Global};
 
-/// A further name of a reference, with how many subscripts stand behind it.
+/// A further name of a reference, with the number of its subscripts.
 #[derive(Debug)]
 pub struct Member {
     pub name: NameUse,
@@ -26,7 +26,7 @@ impl Drop for Member {
 #[derive(Debug)]
 pub enum ReferenceNames {
     One(NameUse),
-    /// The first name, and the names behind it.
+    /// The first name, and the names after it.
     Members(Box<(NameUse, Vec<Member>)>),
 }
 
@@ -38,12 +38,12 @@ impl Drop for ReferenceNames {
     }
 }
 
-/// One or more names with points between them, and how many subscripts stand behind each. The
-/// subscripts of all names stand beside it in one list, in the order of the text.
+/// One or more names with points between them, and how many subscripts follow each. The
+/// subscripts of all names are beside it in one list, in the order of the text.
 #[derive(Debug)]
 pub struct Reference {
     pub names: ReferenceNames,
-    /// How many subscripts stand behind the first name.
+    /// How many subscripts follow the first name.
     pub subscripts: usize,
     /// From the first name through the last name or bracket.
     pub span: Place,
@@ -59,11 +59,11 @@ impl Drop for Reference {
     }
 }
 
-// Each variable that a text uses takes so many bytes.
+// Each variable that a text uses takes this number of bytes.
 const _: () = prove!(size_of::<Reference>() == 56);
 
 impl ReferenceNames {
-    /// The first name, and the names behind it.
+    /// The first name, and the names after it.
     fn keep(
         alloc: Global,
         first: NameUse,
@@ -80,8 +80,8 @@ impl ReferenceNames {
 }
 
 impl Reference {
-    /// A reference of a name with so many subscripts and of the names behind it, which reaches to
-    /// an end.
+    /// A reference of a name with this number of subscripts and of the names after it, which ends at
+    /// a place.
     pub fn new(
         alloc: Global,
         name: NameUse,
@@ -105,7 +105,7 @@ impl Reference {
         })
     }
 
-    /// The first name where it stands.
+    /// The first name and its place.
     fn first(&self) -> &NameUse
         ensures { result.now ≡ (reference_tree self.now).name }
     {
@@ -115,7 +115,7 @@ impl Reference {
         }
     }
 
-    /// Where the first name stands.
+    /// The place of the first name.
     pub fn name_span(&self) -> Place
         ensures { result ≡ (reference_tree self.now).name.span }
     {
@@ -129,7 +129,7 @@ impl Reference {
         self.first().name.name()
     }
 
-    /// The names behind the first one, in the order of the text.
+    /// The names after the first one, in the order of the text.
     pub fn members(&self) -> &[Member]
         ensures { result.now ≡ (reference_tree self.now).members }
     {

@@ -32,9 +32,9 @@ pub enum Stmt {
     Assign(Box<Reference>, Vec<Expr>, Place, Expr),
     Exit,
     Return,
-    /// Each condition with what is done, and what is done behind `ELSE`.
+    /// Each condition with what is done, and what is done after `ELSE`.
     If(Vec<(Expr, Vec<Stmt>)>, Vec<Stmt>),
-    /// The selector, the statements of all cases, and those behind `ELSE`.
+    /// The selector, the statements of all cases, and those after `ELSE`.
     Case(Expr, Vec<Stmt>, Vec<Stmt>),
     /// How it counts, and the body.
     For(Box<Counting>, Vec<Stmt>),

@@ -3,7 +3,7 @@
 use crate::interface::Variables;
 use fb_text::NameUse;
 
-/// The declaration of a structure. The fields stand in the order of the text.
+/// The declaration of a structure. The fields are in the order of the text.
 #[derive(Debug)]
 pub struct Structure {
     pub name: NameUse,

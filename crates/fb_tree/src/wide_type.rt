@@ -35,7 +35,7 @@ impl WideTypeUse {
         }
     }
 
-    /// The name of the type, that of the elements where it is an array.
+    /// The name of the type, or that of the elements if it is an array.
     pub fn name(&self) -> &Name
         ensures { result.now ≡ self.now.name.name }
     {
@@ -49,7 +49,7 @@ impl WideTypeUse {
         self.form
     }
 
-    /// Where the type stands.
+    /// The place of the type.
     pub fn place(&self) -> Place
         ensures { result ≡ self.now.span }
     {

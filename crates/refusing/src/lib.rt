@@ -1,6 +1,6 @@
 //! Calls of which each allocation is refused in turn.
 //!
-//! What refuses them, `tools/refuse` puts before the tests: there a request of a size that nobody can have says which allocation of this
+//! `tools/refuse` preloads the library that refuses them: there a request of a size that nobody can have says which allocation of this
 //! thread is refused. In a run without it none is refused, and each call is made once, with ample memory.
 #![tactic(auto)]
 
@@ -12,13 +12,13 @@ use std::test::Fail;
 /// A size that nobody can have.
 const NOBODY: usize = 1 << 62;
 
-/// A size that nobody asks for: it is had where no allocation was refused since the last request that nobody can have.
+/// A size that nobody asks for: it is given if no allocation was refused since the last request that nobody can have.
 const QUESTION: usize = 61_499_001;
 
-/// No call that is tried makes so many allocations.
+/// No call that is tried makes this number of allocations.
 const MOST: u32 = 100_000;
 
-/// Has the allocation of this number from here on be refused, counted from 1; none where it is 0.
+/// Lets the allocation of this number from here on be refused, counted from 1; none if it is 0.
 pub fn refuse(alloc: Global, number: u32) {
     let _ = Vec::<u8>::with_capacity(alloc, NOBODY + number as usize);
 }
@@ -32,16 +32,16 @@ pub fn was_refused(alloc: Global) -> bool {
 
 /// A call with all that it is made on.
 pub trait Trial: Drop {
-    /// Which call it is, where there are several, and what is lent to it.
+    /// Which call it is, if there are several, and what is lent to it.
     type Setting: Copy;
 
-    /// What the call is made on, anew.
+    /// What the call is made on, made new.
     fn new(alloc: Global, setting: Self::Setting) -> Result<Self, Fail>;
 
     /// Makes the call, and keeps its answer. Whether it found the memory that it wants.
     fn call(&mut self, alloc: Global) -> bool;
 
-    /// In words, all that can be read of what the call was made on, and of its answer where there is one.
+    /// In words, all that can be read of what the call was made on, and of its answer if there is one.
     fn told(&self, alloc: Global) -> Result<String, Fail>;
 }
 
@@ -52,7 +52,7 @@ pub struct Refusals {
     pub memory: u32,
 }
 
-/// What the call tells with ample memory.
+/// What can be read after the call with ample memory.
 fn ample<T: Trial>(alloc: Global, setting: T::Setting) -> Result<String, Fail> {
     let mut trial = T::new(alloc, setting)?;
     if !trial.call(alloc) {

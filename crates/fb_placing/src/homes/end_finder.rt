@@ -51,7 +51,7 @@ impl<'a, 't> EndFinder<'a, 't> {
         }
     }
 
-    /// The home of the end whose path was not looked for before. Where no block stands inside another one, it is that of the block in front
+    /// The home of an end whose path was not looked up just before. If no block is inside another one, it is that of the block before
     /// the last point, which is kept.
     fn look_up(&mut self) -> Result<Option<&'a Path>, AllocError>
         ensures homes { self.new.homes.now ≡ self.old.homes.now }

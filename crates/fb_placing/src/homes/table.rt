@@ -1,5 +1,5 @@
 //! Homes by the paths of blocks, none of which is copied.
-//! `nearest_spot` reads borrowed texts, and `nearest` of `fb_network` owned ones: a trait for both would be longer than their nine commands.
+//! `nearest_home` reads borrowed texts, and `nearest` of `fb_network` owned ones: a trait for both would be longer than their nine statements.
 ghost use Rattle.std.specs.Prelude.{◌≡◌, ℕ, List, IfOk, IsTrue, OnOk, Some, None, if◌then◌else◌, option_copied};
 ghost use Rattle.std.specs.Option.{option_or};
 ghost use Rattle.std.specs.Str.{bytes_eq};
@@ -17,7 +17,7 @@ use std::collections::HashMap;
 /// Resources by the paths of the blocks that are on them.
 pub(crate) type ByPath<'a> = HashMap<&'a str, &'a Path>;
 
-/// The same, and whether no block of these stands inside another one.
+/// The same, and whether no block of these is inside another one.
 #[derive(Drop)]
 pub(crate) struct HomeTable<'a> {
     pub by_path: ByPath<'a>,

@@ -26,7 +26,7 @@ pub(crate) struct Resolved<'a> {
     pub instance: &'a Instance,
 }
 
-/// Finds what stands at the paths of a system. It keeps tables of the instances that it looked among, and what stands at one path: the
+/// Finds what is at the paths of a system. It keeps tables of the instances that it looked among, and what is at one path: the
 /// instances of one type often come one after another.
 #[derive(Drop)]
 pub(crate) struct Resolver<'a, V: View> {
@@ -263,7 +263,7 @@ impl<'a, V: View> Resolver<'a, V> {
         }
     }
 
-    /// The instance at a path. What stands in front of its last name is kept for the next path.
+    /// The instance at a path. What is at the path before its last name is kept for the next path.
     pub(crate) fn resolve(&mut self, path: &str) -> Result<Option<Resolved<'a>>, AllocError>
         ensures same { self.new ≡ self.old }
         ensures found { IfOk result

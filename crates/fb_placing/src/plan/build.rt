@@ -116,7 +116,7 @@ fn resources_with_commands(
     resources_of_commands(alloc, &commands, names)
 }
 
-/// The commands of commands.
+/// The commands without their places and resources.
 fn command_texts(alloc: Global, placed: Vec<PlacedCommand>) -> Result<Vec<Command>, AllocError>
     ensures { IfOk result (λ commands. commands.items ≡ map (λ l. l.command) placed.items) }
 {
