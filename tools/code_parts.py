@@ -86,7 +86,7 @@ def crates():
 
 HEAD = re.compile(r"( *)(pub(?:\([\w ]+\))? )?(?:const )?fn (\w+)")
 BLOCK = re.compile(r"(?:pub )?(?:impl(?:<[^>]*>)? (?:([\w:]+)(?:<.*>)? for )?&?(?:'\w+ )?(\w+)|trait (\w+))")
-USE = re.compile(r"ghost use ([\w.]+)\.\{(.*)\};")
+USE = re.compile(r"(?:pub |ghost )?use ([\w.]+)\.\{(.*)\};?$")
 
 
 def head_at(lines, at, indent):
@@ -112,11 +112,28 @@ def end_of_body(lines, at, indent):
     return len(lines)
 
 
-def imported(line, into):
+def listed(module, items):
+    """The names in the braces of an import, each with its module: `M.{a}` is the name `a` of the module M below this one."""
+    depth, item = 0, ""
+    for letter in items + ",":
+        depth += (letter == "{") - (letter == "}")
+        if letter != "," or depth:
+            item += letter
+            continue
+        inner = re.match(r"\s*([\w.]+)\.\{(.*)\}\s*$", item)
+        yield from listed(f"{module}.{inner[1]}", inner[2]) if inner else [(module, item.strip())]
+        item = ""
+
+
+def imports_in(line):
+    """The names that a line imports, each with its module."""
     use = USE.match(line.strip())
-    if use:
-        for name in use[2].split(","):
-            into[name.strip()] = use[1]
+    return list(listed(use[1], use[2])) if use else []
+
+
+def imported(line, into):
+    for module, name in imports_in(line):
+        into[name] = module
 
 
 def function_at(lines, at, place):

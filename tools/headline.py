@@ -31,7 +31,7 @@ SECTIONS = (
 )
 ITEM = re.compile(r"(?:abbrev |unfoldable )?(?:pub )?(record |data )?([^\s:(){}]+)(?= ?[:({]| :)")
 WORD = re.compile(r"(?<![\w'.])((?:[A-Za-z_][\w'-]*\.)*[A-Za-z_][\w'-]*|◌[^\s◌]+◌)")
-USE = re.compile(r"(?:pub )?use ([\w.]+?)(?:\.\{(.*)\}| as (\w+))?$")
+MODULE = re.compile(r"(?:pub )?use ([\w.]+)(?: as (\w+))?$")
 MUTUAL = re.compile(r"(?:abbrev |unfoldable )?mutual$")
 WORDS = {"abbrev", "pub", "record", "data", "where", "let", "in", "if", "then", "else", "Type", "use", "unfoldable", "module", "λ"}
 
@@ -61,14 +61,11 @@ def imports(lines):
     """The names that a file of specs takes from others, and the modules under other names."""
     names, modules = {}, {}
     for line in lines:
-        if not (use := USE.match(line.strip())):
-            continue
-        if use[2] is None:
-            modules[use[3] or use[1].split(".")[-1]] = use[1]
-            continue
-        for it in use[2].split(","):
-            name, _, other = it.strip().partition(" as ")
-            names[other or name] = (use[1], name)
+        if whole := MODULE.match(line.strip()):
+            modules[whole[2] or whole[1].split(".")[-1]] = whole[1]
+        for path, it in parts.imports_in(line):
+            name, _, other = it.partition(" as ")
+            names[other or name] = (path, name)
     return names, modules
 
 
