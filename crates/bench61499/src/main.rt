@@ -6,14 +6,11 @@ use fb_program::wire::{FromRead, IntoWrite};
 use fb_program::{
     HostSettings, Outcome, ServerSettings, refuse_secret, refuse_words, run, secret_in,
 };
-use fb_serve::{ServerConfig, serve};
+use fb_serve::{ServerConfig, TURNS, serve};
 use std::alloc::{AllocError, Global};
 use std::process::ExitCode;
 use std::sync::Mutex;
 use std::{env, fs, io};
-
-/// How many reads a run may make.
-const TURNS: u64 = 1_000_000_000;
 
 fn texts<'a>(alloc: Global, words: &'a [String]) -> Result<Vec<&'a str>, AllocError> {
     let mut texts = Vec::new(alloc);

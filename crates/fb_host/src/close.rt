@@ -1,13 +1,14 @@
 //! The close of a host.
 ghost use Rattle.std.specs.Prelude.{◌≡◌, IfOk, true, nat_lt};
 ghost use Rattle.fb_locked.specs.Book.{IsBookOf};
-ghost use Rattle.fb_locked.specs.Closing.{IsLeast, lesser_of, receipts_of};
+ghost use Rattle.fb_locked.specs.Closing.{IsLeast, receipts_of};
 ghost use Rattle.fb_locked.specs.History.BenchView.{turns_of};
 ghost use Rattle.fb_serve.specs.Shown.{ShowsAll};
 ghost use Rattle.fb_host.specs.Short.{is_short};
 
 use crate::receipt_store::ReceiptStore;
 use crate::threads::Results;
+use fb_locked::lesser;
 use fb_serve::{NotServed, Served};
 use fb_shared::bench::Bench;
 use fb_shared::{Receipt, Shared};
@@ -70,15 +71,4 @@ fn count_of(receipts: &[Receipt], caller: u32) -> u64
         .iter()
         .filter(|receipt| receipt.caller() == caller)
         .count() as u64
-}
-
-/// The caller, if it is wrong and below the one that was found, and else that one.
-fn lesser(least: Option<u32>, caller: u32, wrong: bool) -> Option<u32>
-    ensures { result ≡ lesser_of least caller wrong }
-{
-    match least {
-        _ if !wrong => least,
-        None => Some(caller),
-        Some(other) => Some(caller.min(other)),
-    }
 }

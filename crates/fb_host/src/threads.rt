@@ -7,7 +7,7 @@ use crate::connection::{Connection, ConnectionReader};
 use crate::connection_queue::ConnectionQueue;
 use crate::receipt_store::ReceiptStore;
 use crate::session::{SessionResult, give_back_all, run_host_session};
-use fb_serve::{CallerState, keep_working, pause, say_error};
+use fb_serve::{CallerState, TURNS, keep_working, pause, say_error};
 use fb_shared::{Seat, Shared, WorkEnd};
 use fb_wire::{FromRead, IntoWrite, RunEnd, error_of};
 use std::alloc::Global;
@@ -17,9 +17,6 @@ use std::sync::{Mutex, Wait};
 use std::thread;
 use std::thread::{JoinHandle, Scope, Threads};
 use std::time::{Clock, Duration};
-
-/// How many reads a session may make.
-const TURNS: u64 = 1_000_000_000;
 
 /// How many looks a worker makes before its receipts go to the store.
 const BATCH: u64 = 64;

@@ -81,7 +81,7 @@ fn is_beyond(bench: &Bench, callers: u32, caller: u32) -> bool
 }
 
 /// The caller, if it is wrong and below the one that was found, and else that one.
-fn lesser(least: Option<u32>, caller: u32, wrong: bool) -> Option<u32>
+pub fn lesser(least: Option<u32>, caller: u32, wrong: bool) -> Option<u32>
     ensures { result ≡ lesser_of least caller wrong }
 {
     match least {

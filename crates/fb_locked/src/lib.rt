@@ -10,6 +10,7 @@ mod resume;
 mod roll;
 mod seat;
 
+pub use callers::lesser;
 pub use close::{CloseError, Closed, NotClosed, close_for};
 pub use locked::{Locked, SharedRefused};
 pub use look::{Look, WorkEnd};

@@ -17,8 +17,8 @@ use std::thread;
 use std::thread::{JoinHandle, Scope, Threads};
 use std::time::Clock;
 
-/// How many reads a session, and how many looks a worker may make.
-const TURNS: u64 = 1_000_000_000;
+/// How many reads a run or a session, and how many looks a worker may make.
+pub const TURNS: u64 = 1_000_000_000;
 
 /// A session that did not reach the end of its input.
 #[derive(Clone, Copy)]

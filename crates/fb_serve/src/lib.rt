@@ -9,6 +9,7 @@ mod session;
 mod worker;
 
 pub use caller_state::{CallerState, Held, forget, give_back_held, hold};
+pub use callers::TURNS;
 pub use say::{greet, say_error};
 pub use server::{Ended, NotServed, Served, ServerConfig, serve, serve_on, serve_sessions};
 pub use session::{Session, run_session};
