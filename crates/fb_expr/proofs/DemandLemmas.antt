@@ -6,7 +6,7 @@ use Rattle.std.proofs.lemmas.Grind.{flat_map-append}
 use Rattle.std.proofs.lemmas.List.Elements.{Contains-append_cases, Contains-append_left, Contains-append_right, Contains-push_cases}
 use Rattle.fb_tree.specs.Text.declared.name.NameUse.{NameUse}
 use Rattle.fb_tree.specs.Text.declared.token.Span.{Span}
-use Rattle.fb_tree.specs.Expression.{ReferenceTree, Expression, literal_expression, reference_expression, unary_expression, row_expression, parentheses, Expressions, no_expressions, expression_then, Operands, no_operands, operand_then}
+use Rattle.fb_tree.specs.Expression.{ReferenceTree, alone_tree, Expression, literal_expression, reference_expression, unary_expression, row_expression, parentheses, Expressions, no_expressions, expression_then, Operands, no_operands, operand_then}
 use Rattle.fb_tree.specs.Statement.{Statement, empty, assignment, exit, return, choice, selection, count, while_loop, repeat_loop, Statements, no_statements, statement_then, Arms, no_arms, arm_then, statements_of}
 use Rattle.fb_tree.specs.Tree.{AlgorithmTree, ChartTree, ConditionTree, always, on_event, guarded, guard, TransitionTree}
 use Rattle.fb_tree.specs.declared.reference.Member.{Member}
@@ -16,7 +16,7 @@ use Rattle.fb_iface.specs.declared.code.Code.TheVariants.{MemberUnknown, Variabl
 use Rattle.fb_iface.specs.declared.fault.Fault.{Fault}
 use Rattle.fb_expr.specs.Charts.{algorithm_faults, expression_faults, faults_in_unit, guard_faults, transition_faults}
 use Rattle.fb_expr.specs.Classes.{pair_class}
-use Rattle.fb_expr.specs.Demands.{Demand, names_field, names_variable, suits_operand, suits_operands, suits_place, assigns, is_field, is_known, is_met, fault_of, referent_through, field_demands, reference_demands, demands_in, row_demands, subscript_demands, demands_at, name_alone, counter_demands, range_demands, assignment_demands, statement_demands, statements_demands, arms_demands, guard_demands, transition_demands, algorithm_demands, chart_demands, IsUnmet, FaultsAreUnmet}
+use Rattle.fb_expr.specs.Demands.{Demand, names_field, names_variable, suits_operand, suits_operands, suits_place, assigns, is_field, is_known, is_met, fault_of, referent_through, field_demands, reference_demands, demands_in, row_demands, subscript_demands, demands_at, counter_demands, range_demands, assignment_demands, statement_demands, statements_demands, arms_demands, guard_demands, transition_demands, algorithm_demands, chart_demands, IsUnmet, FaultsAreUnmet}
 use Rattle.fb_expr.specs.Expressions.{class_in, faults_in, row_faults, subscript_faults}
 use Rattle.fb_expr.specs.Names.{Names, names_of_type}
 use Rattle.fb_expr.specs.References.{is_some_count, reference_faults, referent_of}
@@ -122,8 +122,8 @@ module _ (names : Names) where
 
   in_counter : (name : NameUse) → counter_faults names name ≡ of_all (counter_demands name)
   in_counter name =
-      let counter = suits_place Counter (reference_expression (name_alone name) no_expressions) in
-      joined (reference_demands (name_alone name)) (counter ∷ []) (reference_faults (referent_of names (name_alone name)) name.span) (of_one counter) (in_reference (name_alone name)) (sym (append-nil (of_one counter)))
+      let counter = suits_place Counter (reference_expression (alone_tree name) no_expressions) in
+      joined (reference_demands (alone_tree name)) (counter ∷ []) (reference_faults (referent_of names (alone_tree name)) name.span) (of_one counter) (in_reference (alone_tree name)) (sym (append-nil (of_one counter)))
 
   in_step : (by : Option Expression) → option_map_or (faults_at_place Count names) by [] ≡ of_all (option_map_or (demands_at Count names) by [])
   in_step None = refl

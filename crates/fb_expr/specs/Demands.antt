@@ -4,7 +4,7 @@ use Rattle.std.specs.List.{Contains, flat_map}
 use Rattle.std.specs.Option.{option_map_or}
 use Rattle.fb_tree.specs.Text.declared.name.NameUse.{NameUse}
 use Rattle.fb_tree.specs.Text.declared.token.Span.{Span}
-use Rattle.fb_tree.specs.Expression.{ReferenceTree, Expression, literal_expression, reference_expression, unary_expression, row_expression, parentheses, Expressions, no_expressions, expression_then, Operands, no_operands, operand_then}
+use Rattle.fb_tree.specs.Expression.{ReferenceTree, alone_tree, Expression, literal_expression, reference_expression, unary_expression, row_expression, parentheses, Expressions, no_expressions, expression_then, Operands, no_operands, operand_then}
 use Rattle.fb_tree.specs.Statement.{Statement, empty, assignment, exit, return, choice, selection, count, while_loop, repeat_loop, Statements, no_statements, statement_then, Arms, no_arms, arm_then, statements_of}
 use Rattle.fb_tree.specs.Tree.{AlgorithmTree, ChartTree, ConditionTree, always, on_event, guarded, guard, TransitionTree, TypeTree, block_type}
 use Rattle.fb_tree.specs.declared.expression.BinaryUse.{BinaryUse}
@@ -115,13 +115,9 @@ abbrev mutual
 abbrev pub demands_at : ClassPlace → Names → Expression → List Demand
 demands_at place names e = demands_in names e ++ suits_place place e ∷ []
 
--- a name alone, as a reference
-abbrev pub name_alone : NameUse → ReferenceTree
-name_alone name = record { name = name; subscripts = 0; members = []; span = name.span }
-
 -- the variable of a FOR is one, and a whole number
 abbrev pub counter_demands : NameUse → List Demand
-counter_demands name = names_variable (name_alone name) ∷ suits_place Counter (reference_expression (name_alone name) no_expressions) ∷ []
+counter_demands name = names_variable (alone_tree name) ∷ suits_place Counter (reference_expression (alone_tree name) no_expressions) ∷ []
 
 abbrev pub range_demands : Names → Expression → Expression → Option Expression → List Demand
 range_demands names from to by = demands_at Count names from ++ demands_at Count names to ++ option_map_or (demands_at Count names) by []

@@ -4,15 +4,16 @@ ghost use Rattle.fb_tree.specs.Expression.{alone_tree, expression_tree, expressi
 ghost use Rattle.fb_expr.specs.Classes.{change, combined, pair_class, unary_class};
 ghost use Rattle.fb_expr.specs.Expressions.{class_in, faults_in, row_class, row_faults, subscript_faults};
 ghost use Rattle.fb_expr.specs.Names.{names_in};
-ghost use Rattle.fb_expr.specs.Rules.{class_faults};
+ghost use Rattle.fb_expr.specs.Rules.{allows, class_faults};
+ghost use Rattle.fb_expr.specs.Spans.{span_of};
 ghost use Rattle.fb_expr.specs.Statements.{faults_at_place};
 
 use crate::classes::{broken, changed, operated};
 use crate::names::Names;
-use crate::references::{referred, referred_variable, report_reference};
+use crate::references::{referred, report_name, report_reference};
 use crate::rules::{ClassPlace, report_class};
 use crate::spans::{span_of, span_of_names};
-use fb_iface::{Class, Fault, class_by_form};
+use fb_iface::{Class, Code, Fault, class_by_form, class_of_wide};
 use fb_tree::text::NameUse;
 use fb_tree::{BinaryUse, Expr, Reference, UnaryUse};
 use std::alloc::AllocError;
@@ -61,9 +62,13 @@ pub fn judge_name(
         (found.new.items ≡ found.old.items ++ faults_in (names_in names.entry)
         (reference_expression (alone_tree used.now) no_expressions)) }
 {
-    let referent = referred_variable(names.scope, &used.name.name(), false);
-    report_reference(&referent, used.span.span(), found)?;
-    Ok(referent.class())
+    match names.scope.own().variable(&used.name.name()) {
+        Some(variable) => Ok(class_of_wide(&variable.type_use)),
+        None => {
+            report_name(Code::VariableUnknown, used.span.span(), found)?;
+            Ok(Class::Free)
+        }
+    }
 }
 
 /// The class of a variable with its subscripts.
@@ -119,7 +124,25 @@ pub fn judge_at(
         ++ faults_at_place place (names_in names.entry) (expression_tree expr.now)) }
 {
     let class = judge(names, expr, found)?;
-    report_class(place.is_for(class), span_of(expr), found)
+    report_at(place, class, expr, found)
+}
+
+/// Reports an expression of this class if its place requires another one.
+fn report_at(
+    place: ClassPlace,
+    class: Class,
+    expr: &Expr,
+    found: &mut Vec<Fault>,
+) -> Result<(), AllocError>
+    ensures { OnOk result
+        (found.new.items
+        ≡ found.old.items ++ class_faults (allows place class) (span_of (expression_tree expr.now))) }
+{
+    if place.is_for(class) {
+        Ok(())
+    } else {
+        report_class(false, span_of(expr), found)
+    }
 }
 
 /// The class of a row of operators, from the left, by the class of what is before them.

@@ -70,7 +70,7 @@ pub fn referred(names: Names<'_>, reference: &Reference) -> Referent
 }
 
 /// What a name means alone: a variable of the unit.
-pub fn referred_variable(scope: &Scope, name: &Name, subscripted: bool) -> Referent
+fn referred_variable(scope: &Scope, name: &Name, subscripted: bool) -> Referent
     ensures { result ≡ variable_named (scope_in scope.now) name.now subscripted }
 {
     match scope.own().variable(name) {
@@ -261,7 +261,8 @@ pub fn report_reference(
     }
 }
 
-fn report_name(code: Code, span: Span, found: &mut Vec<Fault>) -> Result<(), AllocError>
+/// Reports a name that does not mean what it should.
+pub fn report_name(code: Code, span: Span, found: &mut Vec<Fault>) -> Result<(), AllocError>
     ensures { OnOk result
         (found.new.items ≡ found.old.items ++ (record { code = code; span = span } ∷ [])) }
 {

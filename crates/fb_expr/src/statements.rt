@@ -1,16 +1,18 @@
 //! The check of statements.
-ghost use Rattle.std.specs.Prelude.{◌≡◌, ◌++◌, OnOk, map, option_map};
+ghost use Rattle.std.specs.Prelude.{◌≡◌, ◌++◌, OnOk, is_some, map, option_map};
 ghost use Rattle.fb_tree.specs.Expression.{alone_tree, expression_tree, expressions_of, no_expressions, reference_expression, reference_tree};
 ghost use Rattle.fb_tree.specs.Statement.{statement_tree, statements_of};
+ghost use Rattle.fb_expr.specs.Classes.{join};
+ghost use Rattle.fb_expr.specs.Expressions.{class_in, faults_in};
 ghost use Rattle.fb_expr.specs.Names.{names_in};
+ghost use Rattle.fb_expr.specs.Rules.{class_faults};
 ghost use Rattle.fb_expr.specs.Statements.{assignment_faults, counter_faults, range_faults, statement_faults, statements_faults};
 
 use crate::classes::joined;
 use crate::expressions::{judge, judge_at, judge_name, judge_reference};
 use crate::names::Names;
-use crate::references::{referred_variable, report_reference};
 use crate::rules::{ClassPlace, report_class};
-use fb_iface::Fault;
+use fb_iface::{Class, Fault};
 use fb_tree::text::{NameUse, Span};
 use fb_tree::{Counting, Expr, Reference, Stmt};
 use std::alloc::AllocError;
@@ -96,8 +98,7 @@ fn report_set(
         (reference_expression (alone_tree name.now) no_expressions) place (expression_tree value.now)) }
 {
     let target = judge_name(names, name, found)?;
-    let value = judge(names, value, found)?;
-    report_class(joined(target, value).is_some(), place, found)
+    report_value(names, target, place, value, found)
 }
 
 /// Reports the faults of an assignment. `place` is that of `:=`.
@@ -116,8 +117,25 @@ fn report_assignment(
         place (expression_tree value.now)) }
 {
     let target = judge_reference(names, variable, subscripts, found)?;
-    let value = judge(names, value, found)?;
-    report_class(joined(target, value).is_some(), place, found)
+    report_value(names, target, place, value, found)
+}
+
+/// Reports the faults of a value that is assigned to a variable of this class. `place` is that of `:=`.
+fn report_value(
+    names: Names<'_>,
+    target: Class,
+    place: Span,
+    value: &Expr,
+    found: &mut Vec<Fault>,
+) -> Result<(), AllocError>
+    ensures { OnOk result
+        (found.new.items
+        ≡ found.old.items ++ (faults_in (names_in names.entry) (expression_tree value.now)
+        ++ class_faults
+        (is_some (join target (class_in (names_in names.entry) (expression_tree value.now)))) place)) }
+{
+    let class = judge(names, value, found)?;
+    report_class(joined(target, class).is_some(), place, found)
 }
 
 /// Reports the faults of how a `FOR` counts.
@@ -144,13 +162,8 @@ fn report_counter(
     ensures { OnOk result
         (found.new.items ≡ found.old.items ++ counter_faults (names_in names.entry) name.now) }
 {
-    let referent = referred_variable(names.scope, &name.name.name(), false);
-    report_reference(&referent, name.span.span(), found)?;
-    report_class(
-        ClassPlace::Counter.is_for(referent.class()),
-        name.span.span(),
-        found,
-    )
+    let class = judge_name(names, name, found)?;
+    report_class(ClassPlace::Counter.is_for(class), name.span.span(), found)
 }
 
 /// Reports the faults of the first value of a `FOR`, its last one, and its step.

@@ -1,5 +1,5 @@
 -- Rules of classes that are broken, by what the list of faults has.
-use Rattle.fb_laws.proofs.Common.{◌≡◌, ℕ, Bool, true, false, List, [], ◌∷◌, Option, Some, refl, sym, ap, ◌∙◌, subst, true≢false, is_some, Contains, NameUse, Span, Expression, reference_expression, no_expressions, Statements, count, TypeTree, block_type, TypeUse, Member, Sources, tree_at, class_of_type, stands_for, meanings_in_type, Class as ValueClass, Fault, DeclaredVariable, expr_faults_of, change, combined, join, Demand, suits_operand, suits_operands, suits_place, assigns, code_of_demand, is_met, name_alone, class_in, Names, names_of_type, allows, ClassPlace, Condition, Count, Counter, Fits, HasClass, of_variable, of_element, of_no_array, of_no_variable, IsRunIn, StandsAt, BreaksRule, at_operator, between_operands, at_subscript, at_guard, at_counter, at_assignment, ClassesAreRight, ExpressionsHaveOneClass, HasBrokenRule, Begins, own, GoesOn, at_end, NamesType}
+use Rattle.fb_laws.proofs.Common.{◌≡◌, ℕ, Bool, true, false, List, [], ◌∷◌, Option, Some, refl, sym, ap, ◌∙◌, subst, true≢false, is_some, Contains, NameUse, Span, Expression, reference_expression, no_expressions, Statements, count, TypeTree, block_type, TypeUse, Member, Sources, tree_at, class_of_type, stands_for, meanings_in_type, Class as ValueClass, Fault, DeclaredVariable, expr_faults_of, change, combined, join, Demand, suits_operand, suits_operands, suits_place, assigns, code_of_demand, is_met, alone_tree, class_in, Names, names_of_type, allows, ClassPlace, Condition, Count, Counter, Fits, HasClass, of_variable, of_element, of_no_array, of_no_variable, IsRunIn, StandsAt, BreaksRule, at_operator, between_operands, at_subscript, at_guard, at_counter, at_assignment, ClassesAreRight, ExpressionsHaveOneClass, HasBrokenRule, Begins, own, GoesOn, at_end, NamesType}
 use Rattle.fb_laws.specs.Classes.{Joins}
 use Rattle.fb_placing.proofs.TableLemmas.{nothing_there}
 use Rattle.fb_deploy.specs.Iface.declared.code.Code.TheVariants.{Class}
@@ -24,16 +24,16 @@ record TypedAlone (d : TypeTree) (name : NameUse) (used : TypeUse) (subscripted 
 nothing_behind : (sources : Sources) (first used : TypeUse) (at_first subscripted : Bool) → GoesOn sources first at_first [] used subscripted → (first ≡ used) × (subscripted ≡ at_first)
 nothing_behind sources first used at_first subscripted at_end = (refl, refl)
 
-typed_alone : (sources : Sources) (d : TypeTree) (name : NameUse) (used : TypeUse) (subscripted : Bool) → NamesType sources d (name_alone name) used subscripted → TypedAlone d name used subscripted
+typed_alone : (sources : Sources) (d : TypeTree) (name : NameUse) (used : TypeUse) (subscripted : Bool) → NamesType sources d (alone_tree name) used subscripted → TypedAlone d name used subscripted
 typed_alone sources d name used subscripted n = by n.first n.at_first n.behind n.begins n.leads
   where
-    by : (first : TypeUse) (at_first : Bool) (behind : List Member) → Begins sources d (name_alone name) first at_first behind → GoesOn sources first at_first behind used subscripted → TypedAlone d name used subscripted
+    by : (first : TypeUse) (at_first : Bool) (behind : List Member) → Begins sources d (alone_tree name) first at_first behind → GoesOn sources first at_first behind used subscripted → TypedAlone d name used subscripted
     by first at_first behind (own v e none) leads =
         let same = nothing_behind sources v.type_use used false subscripted leads in
         record { variable = v; stands = e; type = same.0; none = same.1 }
     by first at_first behind (of_adapter i m a v at is e data_port) leads = let both = at.second in absurd (let no : ⊥ = cc in no)
 
-alone_typed : (sources : Sources) (d : TypeTree) (name : NameUse) (v : DeclaredVariable) → stands_for (meanings_in_type d).variables name.name ≡ Some v → NamesType sources d (name_alone name) v.type_use false
+alone_typed : (sources : Sources) (d : TypeTree) (name : NameUse) (v : DeclaredVariable) → stands_for (meanings_in_type d).variables name.name ≡ Some v → NamesType sources d (alone_tree name) v.type_use false
 alone_typed sources d name v stands = record { first = v.type_use; at_first = false; behind = []; begins = own v stands (λ i m behind at. let both : [] ≡ m ∷ behind = at.second in cc both); leads = at_end }
 
 module _ (sources : Sources) (unit : List ℕ) (d : TypeTree) (declared : tree_at sources unit ≡ Some (block_type d)) where
@@ -41,7 +41,7 @@ module _ (sources : Sources) (unit : List ℕ) (d : TypeTree) (declared : tree_a
   names = names_of_type sources unit d
 
   -- the variable of a FOR, by the class of the name alone
-  counted : (name : NameUse) (a b : Expression) (step : Option Expression) (body : Statements) (c : ValueClass) → IsRunIn d (count name a b step body) → HasClass sources d (reference_expression (name_alone name) no_expressions) c → allows Counter c ≡ false → BreaksRule sources d name.span
+  counted : (name : NameUse) (a b : Expression) (step : Option Expression) (body : Statements) (c : ValueClass) → IsRunIn d (count name a b step body) → HasClass sources d (reference_expression (alone_tree name) no_expressions) c → allows Counter c ≡ false → BreaksRule sources d name.span
   counted name a b step body c runs (of_variable used n) fails =
       let v = typed_alone sources d name used false n in
       at_counter name a b step body v.variable runs v.stands (subst (λ (u : TypeUse). ¬ Fits Counter (class_of_type u)) (sym v.type) (misfits Counter c fails))
@@ -61,8 +61,8 @@ module _ (sources : Sources) (unit : List ℕ) (d : TypeTree) (declared : tree_a
   broken demand (in_place s place x runs asks) class fails =
       in_statement s place x (class_in names x) runs asks (class_of sources unit d declared x) (misfits place (class_in names x) fails) (stands x)
   broken demand (of_counter name a b step body runs) class fails =
-      let name_class = class_in names (reference_expression (name_alone name) no_expressions) in
-      counted name a b step body name_class runs (class_of sources unit d declared (reference_expression (name_alone name) no_expressions)) fails
+      let name_class = class_in names (reference_expression (alone_tree name) no_expressions) in
+      counted name a b step body name_class runs (class_of sources unit d declared (reference_expression (alone_tree name) no_expressions)) fails
   broken demand (of_assignment r subscripts place e runs) class fails =
       let variable = reference_expression r subscripts in
       at_assignment r subscripts place e (class_in names variable) (class_in names e) runs (class_of sources unit d declared variable) (class_of sources unit d declared e) (none_of (Joins (class_in names variable) (class_in names e)) (join (class_in names variable) (class_in names e)) (told_join (class_in names variable) (class_in names e)) (nothing_there (join (class_in names variable) (class_in names e)) fails))
@@ -106,7 +106,7 @@ module _ (sources : Sources) (unit : List ℕ) (d : TypeTree) (declared : tree_a
   unmet_by span (at_guard x c tested has misfit there) = at_place Condition x c span (test x tested) has misfit there
   unmet_by span (in_statement s place x c runs asks has misfit there) = at_place place x c span (in_place s place x runs asks) has misfit there
   unmet_by span (at_counter name a b step body v runs stands_there misfit) =
-      let variable = reference_expression (name_alone name) no_expressions in
+      let variable = reference_expression (alone_tree name) no_expressions in
       record {
         demand = suits_place Counter variable;
         of_type = of_counter name a b step body runs;

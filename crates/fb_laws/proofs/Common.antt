@@ -37,7 +37,7 @@ pub use Rattle.fb_deploy.specs.Parse.Body.{BodyTree, BrokenAt, IsBody, IsBodyIn,
 pub use Rattle.fb_ecc.specs.Charts.{chart_faults, chart_faults_in, ecc_faults_of}
 pub use Rattle.fb_expr.specs.Charts.{expr_faults_of, faults_in_unit}
 pub use Rattle.fb_expr.specs.Classes.{arithmetical, change, class_of_broken, combined, join, logical, operation, pair_class, unary_class, whole}
-pub use Rattle.fb_expr.specs.Demands.{Demand, algorithm_demands, arms_demands, assigns, chart_demands, code_of_demand, counter_demands, demands_at, demands_in, field_demands, guard_demands, is_field, is_known, is_met, name_alone, names_field, names_variable, range_demands, reference_demands, referent_through, row_demands, statement_demands, statements_demands, subscript_demands, suits_operand, suits_operands, suits_place, transition_demands}
+pub use Rattle.fb_expr.specs.Demands.{Demand, algorithm_demands, arms_demands, assigns, chart_demands, code_of_demand, counter_demands, demands_at, demands_in, field_demands, guard_demands, is_field, is_known, is_met, names_field, names_variable, range_demands, reference_demands, referent_through, row_demands, statement_demands, statements_demands, subscript_demands, suits_operand, suits_operands, suits_place, transition_demands}
 pub use Rattle.fb_expr.specs.Expressions.{class_in, row_class}
 pub use Rattle.fb_expr.specs.Names.{Names, names_of_type}
 pub use Rattle.fb_expr.specs.References.{class_of_element, class_of_referent, class_with, data_referent, field_referent, fields_behind, fields_named, is_adapter, is_at_adapter, is_before_port, is_data, is_some_count, member_among, own_referent, port_named, port_referent, referent_of, step, unless_judged, variable_named, walk}
@@ -129,7 +129,7 @@ pub use Rattle.fb_text.specs.Words.{word_len}
 pub use Rattle.fb_text.specs.declared.name.NameFault.{NameFault}
 pub use Rattle.fb_text.specs.declared.token.TokenKind.TheVariants.{Other}
 pub use Rattle.fb_text.specs.declared.token.TokenKind.{TokenKind}
-pub use Rattle.fb_tree.specs.Expression.{Expression, Expressions, Operands, ReferenceTree, expression_then, expressions_of, literal_expression, no_expressions, no_operands, operand_then, operands_of, parentheses, reference_expression, row_expression, unary_expression}
+pub use Rattle.fb_tree.specs.Expression.{Expression, Expressions, Operands, ReferenceTree, alone_tree, expression_then, expressions_of, literal_expression, no_expressions, no_operands, operand_then, operands_of, parentheses, reference_expression, row_expression, unary_expression}
 pub use Rattle.fb_tree.specs.Mentions.{instance_types, types_in, unit_kind_of, value_types, variable_types}
 pub use Rattle.fb_tree.specs.Statement.{Arms, Statement, Statements, arm_then, arms_of, assignment, choice, count, no_arms, no_statements, repeat_loop, selection, statement_then, statements_of, while_loop}
 pub use Rattle.fb_tree.specs.declared.interface.TypeForm.{TypeForm}

@@ -1,5 +1,5 @@
 -- What a statement demands, by what stands in it.
-use Rattle.fb_laws.proofs.Common.{◌≡◌, List, [], ◌∷◌, ◌++◌, Option, Some, None, ◌⊎◌, inl, inr, refl, sym, subst, Contains, option_map_or, Contains-append_cases, Contains-append_left, Contains-append_right, NameUse, Span, ReferenceTree, Expression, reference_expression, Expressions, no_expressions, Statement, assignment, choice, selection, count, while_loop, repeat_loop, Statements, no_statements, statement_then, Arms, no_arms, arm_then, contains_cases, contains_here, contains_later, contains_nothing, contains_single, Demand, names_variable, suits_place, assigns, demands_in, demands_at, name_alone, counter_demands, range_demands, statement_demands, statements_demands, arms_demands, Names, ClassPlace, Condition, Count, Counter, Selector, IsArmOf, first_arm, later_arm, Asks, selector, from, to, by, while_condition, until_condition, HasExpression, in_place, value, this, in_arm, behind_else, in_case, behind_cases, in_for, in_while, in_repeat, IsAmong, in_first_statement, in_later_statement}
+use Rattle.fb_laws.proofs.Common.{◌≡◌, List, [], ◌∷◌, ◌++◌, Option, Some, None, ◌⊎◌, inl, inr, refl, sym, subst, Contains, option_map_or, Contains-append_cases, Contains-append_left, Contains-append_right, NameUse, Span, ReferenceTree, Expression, reference_expression, Expressions, no_expressions, Statement, assignment, choice, selection, count, while_loop, repeat_loop, Statements, no_statements, statement_then, Arms, no_arms, arm_then, contains_cases, contains_here, contains_later, contains_nothing, contains_single, Demand, names_variable, suits_place, assigns, demands_in, demands_at, alone_tree, counter_demands, range_demands, statement_demands, statements_demands, arms_demands, Names, ClassPlace, Condition, Count, Counter, Selector, IsArmOf, first_arm, later_arm, Asks, selector, from, to, by, while_condition, until_condition, HasExpression, in_place, value, this, in_arm, behind_else, in_case, behind_cases, in_for, in_while, in_repeat, IsAmong, in_first_statement, in_later_statement}
 use Rattle.fb_laws.specs.Occurrences.{arm, destination, IsWithin}
 use Rattle.fb_laws.proofs.ExpressionLemmas.{Asked, asked_in, demanded_in}
 
@@ -7,8 +7,8 @@ use Rattle.fb_laws.proofs.ExpressionLemmas.{Asked, asked_in, demanded_in}
 pub data OwnDemand (names : Names) (s : Statement) : Demand → Type 0 where
   inside : {demand : Demand} (x : Expression) → HasExpression s x → Asked names x demand → OwnDemand names s demand
   placed : (place : ClassPlace) (x : Expression) → Asks s place x → OwnDemand names s (suits_place place x)
-  counter : (name : NameUse) (a b : Expression) (step : Option Expression) (body : Statements) → s ≡ count name a b step body → OwnDemand names s (names_variable (name_alone name))
-  counter_class : (name : NameUse) (a b : Expression) (step : Option Expression) (body : Statements) → s ≡ count name a b step body → OwnDemand names s (suits_place Counter (reference_expression (name_alone name) no_expressions))
+  counter : (name : NameUse) (a b : Expression) (step : Option Expression) (body : Statements) → s ≡ count name a b step body → OwnDemand names s (names_variable (alone_tree name))
+  counter_class : (name : NameUse) (a b : Expression) (step : Option Expression) (body : Statements) → s ≡ count name a b step body → OwnDemand names s (suits_place Counter (reference_expression (alone_tree name) no_expressions))
   assigned : (r : ReferenceTree) (subscripts : Expressions) (place : Span) (e : Expression) → s ≡ assignment r subscripts place e → OwnDemand names s (assigns (reference_expression r subscripts) place e)
 
 -- what a statement, or a list of statements, demands
@@ -51,11 +51,11 @@ module _ (names : Names) where
       elim (Contains-append_cases (demands_in names x) (suits_place place x ∷ []) demand c) [ inl h ↦ inside x (in_place place asks) (asked_in names x demand h) | inr h ↦ subst (OwnDemand names s) (contains_single (suits_place place x) demand h) (placed place x asks) ]
 
   of_counter : (name : NameUse) (a b : Expression) (step : Option Expression) (body : Statements) (demand : Demand) → Contains (counter_demands name) demand → OwnDemand names (count name a b step body) demand
-  of_counter name a b step body demand c = by_case (contains_cases (names_variable (name_alone name)) (suits_place Counter (reference_expression (name_alone name) no_expressions) ∷ []) demand c)
+  of_counter name a b step body demand c = by_case (contains_cases (names_variable (alone_tree name)) (suits_place Counter (reference_expression (alone_tree name) no_expressions) ∷ []) demand c)
     where
-      by_case : (names_variable (name_alone name) ≡ demand) ⊎ Contains (suits_place Counter (reference_expression (name_alone name) no_expressions) ∷ []) demand → OwnDemand names (count name a b step body) demand
+      by_case : (names_variable (alone_tree name) ≡ demand) ⊎ Contains (suits_place Counter (reference_expression (alone_tree name) no_expressions) ∷ []) demand → OwnDemand names (count name a b step body) demand
       by_case (inl e) = subst (OwnDemand names (count name a b step body)) e (counter name a b step body refl)
-      by_case (inr h) = subst (OwnDemand names (count name a b step body)) (contains_single (suits_place Counter (reference_expression (name_alone name) no_expressions)) demand h) (counter_class name a b step body refl)
+      by_case (inr h) = subst (OwnDemand names (count name a b step body)) (contains_single (suits_place Counter (reference_expression (alone_tree name) no_expressions)) demand h) (counter_class name a b step body refl)
 
   of_step : (name : NameUse) (a b : Expression) (step : Option Expression) (body : Statements) (demand : Demand) → Contains (step_demands step) demand → OwnDemand names (count name a b step body) demand
   of_step name a b None body demand c = absurd (contains_nothing demand c)
@@ -179,12 +179,12 @@ module _ (names : Names) where
   own_demanded s demand (placed place x asks) =
       place_demanded s place x (suits_place place x) asks (Contains-append_right (demands_in names x) (suits_place place x ∷ []) (suits_place place x) (contains_here (suits_place place x) []))
   own_demanded s demand (counter name a b step body is) =
-      subst (λ (t : Statement). Contains (statement_demands names t) (names_variable (name_alone name))) (sym is)
-      (three_in (counter_demands name) (range_demands names a b step) (statements_demands names body) (names_variable (name_alone name)) (first (contains_here (names_variable (name_alone name)) (suits_place Counter (reference_expression (name_alone name) no_expressions) ∷ []))))
+      subst (λ (t : Statement). Contains (statement_demands names t) (names_variable (alone_tree name))) (sym is)
+      (three_in (counter_demands name) (range_demands names a b step) (statements_demands names body) (names_variable (alone_tree name)) (first (contains_here (names_variable (alone_tree name)) (suits_place Counter (reference_expression (alone_tree name) no_expressions) ∷ []))))
   own_demanded s demand (counter_class name a b step body is) =
-      let class = suits_place Counter (reference_expression (name_alone name) no_expressions) in
+      let class = suits_place Counter (reference_expression (alone_tree name) no_expressions) in
       subst (λ (t : Statement). Contains (statement_demands names t) class) (sym is)
-      (three_in (counter_demands name) (range_demands names a b step) (statements_demands names body) class (first (contains_later (names_variable (name_alone name)) (class ∷ []) class (contains_here class []))))
+      (three_in (counter_demands name) (range_demands names a b step) (statements_demands names body) class (first (contains_later (names_variable (alone_tree name)) (class ∷ []) class (contains_here class []))))
   own_demanded s demand (assigned r subscripts place e is) =
       let joins = assigns (reference_expression r subscripts) place e in
       subst (λ (t : Statement). Contains (statement_demands names t) joins) (sym is)

@@ -1,5 +1,5 @@
 -- What the guards and the algorithms of a block type demand, and the faults of what is not met.
-use Rattle.fb_laws.proofs.Common.{◌≡◌, ℕ, false, List, [], ◌∷◌, ◌++◌, Option, Some, ◌⊎◌, inl, inr, refl, subst, Contains, flat_map, Contains-append_cases, Contains-append_left, Contains-append_right, NameUse, Span, ReferenceTree, Expression, reference_expression, unary_expression, row_expression, Expressions, no_expressions, Operands, Statement, assignment, count, Statements, statements_of, ConditionTree, guarded, guard, DeclTree, TypeTree, block_type, BinaryUse, UnaryUse, Member, Sources, tree_at, Class as ValueClass, Fault, contains_flat_map, contains_here, contains_nothing, contains_single, origin_in_flat_map, expr_faults_of, faults_in_unit, Demand, names_variable, names_field, suits_operand, suits_operands, suits_place, assigns, is_met, demands_in, demands_at, name_alone, guard_demands, transition_demands, algorithm_demands, chart_demands, class_in, Names, names_of_type, ClassPlace, Condition, Count, Counter, IsOneOf, OccursIn, Asks, IsGuardOf, with_event, IsRunIn, IsTestedIn, IsWrittenIn, in_guard, in_statement}
+use Rattle.fb_laws.proofs.Common.{◌≡◌, ℕ, false, List, [], ◌∷◌, ◌++◌, Option, Some, ◌⊎◌, inl, inr, refl, subst, Contains, flat_map, Contains-append_cases, Contains-append_left, Contains-append_right, NameUse, Span, ReferenceTree, Expression, reference_expression, unary_expression, row_expression, Expressions, no_expressions, Operands, Statement, assignment, count, Statements, statements_of, ConditionTree, guarded, guard, DeclTree, TypeTree, block_type, BinaryUse, UnaryUse, Member, Sources, tree_at, Class as ValueClass, Fault, contains_flat_map, contains_here, contains_nothing, contains_single, origin_in_flat_map, expr_faults_of, faults_in_unit, Demand, names_variable, names_field, suits_operand, suits_operands, suits_place, assigns, is_met, demands_in, demands_at, alone_tree, guard_demands, transition_demands, algorithm_demands, chart_demands, class_in, Names, names_of_type, ClassPlace, Condition, Count, Counter, IsOneOf, OccursIn, Asks, IsGuardOf, with_event, IsRunIn, IsTestedIn, IsWrittenIn, in_guard, in_statement}
 use Rattle.fb_expr.specs.Demands.{fault_of}
 use Rattle.fb_expr.proofs.DemandLemmas.{faults_unmet}
 use Rattle.fb_laws.specs.Occurrences.{alone}
@@ -10,13 +10,13 @@ use Rattle.fb_laws.proofs.StatementLemmas.{OwnDemand, inside, placed, counter, c
 pub data DemandOf (names : Names) (d : TypeTree) : Demand → Type 0 where
   reference : (r : ReferenceTree) (subscripts : Expressions) → IsWrittenIn d (reference_expression r subscripts) → DemandOf names d (names_variable r)
   field : (r : ReferenceTree) (subscripts : Expressions) (before : List Member) (m : Member) (others : List Member) → IsWrittenIn d (reference_expression r subscripts) → r.members ≡ before ++ m ∷ others → DemandOf names d (names_field r before m)
-  behind_for : (name : NameUse) (a b : Expression) (step : Option Expression) (body : Statements) → IsRunIn d (count name a b step body) → DemandOf names d (names_variable (name_alone name))
+  behind_for : (name : NameUse) (a b : Expression) (step : Option Expression) (body : Statements) → IsRunIn d (count name a b step body) → DemandOf names d (names_variable (alone_tree name))
   operator : (used : UnaryUse) (x : Expression) → IsWrittenIn d (unary_expression used x) → DemandOf names d (suits_operand used x)
   pair : (first : Expression) (operands : Operands) (used : BinaryUse) (before : ValueClass) (x : Expression) → IsWrittenIn d (row_expression first operands) → IsPairOf names used before x (class_in names first) operands → DemandOf names d (suits_operands used before x)
   subscript : (r : ReferenceTree) (subscripts : Expressions) (x : Expression) → IsWrittenIn d (reference_expression r subscripts) → IsOneOf x subscripts → DemandOf names d (suits_place Count x)
   test : (x : Expression) → IsTestedIn d x → DemandOf names d (suits_place Condition x)
   in_place : (s : Statement) (place : ClassPlace) (x : Expression) → IsRunIn d s → Asks s place x → DemandOf names d (suits_place place x)
-  of_counter : (name : NameUse) (a b : Expression) (step : Option Expression) (body : Statements) → IsRunIn d (count name a b step body) → DemandOf names d (suits_place Counter (reference_expression (name_alone name) no_expressions))
+  of_counter : (name : NameUse) (a b : Expression) (step : Option Expression) (body : Statements) → IsRunIn d (count name a b step body) → DemandOf names d (suits_place Counter (reference_expression (alone_tree name) no_expressions))
   of_assignment : (r : ReferenceTree) (subscripts : Expressions) (place : Span) (e : Expression) → IsRunIn d (assignment r subscripts place e) → DemandOf names d (assigns (reference_expression r subscripts) place e)
 
 module _ (names : Names) (d : TypeTree) where

@@ -1,5 +1,5 @@
 -- References that begin at no variable, and further names that are no fields, by what the list of faults has.
-use Rattle.fb_laws.proofs.Common.{◌≡◌, ℕ, zero, suc, Bool, true, false, true≢false, not, ◌||◌, List, [], ◌∷◌, ◌++◌, Some, refl, sym, ap, subst, ◌∙◌, append_assoc, Span, TypeTree, block_type, ReferenceTree, TypeUse, Member, Sources, tree_at, Code, MemberUnknown, VariableUnknown, Fault, DeclaredVariable, Demand, names_field, names_variable, is_field, is_known, is_met, name_alone, referent_through, Names, names_of_type, referent_of, step, walk, names_span, through_second, Referent, Variable, Unjudged, NoMember, HasUnknownMember, HasUnknownVariable, IsNamedIn, in_reference, behind_for, MembersAreKnown, VariablesAreKnown, alone, subscripted, with_second, Begins, GoesOn, HasField, IsOpen}
+use Rattle.fb_laws.proofs.Common.{◌≡◌, ℕ, zero, suc, Bool, true, false, true≢false, not, ◌||◌, List, [], ◌∷◌, ◌++◌, Some, refl, sym, ap, subst, ◌∙◌, append_assoc, Span, TypeTree, block_type, ReferenceTree, TypeUse, Member, Sources, tree_at, Code, MemberUnknown, VariableUnknown, Fault, DeclaredVariable, Demand, names_field, names_variable, is_field, is_known, is_met, alone_tree, referent_through, Names, names_of_type, referent_of, step, walk, names_span, through_second, Referent, Variable, Unjudged, NoMember, HasUnknownMember, HasUnknownVariable, IsNamedIn, in_reference, behind_for, MembersAreKnown, VariablesAreKnown, alone, subscripted, with_second, Begins, GoesOn, HasField, IsOpen}
 use Rattle.fb_deploy.specs.Iface.declared.code.Code.TheVariants.{Class}
 use Rattle.fb_expr.specs.Demands.{fault_of}
 use Rattle.fb_expr.specs.declared.references.Referent.TheVariants.{Unknown}
@@ -79,7 +79,7 @@ known sources unit span =
 
     by_demand : (d : TypeTree) → tree_at sources unit ≡ Some (block_type d) → (demand : Demand) → DemandOf (names_of_type sources unit d) d demand → is_met (names_of_type sources unit d) demand ≡ false → it ≡ fault_of demand → HasUnknownVariable sources unit span
     by_demand d declared demand (reference r subscripts w) fails is = named d declared r (in_reference r subscripts w) fails is
-    by_demand d declared demand (behind_for_demanded name a b step body runs) fails is = named d declared (name_alone name) (behind_for name a b step body runs) fails is
+    by_demand d declared demand (behind_for_demanded name a b step body runs) fails is = named d declared (alone_tree name) (behind_for name a b step body runs) fails is
     by_demand d declared demand of fails is = absurd (true≢false (ap (λ (f : Fault). is_unknown_code f.code) is ∙ refl))
 
     demanded : (d : TypeTree) (r : ReferenceTree) → IsNamedIn d r → DemandOf (names_of_type sources unit d) d (names_variable r)

@@ -35,7 +35,7 @@ pub use Rattle.fb_text.specs.Elementary.{is_elementary}
 pub use Rattle.fb_text.specs.declared.name.NameUse.{NameUse}
 pub use Rattle.fb_text.specs.declared.token.Span.{Span}
 pub use Rattle.fb_text.specs.declared.token.Token.{Token}
-pub use Rattle.fb_tree.specs.Expression.{Expression, Expressions, Operands, ReferenceTree, expression_then, literal_expression, no_expressions, no_operands, operand_then, parentheses, reference_expression, row_expression, unary_expression}
+pub use Rattle.fb_tree.specs.Expression.{Expression, Expressions, Operands, ReferenceTree, alone_tree, expression_then, literal_expression, no_expressions, no_operands, operand_then, parentheses, reference_expression, row_expression, unary_expression}
 pub use Rattle.fb_tree.specs.Statement.{Arms, Statement, Statements, arm_then, assignment, choice, count, empty, exit, no_arms, no_statements, repeat_loop, return, selection, statement_then, statements_of, while_loop}
 pub use Rattle.fb_tree.specs.Tree.{AlgorithmTree, ApplicationTree, ChartTree, ConditionTree, ConstantTree, DeclTree, DeviceTree, EventTree, InstanceTree, InterfaceTree, MappingTree, NetworkTree, ParameterTree, ResourceTree, StateTree, StructureTree, SystemTree, TransitionTree, TypeTree, VariablesTree, adapter_type, always, block_type, constant_span, guard, guarded, on_event, one_value, structure_type, subapplication_type, system_configuration, value_list, value_span}
 pub use Rattle.fb_tree.specs.declared.chart.Action.{Action}

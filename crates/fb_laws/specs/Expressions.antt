@@ -1,8 +1,7 @@
 -- Each code of expressions and statements in words of its own: where the list of faults has it.
 use Rattle.std.specs.Prelude.{◌≡◌, ℕ, Bool, List, ◌∷◌, ◌++◌, Option, Some}
-use Rattle.fb_laws.specs.Common.{NameUse, Span, ReferenceTree, Expression, reference_expression, unary_expression, row_expression, Expressions, Operands, Statement, assignment, count, Statements, TypeTree, BinaryUse, UnaryUse, TypeUse, Member, Sources, class_of_type, stands_for, meanings_in_type, Class, MemberUnknown, VariableUnknown, DeclaredVariable, ClassPlace, Condition, Count, Counter}
+use Rattle.fb_laws.specs.Common.{NameUse, Span, ReferenceTree, alone_tree, Expression, reference_expression, unary_expression, row_expression, Expressions, Operands, Statement, assignment, count, Statements, TypeTree, BinaryUse, UnaryUse, TypeUse, Member, Sources, class_of_type, stands_for, meanings_in_type, Class, MemberUnknown, VariableUnknown, DeclaredVariable, ClassPlace, Condition, Count, Counter}
 use Rattle.fb_deploy.specs.Iface.declared.classes.Class.{Class as ValueClass}
-use Rattle.fb_expr.specs.Demands.{name_alone}
 use Rattle.fb_laws.specs.Classes.{Changes, Combines, Fits, HasClass, IsPairIn, Joins}
 use Rattle.fb_laws.specs.Occurrences.{Asks, IsOneOf, IsRunIn, IsTestedIn, IsWrittenIn}
 use Rattle.fb_laws.specs.Declared.{IsBlockAt}
@@ -16,7 +15,7 @@ pub data IsNamedIn (d : TypeTree) : ReferenceTree → Type 0 where
   in_reference : (r : ReferenceTree) (subscripts : Expressions)
       → IsWrittenIn d (reference_expression r subscripts) → IsNamedIn d r
   behind_for : (name : NameUse) (from to : Expression) (by : Option Expression) (body : Statements)
-      → IsRunIn d (count name from to by body) → IsNamedIn d (name_alone name)
+      → IsRunIn d (count name from to by body) → IsNamedIn d (alone_tree name)
 
 -- a reference, or a name behind FOR, that begins at no variable
 pub record HasUnknownVariable (sources : Sources) (unit : List ℕ) (span : Span) : Type 0 where

@@ -1,6 +1,6 @@
 -- A name at the front of a field, before zeros.
 use Rattle.std.proofs.Common.{◌≡◌, ℕ, ◌+◌, ◌-◌, ◌≤◌, List, ◌++◌, length, drop, replicate, sym, refl, ap, subst, ◌∙◌, arith}
-use Rattle.std.proofs.lemmas.List.{take_at, drop_at, length-append, length-replicate, drop-replicate}
+use Rattle.std.proofs.lemmas.List.{take_at, drop_at, take-append-le, drop-append-le, length-append, length-replicate, drop-replicate, replicate-append-replicate}
 use Rattle.fb_text.specs.Spelling.{IsName}
 use Rattle.fb_text.specs.Stored.{IsStoredIn}
 
@@ -12,4 +12,17 @@ stored_prefix size name copied short same is =
       name = subst IsName (sym (take_at name (drop (length name) (replicate size 0)) _ refl)) is;
       within = short;
       rest = drop_at name (drop (length name) (replicate size 0)) _ refl ∙ drop-replicate (length name) size 0;
+    })
+
+-- the same name, copied over more zeros
+pub stored_wider : (small size : ℕ) (bytes copied : List ℕ) (len : ℕ) → small ≤ size → copied ≡ bytes → IsStoredIn small bytes len → IsStoredIn size (copied ++ drop small (replicate size 0)) len
+stored_wider small size bytes copied len wider same is =
+    let zeros = drop small (replicate size 0) in
+    let more : zeros ≡ replicate (size - small) 0 = drop-replicate small size 0 in
+    let within : len ≤ length bytes = omega (arith, is.room, is.within) in
+    subst (λ (front : List ℕ). IsStoredIn size (front ++ zeros) len) (sym same) (record {
+      room = length-append bytes zeros ∙ ap (λ (xs : List ℕ). length bytes + length xs) more ∙ ap (λ n. length bytes + n) (length-replicate (size - small) 0) ∙ (omega (arith, is.room, wider));
+      name = subst IsName (sym (take-append-le len bytes zeros within)) is.name;
+      within = omega (arith, is.within, wider);
+      rest = drop-append-le len bytes zeros within ∙ (λ i. is.rest i ++ more i) ∙ replicate-append-replicate (small - len) (size - small) 0 ∙ ap (λ n. replicate n 0) (omega (arith, is.within, wider));
     })

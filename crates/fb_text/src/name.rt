@@ -12,6 +12,7 @@ ghost use Rattle.fb_text.specs.Words.{is_word};
 use crate::bytes::word_len;
 use crate::compact_name::CompactName;
 use crate::place::Place;
+use crate::short_name::SHORT_ROOM;
 use std::alloc::AllocError;
 use std::cmp::Ordering;
 use std::hash::{Hash, Hasher};
@@ -73,6 +74,7 @@ impl Model for Name {
 impl Name {
     ghost use Rattle.std.specs.Prelude.{codes};
     ghost use Rattle.fb_text.specs.Spelling.{IsName};
+    ghost use Rattle.fb_text.specs.Stored.{IsStoredIn};
     ghost use Rattle.fb_text.specs.Name.{name_of};
 
     /// The name that a text spells in any case.
@@ -133,6 +135,16 @@ impl Name {
             bytes,
             len: spelling.len() as u8,
         }
+    }
+
+    /// The name of this length at the beginning of bytes that are zeros after it.
+    pub(crate) fn of_short(short: &[u8; SHORT_ROOM], len: u8) -> Name
+        requires { IsStoredIn 22 short.now len }
+        ensures { result ≡ take len short.now }
+    {
+        let mut bytes = [0; 64];
+        bytes[..SHORT_ROOM].copy_from_slice(short);
+        Name { bytes, len }
     }
 
     /// The bytes of the name.

@@ -74,7 +74,7 @@ impl ShortName {
     pub fn name(&self) -> Name
         ensures { result ≡ self.now }
     {
-        Name::of_spelling(self.as_bytes())
+        Name::of_short(&self.bytes, self.len)
     }
 
     /// The bytes of the name.
