@@ -1,6 +1,9 @@
 //! The tokens of a text that are still to be read. Each is found when the one before it is taken, and no list of them is made.
 ghost use Rattle.fb_grammar.specs.Upcoming.{are_over, closing, front, tokens_to_end};
-ghost use Rattle.std.specs.Prelude.{◌≡◌, ◌<◌, false, drop, length, slice_range};
+ghost use Rattle.fb_grammar.specs.Kind.{is_among, name_kinds};
+ghost use Rattle.fb_tree.specs.Text.Words.{is_word};
+ghost use Rattle.std.specs.Prelude.{◌≡◌, ◌<◌, ◌≤◌, false, true, drop, length, slice_range};
+ghost use Rattle.std.specs.Str.{str_to_ascii_uppercase};
 
 use crate::keywords::lone_symbol;
 use crate::kind::Kind;
@@ -71,8 +74,13 @@ impl<'t> Tokens<'t> {
         self.kind.is_among(&[Kind::End, Kind::NeverClosed])
     }
 
-    /// The text of the next token.
-    pub(crate) fn spelling(&self) -> &'t str {
+    /// The word that the next token is, if it is a name.
+    pub(crate) fn spelling(&self) -> &'t str
+        requires { is_among name_kinds (front self.now).kind ≡ true }
+        ensures word { is_word result.now ≡ true }
+        ensures short { length result.now ≤ 64 }
+        ensures name { str_to_ascii_uppercase result.now ≡ (front self.now).name }
+    {
         &self.text[self.place.start() as usize..self.place.end() as usize]
     }
 
