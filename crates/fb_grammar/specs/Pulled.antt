@@ -1,21 +1,43 @@
 -- How a token that was pulled stands to the one list of tokens.
-use Rattle.std.specs.Prelude.{◌≡◌, ◌<◌, false, List, length, drop}
-use Rattle.std.specs.Str.{IsCharBoundary}
+use Rattle.std.specs.Prelude.{◌≡◌, ℕ, ◌<◌, ◌≤◌, true, false, List, [], length, drop, slice_range}
+use Rattle.std.specs.Str.{IsCharBoundary, str_to_ascii_uppercase}
 use Rattle.fb_tree.specs.Text.Scan.{AreOpen}
+use Rattle.fb_tree.specs.Text.Words.{is_word}
+use Rattle.fb_tree.specs.Text.declared.token.Span.{Span}
+use Rattle.fb_grammar.specs.declared.kind.Kind.{Kind}
 use Rattle.fb_grammar.specs.declared.lexeme.Lexeme.{Lexeme}
 use Rattle.fb_grammar.specs.declared.upcoming.Tokens.TheInside.{Inside}
+use Rattle.fb_grammar.specs.Kind.{is_among, name_kinds}
 use Rattle.fb_grammar.specs.Upcoming.{are_over, front, pulled_from}
+
+-- what is pulled of a text from a place on
+abbrev pub pulled_at : List ℕ → ℕ → List Lexeme
+pulled_at text place = pulled_from text 0 place (drop place text)
+
+-- a word of at most 64 bytes that spells the name
+pub record IsSpelling (word name : List ℕ) : Type 0 where
+  pub word : is_word word ≡ true
+  pub short : length word ≤ 64
+  pub name : str_to_ascii_uppercase word ≡ name
+
+-- The first of what is pulled from where a place begins has this kind and this place. What is pulled from its end on is what
+-- follows it, and nothing follows what is behind all tokens.
+pub record IsFront (text : List ℕ) (kind : Kind) (place : Span) : Type 0 where
+  pub kind : (front (pulled_at text place.start)).kind ≡ kind
+  pub place : (front (pulled_at text place.start)).span ≡ place
+  pub spelled : is_among name_kinds kind ≡ true → IsSpelling (slice_range text place.start place.end) (front (pulled_at text place.start)).name
+  pub following : are_over (pulled_at text place.start) ≡ false → pulled_at text place.end ≡ drop 1 (pulled_at text place.start)
+  pub last : are_over (pulled_at text place.start) ≡ true → drop 1 (pulled_at text place.start) ≡ []
+  pub rises : place.start ≤ place.end
+  pub starts : IsCharBoundary text place.start
+  pub ends : IsCharBoundary text place.end
 
 -- what is pulled from where the next token stands
 abbrev pub pulled : Inside → List Lexeme
-pulled a = pulled_from a.text.now 0 a.place.start (drop a.place.start a.text.now)
+pulled a = pulled_at a.text.now a.next.place.start
 
--- The next token has the kind and place that were found, and what is pulled from its end on is what follows it. Between characters
--- begins what is looked at next, and the open quotes are known from there on.
+-- The next token has the kind and place that were found, and from its end on the open quotes are known.
 pub record IsPulled (a : Inside) : Type 0 where
   pub short : length a.text.now < 4294967296
-  pub kind : (front (pulled a)).kind ≡ a.kind
-  pub place : (front (pulled a)).span ≡ a.place
-  pub following : are_over (pulled a) ≡ false → pulled_from a.text.now 0 a.place.end (drop a.place.end a.text.now) ≡ drop 1 (pulled a)
-  pub ends : IsCharBoundary a.text.now a.place.end
-  pub quotes : AreOpen a.text.now a.place.end a.quotes
+  pub front : IsFront a.text.now a.next.kind a.next.place
+  pub quotes : AreOpen a.text.now a.next.place.end a.quotes

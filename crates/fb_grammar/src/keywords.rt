@@ -5,6 +5,7 @@ ghost use Rattle.std.specs.Cmp.Lexicographic.{pointwise};
 ghost use Rattle.fb_tree.specs.Text.Forms.{same_word};
 ghost use Rattle.fb_grammar.specs.ReservedWords.{keyword, symbol};
 ghost use Rattle.fb_grammar.specs.ByLength.{words_between, symbols_of};
+ghost use Rattle.fb_grammar.specs.Upcoming.{lone_symbol};
 
 use crate::kind::Kind;
 use fb_tree::text::same_word;
@@ -582,7 +583,10 @@ fn symbol_of_1(b: u8) -> Option<Kind>
 }
 
 /// The symbol of one byte that begins no longer symbol and no comment.
-pub fn lone_symbol(b: u8) -> Option<Kind> {
+#[tactic(auto, unfolding(crate::specs::ReservedWords::symbol))]
+pub fn lone_symbol(b: u8) -> Option<Kind>
+    ensures { result ≡ lone_symbol b }
+{
     match b {
         b';' => Some(Kind::Semicolon),
         b',' => Some(Kind::Comma),
