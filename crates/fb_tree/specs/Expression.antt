@@ -66,7 +66,7 @@ expression_step (Literal l) = literal_expression l
 expression_step (Name used) = reference_expression (alone_tree used) no_expressions
 expression_step (Reference r subscripts) = reference_expression (reference_tree (box_value r)) (expressions_of subscripts.items)
 expression_step (Unary operator e) = unary_expression operator (box_value e)
-expression_step (Pair p) = row_expression (box_value p).0 (operand_then (box_value p).1.0 (box_value p).1.1 no_operands)
+expression_step (Pair p) = row_expression (box_value p).0 (operand_then (box_value p).1 (box_value p).2 no_operands)
 expression_step (Row e operands) = row_expression (box_value e) (operands_of operands.items)
 expression_step (Parentheses e span) = parentheses (box_value e) span
 
