@@ -14,23 +14,23 @@ use Rattle.fb_grammar.specs.Upcoming.{are_over, front, pulled_from}
 abbrev pub pulled_at : List ℕ → ℕ → List Lexeme
 pulled_at text place = pulled_from text 0 place (drop place text)
 
--- a word of at most 64 bytes that spells the name
-pub record IsSpelling (word name : List ℕ) : Type 0 where
-  pub word : is_word word ≡ true
-  pub short : length word ≤ 64
-  pub name : str_to_ascii_uppercase word ≡ name
+-- bytes that are a word of at most 64 bytes, and spell the name
+pub record IsSpelling (bytes spelled : List ℕ) : Type 0 where
+  pub word : is_word bytes ≡ true
+  pub short : length bytes ≤ 64
+  pub name : str_to_ascii_uppercase bytes ≡ spelled
 
--- The first of what is pulled from where a place begins has this kind and this place. What is pulled from its end on is what
+-- The first of what is pulled from where a span begins has this kind and this span. What is pulled from its end on is what
 -- follows it, and nothing follows what is behind all tokens.
-pub record IsFront (text : List ℕ) (kind : Kind) (place : Span) : Type 0 where
-  pub kind : (front (pulled_at text place.start)).kind ≡ kind
-  pub place : (front (pulled_at text place.start)).span ≡ place
-  pub spelled : is_among name_kinds kind ≡ true → IsSpelling (slice_range text place.start place.end) (front (pulled_at text place.start)).name
-  pub following : are_over (pulled_at text place.start) ≡ false → pulled_at text place.end ≡ drop 1 (pulled_at text place.start)
-  pub last : are_over (pulled_at text place.start) ≡ true → drop 1 (pulled_at text place.start) ≡ []
-  pub rises : place.start ≤ place.end
-  pub starts : IsCharBoundary text place.start
-  pub ends : IsCharBoundary text place.end
+pub record IsFront (text : List ℕ) (found : Kind) (span : Span) : Type 0 where
+  pub kind : (front (pulled_at text span.start)).kind ≡ found
+  pub place : (front (pulled_at text span.start)).span ≡ span
+  pub spelled : is_among name_kinds found ≡ true → IsSpelling (slice_range text span.start span.end) (front (pulled_at text span.start)).name
+  pub following : are_over (pulled_at text span.start) ≡ false → pulled_at text span.end ≡ drop 1 (pulled_at text span.start)
+  pub last : are_over (pulled_at text span.start) ≡ true → drop 1 (pulled_at text span.start) ≡ []
+  pub rises : span.start ≤ span.end
+  pub starts : IsCharBoundary text span.start
+  pub ends : IsCharBoundary text span.end
 
 -- what is pulled from where the next token stands
 abbrev pub pulled : Inside → List Lexeme

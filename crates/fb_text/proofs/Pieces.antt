@@ -4,7 +4,7 @@ use Rattle.std.specs.Prelude.{◌==◌, codes, nat_eq}
 use Rattle.std.specs.List.{list_any, prefix_len, starts_with}
 use Rattle.std.specs.Char.{is_ascii_digit}
 use Rattle.std.proofs.lemmas.Bool.Decides.{nat_tests}
-use Rattle.std.proofs.lemmas.Bool.{cond-true, cond-false, false_from_ne_true}
+use Rattle.std.proofs.lemmas.Bool.{cond-true, cond-false, false_from_ne_true, not-true}
 use Rattle.fb_text.specs.Bytes.{is_blank, is_quote, is_word_byte, is_word_start, hash, first}
 use Rattle.fb_text.specs.Forms.{after_word, is_date, is_real, is_symbol_byte, is_symbol_pair, leading_word}
 use Rattle.fb_text.specs.Scan.{string_len, symbol_len, typed_len, typed_tail_len}
@@ -60,10 +60,6 @@ begins_pair b = list_any (λ s. s == b) (codes ":<>*-.")
 pair-begins : (a b : ℕ) → is_symbol_pair a b ≡ true → begins_pair a ≡ true
 unfolding is_symbol_pair
 pair-begins a b h = any-pair begins_pair (codes ":=" ∷ codes "<=" ∷ codes ">=" ∷ codes "<>" ∷ codes "**" ∷ codes "->" ∷ codes ".." ∷ []) a b h refl
-
-not-true : (b : Bool) → not b ≡ true → b ≡ false
-not-true true h = sym h
-not-true false h = refl
 
 -- what no symbol is
 symbol-blank : (b : ℕ) → is_symbol_byte b ≡ true → is_blank b ≡ false
