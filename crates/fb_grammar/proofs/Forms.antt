@@ -44,7 +44,7 @@ none_right a b (t ∷ ts) h = go (is_among b t.kind) refl
 same_from_code : (a b k : Kind) → same_kind a k ≡ true → same_kind b k ≡ same_kind b a
 same_from_code a b k h = ap (λ n. nat_eq (code_of b) n) (sym (eqb-true (code_of a) (code_of k) h))
 
-among_same : (a : Kind) (b : List Kind) (k : Kind) → same_kind a k ≡ true → is_among b k ≡ is_among b a
+pub among_same : (a : Kind) (b : List Kind) (k : Kind) → same_kind a k ≡ true → is_among b k ≡ is_among b a
 among_same a [] k h = refl
 among_same a (x ∷ b) k h = rw (same_from_code a x k h, among_same a b k h) refl
 
