@@ -1,5 +1,5 @@
 -- Tokens as they are pulled from a text one by one.
-use Rattle.std.proofs.Common.{◌≡◌, ◌≢◌, ℕ, zero, suc, ◌+◌, ◌-◌, ◌<◌, ◌≤◌, Bool, true, false, not, List, [], ◌∷◌, length, drop, take, get_or, refl, sym, ap, subst, ◌∙◌, arith, add-zero, drop-cons, length-drop, Ok, None, Option, Some, true≢false, IsUtf8}
+use Rattle.std.proofs.Common.{◌≡◌, ◌≢◌, ℕ, zero, suc, ◌+◌, ◌-◌, ◌<◌, ◌≤◌, Bool, true, false, not, List, [], ◌∷◌, length, drop, take, get_or, refl, sym, ap, subst, ◌∙◌, arith, add-zero, drop-cons, length-drop, None, Option, Some, true≢false, IsUtf8}
 use Rattle.std.specs.Prelude.{◌==◌, codes, nat_eq, nat_lt, slice_range, if◌then◌else◌}
 use Rattle.std.specs.List.{list_any, list_all, prefix_len}
 use Rattle.std.specs.Cmp.Lexicographic.{pointwise}
@@ -33,7 +33,6 @@ use Rattle.fb_tree.proofs.Text.OpenLines.{AreOpen-later, first-at}
 use Rattle.fb_tree.proofs.Text.Pieces.{begins_pair, blank-piece, no-typed, symbol-piece, typed-piece, word-piece}
 use Rattle.fb_grammar.specs.declared.kind.Kind.{Kind}
 use Rattle.fb_grammar.specs.declared.kind.Kind.TheVariants.{End, Name, NameIn, NameOn, NameSt, NeverClosed, Number, One, Other, RealNumber, Zero}
-use Rattle.fb_grammar.specs.declared.lexeme.Lexeme.{Lexeme}
 use Rattle.fb_grammar.specs.Kind.{is_among, name_kinds}
 use Rattle.fb_grammar.specs.Lexemes.{kind_of, kind_or, lexeme_of, literal_kind, name_kind, name_or, number_kind, symbol_kind, type_name, typed_kind, word_kind}
 use Rattle.fb_grammar.specs.ReservedWords.{keyword, reserved_words, symbol, symbols}

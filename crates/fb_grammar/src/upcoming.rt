@@ -90,7 +90,7 @@ impl<'t> Tokens<'t> {
 
     /// The comment that is never closed, if there is one, behind all tokens that are left.
     pub fn unclosed(mut self) -> Option<Place>
-        ensures { result ≡ closing self }
+        ensures { result ≡ closing self.entry }
     {
         while !self.is_over() {
             self.take();

@@ -1,4 +1,4 @@
-use Rattle.std.proofs.Common.{◌≡◌, ◌+◌, ◌-◌, ◌<◌, ◌≤◌, get_or, length, drop, take, refl, sym, subst, ap, ◌∙◌, arith, Some}
+use Rattle.std.proofs.Common.{◌≡◌, ◌+◌, ◌-◌, ◌<◌, ◌≤◌, get_or, length, drop, take, sym, subst, ◌∙◌, arith, Some}
 use Rattle.fb_tree.specs.Text.Bytes.{is_blank}
 use Rattle.fb_grammar.specs.Pulled.{IsNext}
 use Rattle.fb_grammar.specs.Upcoming.{lone_symbol}
@@ -18,8 +18,8 @@ returns-in-Some c =
     let place = c.loop-place.place in
     let whole = c.as_bytes-bytes.ensures.value in
     let found =
-        next-symbol c.args.text.now c.args.from place c.loop-place.quotes c.loop-place.quotes c.loop-place.invariant c.loop-place.invariant.are_open c.in-Some.kind c.utf8.text (subst (λ bs. place < length bs) whole c.loop-place-test.true)
-        (subst (λ bs. lone_symbol (get_or bs place 0) ≡ Some c.in-Some.kind) whole (sym c.in-Some.ensures)) in
+    next-symbol c.args.text.now c.args.from place c.loop-place.quotes c.loop-place.quotes c.loop-place.invariant c.loop-place.invariant.are_open c.in-Some.kind c.utf8.text (subst (λ bs. place < length bs) whole c.loop-place-test.true)
+    (subst (λ bs. lone_symbol (get_or bs place 0) ≡ Some c.in-Some.kind) whole (sym c.in-Some.ensures)) in
     subst (λ f. IsNext c.args.text.now c.args.from f.kind f.place c.loop-place.quotes) (sym c.front_at.ensures) found
 
 pub loop-place-preserved : goal.loop-place-preserved
@@ -33,7 +33,7 @@ returns-in-Unclosed c =
     let place = c.loop-place.place in
     let whole = c.as_bytes-bytes.ensures.value in
     let found =
-        next-unclosed c.args.text.now c.args.from place c.loop-place.quotes c.next_piece.new.quotes c.loop-place.invariant c.in-Unclosed.ensures.quotes c.utf8.text (subst (λ bs. place < length bs) whole c.loop-place-test.true) (sym c.in-Unclosed.ensures.value) in
+    next-unclosed c.args.text.now c.args.from place c.loop-place.quotes c.next_piece.new.quotes c.loop-place.invariant c.in-Unclosed.ensures.quotes c.utf8.text (subst (λ bs. place < length bs) whole c.loop-place-test.true) (sym c.in-Unclosed.ensures.value) in
     subst (λ f. IsNext c.args.text.now c.args.from f.kind f.place c.next_piece.new.quotes) (sym c.front_at-in-Unclosed.ensures)
     (subst (λ bs. IsNext c.args.text.now c.args.from NeverClosed (record { start = place; end = length bs }) c.next_piece.new.quotes) (sym whole) found)
 
@@ -45,8 +45,8 @@ returns-in-Found c =
     let len = c.in-Found.len in
     let size : place + len - place ≡ len = omega arith in
     let found =
-        next-found c.args.text.now c.args.from place c.loop-place.quotes c.next_piece.new.quotes c.loop-place.invariant c.in-Found.ensures.quotes c.in-Found.kind len (take (place + len - place) (drop place bytes)) c.utf8.text
-        (subst (λ bs. place < length bs) whole c.loop-place-test.true) (sym c.in-Found.ensures.value) (λ i. take (size i) (drop place (whole i))) in
+    next-found c.args.text.now c.args.from place c.loop-place.quotes c.next_piece.new.quotes c.loop-place.invariant c.in-Found.ensures.quotes c.in-Found.kind len (take (place + len - place) (drop place bytes)) c.utf8.text
+    (subst (λ bs. place < length bs) whole c.loop-place-test.true) (sym c.in-Found.ensures.value) (λ i. take (size i) (drop place (whole i))) in
     subst (λ f. IsNext c.args.text.now c.args.from f.kind f.place c.next_piece.new.quotes) (sym c.front_at-in-Found.ensures)
     (subst (λ k. IsNext c.args.text.now c.args.from k (record { start = place; end = place + len }) c.next_piece.new.quotes) (sym c.kind_of.ensures) found)
 
