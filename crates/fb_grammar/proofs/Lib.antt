@@ -8,3 +8,4 @@ pub mod ReadKinds
 pub mod Repeating
 pub mod Shapes
 pub mod PullLemmas
+pub mod Ending
