@@ -181,6 +181,7 @@ module _ (text : List ℕ) (place : ℕ) (utf8 : IsUtf8 text) (starts : IsCharBo
       let prefix = fits (Found kind n) e in
       let pulled = found-pulled text place left kind n prefix.some e in
       record {
+        some = omega (arith, ap length pulled);
         kind = ap (λ ts. (front ts).kind) pulled;
         place = ap (λ ts. (front ts).span) pulled;
         spelled = λ h. subst (λ ts. IsSpelling (slice_range text place (place + n)) (front ts).name) (sym pulled) (spelling-of kind n e h);
@@ -203,6 +204,7 @@ module _ (text : List ℕ) (place : ℕ) (utf8 : IsUtf8 text) (starts : IsCharBo
   unclosed-front e =
       let pulled = unclosed-pulled text place left e in
       record {
+        some = omega (arith, ap length pulled);
         kind = ap (λ ts. (front ts).kind) pulled;
         place = ap (λ ts. (front ts).span) pulled;
         spelled = λ h. absurd (true≢false (sym h));
@@ -218,6 +220,7 @@ pub end-front : (text : List ℕ) → IsFront text End (record { start = length 
 end-front text =
     let pulled = end-pulled text (length text) (omega arith) in
     record {
+      some = omega (arith, ap length pulled);
       kind = ap (λ ts. (front ts).kind) pulled;
       place = ap (λ ts. (front ts).span) pulled;
       spelled = λ h. absurd (true≢false (sym h));

@@ -24,6 +24,7 @@ pub record IsSpelling (bytes spelled : List ℕ) : Type 0 where
 -- The first of what is pulled from where a span begins has this kind and this span. What is pulled from its end on is what
 -- follows it, and nothing follows what is behind all tokens.
 pub record IsFront (text : List ℕ) (found : Kind) (span : Span) : Type 0 where
+  pub some : 0 < length (pulled_at text span.start)
   pub kind : (front (pulled_at text span.start)).kind ≡ found
   pub place : (front (pulled_at text span.start)).span ≡ span
   pub spelled : is_among name_kinds found ≡ true → IsSpelling (slice_range text span.start span.end) (front (pulled_at text span.start)).name

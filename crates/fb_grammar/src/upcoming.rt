@@ -49,9 +49,10 @@ impl<'t> Tokens<'t> {
         Tokens { text, next, quotes }
     }
 
-    /// The kind of the next token.
+    /// The kind of the next token. There is always one, or what is behind all tokens.
     pub fn kind(&self) -> Kind
-        ensures { result ≡ (front self.now).kind }
+        ensures kind { result ≡ (front self.now).kind }
+        ensures some { 0 < length self.now }
     {
         self.next.kind
     }
