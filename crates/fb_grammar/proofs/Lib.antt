@@ -8,4 +8,5 @@ pub mod ReadKinds
 pub mod Repeating
 pub mod Shapes
 pub mod PullLemmas
+pub mod Pulls
 pub mod Ending

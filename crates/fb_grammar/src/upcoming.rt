@@ -1,13 +1,15 @@
 //! The tokens of a text that are still to be read. Each is found when the one before it is taken, and no list of them is made.
 ghost use Rattle.fb_grammar.specs.Kind.{is_among, name_kinds};
+ghost use Rattle.fb_grammar.specs.Lexemes.{lexemes_of};
 ghost use Rattle.fb_grammar.specs.Pulled.{IsFront, IsNext};
-ghost use Rattle.fb_grammar.specs.Upcoming.{are_over, closing, front, tokens_to_end};
+ghost use Rattle.fb_grammar.specs.Upcoming.{are_over, closing, front, tokens_to_end, unended};
 ghost use Rattle.fb_tree.specs.Text.Bytes.{is_word_byte, is_word_start};
 ghost use Rattle.fb_tree.specs.Text.Scan.{AreOpen, typed_len};
+ghost use Rattle.fb_tree.specs.Text.Tokens.{LiesIn};
 ghost use Rattle.fb_tree.specs.Text.Words.{is_word};
 ghost use Rattle.std.specs.List.{prefix_len};
-ghost use Rattle.std.specs.Prelude.{◌≡◌, ◌+◌, ◌<◌, ◌≤◌, false, true, drop, length, slice_index};
-ghost use Rattle.std.specs.Str.{IsCharBoundary, str_to_ascii_uppercase};
+ghost use Rattle.std.specs.Prelude.{◌≡◌, ℕ, ◌+◌, ◌<◌, ◌≤◌, false, true, All, List, drop, length, slice_index};
+ghost use Rattle.std.specs.Str.{IsCharBoundary, IsUtf8, str_to_ascii_uppercase};
 
 use crate::keywords::lone_symbol;
 use crate::kind::Kind;
@@ -185,3 +187,10 @@ fn next_front(text: &str, from: usize, quotes: &mut OpenQuotes) -> Front
     }
     front_at(Kind::End, bytes.len(), bytes.len())
 }
+
+/// What is pulled of a text are its tokens, and then its end or a comment that is never closed. All of this lies in the text.
+pub fn tokens_are_pulled()
+    ensures tokens { (text : List ℕ) → unended (tokens_to_end text) ≡ lexemes_of text }
+    ensures within { (text : List ℕ) → IsUtf8 text
+        → All (λ token. LiesIn text token.span) (tokens_to_end text) }
+{}
