@@ -9,3 +9,5 @@ pub mod Loops
 pub mod Pulling
 pub mod Shapes
 pub mod PullLemmas
+pub mod Pulls
+pub mod Ending

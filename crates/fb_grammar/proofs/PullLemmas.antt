@@ -1,39 +1,42 @@
 -- Tokens as they are pulled from a text one by one.
-use Rattle.std.proofs.Common.{◌≡◌, ◌≢◌, ℕ, zero, suc, ◌+◌, ◌-◌, ◌<◌, ◌≤◌, Bool, true, false, not, List, [], ◌∷◌, length, drop, take, get_or, refl, sym, ap, subst, ◌∙◌, arith, add-zero, length-drop, Ok, None, Option, Some, true≢false}
+use Rattle.std.proofs.Common.{◌≡◌, ◌≢◌, ℕ, zero, suc, ◌+◌, ◌-◌, ◌<◌, ◌≤◌, Bool, true, false, not, List, [], ◌∷◌, length, drop, take, get_or, refl, sym, ap, subst, ◌∙◌, arith, add-zero, drop-cons, length-drop, None, Option, Some, true≢false, IsUtf8}
 use Rattle.std.specs.Prelude.{◌==◌, codes, nat_eq, nat_lt, slice_range, if◌then◌else◌}
 use Rattle.std.specs.List.{list_any, list_all, prefix_len}
 use Rattle.std.specs.Cmp.Lexicographic.{pointwise}
 use Rattle.std.specs.Map.{lookup}
 use Rattle.std.specs.Str.{IsCharBoundary}
 use Rattle.std.proofs.lemmas.Bool.{and_parts, cond-true, cond-false, not-true}
-use Rattle.std.proofs.lemmas.List.{drop-drop, drop_all, get_or-drop}
+use Rattle.std.proofs.lemmas.List.{drop-drop, drop_all, get_or_past}
 use Rattle.std.proofs.lemmas.Option.{none-some, same_Some}
-use Rattle.std.proofs.lemmas.Str.{IsCharBoundary-end, IsCharBoundary-from_rest}
-use Rattle.fb_tree.specs.Text.Bytes.{first}
+use Rattle.std.proofs.lemmas.Str.{IsCharBoundary-end, IsCharBoundary-from_rest, IsUtf8-drop}
+use Rattle.fb_tree.specs.Text.Bytes.{first, hash, is_blank, is_word_byte, is_word_start}
 use Rattle.fb_tree.specs.Text.Elementary.{type_class_of}
 use Rattle.fb_tree.specs.Text.Forms.{HasForm, is_symbol_byte, same_word}
 use Rattle.fb_tree.specs.Text.Reads.{token_of}
-use Rattle.fb_tree.specs.Text.Tokens.{IsPrefix, piece_at}
+use Rattle.fb_tree.specs.Text.Scan.{AreOpen, typed_len}
+use Rattle.fb_tree.specs.Text.Tokens.{FitsIn, piece_at}
 use Rattle.fb_tree.specs.Text.Words.{is_word}
 use Rattle.fb_tree.specs.Text.declared.elementary.TypeClass.{TypeClass}
 use Rattle.fb_tree.specs.Text.declared.elementary.TypeClass.TheVariants as class
 use Rattle.fb_tree.specs.Text.declared.scan.Piece.{Piece}
 use Rattle.fb_tree.specs.Text.declared.scan.Piece.TheVariants.{Gap, Unclosed, Found}
+use Rattle.fb_tree.specs.Text.declared.quotes.OpenQuotes.{OpenQuotes}
+use Rattle.fb_tree.specs.Text.declared.token.Span.{Span}
 use Rattle.fb_tree.specs.Text.declared.token.Token.{Token}
 use Rattle.fb_tree.specs.Text.declared.token.TokenKind.{TokenKind}
 use Rattle.fb_tree.specs.Text.declared.token.TokenKind.TheVariants as found
-use Rattle.fb_tree.proofs.Text.Boundaries.{piece-spelled}
+use Rattle.fb_tree.proofs.Text.Boundaries.{piece-fits, piece-spelled}
 use Rattle.fb_tree.proofs.Text.Longest.{by_test}
 use Rattle.fb_tree.proofs.Text.LongestToken.{any-byte}
 use Rattle.fb_tree.proofs.Text.NameLemmas.{name_of-word}
-use Rattle.fb_tree.proofs.Text.Pieces.{begins_pair, symbol-piece}
+use Rattle.fb_tree.proofs.Text.OpenLines.{AreOpen-later, first-at}
+use Rattle.fb_tree.proofs.Text.Pieces.{begins_pair, blank-piece, no-typed, symbol-piece, typed-piece, word-piece}
 use Rattle.fb_grammar.specs.declared.kind.Kind.{Kind}
 use Rattle.fb_grammar.specs.declared.kind.Kind.TheVariants.{End, Name, NameIn, NameOn, NameSt, NeverClosed, Number, One, Other, RealNumber, Zero}
-use Rattle.fb_grammar.specs.declared.lexeme.Lexeme.{Lexeme}
 use Rattle.fb_grammar.specs.Kind.{is_among, name_kinds}
 use Rattle.fb_grammar.specs.Lexemes.{kind_of, kind_or, lexeme_of, literal_kind, name_kind, name_or, number_kind, symbol_kind, type_name, typed_kind, word_kind}
 use Rattle.fb_grammar.specs.ReservedWords.{keyword, reserved_words, symbol, symbols}
-use Rattle.fb_grammar.specs.Pulled.{IsFront, IsSpelling, pulled_at}
+use Rattle.fb_grammar.specs.Pulled.{IsFront, IsNext, IsSpelling, pulled_at}
 use Rattle.fb_grammar.specs.Upcoming.{are_over, closing_at, front, is_lone, lone_symbol, pulled_before, pulled_from}
 use Rattle.fb_grammar.proofs.NameWords.{names}
 
@@ -153,7 +156,14 @@ module _ (text : List ℕ) (place : ℕ) (left : place < length text) where
       found-step text place (drop place text) kind n some-left some e ∙ ap (λ bs. lexeme_of text (token_of kind place n) ∷ pulled_from text 0 (place + n) bs) (drop-drop n place text)
 
 -- The first of what is pulled, where it is a token, and what follows it.
-module _ (text : List ℕ) (place : ℕ) (starts : IsCharBoundary text place) (left : place < length text) where
+module _ (text : List ℕ) (place : ℕ) (utf8 : IsUtf8 text) (starts : IsCharBoundary text place) (left : place < length text) where
+  fits : (piece : Piece) → piece_at (drop place text) ≡ piece → FitsIn (drop place text) piece
+  fits piece e = subst (FitsIn (drop place text)) e (piece-fits (drop place text) (IsUtf8-drop text place utf8 starts) (some-left text place left))
+
+  -- a gap is passed, up to a place between characters
+  pub after-gap : (n : ℕ) → piece_at (drop place text) ≡ Gap n → (pulled_at text place ≡ pulled_at text (place + n)) × IsCharBoundary text (place + n) × (0 < n)
+  after-gap n e = let prefix = fits (Gap n) e in (gap-pulled text place left n prefix.some e, IsCharBoundary-from_rest text place n (omega arith) prefix.ends, prefix.some)
+
   spelling-of : (kind : TokenKind) (n : ℕ) → piece_at (drop place text) ≡ Found kind n → is_among name_kinds (lexeme_of text (token_of kind place n)).kind ≡ true → IsSpelling (slice_range text place (place + n)) (lexeme_of text (token_of kind place n)).name
   unfolding lexeme_of
   spelling-of kind n e h =
@@ -164,12 +174,14 @@ module _ (text : List ℕ) (place : ℕ) (starts : IsCharBoundary text place) (l
       let word : is_word bytes ≡ true = subst (λ k. HasForm k bytes) is.0 form in
       record { word = word; short = is.1; name = sym (ap (λ r. name_or r (codes "_")) (name_of-word bytes word is.1)) }
 
-  pub found-front : (kind : TokenKind) (n : ℕ) → IsPrefix (drop place text) n → piece_at (drop place text) ≡ Found kind n → IsFront text (lexeme_of text (token_of kind place n)).kind (record { start = place; end = place + n })
+  token-front : (kind : TokenKind) (n : ℕ) → piece_at (drop place text) ≡ Found kind n → IsFront text (lexeme_of text (token_of kind place n)).kind (record { start = place; end = place + n })
   unfolding lexeme_of
-  found-front kind n prefix e =
+  token-front kind n e =
       let token = lexeme_of text (token_of kind place n) in
+      let prefix = fits (Found kind n) e in
       let pulled = found-pulled text place left kind n prefix.some e in
       record {
+        some = omega (arith, ap length pulled);
         kind = ap (λ ts. (front ts).kind) pulled;
         place = ap (λ ts. (front ts).span) pulled;
         spelled = λ h. subst (λ ts. IsSpelling (slice_range text place (place + n)) (front ts).name) (sym pulled) (spelling-of kind n e h);
@@ -180,10 +192,19 @@ module _ (text : List ℕ) (place : ℕ) (starts : IsCharBoundary text place) (l
         ends = IsCharBoundary-from_rest text place n (omega arith) prefix.ends;
       }
 
+  pub found-front : (kind : TokenKind) (n : ℕ) (bytes : List ℕ) → piece_at (drop place text) ≡ Found kind n → bytes ≡ take n (drop place text) → IsFront text (kind_of kind bytes) (record { start = place; end = place + n })
+  unfolding lexeme_of
+  found-front kind n bytes e same =
+      subst (λ bs. IsFront text (kind_of kind bs) (record { start = place; end = place + n })) (ap (λ k. take k (drop place text)) (let size : place + n - place ≡ n = omega arith in size) ∙ sym same) (token-front kind n e)
+
+  pub found-within : (kind : TokenKind) (n : ℕ) → piece_at (drop place text) ≡ Found kind n → place + n ≤ length text
+  found-within kind n e = omega (arith, (fits (Found kind n) e).ends.0, length-drop place text)
+
   pub unclosed-front : piece_at (drop place text) ≡ Unclosed → IsFront text NeverClosed (record { start = place; end = length text })
   unclosed-front e =
       let pulled = unclosed-pulled text place left e in
       record {
+        some = omega (arith, ap length pulled);
         kind = ap (λ ts. (front ts).kind) pulled;
         place = ap (λ ts. (front ts).span) pulled;
         spelled = λ h. absurd (true≢false (sym h));
@@ -199,6 +220,7 @@ pub end-front : (text : List ℕ) → IsFront text End (record { start = length 
 end-front text =
     let pulled = end-pulled text (length text) (omega arith) in
     record {
+      some = omega (arith, ap length pulled);
       kind = ap (λ ts. (front ts).kind) pulled;
       place = ap (λ ts. (front ts).span) pulled;
       spelled = λ h. absurd (true≢false (sym h));
@@ -209,6 +231,9 @@ end-front text =
       ends = IsCharBoundary-end text;
     }
 
+one-at : (text : List ℕ) (place : ℕ) → place < length text → get_or text place 0 ∷ [] ≡ take 1 (drop place text)
+one-at text place left = sym (ap (take 1) (drop-cons text place 0 left))
+
 -- symbols that begin nothing longer
 lone-symbol : (b : ℕ) → is_lone b ≡ true → is_symbol_byte b ≡ true
 unfolding is_symbol_byte
@@ -218,7 +243,7 @@ lone-alone : (b : ℕ) → is_lone b ≡ true → begins_pair b ≡ false
 lone-alone b h = not-true (begins_pair b) (any-byte (λ s. not (begins_pair s)) (codes ";,)[]=+&") b h refl)
 
 lone-no_comment : (b c : ℕ) → is_lone c ≡ false → is_lone b ≡ true → b ≢ c
-lone-no_comment b c no h e = true≢false (sym h ∙ ap is_lone e ∙ no)
+lone-no_comment b c other h e = true≢false (sym h ∙ ap is_lone e ∙ other)
 
 pub lone-is : (b : ℕ) (kind : Kind) → lone_symbol b ≡ Some kind → (is_lone b ≡ true) × (kind ≡ symbol_kind (b ∷ []))
 unfolding symbol_kind
@@ -229,3 +254,74 @@ lone-is b kind h =
 
 pub lone-piece : (bs : List ℕ) → 0 < length bs → is_lone (first bs) ≡ true → piece_at bs ≡ Found found.Symbol 1
 lone-piece bs some h = symbol-piece bs some (lone-symbol (first bs) h) (lone-alone (first bs) h) (lone-no_comment (first bs) 40 refl h) (lone-no_comment (first bs) 47 refl h)
+
+-- the word or typed literal at a place
+module _ (text : List ℕ) (place : ℕ) (utf8 : IsUtf8 text) (starts : IsCharBoundary text place) (left : place < length text) (letter : is_word_start (get_or text place 0) ≡ true) where
+  first-letter : is_word_start (first (drop place text)) ≡ true
+  first-letter = ap is_word_start (first-at text place) ∙ letter
+
+  pub word-front : (rest : List ℕ) (n : ℕ) (bytes : List ℕ) → rest ≡ drop place text → n ≡ prefix_len is_word_byte rest → typed_len rest ≡ 0 → bytes ≡ take n rest → IsFront text (word_kind bytes) (record { start = place; end = place + n })
+  unfolding kind_of
+  word-front rest n bytes e size none same =
+      found-front text place utf8 starts left found.Word n bytes
+      (word-piece (drop place text) (some-left text place left) first-letter (ap typed_len (sym e) ∙ none) ∙ ap (Found found.Word) (ap (prefix_len is_word_byte) (sym e) ∙ sym size)) (same ∙ ap (take n) e)
+
+  pub typed-front : (rest : List ℕ) (word n : ℕ) (bytes : List ℕ) → rest ≡ drop place text → word ≡ prefix_len is_word_byte rest → n ≡ typed_len rest → 0 < n → bytes ≡ take (word + n) rest → IsFront text (kind_of found.Typed bytes) (record { start = place; end = place + (word + n) })
+  typed-front rest word n bytes e word_is size some same =
+      let len : typed_len (drop place text) ≡ n = ap typed_len (sym e) ∙ sym size in
+      found-front text place utf8 starts left found.Typed (word + n) bytes
+      (typed-piece (drop place text) first-letter (omega (arith, len)) ∙ (λ i. Found found.Typed ((ap (prefix_len is_word_byte) (sym e) ∙ sym word_is) i + len i))) (same ∙ ap (take (word + n)) e)
+
+-- a word that no `#` follows begins no typed literal
+pub no_hash : (rest : List ℕ) (word : ℕ) → word ≡ prefix_len is_word_byte rest → get_or rest word 0 ≢ hash → typed_len rest ≡ 0
+no_hash rest word e h = no-typed rest (λ same. h (ap (λ n. get_or rest n 0) e ∙ sym (first-at rest (prefix_len is_word_byte rest)) ∙ same))
+
+pub nothing_follows : (rest : List ℕ) (word : ℕ) → word ≡ prefix_len is_word_byte rest → length rest ≤ word → typed_len rest ≡ 0
+nothing_follows rest word e h = no_hash rest word e (λ same. let none = get_or_past rest word 0 h in let never : 0 ≡ 35 = sym none ∙ same in omega arith)
+
+-- What the loop has passed over: what is pulled is the same from where it began.
+pub record HasPassed (text : List ℕ) (from place : ℕ) (quotes : OpenQuotes) : Type 0 where
+  pub same : pulled_at text from ≡ pulled_at text place
+  pub boundary : IsCharBoundary text place
+  pub are_open : AreOpen text place quotes
+
+pub nothing-passed : (text : List ℕ) (from : ℕ) (quotes : OpenQuotes) → IsCharBoundary text from → AreOpen text from quotes → HasPassed text from from quotes
+nothing-passed text from quotes boundary known = record { same = refl; boundary = boundary; are_open = known }
+
+AreOpen-end : (text : List ℕ) (place end : ℕ) (quotes : OpenQuotes) → place ≤ end → AreOpen text place quotes → AreOpen text end quotes
+AreOpen-end text place end quotes h known = subst (λ n. AreOpen text n quotes) (let back : place + (end - place) ≡ end = omega arith in back) (AreOpen-later text place (end - place) quotes known)
+
+module _ (text : List ℕ) (from place : ℕ) (quotes later : OpenQuotes) (passed : HasPassed text from place quotes) (known : AreOpen text place later) where
+  -- the token at the place, or what is behind all tokens, is the next
+  pub next : (kind : Kind) (span : Span) → span.start ≡ place → IsFront text kind span → IsNext text from kind span later
+  next kind span start found = record {
+    passed = passed.same ∙ ap (pulled_at text) (sym start);
+    front = found;
+    are_open = AreOpen-end text place span.end later (omega (arith, found.rises)) known;
+  }
+
+  pub passed-gap : (n : ℕ) → IsUtf8 text → place < length text → piece_at (drop place text) ≡ Gap n → HasPassed text from (place + n) later
+  passed-gap n utf8 left e =
+      let after = after-gap text place utf8 passed.boundary left n e in
+      record { same = passed.same ∙ after.0; boundary = after.1; are_open = AreOpen-later text place n later known }
+
+  pub next-found : (kind : TokenKind) (n : ℕ) (bytes : List ℕ) → IsUtf8 text → place < length text → piece_at (drop place text) ≡ Found kind n → bytes ≡ take n (drop place text) → IsNext text from (kind_of kind bytes) (record { start = place; end = place + n }) later
+  next-found kind n bytes utf8 left e same = next (kind_of kind bytes) (record { start = place; end = place + n }) refl (found-front text place utf8 passed.boundary left kind n bytes e same)
+
+  pub next-unclosed : IsUtf8 text → place < length text → piece_at (drop place text) ≡ Unclosed → IsNext text from NeverClosed (record { start = place; end = length text }) later
+  next-unclosed utf8 left e = next NeverClosed (record { start = place; end = length text }) refl (unclosed-front text place utf8 passed.boundary left e)
+
+  pub next-end : length text ≤ place → IsNext text from End (record { start = length text; end = length text }) later
+  next-end done = next End (record { start = length text; end = length text }) (omega (arith, passed.boundary.0)) (end-front text)
+
+  pub next-symbol : (kind : Kind) → IsUtf8 text → place < length text → lone_symbol (get_or text place 0) ≡ Some kind → IsNext text from kind (record { start = place; end = place + 1 }) later
+  unfolding kind_of
+  next-symbol kind utf8 left e =
+      let here = first-at text place in
+      let is = lone-is (get_or text place 0) kind e in
+      let piece = lone-piece (drop place text) (some-left text place left) (ap is_lone here ∙ is.0) in
+      subst (λ k. IsNext text from k (record { start = place; end = place + 1 }) later) (sym is.1)
+      (next-found found.Symbol 1 (get_or text place 0 ∷ []) utf8 left piece (one-at text place left))
+
+pub passed-blank : (text : List ℕ) (from place : ℕ) (quotes : OpenQuotes) → IsUtf8 text → place < length text → HasPassed text from place quotes → is_blank (get_or text place 0) ≡ true → HasPassed text from (place + 1) quotes
+passed-blank text from place quotes utf8 left passed blank = passed-gap text from place quotes quotes passed passed.are_open 1 utf8 left (blank-piece (drop place text) (ap is_blank (first-at text place) ∙ blank))

@@ -3,6 +3,7 @@ use Rattle.std.specs.Prelude.{◌≡◌, ℕ, ◌<◌, ◌≤◌, true, false, L
 use Rattle.std.specs.Str.{IsCharBoundary, str_to_ascii_uppercase}
 use Rattle.fb_tree.specs.Text.Scan.{AreOpen}
 use Rattle.fb_tree.specs.Text.Words.{is_word}
+use Rattle.fb_tree.specs.Text.declared.quotes.OpenQuotes.{OpenQuotes}
 use Rattle.fb_tree.specs.Text.declared.token.Span.{Span}
 use Rattle.fb_grammar.specs.declared.kind.Kind.{Kind}
 use Rattle.fb_grammar.specs.declared.lexeme.Lexeme.{Lexeme}
@@ -23,6 +24,7 @@ pub record IsSpelling (bytes spelled : List ℕ) : Type 0 where
 -- The first of what is pulled from where a span begins has this kind and this span. What is pulled from its end on is what
 -- follows it, and nothing follows what is behind all tokens.
 pub record IsFront (text : List ℕ) (found : Kind) (span : Span) : Type 0 where
+  pub some : 0 < length (pulled_at text span.start)
   pub kind : (front (pulled_at text span.start)).kind ≡ found
   pub place : (front (pulled_at text span.start)).span ≡ span
   pub spelled : is_among name_kinds found ≡ true → IsSpelling (slice_range text span.start span.end) (front (pulled_at text span.start)).name
@@ -32,6 +34,12 @@ pub record IsFront (text : List ℕ) (found : Kind) (span : Span) : Type 0 where
   pub starts : IsCharBoundary text span.start
   pub ends : IsCharBoundary text span.end
 
+-- From a place on, blanks and comments are passed over up to where the span begins, and the open quotes are known from its end on.
+pub record IsNext (text : List ℕ) (from : ℕ) (found : Kind) (span : Span) (quotes : OpenQuotes) : Type 0 where
+  pub passed : pulled_at text from ≡ pulled_at text span.start
+  pub front : IsFront text found span
+  pub are_open : AreOpen text span.end quotes
+
 -- what is pulled from where the next token stands
 abbrev pub pulled : Inside → List Lexeme
 pulled a = pulled_at a.text.now a.next.place.start
@@ -40,4 +48,4 @@ pulled a = pulled_at a.text.now a.next.place.start
 pub record IsPulled (a : Inside) : Type 0 where
   pub short : length a.text.now < 4294967296
   pub front : IsFront a.text.now a.next.kind a.next.place
-  pub quotes : AreOpen a.text.now a.next.place.end a.quotes
+  pub are_open : AreOpen a.text.now a.next.place.end a.quotes

@@ -1,12 +1,15 @@
 //! The tokens of a text that are still to be read. Each is found when the one before it is taken, and no list of them is made.
 ghost use Rattle.fb_grammar.specs.Kind.{is_among, name_kinds};
-ghost use Rattle.fb_grammar.specs.Pulled.{IsFront, pulled_at};
-ghost use Rattle.fb_grammar.specs.Upcoming.{are_over, closing, front, tokens_to_end};
-ghost use Rattle.fb_tree.specs.Text.Bytes.{is_word_start};
-ghost use Rattle.fb_tree.specs.Text.Scan.{AreOpen};
+ghost use Rattle.fb_grammar.specs.Lexemes.{lexemes_of};
+ghost use Rattle.fb_grammar.specs.Pulled.{IsFront, IsNext};
+ghost use Rattle.fb_grammar.specs.Upcoming.{are_over, closing, front, tokens_to_end, unended};
+ghost use Rattle.fb_tree.specs.Text.Bytes.{is_word_byte, is_word_start};
+ghost use Rattle.fb_tree.specs.Text.Scan.{AreOpen, typed_len};
+ghost use Rattle.fb_tree.specs.Text.Tokens.{LiesIn};
 ghost use Rattle.fb_tree.specs.Text.Words.{is_word};
-ghost use Rattle.std.specs.Prelude.{◌≡◌, ◌<◌, ◌≤◌, false, true, drop, length, slice_index};
-ghost use Rattle.std.specs.Str.{IsCharBoundary, str_to_ascii_uppercase};
+ghost use Rattle.std.specs.List.{prefix_len};
+ghost use Rattle.std.specs.Prelude.{◌≡◌, ℕ, ◌+◌, ◌<◌, ◌≤◌, false, true, All, List, drop, length, slice_index};
+ghost use Rattle.std.specs.Str.{IsCharBoundary, IsUtf8, str_to_ascii_uppercase};
 
 use crate::keywords::lone_symbol;
 use crate::kind::Kind;
@@ -48,9 +51,10 @@ impl<'t> Tokens<'t> {
         Tokens { text, next, quotes }
     }
 
-    /// The kind of the next token.
+    /// The kind of the next token. There is always one, or what is behind all tokens.
     pub fn kind(&self) -> Kind
-        ensures { result ≡ (front self.now).kind }
+        ensures kind { result ≡ (front self.now).kind }
+        ensures some { 0 < length self.now }
     {
         self.next.kind
     }
@@ -89,7 +93,7 @@ impl<'t> Tokens<'t> {
 
     /// The comment that is never closed, if there is one, behind all tokens that are left.
     pub fn unclosed(mut self) -> Option<Place>
-        ensures { result ≡ closing self }
+        ensures { result ≡ closing self.entry }
     {
         while !self.is_over() {
             self.take();
@@ -120,6 +124,19 @@ fn front_at(kind: Kind, start: usize, end: usize) -> Front
     }
 }
 
+/// The length of `#` and a value after the word at the beginning, 0 if there is none. A word that no `#` follows is not read again.
+fn typed_run(bytes: &[u8], word: usize) -> usize
+    requires { word ≡ prefix_len is_word_byte bytes.now }
+    ensures value { result ≡ typed_len bytes.now }
+    ensures within { word + result ≤ length bytes.now }
+{
+    if word < bytes.len() && bytes[word] == b'#' {
+        typed_len(bytes, word)
+    } else {
+        0
+    }
+}
+
 /// The word or typed literal at a place.
 fn word_at(text: &str, place: usize) -> Front
     requires place { place < length text.now }
@@ -131,15 +148,13 @@ fn word_at(text: &str, place: usize) -> Front
 {
     let rest = &text.as_bytes()[place..];
     let word = word_run(rest);
-    if word < rest.len() && rest[word] == b'#' {
-        let typed = typed_len(rest, word);
-        if typed > 0 {
-            let end = word + typed;
-            let kind = kind_of(TokenKind::Typed, &rest[..end]);
-            return front_at(kind, place, place + end);
-        }
+    let typed = typed_run(rest, word);
+    if typed == 0 {
+        return front_at(word_kind(&rest[..word]), place, place + word);
     }
-    front_at(word_kind(&rest[..word]), place, place + word)
+    let end = word + typed;
+    let kind = kind_of(TokenKind::Typed, &rest[..end]);
+    front_at(kind, place, place + end)
 }
 
 /// The token at a place or the first after it, or what is behind all tokens.
@@ -147,9 +162,7 @@ fn next_front(text: &str, from: usize, quotes: &mut OpenQuotes) -> Front
     requires boundary { IsCharBoundary text.now from }
     requires short { length text.now < 4294967296 }
     requires quotes { AreOpen text.now from quotes.old }
-    ensures passed { pulled_at text.now from ≡ pulled_at text.now result.place.start }
-    ensures front { IsFront text.now result.kind result.place }
-    ensures quotes { AreOpen text.now result.place.end quotes.new }
+    ensures { IsNext text.now from result.kind result.place quotes.new }
 {
     let bytes = text.as_bytes();
     let mut place = from;
@@ -174,3 +187,10 @@ fn next_front(text: &str, from: usize, quotes: &mut OpenQuotes) -> Front
     }
     front_at(Kind::End, bytes.len(), bytes.len())
 }
+
+/// What is pulled of a text are its tokens, and then its end or a comment that is never closed. All of this lies in the text.
+pub fn tokens_are_pulled()
+    ensures tokens { (text : List ℕ) → unended (tokens_to_end text) ≡ lexemes_of text }
+    ensures within { (text : List ℕ) → IsUtf8 text
+        → All (λ token. LiesIn text token.span) (tokens_to_end text) }
+{}

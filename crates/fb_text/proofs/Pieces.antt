@@ -10,7 +10,7 @@ use Rattle.fb_text.specs.Forms.{after_word, is_date, is_real, is_symbol_byte, is
 use Rattle.fb_text.specs.Scan.{string_len, symbol_len, typed_len, typed_tail_len}
 use Rattle.fb_text.specs.Tokens.{piece_at, token_at}
 use Rattle.fb_text.specs.declared.token.TokenKind.TheVariants.{Word, Typed, Symbol}
-use Rattle.fb_text.specs.declared.scan.Piece.TheVariants.{Found}
+use Rattle.fb_text.specs.declared.scan.Piece.TheVariants.{Found, Gap}
 use Rattle.fb_text.proofs.Boundaries.{begins}
 use Rattle.fb_text.proofs.LongestToken.{any-byte, any-pair, token-symbol, token-typed, token-word}
 
@@ -21,6 +21,10 @@ token-piece bs blank no_open no_slash =
     cond-false (is_blank (first bs)) _ _ blank
     ∙ cond-false (starts_with nat_eq bs (codes "(*")) _ _ (false_from_ne_true _ (λ t. no_open (begins 40 42 bs t).first))
     ∙ cond-false (starts_with nat_eq bs (codes "//")) _ _ (false_from_ne_true _ (λ t. no_slash (begins 47 47 bs t).first))
+
+pub blank-piece : (bs : List ℕ) → is_blank (first bs) ≡ true → piece_at bs ≡ Gap 1
+unfolding piece_at
+blank-piece bs blank = cond-true (is_blank (first bs)) (Gap 1) _ blank
 
 letter-blank : (b : ℕ) → is_word_start b ≡ true → is_blank b ≡ false
 unfolding is_word_start is_blank
