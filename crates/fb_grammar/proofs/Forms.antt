@@ -1,5 +1,5 @@
 -- Spellings, prefixes and what reading by a predictive form gives.
-use Rattle.std.proofs.Common.{◌≡◌, ℕ, zero, suc, ◌≤◌, ◌<◌, Bool, true, false, cond, ◌&&◌, ◌||◌, not, nat_eq, ◌⊎◌, inl, inr, List, [], ◌∷◌, ◌++◌, length, Some, None, Ok, Err, refl, sym, ◌∙◌, ap, subst, arith, append_assoc, length-append, ap₂}
+use Rattle.std.proofs.Common.{◌≡◌, ℕ, zero, suc, ◌≤◌, ◌<◌, Bool, true, false, cond, ◌||◌, not, nat_eq, ◌⊎◌, inl, inr, List, [], ◌∷◌, ◌++◌, length, Some, None, Ok, Err, refl, sym, ◌∙◌, ap, subst, arith, append_assoc, length-append, ap₂}
 use Rattle.std.proofs.lemmas.Bool.{and_parts, or_left, or_right}
 use borrow.Author.Tests.{eqb-true}
 use Rattle.fb_tree.proofs.Text.Tests.{not_true}
@@ -44,7 +44,7 @@ none_right a b (t ∷ ts) h = go (is_among b t.kind) refl
 same_from_code : (a b k : Kind) → same_kind a k ≡ true → same_kind b k ≡ same_kind b a
 same_from_code a b k h = ap (λ n. nat_eq (code_of b) n) (sym (eqb-true (code_of a) (code_of k) h))
 
-among_same : (a : Kind) (b : List Kind) (k : Kind) → same_kind a k ≡ true → is_among b k ≡ is_among b a
+pub among_same : (a : Kind) (b : List Kind) (k : Kind) → same_kind a k ≡ true → is_among b k ≡ is_among b a
 among_same a [] k h = refl
 among_same a (x ∷ b) k h = rw (same_from_code a x k h, among_same a b k h) refl
 
@@ -53,7 +53,7 @@ pub apart_among : (a b : List Kind) (k : Kind) → are_apart a b ≡ true → is
 apart_among [] b k h m = cc
 apart_among (x ∷ a) b k h m = elim (or_cases (same_kind x k) (is_among a k) m) [ inl p ↦ among_same x b k p ∙ not_true (is_among b x) (and_parts (not (is_among b x)) (are_apart a b) h).0 | inr q ↦ apart_among a b k (and_parts (not (is_among b x)) (are_apart a b) h).1 q ]
 
-apart_among_left : (a b : List Kind) (k : Kind) → are_apart a b ≡ true → is_among b k ≡ true → is_among a k ≡ false
+pub apart_among_left : (a b : List Kind) (k : Kind) → are_apart a b ≡ true → is_among b k ≡ true → is_among a k ≡ false
 apart_among_left a b k h m = go (is_among a k) refl
   where
     go : (r : Bool) → is_among a k ≡ r → r ≡ false

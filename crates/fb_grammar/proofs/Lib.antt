@@ -3,7 +3,11 @@ pub mod Lookups
 pub mod NameWords
 pub mod Lexing
 pub mod Forms
-pub mod Loops
 pub mod ReadKinds
 pub mod Repeating
+pub mod Loops
+pub mod Pulling
 pub mod Shapes
+pub mod PullLemmas
+pub mod Pulls
+pub mod Ending

@@ -6,7 +6,7 @@ use Rattle.std.proofs.lemmas.Bool.{eqb-true}
 use Rattle.std.proofs.lemmas.Bool.Decides.{nat_tests}
 use Rattle.fb_tree.proofs.Text.Longest.{by_test}
 use Rattle.fb_grammar.specs.declared.kind.Kind.{Kind}
-use Rattle.fb_grammar.specs.declared.kind.Kind.TheVariants.{FunctionBlock, EndFunctionBlock, Adapter, EndAdapter, Subapplication, EndSubapplication, System, EndSystem, Application, EndApplication, Device, EndDevice, Resource, EndResource, Mappings, EndMappings, EventInput, EventOutput, EndEvent, Var, VarInput, VarOutput, EndVar, Plugs, EndPlugs, Sockets, EndSockets, Fbs, EndFbs, Subapps, EndSubapps, EventConnections, DataConnections, AdapterConnections, EndConnections, EcStates, EndStates, EcTransitions, EndTransitions, Algorithm, EndAlgorithm, Service, EndService, With, To, Array, Of, If, Then, Elsif, Else, EndIf, Case, EndCase, For, By, Do, EndFor, While, EndWhile, Repeat, Until, EndRepeat, Exit, Return, And, Or, Xor, Not, Mod, True, False, NameIn, NameOn, NameSt, Name, Zero, One, Number, RealNumber, TypedTruth, TypedInteger, TypedBits, TypedFree, TypedOther, Text, Assign, LessEqual, GreaterEqual, NotEqual, Power, Arrow, Range, Semicolon, Colon, Comma, Point, OpenParenthesis, CloseParenthesis, OpenBracket, CloseBracket, Equal, Less, Greater, Plus, Minus, Times, Divide, Ampersand, Other, TypeWord, EndType, Struct, EndStruct}
+use Rattle.fb_grammar.specs.declared.kind.Kind.TheVariants.{FunctionBlock, EndFunctionBlock, Adapter, EndAdapter, Subapplication, EndSubapplication, System, EndSystem, Application, EndApplication, Device, EndDevice, Resource, EndResource, Mappings, EndMappings, EventInput, EventOutput, EndEvent, Var, VarInput, VarOutput, EndVar, Plugs, EndPlugs, Sockets, EndSockets, Fbs, EndFbs, Subapps, EndSubapps, EventConnections, DataConnections, AdapterConnections, EndConnections, EcStates, EndStates, EcTransitions, EndTransitions, Algorithm, EndAlgorithm, Service, EndService, With, To, Array, Of, If, Then, Elsif, Else, EndIf, Case, EndCase, For, By, Do, EndFor, While, EndWhile, Repeat, Until, EndRepeat, Exit, Return, And, Or, Xor, Not, Mod, True, False, NameIn, NameOn, NameSt, Name, Zero, One, Number, RealNumber, TypedTruth, TypedInteger, TypedBits, TypedFree, TypedOther, Text, Assign, LessEqual, GreaterEqual, NotEqual, Power, Arrow, Range, Semicolon, Colon, Comma, Point, OpenParenthesis, CloseParenthesis, OpenBracket, CloseBracket, Equal, Less, Greater, Plus, Minus, Times, Divide, Ampersand, Other, TypeWord, EndType, Struct, EndStruct, End, NeverClosed}
 use Rattle.fb_grammar.specs.Kind.{code_of, same_kind, is_among}
 
 -- all kinds, by their numbers
@@ -23,7 +23,7 @@ all_kinds =
     TypedTruth ∷ TypedInteger ∷ TypedBits ∷ TypedFree ∷ TypedOther ∷ Text ∷ Assign ∷ LessEqual ∷ GreaterEqual ∷
     NotEqual ∷ Power ∷ Arrow ∷ Range ∷ Semicolon ∷ Colon ∷ Comma ∷ Point ∷ OpenParenthesis ∷ CloseParenthesis ∷
     OpenBracket ∷ CloseBracket ∷ Equal ∷ Less ∷ Greater ∷ Plus ∷ Minus ∷ Times ∷ Divide ∷ Ampersand ∷ Other ∷
-    TypeWord ∷ EndType ∷ Struct ∷ EndStruct ∷ []
+    TypeWord ∷ EndType ∷ Struct ∷ EndStruct ∷ End ∷ NeverClosed ∷ []
 
 kind_at : (kind : Kind) → get_or all_kinds (code_of kind) Other ≡ kind
 kind_at FunctionBlock = refl
@@ -140,6 +140,8 @@ kind_at TypeWord = refl
 kind_at EndType = refl
 kind_at Struct = refl
 kind_at EndStruct = refl
+kind_at End = refl
+kind_at NeverClosed = refl
 
 pub same_code : (a b : Kind) → code_of a ≡ code_of b → a ≡ b
 same_code a b e = sym (kind_at a) ∙ ap (λ n. get_or all_kinds n Other) e ∙ kind_at b

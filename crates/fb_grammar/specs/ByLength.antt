@@ -1,5 +1,6 @@
 -- Words and symbols by their length, as they are looked up.
-use Rattle.std.specs.Prelude.{ℕ, ◌&&◌, List, length, nat_le, nat_eq}
+use Rattle.std.specs.Prelude.{ℕ, ◌&&◌, List, length, nat_le, nat_eq, slice_index}
+use Rattle.std.specs.Char.{to_ascii_lowercase}
 use Rattle.std.specs.List.{filter}
 use Rattle.fb_grammar.specs.declared.kind.Kind.{Kind}
 use Rattle.fb_grammar.specs.ReservedWords.{reserved_words, symbols}
@@ -11,3 +12,7 @@ words_between low high = filter (λ e. nat_le low (length e.0) && nat_le (length
 -- the symbols of so many bytes
 unfoldable pub symbols_of : ℕ → List (List ℕ × Kind)
 symbols_of n = filter (λ e. nat_eq (length e.0) n) symbols
+
+-- the first letter in lower case
+abbrev pub initial : List ℕ → ℕ
+initial word = to_ascii_lowercase (slice_index word 0)

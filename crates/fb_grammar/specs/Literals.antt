@@ -41,6 +41,10 @@ literal_form True = form.Truth
 literal_form False = form.Truth
 literal_form _ = no_literal
 
+-- the literal of a kind at a place
+abbrev pub literal_at : Kind → Span → Literal
+literal_at kind span = record { form = literal_form kind; span = span }
+
 abbrev pub literal_use : Lexeme → Literal
 literal_use token = record { form = literal_form token.kind; span = token.span }
 

@@ -1,21 +1,51 @@
 -- How a token that was pulled stands to the one list of tokens.
-use Rattle.std.specs.Prelude.{◌≡◌, ◌<◌, false, List, length, drop}
-use Rattle.std.specs.Str.{IsCharBoundary}
+use Rattle.std.specs.Prelude.{◌≡◌, ℕ, ◌<◌, ◌≤◌, true, false, List, [], length, drop, slice_range}
+use Rattle.std.specs.Str.{IsCharBoundary, str_to_ascii_uppercase}
 use Rattle.fb_tree.specs.Text.Scan.{AreOpen}
+use Rattle.fb_tree.specs.Text.Words.{is_word}
+use Rattle.fb_tree.specs.Text.declared.quotes.OpenQuotes.{OpenQuotes}
+use Rattle.fb_tree.specs.Text.declared.token.Span.{Span}
+use Rattle.fb_grammar.specs.declared.kind.Kind.{Kind}
 use Rattle.fb_grammar.specs.declared.lexeme.Lexeme.{Lexeme}
 use Rattle.fb_grammar.specs.declared.upcoming.Tokens.TheInside.{Inside}
+use Rattle.fb_grammar.specs.Kind.{is_among, name_kinds}
 use Rattle.fb_grammar.specs.Upcoming.{are_over, front, pulled_from}
+
+-- what is pulled of a text from a place on
+abbrev pub pulled_at : List ℕ → ℕ → List Lexeme
+pulled_at text place = pulled_from text 0 place (drop place text)
+
+-- bytes that are a word of at most 64 bytes, and spell the name
+pub record IsSpelling (bytes spelled : List ℕ) : Type 0 where
+  pub word : is_word bytes ≡ true
+  pub short : length bytes ≤ 64
+  pub name : str_to_ascii_uppercase bytes ≡ spelled
+
+-- The first of what is pulled from where a span begins has this kind and this span. What is pulled from its end on is what
+-- follows it, and nothing follows what is behind all tokens.
+pub record IsFront (text : List ℕ) (found : Kind) (span : Span) : Type 0 where
+  pub some : 0 < length (pulled_at text span.start)
+  pub kind : (front (pulled_at text span.start)).kind ≡ found
+  pub place : (front (pulled_at text span.start)).span ≡ span
+  pub spelled : is_among name_kinds found ≡ true → IsSpelling (slice_range text span.start span.end) (front (pulled_at text span.start)).name
+  pub following : are_over (pulled_at text span.start) ≡ false → pulled_at text span.end ≡ drop 1 (pulled_at text span.start)
+  pub last : are_over (pulled_at text span.start) ≡ true → drop 1 (pulled_at text span.start) ≡ []
+  pub rises : span.start ≤ span.end
+  pub starts : IsCharBoundary text span.start
+  pub ends : IsCharBoundary text span.end
+
+-- From a place on, blanks and comments are passed over up to where the span begins, and the open quotes are known from its end on.
+pub record IsNext (text : List ℕ) (from : ℕ) (found : Kind) (span : Span) (quotes : OpenQuotes) : Type 0 where
+  pub passed : pulled_at text from ≡ pulled_at text span.start
+  pub front : IsFront text found span
+  pub are_open : AreOpen text span.end quotes
 
 -- what is pulled from where the next token stands
 abbrev pub pulled : Inside → List Lexeme
-pulled a = pulled_from a.text.now 0 a.place.start (drop a.place.start a.text.now)
+pulled a = pulled_at a.text.now a.next.place.start
 
--- The next token has the kind and place that were found, and what is pulled from its end on is what follows it. Between characters
--- begins what is looked at next, and the open quotes are known from there on.
+-- The next token has the kind and place that were found, and from its end on the open quotes are known.
 pub record IsPulled (a : Inside) : Type 0 where
   pub short : length a.text.now < 4294967296
-  pub kind : (front (pulled a)).kind ≡ a.kind
-  pub place : (front (pulled a)).span ≡ a.place
-  pub following : are_over (pulled a) ≡ false → pulled_from a.text.now 0 a.place.end (drop a.place.end a.text.now) ≡ drop 1 (pulled a)
-  pub ends : IsCharBoundary a.text.now a.place.end
-  pub quotes : AreOpen a.text.now a.place.end a.quotes
+  pub front : IsFront a.text.now a.next.kind a.next.place
+  pub are_open : AreOpen a.text.now a.next.place.end a.quotes

@@ -1,5 +1,6 @@
 -- The tokens of a text as they are pulled from it: all up to a comment that is never closed, and then this comment or the end of the text.
-use Rattle.std.specs.Prelude.{◌≡◌, ℕ, zero, false, suc, ◌+◌, ◌-◌, Bool, List, [], ◌∷◌, length, codes, if◌then◌else◌, Option, Some, None, Result, Ok, Err}
+use Rattle.std.specs.Prelude.{◌≡◌, ◌==◌, ℕ, zero, false, suc, ◌+◌, ◌-◌, Bool, List, [], ◌∷◌, length, codes, if◌then◌else◌, Option, Some, None, Result, Ok, Err}
+use Rattle.std.specs.List.{list_any}
 use Rattle.fb_tree.specs.Text.Reads.{token_of}
 use Rattle.fb_tree.specs.Text.Tokens.{piece_at}
 use Rattle.fb_tree.specs.Text.declared.scan.Piece.{Piece}
@@ -10,6 +11,14 @@ use Rattle.fb_grammar.specs.declared.kind.Kind.TheVariants.{End, NeverClosed}
 use Rattle.fb_grammar.specs.declared.lexeme.Lexeme.{Lexeme}
 use Rattle.fb_grammar.specs.Kind.{is_among, same_kind}
 use Rattle.fb_grammar.specs.Lexemes.{lexeme_of}
+use Rattle.fb_grammar.specs.ReservedWords.{symbol}
+
+-- the symbols of one byte that begin neither a longer symbol nor a comment
+abbrev pub is_lone : ℕ → Bool
+is_lone b = list_any (λ s. s == b) (codes ";,)[]=+&")
+
+abbrev pub lone_symbol : ℕ → Option Kind
+lone_symbol b = if is_lone b then symbol (b ∷ []) else None
 
 -- what stands behind all tokens, from a place up to the end of the text
 abbrev pub closing_at : Kind → ℕ → ℕ → Lexeme

@@ -1,532 +1,283 @@
 //! Reserved words and symbols.
-ghost use Rattle.std.specs.Prelude.{◌≡◌, ◌∷◌, [], nat_eq};
+ghost use Rattle.std.specs.Prelude.{◌≡◌, ◌∷◌, [], map, nat_eq};
 ghost use Rattle.std.specs.Map.{lookup};
 ghost use Rattle.std.specs.Cmp.Lexicographic.{pointwise};
 ghost use Rattle.fb_tree.specs.Text.Forms.{same_word};
 ghost use Rattle.fb_grammar.specs.ReservedWords.{keyword, symbol};
-ghost use Rattle.fb_grammar.specs.ByLength.{words_between, symbols_of};
+ghost use Rattle.fb_grammar.specs.ByLength.{initial, words_between, symbols_of};
+ghost use Rattle.fb_grammar.specs.Upcoming.{lone_symbol};
 
 use crate::kind::Kind;
 use fb_tree::text::same_word;
 
+/// The first letter in lower case, 0 if there is none.
+fn initial(word: &[u8]) -> u8
+    ensures { result ≡ initial word.now }
+{
+    match word {
+        [first, ..] => first.to_ascii_lowercase(),
+        [] => 0,
+    }
+}
+
+/// The kind of the first of these words that this is in any case.
+fn among(word: &[u8], words: &[(&[u8], Kind)]) -> Option<Kind>
+    ensures { result ≡ lookup (same_word word.now) (map (λ e. (e.0.now, e.1)) words.now) }
+{
+    for (spelling, kind) in words {
+        if same_word(word, spelling) {
+            return Some(*kind);
+        }
+    }
+    None
+}
+
 /// The reserved words of 2 letters.
-#[tactic(auto, unfolding(crate::specs::ByLength::words_between))]
 fn word_of_2(word: &[u8]) -> Option<Kind>
     ensures { result ≡ lookup (same_word word.now) (words_between 2 2) }
 {
-    match word {
-        [b'T' | b't', ..] => {
-            if same_word(word, b"TO") {
-                Some(Kind::To)
-            } else {
-                None
-            }
-        }
-        [b'O' | b'o', ..] => {
-            if same_word(word, b"OF") {
-                Some(Kind::Of)
-            } else if same_word(word, b"OR") {
-                Some(Kind::Or)
-            } else {
-                None
-            }
-        }
-        [b'I' | b'i', ..] => {
-            if same_word(word, b"IF") {
-                Some(Kind::If)
-            } else {
-                None
-            }
-        }
-        [b'B' | b'b', ..] => {
-            if same_word(word, b"BY") {
-                Some(Kind::By)
-            } else {
-                None
-            }
-        }
-        [b'D' | b'd', ..] => {
-            if same_word(word, b"DO") {
-                Some(Kind::Do)
-            } else {
-                None
-            }
-        }
+    match initial(word) {
+        b't' => among(word, &[(b"TO", Kind::To)]),
+        b'o' => among(word, &[(b"OF", Kind::Of), (b"OR", Kind::Or)]),
+        b'i' => among(word, &[(b"IF", Kind::If)]),
+        b'b' => among(word, &[(b"BY", Kind::By)]),
+        b'd' => among(word, &[(b"DO", Kind::Do)]),
         _ => None,
     }
 }
 
 /// The reserved words of 3 letters.
-#[tactic(auto, unfolding(crate::specs::ByLength::words_between))]
 fn word_of_3(word: &[u8]) -> Option<Kind>
     ensures { result ≡ lookup (same_word word.now) (words_between 3 3) }
 {
-    match word {
-        [b'V' | b'v', ..] => {
-            if same_word(word, b"VAR") {
-                Some(Kind::Var)
-            } else {
-                None
-            }
-        }
-        [b'F' | b'f', ..] => {
-            if same_word(word, b"FBS") {
-                Some(Kind::Fbs)
-            } else if same_word(word, b"FOR") {
-                Some(Kind::For)
-            } else {
-                None
-            }
-        }
-        [b'A' | b'a', ..] => {
-            if same_word(word, b"AND") {
-                Some(Kind::And)
-            } else {
-                None
-            }
-        }
-        [b'X' | b'x', ..] => {
-            if same_word(word, b"XOR") {
-                Some(Kind::Xor)
-            } else {
-                None
-            }
-        }
-        [b'N' | b'n', ..] => {
-            if same_word(word, b"NOT") {
-                Some(Kind::Not)
-            } else {
-                None
-            }
-        }
-        [b'M' | b'm', ..] => {
-            if same_word(word, b"MOD") {
-                Some(Kind::Mod)
-            } else {
-                None
-            }
-        }
+    match initial(word) {
+        b'v' => among(word, &[(b"VAR", Kind::Var)]),
+        b'f' => among(word, &[(b"FBS", Kind::Fbs), (b"FOR", Kind::For)]),
+        b'a' => among(word, &[(b"AND", Kind::And)]),
+        b'x' => among(word, &[(b"XOR", Kind::Xor)]),
+        b'n' => among(word, &[(b"NOT", Kind::Not)]),
+        b'm' => among(word, &[(b"MOD", Kind::Mod)]),
         _ => None,
     }
 }
 
 /// The reserved words of 4 letters.
-#[tactic(auto, unfolding(crate::specs::ByLength::words_between))]
 fn word_of_4(word: &[u8]) -> Option<Kind>
     ensures { result ≡ lookup (same_word word.now) (words_between 4 4) }
 {
-    match word {
-        [b'W' | b'w', ..] => {
-            if same_word(word, b"WITH") {
-                Some(Kind::With)
-            } else {
-                None
-            }
-        }
-        [b'T' | b't', ..] => {
-            if same_word(word, b"THEN") {
-                Some(Kind::Then)
-            } else if same_word(word, b"TRUE") {
-                Some(Kind::True)
-            } else if same_word(word, b"TYPE") {
-                Some(Kind::TypeWord)
-            } else {
-                None
-            }
-        }
-        [b'E' | b'e', ..] => {
-            if same_word(word, b"ELSE") {
-                Some(Kind::Else)
-            } else if same_word(word, b"EXIT") {
-                Some(Kind::Exit)
-            } else {
-                None
-            }
-        }
-        [b'C' | b'c', ..] => {
-            if same_word(word, b"CASE") {
-                Some(Kind::Case)
-            } else {
-                None
-            }
-        }
+    match initial(word) {
+        b'w' => among(word, &[(b"WITH", Kind::With)]),
+        b't' => among(
+            word,
+            &[
+                (b"THEN", Kind::Then),
+                (b"TRUE", Kind::True),
+                (b"TYPE", Kind::TypeWord),
+            ],
+        ),
+        b'e' => among(word, &[(b"ELSE", Kind::Else), (b"EXIT", Kind::Exit)]),
+        b'c' => among(word, &[(b"CASE", Kind::Case)]),
         _ => None,
     }
 }
 
 /// The reserved words of 5 letters.
-#[tactic(auto, unfolding(crate::specs::ByLength::words_between))]
 fn word_of_5(word: &[u8]) -> Option<Kind>
     ensures { result ≡ lookup (same_word word.now) (words_between 5 5) }
 {
-    match word {
-        [b'P' | b'p', ..] => {
-            if same_word(word, b"PLUGS") {
-                Some(Kind::Plugs)
-            } else {
-                None
-            }
-        }
-        [b'A' | b'a', ..] => {
-            if same_word(word, b"ARRAY") {
-                Some(Kind::Array)
-            } else {
-                None
-            }
-        }
-        [b'E' | b'e', ..] => {
-            if same_word(word, b"ELSIF") {
-                Some(Kind::Elsif)
-            } else {
-                None
-            }
-        }
-        [b'W' | b'w', ..] => {
-            if same_word(word, b"WHILE") {
-                Some(Kind::While)
-            } else {
-                None
-            }
-        }
-        [b'U' | b'u', ..] => {
-            if same_word(word, b"UNTIL") {
-                Some(Kind::Until)
-            } else {
-                None
-            }
-        }
-        [b'F' | b'f', ..] => {
-            if same_word(word, b"FALSE") {
-                Some(Kind::False)
-            } else {
-                None
-            }
-        }
+    match initial(word) {
+        b'p' => among(word, &[(b"PLUGS", Kind::Plugs)]),
+        b'a' => among(word, &[(b"ARRAY", Kind::Array)]),
+        b'e' => among(word, &[(b"ELSIF", Kind::Elsif)]),
+        b'w' => among(word, &[(b"WHILE", Kind::While)]),
+        b'u' => among(word, &[(b"UNTIL", Kind::Until)]),
+        b'f' => among(word, &[(b"FALSE", Kind::False)]),
         _ => None,
     }
 }
 
 /// The reserved words of 6 letters.
-#[tactic(auto, unfolding(crate::specs::ByLength::words_between))]
 fn word_of_6(word: &[u8]) -> Option<Kind>
     ensures { result ≡ lookup (same_word word.now) (words_between 6 6) }
 {
-    match word {
-        [b'S' | b's', ..] => {
-            if same_word(word, b"SYSTEM") {
-                Some(Kind::System)
-            } else if same_word(word, b"STRUCT") {
-                Some(Kind::Struct)
-            } else {
-                None
-            }
-        }
-        [b'D' | b'd', ..] => {
-            if same_word(word, b"DEVICE") {
-                Some(Kind::Device)
-            } else {
-                None
-            }
-        }
-        [b'E' | b'e', ..] => {
-            if same_word(word, b"END_IF") {
-                Some(Kind::EndIf)
-            } else {
-                None
-            }
-        }
-        [b'R' | b'r', ..] => {
-            if same_word(word, b"REPEAT") {
-                Some(Kind::Repeat)
-            } else if same_word(word, b"RETURN") {
-                Some(Kind::Return)
-            } else {
-                None
-            }
-        }
+    match initial(word) {
+        b's' => among(
+            word,
+            &[(b"SYSTEM", Kind::System), (b"STRUCT", Kind::Struct)],
+        ),
+        b'd' => among(word, &[(b"DEVICE", Kind::Device)]),
+        b'e' => among(word, &[(b"END_IF", Kind::EndIf)]),
+        b'r' => among(
+            word,
+            &[(b"REPEAT", Kind::Repeat), (b"RETURN", Kind::Return)],
+        ),
         _ => None,
     }
 }
 
 /// The reserved words of 7 letters.
-#[tactic(auto, unfolding(crate::specs::ByLength::words_between))]
 fn word_of_7(word: &[u8]) -> Option<Kind>
     ensures { result ≡ lookup (same_word word.now) (words_between 7 7) }
 {
-    match word {
-        [b'A' | b'a', ..] => {
-            if same_word(word, b"ADAPTER") {
-                Some(Kind::Adapter)
-            } else {
-                None
-            }
-        }
-        [b'E' | b'e', ..] => {
-            if same_word(word, b"END_VAR") {
-                Some(Kind::EndVar)
-            } else if same_word(word, b"END_FBS") {
-                Some(Kind::EndFbs)
-            } else if same_word(word, b"END_FOR") {
-                Some(Kind::EndFor)
-            } else {
-                None
-            }
-        }
-        [b'S' | b's', ..] => {
-            if same_word(word, b"SOCKETS") {
-                Some(Kind::Sockets)
-            } else if same_word(word, b"SUBAPPS") {
-                Some(Kind::Subapps)
-            } else if same_word(word, b"SERVICE") {
-                Some(Kind::Service)
-            } else {
-                None
-            }
-        }
+    match initial(word) {
+        b'a' => among(word, &[(b"ADAPTER", Kind::Adapter)]),
+        b'e' => among(
+            word,
+            &[
+                (b"END_VAR", Kind::EndVar),
+                (b"END_FBS", Kind::EndFbs),
+                (b"END_FOR", Kind::EndFor),
+            ],
+        ),
+        b's' => among(
+            word,
+            &[
+                (b"SOCKETS", Kind::Sockets),
+                (b"SUBAPPS", Kind::Subapps),
+                (b"SERVICE", Kind::Service),
+            ],
+        ),
         _ => None,
     }
 }
 
 /// The reserved words of 8 letters.
-#[tactic(auto, unfolding(crate::specs::ByLength::words_between))]
 fn word_of_8(word: &[u8]) -> Option<Kind>
     ensures { result ≡ lookup (same_word word.now) (words_between 8 8) }
 {
-    match word {
-        [b'R' | b'r', ..] => {
-            if same_word(word, b"RESOURCE") {
-                Some(Kind::Resource)
-            } else {
-                None
-            }
-        }
-        [b'M' | b'm', ..] => {
-            if same_word(word, b"MAPPINGS") {
-                Some(Kind::Mappings)
-            } else {
-                None
-            }
-        }
-        [b'E' | b'e', ..] => {
-            if same_word(word, b"END_CASE") {
-                Some(Kind::EndCase)
-            } else if same_word(word, b"END_TYPE") {
-                Some(Kind::EndType)
-            } else {
-                None
-            }
-        }
+    match initial(word) {
+        b'r' => among(word, &[(b"RESOURCE", Kind::Resource)]),
+        b'm' => among(word, &[(b"MAPPINGS", Kind::Mappings)]),
+        b'e' => among(
+            word,
+            &[(b"END_CASE", Kind::EndCase), (b"END_TYPE", Kind::EndType)],
+        ),
         _ => None,
     }
 }
 
 /// The reserved words of 9 letters.
-#[tactic(auto, unfolding(crate::specs::ByLength::words_between))]
 fn word_of_9(word: &[u8]) -> Option<Kind>
     ensures { result ≡ lookup (same_word word.now) (words_between 9 9) }
 {
-    match word {
-        [b'E' | b'e', ..] => {
-            if same_word(word, b"END_EVENT") {
-                Some(Kind::EndEvent)
-            } else if same_word(word, b"END_PLUGS") {
-                Some(Kind::EndPlugs)
-            } else if same_word(word, b"EC_STATES") {
-                Some(Kind::EcStates)
-            } else if same_word(word, b"END_WHILE") {
-                Some(Kind::EndWhile)
-            } else {
-                None
-            }
-        }
-        [b'V' | b'v', ..] => {
-            if same_word(word, b"VAR_INPUT") {
-                Some(Kind::VarInput)
-            } else {
-                None
-            }
-        }
-        [b'A' | b'a', ..] => {
-            if same_word(word, b"ALGORITHM") {
-                Some(Kind::Algorithm)
-            } else {
-                None
-            }
-        }
+    match initial(word) {
+        b'e' => among(
+            word,
+            &[
+                (b"END_EVENT", Kind::EndEvent),
+                (b"END_PLUGS", Kind::EndPlugs),
+                (b"EC_STATES", Kind::EcStates),
+                (b"END_WHILE", Kind::EndWhile),
+            ],
+        ),
+        b'v' => among(word, &[(b"VAR_INPUT", Kind::VarInput)]),
+        b'a' => among(word, &[(b"ALGORITHM", Kind::Algorithm)]),
         _ => None,
     }
 }
 
 /// The reserved words of 10 letters.
-#[tactic(auto, unfolding(crate::specs::ByLength::words_between))]
 fn word_of_10(word: &[u8]) -> Option<Kind>
     ensures { result ≡ lookup (same_word word.now) (words_between 10 10) }
 {
-    match word {
-        [b'E' | b'e', ..] => {
-            if same_word(word, b"END_SYSTEM") {
-                Some(Kind::EndSystem)
-            } else if same_word(word, b"END_DEVICE") {
-                Some(Kind::EndDevice)
-            } else if same_word(word, b"END_STATES") {
-                Some(Kind::EndStates)
-            } else if same_word(word, b"END_REPEAT") {
-                Some(Kind::EndRepeat)
-            } else if same_word(word, b"END_STRUCT") {
-                Some(Kind::EndStruct)
-            } else {
-                None
-            }
-        }
-        [b'V' | b'v', ..] => {
-            if same_word(word, b"VAR_OUTPUT") {
-                Some(Kind::VarOutput)
-            } else {
-                None
-            }
-        }
+    match initial(word) {
+        b'e' => among(
+            word,
+            &[
+                (b"END_SYSTEM", Kind::EndSystem),
+                (b"END_DEVICE", Kind::EndDevice),
+                (b"END_STATES", Kind::EndStates),
+                (b"END_REPEAT", Kind::EndRepeat),
+                (b"END_STRUCT", Kind::EndStruct),
+            ],
+        ),
+        b'v' => among(word, &[(b"VAR_OUTPUT", Kind::VarOutput)]),
         _ => None,
     }
 }
 
 /// The reserved words of 11 letters.
-#[tactic(auto, unfolding(crate::specs::ByLength::words_between))]
 fn word_of_11(word: &[u8]) -> Option<Kind>
     ensures { result ≡ lookup (same_word word.now) (words_between 11 11) }
 {
-    match word {
-        [b'E' | b'e', ..] => {
-            if same_word(word, b"END_ADAPTER") {
-                Some(Kind::EndAdapter)
-            } else if same_word(word, b"EVENT_INPUT") {
-                Some(Kind::EventInput)
-            } else if same_word(word, b"END_SOCKETS") {
-                Some(Kind::EndSockets)
-            } else if same_word(word, b"END_SUBAPPS") {
-                Some(Kind::EndSubapps)
-            } else if same_word(word, b"END_SERVICE") {
-                Some(Kind::EndService)
-            } else {
-                None
-            }
-        }
-        [b'A' | b'a', ..] => {
-            if same_word(word, b"APPLICATION") {
-                Some(Kind::Application)
-            } else {
-                None
-            }
-        }
+    match initial(word) {
+        b'e' => among(
+            word,
+            &[
+                (b"END_ADAPTER", Kind::EndAdapter),
+                (b"EVENT_INPUT", Kind::EventInput),
+                (b"END_SOCKETS", Kind::EndSockets),
+                (b"END_SUBAPPS", Kind::EndSubapps),
+                (b"END_SERVICE", Kind::EndService),
+            ],
+        ),
+        b'a' => among(word, &[(b"APPLICATION", Kind::Application)]),
         _ => None,
     }
 }
 
 /// The reserved words of 12 to 13 letters.
-#[tactic(auto, unfolding(crate::specs::ByLength::words_between))]
 fn word_of_12_to_13(word: &[u8]) -> Option<Kind>
     ensures { result ≡ lookup (same_word word.now) (words_between 12 13) }
 {
-    match word {
-        [b'E' | b'e', ..] => {
-            if same_word(word, b"END_RESOURCE") {
-                Some(Kind::EndResource)
-            } else if same_word(word, b"END_MAPPINGS") {
-                Some(Kind::EndMappings)
-            } else if same_word(word, b"EVENT_OUTPUT") {
-                Some(Kind::EventOutput)
-            } else if same_word(word, b"END_ALGORITHM") {
-                Some(Kind::EndAlgorithm)
-            } else {
-                None
-            }
-        }
+    match initial(word) {
+        b'e' => among(
+            word,
+            &[
+                (b"END_RESOURCE", Kind::EndResource),
+                (b"END_MAPPINGS", Kind::EndMappings),
+                (b"EVENT_OUTPUT", Kind::EventOutput),
+                (b"END_ALGORITHM", Kind::EndAlgorithm),
+            ],
+        ),
         _ => None,
     }
 }
 
 /// The reserved words of 14 letters.
-#[tactic(auto, unfolding(crate::specs::ByLength::words_between))]
 fn word_of_14(word: &[u8]) -> Option<Kind>
     ensures { result ≡ lookup (same_word word.now) (words_between 14 14) }
 {
-    match word {
-        [b'F' | b'f', ..] => {
-            if same_word(word, b"FUNCTION_BLOCK") {
-                Some(Kind::FunctionBlock)
-            } else {
-                None
-            }
-        }
-        [b'S' | b's', ..] => {
-            if same_word(word, b"SUBAPPLICATION") {
-                Some(Kind::Subapplication)
-            } else {
-                None
-            }
-        }
-        [b'E' | b'e', ..] => {
-            if same_word(word, b"EC_TRANSITIONS") {
-                Some(Kind::EcTransitions)
-            } else {
-                None
-            }
-        }
+    match initial(word) {
+        b'f' => among(word, &[(b"FUNCTION_BLOCK", Kind::FunctionBlock)]),
+        b's' => among(word, &[(b"SUBAPPLICATION", Kind::Subapplication)]),
+        b'e' => among(word, &[(b"EC_TRANSITIONS", Kind::EcTransitions)]),
         _ => None,
     }
 }
 
 /// The reserved words of 15 to 16 letters.
-#[tactic(auto, unfolding(crate::specs::ByLength::words_between))]
 fn word_of_15_to_16(word: &[u8]) -> Option<Kind>
     ensures { result ≡ lookup (same_word word.now) (words_between 15 16) }
 {
-    match word {
-        [b'E' | b'e', ..] => {
-            if same_word(word, b"END_APPLICATION") {
-                Some(Kind::EndApplication)
-            } else if same_word(word, b"END_CONNECTIONS") {
-                Some(Kind::EndConnections)
-            } else if same_word(word, b"END_TRANSITIONS") {
-                Some(Kind::EndTransitions)
-            } else {
-                None
-            }
-        }
-        [b'D' | b'd', ..] => {
-            if same_word(word, b"DATA_CONNECTIONS") {
-                Some(Kind::DataConnections)
-            } else {
-                None
-            }
-        }
+    match initial(word) {
+        b'e' => among(
+            word,
+            &[
+                (b"END_APPLICATION", Kind::EndApplication),
+                (b"END_CONNECTIONS", Kind::EndConnections),
+                (b"END_TRANSITIONS", Kind::EndTransitions),
+            ],
+        ),
+        b'd' => among(word, &[(b"DATA_CONNECTIONS", Kind::DataConnections)]),
         _ => None,
     }
 }
 
 /// The reserved words of 17 to 19 letters.
-#[tactic(auto, unfolding(crate::specs::ByLength::words_between))]
 fn word_of_17_to_19(word: &[u8]) -> Option<Kind>
     ensures { result ≡ lookup (same_word word.now) (words_between 17 19) }
 {
-    match word {
-        [b'E' | b'e', ..] => {
-            if same_word(word, b"END_FUNCTION_BLOCK") {
-                Some(Kind::EndFunctionBlock)
-            } else if same_word(word, b"END_SUBAPPLICATION") {
-                Some(Kind::EndSubapplication)
-            } else if same_word(word, b"EVENT_CONNECTIONS") {
-                Some(Kind::EventConnections)
-            } else {
-                None
-            }
-        }
-        [b'A' | b'a', ..] => {
-            if same_word(word, b"ADAPTER_CONNECTIONS") {
-                Some(Kind::AdapterConnections)
-            } else {
-                None
-            }
-        }
+    match initial(word) {
+        b'e' => among(
+            word,
+            &[
+                (b"END_FUNCTION_BLOCK", Kind::EndFunctionBlock),
+                (b"END_SUBAPPLICATION", Kind::EndSubapplication),
+                (b"EVENT_CONNECTIONS", Kind::EventConnections),
+            ],
+        ),
+        b'a' => among(word, &[(b"ADAPTER_CONNECTIONS", Kind::AdapterConnections)]),
         _ => None,
     }
 }
@@ -582,7 +333,10 @@ fn symbol_of_1(b: u8) -> Option<Kind>
 }
 
 /// The symbol of one byte that begins no longer symbol and no comment.
-pub fn lone_symbol(b: u8) -> Option<Kind> {
+#[tactic(auto, unfolding(crate::specs::ReservedWords::symbol))]
+pub fn lone_symbol(b: u8) -> Option<Kind>
+    ensures { result ≡ lone_symbol b }
+{
     match b {
         b';' => Some(Kind::Semicolon),
         b',' => Some(Kind::Comma),

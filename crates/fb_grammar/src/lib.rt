@@ -17,4 +17,4 @@ pub use literals::{NUMBERS, literal_form, literal_use};
 pub use naming::{NAMES, NameReader, Taken, is_next, key, name, name_of, names, one_of};
 pub use repetition::{Reader, listed, separated, several};
 pub use stop::Stop;
-pub use upcoming::Tokens;
+pub use upcoming::{Tokens, tokens_are_pulled};

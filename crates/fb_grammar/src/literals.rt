@@ -1,6 +1,6 @@
 //! Literals by the kinds of their tokens.
 
-ghost use Rattle.fb_grammar.specs.Literals.{literal_form, literal_kinds, literal_use};
+ghost use Rattle.fb_grammar.specs.Literals.{literal_at, literal_form, literal_kinds};
 ghost use Rattle.fb_grammar.specs.Kind.{is_among};
 ghost use Rattle.std.specs.Prelude.{◌≡◌, true};
 
@@ -35,7 +35,7 @@ pub fn literal_form(kind: Kind) -> LiteralForm
 /// The literal where it stands.
 pub fn literal_use(token: &Taken) -> Literal
     requires { is_among literal_kinds token.now.kind ≡ true }
-    ensures { result ≡ literal_use token.now }
+    ensures { result ≡ literal_at token.now.kind token.now.span }
 {
     Literal {
         form: literal_form(token.kind),

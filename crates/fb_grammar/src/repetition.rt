@@ -3,9 +3,10 @@
 ghost use Rattle.fb_grammar.specs.Gives.{Gives, GivesEach};
 ghost use Rattle.fb_grammar.specs.Reading.{Outcome, read_each};
 ghost use Rattle.fb_grammar.specs.Repetition.{read_behind, read_separated, with_prefix};
+ghost use Rattle.fb_grammar.specs.Upcoming.{are_tokens};
 ghost use Rattle.fb_grammar.specs.declared.kind.Kind.TheVariants.{Comma};
 ghost use Rattle.fb_grammar.specs.declared.lexeme.Lexeme.{Lexeme};
-ghost use Rattle.std.specs.Prelude.{◌≡◌, List, length, map};
+ghost use Rattle.std.specs.Prelude.{◌≡◌, ◌<◌, ◌∷◌, [], IfOk, List, length, map};
 
 use crate::kind::Kind;
 use crate::naming::{is_next, key};
@@ -25,9 +26,10 @@ pub trait Reader {
     // what reading by the form gives
     ghost reads: { Self → List Lexeme → Outcome Tree };
 
-    /// Reads one value.
+    /// Reads one value, which takes a token at least.
     fn read(&self, alloc: Global, tokens: &mut Tokens<'_>) -> Result<Self::Item, Stop>
-        ensures { Gives view result tokens.new (reads self.now tokens.old) };
+        ensures reads { Gives view result tokens.new (reads self.now tokens.old) }
+        ensures takes { IfOk result (λ _. length tokens.new < length tokens.old) };
 }
 
 /// A token of a kind, and a value after it.
@@ -35,6 +37,7 @@ pub trait Reader {
 struct Behind<'r, R> {
     kind: Kind,
     reader: &'r R,
+    ghost is_token: { are_tokens (kind ∷ []) },
 }
 
 impl<R: Reader> Reader for Behind<'_, R> {
@@ -91,6 +94,7 @@ pub fn separated<R: Reader>(
     alloc: Global,
     tokens: &mut Tokens<'_>,
 ) -> Result<Vec<R::Item>, Stop>
+    requires { are_tokens (kind ∷ []) }
     ensures { GivesEach R.view result tokens.new (read_separated kind (R.reads reader.now) tokens.old) }
 {
     let first = reader.read(alloc, tokens)?;

@@ -5,6 +5,7 @@ pub mod Longest
 pub mod LongestForms
 pub mod LongestToken
 pub mod Boundaries
+pub mod Pieces
 pub mod OpenLines
 pub mod Reading
 pub mod Relation

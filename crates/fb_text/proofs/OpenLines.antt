@@ -1,7 +1,7 @@
 -- Quotes that are not closed on their line.
 use Rattle.std.proofs.Common.{◌≡◌, ◌≢◌, ⊎_elim, take, ℕ, zero, suc, ◌+◌, ◌-◌, ◌<◌, Bool, true, false, not, cond, ◌&&◌, List, [], ◌∷◌, drop, get_or, sym, refl, ap, subst, ◌∙◌, arith, Option, Some, None, true≢false}
-use Rattle.std.specs.Prelude.{◌==◌, codes, option_map, nat_eq}
-use Rattle.std.specs.List.{prefix_len, starts_with}
+use Rattle.std.specs.Prelude.{◌==◌, option_map}
+use Rattle.std.specs.List.{prefix_len}
 use Rattle.std.specs.Char.{is_ascii_digit}
 use Rattle.std.proofs.lemmas.Bool.Decides.{nat_tests}
 use Rattle.std.proofs.lemmas.Bool.{cond-true, cond-false, eqb-true, cases_lt}
@@ -13,7 +13,7 @@ use Rattle.fb_text.specs.declared.token.TokenKind.TheVariants.{String, Other}
 use Rattle.fb_text.specs.declared.scan.Piece.TheVariants.{Found}
 use Rattle.fb_text.proofs.Longest.{by_test}
 use Rattle.fb_text.specs.declared.quotes.OpenQuotes.{OpenQuotes}
-use Rattle.fb_text.proofs.Boundaries.{begins}
+use Rattle.fb_text.proofs.Pieces.{token-piece}
 use Rattle.fb_text.proofs.LongestForms.{first-take, Takes-symbol}
 use Rattle.fb_text.proofs.LongestToken.{string-no-symbol, token-string, token-other}
 
@@ -166,11 +166,7 @@ quote-no_symbol bs q =
     (cases_lt 0 (symbol_len bs))
 
 pub quote-piece : (bs : List ℕ) → is_quote (first bs) ≡ true → piece_at bs ≡ token_at bs
-unfolding piece_at
-quote-piece bs q =
-    cond-false (is_blank (first bs)) _ _ (quote-blank (first bs) q)
-    ∙ cond-false (starts_with nat_eq bs (codes "(*")) _ _ (by_test (starts_with nat_eq bs (codes "(*")) (λ t. absurd (not-quote (first bs) q (begins 40 42 bs t).first)) (λ f. f))
-    ∙ cond-false (starts_with nat_eq bs (codes "//")) _ _ (by_test (starts_with nat_eq bs (codes "//")) (λ t. absurd (not-quote-slash (first bs) q (begins 47 47 bs t).first)) (λ f. f))
+quote-piece bs q = token-piece bs (quote-blank (first bs) q) (not-quote (first bs) q) (not-quote-slash (first bs) q)
 
 pub string-piece : (bs : List ℕ) → is_quote (first bs) ≡ true → 0 < string_len bs → piece_at bs ≡ Found String (string_len bs)
 string-piece bs q some = quote-piece bs q ∙ token-string bs (quote-letter (first bs) q) (quote-digit (first bs) q) some
@@ -180,9 +176,3 @@ open-piece bs q none =
     quote-piece bs q
     ∙ token-other bs (quote-letter (first bs) q) (quote-digit (first bs) q) none (quote-no_symbol bs q)
     ∙ ap (Found Other) (let one : char_len bs ≡ 1 = grind (arith, nat_tests, quote-low (first bs) q) in one)
-
--- where no quote stands no string begins
-pub no-quote : (bs : List ℕ) → is_quote (first bs) ≡ false → string_len bs ≡ 0
-unfolding string_len
-no-quote [] h = refl
-no-quote (b ∷ bs) h = cond-false (is_quote b) _ 0 h

@@ -1,0 +1,17 @@
+use Rattle.std.proofs.Common.{arith}
+use Rattle.std.proofs.lemmas.Bool.Decides.{nat_tests}
+use Rattle.fb_grammar.specs.ByLength.{words_between}
+use Rattle.fb_grammar.proofs.Lookups.{by_initial, no_initial}
+use Rattle.fb_grammar.proofs.keywords.word_of_15_to_16.Goals as goal
+
+pub returns-in-101 : goal.returns-in-101
+unfolding words_between
+returns-in-101 c = search by_initial
+
+pub returns-in-100 : goal.returns-in-100
+unfolding words_between
+returns-in-100 c = search by_initial
+
+pub returns-in_default : goal.returns-in_default
+unfolding words_between
+returns-in_default c = no_initial 15 16 c.args.word.now (grind (arith, nat_tests))
