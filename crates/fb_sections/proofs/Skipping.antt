@@ -1,16 +1,21 @@
 -- Skipping tokens up to one of a kind.
-use Rattle.std.proofs.Common.{◌≡◌, Bool, true, false, not, ◌&&◌, ◌||◌, nat_eq, cond, List, [], ◌∷◌, length, Ok, Err, refl, sym, ap, ◌∙◌, arith}
+use Rattle.std.proofs.Common.{◌≡◌, Bool, true, false, not, ◌&&◌, ◌||◌, nat_eq, cond, List, [], ◌∷◌, length, drop, Ok, Err, refl, sym, ap, ap₂, ◌∙◌}
 use Rattle.std.proofs.lemmas.Bool.{eqb-true}
 use Rattle.std.specs.Prelude.{filter}
-use Rattle.fb_tree.proofs.Text.Tests.{and_false, or_false, and_true}
+use Rattle.fb_tree.proofs.Text.Tests.{and_false, or_false}
 use Rattle.fb_grammar.specs.Kind.{is_among, same_kind, code_of}
 use Rattle.fb_grammar.specs.declared.kind.Kind.{Kind}
-use Rattle.fb_grammar.specs.declared.kind.Kind.TheVariants.{FunctionBlock, EndFunctionBlock, Adapter, EndAdapter, Subapplication, EndSubapplication, System, EndSystem, Application, EndApplication, Device, EndDevice, Resource, EndResource, Mappings, EndMappings, EventInput, EventOutput, EndEvent, Var, VarInput, VarOutput, EndVar, Plugs, EndPlugs, Sockets, EndSockets, Fbs, EndFbs, Subapps, EndSubapps, EventConnections, DataConnections, AdapterConnections, EndConnections, EcStates, EndStates, EcTransitions, EndTransitions, Algorithm, EndAlgorithm, Service, EndService, With, To, Array, Of, If, Then, Elsif, Else, EndIf, Case, EndCase, For, By, Do, EndFor, While, EndWhile, Repeat, Until, EndRepeat, Exit, Return, And, Or, Xor, Not, Mod, True, False, NameIn, NameOn, NameSt, Name, Zero, One, Number, RealNumber, TypedTruth, TypedInteger, TypedBits, TypedFree, TypedOther, Text, Assign, LessEqual, GreaterEqual, NotEqual, Power, Arrow, Range, Semicolon, Colon, Comma, Point, OpenParenthesis, CloseParenthesis, OpenBracket, CloseBracket, Equal, Less, Greater, Plus, Minus, Times, Divide, Ampersand, Other, TypeWord, EndType, Struct, EndStruct}
+use Rattle.fb_grammar.specs.declared.kind.Kind.TheVariants.{FunctionBlock, EndFunctionBlock, Adapter, EndAdapter, Subapplication, EndSubapplication, System, EndSystem, Application, EndApplication, Device, EndDevice, Resource, EndResource, Mappings, EndMappings, EventInput, EventOutput, EndEvent, Var, VarInput, VarOutput, EndVar, Plugs, EndPlugs, Sockets, EndSockets, Fbs, EndFbs, Subapps, EndSubapps, EventConnections, DataConnections, AdapterConnections, EndConnections, EcStates, EndStates, EcTransitions, EndTransitions, Algorithm, EndAlgorithm, Service, EndService, With, To, Array, Of, If, Then, Elsif, Else, EndIf, Case, EndCase, For, By, Do, EndFor, While, EndWhile, Repeat, Until, EndRepeat, Exit, Return, And, Or, Xor, Not, Mod, True, False, NameIn, NameOn, NameSt, Name, Zero, One, Number, RealNumber, TypedTruth, TypedInteger, TypedBits, TypedFree, TypedOther, Text, Assign, LessEqual, GreaterEqual, NotEqual, Power, Arrow, Range, Semicolon, Colon, Comma, Point, OpenParenthesis, CloseParenthesis, OpenBracket, CloseBracket, Equal, Less, Greater, Plus, Minus, Times, Divide, Ampersand, Other, TypeWord, EndType, Struct, EndStruct, End, NeverClosed}
 use Rattle.fb_grammar.specs.declared.lexeme.Lexeme.{Lexeme}
 use Rattle.fb_grammar.specs.Reading.{Outcome, ◌>>=◌, read_one, read_each, read}
+use Rattle.fb_grammar.specs.Upcoming.{are_over, front}
 use Rattle.fb_sections.specs.Skipped.{all_kinds, others, skipped}
 
-is_a_kind : (kind : Kind) → is_among all_kinds kind ≡ true
+-- what stands behind all tokens
+abbrev pub behind_all : List Kind
+behind_all = End ∷ NeverClosed ∷ []
+
+is_a_kind : (kind : Kind) → is_among all_kinds kind ≡ not (is_among behind_all kind)
 unfolding all_kinds
 is_a_kind FunctionBlock = refl
 is_a_kind EndFunctionBlock = refl
@@ -126,6 +131,8 @@ is_a_kind TypeWord = refl
 is_a_kind EndType = refl
 is_a_kind Struct = refl
 is_a_kind EndStruct = refl
+is_a_kind End = refl
+is_a_kind NeverClosed = refl
 
 step : (t u s r : Bool) → (s ≡ true → t ≡ u) → cond (not t) (s || (not u && r)) (not u && r) ≡ (not u && (s || r))
 step true true s r h = refl
@@ -149,10 +156,9 @@ among_filtered end (x ∷ kinds) kind =
     ∙ ap (λ b. cond (not (same_kind end x)) (same_kind x kind || b) b) (among_filtered end kinds kind)
     ∙ step (same_kind end x) (same_kind end kind) (same_kind x kind) (is_among kinds kind) (same_as end x kind)
 
-among_others : (end kind : Kind) → is_among (others end) kind ≡ not (same_kind end kind)
+among_others : (end kind : Kind) → is_among (others end) kind ≡ (not (same_kind end kind) && not (is_among behind_all kind))
 unfolding others
-among_others end kind =
-    among_filtered end all_kinds kind ∙ ap (λ b. not (same_kind end kind) && b) (is_a_kind kind) ∙ and_true (not (same_kind end kind))
+among_others end kind = among_filtered end all_kinds kind ∙ ap (λ b. not (same_kind end kind) && b) (is_a_kind kind)
 
 abbrev passing : Outcome (List Lexeme) → Outcome (Unit {0})
 passing outcome = outcome >>= λ v. Ok (tt, v.1)
@@ -164,22 +170,26 @@ passing_more t (Err rest) = refl
 single : (end kind : Kind) → is_among (end ∷ []) kind ≡ same_kind end kind
 single end kind = or_false (same_kind end kind)
 
-others_but : (end kind : Kind) → is_among (others end) kind ≡ not (is_among (end ∷ []) kind)
-others_but end kind = among_others end kind ∙ ap not (sym (single end kind))
+others_but : (end kind : Kind) → is_among (others end) kind ≡ (not (is_among (end ∷ []) kind) && not (is_among behind_all kind))
+others_but end kind = among_others end kind ∙ ap (λ b. not b && not (is_among behind_all kind)) (sym (single end kind))
 
-pub skip_more : (end : Kind) (t : Lexeme) (ts : List Lexeme) → is_among (end ∷ []) t.kind ≡ false → read (skipped end) (t ∷ ts) ≡ read (skipped end) ts
+pub skip_more : (end : Kind) (ts : List Lexeme) → are_over ts ≡ false → is_among (end ∷ []) (front ts).kind ≡ false → read (skipped end) ts ≡ read (skipped end) (drop 1 ts)
 unfolding skipped
-skip_more end t ts other =
-    let goes_on : is_among (others end) t.kind ≡ true = others_but end t.kind ∙ ap not other in
+skip_more end [] more other = cc
+skip_more end (t ∷ ts) more other =
+    let goes_on : is_among (others end) t.kind ≡ true = others_but end t.kind ∙ ap₂ (λ a b. not a && not b) other more in
     rw goes_on (passing_more t (read_each (read_one (others end)) (others end) (length ts) ts))
 
-pub skip_done : (end : Kind) (t : Lexeme) (ts : List Lexeme) → is_among (end ∷ []) t.kind ≡ true → read (skipped end) (t ∷ ts) ≡ Ok (tt, t ∷ ts)
+pub skip_done : (end : Kind) (ts : List Lexeme) → is_among (end ∷ []) (front ts).kind ≡ true → read (skipped end) ts ≡ Ok (tt, ts)
 unfolding skipped
-skip_done end t ts same =
-    let stops : is_among (others end) t.kind ≡ false = others_but end t.kind ∙ ap not same in
+skip_done end [] same = refl
+skip_done end (t ∷ ts) same =
+    let stops : is_among (others end) t.kind ≡ false = others_but end t.kind ∙ ap (λ a. not a && not (is_among behind_all t.kind)) same in
     rw stops refl
 
-pub skip_none : (end : Kind) (ts : List Lexeme) → length ts ≡ 0 → read (skipped end) ts ≡ Ok (tt, ts)
+pub skip_over : (end : Kind) (ts : List Lexeme) → are_over ts ≡ true → read (skipped end) ts ≡ Ok (tt, ts)
 unfolding skipped
-skip_none end [] none = refl
-skip_none end (t ∷ ts) none = absurd (omega arith)
+skip_over end [] over = refl
+skip_over end (t ∷ ts) over =
+    let stops : is_among (others end) t.kind ≡ false = others_but end t.kind ∙ ap (λ a. not (is_among (end ∷ []) t.kind) && not a) over ∙ and_false (not (is_among (end ∷ []) t.kind)) in
+    rw stops refl

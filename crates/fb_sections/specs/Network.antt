@@ -1,7 +1,6 @@
 -- The forms of instances and connections.
-use Rattle.std.specs.Prelude.{List, [], option_map}
+use Rattle.std.specs.Prelude.{List, []}
 use Rattle.fb_grammar.specs.declared.kind.Kind.TheVariants.{Plugs, EndPlugs, Sockets, EndSockets, Fbs, EndFbs, Subapps, EndSubapps, EventConnections, DataConnections, AdapterConnections, EndConnections, To, Colon, Semicolon, Point, Assign, OpenParenthesis, CloseParenthesis}
-use Rattle.fb_grammar.specs.Lexemes.{name_use}
 use Rattle.fb_grammar.specs.Form.{Form, both, either, as_value}
 use Rattle.fb_grammar.specs.Words.{key, before, behind, optional_list, list, name}
 use Rattle.fb_tree.specs.Tree.{ParameterTree, InstanceTree}

@@ -2,7 +2,6 @@
 use Rattle.std.specs.Prelude.{List, map}
 use Rattle.fb_tree.specs.Text.declared.name.NameUse.{NameUse}
 use Rattle.fb_grammar.specs.declared.kind.Kind.TheVariants.{Mappings, EndMappings, Resource, EndResource, Device, EndDevice, NameOn, Colon, Semicolon, Point}
-use Rattle.fb_grammar.specs.Lexemes.{name_use}
 use Rattle.fb_grammar.specs.Form.{Form, both, option, many, as_value}
 use Rattle.fb_grammar.specs.Words.{key, before, behind, passed, separated, name}
 use Rattle.fb_tree.specs.Tree.{ParameterTree, parameter_tree, MappingTree, ResourceTree, DeviceTree}

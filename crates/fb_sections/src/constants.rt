@@ -2,7 +2,7 @@
 
 ghost use Rattle.fb_grammar.specs.Gives.{Gives, Passes};
 ghost use Rattle.fb_grammar.specs.Reading.{read};
-ghost use Rattle.fb_sections.specs.Constants.{array_type, constant, constant_list, length_of_string, number, plain_type, range, ranges, signed_form, simple, type_use};
+ghost use Rattle.fb_sections.specs.Constants.{array_type, constant, constant_list, number, plain_type, range, ranges, signed_form, simple, type_use};
 ghost use Rattle.fb_tree.specs.Tree.{constant_tree};
 ghost use Rattle.fb_tree.specs.declared.constant.Simple.{Simple};
 ghost use Rattle.std.specs.Prelude.{◌≡◌};
@@ -11,7 +11,6 @@ use fb_grammar::{
     Kind, NAMES, NUMBERS, Reader, Stop, Tokens, is_next, key, listed, literal_form, literal_use,
     name, one_of,
 };
-use fb_tree::text::Place;
 use fb_tree::{Constant, Literal, LiteralForm, Simple, TypeForm, TypeUse};
 use std::alloc::Global;
 
@@ -87,16 +86,6 @@ fn ranges(alloc: Global, tokens: &mut Tokens<'_>) -> Result<(), Stop>
     Ok(())
 }
 
-/// A length in brackets. The closing one is given.
-#[tactic(auto, unfolding(crate::specs::Constants::length_of_string))]
-fn length_of_string(tokens: &mut Tokens<'_>) -> Result<Place, Stop>
-    ensures { Gives (λ place. place) result tokens.new (read length_of_string tokens.old) }
-{
-    key(tokens, Kind::OpenBracket)?;
-    one_of(tokens, &NUMBERS)?;
-    key(tokens, Kind::CloseBracket)
-}
-
 #[tactic(auto, unfolding(crate::specs::Constants::plain_type, crate::specs::Constants::length_of_string))]
 fn plain_type(alloc: Global, tokens: &mut Tokens<'_>) -> Result<TypeUse, Stop>
     ensures { Gives (λ type. type) result tokens.new (read plain_type tokens.old) }
@@ -111,7 +100,9 @@ fn plain_type(alloc: Global, tokens: &mut Tokens<'_>) -> Result<TypeUse, Stop>
         };
         return Ok(plain);
     }
-    let close = length_of_string(tokens)?;
+    key(tokens, Kind::OpenBracket)?;
+    one_of(tokens, &NUMBERS)?;
+    let close = key(tokens, Kind::CloseBracket)?;
     let span = name.span.through(close);
     let sized = TypeUse {
         name,

@@ -3,8 +3,9 @@
 ghost use Rattle.fb_grammar.specs.Gives.{Gives, GivesEach};
 ghost use Rattle.fb_grammar.specs.Reading.{read};
 ghost use Rattle.fb_grammar.specs.Lexemes.{name_use};
+ghost use Rattle.fb_grammar.specs.Upcoming.{are_tokens};
 ghost use Rattle.fb_sections.specs.Sections.{optional_name, read_section};
-ghost use Rattle.std.specs.Prelude.{◌≡◌, IfOk, map, option_map};
+ghost use Rattle.std.specs.Prelude.{◌≡◌, ◌∷◌, [], map};
 
 use fb_grammar::{Kind, NAMES, Reader, Stop, Tokens, is_next, key, name, several};
 use fb_tree::text::NameUse;
@@ -17,6 +18,7 @@ pub fn optional_name(
     tokens: &mut Tokens<'_>,
     kind: Kind,
 ) -> Result<Option<NameUse>, Stop>
+    requires { are_tokens (kind ∷ []) }
     ensures { Gives (λ name. name) result tokens.new
         (read (optional_name kind) tokens.old) }
 {
@@ -36,6 +38,8 @@ pub fn section<R: Reader>(
     alloc: Global,
     tokens: &mut Tokens<'_>,
 ) -> Result<Vec<R::Item>, Stop>
+    requires begins { are_tokens (start ∷ []) }
+    requires closes { are_tokens (end ∷ []) }
     ensures { GivesEach R.view result tokens.new (read_section start (R.reads reader.now) end tokens.old) }
 {
     key(tokens, start)?;

@@ -8,7 +8,7 @@ ghost use Rattle.std.specs.Prelude.{◌≡◌, Ok};
 use fb_grammar::{Kind, Stop, Tokens, key};
 
 /// The tokens from the first of this kind on.
-#[tactic(auto, using(crate::proofs::Skipping::skip_more, crate::proofs::Skipping::skip_done, crate::proofs::Skipping::skip_none))]
+#[tactic(auto, using(crate::proofs::Skipping::skip_more, crate::proofs::Skipping::skip_done, crate::proofs::Skipping::skip_over))]
 pub fn skip(tokens: &mut Tokens<'_>, end: Kind)
     ensures { read (skipped end) tokens.old ≡ Ok (tt, tokens.new) }
 {

@@ -1,3 +1,4 @@
+use Rattle.fb_grammar.specs.Upcoming.{front}
 use Rattle.fb_grammar.proofs.Forms.{among_right}
 use Rattle.fb_grammar.proofs.ReadKinds.{kind_read}
 use Rattle.fb_grammar.specs.Literals.{number_kinds}
@@ -6,4 +7,5 @@ use Rattle.fb_sections.proofs.constants.simple.Goals as goal
 
 pub literal_use-requires : goal.literal_use-requires
 literal_use-requires c =
-    among_right number_kinds other_literal_kinds c.in_ok-token-2.token.now.kind (kind_read other_literal_kinds c.args.tokens.now c.in_ok-token-2.token.now c.in_ok-token-2.rest.now c.in_ok-token-2.ensures)
+    rw c.in_ok-token-2.ensures.kind (among_right number_kinds other_literal_kinds (front c.args.tokens.now).kind
+    (kind_read other_literal_kinds c.args.tokens.now (front c.args.tokens.now) _ c.in_ok-token-2.ensures.reads))
