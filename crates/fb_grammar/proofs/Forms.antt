@@ -53,7 +53,7 @@ pub apart_among : (a b : List Kind) (k : Kind) → are_apart a b ≡ true → is
 apart_among [] b k h m = cc
 apart_among (x ∷ a) b k h m = elim (or_cases (same_kind x k) (is_among a k) m) [ inl p ↦ among_same x b k p ∙ not_true (is_among b x) (and_parts (not (is_among b x)) (are_apart a b) h).0 | inr q ↦ apart_among a b k (and_parts (not (is_among b x)) (are_apart a b) h).1 q ]
 
-apart_among_left : (a b : List Kind) (k : Kind) → are_apart a b ≡ true → is_among b k ≡ true → is_among a k ≡ false
+pub apart_among_left : (a b : List Kind) (k : Kind) → are_apart a b ≡ true → is_among b k ≡ true → is_among a k ≡ false
 apart_among_left a b k h m = go (is_among a k) refl
   where
     go : (r : Bool) → is_among a k ≡ r → r ≡ false

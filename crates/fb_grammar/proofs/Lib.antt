@@ -7,3 +7,4 @@ pub mod Loops
 pub mod ReadKinds
 pub mod Repeating
 pub mod Shapes
+pub mod Ending

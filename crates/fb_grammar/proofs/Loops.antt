@@ -26,7 +26,7 @@ same_if : {X : Type 0} (t : Bool) (a b c : X) → a ≡ b → cond t a c ≡ con
 same_if t a b c e = ap (λ z. cond t z c) e
 
 -- as many turns as there are tokens are enough
-enough : {A : Type 0} (x : Form A) → is_nullable x ≡ false → (m n : ℕ) (ts : List Lexeme) → length ts ≤ m → length ts ≤ n → read_each (read x) (first x) m ts ≡ read_each (read x) (first x) n ts
+pub enough : {A : Type 0} (x : Form A) → is_nullable x ≡ false → (m n : ℕ) (ts : List Lexeme) → length ts ≤ m → length ts ≤ n → read_each (read x) (first x) m ts ≡ read_each (read x) (first x) n ts
 enough x filled zero zero ts h k = refl
 enough x filled zero (suc n) [] h k = refl
 enough x filled zero (suc n) (t ∷ ts) h k = absurd (omega arith)
