@@ -1,15 +1,20 @@
 -- Each text has one body, that which is computed.
-use Rattle.std.proofs.Common.{◌≡◌, ℕ, ◌≤◌, ◌<◌, List, [], ◌∷◌, ◌++◌, length, Result, Ok, Err, refl, sym, ap, ap₂, ◌∙◌, subst, arith}
+use Rattle.std.proofs.Common.{◌≡◌, ℕ, List, [], ◌∷◌, ◌++◌, length, Some, None, Result, Ok, Err, true, inl, inr, refl, sym, ap, ap₂, ◌∙◌, subst, arith}
 use Rattle.fb_tree.specs.Text.declared.token.Span.{Span}
 use Rattle.fb_tree.specs.Tree.{DeclTree}
+use Rattle.fb_structured_text.specs.Forms.declared.kind.Kind.TheVariants.{End, NeverClosed}
 use Rattle.fb_structured_text.specs.Forms.declared.lexeme.Lexeme.{Lexeme}
-use Rattle.fb_parse.specs.Body.{BodyTree, Whole, BrokenAt, IsBodyIn, IsBody, whole_or_broken, body_read, body_in, body_of}
+use Rattle.fb_parse.specs.Body.{BodyTree, Whole, BrokenAt, IsBodyIn, IsBody, whole_or_broken, body_read, body_in, broken_at, whole_if_over, body_of}
 use Rattle.fb_structured_text.specs.Forms.Fault.{IsStuck, IsFault}
 use Rattle.fb_structured_text.specs.Forms.Form.{Form, Prefix}
 use Rattle.fb_parse.specs.Grammar.{unit}
 use Rattle.fb_structured_text.specs.Forms.Lexemes.{lexemes_of, place}
 use Rattle.fb_structured_text.specs.Forms.Reading.{Outcome, read}
+use Rattle.fb_structured_text.specs.Forms.Kind.{is_among}
+use Rattle.fb_structured_text.specs.Forms.Upcoming.{closing, closing_at, front, tokens_to_end, unended}
 use Rattle.fb_parse.proofs.Predictive.{predictive_unit}
+use Rattle.fb_parse.proofs.Ending.{unit_of_tokens}
+use Rattle.fb_structured_text.proofs.Forms.Ending.{AreTokens, LeavesTokens, Parts, closing_comment, closing_end, closings, ended_pulled, leaves_tokens, no_end, parts_of, read_kept, unended_comment, unended_end, unended_pulled, with_last}
 use Rattle.fb_structured_text.proofs.Forms.Forms.{spelled_of_ok, ok_of_spelled, none_spelled_of_rest, none_spelled_of_err, fault_of_rest, fault_of_err}
 
 -- Two faults of the same tokens begin at the same place
@@ -89,15 +94,74 @@ pub one : (text : List ℕ) (body : BodyTree) → IsBody text body → body ≡ 
 unfolding body_of
 one text body h = one_in (length text) (lexemes_of text) body h
 
--- What the code gives
+-- What is pulled of a text has the same body
 
-pub whole_at_end : (end : ℕ) (tree : DeclTree) (rest : List Lexeme) (outcome : Outcome DeclTree) → outcome ≡ Ok (tree, rest) → length rest < 1 → Whole tree ≡ body_read end outcome
-whole_at_end end tree [] outcome e h = sym (ap (body_read end) e)
-whole_at_end end tree (l ∷ rest) outcome e h = absurd (omega arith)
+-- by what reading of all that is pulled gives
+abbrev body_pulled : Outcome DeclTree → BodyTree
+body_pulled (Ok found) = whole_if_over found.0 found.1
+body_pulled (Err rest) = broken_at rest
 
-pub broken_behind : (end : ℕ) (tree : DeclTree) (rest : List Lexeme) (outcome : Outcome DeclTree) → outcome ≡ Ok (tree, rest) → 1 ≤ length rest → BrokenAt (place end rest) ≡ body_read end outcome
-broken_behind end tree [] outcome e h = absurd (omega arith)
-broken_behind end tree (l ∷ rest) outcome e h = sym (ap (body_read end) e)
+at_comment : (tokens : List Lexeme) (comment : Span) → closing tokens ≡ Some comment → broken_at tokens ≡ BrokenAt comment
+at_comment tokens comment e = rw (e, broken_at) refl
 
-pub broken_there : (end : ℕ) (rest : List Lexeme) (outcome : Outcome DeclTree) → outcome ≡ Err rest → BrokenAt (place end rest) ≡ body_read end outcome
-broken_there end rest outcome e = sym (ap (body_read end) e)
+at_front : (tokens : List Lexeme) → closing tokens ≡ None → broken_at tokens ≡ BrokenAt (front tokens).span
+at_front tokens e = rw (e, broken_at) refl
+
+front_place : (end : ℕ) (rest : List Lexeme) → (front (rest ++ closing_at End end end ∷ [])).span ≡ place end rest
+front_place end [] = refl
+front_place end (l ∷ rest) = refl
+
+broken_end : (end : ℕ) (rest : List Lexeme) → AreTokens rest → broken_at (rest ++ closing_at End end end ∷ []) ≡ BrokenAt (place end rest)
+broken_end end rest h = at_front (rest ++ closing_at End end end ∷ []) (closing_end rest end h) ∙ ap BrokenAt (front_place end rest)
+
+whole_end : (end : ℕ) (tree : DeclTree) (rest : List Lexeme) → AreTokens rest → whole_if_over tree (rest ++ closing_at End end end ∷ []) ≡ whole_or_broken end tree rest
+whole_end end tree [] h = refl
+whole_end end tree (l ∷ rest) h = rw (no_end l.kind h.0) (broken_end end (l ∷ rest) h)
+
+pulled_end : (end : ℕ) (r : Outcome DeclTree) → LeavesTokens r → body_pulled (with_last (closing_at End end end) r) ≡ body_read end r
+pulled_end end (Ok found) h = whole_end end found.0 found.1 h
+pulled_end end (Err rest) h = broken_end end rest h
+
+broken_comment : (last : Lexeme) (rest : List Lexeme) → last.kind ≡ NeverClosed → AreTokens rest → broken_at (rest ++ last ∷ []) ≡ BrokenAt last.span
+broken_comment last rest e h = at_comment (rest ++ last ∷ []) last.span (closing_comment rest last h e)
+
+whole_comment : (last : Lexeme) (tree : DeclTree) (rest : List Lexeme) → last.kind ≡ NeverClosed → AreTokens rest → whole_if_over tree (rest ++ last ∷ []) ≡ BrokenAt last.span
+whole_comment last tree [] e h = rw e refl
+whole_comment last tree (l ∷ rest) e h = rw (no_end l.kind h.0) (broken_comment last (l ∷ rest) e h)
+
+pulled_comment : (last : Lexeme) (r : Outcome DeclTree) → last.kind ≡ NeverClosed → LeavesTokens r → body_pulled (with_last last r) ≡ BrokenAt last.span
+pulled_comment last (Ok found) e h = whole_comment last found.0 found.1 e h
+pulled_comment last (Err rest) e h = broken_comment last rest e h
+
+-- reading what is pulled is reading the tokens alone
+read_pulled : (end : ℕ) (all : List Lexeme) (p : Parts end all) → is_among closings p.last.kind ≡ true → read unit all ≡ with_last p.last (read unit p.tokens)
+read_pulled end all p h = ap (read unit) p.whole ∙ read_kept closings p.last h unit predictive_unit unit_of_tokens p.tokens
+
+pulled_in : (end : ℕ) (all : List Lexeme) (p : Parts end all) → body_pulled (read unit all) ≡ body_in end (unended all)
+pulled_in end all p = elim p.closes [
+  | inl e ↦
+      ap body_pulled (read_pulled end all p (ap (λ (l : Lexeme). is_among closings l.kind) e))
+      ∙ ap (λ (l : Lexeme). body_pulled (with_last l (read unit p.tokens))) e
+      ∙ pulled_end end (read unit p.tokens) (leaves_tokens unit p.tokens p.alone)
+      ∙ ap (body_in end) (sym (ap unended (p.whole ∙ ap (λ (l : Lexeme). p.tokens ++ l ∷ []) e) ∙ unended_end p.tokens end p.alone))
+  | inr e ↦
+      ap body_pulled (read_pulled end all p (ap (is_among closings) e))
+      ∙ pulled_comment p.last (read unit p.tokens) e (leaves_tokens unit p.tokens p.alone)
+      ∙ ap (body_in end) (sym (ap unended p.whole ∙ unended_comment p.tokens p.last p.alone e))
+]
+
+pulled_body : (text : List ℕ) → body_pulled (read unit (tokens_to_end text)) ≡ body_of text
+unfolding body_of
+pulled_body text =
+    pulled_in (length text) (tokens_to_end text) (parts_of (length text) (tokens_to_end text) (ended_pulled text)) ∙ ap (body_in (length text)) (unended_pulled text)
+
+body_given : (text : List ℕ) (tokens : List Lexeme) (outcome : Outcome DeclTree) → tokens ≡ tokens_to_end text → read unit tokens ≡ outcome → body_pulled outcome ≡ body_of text
+body_given text tokens outcome all gives = ap body_pulled (sym gives ∙ ap (read unit) all) ∙ pulled_body text
+
+-- where a declaration was read
+pub whole_body : (text : List ℕ) (tokens rest : List Lexeme) (tree : DeclTree) → tokens ≡ tokens_to_end text → read unit tokens ≡ Ok (tree, rest) → whole_if_over tree rest ≡ body_of text
+whole_body text tokens rest tree all gives = body_given text tokens (Ok (tree, rest)) all gives
+
+-- where none was read
+pub broken_body : (text : List ℕ) (tokens rest : List Lexeme) → tokens ≡ tokens_to_end text → read unit tokens ≡ Err rest → broken_at rest ≡ body_of text
+broken_body text tokens rest all gives = body_given text tokens (Err rest) all gives

@@ -1,11 +1,11 @@
 -- One token tells how to go on in the grammar of units.
-use Rattle.std.proofs.Common.{◌≡◌, true, List, [], ◌∷◌, ◌++◌, refl, inl, inr}
+use Rattle.std.proofs.Common.{◌≡◌, true, false, List, [], ◌∷◌, ◌++◌, refl, inl, inr}
 use Rattle.fb_structured_text.specs.Forms.Kind.{name_kinds}
 use Rattle.fb_structured_text.specs.Forms.declared.kind.Kind.{Kind}
 use Rattle.fb_structured_text.specs.Forms.declared.kind.Kind.TheVariants.{One, Point, OpenBracket, CloseBracket, Semicolon, Ampersand, And, FunctionBlock, EndFunctionBlock, Adapter, EndAdapter, Subapplication, EndSubapplication, System, EndSystem, TypeWord, Application, EndApplication, Device, Mappings, EventInput, EventOutput, VarInput, VarOutput, Var, Plugs, Sockets, Fbs, Subapps, EventConnections, DataConnections, AdapterConnections, EcStates, EcTransitions, Algorithm, Service}
 use Rattle.fb_tree.specs.Text.declared.name.NameUse.{NameUse}
 use Rattle.fb_structured_text.specs.Forms.Form.{Form, both, many, as_value}
-use Rattle.fb_structured_text.specs.Forms.Reading.{is_predictive, first, after, are_apart}
+use Rattle.fb_structured_text.specs.Forms.Reading.{is_nullable, is_predictive, first, after, are_apart}
 use Rattle.fb_structured_text.specs.Forms.Words.{key, before, behind, name}
 use Rattle.fb_structured_text.proofs.Forms.Forms.{among_left, among_right}
 use Rattle.fb_structured_text.proofs.Forms.Shapes.{Closed, Shape, among_append, apart_within, closed_either}
@@ -18,6 +18,9 @@ use Rattle.fb_structured_text.specs.Expression.{levels, expression}
 use Rattle.fb_structured_text.proofs.ExpressionLevels.{expression_afters, shape-expression}
 use Rattle.fb_structured_text.proofs.StatementLevels.{closed-statement}
 use Rattle.fb_parse.specs.Chart.{bracketed, joined_test, optional_test, event_condition, condition, transition, transitions, optional_colon, structured_text, other_language, algorithm_body, algorithm}
+use Rattle.fb_parse.specs.declared.frame.Frame.{Frame}
+use Rattle.fb_parse.specs.declared.frame.Frame.TheVariants as frame
+use Rattle.fb_parse.specs.Frames.{section_of}
 use Rattle.fb_parse.specs.Grammar.{data_section, service_section, interface_section, network_section, chart_section, block_section, adapter_section, application_section, subapplication_section, block, adapter, subapplication, application, system_section, system, structure, unit}
 
 -- Transitions and algorithms
@@ -182,6 +185,21 @@ closed_unit =
 
 pub predictive_unit : is_predictive unit ≡ true
 predictive_unit = let c = closed_unit in c.predictive
+
+-- None of the forms that are read again and again is empty
+
+pub transition_filled : is_nullable transition ≡ false
+unfolding transition name
+transition_filled = refl
+
+pub system_section_filled : is_nullable system_section ≡ false
+system_section_filled = let c = closed_system_section in c.filled
+
+pub section_filled : (f : Frame) → is_nullable (section_of f) ≡ false
+section_filled frame.Block = let c = closed_block_section in c.filled
+section_filled frame.Adapter = let c = closed_adapter_section in c.filled
+section_filled frame.Subapplication = let c = closed_subapplication_section in c.filled
+section_filled frame.Application = let c = closed_application_section in c.filled
 
 -- What begins the sections of each frame
 

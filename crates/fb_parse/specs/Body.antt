@@ -53,6 +53,10 @@ abbrev pub body_in : ℕ → Result (List Lexeme) Span → BodyTree
 body_in end (Err bad) = BrokenAt bad
 body_in end (Ok lexemes) = body_read end (read unit lexemes)
 
+-- the same, computed
+unfoldable pub body_of : List ℕ → BodyTree
+body_of text = body_in (length text) (lexemes_of text)
+
 -- By all that is pulled of a text, from the first token that does not go on: a comment that is never closed, or else this token.
 abbrev pub broken_at : List Lexeme → BodyTree
 broken_at tokens = elim (closing tokens) [ Some comment ↦ BrokenAt comment | None ↦ BrokenAt (front tokens).span ]
@@ -60,12 +64,3 @@ broken_at tokens = elim (closing tokens) [ Some comment ↦ BrokenAt comment | N
 -- the tree, unless tokens or a comment that is never closed are left
 abbrev pub whole_if_over : DeclTree → List Lexeme → BodyTree
 whole_if_over tree tokens = if same_kind (front tokens).kind End then Whole tree else broken_at tokens
-
--- the body by all that is pulled of the text; it is `body_of` of the text
-abbrev pub body_pulled : Outcome DeclTree → BodyTree
-body_pulled (Ok found) = whole_if_over found.0 found.1
-body_pulled (Err rest) = broken_at rest
-
--- the same, computed
-unfoldable pub body_of : List ℕ → BodyTree
-body_of text = body_in (length text) (lexemes_of text)

@@ -27,7 +27,6 @@ impl Body {
     ghost use Rattle.fb_tree.specs.Tree.{decl_tree};
 
     /// The body of a text of less than 4 GiB.
-    #[tactic(auto, using(crate::proofs::Bodies::pulled_body))]
     pub fn of_text(alloc: Global, text: &str) -> Result<Body, AllocError>
         requires { length text.now < 4294967296 }
         ensures { IfOk result (λ body. body_tree body ≡ body_of text.now) }
@@ -42,7 +41,7 @@ impl Body {
 
     /// A comment that is never closed, or else the next token, or the end.
     fn broken(tokens: Tokens<'_>) -> Body
-        ensures { body_tree result ≡ broken_at tokens }
+        ensures { body_tree result ≡ broken_at tokens.entry }
     {
         let place = tokens.place();
         match tokens.unclosed() {
@@ -67,7 +66,7 @@ impl Body {
 
     /// The declaration, unless tokens or a comment that is never closed are left behind it.
     fn whole_or_broken(decl: Decl, tokens: Tokens<'_>) -> Body
-        ensures { body_tree result ≡ whole_if_over (decl_tree decl) tokens }
+        ensures { body_tree result ≡ whole_if_over (decl_tree decl) tokens.entry }
     {
         match tokens.kind() {
             Kind::End => Body::Tree(decl),

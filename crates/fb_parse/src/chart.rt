@@ -83,6 +83,25 @@ fn condition(alloc: Global, tokens: &mut Tokens<'_>) -> Result<Condition, Stop>
     }
 }
 
+/// A transition.
+#[tactic(auto, unfolding(crate::specs::Chart::transition))]
+fn transition(alloc: Global, tokens: &mut Tokens<'_>) -> Result<Transition, Stop>
+    ensures { Gives transition_tree result tokens.new (read transition tokens.old) }
+{
+    let source = name(alloc, tokens)?;
+    key(tokens, Kind::To)?;
+    let destination = name(alloc, tokens)?;
+    key(tokens, Kind::Assign)?;
+    let condition = condition(alloc, tokens)?;
+    key(tokens, Kind::Semicolon)?;
+    let transition = Transition {
+        source,
+        destination,
+        condition,
+    };
+    Ok(transition)
+}
+
 /// Reads transitions.
 #[derive(Drop)]
 struct TransitionReader;
@@ -96,20 +115,8 @@ impl Reader for TransitionReader {
 
     ghost reads = { λ _. read transition };
 
-    #[tactic(auto, unfolding(crate::specs::Chart::transition))]
     fn read(&self, alloc: Global, tokens: &mut Tokens<'_>) -> Result<Transition, Stop> {
-        let source = name(alloc, tokens)?;
-        key(tokens, Kind::To)?;
-        let destination = name(alloc, tokens)?;
-        key(tokens, Kind::Assign)?;
-        let condition = condition(alloc, tokens)?;
-        key(tokens, Kind::Semicolon)?;
-        let transition = Transition {
-            source,
-            destination,
-            condition,
-        };
-        Ok(transition)
+        transition(alloc, tokens)
     }
 }
 

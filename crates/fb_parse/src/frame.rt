@@ -3,10 +3,11 @@
 ghost use Rattle.fb_structured_text.specs.Forms.Form.{as_value, many};
 ghost use Rattle.fb_structured_text.specs.Forms.Gives.{Gives};
 ghost use Rattle.fb_structured_text.specs.Forms.Reading.{first, read};
+ghost use Rattle.fb_structured_text.specs.Forms.Upcoming.{are_tokens};
 ghost use Rattle.fb_parse.specs.Contents.{ContentsTree, contents_tree, joined};
 ghost use Rattle.fb_parse.specs.Frames.{section_of};
 ghost use Rattle.fb_parse.specs.Grammar.{framed};
-ghost use Rattle.std.specs.Prelude.{◌≡◌};
+ghost use Rattle.std.specs.Prelude.{◌≡◌, ◌∷◌, []};
 
 use crate::contents::{Contents, joined};
 use crate::sections::{
@@ -81,7 +82,9 @@ pub fn framed(
     end: Kind,
     tokens: &mut Tokens<'_>,
 ) -> Result<Named, Stop>
-    requires { first (section_of frame) ≡ firsts.now }
+    requires start { are_tokens (start ∷ []) }
+    requires firsts { first (section_of frame) ≡ firsts.now }
+    requires end { are_tokens (end ∷ []) }
     ensures { Gives (λ named. (named.name, contents_tree named.contents)) result tokens.new
         (read (framed start (section_of frame) end) tokens.old) }
 {

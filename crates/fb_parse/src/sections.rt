@@ -55,7 +55,7 @@ fn data_section(alloc: Global, tokens: &mut Tokens<'_>) -> Result<Contents, Stop
 fn service_section(alloc: Global, tokens: &mut Tokens<'_>) -> Result<Contents, Stop>
     ensures { Gives contents_tree result tokens.new (read service_section tokens.old) }
 {
-    let tokens = service(tokens)?;
+    service(tokens)?;
     Ok(Contents::nothing(alloc))
 }
 
