@@ -1,13 +1,7 @@
 -- What is kept after a checkpoint.
 use Rattle.std.proofs.Common.{◌≡◌, ℕ, List, filter, refl, sym, subst, arith}
-use Rattle.fb_entries.specs.Keyed.{Keyed}
-use Rattle.fb_entries.specs.Library.Texts.{Texts}
-use Rattle.fb_entries.specs.Jobs.declared.key.Key.{Key}
-use Rattle.fb_entries.specs.Index.Indexed.{Indexed}
-use Rattle.fb_history.specs.Checkpoints.{checkpointed, restarted}
-use Rattle.fb_history.specs.Limits.{Bounds}
-use Rattle.fb_history.specs.Machine.{State, keys_of}
-use Rattle.fb_history.specs.BenchView.{BenchView, replies, state_of}
+use Rattle.fb_entries.specs.{Keyed.{Keyed}, Library.Texts.{Texts}, Jobs.declared.key.Key.{Key}, Index.Indexed.{Indexed}}
+use Rattle.fb_history.specs.{Checkpoints.{checkpointed, restarted}, Limits.{Bounds}, Machine.{State, keys_of}, BenchView.{BenchView, replies, state_of}}
 use Rattle.fb_history.proofs.Restarts.{goes_on, unseen}
 use Rattle.fb_bench.specs.Kept.{Agrees, IsConsistent}
 

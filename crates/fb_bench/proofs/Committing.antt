@@ -2,25 +2,17 @@
 use Rattle.std.proofs.Common.{◌≡◌, ℕ, ◌+◌, ◌<◌, ◌≤◌, Bool, true, false, List, [], ◌∷◌, map, length, refl, sym, ap, ◌∙◌, subst, Option, Some, None, cond, nat_lt, ◌==◌, arith}
 use Rattle.std.proofs.lemmas.Bool.Decides.{nat_tests}
 use Rattle.std.specs.Option.{option_map}
-use Rattle.fb_entries.specs.Keyed.{Keyed}
-use Rattle.fb_entries.specs.Library.Texts.{Texts, Held, held, text_in, text_at, Edit, Puts, Removes, unit_of, all_edited}
-use Rattle.fb_entries.specs.Jobs.declared.key.Key.{Key}
+use Rattle.fb_entries.specs.{Keyed.{Keyed}, Library.Texts.{Texts, Held, held, text_in, text_at, Edit, Puts, Removes, unit_of, all_edited}}
+use Rattle.fb_entries.specs.{Jobs.declared.key.Key.{Key}, declared.renewal.Renewal.{Renewal}, Renew.{IsCarriedOut, IsRenewal, HasRoom}}
 use Rattle.fb_history.specs.declared.answers.Committed.{Committed}
 use Rattle.fb_history.specs.declared.answers.Committed.TheVariants.{Done, NoChange, TooManyChanges, SameUnitTwice, StaleBase, NoSuchUnit, TooManyUnits}
-use Rattle.fb_history.specs.declared.answers.Delivered.{Delivered}
-use Rattle.fb_history.specs.declared.answers.Delivered.TheVariants.{Accepted, NoSuchKey, NotPending, Stale}
-use Rattle.fb_history.specs.declared.answers.GivenBack.{GivenBack}
-use Rattle.fb_history.specs.declared.answers.GivenBack.TheVariants.{Returned, NothingOut}
+use Rattle.fb_history.specs.{declared.answers.Delivered.{Delivered}, declared.answers.Delivered.TheVariants.{Accepted, NoSuchKey, NotPending, Stale}}
+use Rattle.fb_history.specs.{declared.answers.GivenBack.{GivenBack}, declared.answers.GivenBack.TheVariants.{Returned, NothingOut}}
 use Rattle.fb_history.specs.Machine.{after_give_back, give_back_answer, State, Call, ToCommit, ToTake, ToDeliver, ToGiveBack, ToAsk, OfCommit, reply, after, commit_answer, after_commit, after_take, after_deliver, deliver_answer, next, after_done, refusal, or_else, or_some, repeated_refusal, first_repeated, first_misfit, misfit, misfit_at}
-use Rattle.fb_history.specs.BenchView.{BenchView, opened, replay, calls_of, state_of}
-use Rattle.fb_bench.specs.Kept.{Agrees}
-use Rattle.fb_entries.specs.declared.renewal.Renewal.{Renewal}
-use Rattle.fb_bench.specs.Outcomes.{answer_at}
-use Rattle.fb_entries.specs.Renew.{IsCarriedOut, IsRenewal, HasRoom}
+use Rattle.fb_history.specs.{BenchView.{BenchView, opened, replay, calls_of, state_of}, Laws.{AgreeApartFrom}}
+use Rattle.fb_bench.specs.{Kept.{Agrees}, Outcomes.{answer_at}}
 use Rattle.fb_history.proofs.Steps.{reply_commit, after_commit_is}
-use Rattle.fb_history.specs.Laws.{AgreeApartFrom}
-use Rattle.fb_bench.proofs.Renewing.{ScratchLocal, held_all_edited}
-use Rattle.fb_bench.proofs.Renewals.{agrees_done}
+use Rattle.fb_bench.proofs.{Renewing.{ScratchLocal, held_all_edited}, Renewals.{agrees_done}}
 
 -- ---- a refusal leaves the state
 

@@ -1,18 +1,11 @@
 -- A workbench that has done nothing.
 use Rattle.std.proofs.Common.{◌≡◌, ℕ, false, [], refl, sym, ap, subst, arith}
-use Rattle.std.specs.Map.{lookup}
-use Rattle.std.specs.BTreeMap.{is_at}
-use Rattle.std.specs.List.{list_any}
-use Rattle.fb_entries.specs.Keyed.{Keyed}
-use Rattle.fb_entries.specs.Library.Texts.{Texts}
-use Rattle.fb_entries.specs.Jobs.declared.key.Key.{Key}
-use Rattle.fb_entries.specs.Jobs.Keys.{has_key}
-use Rattle.fb_entries.specs.Jobs.KeyOrder.{key_cmp}
+use Rattle.std.specs.{Map.{lookup}, BTreeMap.{is_at}, List.{list_any}}
+use Rattle.fb_entries.specs.{Keyed.{Keyed}, Library.Texts.{Texts}, Jobs.declared.key.Key.{Key}, Jobs.Keys.{has_key}, Jobs.KeyOrder.{key_cmp}}
+use Rattle.fb_entries.specs.Index.Indexed.{Indexed, nothing_indexed}
 use Rattle.fb_history.specs.BenchView.{BenchView, empty_origin, new_bench, opened, replay, replies}
 use Rattle.fb_bench.specs.Kept.{Agrees, IsConsistent, EntryFits}
-use Rattle.fb_entries.specs.Index.Indexed.{Indexed, nothing_indexed}
-use Rattle.fb_entries.proofs.Indexing.{indexed_none}
-use Rattle.fb_entries.proofs.Jobs.KindLemmas.{no_kind}
+use Rattle.fb_entries.proofs.{Indexing.{indexed_none}, Jobs.KindLemmas.{no_kind}}
 use Rattle.fb_history.proofs.AfterCalls.{begins_empty}
 
 no_key : (key : Key) → has_key [] key ≡ false

@@ -1,14 +1,7 @@
 -- Nets that were found for current reads are those of the present texts.
-use Rattle.std.proofs.Common.{◌≡◌, ℕ, List, [], ◌∷◌, All, map, sym, subst}
-use Rattle.std.proofs.lemmas.List.Elements.{All-nil, All-cons, All-head, All-tail, All-map}
-use Rattle.fb_entries.specs.Library.Texts.{Texts}
-use Rattle.fb_entries.specs.Jobs.declared.hints.Hint.{Hint}
-use Rattle.fb_entries.specs.Jobs.declared.value.Value.{Value}
-use Rattle.fb_entries.specs.Jobs.Hints.{IsNetOf, net_key}
-use Rattle.fb_entries.specs.Jobs.Keys.{scratch}
-use Rattle.fb_entries.specs.Jobs.Reads.{PlainJob, read_texts}
-use Rattle.fb_entries.specs.Jobs.Values.{finding_of}
-use Rattle.fb_entries.specs.Jobs.Work.{IsFoundFor}
+use Rattle.std.proofs.{Common.{◌≡◌, ℕ, List, [], ◌∷◌, All, map, sym, subst}, lemmas.List.Elements.{All-nil, All-cons, All-head, All-tail, All-map}}
+use Rattle.fb_entries.specs.{Library.Texts.{Texts}, Jobs.declared.hints.Hint.{Hint}, Jobs.declared.value.Value.{Value}, Jobs.Hints.{IsNetOf, net_key}}
+use Rattle.fb_entries.specs.{Jobs.Keys.{scratch}, Jobs.Reads.{PlainJob, read_texts}, Jobs.Values.{finding_of}, Jobs.Work.{IsFoundFor}}
 use Rattle.fb_bench.specs.Founds.{HasNetsOf, said}
 
 all_said : (P : List ℕ × Value → Type 0) (hints : List Hint) → All P (map said hints) → All (λ (hint : Hint). P (said hint)) hints

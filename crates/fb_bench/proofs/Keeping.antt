@@ -1,12 +1,8 @@
 -- What is kept after one more call.
 use Rattle.std.proofs.Common.{◌≡◌, ℕ, ◌≤◌, ◌+◌, sym, subst, arith, length-append}
-use Rattle.fb_entries.specs.Keyed.{Keyed}
-use Rattle.fb_entries.specs.Library.Texts.{Texts}
-use Rattle.fb_history.specs.Machine.{Call, Reply, after, reply}
-use Rattle.fb_history.specs.BenchView.{BenchView, IsOrigin, last_number, state_of, logged, IsReplay}
+use Rattle.fb_entries.specs.{Keyed.{Keyed}, Library.Texts.{Texts}, Index.Indexed.{Indexed}, Indexed.{IsIndexOf}}
+use Rattle.fb_history.specs.{Machine.{Call, Reply, after, reply}, BenchView.{BenchView, IsOrigin, last_number, state_of, logged, IsReplay}}
 use Rattle.fb_bench.specs.Kept.{Agrees, IsConsistent}
-use Rattle.fb_entries.specs.Index.Indexed.{Indexed}
-use Rattle.fb_entries.specs.Indexed.{IsIndexOf}
 use Rattle.fb_history.proofs.Steps.{state_recorded, replayed_recorded}
 
 -- what is kept after one more recorded call

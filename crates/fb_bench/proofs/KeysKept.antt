@@ -1,32 +1,17 @@
 -- The keys that have entries are those of the texts, in order, and as many of the entries have no value as keys wait.
 use Rattle.std.proofs.Common.{◌≡◌, ℕ, ◌+◌, Bool, true, false, List, [], ◌∷◌, All, filter, get_or, map, refl, sym, ap, subst, ◌∙◌, Option, Some, None, is_some, cond, count_by}
-use Rattle.std.specs.BTreeMap.{is_at}
-use Rattle.std.specs.BTreeSet.{insert_key}
-use Rattle.std.specs.List.Sorted.{IsStrictlySortedBy}
-use Rattle.std.specs.Map.{keys_of as keys_in, values_of}
-use Rattle.std.specs.Ordering.{match_ordering}
-use Rattle.std.proofs.lemmas.List.Elements.{All-head, All-tail}
-use Rattle.std.proofs.lemmas.List.Sums.{sum_by-cons}
-use Rattle.std.proofs.lemmas.Map.Entries.{lookup_from_place}
-use Rattle.std.proofs.lemmas.Map.Keys.{IsDistinct-from_sorted}
-use Rattle.std.proofs.lemmas.Cmp.{eq_by_cmp_equiv}
-use Rattle.std.proofs.lemmas.Map.Made.{is_some-lookup}
+use Rattle.std.proofs.{lemmas.List.Elements.{All-head, All-tail}, lemmas.List.Sums.{sum_by-cons}, lemmas.Map.Entries.{lookup_from_place}}
+use Rattle.std.proofs.{lemmas.Map.Keys.{IsDistinct-from_sorted}, lemmas.Cmp.{eq_by_cmp_equiv}, lemmas.Map.Made.{is_some-lookup}}
 use Rattle.std.proofs.lemmas.Option.{slice_get-get_or}
+use Rattle.std.specs.{BTreeMap.{is_at}, BTreeSet.{insert_key}, List.Sorted.{IsStrictlySortedBy}, Map.{keys_of as keys_in, values_of}, Ordering.{match_ordering}}
 use Rattle.fb_text.specs.Order.{in_order}
 use Rattle.fb_text.proofs.OrderLemmas.{in_order-same}
-use Rattle.fb_entries.specs.Keyed.{Keyed, entry_at}
-use Rattle.fb_entries.specs.Library.Texts.{Texts}
-use Rattle.fb_entries.specs.Jobs.declared.key.Key.{Key}
-use Rattle.fb_entries.specs.Jobs.Keys.{has_key}
-use Rattle.fb_entries.specs.Jobs.KeyOrder.{key_cmp, key_cmp_total}
-use Rattle.fb_entries.specs.declared.entry.Entry.{Entry}
-use Rattle.fb_history.specs.Machine.{State, keys_of}
-use Rattle.fb_history.specs.BenchView.{BenchView, IsOrigin, state_of}
+use Rattle.fb_entries.specs.{Keyed.{Keyed, entry_at}, Library.Texts.{Texts}, Jobs.declared.key.Key.{Key}, Jobs.Keys.{has_key}}
+use Rattle.fb_entries.specs.{Jobs.KeyOrder.{key_cmp, key_cmp_total}, declared.entry.Entry.{Entry}, Marking.{is_handed_out, is_of, is_unkept, keys_with}}
+use Rattle.fb_history.specs.{Machine.{State, keys_of}, BenchView.{BenchView, IsOrigin, state_of}}
 use Rattle.fb_bench.specs.Kept.{EntryFits, Agrees}
-use Rattle.fb_entries.specs.Marking.{is_handed_out, is_of, is_unkept, keys_with}
 use Rattle.fb_entries.proofs.Jobs.Order.{exact_key}
-use Rattle.fb_history.proofs.Least.{of_keys}
-use Rattle.fb_history.proofs.Sorted.{keys_rise}
+use Rattle.fb_history.proofs.{Least.{of_keys}, Sorted.{keys_rise}}
 
 -- ---- two rising lists with the same keys are the same
 

@@ -1,27 +1,13 @@
 -- What an entry says of the marks of its key.
 use Rattle.std.proofs.Common.{◌≡◌, ℕ, Bool, true, false, ◌||◌, ◌&&◌, not, List, refl, sym, ap, ◌∙◌, subst, Option, Some, None, cond}
-use Rattle.std.specs.Option.{option_map}
-use Rattle.std.specs.BTreeMap.{is_at}
-use Rattle.std.specs.List.{list_any}
-use Rattle.std.specs.Map.{lookup}
-use Rattle.std.specs.declared.sync.Arc.{Arc}
-use Rattle.std.specs.declared.alloc.Global.{Global}
-use Rattle.fb_entries.specs.Keyed.{Keyed, IsFirstReady, can_take, entry_at}
-use Rattle.fb_entries.specs.Library.Texts.{Texts}
-use Rattle.fb_entries.specs.Jobs.declared.key.Key.{Key}
-use Rattle.fb_entries.specs.Jobs.declared.value.Value.{Value}
-use Rattle.fb_entries.specs.Jobs.Values.{finding_of}
-use Rattle.fb_entries.specs.Jobs.Hints.{AreKept}
-use Rattle.fb_entries.specs.Jobs.Keys.{Finding, has_key, scratch}
-use Rattle.fb_entries.specs.Jobs.KeyOrder.{key_cmp, same_key}
-use Rattle.fb_entries.specs.declared.entry.Entry.{Entry}
-use Rattle.fb_entries.specs.Jobs.Reads.{PlainJob, stale}
-use Rattle.fb_history.specs.Machine.{State, is_ready, next, after_take, after_deliver, removed, unless_stale, deliver_answer}
-use Rattle.fb_history.specs.declared.answers.Delivered.{Delivered}
-use Rattle.fb_history.specs.declared.answers.Delivered.TheVariants.{Accepted, NoSuchKey, NotPending, Stale}
-use Rattle.fb_bench.specs.Kept.{Agrees, EntryFits, IsScratch}
-use Rattle.fb_entries.specs.Found.{found_in, kept_in}
+use Rattle.std.specs.{Option.{option_map}, BTreeMap.{is_at}, List.{list_any}, Map.{lookup}, declared.sync.Arc.{Arc}, declared.alloc.Global.{Global}}
+use Rattle.fb_entries.specs.{Keyed.{Keyed, IsFirstReady, can_take, entry_at}, Library.Texts.{Texts}, Jobs.declared.key.Key.{Key}}
+use Rattle.fb_entries.specs.{Jobs.declared.value.Value.{Value}, Jobs.Values.{finding_of}, Jobs.Hints.{AreKept}, Jobs.Keys.{Finding, has_key, scratch}}
+use Rattle.fb_entries.specs.{Jobs.KeyOrder.{key_cmp, same_key}, declared.entry.Entry.{Entry}, Jobs.Reads.{PlainJob, stale}, Found.{found_in, kept_in}}
 use Rattle.fb_entries.specs.Marking.{unless_kept, with_found, with_out, with_value, ChangesEntry, MarksKey, SameKeys}
+use Rattle.fb_history.specs.Machine.{State, is_ready, next, after_take, after_deliver, removed, unless_stale, deliver_answer}
+use Rattle.fb_history.specs.{declared.answers.Delivered.{Delivered}, declared.answers.Delivered.TheVariants.{Accepted, NoSuchKey, NotPending, Stale}}
+use Rattle.fb_bench.specs.Kept.{Agrees, EntryFits, IsScratch}
 use Rattle.fb_entries.proofs.Jobs.Order.{keys_equal}
 use Rattle.fb_history.proofs.Least.{next_none, next_some}
 

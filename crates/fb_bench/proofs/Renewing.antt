@@ -1,27 +1,16 @@
 -- The entries after a commit.
 use Rattle.std.proofs.Common.{◌≡◌, ℕ, Bool, true, false, ◌||◌, ◌&&◌, not, List, [], ◌∷◌, map, refl, sym, ap, ◌∙◌, subst, Option, Some, None, cond}
-use Rattle.std.specs.List.{list_any}
-use Rattle.std.specs.Map.{remove_entry}
-use Rattle.std.specs.BTreeMap.{is_at, insert_entry}
-use Rattle.std.specs.Ordering.{match_ordering}
-use Rattle.std.specs.declared.sync.Arc.{Arc}
-use Rattle.std.specs.declared.alloc.Global.{Global}
-use Rattle.std.specs.declared.cmp.Ordering.TheVariants.{Less, Equal, Greater}
-use Rattle.fb_text.proofs.Tests.{or_false, and_false, and_true}
-use Rattle.fb_entries.proofs.Library.Names.{exact_name, name_total}
 use Rattle.std.proofs.lemmas.Cmp.{eq_by_cmp_equiv}
-use Rattle.std.specs.Option.{option_map}
-use Rattle.fb_entries.specs.Library.Texts.{Texts, Held, held, text_in, Edit, Puts, Removes, unit_of, edited, all_edited}
+use Rattle.std.specs.{List.{list_any}, Map.{remove_entry}, BTreeMap.{is_at, insert_entry}, Ordering.{match_ordering}, declared.sync.Arc.{Arc}}
+use Rattle.std.specs.{declared.alloc.Global.{Global}, declared.cmp.Ordering.TheVariants.{Less, Equal, Greater}, Option.{option_map}}
+use Rattle.fb_text.proofs.{Tests.{or_false, and_false, and_true}, OrderLemmas.{is_equal}}
+use Rattle.fb_entries.proofs.Library.Names.{exact_name, name_total}
+use Rattle.fb_entries.specs.{Library.Texts.{Texts, Held, held, text_in, Edit, Puts, Removes, unit_of, edited, all_edited}, Jobs.declared.key.Key.{Key}}
+use Rattle.fb_entries.specs.{Jobs.declared.value.Value.{Value}, Jobs.Keys.{has_key, needs, scratch}, Jobs.Reads.{is_among, Agree}, declared.entry.Entry.{Entry}}
+use Rattle.fb_entries.specs.Marking.{waiting}
 use Rattle.fb_text.specs.Order.{name_cmp}
-use Rattle.fb_entries.specs.Jobs.declared.key.Key.{Key}
-use Rattle.fb_entries.specs.Jobs.declared.value.Value.{Value}
-use Rattle.fb_entries.specs.Jobs.Keys.{has_key, needs, scratch}
-use Rattle.fb_entries.specs.Jobs.Reads.{is_among, Agree}
-use Rattle.fb_entries.specs.declared.entry.Entry.{Entry}
 use Rattle.fb_history.specs.Machine.{State, after_done, reaches}
 use Rattle.fb_bench.specs.Kept.{EntryFits, IsScratch}
-use Rattle.fb_entries.specs.Marking.{waiting}
-use Rattle.fb_text.proofs.OrderLemmas.{is_equal}
 use Rattle.fb_history.proofs.AfterCalls.{or_parts, not_met}
 
 -- ---- names that are not changed

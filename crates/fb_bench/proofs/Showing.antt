@@ -1,14 +1,9 @@
 -- What is shown as pending is due.
 use Rattle.std.proofs.Common.{◌≡◌, Bool, true, false, ◌&&◌, not, refl, cond}
-use Rattle.fb_entries.specs.Jobs.declared.key.Key.{Key}
-use Rattle.fb_entries.specs.Jobs.Keys.{Finding, has_key, scratch}
+use Rattle.fb_entries.specs.{Jobs.declared.key.Key.{Key}, Jobs.Keys.{Finding, has_key, scratch}}
 use Rattle.fb_history.specs.Machine as machine
-use Rattle.fb_history.specs.Machine.{Finds, Waits, Unknown}
-use Rattle.fb_history.specs.BenchView.{BenchView, IsOrigin, opened, calls_of, state_of}
-use Rattle.fb_history.specs.Due.{due_from, is_due}
-use Rattle.fb_bench.specs.declared.peek.Shown.{Shown}
-use Rattle.fb_bench.specs.declared.peek.Shown.TheVariants.{NoSuchKey, Pending, Value}
-use Rattle.fb_bench.specs.Peeks.{shown_by, is_pending}
+use Rattle.fb_history.specs.{Machine.{Finds, Waits, Unknown}, BenchView.{BenchView, IsOrigin, opened, calls_of, state_of}, Due.{due_from, is_due}}
+use Rattle.fb_bench.specs.{declared.peek.Shown.{Shown}, declared.peek.Shown.TheVariants.{NoSuchKey, Pending, Value}, Peeks.{shown_by, is_pending}}
 use Rattle.fb_history.proofs.Dues.{pending_is_due}
 
 shown_bits : (r : Shown) (h p d : Bool) (f : Finding) → p ≡ (h && d) → shown_by r ≡ cond (not h) Unknown (cond p Waits (Finds f)) → is_pending r ≡ (h && d)

@@ -1,14 +1,10 @@
 -- What a call or a checkpoint on a desk says of the desk before and after.
 use Rattle.std.specs.Prelude.{◌≡◌, ℕ, Result, Ok, Err}
-use Rattle.fb_history.specs.Checkpoints.{Checking, KeptUpTo, OverUnits, OverNumbers}
-use Rattle.fb_history.specs.Limits.{Bounds}
+use Rattle.fb_history.specs.{Checkpoints.{Checking, KeptUpTo, OverUnits, OverNumbers}, Limits.{Bounds}}
 use Rattle.fb_history.specs.Machine.{Call, ToCommit, ToTake, ToDeliver, ToGiveBack, ToAsk, Reply, OfCommit, OfTake, OfDeliver, OfGiveBack, OfAsk}
-use Rattle.fb_bench.specs.Records.{job_in, shown_in}
 use Rattle.fb_history.specs.declared.answers.Asked.{Asked}
-use Rattle.fb_bench.specs.declared.answers.Taken.{Taken}
-use Rattle.fb_bench.specs.declared.desk.DeskError.{DeskError}
-use Rattle.fb_bench.specs.declared.desk.DeskError.TheVariants.{HistoryFull, Behind, Memory}
-use Rattle.fb_bench.specs.declared.desk.DeskCheckpointError.{DeskCheckpointError}
+use Rattle.fb_bench.specs.{Records.{job_in, shown_in}, declared.answers.Taken.{Taken}, declared.desk.DeskError.{DeskError}}
+use Rattle.fb_bench.specs.{declared.desk.DeskError.TheVariants.{HistoryFull, Behind, Memory}, declared.desk.DeskCheckpointError.{DeskCheckpointError}}
 use Rattle.fb_bench.specs.declared.desk.DeskCheckpointError.TheVariants as refused
 
 -- what a desk answers to a call: a reply, or that the history is full, or `Behind`

@@ -1,8 +1,6 @@
 -- What an answer says by the texts and the calls alone, and what a refusal leaves.
 use Rattle.std.specs.Prelude.{◌≡◌, Bool, true, false}
-use Rattle.fb_history.specs.Machine.{Call, ToAsk, Reply, OfAsk, Shown, Finds, Waits, Unknown}
-use Rattle.fb_history.specs.BenchView.{BenchView, calls_of, state_of}
-use Rattle.fb_history.specs.Due.{is_due}
+use Rattle.fb_history.specs.{Machine.{Call, ToAsk, Reply, OfAsk, Shown, Finds, Waits, Unknown}, BenchView.{BenchView, calls_of, state_of}, Due.{is_due}}
 use Rattle.fb_history.specs.Laws.{entry_after, is_refusal}
 
 abbrev pub is_waiting : Shown → Bool

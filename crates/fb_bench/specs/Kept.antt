@@ -1,18 +1,8 @@
 -- What a workbench keeps beside its history agrees with where the history has led.
-use Rattle.std.specs.Prelude.{◌≡◌, ℕ, ◌≤◌, true, false, Option, Some, None, is_none}
-use Rattle.std.specs.declared.sync.Arc.{Arc}
-use Rattle.std.specs.declared.alloc.Global.{Global}
-use Rattle.fb_entries.specs.Keyed.{Keyed, can_take, entry_at}
-use Rattle.fb_entries.specs.Library.Texts.{Texts}
-use Rattle.fb_entries.specs.Jobs.declared.key.Key.{Key}
-use Rattle.fb_entries.specs.Jobs.declared.value.Value.{Value}
-use Rattle.fb_entries.specs.Jobs.Keys.{has_key, scratch}
-use Rattle.fb_entries.specs.Jobs.Values.{finding_of}
-use Rattle.fb_history.specs.Machine.{State, is_ready}
-use Rattle.fb_history.specs.BenchView.{BenchView, IsOrigin, last_number, state_of, IsReplay}
-use Rattle.fb_entries.specs.declared.entry.Entry.{Entry}
-use Rattle.fb_entries.specs.Index.Indexed.{Indexed}
-use Rattle.fb_entries.specs.Indexed.{IsIndexOf}
+use Rattle.std.specs.{Prelude.{◌≡◌, ℕ, ◌≤◌, true, false, Option, Some, None, is_none}, declared.sync.Arc.{Arc}, declared.alloc.Global.{Global}}
+use Rattle.fb_entries.specs.{Keyed.{Keyed, can_take, entry_at}, Library.Texts.{Texts}, Jobs.declared.key.Key.{Key}, Jobs.declared.value.Value.{Value}}
+use Rattle.fb_entries.specs.{Jobs.Keys.{has_key, scratch}, Jobs.Values.{finding_of}, declared.entry.Entry.{Entry}, Index.Indexed.{Indexed}, Indexed.{IsIndexOf}}
+use Rattle.fb_history.specs.{Machine.{State, is_ready}, BenchView.{BenchView, IsOrigin, last_number, state_of, IsReplay}}
 
 -- a kept value is the key's value from scratch
 abbrev pub IsScratch : Texts → Key → Option (Arc Value Global) → Type 0

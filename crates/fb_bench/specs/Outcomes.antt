@@ -1,14 +1,9 @@
 -- What a commit comes to, before anything is written.
 use Rattle.std.specs.Prelude.{◌≡◌, ℕ, List, map, length, nat_lt, if◌then◌else◌}
-use Rattle.fb_entries.specs.Keyed.{Keyed}
-use Rattle.fb_entries.specs.Library.Texts.{Texts, Edit, unit_of, all_edited}
-use Rattle.fb_history.specs.declared.answers.Committed.{Committed}
+use Rattle.fb_entries.specs.{Keyed.{Keyed}, Library.Texts.{Texts, Edit, unit_of, all_edited}, Indexed.{IsIndexOf}, Renew.{IsRenewal}}
+use Rattle.fb_history.specs.{declared.answers.Committed.{Committed}, Machine.{State, refusal, or_else, after_commit}}
 use Rattle.fb_history.specs.declared.answers.Committed.TheVariants as answer
-use Rattle.fb_bench.specs.declared.commit.Outcome.{Outcome}
-use Rattle.fb_bench.specs.declared.commit.Outcome.TheVariants.{Refused, Done}
-use Rattle.fb_entries.specs.Indexed.{IsIndexOf}
-use Rattle.fb_history.specs.Machine.{State, refusal, or_else, after_commit}
-use Rattle.fb_entries.specs.Renew.{IsRenewal}
+use Rattle.fb_bench.specs.{declared.commit.Outcome.{Outcome}, declared.commit.Outcome.TheVariants.{Refused, Done}}
 
 -- the answer to changes of these texts, where at most so many units may be and a good commit has this number
 abbrev pub answer_at : ℕ → ℕ → Texts → List Edit → Committed

@@ -2,8 +2,7 @@
 use Rattle.std.specs.Prelude.{Option, Some, None}
 use Rattle.fb_entries.specs.Jobs.Reads.{PlainJob}
 pub use Rattle.fb_history.specs.Records.{wanted_job, text_edit, text_edits, call_of, shown_in, reply_of, records_in, listed, commit_of}
-use Rattle.fb_bench.specs.declared.answers.Taken.{Taken}
-use Rattle.fb_bench.specs.declared.answers.Taken.TheVariants.{Job, Nothing}
+use Rattle.fb_bench.specs.{declared.answers.Taken.{Taken}, declared.answers.Taken.TheVariants.{Job, Nothing}}
 
 -- the job that is handed out
 abbrev pub job_in : Taken → Option PlainJob

@@ -1,7 +1,6 @@
 -- Why a workbench does not record a call.
 use Rattle.std.specs.Prelude.{◌≡◌, ◌↔◌, Result, Err}
-use Rattle.fb_history.specs.BenchView.{Log, IsFull}
-use Rattle.fb_history.specs.declared.answers.Refused.{Refused}
+use Rattle.fb_history.specs.{BenchView.{Log, IsFull}, declared.answers.Refused.{Refused}}
 use Rattle.fb_history.specs.declared.answers.Refused.TheVariants as bench
 
 -- refused for lack of room, if and only if the history has the number of calls that it may have

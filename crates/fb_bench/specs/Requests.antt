@@ -2,11 +2,9 @@
 use Rattle.std.specs.Prelude.{Option, None}
 use Rattle.fb_entries.specs.Jobs.Reads.{PlainJob}
 use Rattle.fb_history.specs.Machine.{Call, ToCommit, ToTake, ToDeliver, ToGiveBack, ToAsk, Reply, OfCommit, OfTake, OfDeliver, OfGiveBack, OfAsk}
-use Rattle.fb_bench.specs.Records.{listed, job_in, shown_in}
-use Rattle.fb_bench.specs.declared.answers.Answered.{Answered}
-use Rattle.fb_bench.specs.declared.answers.Answered.TheVariants as answer
-use Rattle.fb_bench.specs.declared.request.Request.{Request}
+use Rattle.fb_bench.specs.{Records.{listed, job_in, shown_in}, declared.answers.Answered.{Answered}, declared.request.Request.{Request}}
 use Rattle.fb_bench.specs.declared.request.Request.TheVariants.{Commit, Take, Deliver, GiveBack, Ask}
+use Rattle.fb_bench.specs.declared.answers.Answered.TheVariants as answer
 
 abbrev pub call_for : Request → Call
 call_for (Commit changes) = ToCommit (listed changes.now)

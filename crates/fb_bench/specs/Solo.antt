@@ -1,15 +1,10 @@
 -- A workbench as one caller's desk.
 use Rattle.std.specs.Prelude.{◌≡◌, ℕ, ◌≤◌, ◌<◌, length, Result, Ok, Err}
-use Rattle.fb_history.specs.Checkpoints.{KeptUpTo, checking, bench_checked}
-use Rattle.fb_history.specs.Limits.{Bounds}
-use Rattle.fb_history.specs.Machine.{Call, reply}
-use Rattle.fb_history.specs.BenchView.{BenchView, state_of, recorded}
+use Rattle.fb_history.specs.{Checkpoints.{KeptUpTo, checking, bench_checked}, Limits.{Bounds}, Machine.{Call, reply}, BenchView.{BenchView, state_of, recorded}}
 use Rattle.fb_bench.specs.Calls.{Answer, Replied, FullHistory, BehindHistory, CheckpointAnswer, Checked, SharedHistory, Exchange, Exchanges}
-use Rattle.fb_bench.specs.declared.desk.DeskError.{DeskError}
+use Rattle.fb_bench.specs.{declared.desk.DeskError.{DeskError}, declared.desk.DeskCheckpointError.{DeskCheckpointError}, declared.desk.Solo.{Solo}}
 use Rattle.fb_bench.specs.declared.desk.DeskError.TheVariants as refused
-use Rattle.fb_bench.specs.declared.desk.DeskCheckpointError.{DeskCheckpointError}
 use Rattle.fb_bench.specs.declared.desk.DeskCheckpointError.TheVariants as unmade
-use Rattle.fb_bench.specs.declared.desk.Solo.{Solo}
 
 -- The machine's reply, recorded, if the history has room. If it has none, nothing changes. The answer is never `Behind`.
 abbrev pub IsCallStep : ℕ → BenchView → Call → Answer → BenchView → Type 0

@@ -1,7 +1,6 @@
 //! The workbench: its texts, its entries and its history, and the calls that change them.
 ghost use Rattle.std.specs.Prelude.{◌≡◌};
-ghost use Rattle.fb_entries.specs.Jobs.Reads.{stale, is_current};
-ghost use Rattle.fb_entries.specs.Jobs.Values.{all_seen, seen_of};
+ghost use Rattle.fb_entries.specs.{Jobs.Reads.{stale, is_current}, Jobs.Values.{all_seen, seen_of}};
 ghost use Rattle.fb_bench.specs.Records.{job_in};
 
 use crate::answers::{Answered, Taken};
@@ -60,28 +59,15 @@ impl Model for Bench {
 
 impl Bench {
     ghost use Rattle.std.specs.Prelude.{◌≡◌, ◌+◌, ◌<◌, ◌^◌, ◌↔◌, true, false, Some, Ok, Err, IfOk, IfErr, OnOk, OnErr, IsTrue, is_some, length, slice_get, count_by};
-    ghost use Rattle.std.specs.Option.{option_map};
-    ghost use Rattle.std.specs.List.Sorted.{IsStrictlySortedBy};
-    ghost use Rattle.fb_entries.specs.Jobs.KeyOrder.{key_cmp};
+    ghost use Rattle.std.specs.{Option.{option_map}, List.Sorted.{IsStrictlySortedBy}};
+    ghost use Rattle.fb_entries.specs.{Jobs.KeyOrder.{key_cmp}, Jobs.Keys.{scratch}, Jobs.Reads.{read_texts}, Jobs.Values.{all_seen}, Indexed.{IsIndexOf}};
+    ghost use Rattle.fb_entries.specs.Library.Texts.{held, revision_of};
     ghost use Rattle.fb_history.specs.Machine.{ToTake, ToDeliver, ToGiveBack, ToAsk, OfCommit, OfTake, OfDeliver, OfGiveBack, OfAsk, shown, next, deliver_answer, keys_of};
-    ghost use Rattle.fb_entries.specs.Jobs.Keys.{scratch};
-    ghost use Rattle.fb_entries.specs.Jobs.Reads.{read_texts};
-    ghost use Rattle.fb_entries.specs.Jobs.Values.{all_seen};
     ghost use Rattle.fb_history.specs.declared.answers.Delivered.TheVariants.{Accepted};
     ghost use Rattle.fb_history.specs.BenchView.{IsOrigin, IsFull, new_bench, state_of, reply_at, recorded, record_of, record_numbered, all_turns, last_number, pages_after, calls_of, IsReplay, AreTurns};
-    ghost use Rattle.fb_bench.specs.Records.{call_of, reply_of, shown_in, job_in, commit_of};
-    ghost use Rattle.fb_history.specs.Records.{records_in};
-    ghost use Rattle.fb_bench.specs.Founds.{HasNetsOf};
-    ghost use Rattle.fb_bench.specs.Refusals.{IsFullRefusal};
-    ghost use Rattle.fb_bench.specs.Requests.{call_for, reply_in};
-    ghost use Rattle.fb_bench.specs.Calls.{Fits};
-    ghost use Rattle.fb_bench.specs.Headline.{LeavesState, ShowsEntry};
-    ghost use Rattle.fb_bench.specs.Peeks.{shown_by, is_pending};
-    ghost use Rattle.fb_history.specs.Checkpoints.{checking, checkpointed, ChecksAs};
-    ghost use Rattle.fb_history.specs.Due.{is_due};
-    ghost use Rattle.fb_history.specs.Laws.{entry_after};
-    ghost use Rattle.fb_entries.specs.Indexed.{IsIndexOf};
-    ghost use Rattle.fb_entries.specs.Library.Texts.{held, revision_of};
+    ghost use Rattle.fb_history.specs.{Records.{records_in}, Checkpoints.{checking, checkpointed, ChecksAs}, Due.{is_due}, Laws.{entry_after}};
+    ghost use Rattle.fb_bench.specs.{Records.{call_of, reply_of, shown_in, job_in, commit_of}, Founds.{HasNetsOf}, Refusals.{IsFullRefusal}};
+    ghost use Rattle.fb_bench.specs.{Requests.{call_for, reply_in}, Calls.{Fits}, Headline.{LeavesState, ShowsEntry}, Peeks.{shown_by, is_pending}};
 
     /// An empty workbench. It keeps the allocator for all its calls.
     pub fn new(alloc: Global, limits: Limits) -> Bench

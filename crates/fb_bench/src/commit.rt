@@ -1,14 +1,9 @@
 //! The result of a commit, and its record.
 ghost use Rattle.std.specs.Prelude.{◌≡◌, ◌+◌, ◌<◌, length, map, take, IfOk, OnOk, OnErr};
-ghost use Rattle.fb_entries.specs.Library.Texts.{unit_of};
-ghost use Rattle.fb_entries.specs.Library.Changes.{edit_of, edits_of};
-ghost use Rattle.fb_entries.specs.Jobs.Reads.{is_among};
-ghost use Rattle.fb_history.specs.Machine.{most_changes, first_repeated, misfit, first_misfit, refusal};
-ghost use Rattle.fb_entries.specs.Indexed.{IsIndexOf};
-ghost use Rattle.fb_bench.specs.Outcomes.{IsOutcome};
+ghost use Rattle.fb_entries.specs.{Library.Texts.{unit_of}, Library.Changes.{edit_of, edits_of}, Jobs.Reads.{is_among}, Indexed.{IsIndexOf}};
 ghost use Rattle.fb_entries.specs.Renew.{HasRoom, IsTakenBack};
-ghost use Rattle.fb_bench.specs.Records.{call_of, reply_of};
-ghost use Rattle.fb_history.specs.BenchView.{logged, record_after};
+ghost use Rattle.fb_history.specs.{Machine.{most_changes, first_repeated, misfit, first_misfit, refusal}, BenchView.{logged, record_after}};
+ghost use Rattle.fb_bench.specs.{Outcomes.{IsOutcome}, Records.{call_of, reply_of}};
 
 use fb_entries::index::Index;
 use fb_entries::library::{Change, Library};

@@ -36,10 +36,8 @@ pub enum DeskCheckpointError {
 // Works around the borrow checker: both types that a `Request` can borrow must occur in a function that makes one.
 pub trait Desk {
     ghost use Rattle.std.specs.Prelude.{IfOk};
-    ghost use Rattle.fb_history.specs.Limits.{Bounds};
-    ghost use Rattle.fb_history.specs.Machine.{Call, ToCommit, ToTake, ToDeliver, ToGiveBack, ToAsk, OfCommit, OfDeliver, OfGiveBack};
-    ghost use Rattle.fb_bench.specs.Records.{listed};
-    ghost use Rattle.fb_bench.specs.Requests.{call_for, reply_in};
+    ghost use Rattle.fb_history.specs.{Limits.{Bounds}, Machine.{Call, ToCommit, ToTake, ToDeliver, ToGiveBack, ToAsk, OfCommit, OfDeliver, OfGiveBack}};
+    ghost use Rattle.fb_bench.specs.{Records.{listed}, Requests.{call_for, reply_in}};
     ghost use Rattle.fb_bench.specs.Calls.{Answer, CheckpointAnswer, Fits, Serves, ServesCheckpoint, take_reply, ask_reply};
 
     /// From the first desk the call may be answered so, and leave the second.
@@ -136,8 +134,7 @@ impl<'a> Solo<'a> {
 
 impl Desk for Solo<'_> {
     ghost use Rattle.std.specs.Prelude.{IfOk};
-    ghost use Rattle.fb_bench.specs.Calls.{Fits, Serves, ServesCheckpoint};
-    ghost use Rattle.fb_bench.specs.Requests.{call_for, reply_in};
+    ghost use Rattle.fb_bench.specs.{Calls.{Fits, Serves, ServesCheckpoint}, Requests.{call_for, reply_in}};
     ghost use Rattle.fb_bench.specs.Solo.{IsOpenCheckpoint, IsOpenCall, SoloCheckpoint, SoloCall};
 
     ghost step = { SoloCall };

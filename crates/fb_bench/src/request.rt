@@ -1,7 +1,6 @@
 //! Calls to be made, and what is recorded of jobs and results.
 ghost use Rattle.std.specs.Prelude.{◌≡◌, IfOk, Some};
-ghost use Rattle.fb_history.specs.Machine.{ToDeliver, OfTake};
-ghost use Rattle.fb_history.specs.Records.{call_of, reply_of};
+ghost use Rattle.fb_history.specs.{Machine.{ToDeliver, OfTake}, Records.{call_of, reply_of}};
 
 use fb_entries::jobs::{Finished, Job, Key};
 use fb_entries::library::Change;

@@ -1,18 +1,12 @@
 -- What is computed is the plan of the system.
-use Rattle.std.proofs.Common.{◌≡◌, ℕ, Bool, true, false, if◌then◌else◌, List, Option, Some, None, refl, sym, ap, subst, ◌∙◌}
-use Rattle.std.proofs.lemmas.Bool.{false≢true}
+use Rattle.std.proofs.{Common.{◌≡◌, ℕ, Bool, true, false, if◌then◌else◌, List, Option, Some, None, refl, sym, ap, subst, ◌∙◌}, lemmas.Bool.{false≢true}}
 use Rattle.std.specs.Prelude.{◌↔◌, IsTrue, is_some, option_map}
 use Rattle.fb_mapping.specs.Tree.Tree.{DeclTree, block_type, adapter_type, subapplication_type, system_configuration, structure_type}
-use Rattle.fb_mapping.specs.Library.View.{Sources, tree_at}
-use Rattle.fb_mapping.specs.Flatten.Net.{PlainNet}
-use Rattle.fb_mapping.specs.Flatten.Nets.{net_at, net_in, net_of_tree}
-use Rattle.fb_mapping.specs.Flatten.Tables.{is_system_tree}
-use Rattle.fb_mapping.specs.Placed.{IsSystem}
-use Rattle.fb_mapping.proofs.Flatten.ComputedNets.{net_at_is, net_at_local}
-use Rattle.fb_mapping.proofs.KindLemmas.{no_system, system_kind}
+use Rattle.fb_mapping.specs.{Library.View.{Sources, tree_at}, Flatten.Net.{PlainNet}, Flatten.Nets.{net_at, net_in, net_of_tree}}
+use Rattle.fb_mapping.specs.{Flatten.Tables.{is_system_tree}, Placed.{IsSystem}}
+use Rattle.fb_mapping.proofs.{Flatten.ComputedNets.{net_at_is, net_at_local}, KindLemmas.{no_system, system_kind}}
 use Rattle.fb_mapping.proofs.Placing.ResolvedLocal.{own_tree, same_instances}
-use Rattle.fb_deploy.specs.Deploy.{PlainDeploy, IsPlan, planned_by}
-use Rattle.fb_deploy.specs.Plans.{HasPlanByText, PlanAtIsLocal, PlanAtIsPlan, PlanAtOfSystems, has_plan_in, plan_at}
+use Rattle.fb_deploy.specs.{Deploy.{PlainDeploy, IsPlan, planned_by}, Plans.{HasPlanByText, PlanAtIsLocal, PlanAtIsPlan, PlanAtOfSystems, has_plan_in, plan_at}}
 use Rattle.fb_deploy.proofs.PlanLocal.{one_plan_only, planned_same}
 
 -- whether there is a plan is told by the tree

@@ -1,23 +1,14 @@
 -- Texts that leave the net of a system as it was leave its plan so.
 use Rattle.std.proofs.Common.{◌≡◌, ℕ, Bool, true, false, if◌then◌else◌, List, [], ◌⊎◌, inl, inr, Option, Some, None, refl, sym, ap, subst, ◌∙◌, option_map, arith}
-use Rattle.std.specs.Prelude.{Contains}
-use Rattle.std.specs.FinMap.{get}
-use Rattle.std.specs.Option.{option_and_then}
+use Rattle.std.specs.{Prelude.{Contains}, FinMap.{get}, Option.{option_and_then}}
 use Rattle.fb_mapping.specs.Tree.Mentions.{unit_kind_of}
 use Rattle.fb_mapping.specs.Tree.Tree.{DeclTree, InstanceTree, block_type, adapter_type, subapplication_type, system_configuration, structure_type}
+use Rattle.fb_mapping.specs.{Library.View.{Sources, tree_at, tree_of}, Flatten.Hints.{is_whole_net}, Flatten.Kept.{LeavesNet}}
+use Rattle.fb_mapping.specs.{Flatten.Net.{PlainNet, blocked, recursive, too_large, flat_net}, Flatten.Nets.{net_at}, Flatten.Wiring.Local.{SaysSame}}
+use Rattle.fb_mapping.specs.{Flatten.Wiring.ByName.{kind_at}, Placing.Resolved.{inner_instances}}
 use Rattle.fb_mapping.specs.Tree.declared.kinds.UnitKind.TheVariants as kinds
-use Rattle.fb_mapping.specs.Library.View.{Sources, tree_at, tree_of}
-use Rattle.fb_mapping.specs.Flatten.Hints.{is_whole_net}
-use Rattle.fb_mapping.specs.Flatten.Kept.{LeavesNet}
-use Rattle.fb_mapping.specs.Flatten.Net.{PlainNet, blocked, recursive, too_large, flat_net}
-use Rattle.fb_mapping.specs.Flatten.Nets.{net_at}
-use Rattle.fb_mapping.specs.Flatten.Wiring.Local.{SaysSame}
-use Rattle.fb_mapping.specs.Flatten.Wiring.ByName.{kind_at}
-use Rattle.fb_mapping.proofs.Flatten.NetLeft.{net_left}
-use Rattle.fb_mapping.specs.Placing.Resolved.{inner_instances}
-use Rattle.fb_mapping.proofs.Placing.ResolvedLocal.{SameInstances, own_tree}
-use Rattle.fb_deploy.specs.Deploy.{PlainDeploy, planned_by}
-use Rattle.fb_deploy.specs.Plans.{PlanIsLeft, has_plan_in, is_whole_plan, plan_at}
+use Rattle.fb_mapping.proofs.{Flatten.NetLeft.{net_left}, Placing.ResolvedLocal.{SameInstances, own_tree}}
+use Rattle.fb_deploy.specs.{Deploy.{PlainDeploy, planned_by}, Plans.{PlanIsLeft, has_plan_in, is_whole_plan, plan_at}}
 use Rattle.fb_deploy.proofs.PlanLocal.{planned_same}
 
 -- nothing stands inside a block type

@@ -1,25 +1,13 @@
 -- A system has one plan only, and it depends on the texts alone that the system rests on.
 use Rattle.std.proofs.Common.{ℕ, ◌≡◌, ◌++◌, List, Option, refl, sym, ◌∙◌, ap, map}
-use Rattle.fb_mapping.specs.Tree.Tree.{DeclTree}
-use Rattle.fb_mapping.specs.Library.View.{Sources, tree_at}
-use Rattle.fb_mapping.specs.Library.Local.{AgreeFar}
-use Rattle.fb_mapping.specs.Network.PlainFlat.{PlainFlat}
-use Rattle.fb_mapping.specs.Flatten.Net.{PlainNet, blocked, recursive, too_large, flat_net}
-use Rattle.fb_mapping.proofs.Flatten.NetLocality.{net_local}
-use Rattle.fb_mapping.proofs.Flatten.OneNet.{one_net_only}
-use Rattle.fb_mapping.specs.Placing.Cuts.{cuts_of, home_at}
-use Rattle.fb_mapping.specs.Placing.Homes.{PlainHomes, faulty_homes, all_homes, homes_of}
-use Rattle.fb_mapping.specs.Placing.Systems.{devices_in}
-use Rattle.fb_mapping.specs.Placing.declared.homes.Home.{Home}
-use Rattle.fb_mapping.proofs.Placing.HomesLocal.{homes_same}
-use Rattle.fb_mapping.proofs.Placing.ResolvedLocal.{SameInstances, own_tree, same_instances}
-use Rattle.fb_mapping.proofs.Placing.WritesLocal.{write_commands_same}
-use Rattle.fb_deploy.specs.Deploy.{planned, planned_by, tree_plan, with_homes}
-use Rattle.fb_deploy.specs.Laws.{OnePlan, PlanIsLocal}
-use Rattle.fb_mapping.specs.Placing.SystemCommands.{connection_commands, without_place, start_command}
-use Rattle.fb_mapping.specs.Placing.PlacedCommands.{create_commands}
-use Rattle.fb_mapping.specs.Placing.Resources.{resource_plans, resources_of}
-use Rattle.fb_mapping.specs.Placing.declared.plan.write_commands.PlacedCommand.{PlacedCommand}
+use Rattle.fb_mapping.specs.{Tree.Tree.{DeclTree}, Library.View.{Sources, tree_at}, Library.Local.{AgreeFar}, Network.PlainFlat.{PlainFlat}}
+use Rattle.fb_mapping.specs.{Flatten.Net.{PlainNet, blocked, recursive, too_large, flat_net}, Placing.Cuts.{cuts_of, home_at}}
+use Rattle.fb_mapping.specs.{Placing.Homes.{PlainHomes, faulty_homes, all_homes, homes_of}, Placing.Systems.{devices_in}, Placing.declared.homes.Home.{Home}}
+use Rattle.fb_mapping.specs.{Placing.SystemCommands.{connection_commands, without_place, start_command}, Placing.PlacedCommands.{create_commands}}
+use Rattle.fb_mapping.specs.{Placing.Resources.{resource_plans, resources_of}, Placing.declared.plan.write_commands.PlacedCommand.{PlacedCommand}}
+use Rattle.fb_mapping.proofs.{Flatten.NetLocality.{net_local}, Flatten.OneNet.{one_net_only}, Placing.HomesLocal.{homes_same}}
+use Rattle.fb_mapping.proofs.{Placing.ResolvedLocal.{SameInstances, own_tree, same_instances}, Placing.WritesLocal.{write_commands_same}}
+use Rattle.fb_deploy.specs.{Deploy.{planned, planned_by, tree_plan, with_homes}, Laws.{OnePlan, PlanIsLocal}}
 
 pub one_plan_only : OnePlan
 one_plan_only sources system a b p q =

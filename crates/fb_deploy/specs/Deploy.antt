@@ -1,18 +1,10 @@
 -- The plan of a system: what is to be done on each of its resources (IEC 61499-1, clause 7: system configurations).
 use Rattle.std.specs.Prelude.{ℕ, ◌≡◌, List, Option}
-use Rattle.fb_mapping.specs.Tree.Tree.{DeclTree}
-use Rattle.fb_mapping.specs.Library.View.{Sources, tree_at}
-use Rattle.fb_mapping.specs.Network.PlainFlat.{PlainFlat}
-use Rattle.fb_mapping.specs.Network.declared.flat.Link.{Link}
-use Rattle.fb_mapping.specs.Flatten.Net.{PlainNet, IsNet, blocked, recursive, too_large, flat_net, plain_net}
-use Rattle.fb_mapping.specs.Placing.Cuts.{cuts_of, home_at}
-use Rattle.fb_mapping.specs.Placing.Homes.{PlainHomes, faulty_homes, all_homes, homes_of}
-use Rattle.fb_mapping.specs.Placing.Systems.{applications_in, devices_in}
-use Rattle.fb_mapping.specs.Placing.declared.homes.Home.{Home}
-use Rattle.fb_mapping.specs.Placing.declared.homes.Misplaced.{Misplaced}
-use Rattle.fb_mapping.specs.Placing.SystemCommands.{system_commands}
-use Rattle.fb_mapping.specs.Placing.PlainResource.{PlainResource}
-use Rattle.fb_mapping.specs.Placing.Resources.{resource_plans, resources_of}
+use Rattle.fb_mapping.specs.{Tree.Tree.{DeclTree}, Library.View.{Sources, tree_at}, Network.PlainFlat.{PlainFlat}, Network.declared.flat.Link.{Link}}
+use Rattle.fb_mapping.specs.{Flatten.Net.{PlainNet, IsNet, blocked, recursive, too_large, flat_net, plain_net}, Placing.Cuts.{cuts_of, home_at}}
+use Rattle.fb_mapping.specs.{Placing.Homes.{PlainHomes, faulty_homes, all_homes, homes_of}, Placing.Systems.{applications_in, devices_in}}
+use Rattle.fb_mapping.specs.{Placing.declared.homes.Home.{Home}, Placing.declared.homes.Misplaced.{Misplaced}, Placing.SystemCommands.{system_commands}}
+use Rattle.fb_mapping.specs.{Placing.PlainResource.{PlainResource}, Placing.Resources.{resource_plans, resources_of}}
 use Rattle.fb_deploy.specs.declared.planning.Deploy.{Deploy}
 use Rattle.fb_deploy.specs.declared.planning.Deploy.TheVariants as deploy
 

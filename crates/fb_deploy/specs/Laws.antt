@@ -1,7 +1,6 @@
 -- Laws of plans.
 use Rattle.std.specs.Prelude.{ℕ, ◌≡◌, List}
-use Rattle.fb_mapping.specs.Library.View.{Sources}
-use Rattle.fb_mapping.specs.Library.Local.{AgreeFar}
+use Rattle.fb_mapping.specs.{Library.View.{Sources}, Library.Local.{AgreeFar}}
 use Rattle.fb_deploy.specs.Deploy.{PlainDeploy, IsPlan}
 
 -- a system has one plan only

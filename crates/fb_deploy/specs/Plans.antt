@@ -1,13 +1,7 @@
 -- The plan of a unit, computed from the texts.
 use Rattle.std.specs.Prelude.{◌≡◌, ◌↔◌, ℕ, Bool, true, if◌then◌else◌, IsTrue, List, Option, Some, None, is_some, option_map}
-use Rattle.fb_mapping.specs.Tree.Tree.{DeclTree}
-use Rattle.fb_mapping.specs.Library.View.{Sources, tree_at}
-use Rattle.fb_mapping.specs.Library.Local.{AgreeFar}
-use Rattle.fb_mapping.specs.Flatten.Hints.{is_whole_net}
-use Rattle.fb_mapping.specs.Flatten.Kept.{LeavesNet}
-use Rattle.fb_mapping.specs.Flatten.Nets.{net_at}
-use Rattle.fb_mapping.specs.Flatten.Tables.{is_system_in}
-use Rattle.fb_mapping.specs.Placed.{IsSystem}
+use Rattle.fb_mapping.specs.{Tree.Tree.{DeclTree}, Library.View.{Sources, tree_at}, Library.Local.{AgreeFar}, Flatten.Hints.{is_whole_net}}
+use Rattle.fb_mapping.specs.{Flatten.Kept.{LeavesNet}, Flatten.Nets.{net_at}, Flatten.Tables.{is_system_in}, Placed.{IsSystem}}
 use Rattle.fb_deploy.specs.Deploy.{PlainDeploy, stopped, faulty, planned, IsPlan, planned_by}
 
 -- whether a unit with this tree, or with none, has a plan

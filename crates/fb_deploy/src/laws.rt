@@ -1,6 +1,5 @@
 //! Laws of plans.
-ghost use Rattle.fb_deploy.specs.Laws.{OnePlan, PlanIsLocal};
-ghost use Rattle.fb_deploy.specs.Plans.{HasPlanByText, PlanAtIsLocal, PlanAtIsPlan, PlanAtOfSystems, PlanIsLeft};
+ghost use Rattle.fb_deploy.specs.{Laws.{OnePlan, PlanIsLocal}, Plans.{HasPlanByText, PlanAtIsLocal, PlanAtIsPlan, PlanAtOfSystems, PlanIsLeft}};
 
 /// A system has one plan only.
 pub fn one_plan()

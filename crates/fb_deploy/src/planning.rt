@@ -1,11 +1,7 @@
 //! The plans of systems.
 ghost use Rattle.std.specs.Prelude.{◌≡◌, IfOk, Some};
-ghost use Rattle.fb_mapping.specs.Flatten.Hints.{AreRightHints};
-ghost use Rattle.fb_mapping.specs.Flatten.Net.{plain_net};
-ghost use Rattle.fb_mapping.specs.Flatten.Nets.{net_at};
-ghost use Rattle.fb_mapping.specs.Placed.{IsSystem};
-ghost use Rattle.fb_deploy.specs.Deploy.{IsPlan, flat_plan, plain_deploy};
-ghost use Rattle.fb_deploy.specs.Plans.{plan_at};
+ghost use Rattle.fb_mapping.specs.{Flatten.Hints.{AreRightHints}, Flatten.Net.{plain_net}, Flatten.Nets.{net_at}, Placed.{IsSystem}};
+ghost use Rattle.fb_deploy.specs.{Deploy.{IsPlan, flat_plan, plain_deploy}, Plans.{plan_at}};
 
 use fb_mapping::flatten::{Hints, Net, NoHints, net_with};
 use fb_mapping::library::View;

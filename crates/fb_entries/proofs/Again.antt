@@ -1,10 +1,8 @@
 -- The first change whose unit came before, found with the list of what came before.
 use Rattle.std.proofs.Common.{◌≡◌, ℕ, ◌+◌, Bool, true, false, List, [], ◌∷◌, ◌++◌, length, refl, sym, ap, ◌∙◌, append_assoc, Option, Some, None, cond, find, length-append}
-use Rattle.std.specs.List.{enumerate_from}
-use Rattle.std.specs.Option.{option_map}
 use Rattle.std.proofs.Math.Seq.{take-append_seam}
-use Rattle.fb_jobs.specs.Reads.{is_among}
-use Rattle.fb_jobs.specs.Reach.{comes_again, first_repeated}
+use Rattle.std.specs.{List.{enumerate_from}, Option.{option_map}}
+use Rattle.fb_jobs.specs.{Reads.{is_among}, Reach.{comes_again, first_repeated}}
 
 -- the first unit that comes again, where some came before the list
 abbrev pub repeated_after : List (List ℕ) → List (List ℕ) → Option (List ℕ)

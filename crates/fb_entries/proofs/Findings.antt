@@ -1,18 +1,10 @@
 -- What is found before anything is changed, and room that is taken back.
 use Rattle.std.proofs.Common.{◌≡◌, ◌↔◌, ℕ, Bool, true, false, ◌||◌, ◌&&◌, not, List, filter, refl, sym, ap, ◌∙◌, Option, None, cond, is_none}
 use Rattle.fb_text.proofs.Tests.{and_false}
-use Rattle.fb_index.specs.Library.Texts.{Texts}
-use Rattle.fb_jobs.specs.declared.key.Key.{Key}
-use Rattle.fb_jobs.specs.Keys.{has_key}
-use Rattle.fb_entries.specs.Keyed.{Keyed, can_take, entry_at}
-use Rattle.fb_entries.specs.declared.entry.Entry.{Entry}
-use Rattle.fb_entries.specs.declared.renewal.Renewal.{Renewal}
-use Rattle.fb_jobs.specs.Kinds.{all_keys}
-use Rattle.fb_jobs.specs.Reach.{reaches}
-use Rattle.fb_entries.specs.Marking.{is_of}
-use Rattle.fb_entries.specs.Renew.{is_own, is_renewed, IsRenewal, HasRoom, IsTakenBack}
-use Rattle.fb_index.specs.Indexed.{Indexed}
-use Rattle.fb_entries.specs.Indexed.{IsIndexOf, IsReached}
+use Rattle.fb_index.specs.{Library.Texts.{Texts}, Indexed.{Indexed}}
+use Rattle.fb_jobs.specs.{declared.key.Key.{Key}, Keys.{has_key}, Kinds.{all_keys}, Reach.{reaches}}
+use Rattle.fb_entries.specs.{Keyed.{Keyed, can_take, entry_at}, declared.entry.Entry.{Entry}, declared.renewal.Renewal.{Renewal}, Marking.{is_of}}
+use Rattle.fb_entries.specs.{Renew.{is_own, is_renewed, IsRenewal, HasRoom, IsTakenBack}, Indexed.{IsIndexOf, IsReached}}
 use Rattle.fb_jobs.proofs.Members.{of_filtered}
 use Rattle.fb_entries.proofs.Reached.{reached_by}
 

@@ -1,21 +1,16 @@
 -- The index after a commit.
 use Rattle.std.proofs.Common.{◌≡◌, ℕ, Bool, true, false, ◌||◌, List, [], ◌∷◌, ◌++◌, refl, sym, ap, subst, ◌∙◌, Some, None, cond, is_some}
 use Rattle.std.proofs.lemmas.Bool.{false≢true, true≢false}
-use Rattle.std.specs.BTreeMap.{is_at}
-use Rattle.std.specs.Option.{option_and_then}
+use Rattle.std.specs.{BTreeMap.{is_at}, Option.{option_and_then}}
 use Rattle.fb_text.proofs.Tests.{by_bool, or_cases, or_false, no_both}
 use Rattle.fb_text.specs.Order.{name_cmp}
 use Rattle.fb_tree.specs.Mentions.{Mentioned}
-use Rattle.fb_index.specs.Indexed.{Indexed, is_indexed, nothing_indexed, IsIndexedAs, IsReplaced}
-use Rattle.fb_index.proofs.Lookups.{flips}
-use Rattle.fb_index.proofs.Replacing.{indexed_none as nothing_known, still_indexed}
-use Rattle.fb_index.proofs.Library.SeenLemmas.{or_left, or_right, same_is, has-push}
-use Rattle.fb_index.specs.Library.Texts.{Texts, sources_of, text_at}
+use Rattle.fb_index.specs.{Indexed.{Indexed, is_indexed, nothing_indexed, IsIndexedAs, IsReplaced}, Library.Texts.{Texts, sources_of, text_at}}
 use Rattle.fb_index.specs.Library.View.{tree_of, mentions_of_tree, mentioned_at}
-use Rattle.fb_index.proofs.Library.Sources.{get_source}
-use Rattle.fb_jobs.specs.Reads.{is_among}
+use Rattle.fb_index.proofs.{Lookups.{flips}, Replacing.{indexed_none as nothing_known, still_indexed}}
+use Rattle.fb_index.proofs.{Library.SeenLemmas.{or_left, or_right, same_is, has-push}, Library.Sources.{get_source}}
+use Rattle.fb_jobs.specs.{Reads.{is_among}, Reach.{AgreeApartFrom}}
 use Rattle.fb_entries.specs.Indexed.{IsIndexOf}
-use Rattle.fb_jobs.specs.Reach.{AgreeApartFrom}
 use Rattle.fb_entries.proofs.Again.{repeated_after}
 
 same_mentioned : (a b : Texts) (unit : List ℕ) → text_at a unit ≡ text_at b unit → mentioned_at (sources_of a) unit ≡ mentioned_at (sources_of b) unit

@@ -1,30 +1,20 @@
 -- What is reached by the index is what the machine says.
 use Rattle.std.proofs.Common.{◌≡◌, ◌↔◌, ℕ, Bool, true, false, ◌||◌, List, [], ◌∷◌, ◌⊎◌, inl, inr, refl, sym, ap, subst, ◌∙◌, Option, Some, None, is_some, cond}
 use Rattle.std.proofs.lemmas.Bool.{false≢true}
-use Rattle.std.specs.List.{Contains, list_any}
-use Rattle.std.specs.BTreeMap.{is_at}
+use Rattle.std.specs.{List.{Contains, list_any}, BTreeMap.{is_at}}
 use Rattle.fb_text.proofs.Tests.{or_cases}
 use Rattle.fb_text.specs.Order.{name_cmp}
-use Rattle.fb_index.specs.Users.{uses}
-use Rattle.fb_index.specs.Indexed.{Indexed, is_indexed}
+use Rattle.fb_index.specs.{Users.{uses}, Indexed.{Indexed, is_indexed}}
 use Rattle.fb_index.specs.Near.{Carries, directly, onward, IsNear, own, part, carried, carried_by_part, mentions, Reaches, itself, mention, through, OneOf, NearSome, ReachesSome}
-use Rattle.fb_index.proofs.Library.SeenLemmas.{or_left, or_right, same_is, same_self, has-append, Contains-has, has-Contains}
-use Rattle.fb_index.proofs.Library.CarriedLemmas.{near_is_all}
-use Rattle.fb_jobs.proofs.Flatten.FarNames.{far_is_all}
-use Rattle.fb_jobs.specs.Flatten.Far.{far_of}
-use Rattle.fb_index.specs.Library.Texts.{Texts, sources_of, text_at}
-use Rattle.fb_index.specs.Library.View.{Sources, mentions_at, parts_at, values_at}
+use Rattle.fb_index.specs.{Library.Texts.{Texts, sources_of, text_at}, Library.View.{Sources, mentions_at, parts_at, values_at}}
 use Rattle.fb_index.specs.Library.Near.{near_of, Carries as CarriesIn, directly as by_value, onward as by_structure, IsNear as IsNearIn, own as is_unit, part as is_part, carried as is_carried, carried_by_part as is_carried_by_part}
 use Rattle.fb_index.specs.Library.Rests.{Rests, itself as on_itself, through as on}
-use Rattle.fb_jobs.specs.declared.key.Kind.{Kind}
-use Rattle.fb_jobs.specs.Kinds.{keys_near_and_far, needs_all}
-use Rattle.fb_jobs.specs.declared.key.Key.{Key}
-use Rattle.fb_jobs.specs.Keys.{has_key, has_kind_at, needs}
-use Rattle.fb_jobs.specs.Reads.{is_among}
-use Rattle.fb_jobs.specs.Reach.{reaches}
-use Rattle.fb_entries.specs.Indexed.{IsIndexOf, IsReached, IsReachedFrom}
-use Rattle.fb_entries.specs.Marking.{is_of}
-use Rattle.fb_jobs.proofs.KindLemmas.{in_near_and_far, needs_by, no_kind}
+use Rattle.fb_index.proofs.Library.SeenLemmas.{or_left, or_right, same_is, same_self, has-append, Contains-has, has-Contains}
+use Rattle.fb_index.proofs.Library.CarriedLemmas.{near_is_all}
+use Rattle.fb_jobs.proofs.{Flatten.FarNames.{far_is_all}, KindLemmas.{in_near_and_far, needs_by, no_kind}}
+use Rattle.fb_jobs.specs.{Flatten.Far.{far_of}, declared.key.Kind.{Kind}, Kinds.{keys_near_and_far, needs_all}, declared.key.Key.{Key}}
+use Rattle.fb_jobs.specs.{Keys.{has_key, has_kind_at, needs}, Reads.{is_among}, Reach.{reaches}}
+use Rattle.fb_entries.specs.{Indexed.{IsIndexOf, IsReached, IsReachedFrom}, Marking.{is_of}}
 
 -- ---- a unit of the texts
 

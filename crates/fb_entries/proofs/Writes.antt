@@ -2,8 +2,7 @@
 use Rattle.std.proofs.Common.{◌≡◌, Bool, true, false, sym, ap, ◌∙◌, Some, None, cond}
 use Rattle.std.specs.Option.{option_map}
 use Rattle.std.specs.BTreeMap as tree
-use Rattle.fb_jobs.specs.declared.key.Key.{Key}
-use Rattle.fb_jobs.specs.KeyOrder.{key_cmp, same_key}
+use Rattle.fb_jobs.specs.{declared.key.Key.{Key}, KeyOrder.{key_cmp, same_key}}
 use Rattle.fb_entries.specs.declared.entry.Entry.{Entry}
 use Rattle.fb_jobs.proofs.Order.{keys_equal}
 

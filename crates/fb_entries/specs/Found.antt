@@ -1,11 +1,7 @@
 -- What an entry keeps, and the units of changes.
-use Rattle.std.specs.Prelude.{ℕ, List, map, Option, Some, None}
-use Rattle.std.specs.Option.{option_map}
-use Rattle.fb_index.specs.Library.Texts.{unit_of}
-use Rattle.fb_index.specs.Library.declared.change.Change.{Change}
-use Rattle.fb_index.specs.Library.Changes.{edits_of}
-use Rattle.fb_jobs.specs.Keys.{Finding}
-use Rattle.fb_jobs.specs.Values.{finding_of}
+use Rattle.std.specs.{Prelude.{ℕ, List, map, Option, Some, None}, Option.{option_map}}
+use Rattle.fb_index.specs.{Library.Texts.{unit_of}, Library.declared.change.Change.{Change}, Library.Changes.{edits_of}}
+use Rattle.fb_jobs.specs.{Keys.{Finding}, Values.{finding_of}}
 use Rattle.fb_entries.specs.declared.entry.Entry.{Entry}
 
 -- the value that an entry keeps

@@ -1,17 +1,12 @@
 //! What a workbench knows of its keys.
 //! Beside the entries there is only the set of keys that can be taken: `key_at` and `pending_count` walk, since they are called rarely, and each
 //! further list would cost every commit.
-ghost use Rattle.std.specs.Prelude.{◌≡◌, [], None, true, false, IfOk, OnOk, OnErr, count_by, length, slice_get};
-ghost use Rattle.std.specs.Option.{option_copied};
-ghost use Rattle.std.specs.List.Sorted.{IsStrictlySortedBy};
-ghost use Rattle.std.specs.Map.{keys_of, values_of};
-ghost use Rattle.fb_jobs.specs.KeyOrder.{key_cmp};
+ghost use Rattle.std.specs.{Prelude.{◌≡◌, [], None, true, false, IfOk, OnOk, OnErr, count_by, length, slice_get}, Option.{option_copied}};
+ghost use Rattle.std.specs.{List.Sorted.{IsStrictlySortedBy}, Map.{keys_of, values_of}};
+ghost use Rattle.fb_jobs.specs.{KeyOrder.{key_cmp}, Reach.{AgreeApartFrom, first_repeated}};
 ghost use Rattle.fb_entries.specs.Indexed.{IsIndexOf};
-ghost use Rattle.fb_jobs.specs.Reach.{AgreeApartFrom, first_repeated};
 ghost use Rattle.fb_entries.specs.Marking.{is_handed_out, is_unkept, keys_with, with_found, with_out, with_value, ChangesEntry, LosesEntries, LosesKeys, MarksKey, SameKeys};
-ghost use Rattle.fb_entries.specs.Found.{units_of};
-ghost use Rattle.fb_entries.specs.Keyed.{can_take, entry_at, IsFirstReady};
-ghost use Rattle.fb_entries.specs.Renew.{HasRoom, IsCarriedOut, IsRenewal, IsTakenBack};
+ghost use Rattle.fb_entries.specs.{Found.{units_of}, Keyed.{can_take, entry_at, IsFirstReady}, Renew.{HasRoom, IsCarriedOut, IsRenewal, IsTakenBack}};
 
 use crate::entry::{Entry, join, keep, leave, mark_out, store_precomputed};
 use crate::keys::only_present;
@@ -280,8 +275,7 @@ impl Entries {
 }
 
 impl Cache for Entries {
-    ghost use Rattle.fb_entries.specs.Found.{found_in, kept_in};
-    ghost use Rattle.fb_entries.specs.Keyed.{entry_at};
+    ghost use Rattle.fb_entries.specs.{Found.{found_in, kept_in}, Keyed.{entry_at}};
 
     ghost kept = { λ it key. kept_in (entry_at it key) };
 

@@ -1,7 +1,6 @@
 //! The law of the index: what it finds is what the texts say.
 ghost use Rattle.std.specs.Prelude.{ℕ, List};
-ghost use Rattle.fb_index.specs.Indexed.{Indexed};
-ghost use Rattle.fb_index.specs.Library.Texts.{Texts};
+ghost use Rattle.fb_index.specs.{Indexed.{Indexed}, Library.Texts.{Texts}};
 ghost use Rattle.fb_entries.specs.Indexed.{FindsReached, IsIndexOf};
 
 /// Whether changed names reach a key of the texts is what the index of these texts finds: for faults that one of the names is near the key's unit

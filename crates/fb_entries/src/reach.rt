@@ -1,12 +1,9 @@
 //! What changed units reach, by the index of what each unit mentions.
 ghost use Rattle.std.specs.Prelude.{◌≡◌, ◌↔◌, true, None, IfOk};
-ghost use Rattle.fb_jobs.specs.declared.key.Key.{Key};
-ghost use Rattle.fb_jobs.specs.Reach.{first_repeated, AgreeApartFrom};
-ghost use Rattle.fb_index.specs.Library.Texts.{sources_of};
-ghost use Rattle.fb_index.specs.Library.View.{mentioned_at};
+ghost use Rattle.fb_jobs.specs.{declared.key.Key.{Key}, Reach.{first_repeated, AgreeApartFrom}};
+ghost use Rattle.fb_index.specs.{Library.Texts.{sources_of}, Library.View.{mentioned_at}};
 ghost use Rattle.fb_tree.specs.Mentions.{mentioned, nothing_mentioned};
-ghost use Rattle.fb_entries.specs.Indexed.{IsIndexOf, IsReached};
-ghost use Rattle.fb_entries.specs.Marking.{is_of};
+ghost use Rattle.fb_entries.specs.{Indexed.{IsIndexOf, IsReached}, Marking.{is_of}};
 
 use fb_index::Index;
 use fb_index::library::{Library, mentions_by_name};

@@ -2,10 +2,8 @@
 ghost use Rattle.std.specs.Prelude.{◌≡◌, not, is_none, map, filter, IfOk, OnOk};
 ghost use Rattle.std.specs.BTreeMap as tree;
 ghost use Rattle.std.specs.BTreeSet as set;
-ghost use Rattle.fb_index.specs.Library.Texts.{unit_of};
-ghost use Rattle.fb_index.specs.Library.Changes.{edits_of};
-ghost use Rattle.fb_jobs.specs.Keys.{has_key};
-ghost use Rattle.fb_jobs.specs.KeyOrder.{key_cmp};
+ghost use Rattle.fb_index.specs.{Library.Texts.{unit_of}, Library.Changes.{edits_of}};
+ghost use Rattle.fb_jobs.specs.{Keys.{has_key}, KeyOrder.{key_cmp}};
 ghost use Rattle.fb_entries.specs.Marking.{KeepsOtherEntries, HasEntries, LosesEntries, RenewsEntries, KeepsOtherKeys, HasKeys, LosesKeys};
 
 use crate::entry::{Entry, join, leave, renew};

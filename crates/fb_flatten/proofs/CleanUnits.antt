@@ -1,49 +1,31 @@
 -- Units without faults are clean in plain.
 use Rattle.std.proofs.Common.{◌≡◌, ℕ, ◌<◌, true, false, ◌&&◌, List, [], ◌∷◌, ◌++◌, map, Option, Some, None, option_map, refl, sym, ap, ◌∙◌, subst, ◌⊎◌, inl, inr}
 use Rattle.std.proofs.lemmas.List.Elements.{All-contains, All-head, Contains-append_left, Contains-append_right}
-use Rattle.std.specs.List.{All, Contains, filter_map, find, flat_map, slice_get}
-use Rattle.std.specs.Option.{option_and_then}
+use Rattle.std.specs.{List.{All, Contains, filter_map, find, flat_map, slice_get}, Option.{option_and_then}}
 use Rattle.fb_wiring.specs.Text.declared.name.NameUse.{NameUse}
 use Rattle.fb_wiring.specs.Tree.Tree.{ApplicationTree, DeclTree, InstanceTree, NetworkTree, SystemTree, TypeTree, block_type, adapter_type, subapplication_type, system_configuration, structure_type}
-use Rattle.fb_wiring.specs.Tree.declared.kinds.UnitKind.TheVariants as kinds
-use Rattle.fb_wiring.specs.Tree.declared.network.Role.{Role}
-use Rattle.fb_wiring.specs.Tree.declared.network.Role.TheVariants as roles
-use Rattle.fb_wiring.specs.Tree.declared.network.Sort.{Sort}
-use Rattle.fb_wiring.specs.Tree.declared.network.Sort.TheVariants as sorts
-use Rattle.fb_wiring.specs.Library.View.{Sources, tree_at}
+use Rattle.fb_wiring.specs.{Tree.declared.network.Role.{Role}, Tree.declared.network.Sort.{Sort}, Library.View.{Sources, tree_at}}
 use Rattle.fb_wiring.specs.Iface.Declarations.{declaration_faults, duplicate_faults, literal_faults_of, mixed_faults, name_faults, with_faults_of}
-use Rattle.fb_wiring.specs.Iface.Recursion.{recursion_faults}
-use Rattle.fb_wiring.specs.Iface.Names.{first_ones, is_same, stands_for}
+use Rattle.fb_wiring.specs.{Iface.Recursion.{recursion_faults}, Iface.Names.{first_ones, is_same, stands_for}}
 use Rattle.fb_wiring.specs.Iface.Ports.{events_in, instances_in, meanings_in_type, variables_in}
 use Rattle.fb_wiring.specs.Iface.Spaces.{chart_spaces, interface_spaces, network_spaces, resource_names, spaces_of}
-use Rattle.fb_wiring.specs.Iface.Types.{instance_faults, instances_of, type_faults}
-use Rattle.fb_wiring.specs.Iface.declared.ports.DeclaredInstance.{DeclaredInstance}
-use Rattle.fb_wiring.proofs.Text.Members.{contains_cases, contains_flat_map, contains_here, contains_later, contains_map, contains_nothing, got_in_map, map_gets, origin_in_map}
-use Rattle.fb_faults.specs.Netcheck.Networks.{application_place, networks_in, type_place}
-use Rattle.fb_faults.specs.Netcheck.Clean.{AreRight, IsCleanConnection, IsCleanNetwork}
-use Rattle.fb_faults.specs.Netcheck.Ends.{adapter_port, holder_of, port_in, port_in_role, target, target_named, target_of}
-use Rattle.fb_faults.specs.Netcheck.Settings.{NetworkPlace}
-use Rattle.fb_faults.specs.Netcheck.Sides.{is_own_port}
-use Rattle.fb_faults.specs.Netcheck.declared.ends.Holder.TheVariants as holders
-use Rattle.fb_faults.specs.Netcheck.declared.ends.Position.TheVariants.{Source, Destination}
-use Rattle.fb_faults.proofs.Netcheck.CleanLemmas.{left_none, networks_clean as faultless_clean, none_of_each, right_none}
-use Rattle.fb_faults.proofs.Netcheck.Locality.{Each, instance_stands}
-use Rattle.fb_faults.proofs.Netcheck.RightLemmas.{connections_right}
-use Rattle.fb_wiring.specs.Network.Plain.{PlainNetwork}
-use Rattle.fb_wiring.specs.Network.declared.network.End.TheVariants.{Own}
-use Rattle.fb_wiring.specs.Network.declared.network.Port.{Port}
-use Rattle.fb_wiring.specs.Applications.{applications_of, plain_application}
-use Rattle.fb_flatten.specs.Clean.{ApplicationsAreClean, AreCleanWithKinds, IsCleanWithKinds, NetworksAreClean, application_named}
-use Rattle.fb_wiring.specs.Networks.{end_named, network_of, plain_network}
-use Rattle.fb_flatten.specs.Nothing.{HasNoReport}
-use Rattle.fb_wiring.specs.Ports.{plain_ports}
+use Rattle.fb_wiring.specs.{Iface.Types.{instance_faults, instances_of, type_faults}, Iface.declared.ports.DeclaredInstance.{DeclaredInstance}}
+use Rattle.fb_wiring.specs.{Network.Plain.{PlainNetwork}, Network.declared.network.End.TheVariants.{Own}, Network.declared.network.Port.{Port}}
+use Rattle.fb_wiring.specs.{Applications.{applications_of, plain_application}, Networks.{end_named, network_of, plain_network}, Ports.{plain_ports}}
 use Rattle.fb_wiring.specs.declared.systems.Application.{Application}
-use Rattle.fb_flatten.proofs.Finding.{found_by_name}
-use Rattle.fb_flatten.proofs.FirstOnes.{Distinct, first_ones-distinct}
-use Rattle.fb_flatten.proofs.InnerInstances.{IsInnerInstance, inner_instances, is_inner}
-use Rattle.fb_flatten.proofs.NameLemmas.{AreApart, apart, distinct, stands_for_itself}
-use Rattle.fb_flatten.proofs.NetworkLemmas.{meaning, sound}
-use Rattle.fb_flatten.proofs.NothingLemmas.{nothing_reported}
+use Rattle.fb_wiring.specs.Tree.declared.kinds.UnitKind.TheVariants as kinds
+use Rattle.fb_wiring.specs.Tree.declared.network.Role.TheVariants as roles
+use Rattle.fb_wiring.specs.Tree.declared.network.Sort.TheVariants as sorts
+use Rattle.fb_wiring.proofs.Text.Members.{contains_cases, contains_flat_map, contains_here, contains_later, contains_map, contains_nothing, got_in_map, map_gets, origin_in_map}
+use Rattle.fb_faults.specs.{Netcheck.Networks.{application_place, networks_in, type_place}, Netcheck.Clean.{AreRight, IsCleanConnection, IsCleanNetwork}}
+use Rattle.fb_faults.specs.{Netcheck.Ends.{adapter_port, holder_of, port_in, port_in_role, target, target_named, target_of}, Netcheck.Settings.{NetworkPlace}}
+use Rattle.fb_faults.specs.{Netcheck.Sides.{is_own_port}, Netcheck.declared.ends.Position.TheVariants.{Source, Destination}}
+use Rattle.fb_faults.specs.Netcheck.declared.ends.Holder.TheVariants as holders
+use Rattle.fb_faults.proofs.Netcheck.CleanLemmas.{left_none, networks_clean as faultless_clean, none_of_each, right_none}
+use Rattle.fb_faults.proofs.{Netcheck.Locality.{Each, instance_stands}, Netcheck.RightLemmas.{connections_right}}
+use Rattle.fb_flatten.specs.{Clean.{ApplicationsAreClean, AreCleanWithKinds, IsCleanWithKinds, NetworksAreClean, application_named}, Nothing.{HasNoReport}}
+use Rattle.fb_flatten.proofs.{Finding.{found_by_name}, FirstOnes.{Distinct, first_ones-distinct}, InnerInstances.{IsInnerInstance, inner_instances, is_inner}}
+use Rattle.fb_flatten.proofs.{NameLemmas.{AreApart, apart, distinct, stands_for_itself}, NetworkLemmas.{meaning, sound}, NothingLemmas.{nothing_reported}}
 use Rattle.fb_flatten.proofs.PortLemmas.{plain_port, port_by_name}
 
 -- ports alone

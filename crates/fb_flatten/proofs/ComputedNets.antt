@@ -1,55 +1,30 @@
 -- What is computed is the net of the unit.
 use Rattle.std.proofs.Common.{◌≡◌, ℕ, Bool, true, false, cond, if◌then◌else◌, List, [], ◌∷◌, length, ◌⊎◌, inl, inr, Option, Some, None, refl, sym, ap, subst, ◌∙◌, arith}
-use Rattle.std.proofs.lemmas.Bool.{false≢true}
-use Rattle.std.proofs.lemmas.Bool.Decides.{nat_tests}
-use Rattle.std.specs.Prelude.{Contains, ◌≢◌, ◌↔◌, nat_lt, map, filter, option_map}
-use Rattle.std.specs.List.{flat_map}
-use Rattle.std.specs.Option.{option_and_then}
-use Rattle.std.specs.FinMap.{get}
-use Rattle.std.proofs.lemmas.List.Kept.{IsStrictlySortedBy-filter}
+use Rattle.std.proofs.{lemmas.Bool.{false≢true}, lemmas.Bool.Decides.{nat_tests}, lemmas.List.Kept.{IsStrictlySortedBy-filter}}
+use Rattle.std.specs.{Prelude.{Contains, ◌≢◌, ◌↔◌, nat_lt, map, filter, option_map}, List.{flat_map}, Option.{option_and_then}, FinMap.{get}}
 use Rattle.fb_wiring.specs.Text.Order.{name_cmp, in_order}
-use Rattle.fb_wiring.proofs.Text.OrderLemmas.{in_order-sorted}
 use Rattle.fb_wiring.specs.Tree.Tree.{DeclTree, SystemTree, TypeTree, block_type, adapter_type, subapplication_type, system_configuration, structure_type}
-use Rattle.fb_wiring.specs.Tree.Mentions.{unit_kind_of}
-use Rattle.fb_wiring.specs.Tree.declared.kinds.UnitKind.TheVariants as kinds
-use Rattle.fb_wiring.specs.Library.View.{Sources, parts_at, tree_at, tree_of}
-use Rattle.fb_wiring.specs.Library.Rests.{Rests, itself, PartRests, on_itself, through_part}
-use Rattle.fb_wiring.specs.Library.Local.{AgreeFar}
-use Rattle.fb_wiring.proofs.Library.Locality.{far_local, part_mention, parts_both, parts_rest, rests_more}
-use Rattle.fb_wiring.proofs.Text.Members.{contains_nothing, contains_filter, passes_in_filter, contains_here, contains_later}
-use Rattle.fb_wiring.specs.Iface.declared.fault.Fault.{Fault}
-use Rattle.fb_faults.specs.Faults.{faults_of}
-use Rattle.fb_wiring.specs.Reaches.{IsRecursive}
-use Rattle.fb_wiring.specs.Network.declared.count.TheConstants.{INSTANCE_LIMIT}
-use Rattle.fb_wiring.specs.Network.PlainFlat.{PlainFlat}
-use Rattle.fb_wiring.specs.Network.LinkOrder.{link_cmp, link_cmp_total}
-use Rattle.fb_wiring.specs.Network.Network.{View}
-use Rattle.fb_wiring.specs.Network.FlatNet.{IsFlat}
-use Rattle.fb_wiring.specs.Network.Instances.{Held}
-use Rattle.fb_wiring.specs.Network.SystemFlat.{IsSystemFlat, application_links}
-use Rattle.fb_wiring.specs.Network.declared.application.FlatApplication.{FlatApplication}
-use Rattle.fb_wiring.proofs.Network.SystemLemmas.{system_links_are}
-use Rattle.fb_wiring.specs.Applications.{applications_of}
-use Rattle.fb_wiring.specs.ByName.{applications_at, declared}
-use Rattle.fb_wiring.specs.Networks.{network_of}
+use Rattle.fb_wiring.specs.{Tree.Mentions.{unit_kind_of}, Library.View.{Sources, parts_at, tree_at, tree_of}}
+use Rattle.fb_wiring.specs.{Library.Rests.{Rests, itself, PartRests, on_itself, through_part}, Library.Local.{AgreeFar}, Iface.declared.fault.Fault.{Fault}}
+use Rattle.fb_wiring.specs.{Reaches.{IsRecursive}, Network.declared.count.TheConstants.{INSTANCE_LIMIT}, Network.PlainFlat.{PlainFlat}}
+use Rattle.fb_wiring.specs.{Network.LinkOrder.{link_cmp, link_cmp_total}, Network.Network.{View}, Network.FlatNet.{IsFlat}, Network.Instances.{Held}}
+use Rattle.fb_wiring.specs.{Network.SystemFlat.{IsSystemFlat, application_links}, Network.declared.application.FlatApplication.{FlatApplication}}
+use Rattle.fb_wiring.specs.{Applications.{applications_of}, ByName.{applications_at, declared}, Networks.{network_of}}
 use Rattle.fb_wiring.specs.declared.systems.Application.{Application}
-use Rattle.fb_flatten.proofs.CleanUnits.{applications_clean, networks_clean}
-use Rattle.fb_flatten.specs.Blocking.{AreThose, IsBlocking, IsPartBelow, is_blocking, is_part_among}
-use Rattle.fb_flatten.specs.Net.{PlainNet, too_large, flat_net, IsNet, IsSound}
 use Rattle.fb_wiring.specs.Units.{HasNet, has_net_tree, own_instances, AreFlatApplications, NoApplication, ThenApplication, Holds, IsUnitFlat, OfSubapplication, OfSystem}
-use Rattle.fb_wiring.proofs.KindLemmas.{net_kind, no_net_kind}
-use Rattle.fb_flatten.proofs.MentionLemmas.{applications_within, declared_within, own_within}
-use Rattle.fb_flatten.proofs.NetLemmas.{blocking_those, recursive_those}
-use Rattle.fb_flatten.proofs.OrderLemmas.{present_of_tree}
 use Rattle.fb_wiring.specs.Library.Seen.{has_name}
-use Rattle.fb_wiring.proofs.Library.WalkLemmas.{Contains-has, has-Contains}
-use Rattle.fb_flatten.proofs.NetLocality.{net_local}
-use Rattle.fb_flatten.proofs.OneNet.{one_net_only}
+use Rattle.fb_wiring.proofs.{Text.OrderLemmas.{in_order-sorted}, Library.Locality.{far_local, part_mention, parts_both, parts_rest, rests_more}}
+use Rattle.fb_wiring.proofs.Text.Members.{contains_nothing, contains_filter, passes_in_filter, contains_here, contains_later}
+use Rattle.fb_wiring.proofs.{Network.SystemLemmas.{system_links_are}, KindLemmas.{net_kind, no_net_kind}, Library.WalkLemmas.{Contains-has, has-Contains}}
+use Rattle.fb_wiring.specs.Tree.declared.kinds.UnitKind.TheVariants as kinds
+use Rattle.fb_faults.specs.Faults.{faults_of}
+use Rattle.fb_flatten.proofs.{CleanUnits.{applications_clean, networks_clean}, MentionLemmas.{applications_within, declared_within, own_within}}
+use Rattle.fb_flatten.proofs.{NetLemmas.{blocking_those, recursive_those}, OrderLemmas.{present_of_tree}, NetLocality.{net_local}, OneNet.{one_net_only}}
+use Rattle.fb_flatten.proofs.{FarNames.{far_is_all}, Depths.{far_deep, recursive_is, some_of, some_passes}}
+use Rattle.fb_flatten.proofs.ComputedFlats.{AreFaultless, IsDone, all_done, flat_with, held_with, links_ordered}
+use Rattle.fb_flatten.specs.{Blocking.{AreThose, IsBlocking, IsPartBelow, is_blocking, is_part_among}, Net.{PlainNet, too_large, flat_net, IsNet, IsSound}}
 use Rattle.fb_flatten.specs.Far.{far_of}
 use Rattle.fb_flatten.specs.Nets.{composed, flats_of, flat_application, joined, flat_of_tree, held_by, held_of, is_recursive, sized_net, finite_net, first_net, net_of_tree, has_net_in, net_in, net_at, HasNetByText, NetAtIsNet, NetAtIsLocal}
-use Rattle.fb_flatten.proofs.FarNames.{far_is_all}
-use Rattle.fb_flatten.proofs.Depths.{far_deep, recursive_is, some_of, some_passes}
-use Rattle.fb_flatten.proofs.ComputedFlats.{AreFaultless, IsDone, all_done, flat_with, held_with, links_ordered}
 
 module _ (sources : Sources) (unit : List ℕ) where
   names_sound : (v : List ℕ) → Contains (far_of sources unit) v → Rests sources unit v

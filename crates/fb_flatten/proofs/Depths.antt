@@ -1,25 +1,13 @@
 -- What rests on no recursive type rests on inner types through fewer depths than there are names.
 use Rattle.std.proofs.Common.{◌≡◌, ℕ, zero, suc, ◌≤◌, Bool, true, false, ◌||◌, List, [], ◌∷◌, length, refl, sym, ap, subst, ◌∙◌, arith}
-use Rattle.std.proofs.lemmas.Bool.{false≢true, or_right}
-use Rattle.std.proofs.lemmas.Map.Views.{tells_apart}
-use Rattle.std.specs.Prelude.{Contains, ◌↔◌}
-use Rattle.std.specs.List.{list_any}
-use Rattle.std.specs.Ordering.{eq_by_cmp}
-use Rattle.std.specs.FinMap.{slice_cmp-IsAntisymmetric, nat_cmp-IsAntisymmetric}
-use Rattle.fb_wiring.proofs.Text.Tests.{by_bool, or_cases}
-use Rattle.fb_wiring.specs.Text.Order.{name_cmp}
-use Rattle.fb_wiring.specs.Library.View.{Sources, parts_at}
-use Rattle.fb_wiring.specs.Library.Rests.{Rests, PartRests, on_itself, through_part}
-use Rattle.fb_wiring.specs.Library.Seen.{has_name, unseen}
-use Rattle.fb_wiring.proofs.Library.WalkLemmas.{Contains-has, has-Contains}
-use Rattle.fb_wiring.specs.Reaches.{Reaches, directly, onward, IsRecursive}
-use Rattle.fb_wiring.proofs.StackLemmas.{reaches_more}
-use Rattle.fb_wiring.proofs.Text.Members.{contains_here}
-use Rattle.fb_flatten.specs.Far.{far_of, part_far_of}
-use Rattle.fb_flatten.specs.Nets.{is_recursive}
+use Rattle.std.proofs.{lemmas.Bool.{false≢true, or_right}, lemmas.Map.Views.{tells_apart}}
+use Rattle.std.specs.{Prelude.{Contains, ◌↔◌}, List.{list_any}, Ordering.{eq_by_cmp}, FinMap.{slice_cmp-IsAntisymmetric, nat_cmp-IsAntisymmetric}}
+use Rattle.fb_wiring.proofs.{Text.Tests.{by_bool, or_cases}, Library.WalkLemmas.{Contains-has, has-Contains}, StackLemmas.{reaches_more}}
+use Rattle.fb_wiring.proofs.{Text.Members.{contains_here}, Library.SeenLemmas.{one_fewer, some_unseen, all_unseen}, Library.Locality.{part_mention, rests_more}}
+use Rattle.fb_wiring.specs.{Text.Order.{name_cmp}, Library.View.{Sources, parts_at}, Library.Rests.{Rests, PartRests, on_itself, through_part}}
+use Rattle.fb_wiring.specs.{Library.Seen.{has_name, unseen}, Reaches.{Reaches, directly, onward, IsRecursive}}
+use Rattle.fb_flatten.specs.{Far.{far_of, part_far_of}, Nets.{is_recursive}}
 use Rattle.fb_flatten.proofs.FarNames.{far_is_all, part_far_is_all}
-use Rattle.fb_wiring.proofs.Library.SeenLemmas.{one_fewer, some_unseen, all_unseen}
-use Rattle.fb_wiring.proofs.Library.Locality.{part_mention, rests_more}
 
 -- the type holds parts through fewer depths than this
 pub data Deep (sources : Sources) : ℕ → List ℕ → Type 0 where

@@ -1,7 +1,6 @@
 -- What is found by name among items that come from declarations.
 use Rattle.std.proofs.Common.{◌≡◌, ℕ, Bool, true, false, cond, List, [], ◌∷◌, map, Option, Some, None, refl, sym, ap, ◌∙◌}
-use Rattle.std.specs.List.{cons_option, filter_map, find}
-use Rattle.std.specs.Option.{option_and_then}
+use Rattle.std.specs.{List.{cons_option, filter_map, find}, Option.{option_and_then}}
 use Rattle.fb_wiring.specs.Iface.Names.{is_same, stands_for}
 use Rattle.fb_flatten.proofs.FirstOnes.{Distinct}
 use Rattle.fb_wiring.proofs.Iface.NameLemmas.{same_exact}

@@ -1,9 +1,7 @@
 -- First declarations: each stands for its name, and no other of them has it.
 use Rattle.std.proofs.Common.{◌≡◌, ℕ, ◌+◌, Bool, true, false, cond, List, [], ◌∷◌, ◌++◌, length, take, map, Option, Some, None, is_some, is_none, refl, sym, ap, ◌∙◌, subst, append_assoc}
-use Rattle.std.proofs.Math.Seq.{take-append_seam}
-use Rattle.std.proofs.lemmas.List.{length_push}
-use Rattle.std.specs.List.{enumerate_from, filter}
-use Rattle.std.specs.Option.{option_or}
+use Rattle.std.proofs.{Math.Seq.{take-append_seam}, lemmas.List.{length_push}}
+use Rattle.std.specs.{List.{enumerate_from, filter}, Option.{option_or}}
 use Rattle.fb_wiring.specs.Iface.Names.{first_ones, is_same, stands_for}
 use Rattle.fb_wiring.proofs.Iface.NameLemmas.{same_exact, same_itself}
 

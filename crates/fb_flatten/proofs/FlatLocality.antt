@@ -1,24 +1,15 @@
 -- The flat network of a network is found by the networks alone that it rests on.
 use Rattle.std.proofs.Common.{ℕ, ◌≡◌, Bool, true, false, cond, List, [], ◌∷◌, Option, Some, None, ◌⊎◌, inl, inr, refl, sym, ◌∙◌, ap, subst, arith}
-use Rattle.std.specs.Prelude.{Contains, find, ◌&&◌, option_and_then}
 use Rattle.std.proofs.lemmas.List.Elements.{Contains-append_right}
-use Rattle.std.specs.BTreeMap.{is_at}
-use Rattle.fb_wiring.specs.Text.Order.{name_cmp}
-use Rattle.fb_wiring.specs.Tree.declared.network.Sort.{Sort}
-use Rattle.fb_wiring.specs.Tree.declared.network.Sort.TheVariants.{Adapter}
-use Rattle.fb_wiring.specs.Network.Sorts.{same_sort}
-use Rattle.fb_wiring.specs.Network.declared.network.Port.{Port}
-use Rattle.fb_wiring.specs.Network.declared.network.Instance.{Instance}
-use Rattle.fb_wiring.specs.Network.Plain.{PlainNetwork}
-use Rattle.fb_wiring.specs.Network.PlainFlat.{PlainFlat}
-use Rattle.fb_wiring.specs.Network.declared.flat.Link.{Link}
+use Rattle.std.specs.{Prelude.{Contains, find, ◌&&◌, option_and_then}, BTreeMap.{is_at}}
+use Rattle.fb_wiring.specs.{Text.Order.{name_cmp}, Tree.declared.network.Sort.{Sort}, Tree.declared.network.Sort.TheVariants.{Adapter}}
+use Rattle.fb_wiring.specs.{Network.Sorts.{same_sort}, Network.declared.network.Port.{Port}, Network.declared.network.Instance.{Instance}}
+use Rattle.fb_wiring.specs.{Network.Plain.{PlainNetwork}, Network.PlainFlat.{PlainFlat}, Network.declared.flat.Link.{Link}}
 use Rattle.fb_wiring.specs.Network.declared.flat.Border.{Border}
 use Rattle.fb_wiring.specs.Network.Network.{View, Place, instance_named, IsInner, Step, Holds, Within as Inside, IsBorderPlace, OwnPort, PortWithin, IsLeafPlace, BlockPort, LeafWithin, Chain, One, More, IsLink, IsBorder}
-use Rattle.fb_wiring.specs.Network.Clean.{port_named, type_of, adapter_name_at, adapter_at}
-use Rattle.fb_wiring.specs.Network.NetLink.{IsNetLink, Direct, FromPlug, ToPlug}
+use Rattle.fb_wiring.specs.{Network.Clean.{port_named, type_of, adapter_name_at, adapter_at}, Network.NetLink.{IsNetLink, Direct, FromPlug, ToPlug}}
 use Rattle.fb_wiring.specs.Network.Flat.{PrintsLink, PrintsBorder, AreLinks, AreBorders}
-use Rattle.fb_wiring.specs.Network.Instances.{Held, AreInstances, NoInstance, ThenBlock, ThenSubapplication}
-use Rattle.fb_wiring.specs.Network.Count.{IsCount}
+use Rattle.fb_wiring.specs.{Network.Instances.{Held, AreInstances, NoInstance, ThenBlock, ThenSubapplication}, Network.Count.{IsCount}}
 use Rattle.fb_wiring.specs.Network.FlatNet.{IsFlat}
 use Rattle.fb_flatten.specs.Locality.{Within, IsClosed, SameNetworks, SameFlats}
 

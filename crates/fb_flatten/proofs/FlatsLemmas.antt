@@ -1,41 +1,23 @@
 -- One more name of an order is finished.
 use Rattle.std.proofs.Common.{ℕ, zero, suc, ◌≡◌, ◌<◌, Bool, true, false, not, ◌&&◌, List, [], ◌∷◌, ◌++◌, Option, Some, ◌⊎◌, inl, inr, refl, sym, ◌∙◌, ap, subst, take, get_or, length}
-use Rattle.std.proofs.lemmas.Bool.{and_parts, false≢true}
-use Rattle.std.proofs.lemmas.List.Elements.{Contains-push_cases}
-use Rattle.std.specs.Prelude.{Contains, ◌≢◌, option_map}
-use Rattle.std.specs.Option.{option_or}
-use Rattle.std.specs.BTreeMap.{is_at}
-use Rattle.fb_wiring.proofs.Text.Tests.{by_bool}
-use Rattle.fb_wiring.specs.Text.Order.{name_cmp}
-use Rattle.fb_wiring.specs.Tree.Mentions.{unit_kind_of}
-use Rattle.fb_wiring.specs.Tree.Tree.{DeclTree, block_type, adapter_type, subapplication_type, system_configuration, structure_type}
-use Rattle.fb_wiring.specs.Tree.declared.kinds.UnitKind.{UnitKind}
-use Rattle.fb_wiring.specs.Tree.declared.kinds.UnitKind.TheVariants as kinds
-use Rattle.fb_wiring.specs.Library.View.{Sources, parts_at, tree_at}
-use Rattle.fb_wiring.specs.Network.declared.network.InstanceKind.TheVariants.{Subapplication}
-use Rattle.fb_wiring.specs.Network.declared.network.Instance.{Instance}
-use Rattle.fb_wiring.specs.Network.Plain.{PlainNetwork}
-use Rattle.fb_wiring.specs.Network.PlainFlat.{PlainFlat}
-use Rattle.fb_wiring.specs.Network.Network.{View}
-use Rattle.fb_wiring.specs.Network.Instances.{AreInstances}
-use Rattle.fb_wiring.specs.Network.FlatNet.{IsFlat}
-use Rattle.fb_wiring.specs.Applications.{applications_of}
-use Rattle.fb_wiring.specs.ByName.{declared, kind_at}
-use Rattle.fb_wiring.specs.Networks.{network_of}
-use Rattle.fb_wiring.proofs.Text.Members.{contains_cases, contains_here, contains_later, contains_nothing}
-use Rattle.fb_wiring.proofs.Network.Equals.{same_bytes, not_at, at_not}
-use Rattle.fb_wiring.specs.Network.Ready.{Nets, IsFinished, AreFinished}
-use Rattle.fb_flatten.specs.Hints.{AreRightHints, flat_of_hint, is_whole_hint}
-use Rattle.fb_flatten.specs.Net.{PlainNet}
-use Rattle.fb_flatten.specs.Tables.{AllFinished, AreComposedTogether, AreMissing, IsAdded, IsComposed, IsSmallType, IsTable, IsUnitOrder, SameOthers, is_missing, is_subapplication_in, is_system_tree, known_flats}
-use Rattle.fb_wiring.specs.Units.{HasNet, IsUnitFlat, IsWithinLimit, OfSubapplication, OfSystem, own_instances}
-use Rattle.fb_flatten.proofs.ComposeLemmas.{application_composable, type_composable}
-use Rattle.fb_flatten.proofs.CountLemmas.{inner_kind, inner_small, own_kind}
-use Rattle.fb_flatten.proofs.HintLemmas.{kept_finished, no_flat, not_of_not}
-use Rattle.fb_wiring.proofs.KindLemmas.{subapplication_told}
-use Rattle.fb_flatten.proofs.MentionLemmas.{declared_within, own_within}
-use Rattle.fb_flatten.proofs.SoundLemmas.{not_mentioned, sound_network}
+use Rattle.std.proofs.{lemmas.Bool.{and_parts, false≢true}, lemmas.List.Elements.{Contains-push_cases}}
+use Rattle.std.specs.{Prelude.{Contains, ◌≢◌, option_map}, Option.{option_or}, BTreeMap.{is_at}}
+use Rattle.fb_wiring.proofs.{Text.Tests.{by_bool}, Text.Members.{contains_cases, contains_here, contains_later, contains_nothing}}
+use Rattle.fb_wiring.proofs.{Network.Equals.{same_bytes, not_at, at_not}, KindLemmas.{subapplication_told}}
 use Rattle.fb_wiring.proofs.FoundUnits.{own_of_application, own_of_type, system_applications}
+use Rattle.fb_wiring.specs.{Text.Order.{name_cmp}, Tree.Mentions.{unit_kind_of}}
+use Rattle.fb_wiring.specs.Tree.Tree.{DeclTree, block_type, adapter_type, subapplication_type, system_configuration, structure_type}
+use Rattle.fb_wiring.specs.{Tree.declared.kinds.UnitKind.{UnitKind}, Library.View.{Sources, parts_at, tree_at}}
+use Rattle.fb_wiring.specs.{Network.declared.network.InstanceKind.TheVariants.{Subapplication}, Network.declared.network.Instance.{Instance}}
+use Rattle.fb_wiring.specs.{Network.Plain.{PlainNetwork}, Network.PlainFlat.{PlainFlat}, Network.Network.{View}, Network.Instances.{AreInstances}}
+use Rattle.fb_wiring.specs.{Network.FlatNet.{IsFlat}, Applications.{applications_of}, ByName.{declared, kind_at}, Networks.{network_of}}
+use Rattle.fb_wiring.specs.{Network.Ready.{Nets, IsFinished, AreFinished}, Units.{HasNet, IsUnitFlat, IsWithinLimit, OfSubapplication, OfSystem, own_instances}}
+use Rattle.fb_wiring.specs.Tree.declared.kinds.UnitKind.TheVariants as kinds
+use Rattle.fb_flatten.specs.{Hints.{AreRightHints, flat_of_hint, is_whole_hint}, Net.{PlainNet}}
+use Rattle.fb_flatten.specs.Tables.{AllFinished, AreComposedTogether, AreMissing, IsAdded, IsComposed, IsSmallType, IsTable, IsUnitOrder, SameOthers, is_missing, is_subapplication_in, is_system_tree, known_flats}
+use Rattle.fb_flatten.proofs.{ComposeLemmas.{application_composable, type_composable}, CountLemmas.{inner_kind, inner_small, own_kind}}
+use Rattle.fb_flatten.proofs.{HintLemmas.{kept_finished, no_flat, not_of_not}, MentionLemmas.{declared_within, own_within}}
+use Rattle.fb_flatten.proofs.SoundLemmas.{not_mentioned, sound_network}
 
 in_take : {X : Type 0} (k : ℕ) (xs : List X) (x : X) → Contains (take k xs) x → Contains xs x
 in_take zero xs x c = absurd (contains_nothing x c)

@@ -1,26 +1,16 @@
 -- What kept nets tell of their units.
-use Rattle.std.proofs.Common.{ℕ, ◌≡◌, Bool, true, false, not, arith, length, List, Option, Some, None, refl, sym, ap, subst, ◌∙◌}
-use Rattle.std.proofs.lemmas.Bool.{false≢true}
-use Rattle.std.specs.Prelude.{◌≢◌, ◌||◌, ◌&&◌, is_none, option_map}
-use Rattle.std.specs.FinMap.{get}
-use Rattle.std.specs.Option.{option_or}
+use Rattle.std.proofs.{Common.{ℕ, ◌≡◌, Bool, true, false, not, arith, length, List, Option, Some, None, refl, sym, ap, subst, ◌∙◌}, lemmas.Bool.{false≢true}}
+use Rattle.std.specs.{Prelude.{◌≢◌, ◌||◌, ◌&&◌, is_none, option_map}, FinMap.{get}, Option.{option_or}}
 use Rattle.fb_wiring.specs.Tree.Mentions.{unit_kind_of}
 use Rattle.fb_wiring.specs.Tree.Tree.{DeclTree, block_type, adapter_type, subapplication_type, system_configuration, structure_type}
-use Rattle.fb_wiring.specs.Tree.declared.kinds.UnitKind.TheVariants as kinds
-use Rattle.fb_wiring.specs.Library.View.{Sources, tree_at}
-use Rattle.fb_wiring.specs.Network.Plain.{PlainNetwork}
-use Rattle.fb_wiring.specs.Network.PlainFlat.{PlainFlat}
-use Rattle.fb_wiring.specs.Network.Instances.{Held, AreInstances}
-use Rattle.fb_faults.specs.Faults.{faults_of}
-use Rattle.fb_wiring.specs.ByName.{declared, kind_at}
-use Rattle.fb_wiring.specs.Networks.{network_of}
-use Rattle.fb_wiring.specs.Network.Ready.{Nets, IsFinished}
-use Rattle.fb_wiring.proofs.Network.BlockLemmas.{same_instances}
-use Rattle.fb_flatten.specs.Blocking.{is_absent_or_faulty, is_blocking, is_some_fault}
-use Rattle.fb_flatten.specs.Hints.{AreRightHints, flat_of_hint, is_whole_hint, is_whole_net}
-use Rattle.fb_flatten.specs.Net.{PlainNet, blocked, recursive, too_large, flat_net, IsNet, IsSound}
-use Rattle.fb_flatten.specs.Tables.{IsSmallType, known_flats}
+use Rattle.fb_wiring.specs.{Library.View.{Sources, tree_at}, Network.Plain.{PlainNetwork}, Network.PlainFlat.{PlainFlat}}
+use Rattle.fb_wiring.specs.{Network.Instances.{Held, AreInstances}, ByName.{declared, kind_at}, Networks.{network_of}, Network.Ready.{Nets, IsFinished}}
 use Rattle.fb_wiring.specs.Units.{IsTooLarge, IsUnitFlat, OfSubapplication, OfSystem, own_instances}
+use Rattle.fb_wiring.specs.Tree.declared.kinds.UnitKind.TheVariants as kinds
+use Rattle.fb_faults.specs.Faults.{faults_of}
+use Rattle.fb_wiring.proofs.Network.BlockLemmas.{same_instances}
+use Rattle.fb_flatten.specs.{Blocking.{is_absent_or_faulty, is_blocking, is_some_fault}, Hints.{AreRightHints, flat_of_hint, is_whole_hint, is_whole_net}}
+use Rattle.fb_flatten.specs.{Net.{PlainNet, blocked, recursive, too_large, flat_net, IsNet, IsSound}, Tables.{IsSmallType, known_flats}}
 use Rattle.fb_flatten.proofs.ComputedNets.{net_at_is, unit_faultless}
 
 -- ---- faults

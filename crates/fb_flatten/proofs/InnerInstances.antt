@@ -1,27 +1,19 @@
 -- The applications of a text have no plugs and no sockets.
 use Rattle.std.proofs.Common.{◌≡◌, ℕ, Bool, true, false, List, [], ◌∷◌, ◌++◌, length, Option, Some, None, Result, Ok, Err, sym, ap, subst, inl, inr}
-use Rattle.std.specs.FinMap.{get}
-use Rattle.std.specs.Option.{option_and_then}
-use Rattle.fb_wiring.specs.Text.declared.token.Span.{Span}
-use Rattle.fb_wiring.specs.Forms.Lexemes.{lexemes_of}
-use Rattle.fb_wiring.specs.Forms.declared.kind.Kind.{Kind}
-use Rattle.fb_wiring.specs.Forms.declared.kind.Kind.TheVariants as kinds
-use Rattle.fb_wiring.specs.Forms.declared.lexeme.Lexeme.{Lexeme}
-use Rattle.fb_wiring.specs.Forms.Form.{Form, Spells, both, either, many, as_value}
-use Rattle.fb_wiring.specs.Forms.Words.{before, behind, key, name}
-use Rattle.fb_wiring.specs.Sections.Network.{blocks, connections, instance, inner_subapplication, subapplications}
-use Rattle.fb_wiring.specs.Sections.Sections.{section}
+use Rattle.std.specs.{FinMap.{get}, Option.{option_and_then}}
+use Rattle.fb_wiring.specs.{Text.declared.token.Span.{Span}, Forms.Lexemes.{lexemes_of}, Forms.declared.kind.Kind.{Kind}, Forms.declared.lexeme.Lexeme.{Lexeme}}
+use Rattle.fb_wiring.specs.{Forms.Form.{Form, Spells, both, either, many, as_value}, Forms.Words.{before, behind, key, name}}
+use Rattle.fb_wiring.specs.{Sections.Network.{blocks, connections, instance, inner_subapplication, subapplications}, Sections.Sections.{section}}
 use Rattle.fb_wiring.specs.Sections.SystemParts.{device, mappings}
 use Rattle.fb_wiring.specs.Tree.Tree.{ApplicationTree, DeclTree, DeviceTree, InstanceTree, MappingTree, SystemTree, block_type, adapter_type, subapplication_type, system_configuration, structure_type}
-use Rattle.fb_wiring.specs.Tree.declared.network.Connection.{Connection}
-use Rattle.fb_wiring.specs.Tree.declared.network.Role.{Role}
-use Rattle.fb_wiring.specs.Tree.declared.network.Role.TheVariants as roles
-use Rattle.fb_wiring.specs.Parse.Body.{BodyTree, Whole, BrokenAt, IsBodyIn, body_of}
-use Rattle.fb_wiring.specs.Parse.Contents.{ContentsTree, joined, of_connections, of_instances}
+use Rattle.fb_wiring.specs.{Tree.declared.network.Connection.{Connection}, Tree.declared.network.Role.{Role}}
+use Rattle.fb_wiring.specs.{Parse.Body.{BodyTree, Whole, BrokenAt, IsBodyIn, body_of}, Parse.Contents.{ContentsTree, joined, of_connections, of_instances}}
 use Rattle.fb_wiring.specs.Parse.Grammar.{application, application_of, application_section, network_section, system, system_of, system_section, unit}
 use Rattle.fb_wiring.specs.Parse.SystemContents.{SystemContentsTree, of_application, of_device, of_mappings, system_joined}
-use Rattle.fb_wiring.proofs.Parse.Bodies.{told}
 use Rattle.fb_wiring.specs.Library.View.{Sources, tree_at, tree_in, tree_of}
+use Rattle.fb_wiring.specs.Forms.declared.kind.Kind.TheVariants as kinds
+use Rattle.fb_wiring.specs.Tree.declared.network.Role.TheVariants as roles
+use Rattle.fb_wiring.proofs.Parse.Bodies.{told}
 use Rattle.fb_faults.proofs.Netcheck.Locality.{Each}
 
 -- each value that tokens spell by the form has the fact

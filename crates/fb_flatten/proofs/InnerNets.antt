@@ -1,35 +1,16 @@
 -- What is composed for a unit is the net of its type, where that is counted within the limit.
-use Rattle.std.proofs.Common.{ℕ, ◌≡◌, ◌≤◌, arith, true, not, List, Option, Some, None, inl, refl, sym, ◌∙◌, ap, subst}
-use Rattle.std.proofs.lemmas.Bool.{and_parts, false≢true}
-use Rattle.std.specs.Prelude.{Contains, ◌≢◌, option_map}
-use Rattle.std.specs.Option.{option_or}
-use Rattle.std.specs.BTreeMap.{is_at}
-use Rattle.fb_wiring.specs.Text.Order.{name_cmp}
-use Rattle.fb_wiring.specs.Tree.Mentions.{unit_kind_of}
+use Rattle.std.proofs.{Common.{ℕ, ◌≡◌, ◌≤◌, arith, true, not, List, Option, Some, None, inl, refl, sym, ◌∙◌, ap, subst}, lemmas.Bool.{and_parts, false≢true}}
+use Rattle.std.specs.{Prelude.{Contains, ◌≢◌, option_map}, Option.{option_or}, BTreeMap.{is_at}}
+use Rattle.fb_wiring.specs.{Text.Order.{name_cmp}, Tree.Mentions.{unit_kind_of}}
 use Rattle.fb_wiring.specs.Tree.Tree.{DeclTree, block_type, adapter_type, subapplication_type, system_configuration, structure_type}
+use Rattle.fb_wiring.specs.{Library.View.{Sources, tree_at}, Network.declared.count.TheConstants.{INSTANCE_LIMIT}, Network.Plain.{PlainNetwork}}
+use Rattle.fb_wiring.specs.{Network.PlainFlat.{PlainFlat}, Network.Instances.{Held, AreInstances}, Network.FlatNet.{IsFlat}, Counts.{IsCounted}}
+use Rattle.fb_wiring.specs.{Network.Ready.{Nets}, ByName.{declared, kind_at}, Networks.{network_of}, Units.{Holds, IsUnitFlat, IsWithinLimit, OfSubapplication}}
 use Rattle.fb_wiring.specs.Tree.declared.kinds.UnitKind.TheVariants as kinds
-use Rattle.fb_wiring.specs.Library.View.{Sources, tree_at}
-use Rattle.fb_wiring.specs.Network.declared.count.TheConstants.{INSTANCE_LIMIT}
-use Rattle.fb_wiring.specs.Network.Plain.{PlainNetwork}
-use Rattle.fb_wiring.specs.Network.PlainFlat.{PlainFlat}
-use Rattle.fb_wiring.specs.Network.Instances.{Held, AreInstances}
-use Rattle.fb_wiring.specs.Network.FlatNet.{IsFlat}
-use Rattle.fb_wiring.specs.Counts.{IsCounted}
-use Rattle.fb_wiring.specs.Network.Ready.{Nets}
-use Rattle.fb_wiring.specs.ByName.{declared, kind_at}
-use Rattle.fb_wiring.specs.Networks.{network_of}
-use Rattle.fb_wiring.specs.Units.{Holds, IsUnitFlat, IsWithinLimit, OfSubapplication}
-use Rattle.fb_wiring.proofs.KindLemmas.{subapplication_by_tree}
-use Rattle.fb_wiring.proofs.Network.Equals.{bytes_same}
-use Rattle.fb_wiring.proofs.Library.Locality.{parts_rest}
-use Rattle.fb_flatten.specs.Hints.{is_whole_hint}
-use Rattle.fb_flatten.specs.Inner.{IsCountedFlat, IsCountedWithin, IsInnerNet}
-use Rattle.fb_flatten.specs.Net.{PlainNet, flat_net}
-use Rattle.fb_flatten.specs.Nets.{net_at}
-use Rattle.fb_flatten.specs.Tables.{AllFinished, AreRightCounts, AreMissing, IsSmallType, IsUnitOrder, is_missing, known_flats}
-use Rattle.fb_flatten.specs.declared.inner.Inner.{Inner}
-use Rattle.fb_flatten.proofs.ComputedNets.{net_at_is}
-use Rattle.fb_flatten.proofs.HintLemmas.{no_flat, not_of_not}
+use Rattle.fb_wiring.proofs.{KindLemmas.{subapplication_by_tree}, Network.Equals.{bytes_same}, Library.Locality.{parts_rest}}
+use Rattle.fb_flatten.specs.{Hints.{is_whole_hint}, Inner.{IsCountedFlat, IsCountedWithin, IsInnerNet}, Net.{PlainNet, flat_net}, Nets.{net_at}}
+use Rattle.fb_flatten.specs.{Tables.{AllFinished, AreRightCounts, AreMissing, IsSmallType, IsUnitOrder, is_missing, known_flats}, declared.inner.Inner.{Inner}}
+use Rattle.fb_flatten.proofs.{ComputedNets.{net_at_is}, HintLemmas.{no_flat, not_of_not}}
 
 module _ (sources : Sources) (name : List ℕ) (kind : kind_at sources name ≡ Some kinds.Subapplication) where
   -- the instances of the network of a subapplication are its own

@@ -1,34 +1,22 @@
 -- What a unit says as a network is within its mentions.
 use Rattle.std.proofs.Common.{ℕ, ◌≡◌, ◌+◌, List, [], ◌∷◌, ◌++◌, Option, Some, None, ◌⊎◌, inl, inr, refl, sym, ◌∙◌, ap, subst}
-use Rattle.std.specs.Prelude.{Contains, map, filter, option_map, is_none, take}
-use Rattle.std.specs.List.{filter_map, cons_option, enumerate_from}
-use Rattle.std.specs.Cmp.Lexicographic.{nat_list_cmp_total}
-use Rattle.std.specs.FinMap.{slice_cmp-IsAntisymmetric, nat_cmp-IsAntisymmetric}
 use Rattle.std.proofs.lemmas.List.Elements.{Contains-append_cases}
-use Rattle.fb_wiring.specs.Text.Order.{name_cmp}
-use Rattle.fb_wiring.proofs.Text.OrderLemmas.{in_order-members}
-use Rattle.fb_wiring.specs.Text.declared.name.NameUse.{NameUse}
+use Rattle.std.specs.{Prelude.{Contains, map, filter, option_map, is_none, take}, List.{filter_map, cons_option, enumerate_from}}
+use Rattle.std.specs.{Cmp.Lexicographic.{nat_list_cmp_total}, FinMap.{slice_cmp-IsAntisymmetric, nat_cmp-IsAntisymmetric}}
+use Rattle.fb_wiring.specs.{Text.Order.{name_cmp}, Text.declared.name.NameUse.{NameUse}}
 use Rattle.fb_wiring.specs.Tree.Tree.{ApplicationTree, DeclTree, InstanceTree, TypeTree, block_type, adapter_type, subapplication_type, system_configuration, structure_type}
-use Rattle.fb_wiring.specs.Tree.Mentions.{instance_types, parts_of, types_in}
-use Rattle.fb_wiring.specs.Tree.declared.interface.Side.{Side}
-use Rattle.fb_wiring.specs.Tree.declared.interface.Side.TheVariants.{Input, Output}
-use Rattle.fb_wiring.specs.Tree.declared.network.Role.{Role}
-use Rattle.fb_wiring.specs.Tree.declared.network.Role.TheVariants as roles
-use Rattle.fb_wiring.specs.Library.View.{Sources, tree_at, parts_at, parts_in}
-use Rattle.fb_wiring.specs.Iface.Names.{first_ones, stands_for}
+use Rattle.fb_wiring.specs.{Tree.Mentions.{instance_types, parts_of, types_in}, Tree.declared.interface.Side.{Side}}
+use Rattle.fb_wiring.specs.{Tree.declared.interface.Side.TheVariants.{Input, Output}, Tree.declared.network.Role.{Role}}
+use Rattle.fb_wiring.specs.{Library.View.{Sources, tree_at, parts_at, parts_in}, Iface.Names.{first_ones, stands_for}}
 use Rattle.fb_wiring.specs.Iface.Ports.{meanings_in_type, events_on, data_on, instances_as, instances_in as declared_instances, same_role}
-use Rattle.fb_wiring.specs.Iface.declared.ports.DeclaredInstance.{DeclaredInstance}
+use Rattle.fb_wiring.specs.{Iface.declared.ports.DeclaredInstance.{DeclaredInstance}, Network.declared.network.Instance.{Instance}}
+use Rattle.fb_wiring.specs.{Network.declared.network.Port.{Port}, Network.Plain.{PlainNetwork}, Applications.{applications_of, plain_application}}
+use Rattle.fb_wiring.specs.{ByName.{applications_at, declared}, Networks.{instance_in_role, plain_instance, network_of, leaf}}
+use Rattle.fb_wiring.specs.{Ports.{plain_ports, plain_event, plain_data, plain_adapter}, declared.systems.Application.{Application}, Units.{own_instances}}
+use Rattle.fb_wiring.proofs.Text.OrderLemmas.{in_order-members}
 use Rattle.fb_wiring.proofs.Text.Members.{contains_nothing, contains_here, contains_later, contains_cases, contains_map, origin_in_map, contains_flat_map, origin_in_flat_map, passes_in_filter}
-use Rattle.fb_wiring.specs.Network.declared.network.Instance.{Instance}
-use Rattle.fb_wiring.specs.Network.declared.network.Port.{Port}
-use Rattle.fb_wiring.specs.Network.Plain.{PlainNetwork}
-use Rattle.fb_wiring.specs.Applications.{applications_of, plain_application}
-use Rattle.fb_wiring.specs.ByName.{applications_at, declared}
-use Rattle.fb_wiring.specs.Networks.{instance_in_role, plain_instance, network_of, leaf}
-use Rattle.fb_wiring.specs.Ports.{plain_ports, plain_event, plain_data, plain_adapter}
-use Rattle.fb_wiring.specs.declared.systems.Application.{Application}
+use Rattle.fb_wiring.specs.Tree.declared.network.Role.TheVariants as roles
 use Rattle.fb_flatten.specs.Locality.{Within}
-use Rattle.fb_wiring.specs.Units.{own_instances}
 
 -- an element of which the member is given
 record IsGiven {X Y : Type 0} (f : X → Option Y) (xs : List X) (y : Y) : Type 0 where

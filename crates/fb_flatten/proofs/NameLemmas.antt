@@ -1,18 +1,11 @@
 -- Without duplicates, no name is declared twice.
 use Rattle.std.proofs.Common.{◌≡◌, suc, ℕ, ◌<◌, Bool, true, false, cond, List, [], ◌∷◌, map, Some, None, refl, sym, ap, ◌∙◌, subst, ◌⊎◌, inl, inr, arith}
 use Rattle.std.specs.List.{Contains, slice_get}
-use Rattle.fb_wiring.specs.Text.declared.name.NameUse.{NameUse}
-use Rattle.fb_wiring.specs.Tree.Tree.{DeclTree}
-use Rattle.fb_wiring.specs.Library.View.{Sources, tree_at}
-use Rattle.fb_wiring.specs.Iface.Declarations.{iface_faults_of}
-use Rattle.fb_wiring.specs.Iface.Names.{is_same, stands_for}
-use Rattle.fb_wiring.specs.Iface.Spaces.{spaces_of}
-use Rattle.fb_wiring.specs.Iface.declared.code.Code.TheVariants.{Duplicate}
+use Rattle.fb_wiring.specs.{Text.declared.name.NameUse.{NameUse}, Tree.Tree.{DeclTree}, Library.View.{Sources, tree_at}, Iface.Declarations.{iface_faults_of}}
+use Rattle.fb_wiring.specs.{Iface.Names.{is_same, stands_for}, Iface.Spaces.{spaces_of}, Iface.declared.code.Code.TheVariants.{Duplicate}}
 use Rattle.fb_wiring.specs.Iface.declared.fault.Fault.{Fault}
-use Rattle.fb_wiring.proofs.Text.Members.{contains_cases, contains_nothing}
-use Rattle.fb_wiring.proofs.Iface.NameLemmas.{same_exact, same_itself}
-use Rattle.fb_wiring.proofs.Iface.DuplicateLemmas.{duplicate_in_whole, duplicate_reported}
-use Rattle.fb_wiring.proofs.Iface.EarlierLemmas.{IsEarlier}
+use Rattle.fb_wiring.proofs.{Text.Members.{contains_cases, contains_nothing}, Iface.NameLemmas.{same_exact, same_itself}}
+use Rattle.fb_wiring.proofs.{Iface.DuplicateLemmas.{duplicate_in_whole, duplicate_reported}, Iface.EarlierLemmas.{IsEarlier}}
 use Rattle.fb_flatten.proofs.FirstOnes.{Distinct}
 
 -- no two places of the list have one name

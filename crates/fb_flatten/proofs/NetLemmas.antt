@@ -1,17 +1,11 @@
 -- Which names keep a unit from having a flat network.
 use Rattle.std.proofs.Common.{ℕ, ◌≡◌, Bool, true, false, ◌∙◌, List, [], ◌∷◌, Option, Some, None, inl, inr, refl, sym, ap, subst}
-use Rattle.std.specs.Prelude.{Contains, ◌≢◌, ◌↔◌, ◌||◌, ◌&&◌, is_none, filter}
-use Rattle.std.proofs.lemmas.Bool.{false≢true, or_right}
-use Rattle.std.specs.FinMap.{get}
-use Rattle.std.specs.List.Sorted.{IsStrictlySortedBy}
-use Rattle.std.proofs.lemmas.List.Kept.{IsStrictlySortedBy-filter}
-use Rattle.fb_wiring.specs.Text.Order.{name_cmp}
-use Rattle.fb_wiring.specs.Library.View.{Sources}
-use Rattle.fb_wiring.specs.Library.Rests.{Rests}
-use Rattle.fb_wiring.specs.Iface.declared.fault.Fault.{Fault}
+use Rattle.std.proofs.{lemmas.Bool.{false≢true, or_right}, lemmas.List.Kept.{IsStrictlySortedBy-filter}}
+use Rattle.std.specs.{Prelude.{Contains, ◌≢◌, ◌↔◌, ◌||◌, ◌&&◌, is_none, filter}, FinMap.{get}, List.Sorted.{IsStrictlySortedBy}}
+use Rattle.fb_wiring.specs.{Text.Order.{name_cmp}, Library.View.{Sources}, Library.Rests.{Rests}, Iface.declared.fault.Fault.{Fault}}
+use Rattle.fb_wiring.specs.Reaches.{IsRecursive, RestsOnRecursive}
 use Rattle.fb_wiring.proofs.Text.Members.{contains_nothing, contains_filter, passes_in_filter}
 use Rattle.fb_faults.specs.Faults.{faults_of}
-use Rattle.fb_wiring.specs.Reaches.{IsRecursive, RestsOnRecursive}
 use Rattle.fb_flatten.specs.Blocking.{AreThose, IsBlocking, IsPartBelow, is_blocking, is_some_fault, is_some_name}
 
 pub blocking_is : (sources : Sources) (unit v : List ℕ) (is_part : List ℕ → Bool) → (get sources v ≡ None → is_part v ≡ true → IsPartBelow sources unit v) → is_blocking sources is_part v ≡ true → IsBlocking sources unit v

@@ -1,23 +1,13 @@
 -- The net of a unit depends on the texts alone that the unit rests on.
 use Rattle.std.proofs.Common.{ℕ, ◌≡◌, List, [], ◌⊎◌, inl, inr, sym, ◌∙◌, ap, option_map}
-use Rattle.std.specs.Prelude.{Contains}
-use Rattle.std.specs.Option.{option_and_then}
-use Rattle.fb_wiring.specs.Library.View.{Sources, parts_in, tree_at, tree_of, values_in}
-use Rattle.fb_wiring.specs.Library.Near.{near_of}
-use Rattle.fb_wiring.specs.Library.Rests.{Rests, itself}
-use Rattle.fb_wiring.specs.Library.Local.{AgreeFar}
-use Rattle.fb_wiring.proofs.Library.Locality.{near_far, rests_both}
-use Rattle.fb_wiring.specs.Tree.Mentions.{unit_kind_of}
-use Rattle.fb_wiring.specs.Applications.{applications_of}
-use Rattle.fb_wiring.specs.Local.{SaysSame}
-use Rattle.fb_wiring.specs.Networks.{network_of}
+use Rattle.std.specs.{Prelude.{Contains, Option}, Option.{option_and_then}}
+use Rattle.fb_wiring.specs.{Library.View.{Sources, parts_in, tree_at, tree_of, values_in}, Library.Near.{near_of}, Library.Rests.{Rests, itself}}
+use Rattle.fb_wiring.specs.{Library.Local.{AgreeFar}, Tree.Mentions.{unit_kind_of}, Applications.{applications_of}, Local.{SaysSame}, Networks.{network_of}}
 use Rattle.fb_wiring.specs.Tree.Tree.{DeclTree}
-use Rattle.std.specs.Prelude.{Option}
+use Rattle.fb_wiring.proofs.Library.Locality.{near_far, rests_both}
 use Rattle.fb_faults.specs.Faults.{faults_of}
 use Rattle.fb_faults.proofs.Locality.{faults_local}
-use Rattle.fb_flatten.specs.Blocking.{AreThose, IsBlocking}
-use Rattle.fb_flatten.specs.Laws.{NetIsLocal}
-use Rattle.fb_flatten.specs.Net.{PlainNet, blocked, recursive, too_large, flat_net, IsNet, IsSound}
+use Rattle.fb_flatten.specs.{Blocking.{AreThose, IsBlocking}, Laws.{NetIsLocal}, Net.{PlainNet, blocked, recursive, too_large, flat_net, IsNet, IsSound}}
 use Rattle.fb_flatten.proofs.SaidFar.{SaysSameFar, far_back, far_there, large_there, part_back, part_there, recursive_those_there, unit_flat_there, within_there}
 
 -- one tree says what it says

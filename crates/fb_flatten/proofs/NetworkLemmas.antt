@@ -1,59 +1,35 @@
 -- A network without faults is clean in plain.
 use Rattle.std.proofs.Common.{◌≡◌, ℕ, Bool, true, false, cond, ◌&&◌, List, [], ◌∷◌, map, Option, Some, None, option_map, refl, sym, ap, ◌∙◌, subst, true≢false, inl, inr}
 use Rattle.std.proofs.lemmas.List.Elements.{All-contains}
-use Rattle.std.specs.List.{All, Contains, cons_option, filter_map}
-use Rattle.std.specs.Option.{option_and_then}
-use Rattle.fb_wiring.specs.Text.declared.name.NameUse.{NameUse}
-use Rattle.fb_wiring.specs.Tree.Mentions.{unit_kind_of}
-use Rattle.fb_wiring.specs.Tree.Tree.{DeclTree, InstanceTree, NetworkTree}
-use Rattle.fb_wiring.specs.Tree.declared.interface.Side.{Side}
-use Rattle.fb_wiring.specs.Tree.declared.interface.Side.TheVariants.{Input, Output}
-use Rattle.fb_wiring.specs.Tree.declared.interface.TypeUse.{TypeUse}
-use Rattle.fb_wiring.specs.Tree.declared.kinds.UnitKind.{UnitKind}
-use Rattle.fb_wiring.specs.Tree.declared.kinds.UnitKind.TheVariants as kinds
-use Rattle.fb_wiring.specs.Tree.declared.network.Connection.{Connection as ConnectionTree}
-use Rattle.fb_wiring.specs.Tree.declared.network.End.{End as EndTree}
-use Rattle.fb_wiring.specs.Tree.declared.network.Role.{Role}
-use Rattle.fb_wiring.specs.Tree.declared.network.Role.TheVariants as roles
-use Rattle.fb_wiring.specs.Tree.declared.network.Sort.{Sort}
-use Rattle.fb_wiring.specs.Tree.declared.network.Sort.TheVariants as sorts
-use Rattle.fb_wiring.specs.Library.View.{Sources, tree_at}
-use Rattle.fb_wiring.specs.Iface.Names.{first_ones, has_name, is_same, stands_for}
-use Rattle.fb_wiring.specs.Iface.Ports.{Meanings, instances_in, meanings_in, same_side}
-use Rattle.fb_wiring.specs.Iface.Scope.{ports_of, type_ports_of, usable}
-use Rattle.fb_wiring.specs.Iface.Types.{instance_faults, suits, type_fault}
-use Rattle.fb_wiring.specs.Iface.declared.fault.Fault.{Fault}
+use Rattle.std.specs.{List.{All, Contains, cons_option, filter_map}, Option.{option_and_then}}
+use Rattle.fb_wiring.specs.{Text.declared.name.NameUse.{NameUse}, Tree.Mentions.{unit_kind_of}, Tree.Tree.{DeclTree, InstanceTree, NetworkTree}}
+use Rattle.fb_wiring.specs.{Tree.declared.interface.Side.{Side}, Tree.declared.interface.Side.TheVariants.{Input, Output}}
+use Rattle.fb_wiring.specs.{Tree.declared.interface.TypeUse.{TypeUse}, Tree.declared.kinds.UnitKind.{UnitKind}}
+use Rattle.fb_wiring.specs.{Tree.declared.network.Connection.{Connection as ConnectionTree}, Tree.declared.network.End.{End as EndTree}}
+use Rattle.fb_wiring.specs.{Tree.declared.network.Role.{Role}, Tree.declared.network.Sort.{Sort}, Library.View.{Sources, tree_at}}
+use Rattle.fb_wiring.specs.{Iface.Names.{first_ones, has_name, is_same, stands_for}, Iface.Ports.{Meanings, instances_in, meanings_in, same_side}}
+use Rattle.fb_wiring.specs.{Iface.Scope.{ports_of, type_ports_of, usable}, Iface.Types.{instance_faults, suits, type_fault}, Iface.declared.fault.Fault.{Fault}}
 use Rattle.fb_wiring.specs.Iface.declared.ports.DeclaredInstance.{DeclaredInstance}
-use Rattle.fb_wiring.proofs.Text.Members.{contains_cases, contains_here, contains_later, contains_nothing, origin_in_map}
-use Rattle.fb_wiring.proofs.Iface.NameLemmas.{same_exact}
+use Rattle.fb_wiring.specs.Network.Clean.{IsDeclared, IsDestination, IsSource, adapter_name_at, port_named, side_at, type_of}
+use Rattle.fb_wiring.specs.{Network.Network.{IsConnected, View, instance_named, place_of}, Network.Plain.{PlainNetwork}, Network.declared.network.End.{End}}
+use Rattle.fb_wiring.specs.{Network.declared.network.End.TheVariants.{Own, Of}, Network.declared.network.Instance.{Instance}}
+use Rattle.fb_wiring.specs.{Network.declared.network.Port.{Port}, ByName.{declared, kind_at}}
+use Rattle.fb_wiring.specs.Networks.{end_named, instance_in_role, network_of, plain_connection, plain_end, plain_instance, plain_network}
+use Rattle.fb_wiring.specs.Tree.declared.kinds.UnitKind.TheVariants as kinds
+use Rattle.fb_wiring.specs.Tree.declared.network.Role.TheVariants as roles
+use Rattle.fb_wiring.specs.Tree.declared.network.Sort.TheVariants as sorts
+use Rattle.fb_wiring.proofs.{Text.Members.{contains_cases, contains_here, contains_later, contains_nothing, origin_in_map}, Iface.NameLemmas.{same_exact}}
 use Rattle.fb_faults.specs.Netcheck.Clean.{AreRight, IsCleanConnection, IsCleanNetwork}
 use Rattle.fb_faults.specs.Netcheck.Ends.{adapter_port, holder_of, is_right, port_in, port_in_role, right_side, target, target_held, target_in, target_named, target_of, target_of_instance}
-use Rattle.fb_faults.specs.Netcheck.Settings.{NetworkPlace}
-use Rattle.fb_faults.specs.Netcheck.Sides.{is_own_port}
-use Rattle.fb_faults.specs.Netcheck.Types.{flows_agree, same_at_ends, targets_agree}
-use Rattle.fb_faults.specs.Netcheck.declared.ends.Flow.{Flow}
+use Rattle.fb_faults.specs.{Netcheck.Settings.{NetworkPlace}, Netcheck.Sides.{is_own_port}, Netcheck.Types.{flows_agree, same_at_ends, targets_agree}}
+use Rattle.fb_faults.specs.{Netcheck.declared.ends.Flow.{Flow}, Netcheck.declared.ends.Holder.{Holder}, Netcheck.declared.ends.Port.{Port as JudgedPort}}
+use Rattle.fb_faults.specs.{Netcheck.declared.ends.Position.{Position}, Netcheck.declared.ends.Position.TheVariants.{Source, Destination}}
+use Rattle.fb_faults.specs.{Netcheck.declared.ends.Target.{Target}, Netcheck.declared.ends.Target.TheVariants.{Found}}
 use Rattle.fb_faults.specs.Netcheck.declared.ends.Flow.TheVariants as flows
-use Rattle.fb_faults.specs.Netcheck.declared.ends.Holder.{Holder}
 use Rattle.fb_faults.specs.Netcheck.declared.ends.Holder.TheVariants as holders
-use Rattle.fb_faults.specs.Netcheck.declared.ends.Port.{Port as JudgedPort}
-use Rattle.fb_faults.specs.Netcheck.declared.ends.Position.{Position}
-use Rattle.fb_faults.specs.Netcheck.declared.ends.Position.TheVariants.{Source, Destination}
-use Rattle.fb_faults.specs.Netcheck.declared.ends.Target.{Target}
-use Rattle.fb_faults.specs.Netcheck.declared.ends.Target.TheVariants.{Found}
-use Rattle.fb_wiring.specs.Network.Clean.{IsDeclared, IsDestination, IsSource, adapter_name_at, port_named, side_at, type_of}
-use Rattle.fb_wiring.specs.Network.Network.{IsConnected, View, instance_named, place_of}
-use Rattle.fb_wiring.specs.Network.Plain.{PlainNetwork}
-use Rattle.fb_wiring.specs.Network.declared.network.End.{End}
-use Rattle.fb_wiring.specs.Network.declared.network.End.TheVariants.{Own, Of}
-use Rattle.fb_wiring.specs.Network.declared.network.Instance.{Instance}
 use Rattle.fb_wiring.specs.Network.declared.network.InstanceKind.TheVariants as instances
-use Rattle.fb_wiring.specs.Network.declared.network.Port.{Port}
-use Rattle.fb_wiring.specs.ByName.{declared, kind_at}
 use Rattle.fb_flatten.specs.Clean.{IsCleanWithKinds, wanted_kind}
-use Rattle.fb_wiring.specs.Networks.{end_named, instance_in_role, network_of, plain_connection, plain_end, plain_instance, plain_network}
-use Rattle.fb_flatten.proofs.Finding.{found_by_name}
-use Rattle.fb_flatten.proofs.FirstOnes.{Distinct, stands_for-first_ones}
-use Rattle.fb_flatten.proofs.NameLemmas.{stands_for_itself}
+use Rattle.fb_flatten.proofs.{Finding.{found_by_name}, FirstOnes.{Distinct, stands_for-first_ones}, NameLemmas.{stands_for_itself}}
 use Rattle.fb_flatten.proofs.PortLemmas.{declared_port, plain_flow, plain_port}
 
 -- instances in plain

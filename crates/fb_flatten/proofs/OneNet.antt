@@ -1,25 +1,13 @@
 -- A unit has one net only.
 use Rattle.std.proofs.Common.{ℕ, ◌≡◌, List, [], ◌∷◌, refl, sym, ◌∙◌, ap, subst, arith, length}
 use Rattle.std.specs.Cmp.Lexicographic.{nat_list_cmp_total}
-use Rattle.fb_wiring.specs.Tree.Tree.{DeclTree}
-use Rattle.fb_wiring.specs.Library.View.{Sources}
-use Rattle.fb_wiring.specs.Network.LinkOrder.{link_cmp_total}
-use Rattle.fb_wiring.specs.Network.Plain.{PlainNetwork}
-use Rattle.fb_wiring.specs.Network.PlainFlat.{PlainFlat}
-use Rattle.fb_wiring.specs.Network.Network.{View}
-use Rattle.fb_wiring.specs.Network.Instances.{Held, AreInstances}
-use Rattle.fb_wiring.specs.Network.FlatNet.{IsFlat}
-use Rattle.fb_wiring.specs.Network.SystemFlat.{IsSystemFlat}
-use Rattle.fb_wiring.specs.Network.declared.application.FlatApplication.{FlatApplication}
-use Rattle.fb_wiring.proofs.Network.BlockLemmas.{same_instances}
-use Rattle.fb_wiring.proofs.Network.OneFlat.{same_flat}
-use Rattle.fb_wiring.proofs.Network.SameSorted.{same_sorted}
-use Rattle.fb_wiring.specs.ByName.{declared}
+use Rattle.fb_wiring.specs.{Tree.Tree.{DeclTree}, Library.View.{Sources}, Network.LinkOrder.{link_cmp_total}, Network.Plain.{PlainNetwork}}
+use Rattle.fb_wiring.specs.{Network.PlainFlat.{PlainFlat}, Network.Network.{View}, Network.Instances.{Held, AreInstances}, Network.FlatNet.{IsFlat}}
+use Rattle.fb_wiring.specs.{Network.SystemFlat.{IsSystemFlat}, Network.declared.application.FlatApplication.{FlatApplication}, ByName.{declared}}
 use Rattle.fb_wiring.specs.declared.systems.Application.{Application}
-use Rattle.fb_flatten.specs.Blocking.{AreThose}
-use Rattle.fb_flatten.specs.Net.{PlainNet, blocked, recursive, too_large, flat_net, IsNet}
-use Rattle.fb_flatten.specs.Laws.{OneNet}
 use Rattle.fb_wiring.specs.Units.{AreFlatApplications, NoApplication, ThenApplication, Holds, IsTooLarge, IsWithinLimit, IsUnitFlat, OfSubapplication, OfSystem, own_instances}
+use Rattle.fb_wiring.proofs.{Network.BlockLemmas.{same_instances}, Network.OneFlat.{same_flat}, Network.SameSorted.{same_sorted}}
+use Rattle.fb_flatten.specs.{Blocking.{AreThose}, Net.{PlainNet, blocked, recursive, too_large, flat_net, IsNet}, Laws.{OneNet}}
 
 same_names : {sources : Sources} {unit : List ℕ} {property : List ℕ → Type 0} (xs ys : List (List ℕ)) → AreThose sources unit property xs → AreThose sources unit property ys → xs ≡ ys
 same_names xs ys p q = same_sorted nat_list_cmp_total xs ys p.sorted q.sorted (λ v c. (q.members v).1 ((p.members v).0 c)) (λ v c. (p.members v).1 ((q.members v).0 c))

@@ -1,16 +1,10 @@
 -- What rests on what, and the tree of a text without faults.
 use Rattle.std.proofs.Common.{ℕ, ◌≡◌, List, [], ◌∷◌, Option, Some, None, refl, ◌∙◌, ap}
-use Rattle.std.specs.Prelude.{Contains, ◌≢◌}
-use Rattle.std.specs.Option.{option_and_then}
-use Rattle.std.specs.FinMap.{get}
-use Rattle.fb_wiring.specs.Tree.Tree.{DeclTree}
-use Rattle.fb_wiring.specs.Parse.Body.{BodyTree, Whole, BrokenAt, body_of}
-use Rattle.fb_wiring.specs.Library.View.{Sources, tree_at, tree_in, tree_of, parts_at}
-use Rattle.fb_wiring.specs.Library.Rests.{PartRests, on_itself, through_part}
-use Rattle.fb_wiring.specs.Iface.declared.code.Code.TheVariants.{Syntax}
-use Rattle.fb_wiring.specs.Iface.declared.fault.Fault.{Fault}
+use Rattle.std.specs.{Prelude.{Contains, ◌≢◌}, Option.{option_and_then}, FinMap.{get}}
+use Rattle.fb_wiring.specs.{Tree.Tree.{DeclTree}, Parse.Body.{BodyTree, Whole, BrokenAt, body_of}, Library.View.{Sources, tree_at, tree_in, tree_of, parts_at}}
+use Rattle.fb_wiring.specs.{Library.Rests.{PartRests, on_itself, through_part}, Iface.declared.code.Code.TheVariants.{Syntax}}
+use Rattle.fb_wiring.specs.{Iface.declared.fault.Fault.{Fault}, Reaches.{Reaches, directly, onward}}
 use Rattle.fb_faults.specs.Faults.{faults_of, syntax_faults_of, text_faults, body_faults}
-use Rattle.fb_wiring.specs.Reaches.{Reaches, directly, onward}
 use Rattle.fb_flatten.proofs.NothingLemmas.{nothing_reported}
 
 -- the unit has a tree

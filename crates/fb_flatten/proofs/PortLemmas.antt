@@ -1,35 +1,24 @@
 -- By sort and name, the ports in plain are those that the checks of networks find.
 use Rattle.std.proofs.Common.{◌≡◌, ℕ, Bool, true, false, cond, ◌&&◌, List, [], ◌∷◌, ◌++◌, map, Option, Some, None, option_map, refl, sym, ap, ◌∙◌, subst}
 use Rattle.std.proofs.lemmas.List.Folds.{find-append}
-use Rattle.std.specs.List.{cons_option, filter, filter_map, find}
-use Rattle.std.specs.Option.{option_and_then, option_or}
+use Rattle.std.specs.{List.{cons_option, filter, filter_map, find}, Option.{option_and_then, option_or}}
 use Rattle.fb_wiring.specs.Tree.Tree.{DeclTree, block_type, adapter_type, subapplication_type, system_configuration, structure_type}
-use Rattle.fb_wiring.specs.Tree.declared.interface.Section.{Section}
-use Rattle.fb_wiring.specs.Tree.declared.interface.Section.TheVariants as sections
-use Rattle.fb_wiring.specs.Tree.declared.interface.Side.{Side}
-use Rattle.fb_wiring.specs.Tree.declared.interface.Side.TheVariants.{Input, Output}
-use Rattle.fb_wiring.specs.Tree.declared.network.Role.{Role}
-use Rattle.fb_wiring.specs.Tree.declared.network.Role.TheVariants as roles
-use Rattle.fb_wiring.specs.Tree.declared.network.Sort.{Sort}
-use Rattle.fb_wiring.specs.Tree.declared.network.Sort.TheVariants as sorts
+use Rattle.fb_wiring.specs.{Tree.declared.interface.Section.{Section}, Tree.declared.interface.Side.{Side}}
+use Rattle.fb_wiring.specs.{Tree.declared.interface.Side.TheVariants.{Input, Output}, Tree.declared.network.Role.{Role}, Tree.declared.network.Sort.{Sort}}
 use Rattle.fb_wiring.specs.Iface.Names.{is_same, stands_for}
 use Rattle.fb_wiring.specs.Iface.Ports.{Meanings, data_on, events_in, events_on, instances_as, instances_in, meanings_in, same_role, same_side, variables_in}
-use Rattle.fb_wiring.specs.Iface.Sides.{is_data_on}
-use Rattle.fb_wiring.specs.Iface.declared.ports.DeclaredEvent.{DeclaredEvent}
-use Rattle.fb_wiring.specs.Iface.declared.ports.DeclaredInstance.{DeclaredInstance}
-use Rattle.fb_wiring.specs.Iface.declared.ports.DeclaredVariable.{DeclaredVariable}
-use Rattle.fb_wiring.proofs.Iface.TreeLemmas.{map_itself}
-use Rattle.fb_faults.specs.Netcheck.Ends.{adapter_port, data_port, event_port, port_in, port_in_role, port_in_section}
-use Rattle.fb_faults.specs.Netcheck.declared.ends.Flow.{Flow}
-use Rattle.fb_faults.specs.Netcheck.declared.ends.Flow.TheVariants as flows
-use Rattle.fb_faults.specs.Netcheck.declared.ends.Port.{Port as JudgedPort}
-use Rattle.fb_wiring.specs.Network.Clean.{port_named}
-use Rattle.fb_wiring.specs.Network.Sorts.{same_sort}
-use Rattle.fb_wiring.specs.Network.declared.network.Port.{Port}
-use Rattle.fb_wiring.specs.Networks.{network_of}
+use Rattle.fb_wiring.specs.{Iface.Sides.{is_data_on}, Iface.declared.ports.DeclaredEvent.{DeclaredEvent}}
+use Rattle.fb_wiring.specs.{Iface.declared.ports.DeclaredInstance.{DeclaredInstance}, Iface.declared.ports.DeclaredVariable.{DeclaredVariable}}
+use Rattle.fb_wiring.specs.{Network.Clean.{port_named}, Network.Sorts.{same_sort}, Network.declared.network.Port.{Port}, Networks.{network_of}}
 use Rattle.fb_wiring.specs.Ports.{plain_adapter, plain_data, plain_event, plain_ports}
-use Rattle.fb_flatten.proofs.Finding.{found_by_name, found_nowhere}
-use Rattle.fb_flatten.proofs.FirstOnes.{Distinct, first_ones-distinct}
+use Rattle.fb_wiring.specs.Tree.declared.interface.Section.TheVariants as sections
+use Rattle.fb_wiring.specs.Tree.declared.network.Role.TheVariants as roles
+use Rattle.fb_wiring.specs.Tree.declared.network.Sort.TheVariants as sorts
+use Rattle.fb_wiring.proofs.Iface.TreeLemmas.{map_itself}
+use Rattle.fb_faults.specs.{Netcheck.Ends.{adapter_port, data_port, event_port, port_in, port_in_role, port_in_section}, Netcheck.declared.ends.Flow.{Flow}}
+use Rattle.fb_faults.specs.Netcheck.declared.ends.Port.{Port as JudgedPort}
+use Rattle.fb_faults.specs.Netcheck.declared.ends.Flow.TheVariants as flows
+use Rattle.fb_flatten.proofs.{Finding.{found_by_name, found_nowhere}, FirstOnes.{Distinct, first_ones-distinct}}
 
 abbrev pub plain_flow : Flow → Option (List ℕ)
 plain_flow flows.Event = None

@@ -1,27 +1,15 @@
 -- What is left to look at where nets are kept.
 use Rattle.std.proofs.Common.{ℕ, ◌≡◌, ◌<◌, Bool, true, false, not, cond, ◌||◌, List, [], Option, Some, None, inl, inr, refl, sym, ◌∙◌, ap, subst, take, get_or, length}
-use Rattle.std.proofs.lemmas.Bool.{false≢true, or_right}
-use Rattle.std.proofs.lemmas.List.{get_or_default}
-use Rattle.std.specs.Prelude.{Contains, ◌≢◌, ◌↔◌, ◌⊎◌}
-use Rattle.std.specs.BTreeMap.{is_at}
-use Rattle.std.specs.FinMap.{get}
-use Rattle.fb_wiring.proofs.Text.Tests.{by_bool}
-use Rattle.fb_wiring.specs.Text.Order.{name_cmp}
-use Rattle.fb_wiring.specs.Library.View.{Sources, parts_at}
-use Rattle.fb_wiring.specs.Library.Rests.{Rests, itself, through, PartRests, on_itself, through_part}
-use Rattle.fb_wiring.proofs.Text.Members.{contains_nothing}
+use Rattle.std.proofs.{lemmas.Bool.{false≢true, or_right}, lemmas.List.{get_or_default}}
+use Rattle.std.specs.{Prelude.{Contains, ◌≢◌, ◌↔◌, ◌⊎◌}, BTreeMap.{is_at}, FinMap.{get}}
+use Rattle.fb_wiring.proofs.{Text.Tests.{by_bool}, Text.Members.{contains_nothing}, Library.Locality.{part_mention, parts_rest, rests_both}}
+use Rattle.fb_wiring.proofs.{Network.Equals.{bytes_same}, LeftLemmas.{get_left}}
+use Rattle.fb_wiring.specs.{Text.Order.{name_cmp}, Library.View.{Sources, parts_at}, Library.Rests.{Rests, itself, through, PartRests, on_itself, through_part}}
 use Rattle.fb_wiring.specs.Order.{IsOrdered}
 use Rattle.fb_wiring.specs.Reaches.{Reaches, directly, onward, IsRecursive, RestsOnRecursive, PartRestsOnRecursive, SomePartRestsOnRecursive}
-use Rattle.fb_wiring.proofs.Library.Locality.{part_mention, parts_rest, rests_both}
-use Rattle.fb_wiring.proofs.Network.Equals.{bytes_same}
-use Rattle.fb_wiring.proofs.LeftLemmas.{get_left}
-use Rattle.fb_flatten.specs.Hints.{AreRightHints, is_left, is_whole_hint, left_of}
-use Rattle.fb_flatten.specs.Net.{PlainNet, IsSound, IsWhole}
-use Rattle.fb_flatten.specs.Suspects.{AreFinite}
+use Rattle.fb_flatten.specs.{Hints.{AreRightHints, is_left, is_whole_hint, left_of}, Net.{PlainNet, IsSound, IsWhole}, Suspects.{AreFinite}}
 use Rattle.fb_flatten.specs.Tables.{IsUnitOrder}
-use Rattle.fb_flatten.proofs.Depths.{rests_of_reach}
-use Rattle.fb_flatten.proofs.HintLemmas.{is_of_not, known_sound}
-use Rattle.fb_flatten.proofs.KeptLemmas.{part_kept, reaches_within, rests_within}
+use Rattle.fb_flatten.proofs.{Depths.{rests_of_reach}, HintLemmas.{is_of_not, known_sound}, KeptLemmas.{part_kept, reaches_within, rests_within}}
 use Rattle.fb_flatten.proofs.SoundLemmas.{sound_below, sound_where}
 
 or_false : (a b : Bool) → (a || b) ≡ false → b ≡ false

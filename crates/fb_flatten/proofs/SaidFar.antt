@@ -1,22 +1,14 @@
 -- What nets take of the texts that a unit rests on, but for faults: what these mention, and what they say to networks.
 use Rattle.std.proofs.Common.{ℕ, ◌≡◌, List, [], sym, ◌∙◌, ◌++◌, ap, subst}
 use Rattle.std.specs.Prelude.{Contains}
-use Rattle.fb_wiring.specs.Library.View.{Sources, mentions_at, parts_at, tree_at}
-use Rattle.fb_wiring.specs.Library.Rests.{Rests, itself, through}
-use Rattle.fb_wiring.proofs.Library.Locality.{part_mention, rests_more}
-use Rattle.fb_wiring.specs.Reaches.{IsRecursive, Reaches, directly, onward}
-use Rattle.fb_wiring.specs.Network.PlainFlat.{PlainFlat}
-use Rattle.fb_wiring.specs.Network.Instances.{Held}
-use Rattle.fb_wiring.proofs.Text.Members.{contains_here, contains_later}
-use Rattle.fb_wiring.specs.Network.declared.application.FlatApplication.{FlatApplication}
-use Rattle.fb_wiring.specs.ByName.{declared}
-use Rattle.fb_wiring.specs.Local.{SaysSame}
+use Rattle.fb_wiring.specs.{Library.View.{Sources, mentions_at, parts_at, tree_at}, Library.Rests.{Rests, itself, through}}
+use Rattle.fb_wiring.specs.{Reaches.{IsRecursive, Reaches, directly, onward}, Network.PlainFlat.{PlainFlat}, Network.Instances.{Held}}
+use Rattle.fb_wiring.specs.{Network.declared.application.FlatApplication.{FlatApplication}, ByName.{declared}, Local.{SaysSame}}
 use Rattle.fb_wiring.specs.declared.systems.Application.{Application}
-use Rattle.fb_flatten.specs.Blocking.{AreThose, IsPartBelow}
-use Rattle.fb_flatten.specs.Locality.{Within, IsClosed, SameNetworks}
 use Rattle.fb_wiring.specs.Units.{AreFlatApplications, NoApplication, ThenApplication, Holds, IsTooLarge, IsWithinLimit, IsUnitFlat, OfSubapplication, OfSystem}
-use Rattle.fb_flatten.proofs.FlatLocality.{instances_there, same_flats}
-use Rattle.fb_flatten.proofs.MentionLemmas.{applications_within, declared_within, own_within}
+use Rattle.fb_wiring.proofs.{Library.Locality.{part_mention, rests_more}, Text.Members.{contains_here, contains_later}}
+use Rattle.fb_flatten.specs.{Blocking.{AreThose, IsPartBelow}, Locality.{Within, IsClosed, SameNetworks}}
+use Rattle.fb_flatten.proofs.{FlatLocality.{instances_there, same_flats}, MentionLemmas.{applications_within, declared_within, own_within}}
 
 -- under each name that the unit rests on both say the same
 abbrev pub SaysSameFar : Sources → Sources → List ℕ → Type 0

@@ -1,21 +1,11 @@
 -- What is known of a unit that nothing blocks, and of which none of what it rests on reaches itself.
 use Rattle.std.proofs.Common.{ℕ, ◌≡◌, List, [], Some, None, inl, inr, subst}
-use Rattle.std.specs.Prelude.{Contains, ◌≢◌}
-use Rattle.std.specs.FinMap.{get}
-use Rattle.std.specs.List.Sorted.{IsStrictlySortedBy}
-use Rattle.fb_wiring.specs.Text.Order.{name_cmp}
-use Rattle.fb_wiring.specs.Library.View.{Sources, parts_at}
-use Rattle.fb_wiring.specs.Library.Rests.{Rests, itself, PartRests, on_itself, through_part}
-use Rattle.fb_wiring.proofs.Library.Locality.{parts_rest, rests_both}
-use Rattle.fb_wiring.proofs.Text.Members.{contains_nothing}
-use Rattle.fb_wiring.specs.Reaches.{IsRecursive}
-use Rattle.fb_wiring.specs.Network.Plain.{PlainNetwork}
-use Rattle.fb_wiring.specs.Network.Clean.{IsCleanThroughout}
-use Rattle.fb_wiring.specs.ByName.{declared}
-use Rattle.fb_flatten.specs.Blocking.{AreThose, IsBlocking}
-use Rattle.fb_flatten.specs.Net.{IsSound, IsWhole}
-use Rattle.fb_flatten.proofs.ComputedNets.{done, present_below, unit_faultless}
-use Rattle.fb_flatten.proofs.OrderLemmas.{HasTree, reaches_part, tree_of_faultless}
+use Rattle.std.specs.{Prelude.{Contains, ◌≢◌}, FinMap.{get}, List.Sorted.{IsStrictlySortedBy}}
+use Rattle.fb_wiring.specs.{Text.Order.{name_cmp}, Library.View.{Sources, parts_at}, Library.Rests.{Rests, itself, PartRests, on_itself, through_part}}
+use Rattle.fb_wiring.specs.{Reaches.{IsRecursive}, Network.Plain.{PlainNetwork}, Network.Clean.{IsCleanThroughout}, ByName.{declared}}
+use Rattle.fb_wiring.proofs.{Library.Locality.{parts_rest, rests_both}, Text.Members.{contains_nothing}}
+use Rattle.fb_flatten.specs.{Blocking.{AreThose, IsBlocking}, Net.{IsSound, IsWhole}}
+use Rattle.fb_flatten.proofs.{ComputedNets.{done, present_below, unit_faultless}, OrderLemmas.{HasTree, reaches_part, tree_of_faultless}}
 
 pub no_names_sorted : IsStrictlySortedBy name_cmp []
 unfolding IsStrictlySortedBy

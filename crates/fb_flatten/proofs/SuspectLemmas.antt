@@ -1,30 +1,17 @@
 -- The walk to the names among which those that block a unit, or reach themselves, are looked for.
 use Rattle.std.proofs.Common.{◌≡◌, ℕ, ◌+◌, ◌<◌, Bool, true, false, if◌then◌else◌, ◌||◌, ◌⊎◌, inl, inr, List, [], ◌∷◌, ◌++◌, length, Option, Some, None, refl, sym, ap, subst, ◌∙◌, arith}
 use Rattle.std.proofs.lemmas.Bool.{false≢true, or_left, or_right}
-use Rattle.std.specs.Prelude.{Contains, ◌≢◌, filter}
-use Rattle.std.specs.FinMap.{get}
-use Rattle.std.specs.Ordering.{eq_by_cmp}
-use Rattle.fb_wiring.proofs.Text.Tests.{no_both, by_bool, or_cases}
-use Rattle.fb_wiring.specs.Text.Order.{name_cmp}
-use Rattle.fb_wiring.specs.Library.View.{Sources, mentions_at, mentions_in, parts_at, tree_at}
-use Rattle.fb_wiring.specs.Library.Near.{in_all_trees}
-use Rattle.fb_wiring.specs.Library.Rests.{Rests, itself, through}
-use Rattle.fb_wiring.specs.Library.Seen.{Opens, has_name, unseen}
-use Rattle.fb_wiring.specs.Reaches.{IsRecursive}
-use Rattle.fb_wiring.proofs.Text.Members.{contains_nothing}
-use Rattle.fb_wiring.proofs.Library.Locality.{part_mention, rests_more}
+use Rattle.std.specs.{Prelude.{Contains, ◌≢◌, filter}, FinMap.{get}, Ordering.{eq_by_cmp}}
+use Rattle.fb_wiring.proofs.{Text.Tests.{no_both, by_bool, or_cases}, Text.Members.{contains_nothing}, Library.Locality.{part_mention, rests_more}}
 use Rattle.fb_wiring.proofs.Library.WalkLemmas.{Contains-has, has-Contains, has-push, longer, mentioned_somewhere}
-use Rattle.fb_faults.specs.Faults.{faults_of}
-use Rattle.fb_flatten.specs.Blocking.{AreThose, IsBlocking, IsPartBelow, is_blocking}
-use Rattle.fb_flatten.specs.Hints.{AreRightHints, is_whole_hint}
-use Rattle.fb_flatten.specs.Net.{PlainNet}
-use Rattle.fb_flatten.specs.Suspects.{AreSuspects, mentions_beyond, parts_beyond, is_part_beyond}
-use Rattle.fb_flatten.proofs.Depths.{same_is, same_self, some_of, some_passes}
-use Rattle.fb_flatten.proofs.HintLemmas.{known_sound}
-use Rattle.fb_flatten.proofs.NetLemmas.{blocking_those}
-use Rattle.fb_flatten.proofs.OrderLemmas.{present_of_tree}
-use Rattle.fb_wiring.specs.Tree.Tree.{DeclTree}
+use Rattle.fb_wiring.specs.{Text.Order.{name_cmp}, Library.View.{Sources, mentions_at, mentions_in, parts_at, tree_at}, Library.Near.{in_all_trees}}
+use Rattle.fb_wiring.specs.{Library.Rests.{Rests, itself, through}, Library.Seen.{Opens, has_name, unseen}, Reaches.{IsRecursive}, Tree.Tree.{DeclTree}}
 use Rattle.fb_wiring.specs.Units.{has_net_in}
+use Rattle.fb_faults.specs.Faults.{faults_of}
+use Rattle.fb_flatten.specs.{Blocking.{AreThose, IsBlocking, IsPartBelow, is_blocking}, Hints.{AreRightHints, is_whole_hint}, Net.{PlainNet}}
+use Rattle.fb_flatten.specs.Suspects.{AreSuspects, mentions_beyond, parts_beyond, is_part_beyond}
+use Rattle.fb_flatten.proofs.{Depths.{same_is, same_self, some_of, some_passes}, HintLemmas.{known_sound}, NetLemmas.{blocking_those}}
+use Rattle.fb_flatten.proofs.OrderLemmas.{present_of_tree}
 
 abbrev same : List ℕ → List ℕ → Bool
 same = eq_by_cmp name_cmp

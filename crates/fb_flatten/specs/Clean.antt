@@ -1,17 +1,11 @@
 -- What units without faults keep of their networks.
 use Rattle.std.specs.Prelude.{◌≡◌, ℕ, ◌<◌, List, [], Option, Some, Contains, find, slice_get}
-use Rattle.fb_wiring.specs.Tree.declared.kinds.UnitKind.{UnitKind}
-use Rattle.fb_wiring.specs.Tree.declared.kinds.UnitKind.TheVariants as kinds
-use Rattle.fb_wiring.specs.Library.View.{Sources}
-use Rattle.fb_wiring.specs.Iface.Names.{is_same}
-use Rattle.fb_faults.specs.Faults.{faults_of}
-use Rattle.fb_wiring.specs.Network.Clean.{IsClean}
-use Rattle.fb_wiring.specs.Network.Plain.{PlainNetwork}
-use Rattle.fb_wiring.specs.Network.declared.network.Instance.{Instance}
-use Rattle.fb_wiring.specs.Network.declared.network.InstanceKind.{InstanceKind}
-use Rattle.fb_wiring.specs.Network.declared.network.InstanceKind.TheVariants.{Block, Subapplication}
-use Rattle.fb_wiring.specs.ByName.{applications_at, declared, kind_at}
+use Rattle.fb_wiring.specs.{Tree.declared.kinds.UnitKind.{UnitKind}, Library.View.{Sources}, Iface.Names.{is_same}, Network.Clean.{IsClean}}
+use Rattle.fb_wiring.specs.{Network.Plain.{PlainNetwork}, Network.declared.network.Instance.{Instance}, Network.declared.network.InstanceKind.{InstanceKind}}
+use Rattle.fb_wiring.specs.{Network.declared.network.InstanceKind.TheVariants.{Block, Subapplication}, ByName.{applications_at, declared, kind_at}}
 use Rattle.fb_wiring.specs.declared.systems.Application.{Application}
+use Rattle.fb_wiring.specs.Tree.declared.kinds.UnitKind.TheVariants as kinds
+use Rattle.fb_faults.specs.Faults.{faults_of}
 
 -- the kind that an instance wants of its type
 abbrev pub wanted_kind : InstanceKind → UnitKind

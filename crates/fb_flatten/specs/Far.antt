@@ -1,8 +1,6 @@
 -- What a unit rests on, as a list.
 use Rattle.std.specs.Prelude.{◌≡◌, ℕ, List, [], ◌∷◌}
-use Rattle.fb_wiring.specs.Library.View.{Sources, mentions_at, mentions_in, parts_at, parts_in}
-use Rattle.fb_wiring.specs.Library.Near.{in_all_trees}
-use Rattle.fb_wiring.specs.Library.Opened.{led_from}
+use Rattle.fb_wiring.specs.{Library.View.{Sources, mentions_at, mentions_in, parts_at, parts_in}, Library.Near.{in_all_trees}, Library.Opened.{led_from}}
 use Rattle.fb_wiring.specs.Library.Local.{AgreeFar, IsFar}
 
 -- the names that the unit rests on, in order, each once

@@ -1,13 +1,8 @@
 -- Nets of units that others rest on.
 use Rattle.std.specs.Prelude.{ℕ, ◌≡◌, ◌≤◌, List, Option, Some}
-use Rattle.fb_wiring.specs.Library.View.{Sources}
-use Rattle.fb_wiring.specs.Library.Rests.{Rests}
-use Rattle.fb_wiring.specs.Network.declared.count.TheConstants.{INSTANCE_LIMIT}
-use Rattle.fb_wiring.specs.Network.PlainFlat.{PlainFlat}
+use Rattle.fb_wiring.specs.{Library.View.{Sources}, Library.Rests.{Rests}, Network.declared.count.TheConstants.{INSTANCE_LIMIT}, Network.PlainFlat.{PlainFlat}}
 use Rattle.fb_wiring.specs.Network.Ready.{Nets}
-use Rattle.fb_flatten.specs.Net.{flat_net, plain_net}
-use Rattle.fb_flatten.specs.Nets.{net_at}
-use Rattle.fb_flatten.specs.declared.inner.Inner.{Inner}
+use Rattle.fb_flatten.specs.{Net.{flat_net, plain_net}, Nets.{net_at}, declared.inner.Inner.{Inner}}
 
 -- the net of a unit that the unit rests on
 pub record IsInnerNet (sources : Sources) (unit : List ℕ) (it : Inner) : Type 0 where

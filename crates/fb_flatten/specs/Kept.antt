@@ -1,15 +1,9 @@
 -- Nets that texts leave as they were.
-use Rattle.std.specs.Prelude.{◌≡◌, ◌⊎◌, ℕ, true, List, [], None, Some}
-use Rattle.std.specs.FinMap.{get}
-use Rattle.fb_wiring.specs.Library.View.{Sources, tree_at}
-use Rattle.fb_wiring.specs.Library.Rests.{Rests}
-use Rattle.fb_wiring.specs.ByName.{kind_at}
-use Rattle.fb_wiring.specs.Local.{SaysSame}
-use Rattle.fb_wiring.specs.Tree.declared.kinds.UnitKind.TheVariants.{Block}
-use Rattle.fb_wiring.specs.Hints.{is_whole_net}
+use Rattle.std.specs.{Prelude.{◌≡◌, ◌⊎◌, ℕ, true, List, [], None, Some}, FinMap.{get}}
+use Rattle.fb_wiring.specs.{Library.View.{Sources, tree_at}, Library.Rests.{Rests}, ByName.{kind_at}, Local.{SaysSame}}
+use Rattle.fb_wiring.specs.{Tree.declared.kinds.UnitKind.TheVariants.{Block}, Hints.{is_whole_net}}
 use Rattle.fb_faults.specs.Faults.{faults_of}
-use Rattle.fb_flatten.specs.Net.{PlainNet}
-use Rattle.fb_flatten.specs.Nets.{net_at}
+use Rattle.fb_flatten.specs.{Net.{PlainNet}, Nets.{net_at}}
 
 -- The text under the name is what it was, or that of a block type still; it says the same as before to what rests on it, has no faults, and is not
 -- absent unless it was.

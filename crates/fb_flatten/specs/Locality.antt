@@ -1,12 +1,7 @@
 -- What the flat network of a network depends on.
 use Rattle.std.specs.Prelude.{ℕ, ◌≡◌, ◌↔◌, List, Some, Contains}
-use Rattle.fb_wiring.specs.Network.declared.network.Port.{Port}
-use Rattle.fb_wiring.specs.Network.declared.network.Instance.{Instance}
-use Rattle.fb_wiring.specs.Network.Plain.{PlainNetwork}
-use Rattle.fb_wiring.specs.Network.PlainFlat.{PlainFlat}
-use Rattle.fb_wiring.specs.Network.Network.{View}
-use Rattle.fb_wiring.specs.Network.Instances.{Held, AreInstances}
-use Rattle.fb_wiring.specs.Network.Count.{IsCount}
+use Rattle.fb_wiring.specs.{Network.declared.network.Port.{Port}, Network.declared.network.Instance.{Instance}, Network.Plain.{PlainNetwork}}
+use Rattle.fb_wiring.specs.{Network.PlainFlat.{PlainFlat}, Network.Network.{View}, Network.Instances.{Held, AreInstances}, Network.Count.{IsCount}}
 use Rattle.fb_wiring.specs.Network.FlatNet.{IsFlat}
 
 -- each instance has its type, and each plug or socket its adapter, among those names

@@ -1,12 +1,8 @@
 -- The net of a unit: its flat network, or why it has none.
-use Rattle.std.specs.Prelude.{ℕ, ◌≢◌, List, [], None}
-use Rattle.std.specs.FinMap.{get}
-use Rattle.fb_wiring.specs.Library.View.{Sources}
-use Rattle.fb_wiring.specs.Reaches.{IsRecursive}
-use Rattle.fb_wiring.specs.Network.PlainFlat.{PlainFlat}
+use Rattle.std.specs.{Prelude.{ℕ, ◌≢◌, List, [], None}, FinMap.{get}}
+use Rattle.fb_wiring.specs.{Library.View.{Sources}, Reaches.{IsRecursive}, Network.PlainFlat.{PlainFlat}, Units.{IsTooLarge, IsWithinLimit, IsUnitFlat}}
 pub use Rattle.fb_wiring.specs.Net.{PlainNet, blocked, recursive, too_large, flat_net, plain_net}
 use Rattle.fb_flatten.specs.Blocking.{IsBlocking, AreThose}
-use Rattle.fb_wiring.specs.Units.{IsTooLarge, IsWithinLimit, IsUnitFlat}
 
 -- nothing blocks the unit: all that it rests on is without faults, and all parts of that are present
 abbrev pub IsWhole : Sources → List ℕ → Type 0

@@ -1,16 +1,9 @@
 -- Names among which those that block a unit, or reach themselves, are looked for.
-use Rattle.std.specs.Prelude.{◌≡◌, ℕ, Bool, true, false, if◌then◌else◌, List, [], Option, None, Contains}
-use Rattle.std.specs.List.{list_any}
-use Rattle.std.specs.FinMap.{get}
+use Rattle.std.specs.{Prelude.{◌≡◌, ℕ, Bool, true, false, if◌then◌else◌, List, [], Option, None, Contains}, List.{list_any}, FinMap.{get}}
 use Rattle.std.specs.List.Sorted.{IsStrictlySortedBy}
-use Rattle.fb_wiring.specs.Text.Order.{name_cmp}
-use Rattle.fb_wiring.specs.Library.Seen.{has_name}
-use Rattle.fb_wiring.specs.Library.View.{Sources, mentions_at, parts_at}
-use Rattle.fb_wiring.specs.Library.Rests.{Rests}
+use Rattle.fb_wiring.specs.{Text.Order.{name_cmp}, Library.Seen.{has_name}, Library.View.{Sources, mentions_at, parts_at}, Library.Rests.{Rests}}
 use Rattle.fb_wiring.specs.Reaches.{IsRecursive, SomePartRestsOnRecursive}
-use Rattle.fb_flatten.specs.Blocking.{IsBlocking, IsPartBelow}
-use Rattle.fb_flatten.specs.Hints.{is_whole_hint}
-use Rattle.fb_flatten.specs.Net.{PlainNet}
+use Rattle.fb_flatten.specs.{Blocking.{IsBlocking, IsPartBelow}, Hints.{is_whole_hint}, Net.{PlainNet}}
 
 -- what the name mentions; nothing where its kept net tells that nothing blocks it and none of what it rests on reaches itself
 abbrev pub mentions_beyond : (List ℕ → Option PlainNet) → Sources → List ℕ → List (List ℕ)

@@ -1,8 +1,7 @@
 //! What keeps a unit from having a flat network.
 ghost use Rattle.std.specs.Prelude.{◌≡◌, IfOk, filter};
 ghost use Rattle.fb_wiring.specs.Library.Seen.{has_name};
-ghost use Rattle.fb_flatten.specs.Blocking.{is_blocking, is_some_name};
-ghost use Rattle.fb_flatten.specs.Hints.{AreFaultless, AreRightHints};
+ghost use Rattle.fb_flatten.specs.{Blocking.{is_blocking, is_some_name}, Hints.{AreFaultless, AreRightHints}};
 
 use fb_faults::faults;
 use fb_wiring::library::View;

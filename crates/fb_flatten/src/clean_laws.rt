@@ -1,6 +1,5 @@
 //! Laws of units without faults.
-ghost use Rattle.fb_flatten.specs.Clean.{ApplicationsAreClean, NetworksAreClean};
-ghost use Rattle.fb_flatten.specs.Nothing.{NothingIsReported};
+ghost use Rattle.fb_flatten.specs.{Clean.{ApplicationsAreClean, NetworksAreClean}, Nothing.{NothingIsReported}};
 
 /// Of a unit without faults no check reports any.
 pub fn without_faults_nothing_is_reported()

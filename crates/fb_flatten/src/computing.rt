@@ -1,15 +1,8 @@
 //! The nets of units, with those that are found on the way.
 ghost use Rattle.std.specs.Prelude.{◌≡◌, ℕ, List, true, All, [], IfOk, IfSome, IsNone, Some, Contains, ◌↔◌, ◌⊎◌};
-ghost use Rattle.fb_wiring.specs.Library.Rests.{PartRests};
-ghost use Rattle.fb_wiring.specs.Order.{IsOrdered};
-ghost use Rattle.fb_wiring.specs.Reaches.{PartRestsOnRecursive, SomePartRestsOnRecursive};
-ghost use Rattle.fb_wiring.specs.Library.View.{tree_at};
-ghost use Rattle.fb_wiring.specs.Units.{HasNet, has_net_in};
-ghost use Rattle.fb_flatten.specs.Hints.{AreFaultless, AreRightHints};
-ghost use Rattle.fb_flatten.specs.Inner.{IsInnerNet};
-ghost use Rattle.fb_flatten.specs.Net.{IsNet, plain_net};
-ghost use Rattle.fb_flatten.specs.Nets.{net_at};
-ghost use Rattle.fb_flatten.specs.Suspects.{AreFinite};
+ghost use Rattle.fb_wiring.specs.{Library.Rests.{PartRests}, Order.{IsOrdered}, Reaches.{PartRestsOnRecursive, SomePartRestsOnRecursive}};
+ghost use Rattle.fb_wiring.specs.{Library.View.{tree_at}, Units.{HasNet, has_net_in}};
+ghost use Rattle.fb_flatten.specs.{Hints.{AreFaultless, AreRightHints}, Inner.{IsInnerNet}, Net.{IsNet, plain_net}, Nets.{net_at}, Suspects.{AreFinite}};
 ghost use Rattle.fb_flatten.specs.Tables.{IsUnitOrder};
 
 use crate::blocking::{blocking, has_some};

@@ -1,13 +1,7 @@
 //! Counts of what a unit rests on.
-ghost use Rattle.std.specs.Prelude.{ℕ, List, Contains, IfOk};
-ghost use Rattle.std.specs.BTreeMap.{get};
-ghost use Rattle.fb_wiring.specs.Holders.{holders_of};
-ghost use Rattle.fb_wiring.specs.Library.View.{parts_at};
-ghost use Rattle.fb_wiring.specs.Order.{IsOrdered};
-ghost use Rattle.fb_wiring.specs.Text.Order.{name_cmp};
-ghost use Rattle.fb_wiring.specs.Units.{HasNet};
-ghost use Rattle.fb_flatten.specs.Net.{IsSound};
-ghost use Rattle.fb_flatten.specs.Tables.{AllCounted, AreRightCounts};
+ghost use Rattle.std.specs.{Prelude.{ℕ, List, Contains, IfOk}, BTreeMap.{get}};
+ghost use Rattle.fb_wiring.specs.{Holders.{holders_of}, Library.View.{parts_at}, Order.{IsOrdered}, Text.Order.{name_cmp}, Units.{HasNet}};
+ghost use Rattle.fb_flatten.specs.{Net.{IsSound}, Tables.{AllCounted, AreRightCounts}};
 
 use fb_wiring::library::View;
 use fb_wiring::text::Name;

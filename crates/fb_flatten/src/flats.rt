@@ -1,9 +1,7 @@
 //! The flat networks of types whose inner types come first in an order.
-ghost use Rattle.std.specs.Prelude.{IfOk};
-ghost use Rattle.std.specs.BTreeMap.{get};
+ghost use Rattle.std.specs.{Prelude.{IfOk}, BTreeMap.{get}};
 ghost use Rattle.fb_wiring.specs.Text.Order.{name_cmp};
-ghost use Rattle.fb_flatten.specs.Hints.{AreRightHints};
-ghost use Rattle.fb_flatten.specs.Tables.{AllFinished, AreMissing, IsTable, IsUnitOrder, known_flats};
+ghost use Rattle.fb_flatten.specs.{Hints.{AreRightHints}, Tables.{AllFinished, AreMissing, IsTable, IsUnitOrder, known_flats}};
 
 use fb_wiring::library::View;
 use fb_wiring::plain::Flat;

@@ -1,6 +1,5 @@
 //! Nets of units that others rest on.
-ghost use Rattle.std.specs.Prelude.{◌≡◌, true, All, IfOk};
-ghost use Rattle.std.specs.BTreeMap.{get};
+ghost use Rattle.std.specs.{Prelude.{◌≡◌, true, All, IfOk}, BTreeMap.{get}};
 ghost use Rattle.fb_wiring.specs.Text.Order.{name_cmp};
 ghost use Rattle.fb_flatten.specs.Inner.{IsCountedFlat, IsCountedWithin};
 

@@ -1,8 +1,5 @@
 //! Laws of flat networks of units.
-ghost use Rattle.fb_flatten.specs.Far.{FarIsAll, FarOfIsLocal};
-ghost use Rattle.fb_flatten.specs.Kept.{NetIsLeft};
-ghost use Rattle.fb_flatten.specs.Laws.{NetIsLocal, OneNet};
-ghost use Rattle.fb_flatten.specs.Locality.{FlatNetworksAreLocal};
+ghost use Rattle.fb_flatten.specs.{Far.{FarIsAll, FarOfIsLocal}, Kept.{NetIsLeft}, Laws.{NetIsLocal, OneNet}, Locality.{FlatNetworksAreLocal}};
 ghost use Rattle.fb_flatten.specs.Nets.{HasNetByText, NetAtIsLocal, NetAtIsNet};
 
 /// The flat network of a network, and the number of its instances, depend only on the networks that it rests on.

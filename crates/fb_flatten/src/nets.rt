@@ -3,9 +3,7 @@
 //! Rattle makes a module for each file and item, and `net` would meet the type `Net` there.
 ghost use Rattle.std.specs.Prelude.{◌≡◌, IfOk, Some};
 ghost use Rattle.fb_wiring.specs.Units.{HasNet};
-ghost use Rattle.fb_flatten.specs.Hints.{AreRightHints};
-ghost use Rattle.fb_flatten.specs.Net.{IsNet, plain_net};
-ghost use Rattle.fb_flatten.specs.Nets.{net_at};
+ghost use Rattle.fb_flatten.specs.{Hints.{AreRightHints}, Net.{IsNet, plain_net}, Nets.{net_at}};
 
 use crate::computing::{Computed, compute};
 use fb_wiring::library::View;

@@ -1,10 +1,7 @@
 //! The names that can block a unit or reach themselves.
-ghost use Rattle.std.specs.Prelude.{◌≡◌, ℕ, List, None, ◌||◌, Contains, IfOk, OnOk, is_none};
-ghost use Rattle.std.specs.FinMap.{get};
-ghost use Rattle.std.specs.List.{list_any};
+ghost use Rattle.std.specs.{Prelude.{◌≡◌, ℕ, List, None, ◌||◌, Contains, IfOk, OnOk, is_none}, FinMap.{get}, List.{list_any}};
 ghost use Rattle.fb_wiring.specs.Library.Seen.{has_name, Opens};
-ghost use Rattle.fb_flatten.specs.Hints.{AreFaultless, AreRightHints};
-ghost use Rattle.fb_flatten.specs.Suspects.{AreSuspects, is_part_beyond, mentions_beyond, parts_beyond};
+ghost use Rattle.fb_flatten.specs.{Hints.{AreFaultless, AreRightHints}, Suspects.{AreSuspects, is_part_beyond, mentions_beyond, parts_beyond}};
 
 use fb_wiring::library::{View, names_of, open_new, part_mentions, value_mentions};
 use fb_wiring::text::Name;

@@ -1,11 +1,7 @@
 //! The instances and the flat networks of units whose inner types come first in an order.
-ghost use Rattle.std.specs.Prelude.{IfOk};
-ghost use Rattle.std.specs.BTreeMap.{get};
-ghost use Rattle.fb_wiring.specs.Library.View.{parts_at};
-ghost use Rattle.fb_wiring.specs.Text.Order.{name_cmp};
-ghost use Rattle.fb_wiring.specs.Units.{HasNet, IsUnitFlat, IsWithinLimit};
-ghost use Rattle.fb_flatten.specs.Hints.{AreRightHints};
-ghost use Rattle.fb_flatten.specs.Net.{IsSound};
+ghost use Rattle.std.specs.{Prelude.{IfOk}, BTreeMap.{get}};
+ghost use Rattle.fb_wiring.specs.{Library.View.{parts_at}, Text.Order.{name_cmp}, Units.{HasNet, IsUnitFlat, IsWithinLimit}};
+ghost use Rattle.fb_flatten.specs.{Hints.{AreRightHints}, Net.{IsSound}};
 ghost use Rattle.fb_flatten.specs.Tables.{AllCounted, AllFinished, AreMissing, IsTable, IsUnitCount, IsUnitOrder, known_flats};
 
 use crate::flats::missing_flats;

@@ -2,24 +2,14 @@
 use Rattle.std.proofs.Common.{◌≡◌, ℕ, zero, suc, ◌+◌, ◌-◌, Bool, true, false, cond, ◌&&◌, ◌||◌, ◌⊎◌, inl, inr, List, [], ◌∷◌, ◌++◌, length, Some, None, Result, Ok, Err, refl, sym, ◌∙◌, ap, subst, arith, length-append}
 use Rattle.std.proofs.lemmas.Bool.{and_parts, eqb-false, ne_eqb}
 use Rattle.fb_tree.proofs.Text.Tests.{not_true}
-use Rattle.fb_tree.specs.Text.Reads.{token_of}
-use Rattle.fb_tree.specs.Text.Tokens.{piece_at, piece_before, tokens_from, tokens_of, with_token}
-use Rattle.fb_tree.specs.Text.declared.scan.Piece.{Piece}
-use Rattle.fb_tree.specs.Text.declared.scan.Piece.TheVariants.{Gap, Unclosed, Found}
-use Rattle.fb_tree.specs.Text.declared.token.Span.{Span}
-use Rattle.fb_tree.specs.Text.declared.token.Token.{Token}
-use Rattle.fb_grammar.specs.declared.kind.Kind.{Kind}
-use Rattle.fb_grammar.specs.declared.kind.Kind.TheVariants.{End, NeverClosed}
-use Rattle.fb_grammar.specs.declared.lexeme.Lexeme.{Lexeme}
-use Rattle.fb_grammar.specs.Kind.{code_of, is_among, same_kind}
-use Rattle.fb_grammar.specs.Form.{Form, one, both, either, option, many, as_value, Spells, Prefix}
+use Rattle.fb_tree.specs.{Text.Reads.{token_of}, Text.Tokens.{piece_at, piece_before, tokens_from, tokens_of, with_token}, Text.declared.scan.Piece.{Piece}}
+use Rattle.fb_tree.specs.{Text.declared.scan.Piece.TheVariants.{Gap, Unclosed, Found}, Text.declared.token.Span.{Span}, Text.declared.token.Token.{Token}}
+use Rattle.fb_grammar.specs.{declared.kind.Kind.{Kind}, declared.kind.Kind.TheVariants.{End, NeverClosed}, declared.lexeme.Lexeme.{Lexeme}}
+use Rattle.fb_grammar.specs.{Kind.{code_of, is_among, same_kind}, Form.{Form, one, both, either, option, many, as_value, Spells, Prefix}}
 use Rattle.fb_grammar.specs.Reading.{is_nullable, first, are_apart, is_predictive, Outcome, ◌>>=◌, is_next, read_one, read_each, read}
 use Rattle.fb_grammar.specs.Lexemes.{lexeme_of, lexemes_in, lexemes_of}
 use Rattle.fb_grammar.specs.Upcoming.{closing, closing_at, pulled_before, pulled_from, tokens_to_end, unended, with_lexeme}
-use Rattle.fb_grammar.proofs.Forms.{Right, apart_among_left, right_read}
-use Rattle.fb_grammar.proofs.Loops.{enough}
-use Rattle.fb_grammar.proofs.PullLemmas.{lexeme-not_last}
-use Rattle.fb_grammar.proofs.Shapes.{among_append}
+use Rattle.fb_grammar.proofs.{Forms.{Right, apart_among_left, right_read}, Loops.{enough}, PullLemmas.{lexeme-not_last}, Shapes.{among_append}}
 
 -- no token of the form is of one of these kinds
 abbrev pub is_without : {A : Type 0} → List Kind → Form A → Bool

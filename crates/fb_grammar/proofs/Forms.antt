@@ -3,11 +3,8 @@ use Rattle.std.proofs.Common.{◌≡◌, ℕ, zero, suc, ◌≤◌, ◌<◌, Boo
 use Rattle.std.proofs.lemmas.Bool.{and_parts, or_left, or_right}
 use borrow.Author.Tests.{eqb-true}
 use Rattle.fb_tree.proofs.Text.Tests.{not_true}
-use Rattle.fb_grammar.specs.declared.kind.Kind.{Kind}
-use Rattle.fb_grammar.specs.declared.lexeme.Lexeme.{Lexeme}
-use Rattle.fb_grammar.specs.Kind.{is_among, same_kind, code_of}
-use Rattle.fb_grammar.specs.Form.{Form, one, both, either, option, many, as_value, Spells, SpellsEach, Prefix}
-use Rattle.fb_grammar.specs.Fault.{IsStuck, IsFault}
+use Rattle.fb_grammar.specs.{declared.kind.Kind.{Kind}, declared.lexeme.Lexeme.{Lexeme}, Kind.{is_among, same_kind, code_of}}
+use Rattle.fb_grammar.specs.{Form.{Form, one, both, either, option, many, as_value, Spells, SpellsEach, Prefix}, Fault.{IsStuck, IsFault}}
 use Rattle.fb_grammar.specs.Reading.{is_nullable, first, after, are_apart, is_predictive, Outcome, ◌>>=◌, is_next, read_one, read_each, read}
 
 -- Tests

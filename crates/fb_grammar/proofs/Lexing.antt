@@ -1,9 +1,7 @@
 -- The places of tokens as the grammar sees them.
-use Rattle.std.proofs.Common.{◌≡◌, List, [], ◌∷◌, ℕ, map, refl, ap, subst}
+use Rattle.std.proofs.{Common.{◌≡◌, List, [], ◌∷◌, ℕ, map, refl, ap, subst}, lemmas.List.Elements.{All-map}}
 use Rattle.std.specs.Prelude.{All}
-use Rattle.std.proofs.lemmas.List.Elements.{All-map}
-use Rattle.fb_tree.specs.Text.Tokens.{LiesIn, SpansRise, spans_of}
-use Rattle.fb_tree.specs.Text.declared.token.Token.{Token}
+use Rattle.fb_tree.specs.{Text.Tokens.{LiesIn, SpansRise, spans_of}, Text.declared.token.Token.{Token}}
 use Rattle.fb_grammar.specs.Lexemes.{lexeme_of}
 
 -- a token keeps its place

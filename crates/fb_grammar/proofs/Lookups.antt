@@ -1,17 +1,9 @@
 -- Words and symbols are found among those of their length.
 use Rattle.std.proofs.Common.{◌≡◌, ℕ, ◌≤◌, ◌<◌, Bool, true, ◌&&◌, ◌||◌, List, [], ◌∷◌, slice_index, refl, length, map, filter, Option, None, not, nat_eq, nat_le, nat_lt, arith, sym, ap, ◌∙◌, eq-eqb, false, Some, if◌then◌else◌, true≢false}
-use Rattle.std.specs.List.{list_all}
-use Rattle.std.specs.Map.{lookup}
-use Rattle.std.specs.Char.{to_ascii_lowercase}
-use Rattle.std.specs.Cmp.Lexicographic.{pointwise, same_text}
-use Rattle.std.proofs.lemmas.Bool.Decides.{nat_tests}
-use Rattle.std.proofs.lemmas.Bool.{and_parts}
-use Rattle.std.proofs.lemmas.List.{length-map}
-use Rattle.std.proofs.lemmas.Map.Entries.{lookup-filter-keys}
+use Rattle.std.proofs.{lemmas.Bool.Decides.{nat_tests}, lemmas.Bool.{and_parts}, lemmas.List.{length-map}, lemmas.Map.Entries.{lookup-filter-keys}}
+use Rattle.std.specs.{List.{list_all}, Map.{lookup}, Char.{to_ascii_lowercase}, Cmp.Lexicographic.{pointwise, same_text}}
 use Rattle.fb_tree.specs.Text.Forms.{same_word}
-use Rattle.fb_grammar.specs.declared.kind.Kind.{Kind}
-use Rattle.fb_grammar.specs.ReservedWords.{keyword, reserved_words, symbol, symbols}
-use Rattle.fb_grammar.specs.ByLength.{initial, words_between, symbols_of}
+use Rattle.fb_grammar.specs.{declared.kind.Kind.{Kind}, ReservedWords.{keyword, reserved_words, symbol, symbols}, ByLength.{initial, words_between, symbols_of}}
 
 same_length : (a b : List ℕ) → same_word a b ≡ true → length b ≡ length a
 unfolding same_word

@@ -1,16 +1,10 @@
 -- Reading several values one after the other, as a loop does.
 use Rattle.std.proofs.Common.{◌≡◌, ℕ, zero, suc, ◌≤◌, ◌<◌, Bool, true, false, cond, List, [], ◌∷◌, ◌++◌, length, map, Result, Ok, Err, IfOk, refl, sym, ap, ◌∙◌, subst, length-append, arith}
 use Rattle.std.proofs.lemmas.List.{append-nil, map_push}
-use Rattle.fb_grammar.specs.declared.kind.Kind.{Kind}
-use Rattle.fb_grammar.specs.declared.lexeme.Lexeme.{Lexeme}
-use Rattle.fb_grammar.specs.declared.stop.Stop.{Stop}
-use Rattle.fb_grammar.specs.declared.stop.Stop.TheVariants.{Memory, Broken}
-use Rattle.fb_grammar.specs.Form.{Form, many, Spells, Prefix}
-use Rattle.fb_grammar.specs.Reading.{Outcome, ◌>>=◌, is_nullable, first, is_next, read_each, read}
-use Rattle.fb_grammar.specs.Repetition.{with_prefix}
-use Rattle.fb_grammar.specs.Gives.{Fails, Gives}
-use Rattle.fb_grammar.proofs.Forms.{Right, right_read, length_of_spelling}
-use Rattle.fb_grammar.proofs.Repeating.{regroup}
+use Rattle.fb_grammar.specs.{declared.kind.Kind.{Kind}, declared.lexeme.Lexeme.{Lexeme}, declared.stop.Stop.{Stop}}
+use Rattle.fb_grammar.specs.{declared.stop.Stop.TheVariants.{Memory, Broken}, Form.{Form, many, Spells, Prefix}}
+use Rattle.fb_grammar.specs.{Reading.{Outcome, ◌>>=◌, is_nullable, first, is_next, read_each, read}, Repetition.{with_prefix}, Gives.{Fails, Gives}}
+use Rattle.fb_grammar.proofs.{Forms.{Right, right_read, length_of_spelling}, Repeating.{regroup}}
 
 -- reading takes a token at least
 pub shorter : {A : Type 0} (x : Form A) (ts : List Lexeme) (v : A) (mid : List Lexeme) → is_nullable x ≡ false → read x ts ≡ Ok (v, mid) → length mid < length ts

@@ -1,21 +1,14 @@
 -- Names are words.
 use Rattle.std.proofs.Common.{◌≡◌, ◌↔◌, ◌≤◌, ℕ, Bool, true, false, not, nat_eq, nat_lt, List, [], ◌∷◌, length, Option, Some, None, refl, sym, ap, ◌∙◌, true≢false, if◌then◌else◌, ◌==◌, codes}
-use Rattle.std.specs.List.{list_all, list_any}
-use Rattle.std.specs.Map.{lookup}
-use Rattle.std.specs.Cmp.Lexicographic.{pointwise}
-use Rattle.std.proofs.lemmas.Bool.{and_parts, cond-true, cond-false, ltb-false, le-ltb}
-use Rattle.std.proofs.lemmas.Option.{none-some, same_Some}
+use Rattle.std.proofs.{lemmas.Bool.{and_parts, cond-true, cond-false, ltb-false, le-ltb}, lemmas.Option.{none-some, same_Some}}
+use Rattle.std.specs.{List.{list_all, list_any}, Map.{lookup}, Cmp.Lexicographic.{pointwise}}
 use Rattle.fb_tree.proofs.Text.Longest.{by_test}
-use Rattle.fb_tree.specs.Text.Forms.{same_word}
-use Rattle.fb_tree.specs.Text.Elementary.{type_class_of}
-use Rattle.fb_tree.specs.Text.declared.elementary.TypeClass.{TypeClass}
-use Rattle.fb_tree.specs.Text.declared.elementary.TypeClass.TheVariants as class
+use Rattle.fb_tree.specs.{Text.Forms.{same_word}, Text.Elementary.{type_class_of}, Text.declared.elementary.TypeClass.{TypeClass}}
 use Rattle.fb_tree.specs.Text.declared.token.TokenKind.{TokenKind}
+use Rattle.fb_tree.specs.Text.declared.elementary.TypeClass.TheVariants as class
 use Rattle.fb_tree.specs.Text.declared.token.TokenKind.TheVariants as found
-use Rattle.fb_grammar.specs.declared.kind.Kind.{Kind}
-use Rattle.fb_grammar.specs.declared.kind.Kind.TheVariants.{NameIn, NameOn, NameSt, Name, Zero, One, Number, RealNumber, Other}
-use Rattle.fb_grammar.specs.Kind.{is_among, name_kinds}
-use Rattle.fb_grammar.specs.ReservedWords.{keyword, reserved_words, symbol, symbols}
+use Rattle.fb_grammar.specs.{declared.kind.Kind.{Kind}, declared.kind.Kind.TheVariants.{NameIn, NameOn, NameSt, Name, Zero, One, Number, RealNumber, Other}}
+use Rattle.fb_grammar.specs.{Kind.{is_among, name_kinds}, ReservedWords.{keyword, reserved_words, symbol, symbols}}
 use Rattle.fb_grammar.specs.Lexemes.{kind_of, kind_or, literal_kind, name_kind, number_kind, symbol_kind, type_name, typed_kind, word_kind}
 
 abbrev is_name : Kind → Bool

@@ -1,42 +1,24 @@
 -- Tokens as they are pulled from a text one by one.
 use Rattle.std.proofs.Common.{◌≡◌, ◌≢◌, ℕ, zero, suc, ◌+◌, ◌-◌, ◌<◌, ◌≤◌, Bool, true, false, not, List, [], ◌∷◌, length, drop, take, get_or, refl, sym, ap, subst, ◌∙◌, arith, add-zero, drop-cons, length-drop, None, Option, Some, true≢false, IsUtf8}
-use Rattle.std.specs.Prelude.{◌==◌, codes, nat_eq, nat_lt, slice_range, if◌then◌else◌}
-use Rattle.std.specs.List.{list_any, list_all, prefix_len}
-use Rattle.std.specs.Cmp.Lexicographic.{pointwise}
-use Rattle.std.specs.Map.{lookup}
-use Rattle.std.specs.Str.{IsCharBoundary}
-use Rattle.std.proofs.lemmas.Bool.{and_parts, cond-true, cond-false, not-true}
-use Rattle.std.proofs.lemmas.List.{drop-drop, drop_all, get_or_past}
-use Rattle.std.proofs.lemmas.Option.{none-some, same_Some}
-use Rattle.std.proofs.lemmas.Str.{IsCharBoundary-end, IsCharBoundary-from_rest, IsUtf8-drop}
-use Rattle.fb_tree.specs.Text.Bytes.{first, hash, is_blank, is_word_byte, is_word_start}
-use Rattle.fb_tree.specs.Text.Elementary.{type_class_of}
-use Rattle.fb_tree.specs.Text.Forms.{HasForm, is_symbol_byte, same_word}
-use Rattle.fb_tree.specs.Text.Reads.{token_of}
-use Rattle.fb_tree.specs.Text.Scan.{AreOpen, typed_len}
-use Rattle.fb_tree.specs.Text.Tokens.{FitsIn, piece_at}
-use Rattle.fb_tree.specs.Text.Words.{is_word}
-use Rattle.fb_tree.specs.Text.declared.elementary.TypeClass.{TypeClass}
-use Rattle.fb_tree.specs.Text.declared.elementary.TypeClass.TheVariants as class
-use Rattle.fb_tree.specs.Text.declared.scan.Piece.{Piece}
-use Rattle.fb_tree.specs.Text.declared.scan.Piece.TheVariants.{Gap, Unclosed, Found}
-use Rattle.fb_tree.specs.Text.declared.quotes.OpenQuotes.{OpenQuotes}
-use Rattle.fb_tree.specs.Text.declared.token.Span.{Span}
-use Rattle.fb_tree.specs.Text.declared.token.Token.{Token}
+use Rattle.std.proofs.{lemmas.Bool.{and_parts, cond-true, cond-false, not-true}, lemmas.List.{drop-drop, drop_all, get_or_past}}
+use Rattle.std.proofs.{lemmas.Option.{none-some, same_Some}, lemmas.Str.{IsCharBoundary-end, IsCharBoundary-from_rest, IsUtf8-drop}}
+use Rattle.std.specs.{Prelude.{◌==◌, codes, nat_eq, nat_lt, slice_range, if◌then◌else◌}, List.{list_any, list_all, prefix_len}, Cmp.Lexicographic.{pointwise}}
+use Rattle.std.specs.{Map.{lookup}, Str.{IsCharBoundary}}
+use Rattle.fb_tree.specs.{Text.Bytes.{first, hash, is_blank, is_word_byte, is_word_start}, Text.Elementary.{type_class_of}}
+use Rattle.fb_tree.specs.{Text.Forms.{HasForm, is_symbol_byte, same_word}, Text.Reads.{token_of}, Text.Scan.{AreOpen, typed_len}}
+use Rattle.fb_tree.specs.{Text.Tokens.{FitsIn, piece_at}, Text.Words.{is_word}, Text.declared.elementary.TypeClass.{TypeClass}}
+use Rattle.fb_tree.specs.{Text.declared.scan.Piece.{Piece}, Text.declared.scan.Piece.TheVariants.{Gap, Unclosed, Found}}
+use Rattle.fb_tree.specs.{Text.declared.quotes.OpenQuotes.{OpenQuotes}, Text.declared.token.Span.{Span}, Text.declared.token.Token.{Token}}
 use Rattle.fb_tree.specs.Text.declared.token.TokenKind.{TokenKind}
+use Rattle.fb_tree.specs.Text.declared.elementary.TypeClass.TheVariants as class
 use Rattle.fb_tree.specs.Text.declared.token.TokenKind.TheVariants as found
-use Rattle.fb_tree.proofs.Text.Boundaries.{piece-fits, piece-spelled}
-use Rattle.fb_tree.proofs.Text.Longest.{by_test}
-use Rattle.fb_tree.proofs.Text.LongestToken.{any-byte}
-use Rattle.fb_tree.proofs.Text.NameLemmas.{name_of-word}
-use Rattle.fb_tree.proofs.Text.OpenLines.{AreOpen-later, first-at}
-use Rattle.fb_tree.proofs.Text.Pieces.{begins_pair, blank-piece, no-typed, symbol-piece, typed-piece, word-piece}
+use Rattle.fb_tree.proofs.{Text.Boundaries.{piece-fits, piece-spelled}, Text.Longest.{by_test}, Text.LongestToken.{any-byte}, Text.NameLemmas.{name_of-word}}
+use Rattle.fb_tree.proofs.{Text.OpenLines.{AreOpen-later, first-at}, Text.Pieces.{begins_pair, blank-piece, no-typed, symbol-piece, typed-piece, word-piece}}
 use Rattle.fb_grammar.specs.declared.kind.Kind.{Kind}
 use Rattle.fb_grammar.specs.declared.kind.Kind.TheVariants.{End, Name, NameIn, NameOn, NameSt, NeverClosed, Number, One, Other, RealNumber, Zero}
 use Rattle.fb_grammar.specs.Kind.{is_among, name_kinds}
 use Rattle.fb_grammar.specs.Lexemes.{kind_of, kind_or, lexeme_of, literal_kind, name_kind, name_or, number_kind, symbol_kind, type_name, typed_kind, word_kind}
-use Rattle.fb_grammar.specs.ReservedWords.{keyword, reserved_words, symbol, symbols}
-use Rattle.fb_grammar.specs.Pulled.{IsFront, IsNext, IsSpelling, pulled_at}
+use Rattle.fb_grammar.specs.{ReservedWords.{keyword, reserved_words, symbol, symbols}, Pulled.{IsFront, IsNext, IsSpelling, pulled_at}}
 use Rattle.fb_grammar.specs.Upcoming.{are_over, closing_at, front, is_lone, lone_symbol, pulled_before, pulled_from}
 use Rattle.fb_grammar.proofs.NameWords.{names}
 

@@ -1,12 +1,8 @@
 -- The next of the tokens that are pulled, and what reading one token gives.
 use Rattle.std.proofs.Common.{◌≡◌, ◌<◌, ◌≢◌, inl, inr, suc, true, false, List, [], ◌∷◌, length, drop, All, Ok, Err, refl, ◌∙◌, arith}
 use Rattle.std.proofs.lemmas.Bool.Decides.{nat_tests}
-use Rattle.fb_grammar.specs.declared.kind.Kind.{Kind}
-use Rattle.fb_grammar.specs.declared.kind.Kind.TheVariants.{End, NeverClosed}
-use Rattle.fb_grammar.specs.declared.lexeme.Lexeme.{Lexeme}
-use Rattle.fb_grammar.specs.Kind.{code_of, is_among, name_kinds, same_kind}
-use Rattle.fb_grammar.specs.Reading.{is_next, read_one}
-use Rattle.fb_grammar.specs.Upcoming.{front}
+use Rattle.fb_grammar.specs.{declared.kind.Kind.{Kind}, declared.kind.Kind.TheVariants.{End, NeverClosed}, declared.lexeme.Lexeme.{Lexeme}}
+use Rattle.fb_grammar.specs.{Kind.{code_of, is_among, name_kinds, same_kind}, Reading.{is_next, read_one}, Upcoming.{front}}
 use Rattle.fb_grammar.proofs.Forms.{among_same, or_cases}
 
 -- the first of some tokens

@@ -1,18 +1,12 @@
 -- The places of what is pulled of a text.
 use Rattle.std.proofs.Common.{◌≡◌, ℕ, zero, suc, ◌+◌, ◌-◌, ◌<◌, ◌≤◌, List, [], ◌∷◌, ◌++◌, length, drop, refl, sym, ap, subst, ◌∙◌, arith, add-zero, length-drop, IsUtf8}
-use Rattle.std.specs.Prelude.{All}
-use Rattle.std.specs.Str.{IsCharBoundary}
-use Rattle.std.proofs.lemmas.List.{drop-drop}
-use Rattle.std.proofs.lemmas.List.Elements.{All-cons, All-nil}
+use Rattle.std.proofs.{lemmas.List.{drop-drop}, lemmas.List.Elements.{All-cons, All-nil}}
 use Rattle.std.proofs.lemmas.Str.{IsCharBoundary-end, IsCharBoundary-from_rest, IsCharBoundary-start, IsUtf8-drop}
-use Rattle.fb_tree.specs.Text.Tokens.{FitsIn, LiesIn, piece_at}
-use Rattle.fb_tree.specs.Text.declared.scan.Piece.{Piece}
-use Rattle.fb_tree.specs.Text.declared.scan.Piece.TheVariants.{Gap, Unclosed, Found}
+use Rattle.std.specs.{Prelude.{All}, Str.{IsCharBoundary}}
+use Rattle.fb_tree.specs.{Text.Tokens.{FitsIn, LiesIn, piece_at}, Text.declared.scan.Piece.{Piece}, Text.declared.scan.Piece.TheVariants.{Gap, Unclosed, Found}}
 use Rattle.fb_tree.specs.Text.Reads.{token_of}
 use Rattle.fb_tree.proofs.Text.Boundaries.{piece-fits}
-use Rattle.fb_grammar.specs.declared.lexeme.Lexeme.{Lexeme}
-use Rattle.fb_grammar.specs.Lexemes.{lexeme_of}
-use Rattle.fb_grammar.specs.Upcoming.{pulled_before, pulled_from, tokens_to_end}
+use Rattle.fb_grammar.specs.{declared.lexeme.Lexeme.{Lexeme}, Lexemes.{lexeme_of}, Upcoming.{pulled_before, pulled_from, tokens_to_end}}
 
 -- the token is a part of the text
 abbrev pub Within : List ℕ → Lexeme → Type 0

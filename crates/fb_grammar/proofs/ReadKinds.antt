@@ -1,12 +1,7 @@
 -- The kinds of tokens that are read.
 use Rattle.std.proofs.Common.{◌≡◌, true, List, [], ◌∷◌, ◌++◌, Ok, subst}
-use Rattle.fb_grammar.specs.declared.kind.Kind.{Kind}
-use Rattle.fb_grammar.specs.declared.kind.Kind.TheVariants.{Text, True, False}
-use Rattle.fb_grammar.specs.declared.lexeme.Lexeme.{Lexeme}
-use Rattle.fb_grammar.specs.Kind.{is_among}
-use Rattle.fb_grammar.specs.Form.{one, Spells, Prefix}
-use Rattle.fb_grammar.specs.Literals.{number_kinds, typed_kinds, literal_kinds}
-use Rattle.fb_grammar.specs.Reading.{read}
+use Rattle.fb_grammar.specs.{declared.kind.Kind.{Kind}, declared.kind.Kind.TheVariants.{Text, True, False}, declared.lexeme.Lexeme.{Lexeme}, Kind.{is_among}}
+use Rattle.fb_grammar.specs.{Form.{one, Spells, Prefix}, Literals.{number_kinds, typed_kinds, literal_kinds}, Reading.{read}}
 use Rattle.fb_grammar.proofs.Forms.{Right, right_read, among_left}
 
 -- a token is of one of the kinds that are read

@@ -1,12 +1,8 @@
 -- Reading values one after the other, as a loop does.
 use Rattle.std.proofs.Common.{◌≡◌, ℕ, zero, suc, ◌≤◌, ◌<◌, true, false, List, [], ◌∷◌, ◌++◌, length, map, Result, Ok, Err, IfOk, refl, sym, ap, ◌∙◌, append_assoc, arith}
 use Rattle.std.proofs.lemmas.List.{append-nil, map_push, map-id}
-use Rattle.fb_grammar.specs.declared.kind.Kind.{Kind}
-use Rattle.fb_grammar.specs.declared.lexeme.Lexeme.{Lexeme}
-use Rattle.fb_grammar.specs.declared.stop.Stop.{Stop}
-use Rattle.fb_grammar.specs.declared.stop.Stop.TheVariants.{Memory, Broken}
-use Rattle.fb_grammar.specs.Reading.{Outcome, ◌>>=◌, is_next, read_each}
-use Rattle.fb_grammar.specs.Repetition.{with_prefix}
+use Rattle.fb_grammar.specs.{declared.kind.Kind.{Kind}, declared.lexeme.Lexeme.{Lexeme}, declared.stop.Stop.{Stop}}
+use Rattle.fb_grammar.specs.{declared.stop.Stop.TheVariants.{Memory, Broken}, Reading.{Outcome, ◌>>=◌, is_next, read_each}, Repetition.{with_prefix}}
 use Rattle.fb_grammar.specs.Gives.{Fails}
 
 -- values that are seen as they are

@@ -1,9 +1,6 @@
 -- What the forms around a form need to know of it, so that one token tells how to go on in them.
-use Rattle.std.proofs.lemmas.Bool.{or_right, or_left}
-use Rattle.std.proofs.Common.{◌≡◌, Bool, true, false, not, ◌&&◌, ◌⊎◌, inl, inr, List, [], ◌∷◌, ◌++◌, refl, eq-eqb}
-use Rattle.fb_grammar.specs.declared.kind.Kind.{Kind}
-use Rattle.fb_grammar.specs.Kind.{is_among, same_kind, code_of}
-use Rattle.fb_grammar.specs.Form.{Form, either}
+use Rattle.std.proofs.{lemmas.Bool.{or_right, or_left}, Common.{◌≡◌, Bool, true, false, not, ◌&&◌, ◌⊎◌, inl, inr, List, [], ◌∷◌, ◌++◌, refl, eq-eqb}}
+use Rattle.fb_grammar.specs.{declared.kind.Kind.{Kind}, Kind.{is_among, same_kind, code_of}, Form.{Form, either}}
 use Rattle.fb_grammar.specs.Reading.{is_nullable, is_predictive, first, after, are_apart}
 use Rattle.fb_grammar.proofs.Forms.{apart_among, or_cases}
 

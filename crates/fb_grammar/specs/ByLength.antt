@@ -1,9 +1,6 @@
 -- Words and symbols by their length, as they are looked up.
-use Rattle.std.specs.Prelude.{ℕ, ◌&&◌, List, length, nat_le, nat_eq, slice_index}
-use Rattle.std.specs.Char.{to_ascii_lowercase}
-use Rattle.std.specs.List.{filter}
-use Rattle.fb_grammar.specs.declared.kind.Kind.{Kind}
-use Rattle.fb_grammar.specs.ReservedWords.{reserved_words, symbols}
+use Rattle.std.specs.{Prelude.{ℕ, ◌&&◌, List, length, nat_le, nat_eq, slice_index}, Char.{to_ascii_lowercase}, List.{filter}}
+use Rattle.fb_grammar.specs.{declared.kind.Kind.{Kind}, ReservedWords.{reserved_words, symbols}}
 
 -- the reserved words of so many letters
 unfoldable pub words_between : ℕ → ℕ → List (List ℕ × Kind)

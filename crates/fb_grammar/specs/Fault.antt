@@ -1,7 +1,6 @@
 -- The first token at which tokens are no prefix of a form.
 use Rattle.std.specs.Prelude.{◌≡◌, List, [], ◌∷◌, ◌++◌}
-use Rattle.fb_grammar.specs.declared.lexeme.Lexeme.{Lexeme}
-use Rattle.fb_grammar.specs.Form.{Form, Prefix}
+use Rattle.fb_grammar.specs.{declared.lexeme.Lexeme.{Lexeme}, Form.{Form, Prefix}}
 
 -- The prefix with the next token is no prefix of the form.
 abbrev pub IsStuck : {A : Type 0} → Form A → List Lexeme → List Lexeme → Type 0

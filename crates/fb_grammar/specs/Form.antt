@@ -1,8 +1,6 @@
 -- Forms of a grammar, what spells them, and their prefixes.
 use Rattle.std.specs.Prelude.{◌≡◌, true, ◌⊎◌, List, [], ◌∷◌, ◌++◌, Option, Some, None}
-use Rattle.fb_grammar.specs.declared.kind.Kind.{Kind}
-use Rattle.fb_grammar.specs.declared.lexeme.Lexeme.{Lexeme}
-use Rattle.fb_grammar.specs.Kind.{is_among}
+use Rattle.fb_grammar.specs.{declared.kind.Kind.{Kind}, declared.lexeme.Lexeme.{Lexeme}, Kind.{is_among}}
 
 -- A form whose spellings stand for values of A.
 pub data Form : Type 0 → Type 1 where

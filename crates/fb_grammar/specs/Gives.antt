@@ -1,10 +1,6 @@
 -- What a function returned and the tokens that it left, against what reading gives.
-use Rattle.std.specs.Prelude.{◌≡◌, List, Vec, map, Result, Ok, Err}
-use Rattle.std.specs.declared.alloc.Global.{Global}
-use Rattle.fb_grammar.specs.declared.lexeme.Lexeme.{Lexeme}
-use Rattle.fb_grammar.specs.declared.stop.Stop.{Stop}
-use Rattle.fb_grammar.specs.declared.stop.Stop.TheVariants.{Memory, Broken}
-use Rattle.fb_grammar.specs.Reading.{Outcome}
+use Rattle.std.specs.{Prelude.{◌≡◌, List, Vec, map, Result, Ok, Err}, declared.alloc.Global.{Global}}
+use Rattle.fb_grammar.specs.{declared.lexeme.Lexeme.{Lexeme}, declared.stop.Stop.{Stop}, declared.stop.Stop.TheVariants.{Memory, Broken}, Reading.{Outcome}}
 
 -- Reading fails at the tokens that are left, unless memory ran out.
 abbrev pub Fails : {A : Type 0} → Stop → List Lexeme → Outcome A → Type 0

@@ -1,23 +1,15 @@
 -- Tokens as the grammar sees them: the classification of tokens.
 use Rattle.std.specs.Prelude.{ℕ, not, nat_lt, nat_eq, ◌==◌, if◌then◌else◌, List, [], ◌∷◌, length, map, take, codes, slice_range, Option, Some, None, Result, Ok, Err}
-use Rattle.std.specs.List.{list_any, prefix_len}
-use Rattle.std.specs.Cmp.Lexicographic.{pointwise}
-use Rattle.fb_tree.specs.Text.Bytes.{hash, point}
-use Rattle.fb_tree.specs.Text.Elementary.{type_class_of}
-use Rattle.fb_tree.specs.Text.Forms.{same_word}
-use Rattle.fb_tree.specs.Text.Name.{name_of}
-use Rattle.fb_tree.specs.Text.Tokens.{tokens_of}
-use Rattle.fb_tree.specs.Text.declared.elementary.TypeClass.{TypeClass}
-use Rattle.fb_tree.specs.Text.declared.elementary.TypeClass.TheVariants as class
-use Rattle.fb_tree.specs.Text.declared.name.NameUse.{NameUse}
-use Rattle.fb_tree.specs.Text.declared.token.Span.{Span}
-use Rattle.fb_tree.specs.Text.declared.token.Token as token
+use Rattle.std.specs.{List.{list_any, prefix_len}, Cmp.Lexicographic.{pointwise}}
+use Rattle.fb_tree.specs.{Text.Bytes.{hash, point}, Text.Elementary.{type_class_of}, Text.Forms.{same_word}, Text.Name.{name_of}, Text.Tokens.{tokens_of}}
+use Rattle.fb_tree.specs.{Text.declared.elementary.TypeClass.{TypeClass}, Text.declared.name.NameUse.{NameUse}, Text.declared.token.Span.{Span}}
 use Rattle.fb_tree.specs.Text.declared.token.TokenKind.{TokenKind}
+use Rattle.fb_tree.specs.Text.declared.elementary.TypeClass.TheVariants as class
+use Rattle.fb_tree.specs.Text.declared.token.Token as token
 use Rattle.fb_tree.specs.Text.declared.token.TokenKind.TheVariants as found
 use Rattle.fb_grammar.specs.declared.kind.Kind.{Kind}
 use Rattle.fb_grammar.specs.declared.kind.Kind.TheVariants.{NameIn, NameOn, NameSt, Name, Zero, One, Number, RealNumber, TypedTruth, TypedInteger, TypedBits, TypedFree, TypedOther, Text, Other}
-use Rattle.fb_grammar.specs.declared.lexeme.Lexeme.{Lexeme}
-use Rattle.fb_grammar.specs.ReservedWords.{keyword, symbol}
+use Rattle.fb_grammar.specs.{declared.lexeme.Lexeme.{Lexeme}, ReservedWords.{keyword, symbol}}
 
 -- a name of at most 64 bytes, those spelled IN, ON and ST in any case apart; no name where the word is longer
 unfoldable pub name_kind : List ℕ → Kind

@@ -1,12 +1,10 @@
 -- Literals by the kinds of their tokens.
 use Rattle.std.specs.Prelude.{List, [], ◌∷◌, ◌++◌}
-use Rattle.fb_tree.specs.Text.declared.token.Span.{Span}
+use Rattle.fb_tree.specs.{Text.declared.token.Span.{Span}, declared.constant.Literal.{Literal}, declared.constant.LiteralForm.{LiteralForm}}
 use Rattle.fb_tree.specs.Text.declared.elementary.TypeClass.TheVariants as class
 use Rattle.fb_grammar.specs.declared.kind.Kind.{Kind}
 use Rattle.fb_grammar.specs.declared.kind.Kind.TheVariants.{Zero, One, Number, RealNumber, TypedTruth, TypedInteger, TypedBits, TypedFree, TypedOther, Text, True, False}
 use Rattle.fb_grammar.specs.declared.lexeme.Lexeme.{Lexeme}
-use Rattle.fb_tree.specs.declared.constant.Literal.{Literal}
-use Rattle.fb_tree.specs.declared.constant.LiteralForm.{LiteralForm}
 use Rattle.fb_tree.specs.declared.constant.LiteralForm.TheVariants as form
 
 -- NUMBER

@@ -1,9 +1,6 @@
 -- Reading values one after the other, by what reads one of them.
 use Rattle.std.specs.Prelude.{List, [], ◌∷◌, ◌++◌, length, Ok}
-use Rattle.fb_grammar.specs.declared.kind.Kind.{Kind}
-use Rattle.fb_grammar.specs.declared.lexeme.Lexeme.{Lexeme}
-use Rattle.fb_grammar.specs.Reading.{Outcome, ◌>>=◌, read_one, read_each}
-use Rattle.fb_grammar.specs.Words.{cons}
+use Rattle.fb_grammar.specs.{declared.kind.Kind.{Kind}, declared.lexeme.Lexeme.{Lexeme}, Reading.{Outcome, ◌>>=◌, read_one, read_each}, Words.{cons}}
 
 -- what was read before, and what is still read
 abbrev pub with_prefix : {A : Type 0} → List A → Outcome (List A) → Outcome (List A)

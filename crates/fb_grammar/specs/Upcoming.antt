@@ -1,17 +1,10 @@
 -- The tokens of a text as they are pulled from it: all up to a comment that is never closed, and then this comment or the end of the text.
 use Rattle.std.specs.Prelude.{◌≡◌, ◌==◌, ℕ, zero, false, suc, ◌+◌, ◌-◌, Bool, List, [], ◌∷◌, length, codes, if◌then◌else◌, Option, Some, None, Result, Ok, Err}
 use Rattle.std.specs.List.{list_any}
-use Rattle.fb_tree.specs.Text.Reads.{token_of}
-use Rattle.fb_tree.specs.Text.Tokens.{piece_at}
-use Rattle.fb_tree.specs.Text.declared.scan.Piece.{Piece}
-use Rattle.fb_tree.specs.Text.declared.scan.Piece.TheVariants.{Gap, Unclosed, Found}
-use Rattle.fb_tree.specs.Text.declared.token.Span.{Span}
-use Rattle.fb_grammar.specs.declared.kind.Kind.{Kind}
-use Rattle.fb_grammar.specs.declared.kind.Kind.TheVariants.{End, NeverClosed}
-use Rattle.fb_grammar.specs.declared.lexeme.Lexeme.{Lexeme}
-use Rattle.fb_grammar.specs.Kind.{is_among, same_kind}
-use Rattle.fb_grammar.specs.Lexemes.{lexeme_of}
-use Rattle.fb_grammar.specs.ReservedWords.{symbol}
+use Rattle.fb_tree.specs.{Text.Reads.{token_of}, Text.Tokens.{piece_at}, Text.declared.scan.Piece.{Piece}}
+use Rattle.fb_tree.specs.{Text.declared.scan.Piece.TheVariants.{Gap, Unclosed, Found}, Text.declared.token.Span.{Span}}
+use Rattle.fb_grammar.specs.{declared.kind.Kind.{Kind}, declared.kind.Kind.TheVariants.{End, NeverClosed}, declared.lexeme.Lexeme.{Lexeme}}
+use Rattle.fb_grammar.specs.{Kind.{is_among, same_kind}, Lexemes.{lexeme_of}, ReservedWords.{symbol}}
 
 -- the symbols of one byte that begin neither a longer symbol nor a comment
 abbrev pub is_lone : ℕ → Bool

@@ -1,12 +1,8 @@
 -- Forms that the grammar is written in.
 use Rattle.std.specs.Prelude.{List, [], ◌∷◌, Option, Some, None}
-use Rattle.fb_grammar.specs.declared.kind.Kind.{Kind}
-use Rattle.fb_grammar.specs.declared.kind.Kind.TheVariants.{Comma}
-use Rattle.fb_grammar.specs.declared.lexeme.Lexeme.{Lexeme}
-use Rattle.fb_grammar.specs.Kind.{name_kinds}
-use Rattle.fb_grammar.specs.Lexemes.{name_use}
+use Rattle.fb_grammar.specs.{declared.kind.Kind.{Kind}, declared.kind.Kind.TheVariants.{Comma}, declared.lexeme.Lexeme.{Lexeme}, Kind.{name_kinds}}
+use Rattle.fb_grammar.specs.{Lexemes.{name_use}, Form.{Form, one, both, option, many, as_value}}
 use Rattle.fb_tree.specs.Text.declared.name.NameUse.{NameUse}
-use Rattle.fb_grammar.specs.Form.{Form, one, both, option, many, as_value}
 
 -- a reserved word or a symbol
 abbrev pub key : Kind → Form Lexeme

@@ -1,11 +1,7 @@
 //! Reserved words and symbols.
-ghost use Rattle.std.specs.Prelude.{◌≡◌, ◌∷◌, [], map, nat_eq};
-ghost use Rattle.std.specs.Map.{lookup};
-ghost use Rattle.std.specs.Cmp.Lexicographic.{pointwise};
+ghost use Rattle.std.specs.{Prelude.{◌≡◌, ◌∷◌, [], map, nat_eq}, Map.{lookup}, Cmp.Lexicographic.{pointwise}};
 ghost use Rattle.fb_tree.specs.Text.Forms.{same_word};
-ghost use Rattle.fb_grammar.specs.ReservedWords.{keyword, symbol};
-ghost use Rattle.fb_grammar.specs.ByLength.{initial, words_between, symbols_of};
-ghost use Rattle.fb_grammar.specs.Upcoming.{lone_symbol};
+ghost use Rattle.fb_grammar.specs.{ReservedWords.{keyword, symbol}, ByLength.{initial, words_between, symbols_of}, Upcoming.{lone_symbol}};
 
 use crate::kind::Kind;
 use fb_tree::text::same_word;

@@ -1,8 +1,6 @@
 //! What the grammar sees of a token.
-ghost use Rattle.std.specs.Prelude.{◌≡◌, ◌↔◌, true, List};
-ghost use Rattle.std.specs.List.{Contains};
-ghost use Rattle.fb_grammar.specs.declared.kind.Kind.{Kind};
-ghost use Rattle.fb_grammar.specs.Kind.{code_of, is_among};
+ghost use Rattle.std.specs.{Prelude.{◌≡◌, ◌↔◌, true, List}, List.{Contains}};
+ghost use Rattle.fb_grammar.specs.{declared.kind.Kind.{Kind}, Kind.{code_of, is_among}};
 
 /// What the grammar sees of a token: a reserved word, a symbol, or a class of the other words and literals.
 #[derive(Clone, Copy, Debug, PartialEq, Eq)]

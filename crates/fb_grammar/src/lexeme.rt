@@ -1,12 +1,8 @@
 //! Tokens with what the grammar asks of them.
-ghost use Rattle.std.specs.Prelude.{◌≡◌, ◌<◌, ◌≤◌, ◌↔◌, ℕ, true, not, ◌==◌, List, length, map, All, IfOk, None};
-ghost use Rattle.std.specs.List.{prefix_len};
-ghost use Rattle.fb_tree.specs.Text.Bytes.{hash};
-ghost use Rattle.fb_tree.specs.Text.Tokens.{GivesReading, LiesIn, SpansRise};
-ghost use Rattle.fb_tree.specs.Text.declared.token.TokenKind.{TokenKind};
+ghost use Rattle.std.specs.{Prelude.{◌≡◌, ◌<◌, ◌≤◌, ◌↔◌, ℕ, true, not, ◌==◌, List, length, map, All, IfOk, None}, List.{prefix_len}};
+ghost use Rattle.fb_tree.specs.{Text.Bytes.{hash}, Text.Tokens.{GivesReading, LiesIn, SpansRise}, Text.declared.token.TokenKind.{TokenKind}};
 ghost use Rattle.fb_tree.specs.Text.declared.token.TokenKind.TheVariants.{Word};
-ghost use Rattle.fb_grammar.specs.Kind.{is_among, name_kinds};
-ghost use Rattle.fb_grammar.specs.ReservedWords.{keyword};
+ghost use Rattle.fb_grammar.specs.{Kind.{is_among, name_kinds}, ReservedWords.{keyword}};
 ghost use Rattle.fb_grammar.specs.Lexemes.{kind_of, lexeme_of, lexemes_of, name_kind, number_kind, place, symbol_kind, type_name, typed_kind, word_kind};
 
 use crate::keywords::{keyword, symbol};

@@ -1,7 +1,6 @@
 //! Literals by the kinds of their tokens.
 
-ghost use Rattle.fb_grammar.specs.Literals.{literal_at, literal_form, literal_kinds};
-ghost use Rattle.fb_grammar.specs.Kind.{is_among};
+ghost use Rattle.fb_grammar.specs.{Literals.{literal_at, literal_form, literal_kinds}, Kind.{is_among}};
 ghost use Rattle.std.specs.Prelude.{◌≡◌, true};
 
 use crate::kind::Kind;

@@ -1,12 +1,7 @@
 //! Single tokens, names and lists of names.
 
-ghost use Rattle.fb_grammar.specs.Form.{as_value, one};
-ghost use Rattle.fb_grammar.specs.Gives.{Gives};
-ghost use Rattle.fb_grammar.specs.Reading.{is_next, read};
-ghost use Rattle.fb_grammar.specs.Kind.{is_among, name_kinds};
-ghost use Rattle.fb_grammar.specs.Lexemes.{name_use};
-ghost use Rattle.fb_grammar.specs.Upcoming.{are_tokens, front};
-ghost use Rattle.fb_grammar.specs.Words.{key, name, names};
+ghost use Rattle.fb_grammar.specs.{Form.{as_value, one}, Gives.{Gives}, Reading.{is_next, read}, Kind.{is_among, name_kinds}, Lexemes.{name_use}};
+ghost use Rattle.fb_grammar.specs.{Upcoming.{are_tokens, front}, Words.{key, name, names}};
 ghost use Rattle.fb_tree.specs.Text.declared.name.NameUse.{NameUse};
 ghost use Rattle.std.specs.Prelude.{◌≡◌, ◌∷◌, [], All, IfOk, true};
 

@@ -1,11 +1,7 @@
 //! Values that come one after the other.
 
-ghost use Rattle.fb_grammar.specs.Gives.{Gives, GivesEach};
-ghost use Rattle.fb_grammar.specs.Reading.{Outcome, read_each};
-ghost use Rattle.fb_grammar.specs.Repetition.{read_behind, read_separated, with_prefix};
-ghost use Rattle.fb_grammar.specs.Upcoming.{are_tokens};
-ghost use Rattle.fb_grammar.specs.declared.kind.Kind.TheVariants.{Comma};
-ghost use Rattle.fb_grammar.specs.declared.lexeme.Lexeme.{Lexeme};
+ghost use Rattle.fb_grammar.specs.{Gives.{Gives, GivesEach}, Reading.{Outcome, read_each}, Repetition.{read_behind, read_separated, with_prefix}};
+ghost use Rattle.fb_grammar.specs.{Upcoming.{are_tokens}, declared.kind.Kind.TheVariants.{Comma}, declared.lexeme.Lexeme.{Lexeme}};
 ghost use Rattle.std.specs.Prelude.{◌≡◌, ◌<◌, ◌∷◌, [], IfOk, List, length, map};
 
 use crate::kind::Kind;

@@ -1,14 +1,8 @@
 //! The tokens of a text that are still to be read. Each is found when the one before it is taken, and no list of them is made.
-ghost use Rattle.fb_grammar.specs.Kind.{is_among, name_kinds};
-ghost use Rattle.fb_grammar.specs.Lexemes.{lexemes_of};
-ghost use Rattle.fb_grammar.specs.Pulled.{IsFront, IsNext};
+ghost use Rattle.fb_grammar.specs.{Kind.{is_among, name_kinds}, Lexemes.{lexemes_of}, Pulled.{IsFront, IsNext}};
 ghost use Rattle.fb_grammar.specs.Upcoming.{are_over, closing, front, tokens_to_end, unended};
-ghost use Rattle.fb_tree.specs.Text.Bytes.{is_word_byte, is_word_start};
-ghost use Rattle.fb_tree.specs.Text.Scan.{AreOpen, typed_len};
-ghost use Rattle.fb_tree.specs.Text.Tokens.{LiesIn};
-ghost use Rattle.fb_tree.specs.Text.Words.{is_word};
-ghost use Rattle.std.specs.List.{prefix_len};
-ghost use Rattle.std.specs.Prelude.{◌≡◌, ℕ, ◌+◌, ◌<◌, ◌≤◌, false, true, All, List, drop, length, slice_index};
+ghost use Rattle.fb_tree.specs.{Text.Bytes.{is_word_byte, is_word_start}, Text.Scan.{AreOpen, typed_len}, Text.Tokens.{LiesIn}, Text.Words.{is_word}};
+ghost use Rattle.std.specs.{List.{prefix_len}, Prelude.{◌≡◌, ℕ, ◌+◌, ◌<◌, ◌≤◌, false, true, All, List, drop, length, slice_index}};
 ghost use Rattle.std.specs.Str.{IsCharBoundary, IsUtf8, str_to_ascii_uppercase};
 
 use crate::keywords::lone_symbol;

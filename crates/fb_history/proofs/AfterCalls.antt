@@ -1,27 +1,18 @@
 -- What holds after any calls.
 use Rattle.std.proofs.Common.{◌≡◌, ℕ, Bool, true, false, ◌||◌, ◌&&◌, not, List, [], ◌∷◌, refl, sym, ap, ◌∙◌, subst, cond}
-use Rattle.std.specs.List.{list_any}
-use Rattle.fb_jobs.specs.Library.Texts.{Texts, Edit}
-use Rattle.fb_jobs.specs.declared.key.Key.{Key}
-use Rattle.fb_jobs.specs.Keys.{has_key, scratch, needs, Finding}
-use Rattle.fb_jobs.specs.Reads.{is_among, Agree}
-use Rattle.fb_jobs.proofs.SameNeeds.{needs_local}
+use Rattle.std.specs.{List.{list_any}, BTreeMap.{is_at}, List.Sorted.{IsStrictlySortedBy}}
+use Rattle.fb_jobs.specs.{Library.Texts.{Texts, Edit}, declared.key.Key.{Key}, Keys.{has_key, scratch, needs, Finding}, Reads.{is_among, Agree}}
+use Rattle.fb_jobs.proofs.{SameNeeds.{needs_local}, Library.Names.{exact_name}}
 use Rattle.fb_history.specs.declared.answers.Committed.{Committed}
 use Rattle.fb_history.specs.declared.answers.Committed.TheVariants.{Done, NoChange, TooManyChanges, SameUnitTwice, StaleBase, NoSuchUnit, TooManyUnits}
-use Rattle.fb_history.specs.declared.answers.Delivered.{Delivered}
-use Rattle.fb_history.specs.declared.answers.Delivered.TheVariants.{Accepted, NoSuchKey, NotPending, Stale}
-use Rattle.fb_history.specs.declared.answers.GivenBack.{GivenBack}
-use Rattle.fb_history.specs.declared.answers.GivenBack.TheVariants.{Returned, NothingOut}
+use Rattle.fb_history.specs.{declared.answers.Delivered.{Delivered}, declared.answers.Delivered.TheVariants.{Accepted, NoSuchKey, NotPending, Stale}}
+use Rattle.fb_history.specs.{declared.answers.GivenBack.{GivenBack}, declared.answers.GivenBack.TheVariants.{Returned, NothingOut}}
 use Rattle.fb_history.specs.Machine.{State, Call, ToCommit, ToTake, ToDeliver, ToGiveBack, ToAsk, Finds, Waits, Unknown, shown, reply, after, reaches, commit_answer, after_commit, deliver_answer, after_deliver, give_back_answer, after_give_back}
-use Rattle.fb_history.specs.BenchView.{Origin, IsOrigin, opened, replay, empty_origin}
-use Rattle.fb_history.specs.Due.{due_from}
+use Rattle.fb_history.specs.{BenchView.{Origin, IsOrigin, opened, replay, empty_origin}, Due.{due_from}}
 use Rattle.fb_history.specs.Laws.{is_refusal, refuses_commit, refuses_result, refuses_return, entry_after, AgreeApartFrom}
 use Rattle.fb_history.proofs.Dues.{waits_after, waits_at_origin}
 use Rattle.fb_text.specs.Order.{name_cmp}
 use Rattle.fb_text.proofs.OrderLemmas.{is_equal}
-use Rattle.fb_jobs.proofs.Library.Names.{exact_name}
-use Rattle.std.specs.BTreeMap.{is_at}
-use Rattle.std.specs.List.Sorted.{IsStrictlySortedBy}
 
 -- ---- where a history begins
 

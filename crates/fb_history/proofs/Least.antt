@@ -1,23 +1,13 @@
 -- The least of the keys that pass a test.
 use Rattle.std.proofs.Common.{◌≡◌, ℕ, Bool, true, false, ◌||◌, ◌&&◌, List, [], ◌∷◌, filter, refl, sym, ap, ◌∙◌, subst, Option, Some, None, cond}
-use Rattle.std.specs.List.{list_any}
-use Rattle.std.specs.BTreeMap.{is_at}
-use Rattle.std.specs.Ordering.{is_eq, is_lt, is_gt, ordering_reverse}
-use Rattle.std.specs.declared.cmp.Ordering.{Ordering}
-use Rattle.std.specs.declared.cmp.Ordering.TheVariants.{Less, Equal, Greater}
-use Rattle.std.specs.Option.{option_map}
 use Rattle.std.proofs.lemmas.Bool.{or_left, or_right}
-use Rattle.fb_jobs.specs.Library.Texts.{Texts, held, names_of, text_in}
+use Rattle.std.specs.{List.{list_any}, BTreeMap.{is_at}, Ordering.{is_eq, is_lt, is_gt, ordering_reverse}, declared.cmp.Ordering.{Ordering}}
+use Rattle.std.specs.{declared.cmp.Ordering.TheVariants.{Less, Equal, Greater}, Option.{option_map}}
+use Rattle.fb_jobs.specs.{Library.Texts.{Texts, held, names_of, text_in}, Reads.{is_among}, declared.key.Key.{Key}, Keys.{has_key, has_kind_at}}
+use Rattle.fb_jobs.specs.{KeyOrder.{key_cmp, key_cmp_total, same_key}, Kinds.{all_keys}}
 use Rattle.fb_text.specs.Order.{name_cmp}
-use Rattle.fb_jobs.specs.Reads.{is_among}
-use Rattle.fb_jobs.specs.declared.key.Key.{Key}
-use Rattle.fb_jobs.specs.Keys.{has_key, has_kind_at}
-use Rattle.fb_jobs.specs.KeyOrder.{key_cmp, key_cmp_total, same_key}
-use Rattle.fb_jobs.specs.Kinds.{all_keys}
 use Rattle.fb_history.specs.Machine.{State, is_ready, keys_of, least, lesser, next}
-use Rattle.fb_jobs.proofs.KindLemmas.{in_all_keys, no_kind}
-use Rattle.fb_jobs.proofs.Members.{of_filtered}
-use Rattle.fb_jobs.proofs.Order.{keys_equal}
+use Rattle.fb_jobs.proofs.{KindLemmas.{in_all_keys, no_kind}, Members.{of_filtered}, Order.{keys_equal}}
 
 -- ---- the keys of texts
 

@@ -1,27 +1,16 @@
 -- The texts of every workbench stand by rising name, and its keys by rising key.
-use Rattle.std.proofs.Common.{◌≡◌, ℕ, true, false, List, [], ◌∷◌, refl, ap, ◌∙◌, Option, Some, None, cond}
-use Rattle.std.specs.List.{AllByRecursion}
-use Rattle.std.specs.List.Sorted.{IsStrictlySortedBy}
-use Rattle.std.specs.Map.{remove_entry}
-use Rattle.std.specs.BTreeMap.{is_at, insert_entry}
-use Rattle.std.specs.Ordering.{match_ordering, ordering_reverse}
-use Rattle.std.specs.declared.cmp.Ordering.TheVariants.{Less, Equal, Greater}
-use Rattle.std.proofs.lemmas.List.Kept.{IsStrictlySortedBy-filter}
-use Rattle.fb_jobs.proofs.Library.Names.{name_total}
-use Rattle.fb_jobs.specs.Library.Texts.{Texts, Held, Edit, Puts, Removes, edited, all_edited, names_of}
+use Rattle.std.proofs.{Common.{◌≡◌, ℕ, true, false, List, [], ◌∷◌, refl, ap, ◌∙◌, Option, Some, None, cond}, lemmas.List.Kept.{IsStrictlySortedBy-filter}}
+use Rattle.std.specs.{List.{AllByRecursion}, List.Sorted.{IsStrictlySortedBy}, Map.{remove_entry}, BTreeMap.{is_at, insert_entry}}
+use Rattle.std.specs.{Ordering.{match_ordering, ordering_reverse}, declared.cmp.Ordering.TheVariants.{Less, Equal, Greater}}
+use Rattle.fb_jobs.proofs.{Library.Names.{name_total}, KindLemmas.{all_keys_rise}}
+use Rattle.fb_jobs.specs.{Library.Texts.{Texts, Held, Edit, Puts, Removes, edited, all_edited, names_of}, declared.key.Key.{Key}, Keys.{has_key}}
+use Rattle.fb_jobs.specs.{KeyOrder.{key_cmp}, Kinds.{all_keys}}
 use Rattle.fb_text.specs.Order.{name_cmp}
-use Rattle.fb_jobs.specs.declared.key.Key.{Key}
-use Rattle.fb_jobs.specs.Keys.{has_key}
-use Rattle.fb_jobs.specs.KeyOrder.{key_cmp}
 use Rattle.fb_history.specs.declared.answers.Committed.{Committed}
 use Rattle.fb_history.specs.declared.answers.Committed.TheVariants.{Done, NoChange, TooManyChanges, SameUnitTwice, StaleBase, NoSuchUnit, TooManyUnits}
-use Rattle.fb_history.specs.declared.answers.Delivered.{Delivered}
-use Rattle.fb_history.specs.declared.answers.Delivered.TheVariants.{Accepted, NoSuchKey, NotPending, Stale}
-use Rattle.fb_history.specs.declared.answers.GivenBack.{GivenBack}
-use Rattle.fb_history.specs.declared.answers.GivenBack.TheVariants.{Returned, NothingOut}
-use Rattle.fb_jobs.specs.Kinds.{all_keys}
+use Rattle.fb_history.specs.{declared.answers.Delivered.{Delivered}, declared.answers.Delivered.TheVariants.{Accepted, NoSuchKey, NotPending, Stale}}
+use Rattle.fb_history.specs.{declared.answers.GivenBack.{GivenBack}, declared.answers.GivenBack.TheVariants.{Returned, NothingOut}}
 use Rattle.fb_history.specs.Machine.{State, Call, ToCommit, ToTake, ToDeliver, ToGiveBack, ToAsk, commit_answer, after_commit, next, after_take, deliver_answer, after_deliver, give_back_answer, after_give_back, after, keys_of}
-use Rattle.fb_jobs.proofs.KindLemmas.{all_keys_rise}
 use Rattle.fb_history.specs.BenchView.{BenchView, IsOrigin, opened, replay, calls_of, state_of}
 
 abbrev Rise : Texts → Type 0

@@ -1,15 +1,8 @@
 -- A history of calls, and what it leads to.
 use Rattle.std.specs.Prelude.{◌≡◌, ℕ, ◌+◌, ◌-◌, ◌≤◌, false, List, [], ◌∷◌, ◌++◌, map, ◌==◌, count_by, take, length, slice_get, Option, Some, None, unwrap_or, zero, suc}
-use Rattle.std.specs.BTreeMap.{insert_entry, is_at}
-use Rattle.std.specs.List.Sorted.{IsStrictlySortedBy}
-use Rattle.std.specs.Map.{lookup}
-use Rattle.std.specs.Ordering.{nat_cmp}
+use Rattle.std.specs.{BTreeMap.{insert_entry, is_at}, List.Sorted.{IsStrictlySortedBy}, Map.{lookup}, Ordering.{nat_cmp}, List.{list_any}}
 use Rattle.fb_text.specs.Order.{name_cmp}
-use Rattle.std.specs.List.{list_any}
-use Rattle.fb_jobs.specs.Library.Texts.{Texts, names_of}
-use Rattle.fb_jobs.specs.declared.key.Key.{Key}
-use Rattle.fb_jobs.specs.Keys.{has_key}
-use Rattle.fb_jobs.specs.KeyOrder.{same_key}
+use Rattle.fb_jobs.specs.{Library.Texts.{Texts, names_of}, declared.key.Key.{Key}, Keys.{has_key}, KeyOrder.{same_key}}
 use Rattle.fb_history.specs.Machine.{State, Call, Reply, after, reply}
 
 -- one recorded call with its answer. `turn` counts the caller's calls up to this one

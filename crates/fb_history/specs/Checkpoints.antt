@@ -1,12 +1,8 @@
 -- A history that begins anew where it has led to.
 use Rattle.std.specs.Prelude.{◌≡◌, ℕ, ◌+◌, ◌^◌, List, [], filter, length, None, Result, Ok, Err, if◌then◌else◌, nat_lt}
-use Rattle.fb_jobs.specs.Library.Texts.{Texts}
-use Rattle.fb_jobs.specs.declared.key.Key.{Key}
-use Rattle.fb_history.specs.Limits.{Bounds}
-use Rattle.fb_history.specs.Machine.{keys_of}
-use Rattle.fb_history.specs.BenchView.{BenchView, all_turns, last_number, pages_after, record_numbered, state_of}
-use Rattle.fb_history.specs.declared.answers.CheckpointError.{CheckpointError}
-use Rattle.fb_history.specs.declared.answers.CheckpointError.TheVariants.{UnitsOver, NumbersOver, Memory}
+use Rattle.fb_jobs.specs.{Library.Texts.{Texts}, declared.key.Key.{Key}}
+use Rattle.fb_history.specs.{Limits.{Bounds}, Machine.{keys_of}, BenchView.{BenchView, all_turns, last_number, pages_after, record_numbered, state_of}}
+use Rattle.fb_history.specs.{declared.answers.CheckpointError.{CheckpointError}, declared.answers.CheckpointError.TheVariants.{UnitsOver, NumbersOver, Memory}}
 
 -- the workbench that begins from these texts, commits and marks, after the calls of another
 abbrev pub restarted : Bounds → Texts → ℕ → List Key → List Key → BenchView → BenchView

@@ -1,14 +1,8 @@
 -- When a key waits, said by places in the list of calls.
 use Rattle.std.specs.Prelude.{Bool, false, ◌&&◌, ◌||◌, not, List, [], ◌∷◌, map, is_none}
-use Rattle.fb_jobs.specs.Library.Texts.{Edit, unit_of, all_edited}
-use Rattle.fb_jobs.specs.declared.key.Key.{Key}
-use Rattle.fb_jobs.specs.Keys.{has_key}
-use Rattle.fb_jobs.specs.KeyOrder.{same_key}
-use Rattle.fb_jobs.specs.Reads.{stale}
-use Rattle.fb_history.specs.declared.answers.Committed.{Committed}
-use Rattle.fb_history.specs.declared.answers.Committed.TheVariants.{Done}
-use Rattle.fb_history.specs.Machine.{State, Call, ToCommit, ToDeliver, commit_answer, reaches, after}
-use Rattle.fb_history.specs.BenchView.{BenchView, opened, state_of, calls_of}
+use Rattle.fb_jobs.specs.{Library.Texts.{Edit, unit_of, all_edited}, declared.key.Key.{Key}, Keys.{has_key}, KeyOrder.{same_key}, Reads.{stale}}
+use Rattle.fb_history.specs.{declared.answers.Committed.{Committed}, declared.answers.Committed.TheVariants.{Done}}
+use Rattle.fb_history.specs.{Machine.{State, Call, ToCommit, ToDeliver, commit_answer, reaches, after}, BenchView.{BenchView, opened, state_of, calls_of}}
 
 abbrev pub marks_done : Committed → State → List Edit → Key → Bool
 marks_done (Done commit) state edits key =

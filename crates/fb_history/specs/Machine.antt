@@ -1,18 +1,13 @@
 -- The workbench as a machine: its states, its calls, and what each call answers and leaves.
 use Rattle.std.specs.Prelude.{ℕ, ◌+◌, Bool, ◌&&◌, ◌||◌, not, List, [], ◌∷◌, map, filter, length, Option, Some, None, if◌then◌else◌, nat_lt, ◌==◌}
 use Rattle.std.specs.Ordering.{is_lt}
-use Rattle.fb_jobs.specs.Library.Texts.{Texts, Held, held, Edit, Puts, Removes, unit_of, all_edited}
-use Rattle.fb_jobs.specs.declared.key.Key.{Key}
-use Rattle.fb_jobs.specs.Keys.{has_key, scratch, Finding}
-use Rattle.fb_jobs.specs.KeyOrder.{key_cmp, same_key}
-use Rattle.fb_jobs.specs.Reads.{PlainJob, reads_for, stale}
+use Rattle.fb_jobs.specs.{Library.Texts.{Texts, Held, held, Edit, Puts, Removes, unit_of, all_edited}, declared.key.Key.{Key}, Keys.{has_key, scratch, Finding}}
+use Rattle.fb_jobs.specs.{KeyOrder.{key_cmp, same_key}, Reads.{PlainJob, reads_for, stale}}
 pub use Rattle.fb_jobs.specs.Reach.{keys_of, reaches, comes_again, first_repeated}
 use Rattle.fb_history.specs.declared.answers.Committed.{Committed}
 use Rattle.fb_history.specs.declared.answers.Committed.TheVariants.{Done, NoChange, TooManyChanges, SameUnitTwice, StaleBase, NoSuchUnit, TooManyUnits}
-use Rattle.fb_history.specs.declared.answers.Delivered.{Delivered}
-use Rattle.fb_history.specs.declared.answers.Delivered.TheVariants.{Accepted, NoSuchKey, NotPending, Stale}
-use Rattle.fb_history.specs.declared.answers.GivenBack.{GivenBack}
-use Rattle.fb_history.specs.declared.answers.GivenBack.TheVariants.{Returned, NothingOut}
+use Rattle.fb_history.specs.{declared.answers.Delivered.{Delivered}, declared.answers.Delivered.TheVariants.{Accepted, NoSuchKey, NotPending, Stale}}
+use Rattle.fb_history.specs.{declared.answers.GivenBack.{GivenBack}, declared.answers.GivenBack.TheVariants.{Returned, NothingOut}}
 
 -- the texts, the number of good commits, which keys are pending, and which are handed out. It holds no value
 pub record State : Type 0 where

@@ -1,25 +1,14 @@
 -- Records of the program as what they say.
-use Rattle.std.specs.Prelude.{◌+◌, List, map, take, Some, None, string_bytes}
-use Rattle.fb_jobs.specs.Library.Texts.{Edit, Puts, Removes}
-use Rattle.fb_jobs.specs.Library.declared.change.Change.{Change}
-use Rattle.fb_jobs.specs.Library.Changes.{edits_of}
-use Rattle.fb_jobs.specs.Reads.{PlainJob}
+use Rattle.std.specs.{Prelude.{◌+◌, List, map, take, Some, None, string_bytes}, declared.sync.Arc.{Arc}, declared.alloc.Global.{Global}}
+use Rattle.fb_jobs.specs.{Library.Texts.{Edit, Puts, Removes}, Library.declared.change.Change.{Change}, Library.Changes.{edits_of}, Reads.{PlainJob}}
 use Rattle.fb_jobs.specs.Values.{finding_of}
 use Rattle.fb_history.specs.Machine as machine
 use Rattle.fb_history.specs.Machine.{most_changes, ToCommit, ToTake, ToDeliver, ToGiveBack, ToAsk, Shown, Finds, Waits, Unknown, OfCommit, OfTake, OfDeliver, OfGiveBack, OfAsk}
-use Rattle.fb_history.specs.BenchView.{Record}
-use Rattle.fb_history.specs.declared.answers.Asked.{Asked}
-use Rattle.fb_history.specs.declared.answers.Asked.TheVariants.{Value, Pending, NoSuchKey}
-use Rattle.fb_history.specs.declared.answers.Delivered.TheVariants.{Accepted}
-use Rattle.fb_history.specs.declared.record.Wanted.{Wanted}
-use Rattle.fb_history.specs.declared.record.TextChange.{TextChange}
-use Rattle.fb_history.specs.declared.record.TextChange.TheVariants.{Put, Remove}
-use Rattle.fb_history.specs.declared.record.Call.{Call}
-use Rattle.fb_history.specs.declared.record.Call.TheVariants.{Commit, Take, Deliver, GiveBack, Ask}
-use Rattle.fb_history.specs.declared.record.Reply.{Reply}
+use Rattle.fb_history.specs.{BenchView.{Record}, declared.answers.Asked.{Asked}, declared.answers.Asked.TheVariants.{Value, Pending, NoSuchKey}}
+use Rattle.fb_history.specs.{declared.answers.Delivered.TheVariants.{Accepted}, declared.record.Wanted.{Wanted}, declared.record.TextChange.{TextChange}}
+use Rattle.fb_history.specs.{declared.record.TextChange.TheVariants.{Put, Remove}, declared.record.Call.{Call}}
+use Rattle.fb_history.specs.{declared.record.Call.TheVariants.{Commit, Take, Deliver, GiveBack, Ask}, declared.record.Reply.{Reply}}
 use Rattle.fb_history.specs.declared.record.Reply.TheVariants as kept
-use Rattle.std.specs.declared.sync.Arc.{Arc}
-use Rattle.std.specs.declared.alloc.Global.{Global}
 
 abbrev pub wanted_job : Wanted → PlainJob
 wanted_job it = record { key = it.key; reads = it.reads.value }

@@ -1,10 +1,7 @@
 //! Laws of a workbench: its entries follow its texts, whatever the calls are.
 ghost use Rattle.std.specs.Prelude.{ℕ, List};
-ghost use Rattle.fb_history.specs.Machine.{State};
-ghost use Rattle.fb_history.specs.BenchView.{Origin, BenchView, IsOrigin, empty_origin};
-ghost use Rattle.fb_history.specs.Limits.{Bounds};
-ghost use Rattle.fb_history.specs.Checkpoints.{checkpointed, IsUnseen, AreOne, NumbersGoOn};
-ghost use Rattle.fb_history.specs.Laws.{EntriesFollow, RefusalsStay, ReachAnywhere};
+ghost use Rattle.fb_history.specs.{Machine.{State}, BenchView.{Origin, BenchView, IsOrigin, empty_origin}, Limits.{Bounds}};
+ghost use Rattle.fb_history.specs.{Checkpoints.{checkpointed, IsUnseen, AreOne, NumbersGoOn}, Laws.{EntriesFollow, RefusalsStay, ReachAnywhere}};
 
 /// The headline: after any list of commits, questions, takings, returns and worker results from any sessions and workers, stale, repeated and foreign results
 /// included, every entry not pending equals what reading, checking, flattening and mapping the present texts from scratch gives; an entry is pending exactly

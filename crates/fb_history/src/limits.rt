@@ -1,6 +1,5 @@
 //! How many units and recorded calls there may be.
-ghost use Rattle.std.specs.Prelude.{◌≡◌};
-ghost use Rattle.std.specs.Option.{SomeIff};
+ghost use Rattle.std.specs.{Prelude.{◌≡◌}, Option.{SomeIff}};
 ghost use Rattle.fb_history.specs.Limits.{AreLimits};
 
 use std::marker::Model;

@@ -38,8 +38,7 @@ impl Model for History {
 
     ghost Value = { BenchView };
 
-    ghost use Rattle.fb_history.specs.Records.{records_in};
-    ghost use Rattle.fb_history.specs.Logs.{IsCounted};
+    ghost use Rattle.fb_history.specs.{Records.{records_in}, Logs.{IsCounted}};
 
     ghost view = { λ it. record { origin = it.start; log = record { limit = it.limit; records = records_in it.records.items } } };
 
@@ -47,8 +46,7 @@ impl Model for History {
 }
 
 impl History {
-    ghost use Rattle.std.specs.Prelude.{◌≡◌, ◌+◌, ◌^◌, ◌<◌, ◌≤◌, ◌↔◌, IsTrue, OnOk, OnErr, IfOk, length};
-    ghost use Rattle.std.specs.Option.{option_map};
+    ghost use Rattle.std.specs.{Prelude.{◌≡◌, ◌+◌, ◌^◌, ◌<◌, ◌≤◌, ◌↔◌, IsTrue, OnOk, OnErr, IfOk, length}, Option.{option_map}};
     ghost use Rattle.fb_history.specs.Checkpoints.{restarted};
     ghost use Rattle.fb_history.specs.BenchView.{all_turns, last_number, logged, new_bench, pages_after, record_after, record_numbered, AreTurns, IsFull};
     ghost use Rattle.fb_history.specs.Records.{call_of, records_in, reply_of};

@@ -3,8 +3,7 @@
 //! two pointers rather than 66 bytes.
 ghost use Rattle.std.specs.Prelude.{◌≡◌, IfOk};
 ghost use Rattle.fb_jobs.specs.Library.Changes.{edit_of, edits_of};
-ghost use Rattle.fb_history.specs.Machine.{OfCommit, OfDeliver};
-ghost use Rattle.fb_history.specs.Records.{text_edit, text_edits, reply_of};
+ghost use Rattle.fb_history.specs.{Machine.{OfCommit, OfDeliver}, Records.{text_edit, text_edits, reply_of}};
 
 use crate::answers::{Committed, Delivered, GivenBack};
 use crate::same::{is_same_call, is_same_reply};

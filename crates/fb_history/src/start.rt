@@ -1,6 +1,5 @@
 //! What a history begins from.
-ghost use Rattle.std.specs.Prelude.{◌≡◌};
-ghost use Rattle.std.specs.List.{list_any};
+ghost use Rattle.std.specs.{Prelude.{◌≡◌}, List.{list_any}};
 ghost use Rattle.fb_jobs.specs.KeyOrder.{same_key};
 
 use fb_jobs::Key;

@@ -1,14 +1,11 @@
 -- What the steps of a session's desk leave in its receipts.
 use Rattle.std.proofs.Common.{◌≡◌, List, [], ◌∷◌, ◌++◌, map, refl, sym, subst}
 use Rattle.fb_wire.specs.Conversations.{Runs}
-use Rattle.fb_locked.specs.Bench.Calls.{Replied, FullHistory, BehindHistory, Exchange, AskedCall, AskedCheckpoint}
-use Rattle.fb_locked.specs.Runs.{IsRun}
+use Rattle.fb_locked.specs.{Bench.Calls.{Replied, FullHistory, BehindHistory, Exchange, AskedCall, AskedCheckpoint}, Runs.{IsRun}}
 use Rattle.fb_locked.specs.Seats.{SeatView, ReceiptView}
 use Rattle.fb_shared.specs.Sitting.{SeatedView, SitterStep}
-use Rattle.fb_serve.specs.AddedReceipts.{AddsRun}
-use Rattle.fb_serve.specs.Sessions.{answered_in, call_shown}
-use Rattle.fb_serve.proofs.AddedReceipts.{run_append}
-use Rattle.fb_serve.proofs.Sessions.{session_shown}
+use Rattle.fb_serve.specs.{AddedReceipts.{AddsRun}, Sessions.{answered_in, call_shown}}
+use Rattle.fb_serve.proofs.{AddedReceipts.{run_append}, Sessions.{session_shown}}
 use Rattle.fb_host.specs.HostSessions.{LeadsTo, HostStep}
 
 -- each is a step of a desk with a seat

@@ -1,17 +1,9 @@
 -- Whose receipts are not all there.
 use Rattle.std.proofs.Common.{◌≡◌, ◌==◌, ◌&&◌, ◌||◌, ◌≤◌, ◌<◌, ℕ, ◌+◌, List, [], ◌∷◌, ◌++◌, Bool, true, false, Option, Some, None, is_some, map, refl, ap, sym, ◌∙◌, arith, nat_lt}
-use Rattle.std.specs.Borrow.{Bor}
-use Rattle.std.specs.List.{list_any}
-use Rattle.std.specs.Map.{keys_of}
-use Rattle.std.specs.Map.Iter.{deref}
-use Rattle.std.proofs.lemmas.Bool.{eqb-true}
-use Rattle.std.proofs.lemmas.Bool.Decides.{nat_tests}
-use Rattle.std.proofs.lemmas.List.{map-append}
-use Rattle.std.proofs.lemmas.List.Folds.{list_any-append}
-use Rattle.fb_locked.specs.Book.{has_called}
-use Rattle.fb_locked.specs.Closing.{AgreesWith, IsLeast, receipts_of}
-use Rattle.fb_locked.specs.History.BenchView.{BenchView, all_turns, on_page, pages_after, turns_of}
-use Rattle.fb_locked.specs.Seats.{SeatView, ReceiptView}
+use Rattle.std.proofs.{lemmas.Bool.{eqb-true}, lemmas.Bool.Decides.{nat_tests}, lemmas.List.{map-append}, lemmas.List.Folds.{list_any-append}}
+use Rattle.std.specs.{Borrow.{Bor}, List.{list_any}, Map.{keys_of}, Map.Iter.{deref}}
+use Rattle.fb_locked.specs.{Book.{has_called}, Closing.{AgreesWith, IsLeast, receipts_of}}
+use Rattle.fb_locked.specs.{History.BenchView.{BenchView, all_turns, on_page, pages_after, turns_of}, Seats.{SeatView, ReceiptView}}
 use Rattle.fb_locked.proofs.EachCaller.{called_all}
 use Rattle.fb_serve.specs.Shown.{ShowsAll}
 use Rattle.fb_host.specs.Short.{is_short}

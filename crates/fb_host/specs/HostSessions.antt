@@ -1,8 +1,6 @@
 -- The desk of a session of a server that stays.
 use Rattle.std.specs.Prelude.{List}
-use Rattle.fb_locked.specs.History.Machine.{Call}
-use Rattle.fb_locked.specs.Bench.Calls.{Answer, Replied, FullHistory, BehindHistory, Exchange, Exchanges}
-use Rattle.fb_locked.specs.Runs.{IsRun}
+use Rattle.fb_locked.specs.{History.Machine.{Call}, Bench.Calls.{Answer, Replied, FullHistory, BehindHistory, Exchange, Exchanges}, Runs.{IsRun}}
 use Rattle.fb_locked.specs.Seats.{SeatView, ReceiptView}
 use Rattle.fb_shared.specs.Sitting.{SeatedView, IsCallSeated, IsCheckpointSitting}
 

@@ -1,8 +1,6 @@
 -- Receipts that are not all there.
 use Rattle.std.specs.Prelude.{ℕ, List, Bool, nat_lt}
-use Rattle.fb_locked.specs.History.BenchView.{BenchView, turns_of}
-use Rattle.fb_locked.specs.Closing.{receipts_of}
-use Rattle.fb_locked.specs.Seats.{ReceiptView}
+use Rattle.fb_locked.specs.{History.BenchView.{BenchView, turns_of}, Closing.{receipts_of}, Seats.{ReceiptView}}
 
 -- a caller with fewer receipts than records since the start
 abbrev pub is_short : BenchView → List ReceiptView → ℕ → Bool

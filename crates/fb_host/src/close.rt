@@ -1,8 +1,6 @@
 //! The close of a host.
 ghost use Rattle.std.specs.Prelude.{◌≡◌, IfOk, true, nat_lt};
-ghost use Rattle.fb_locked.specs.Book.{IsBookOf};
-ghost use Rattle.fb_locked.specs.Closing.{IsLeast, receipts_of};
-ghost use Rattle.fb_locked.specs.History.BenchView.{turns_of};
+ghost use Rattle.fb_locked.specs.{Book.{IsBookOf}, Closing.{IsLeast, receipts_of}, History.BenchView.{turns_of}};
 ghost use Rattle.fb_serve.specs.Shown.{ShowsAll};
 ghost use Rattle.fb_host.specs.Short.{is_short};
 

@@ -1,8 +1,7 @@
 //! The host, on the listener that it gets.
 ghost use Rattle.std.specs.Prelude.{◌≡◌, ◌+◌, IfOk, OnOk, is_ok, if◌then◌else◌, true, false};
 ghost use Rattle.fb_locked.specs.Book.{IsBookOf};
-ghost use Rattle.fb_serve.specs.Lines.{SaysLines};
-ghost use Rattle.fb_serve.specs.Shown.{ShowsAll};
+ghost use Rattle.fb_serve.specs.{Lines.{SaysLines}, Shown.{ShowsAll}};
 
 use crate::close::close;
 use crate::connection_queue::ConnectionQueue;

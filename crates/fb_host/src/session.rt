@@ -1,7 +1,6 @@
 //! One session of a seat.
 ghost use Rattle.std.specs.Prelude.{◌≡◌, [], map, false};
-ghost use Rattle.fb_wire.specs.Ends.{IsConversation, streams};
-ghost use Rattle.fb_wire.specs.Conversations.{Runs};
+ghost use Rattle.fb_wire.specs.{Ends.{IsConversation, streams}, Conversations.{Runs}};
 ghost use Rattle.fb_locked.specs.Runs.{IsRun};
 ghost use Rattle.fb_serve.specs.Sessions.{answered_in, call_shown};
 ghost use Rattle.fb_host.specs.HostSessions.{LeadsTo, HostStep};

@@ -1,24 +1,15 @@
 -- What is found under a name, after some units were put there.
 use Rattle.std.proofs.Common.{◌≡◌, ℕ, Bool, true, false, ◌||◌, ◌&&◌, not, if◌then◌else◌, List, [], ◌∷◌, map, refl, sym, ap, ◌∙◌, subst, Option, Some, None, Result, Ok, Err, OnOk, OnErr, cond, unwrap_or, is_some}
-use Rattle.std.proofs.lemmas.Map.{lookup-remove_entry}
-use Rattle.std.proofs.lemmas.Map.Keys.{IsDistinct-from_sorted}
-use Rattle.std.specs.List.Sorted.{IsStrictlySortedBy}
-use Rattle.std.specs.Map.{lookup, remove_entry}
-use Rattle.std.specs.BTreeMap.{is_at, insert_entry}
+use Rattle.std.proofs.{lemmas.Map.{lookup-remove_entry}, lemmas.Map.Keys.{IsDistinct-from_sorted}}
+use Rattle.std.specs.{List.Sorted.{IsStrictlySortedBy}, Map.{lookup, remove_entry}, BTreeMap.{is_at, insert_entry}, BTreeSet.{BTreeSet}}
+use Rattle.std.specs.{Ordering.{match_ordering, is_eq}, Cmp.{eq_by_cmp_equiv}, declared.cmp.Ordering.TheVariants.{Less, Equal, Greater}}
 use Rattle.std.specs.BTreeSet as set
-use Rattle.std.specs.BTreeSet.{BTreeSet}
-use Rattle.std.specs.Ordering.{match_ordering, is_eq}
-use Rattle.std.specs.Cmp.{eq_by_cmp_equiv}
-use Rattle.std.specs.declared.cmp.Ordering.TheVariants.{Less, Equal, Greater}
 use Rattle.fb_text.proofs.Tests.{and_false, and_true, or_false, no_both}
 use Rattle.fb_text.specs.Order.{name_cmp}
 use Rattle.fb_library.specs.Seen.{has_name}
-use Rattle.fb_library.proofs.Names.{name_total, exact_name}
-use Rattle.fb_library.proofs.Places.{sorted_put, sorted_removed}
-use Rattle.fb_library.proofs.SeenLemmas.{same_is, same_self}
+use Rattle.fb_library.proofs.{Names.{name_total, exact_name}, Places.{sorted_put, sorted_removed}, SeenLemmas.{same_is, same_self}}
 use Rattle.fb_tree.specs.Mentions.{Mentioned}
-use Rattle.fb_index.specs.Users.{UsersByName, users_of, uses, UsesThese, NowUses}
-use Rattle.fb_index.specs.Indexed.{Indexed, mark_of, is_indexed, IsIndexedAs, IsReplaced}
+use Rattle.fb_index.specs.{Users.{UsersByName, users_of, uses, UsesThese, NowUses}, Indexed.{Indexed, mark_of, is_indexed, IsIndexedAs, IsReplaced}}
 use Rattle.fb_index.specs.Steps.{is_only_in, HasJoined, HasLeft}
 use Rattle.fb_index.proofs.Bits.{own_bits, other_bits}
 

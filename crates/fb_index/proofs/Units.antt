@@ -1,7 +1,6 @@
 -- Whoever mentions a name is an indexed unit.
 use Rattle.std.proofs.Common.{◌≡◌, ◌||◌, ◌↔◌, Bool, true, false, ℕ, List, Result, Ok, Err, OnOk, OnErr, is_some, refl, sym, ap, subst, ◌∙◌}
-use Rattle.std.specs.BTreeMap.{is_at}
-use Rattle.std.specs.declared.alloc.AllocError.{AllocError}
+use Rattle.std.specs.{BTreeMap.{is_at}, declared.alloc.AllocError.{AllocError}}
 use Rattle.fb_text.specs.Order.{name_cmp}
 use Rattle.fb_tree.specs.Mentions.{Mentioned}
 use Rattle.fb_library.specs.Seen.{has_name}

@@ -1,19 +1,13 @@
 -- The walks from names to those who use them: where they lead.
 use Rattle.std.proofs.Common.{◌≡◌, ◌↔◌, ℕ, Bool, true, false, List, [], ◌∷◌, ◌++◌, ◌⊎◌, inl, inr, filter, refl, sym, ap, subst, ◌∙◌, Some, cond, unwrap_or}
 use Rattle.std.proofs.lemmas.List.Elements.{Contains-append_left, Contains-append_right, Contains-append_cases}
-use Rattle.std.specs.List.{Contains, flat_map}
-use Rattle.std.specs.Map.{lookup}
-use Rattle.std.specs.BTreeMap.{is_at}
+use Rattle.std.specs.{List.{Contains, flat_map}, Map.{lookup}, BTreeMap.{is_at}}
 use Rattle.fb_text.proofs.Members.{contains_filter, passes_in_filter, contains_flat_map, origin_in_flat_map}
 use Rattle.fb_text.specs.Order.{name_cmp, names_in_order}
-use Rattle.fb_library.specs.Opened.{Leads, itself as at_start, through as by_step, LedFrom, IsWithin}
-use Rattle.fb_library.specs.Seen.{has_name}
-use Rattle.fb_library.proofs.CarriedLemmas.{if_has, has_if}
-use Rattle.fb_library.proofs.Opening.{leads_more, in_names, from_names}
-use Rattle.fb_library.proofs.SeenLemmas.{Contains-has, has-Contains, has-append}
+use Rattle.fb_library.specs.{Opened.{Leads, itself as at_start, through as by_step, LedFrom, IsWithin}, Seen.{has_name}}
+use Rattle.fb_library.proofs.{CarriedLemmas.{if_has, has_if}, Opening.{leads_more, in_names, from_names}, SeenLemmas.{Contains-has, has-Contains, has-append}}
 use Rattle.fb_library.proofs.WalkLemmas.{IsWalk, complete_at_end}
-use Rattle.fb_index.specs.Users.{UsersByName, users_of, uses}
-use Rattle.fb_index.specs.Indexed.{Indexed, is_indexed, is_structure_in}
+use Rattle.fb_index.specs.{Users.{UsersByName, users_of, uses}, Indexed.{Indexed, is_indexed, is_structure_in}}
 use Rattle.fb_index.specs.Near.{Carries, directly, onward, IsNear, own, part, carried, carried_by_part, mentions, Reaches, itself, mention, through, CarriesSome, NearSome, ReachesSome, mentioning, carrying_on}
 
 -- ---- all users of all names, which bound the walks

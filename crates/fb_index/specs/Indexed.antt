@@ -1,7 +1,5 @@
 -- What is indexed of each unit.
-use Rattle.std.specs.Prelude.{◌≡◌, ℕ, Bool, true, false, List, [], Option, is_some, unwrap_or}
-use Rattle.std.specs.Map.{lookup}
-use Rattle.std.specs.BTreeMap.{is_at}
+use Rattle.std.specs.{Prelude.{◌≡◌, ℕ, Bool, true, false, List, [], Option, is_some, unwrap_or}, Map.{lookup}, BTreeMap.{is_at}}
 use Rattle.fb_text.specs.Order.{name_cmp}
 use Rattle.fb_tree.specs.Mentions.{Mentioned}
 use Rattle.fb_index.specs.Users.{UsersByName, uses, UsesThese}

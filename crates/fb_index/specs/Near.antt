@@ -1,8 +1,7 @@
 -- What is near a unit and what it rests on, by what is indexed.
 use Rattle.std.specs.Prelude.{◌≡◌, ℕ, Bool, true, ◌||◌, List, [], ◌++◌, if◌then◌else◌}
 use Rattle.fb_library.specs.Seen.{has_name}
-use Rattle.fb_index.specs.Users.{users_of, uses}
-use Rattle.fb_index.specs.Indexed.{Indexed, is_indexed, is_structure_in}
+use Rattle.fb_index.specs.{Users.{users_of, uses}, Indexed.{Indexed, is_indexed, is_structure_in}}
 
 -- u carries v: v is the type of a value of u, or of a structure that u carries
 pub data Carries (it : Indexed) : List ℕ → List ℕ → Type 0 where

@@ -1,8 +1,6 @@
 -- The steps by which users are changed: which units use which names after one of them.
-use Rattle.std.specs.Prelude.{◌≡◌, ℕ, Bool, ◌&&◌, ◌||◌, not, List, if◌then◌else◌}
-use Rattle.std.specs.BTreeMap.{is_at}
+use Rattle.std.specs.{Prelude.{◌≡◌, ℕ, Bool, ◌&&◌, ◌||◌, not, List, if◌then◌else◌}, BTreeMap.{is_at}, BTreeSet.{BTreeSet}}
 use Rattle.std.specs.BTreeSet as set
-use Rattle.std.specs.BTreeSet.{BTreeSet}
 use Rattle.fb_text.specs.Order.{name_cmp}
 use Rattle.fb_library.specs.Seen.{has_name}
 use Rattle.fb_index.specs.Users.{UsersByName, users_of, uses}

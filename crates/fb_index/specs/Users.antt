@@ -1,7 +1,5 @@
 -- Which units use which names: under each name its users.
-use Rattle.std.specs.Prelude.{◌≡◌, ℕ, Bool, false, List, [], unwrap_or}
-use Rattle.std.specs.Map.{lookup}
-use Rattle.std.specs.BTreeMap.{is_at}
+use Rattle.std.specs.{Prelude.{◌≡◌, ℕ, Bool, false, List, [], unwrap_or}, Map.{lookup}, BTreeMap.{is_at}}
 use Rattle.fb_text.specs.Order.{name_cmp}
 use Rattle.fb_library.specs.Seen.{has_name}
 

@@ -1,12 +1,10 @@
 //! The index of the units by what they mention.
 //! A removed or broken unit stays indexed, without mentions: it marks nothing, since a commit marks only keys of the new texts.
-ghost use Rattle.std.specs.Prelude.{◌≡◌, ◌↔◌, true, List, ℕ, IfOk, OnOk, OnErr};
-ghost use Rattle.std.specs.List.Sorted.{IsStrictlySortedBy};
+ghost use Rattle.std.specs.{Prelude.{◌≡◌, ◌↔◌, true, List, ℕ, IfOk, OnOk, OnErr}, List.Sorted.{IsStrictlySortedBy}};
 ghost use Rattle.fb_text.specs.Order.{name_cmp};
 ghost use Rattle.fb_tree.specs.Mentions.{mentioned};
 ghost use Rattle.fb_library.specs.Seen.{has_name};
-ghost use Rattle.fb_index.specs.Indexed.{is_indexed, nothing_indexed, IsIndexedAs, IsReplaced};
-ghost use Rattle.fb_index.specs.Near.{AreUnits, NearSome, ReachesSome};
+ghost use Rattle.fb_index.specs.{Indexed.{is_indexed, nothing_indexed, IsIndexedAs, IsReplaced}, Near.{AreUnits, NearSome, ReachesSome}};
 
 use crate::tables::Tables;
 use fb_text::Name;

@@ -15,8 +15,7 @@ pub struct NameSet {
 }
 
 impl Model for NameSet {
-    ghost use Rattle.std.specs.Prelude.{ℕ, List, map};
-    ghost use Rattle.std.specs.List.Sorted.{IsStrictlySortedBy};
+    ghost use Rattle.std.specs.{Prelude.{ℕ, List, map}, List.Sorted.{IsStrictlySortedBy}};
     ghost use Rattle.fb_text.specs.Order.{name_cmp};
 
     ghost Value = { List (List ℕ) };

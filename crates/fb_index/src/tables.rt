@@ -1,12 +1,10 @@
 //! The tables of the index: who uses whom.
-ghost use Rattle.std.specs.Prelude.{◌≡◌, ◌↔◌, ℕ, true, List, [], ◌++◌, filter, Contains, IfOk, OnOk, OnErr};
-ghost use Rattle.std.specs.List.{flat_map};
+ghost use Rattle.std.specs.{Prelude.{◌≡◌, ◌↔◌, ℕ, true, List, [], ◌++◌, filter, Contains, IfOk, OnOk, OnErr}, List.{flat_map}};
 ghost use Rattle.std.specs.List.Sorted.{IsStrictlySortedBy};
 ghost use Rattle.fb_text.specs.Order.{name_cmp};
 ghost use Rattle.fb_tree.specs.Mentions.{mentioned};
 ghost use Rattle.fb_library.specs.Seen.{has_name, Opens};
-ghost use Rattle.fb_index.specs.Users.{users_of};
-ghost use Rattle.fb_index.specs.Indexed.{is_indexed, is_structure_in, nothing_indexed, IsIndexedAs, IsReplaced};
+ghost use Rattle.fb_index.specs.{Users.{users_of}, Indexed.{is_indexed, is_structure_in, nothing_indexed, IsIndexedAs, IsReplaced}};
 ghost use Rattle.fb_index.specs.Near.{carrying_on, mentioning, CarriesSome, NearSome, ReachesSome};
 
 use crate::users::Users;

@@ -1,11 +1,9 @@
 //! Which units use which names.
-ghost use Rattle.std.specs.Prelude.{◌≡◌, ℕ, List, [], IfOk, OnOk};
-ghost use Rattle.std.specs.BTreeMap.{is_at};
+ghost use Rattle.std.specs.{Prelude.{◌≡◌, ℕ, List, [], IfOk, OnOk}, BTreeMap.{is_at}};
 ghost use Rattle.std.specs.BTreeSet as set;
 ghost use Rattle.fb_text.specs.Order.{name_cmp};
 ghost use Rattle.fb_library.specs.Seen.{has_name};
-ghost use Rattle.fb_index.specs.Users.{users_of, UsesThese, NowUses};
-ghost use Rattle.fb_index.specs.Steps.{is_only_in, HasJoined, HasLeft, IsPutUnder};
+ghost use Rattle.fb_index.specs.{Users.{users_of, UsesThese, NowUses}, Steps.{is_only_in, HasJoined, HasLeft, IsPutUnder}};
 
 use crate::name_set::NameSet;
 use fb_library::Table;
@@ -23,8 +21,7 @@ pub struct Users {
 }
 
 impl Model for Users {
-    ghost use Rattle.std.specs.Prelude.{map};
-    ghost use Rattle.std.specs.List.Sorted.{IsStrictlySortedBy};
+    ghost use Rattle.std.specs.{Prelude.{map}, List.Sorted.{IsStrictlySortedBy}};
     ghost use Rattle.fb_text.specs.Order.{name_cmp};
     ghost use Rattle.fb_index.specs.Users.{UsersByName};
 

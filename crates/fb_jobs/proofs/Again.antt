@@ -1,28 +1,18 @@
 -- What a key needs is the same where each name that was read for it mentions what it mentioned.
-use Rattle.std.proofs.Common.{◌≡◌, ℕ, ◌<◌, ◌++◌, [], ◌∷◌, List, length, get_or, sym, ap, subst, ◌∙◌, arith, Option, None}
-use Rattle.std.proofs.lemmas.List.{get_or-map}
+use Rattle.std.proofs.{Common.{◌≡◌, ℕ, ◌<◌, ◌++◌, [], ◌∷◌, List, length, get_or, sym, ap, subst, ◌∙◌, arith, Option, None}, lemmas.List.{get_or-map}}
 use Rattle.std.proofs.lemmas.List.Elements.{AllZip-get_or}
-use Rattle.std.specs.List.{AllZip, Contains}
-use Rattle.std.specs.Option.{option_and_then}
+use Rattle.std.specs.{List.{AllZip, Contains}, Option.{option_and_then}}
 use Rattle.fb_tree.specs.Mentions.{Mentioned}
 use Rattle.fb_text.specs.Order.{names_in_order}
-use Rattle.fb_deploy.specs.Library.Near.{Carries, directly, onward, bases_at, carried_of, near_of}
-use Rattle.fb_deploy.specs.Library.Rests.{Rests, itself, through}
+use Rattle.fb_deploy.specs.{Library.Near.{Carries, directly, onward, bases_at, carried_of, near_of}, Library.Rests.{Rests, itself, through}}
 use Rattle.fb_deploy.specs.Library.Texts.{Texts, held, sources_of}
-use Rattle.fb_deploy.specs.Library.View.{Sources, is_structure_at, mentioned_at, mentions_at, mentions_of_tree, tree_of, values_at}
-use Rattle.fb_deploy.specs.Flatten.Far.{far_of}
-use Rattle.fb_deploy.proofs.Library.CarriedLemmas.{carried_is_all}
-use Rattle.fb_deploy.proofs.Library.FarLemmas.{one_in_order, one_list}
-use Rattle.fb_deploy.proofs.Library.Locality.{near_base, near_carried, near_unit, rests_more}
-use Rattle.fb_deploy.proofs.Flatten.FarNames.{far_is_all}
-use Rattle.fb_jobs.specs.declared.key.Kind.{Kind}
-use Rattle.fb_jobs.specs.declared.key.Kind.TheVariants as kind
-use Rattle.fb_jobs.specs.declared.key.Key.{Key}
-use Rattle.fb_jobs.specs.Keys.{needs, needs_of}
-use Rattle.fb_jobs.specs.Reuse.{MentionsTheSame, seen_text}
+use Rattle.fb_deploy.specs.{Library.View.{Sources, is_structure_at, mentioned_at, mentions_at, mentions_of_tree, tree_of, values_at}, Flatten.Far.{far_of}}
+use Rattle.fb_deploy.proofs.{Library.CarriedLemmas.{carried_is_all}, Library.FarLemmas.{one_in_order, one_list}}
+use Rattle.fb_deploy.proofs.{Library.Locality.{near_base, near_carried, near_unit, rests_more}, Flatten.FarNames.{far_is_all}}
+use Rattle.fb_jobs.specs.{declared.key.Kind.{Kind}, declared.key.Key.{Key}, Keys.{needs, needs_of}, Reuse.{MentionsTheSame, seen_text}}
 use Rattle.fb_jobs.specs.Reads.{IsRight, Seen, read_names, read_texts, reads_under}
-use Rattle.fb_jobs.proofs.ReuseLemmas.{count_names, under}
-use Rattle.fb_jobs.proofs.Sources.{get_source}
+use Rattle.fb_jobs.specs.declared.key.Kind.TheVariants as kind
+use Rattle.fb_jobs.proofs.{ReuseLemmas.{count_names, under}, Sources.{get_source}}
 
 -- both mention the same under a name
 abbrev Same : Sources → Sources → List ℕ → Type 0

@@ -1,21 +1,14 @@
 -- Tests of equality that are right, of single values and of lists.
-use Rattle.std.proofs.Common.{◌≡◌, ◌↔◌, ℕ, ◌≤◌, Bool, List, IsTrue, map, length, sym, ap, ◌∙◌}
-use Rattle.std.specs.Ordering.{eq_by_cmp}
-use Rattle.std.specs.BTreeMap.{is_at}
-use Rattle.std.proofs.lemmas.List.{map-id}
+use Rattle.std.proofs.{Common.{◌≡◌, ◌↔◌, ℕ, ◌≤◌, Bool, List, IsTrue, map, length, sym, ap, ◌∙◌}, lemmas.List.{map-id}}
+use Rattle.std.specs.{Ordering.{eq_by_cmp}, BTreeMap.{is_at}}
 use Rattle.fb_text.specs.Order.{name_cmp}
-use Rattle.fb_deploy.proofs.Library.Names.{name_total, exact_name}
-use Rattle.fb_deploy.specs.Iface.declared.fault.Fault.{Fault}
-use Rattle.fb_deploy.specs.Iface.Fault.{fault_cmp, fault_cmp_total}
-use Rattle.fb_deploy.proofs.Iface.FaultLemmas.{fault_cmp-exact}
-use Rattle.fb_jobs.specs.declared.key.Key.{Key}
-use Rattle.fb_jobs.specs.KeyOrder.{key_cmp_total, same_key}
+use Rattle.fb_deploy.proofs.{Library.Names.{name_total, exact_name}, Iface.FaultLemmas.{fault_cmp-exact}}
+use Rattle.fb_deploy.specs.{Iface.declared.fault.Fault.{Fault}, Iface.Fault.{fault_cmp, fault_cmp_total}, Placing.PlainPlan.{PlainPlan}}
+use Rattle.fb_deploy.specs.{Placing.PlainResource.{PlainResource}, Deploy.{planned}}
+use Rattle.fb_jobs.specs.{declared.key.Key.{Key}, KeyOrder.{key_cmp_total, same_key}}
 use Rattle.fb_jobs.proofs.Order.{exact_key}
 use Rattle.fb_network.proofs.Alike.{SameLeftBy, same_to_end_by, told_by}
 use Rattle.fb_network.specs.declared.flat.Link.{Link}
-use Rattle.fb_deploy.specs.Placing.PlainPlan.{PlainPlan}
-use Rattle.fb_deploy.specs.Placing.PlainResource.{PlainResource}
-use Rattle.fb_deploy.specs.Deploy.{planned}
 
 pub one_name : (a b : List ℕ) → IsTrue (is_at (name_cmp a) b) ↔ (a ≡ b)
 one_name = told_by name_total exact_name

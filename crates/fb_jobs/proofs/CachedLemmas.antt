@@ -1,54 +1,29 @@
 -- What a job knows beside its reads holds in them.
 use Rattle.std.proofs.Common.{arith, ◌≡◌, ◌⊎◌, inl, inr, ℕ, zero, suc, ◌<◌, length, get_or, ◌&&◌, Bool, true, false, true≢false, cond, ◌||◌, is_none, is_some, List, [], ◌∷◌, ◌++◌, refl, sym, ap, subst, ◌∙◌, Option, Some, None, Contains, filter}
-use Rattle.std.specs.Map.{lookup}
-use Rattle.std.specs.List.{AllZip, list_any}
-use Rattle.std.specs.Option.{option_and_then, option_map}
-use Rattle.std.specs.FinMap.{get}
-use Rattle.std.specs.BTreeMap as tree
-use Rattle.std.specs.BTreeMap.{is_at}
-use Rattle.std.specs.BTreeSet as set
-use Rattle.std.specs.Ordering.{is_eq}
-use Rattle.std.specs.declared.sync.Arc.{Arc}
-use Rattle.std.specs.declared.alloc.Global.{Global}
 use Rattle.std.proofs.lemmas.List.Elements.{All-contains, Contains-append_left, Contains-append_right}
+use Rattle.std.specs.{Map.{lookup}, List.{AllZip, list_any}, Option.{option_and_then, option_map}, FinMap.{get}, BTreeMap.{is_at}, Ordering.{is_eq}}
+use Rattle.std.specs.{declared.sync.Arc.{Arc}, declared.alloc.Global.{Global}}
+use Rattle.std.specs.BTreeMap as tree
+use Rattle.std.specs.BTreeSet as set
 use Rattle.fb_text.specs.Order.{name_cmp}
 use Rattle.fb_text.proofs.Members.{contains_here}
-use Rattle.fb_deploy.specs.Library.Texts.{Held, Texts, held, sources_of, text_at, text_in}
-use Rattle.fb_deploy.specs.Library.View.{Sources, tree_at, tree_of}
-use Rattle.fb_deploy.specs.Plans.{has_plan_in}
-use Rattle.fb_deploy.specs.Library.Near.{near_of}
-use Rattle.fb_deploy.proofs.Library.Locality.{near_far, rests_both}
-use Rattle.fb_deploy.specs.Library.Rests.{Rests}
-use Rattle.fb_deploy.proofs.Library.Sources.{get_source}
-use Rattle.fb_deploy.proofs.Library.WalkLemmas.{has-Contains, Contains-has}
-use Rattle.fb_deploy.specs.Faults.Faults.{faults_of}
-use Rattle.fb_deploy.specs.Iface.declared.fault.Fault.{Fault}
-use Rattle.fb_deploy.specs.Flatten.Blocking.{is_absent_or_faulty, is_blocking, is_part_among, is_some_fault, is_some_name}
-use Rattle.fb_deploy.specs.Flatten.Far.{far_of}
-use Rattle.fb_deploy.specs.Flatten.Hints.{AreFaultless, AreRightHints}
-use Rattle.fb_deploy.specs.Flatten.Net.{PlainNet, blocked, plain_net}
-use Rattle.fb_deploy.specs.Flatten.Nets.{finite_net, first_net, has_net_in, is_recursive, net_at, net_of_tree}
-use Rattle.fb_deploy.specs.Flatten.Nets.{net_in as net_in_tree}
+use Rattle.fb_deploy.specs.{Library.Texts.{Held, Texts, held, sources_of, text_at, text_in}, Library.View.{Sources, tree_at, tree_of}, Plans.{has_plan_in}}
+use Rattle.fb_deploy.specs.{Library.Near.{near_of}, Library.Rests.{Rests}, Faults.Faults.{faults_of}, Iface.declared.fault.Fault.{Fault}}
+use Rattle.fb_deploy.specs.{Flatten.Blocking.{is_absent_or_faulty, is_blocking, is_part_among, is_some_fault, is_some_name}, Flatten.Far.{far_of}}
+use Rattle.fb_deploy.specs.{Flatten.Hints.{AreFaultless, AreRightHints}, Flatten.Net.{PlainNet, blocked, plain_net}}
+use Rattle.fb_deploy.specs.Flatten.Nets.{finite_net, first_net, has_net_in, is_recursive, net_at, net_of_tree, net_in as net_in_tree}
+use Rattle.fb_deploy.proofs.{Library.Locality.{near_far, rests_both}, Library.Sources.{get_source}, Library.WalkLemmas.{has-Contains, Contains-has}}
 use Rattle.fb_deploy.proofs.Flatten.FarNames.{far_is_all}
 use Rattle.fb_tree.specs.Tree.{DeclTree, block_type, adapter_type, subapplication_type, system_configuration, structure_type}
-use Rattle.fb_jobs.specs.declared.hints.Hint.{Hint}
-use Rattle.fb_jobs.specs.declared.key.Kind.{Kind}
-use Rattle.fb_jobs.specs.declared.key.Kind.TheVariants as kind
-use Rattle.fb_jobs.specs.declared.key.Key.{Key}
-use Rattle.fb_jobs.specs.declared.value.Value.{Value}
-use Rattle.fb_jobs.specs.declared.value.Value.TheVariants.{Faults, Net, Deploy}
-use Rattle.fb_jobs.specs.Hints.{AreChosen, AreHints, IsHint, net_key}
+use Rattle.fb_jobs.specs.{declared.hints.Hint.{Hint}, declared.key.Kind.{Kind}, declared.key.Key.{Key}, declared.value.Value.{Value}}
+use Rattle.fb_jobs.specs.{declared.value.Value.TheVariants.{Faults, Net, Deploy}, Hints.{AreChosen, AreHints, IsHint, net_key}}
 use Rattle.fb_jobs.specs.Keys.{Finding, FaultsFound, NetFound, DeployFound, NothingFound, has_key, has_kind_at, needs, needs_of, net_finding, scratch}
-use Rattle.fb_jobs.specs.Cache.{AreKept}
-use Rattle.fb_jobs.specs.Kinds.{needs_all}
-use Rattle.fb_jobs.specs.declared.cached.Cached.{Cached}
+use Rattle.fb_jobs.specs.{Cache.{AreKept}, Kinds.{needs_all}, declared.cached.Cached.{Cached}}
 use Rattle.fb_jobs.specs.Cached.{IsCached, AddsBlocking, AddsNet, AreBlocking, AreFaultlessAmong, AreNetsOf, AreWithoutFaults, IsBlockedNet, IsFlag, IsKeptFaultless, IsNetOfUnit, IsOwnNet, IsThere, Nets, faults_key, hint_in, is_flagged, judged, named_if, net_in, some_faults}
-use Rattle.fb_jobs.specs.Reads.{Agree, Seen, is_among, read_names, read_texts, reads_for, reads_under}
-use Rattle.fb_jobs.specs.Values.{finding_of}
-use Rattle.fb_jobs.specs.Work.{IsOwnIn}
+use Rattle.fb_jobs.specs.{Reads.{Agree, Seen, is_among, read_names, read_texts, reads_for, reads_under}, Values.{finding_of}, Work.{IsOwnIn}}
+use Rattle.fb_jobs.specs.declared.key.Kind.TheVariants as kind
 use Rattle.fb_jobs.proofs.SameNeeds.{has_key_local, kind_there, scratch_local, same_at, at_itself, unit_needed}
-use Rattle.fb_jobs.proofs.Currents.{AllCurrent, agree_for, current_under, names_under}
-use Rattle.fb_jobs.proofs.HintLemmas.{chosen_hints, hints_stay, net_stays, no_hints}
+use Rattle.fb_jobs.proofs.{Currents.{AllCurrent, agree_for, current_under, names_under}, HintLemmas.{chosen_hints, hints_stay, net_stays, no_hints}}
 
 -- ---- nets by the names of their units
 

@@ -1,20 +1,12 @@
 -- Reads that are current at some texts hold what those texts have under the names read.
 use Rattle.std.proofs.Common.{◌≡◌, ℕ, Bool, true, false, ◌||◌, not, List, [], ◌∷◌, refl, sym, ap, ◌∙◌, subst, Option, Some, None, cond, nat_eq, arith, find, suc, true≢false}
-use Rattle.std.proofs.lemmas.Bool.Decides.{nat_tests}
-use Rattle.std.specs.List.{All, AllByRecursion}
-use Rattle.std.specs.List.Sorted.{IsStrictlySortedBy}
-use Rattle.std.specs.Ordering.{is_gt}
-use Rattle.std.specs.declared.cmp.Ordering.TheVariants.{Less}
-use Rattle.std.proofs.lemmas.Cmp.{tied_itself}
-use Rattle.std.proofs.lemmas.List.Elements.{All-nil, All-cons}
+use Rattle.std.proofs.{lemmas.Bool.Decides.{nat_tests}, lemmas.Cmp.{tied_itself}, lemmas.List.Elements.{All-nil, All-cons}}
+use Rattle.std.specs.{List.{All, AllByRecursion}, List.Sorted.{IsStrictlySortedBy}, Ordering.{is_gt}, declared.cmp.Ordering.TheVariants.{Less}}
+use Rattle.std.specs.{Cmp.Lexicographic.{pointwise}, BTreeMap.{is_at}, Option.{option_map}}
 use Rattle.fb_deploy.proofs.Library.Names.{name_total}
-use Rattle.std.specs.Cmp.Lexicographic.{pointwise}
-use Rattle.std.specs.BTreeMap.{is_at}
-use Rattle.std.specs.Option.{option_map}
 use Rattle.fb_text.specs.Order.{name_cmp}
 use Rattle.fb_deploy.specs.Library.Texts.{Texts, Held, held, text_in}
-use Rattle.fb_jobs.specs.declared.key.Key.{Key}
-use Rattle.fb_jobs.specs.Keys.{needs, has_key, scratch}
+use Rattle.fb_jobs.specs.{declared.key.Key.{Key}, Keys.{needs, has_key, scratch}}
 use Rattle.fb_jobs.specs.Reads.{Seen, PlainJob, IsOf, IsRight, is_among, Agree, read_names, read_texts, put_found, reads_under, reads_for, same_found, same_held, is_current, stale, IsLeastStale}
 use Rattle.fb_jobs.proofs.SameNeeds.{same_at, needs_local, has_key_local, scratch_local, needs_rise}
 

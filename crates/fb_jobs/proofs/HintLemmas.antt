@@ -1,40 +1,23 @@
 -- What is kept is right in the reads of a job that needs all that its unit rests on.
 use Rattle.std.proofs.Common.{arith, ◌<◌, length, get_or, ◌≡◌, ◌≢◌, ℕ, Bool, true, false, cond, ◌&&◌, not, List, [], ◌∷◌, ◌++◌, refl, sym, ap, subst, ◌∙◌, Option, filter, All, Contains}
-use Rattle.std.specs.BTreeMap.{is_at}
-use Rattle.std.specs.List.{AllPairs, AllByRecursion}
-use Rattle.std.specs.List.Sorted.{IsStrictlySortedBy}
-use Rattle.std.specs.Option.{option_and_then, option_map}
-use Rattle.std.specs.declared.cmp.Ordering.TheVariants.{Less}
 use Rattle.std.proofs.lemmas.List.Elements.{All-get_or, All-nil, All-cons, All-push, All-contains, All-contains_itself, filter-append}
-use Rattle.std.proofs.lemmas.List.Kept.{AllPairs-cons, IsStrictlySortedBy-filter}
-use Rattle.std.proofs.lemmas.Cmp.{tied_itself}
-use Rattle.std.proofs.lemmas.Bool.{and_parts}
+use Rattle.std.proofs.{lemmas.List.Kept.{AllPairs-cons, IsStrictlySortedBy-filter}, lemmas.Cmp.{tied_itself}, lemmas.Bool.{and_parts}}
 use Rattle.std.proofs.lemmas.List.{append-nil, get_or-map, length-map, map-append}
+use Rattle.std.specs.{BTreeMap.{is_at}, List.{AllPairs, AllByRecursion}, List.Sorted.{IsStrictlySortedBy}, Option.{option_and_then, option_map}}
+use Rattle.std.specs.declared.cmp.Ordering.TheVariants.{Less}
 use Rattle.fb_text.specs.Order.{name_cmp}
 use Rattle.fb_text.proofs.Members.{contains_map, passes_in_filter}
-use Rattle.fb_deploy.specs.Library.Texts.{Texts, sources_of, text_in}
-use Rattle.fb_deploy.specs.Library.View.{Sources, tree_at, tree_of}
-use Rattle.fb_deploy.specs.Library.Rests.{Rests, itself, through}
-use Rattle.fb_deploy.proofs.Library.Names.{name_total}
-use Rattle.fb_deploy.proofs.Library.Sources.{get_source}
-use Rattle.fb_deploy.proofs.Library.WalkLemmas.{has-Contains, Contains-has}
-use Rattle.fb_deploy.specs.Flatten.Far.{far_of}
-use Rattle.fb_deploy.specs.Flatten.Tables.{is_subapplication_in}
+use Rattle.fb_deploy.specs.{Library.Texts.{Texts, sources_of, text_in}, Library.View.{Sources, tree_at, tree_of}, Library.Rests.{Rests, itself, through}}
+use Rattle.fb_deploy.specs.{Flatten.Far.{far_of}, Flatten.Tables.{is_subapplication_in}}
+use Rattle.fb_deploy.proofs.{Library.Names.{name_total}, Library.Sources.{get_source}, Library.WalkLemmas.{has-Contains, Contains-has}}
 use Rattle.fb_deploy.proofs.Flatten.FarNames.{far_is_all}
-use Rattle.fb_jobs.specs.declared.hints.Hint.{Hint}
-use Rattle.fb_jobs.specs.declared.key.Kind.{Kind}
-use Rattle.fb_jobs.specs.declared.key.Kind.TheVariants as kind
-use Rattle.fb_jobs.specs.declared.key.Key.{Key}
-use Rattle.fb_jobs.specs.Keys.{Finding, needs, needs_of, scratch}
-use Rattle.fb_jobs.specs.Cache.{AreKept}
-use Rattle.fb_jobs.specs.Kinds.{needs_all}
-use Rattle.fb_jobs.specs.Reuse.{seen_text}
-use Rattle.fb_jobs.specs.Reads.{IsOf, Seen, is_among, read_names, read_texts, reads_for}
+use Rattle.fb_jobs.specs.{declared.hints.Hint.{Hint}, declared.key.Kind.{Kind}, declared.key.Key.{Key}, Keys.{Finding, needs, needs_of, scratch}}
+use Rattle.fb_jobs.specs.{Cache.{AreKept}, Kinds.{needs_all}, Reuse.{seen_text}, Reads.{IsOf, Seen, is_among, read_names, read_texts, reads_for}}
 use Rattle.fb_jobs.specs.Values.{finding_of, all_seen, seen_of}
 use Rattle.fb_jobs.specs.Hints.{AddsChosen, AreChosen, AreHints, IsHint, IsKeptHint, is_chosen, is_other_subapplication, net_key, units_of}
 use Rattle.fb_jobs.specs.declared.read.Read.{Read}
-use Rattle.fb_jobs.proofs.SameNeeds.{scratch_local, needs_local, needs_rise}
-use Rattle.fb_jobs.proofs.Currents.{agree_for, names_under}
+use Rattle.fb_jobs.specs.declared.key.Kind.TheVariants as kind
+use Rattle.fb_jobs.proofs.{SameNeeds.{scratch_local, needs_local, needs_rise}, Currents.{agree_for, names_under}}
 
 pub rests_on : {sources : Sources} {a b c : List ℕ} → Rests sources a b → Rests sources b c → Rests sources a c
 rests_on itself k = k

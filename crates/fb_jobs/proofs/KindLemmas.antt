@@ -1,28 +1,15 @@
 -- All kinds, and the keys of names with each of them.
-use Rattle.std.proofs.Common.{◌≡◌, ℕ, Bool, true, false, ◌&&◌, ◌||◌, List, [], ◌∷◌, ◌++◌, refl, sym, ap, ◌∙◌, cond, arith, None}
-use Rattle.std.specs.List.{AllByRecursion, Contains, list_any, flat_map}
-use Rattle.std.specs.List.Sorted.{IsStrictlySortedBy}
-use Rattle.std.specs.BTreeMap.{is_at}
-use Rattle.std.specs.Cmp.{IsTotalOrder, on_total, nat_cmp_total}
-use Rattle.std.specs.FinMap.{nat_cmp-IsAntisymmetric}
-use Rattle.std.specs.Ordering.{ordering_then, is_eq}
-use Rattle.std.specs.declared.cmp.Ordering.{Ordering}
-use Rattle.std.specs.declared.cmp.Ordering.TheVariants.{Less, Equal, Greater}
-use Rattle.std.proofs.lemmas.Cmp.{tied_itself}
+use Rattle.std.proofs.{Common.{◌≡◌, ℕ, Bool, true, false, ◌&&◌, ◌||◌, List, [], ◌∷◌, ◌++◌, refl, sym, ap, ◌∙◌, cond, arith, None}, lemmas.Cmp.{tied_itself}}
 use Rattle.std.proofs.lemmas.List.Folds.{list_any-append}
-use Rattle.fb_text.proofs.Tests.{and_false}
+use Rattle.std.specs.{List.{AllByRecursion, Contains, list_any, flat_map}, List.Sorted.{IsStrictlySortedBy}, BTreeMap.{is_at}}
+use Rattle.std.specs.{Cmp.{IsTotalOrder, on_total, nat_cmp_total}, FinMap.{nat_cmp-IsAntisymmetric}, Ordering.{ordering_then, is_eq}}
+use Rattle.std.specs.{declared.cmp.Ordering.{Ordering}, declared.cmp.Ordering.TheVariants.{Less, Equal, Greater}}
+use Rattle.fb_text.proofs.{Tests.{and_false}, OrderLemmas.{is_equal}}
 use Rattle.fb_text.specs.Order.{name_cmp}
-use Rattle.fb_deploy.specs.Library.View.{Sources}
-use Rattle.fb_deploy.specs.Library.Near.{near_of}
-use Rattle.fb_deploy.specs.Flatten.Far.{far_of}
-use Rattle.fb_jobs.specs.declared.key.Kind.{Kind}
-use Rattle.fb_jobs.specs.declared.key.Kind.TheVariants.{Faults, Net, Deploy}
-use Rattle.fb_jobs.specs.declared.key.Key.{Key}
-use Rattle.fb_jobs.specs.KeyOrder.{kind_number, kind_cmp, key_cmp, same_key}
-use Rattle.fb_jobs.specs.Keys.{has_kind_at, needs_of}
-use Rattle.fb_jobs.specs.Kinds.{all_kinds, all_keys, keys_near_and_far, keys_of_kind, names_for, needs_all}
-use Rattle.fb_jobs.specs.Reads.{is_among}
-use Rattle.fb_text.proofs.OrderLemmas.{is_equal}
+use Rattle.fb_deploy.specs.{Library.View.{Sources}, Library.Near.{near_of}, Flatten.Far.{far_of}}
+use Rattle.fb_jobs.specs.{declared.key.Kind.{Kind}, declared.key.Kind.TheVariants.{Faults, Net, Deploy}, declared.key.Key.{Key}}
+use Rattle.fb_jobs.specs.{KeyOrder.{kind_number, kind_cmp, key_cmp, same_key}, Keys.{has_kind_at, needs_of}}
+use Rattle.fb_jobs.specs.{Kinds.{all_kinds, all_keys, keys_near_and_far, keys_of_kind, names_for, needs_all}, Reads.{is_among}}
 use Rattle.fb_jobs.proofs.Order.{exact_kind}
 
 -- ---- each kind

@@ -1,11 +1,9 @@
 -- Keys among keys.
-use Rattle.std.proofs.Common.{◌≡◌, Bool, true, false, ◌||◌, ◌&&◌, List, [], ◌∷◌, ◌++◌, filter, refl, sym, ap, ◌∙◌, cond}
+use Rattle.std.proofs.{Common.{◌≡◌, Bool, true, false, ◌||◌, ◌&&◌, List, [], ◌∷◌, ◌++◌, filter, refl, sym, ap, ◌∙◌, cond}, lemmas.List.Folds.{list_any-append}}
+use Rattle.std.proofs.lemmas.Cmp.{eq_by_cmp_equiv}
 use Rattle.fb_text.proofs.Tests.{or_false, and_false}
 use Rattle.std.specs.List.{list_any}
-use Rattle.std.proofs.lemmas.List.Folds.{list_any-append}
-use Rattle.std.proofs.lemmas.Cmp.{eq_by_cmp_equiv}
-use Rattle.fb_jobs.specs.declared.key.Key.{Key}
-use Rattle.fb_jobs.specs.KeyOrder.{key_cmp_total, same_key}
+use Rattle.fb_jobs.specs.{declared.key.Key.{Key}, KeyOrder.{key_cmp_total, same_key}}
 use Rattle.fb_jobs.proofs.Order.{keys_equal}
 
 abbrev is_of : Key → List Key → Bool

@@ -1,13 +1,9 @@
 -- Keys that compare equal are one.
 use Rattle.std.proofs.Common.{◌≡◌, refl, true, arith}
-use Rattle.std.specs.declared.cmp.Ordering.TheVariants.{Equal}
-use Rattle.std.specs.Ordering.{nat_cmp}
-use Rattle.std.specs.FinMap.{nat_cmp-IsAntisymmetric}
+use Rattle.std.specs.{declared.cmp.Ordering.TheVariants.{Equal}, Ordering.{nat_cmp}, FinMap.{nat_cmp-IsAntisymmetric}}
 use Rattle.fb_text.proofs.OrderLemmas.{is_equal, both_equal}
 use Rattle.fb_deploy.proofs.Library.Names.{exact_name}
-use Rattle.fb_jobs.specs.declared.key.Kind.{Kind}
-use Rattle.fb_jobs.specs.declared.key.Kind.TheVariants.{Faults, Net, Deploy}
-use Rattle.fb_jobs.specs.declared.key.Key.{Key}
+use Rattle.fb_jobs.specs.{declared.key.Kind.{Kind}, declared.key.Kind.TheVariants.{Faults, Net, Deploy}, declared.key.Key.{Key}}
 use Rattle.fb_jobs.specs.KeyOrder.{kind_number, key_cmp, same_key}
 
 pub exact_kind : (a b : Kind) → kind_number a ≡ kind_number b → a ≡ b

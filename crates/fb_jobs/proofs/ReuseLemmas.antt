@@ -1,49 +1,22 @@
 -- What is read leaves a net as it was.
 use Rattle.std.proofs.Common.{◌≡◌, ℕ, ◌<◌, true, false, List, [], ◌∷◌, ◌⊎◌, inl, inr, length, suc, get_or, refl, sym, ap, subst, ◌∙◌, arith, Option, Some, None, is_none, ◌||◌, Bool}
-use Rattle.std.proofs.lemmas.List.{get_or-map, get_or_default}
-use Rattle.std.proofs.lemmas.List.Elements.{AllZip-get_or, length_all_zip}
-use Rattle.std.specs.FinMap.{get}
-use Rattle.std.specs.List.{Contains}
-use Rattle.std.specs.List.Sorted.{IsStrictlySortedBy}
-use Rattle.std.specs.Option.{option_and_then, option_map}
+use Rattle.std.proofs.{lemmas.List.{get_or-map, get_or_default}, lemmas.List.Elements.{AllZip-get_or, length_all_zip}}
+use Rattle.std.specs.{FinMap.{get}, List.{Contains}, List.Sorted.{IsStrictlySortedBy}, Option.{option_and_then, option_map}}
 use Rattle.fb_text.specs.Order.{name_cmp}
-use Rattle.fb_deploy.specs.Deploy.{PlainDeploy, plain_deploy}
-use Rattle.fb_deploy.specs.Plans.{is_whole_plan, plan_at}
-use Rattle.fb_deploy.specs.Iface.declared.fault.Fault.{Fault}
-use Rattle.fb_deploy.specs.Faults.Faults.{faults_of}
-use Rattle.fb_deploy.specs.Library.Place.{IsAt}
-use Rattle.fb_deploy.specs.Library.Rests.{Rests, itself}
-use Rattle.fb_deploy.specs.Library.Texts.{Held, Texts, sources_of, text_in}
-use Rattle.fb_deploy.specs.Library.View.{tree_of}
-use Rattle.fb_deploy.specs.Flatten.Blocking.{is_some_fault}
-use Rattle.fb_deploy.specs.Flatten.Far.{far_of}
-use Rattle.fb_deploy.specs.Flatten.Hints.{is_whole_net}
-use Rattle.fb_deploy.specs.Flatten.Kept.{IsStill, LeavesNet}
-use Rattle.fb_deploy.specs.Flatten.Net.{PlainNet, plain_net}
-use Rattle.fb_deploy.specs.Flatten.Nets.{net_at}
-use Rattle.fb_deploy.specs.Flatten.Wiring.ByName.{kind_at}
-use Rattle.fb_deploy.specs.Flatten.Wiring.Local.{SaysSame}
-use Rattle.fb_deploy.specs.Flatten.Wiring.Tree.Mentions.{unit_kind_of}
-use Rattle.fb_deploy.specs.Flatten.Wiring.Tree.declared.kinds.UnitKind.TheVariants.{Block}
-use Rattle.fb_deploy.proofs.Flatten.FarNames.{far_is_all}
-use Rattle.fb_deploy.proofs.Flatten.NetLocality.{says_itself}
-use Rattle.fb_deploy.proofs.Flatten.NetLeft.{net_left, no_faults_of_nothing}
+use Rattle.fb_deploy.specs.{Deploy.{PlainDeploy, plain_deploy}, Plans.{is_whole_plan, plan_at}, Iface.declared.fault.Fault.{Fault}, Faults.Faults.{faults_of}}
+use Rattle.fb_deploy.specs.{Library.Place.{IsAt}, Library.Rests.{Rests, itself}, Library.Texts.{Held, Texts, sources_of, text_in}, Library.View.{tree_of}}
+use Rattle.fb_deploy.specs.{Flatten.Blocking.{is_some_fault}, Flatten.Far.{far_of}, Flatten.Hints.{is_whole_net}, Flatten.Kept.{IsStill, LeavesNet}}
+use Rattle.fb_deploy.specs.{Flatten.Net.{PlainNet, plain_net}, Flatten.Nets.{net_at}, Flatten.Wiring.ByName.{kind_at}, Flatten.Wiring.Local.{SaysSame}}
+use Rattle.fb_deploy.specs.{Flatten.Wiring.Tree.Mentions.{unit_kind_of}, Flatten.Wiring.Tree.declared.kinds.UnitKind.TheVariants.{Block}}
+use Rattle.fb_deploy.proofs.{Flatten.FarNames.{far_is_all}, Flatten.NetLocality.{says_itself}, Flatten.NetLeft.{net_left, no_faults_of_nothing}}
 use Rattle.fb_deploy.proofs.PlanLeft.{plan_left}
-use Rattle.fb_jobs.specs.declared.key.Kind.{Kind}
-use Rattle.fb_jobs.specs.declared.key.Kind.TheVariants as kind
-use Rattle.fb_jobs.specs.declared.key.Key.{Key}
-use Rattle.fb_jobs.specs.declared.value.Value.{Value}
-use Rattle.fb_jobs.specs.declared.value.Value.TheVariants.{Faults, Net, Deploy}
-use Rattle.fb_jobs.specs.Hints.{net_key}
-use Rattle.fb_jobs.specs.Keys.{DeployFound, NetFound, needs, net_finding, plan_finding, scratch, scratch_of}
-use Rattle.fb_jobs.specs.Cached.{AreWithoutFaults}
-use Rattle.fb_jobs.specs.Reuse.{AreStillRead, IsDerived, IsStillFound, IsStillRead, is_whole_value, seen_text}
-use Rattle.fb_jobs.specs.Reads.{IsRight, Seen, read_names, read_texts}
+use Rattle.fb_jobs.specs.{declared.key.Kind.{Kind}, declared.key.Key.{Key}, declared.value.Value.{Value}}
+use Rattle.fb_jobs.specs.{declared.value.Value.TheVariants.{Faults, Net, Deploy}, Hints.{net_key}}
+use Rattle.fb_jobs.specs.{Keys.{DeployFound, NetFound, needs, net_finding, plan_finding, scratch, scratch_of}, Cached.{AreWithoutFaults}}
+use Rattle.fb_jobs.specs.{Reuse.{AreStillRead, IsDerived, IsStillFound, IsStillRead, is_whole_value, seen_text}, Reads.{IsRight, Seen, read_names, read_texts}}
 use Rattle.fb_jobs.specs.Values.{finding_of}
-use Rattle.fb_jobs.proofs.CachedLemmas.{faultless_in, net_found}
-use Rattle.fb_jobs.proofs.Searches.{found_at}
-use Rattle.fb_jobs.proofs.SameNeeds.{needs_rise, scratch_is}
-use Rattle.fb_jobs.proofs.Sources.{get_source}
+use Rattle.fb_jobs.specs.declared.key.Kind.TheVariants as kind
+use Rattle.fb_jobs.proofs.{CachedLemmas.{faultless_in, net_found}, Searches.{found_at}, SameNeeds.{needs_rise, scratch_is}, Sources.{get_source}}
 
 module _ (unit : List ℕ) (faultless : List ℕ → Bool) (name : List ℕ) where
   text_of : (a b : Option Held) → IsStillFound unit faultless name a b → (option_map text_in a ≡ option_map text_in b) ⊎ (option_map unit_kind_of (option_and_then tree_of (option_map text_in a)) ≡ Some Block)

@@ -1,31 +1,15 @@
 -- Texts that agree on what a key needs have the same needs and the same value for it.
-use Rattle.std.proofs.Common.{◌≡◌, ℕ, true, List, refl, sym, ap, ◌∙◌}
-use Rattle.std.specs.List.Sorted.{IsStrictlySortedBy}
-use Rattle.std.specs.BTreeMap.{is_at}
-use Rattle.std.specs.FinMap.{get}
-use Rattle.std.specs.Ordering.{is_eq}
-use Rattle.std.proofs.lemmas.Cmp.{tied_itself}
+use Rattle.std.proofs.{Common.{◌≡◌, ℕ, true, List, refl, sym, ap, ◌∙◌}, lemmas.Cmp.{tied_itself}}
+use Rattle.std.specs.{List.Sorted.{IsStrictlySortedBy}, BTreeMap.{is_at}, FinMap.{get}, Ordering.{is_eq}}
 use Rattle.fb_text.specs.Order.{name_cmp}
 use Rattle.fb_text.proofs.OrderLemmas.{is_equal}
-use Rattle.fb_deploy.specs.Library.Texts.{Texts, sources_of}
-use Rattle.fb_deploy.specs.Library.View.{Sources}
-use Rattle.fb_deploy.specs.Library.Near.{near_of}
-use Rattle.fb_deploy.proofs.Library.CarriedLemmas.{near_is_all}
+use Rattle.fb_deploy.specs.{Library.Texts.{Texts, sources_of}, Library.View.{Sources}, Library.Near.{near_of}, Flatten.Far.{far_of}}
+use Rattle.fb_deploy.proofs.{Library.CarriedLemmas.{near_is_all}, Library.Names.{name_total, exact_name}, Library.Sources.{get_source}}
+use Rattle.fb_deploy.proofs.{Library.WalkLemmas.{has-Contains}, Library.Locality.{near_unit, near_local}, Faults.Locality.{faults_local}}
+use Rattle.fb_deploy.proofs.{Flatten.FarNames.{far_is_all, far_of_local, far_unit}, Flatten.ComputedNets.{net_at_local}, ComputedPlans.{plan_at_local}}
 use Rattle.fb_deploy.specs.Library.Local as local
-use Rattle.fb_deploy.proofs.Library.Names.{name_total, exact_name}
-use Rattle.fb_deploy.proofs.Library.Sources.{get_source}
-use Rattle.fb_deploy.proofs.Library.WalkLemmas.{has-Contains}
-use Rattle.fb_deploy.proofs.Library.Locality.{near_unit, near_local}
-use Rattle.fb_deploy.proofs.Faults.Locality.{faults_local}
-use Rattle.fb_deploy.specs.Flatten.Far.{far_of}
-use Rattle.fb_deploy.proofs.Flatten.FarNames.{far_is_all, far_of_local, far_unit}
-use Rattle.fb_deploy.proofs.Flatten.ComputedNets.{net_at_local}
-use Rattle.fb_deploy.proofs.ComputedPlans.{plan_at_local}
-use Rattle.fb_jobs.specs.declared.key.Kind.{Kind}
-use Rattle.fb_jobs.specs.declared.key.Kind.TheVariants.{Faults, Net, Deploy}
-use Rattle.fb_jobs.specs.declared.key.Key.{Key}
-use Rattle.fb_jobs.specs.Keys.{needs, needs_of, has_key, has_kind_at, scratch, scratch_of, net_finding, plan_finding, FaultsFound}
-use Rattle.fb_jobs.specs.Reads.{is_among, Agree}
+use Rattle.fb_jobs.specs.{declared.key.Kind.{Kind}, declared.key.Kind.TheVariants.{Faults, Net, Deploy}, declared.key.Key.{Key}}
+use Rattle.fb_jobs.specs.{Keys.{needs, needs_of, has_key, has_kind_at, scratch, scratch_of, net_finding, plan_finding, FaultsFound}, Reads.{is_among, Agree}}
 
 pub at_itself : (n : List ℕ) → is_at (name_cmp n) n ≡ true
 at_itself n = ap is_eq (tied_itself name_total n)

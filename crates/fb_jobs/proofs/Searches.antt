@@ -1,24 +1,12 @@
 -- A search among reads that stand by rising name, and what is found at its end.
 use Rattle.std.proofs.Common.{◌≡◌, ℕ, zero, suc, ◌<◌, false, cond, List, [], ◌∷◌, length, map, get_or, refl, sym, ap, subst, ◌∙◌, arith, Option, Some, None, Result, All}
-use Rattle.std.specs.List.{AllByRecursion}
-use Rattle.std.specs.List.Sorted.{IsStrictlySortedBy, IsSearchInRange, IsBinarySearchResult}
-use Rattle.std.specs.Ordering.{is_eq}
-use Rattle.std.specs.declared.cmp.Ordering.TheVariants.{Less}
-use Rattle.std.proofs.lemmas.Map.Keys.{Less-from_sorted}
+use Rattle.std.proofs.{lemmas.Map.Keys.{Less-from_sorted}, lemmas.List.{get_or-map}, lemmas.List.Elements.{All-get_or}}
+use Rattle.std.specs.{List.{AllByRecursion}, List.Sorted.{IsStrictlySortedBy, IsSearchInRange, IsBinarySearchResult}, Ordering.{is_eq}}
+use Rattle.std.specs.{declared.cmp.Ordering.TheVariants.{Less}, Option.{MatchOption, option_map}, declared.sync.Arc.{Arc}, declared.alloc.Global.{Global}}
 use Rattle.fb_text.specs.Order.{name_cmp}
-use Rattle.std.specs.Option.{MatchOption, option_map}
-use Rattle.std.proofs.lemmas.List.{get_or-map}
-use Rattle.std.proofs.lemmas.List.Elements.{All-get_or}
-use Rattle.std.specs.declared.sync.Arc.{Arc}
-use Rattle.std.specs.declared.alloc.Global.{Global}
-use Rattle.fb_deploy.specs.Library.Texts.{Held, held, text_in, text_at}
-use Rattle.fb_deploy.specs.Parse.Source.{Written}
-use Rattle.fb_deploy.specs.Library.Place.{IsAt, IsGapFor}
-use Rattle.fb_deploy.proofs.Library.Places.{greater}
-use Rattle.fb_deploy.proofs.Library.Searches.{Searched, searched as search_of}
-use Rattle.fb_jobs.specs.Reads.{Seen, read_names, read_texts, put_found}
-use Rattle.fb_jobs.specs.Values.{all_seen, seen_of, found_in, IsOwn}
-use Rattle.fb_jobs.specs.declared.read.Read.{Read}
+use Rattle.fb_deploy.specs.{Library.Texts.{Held, held, text_in, text_at}, Parse.Source.{Written}, Library.Place.{IsAt, IsGapFor}}
+use Rattle.fb_deploy.proofs.{Library.Places.{greater}, Library.Searches.{Searched, searched as search_of}}
+use Rattle.fb_jobs.specs.{Reads.{Seen, read_names, read_texts, put_found}, Values.{all_seen, seen_of, found_in, IsOwn}, declared.read.Read.{Read}}
 use Rattle.fb_jobs.proofs.SameNeeds.{at_itself}
 
 abbrev names : List Read → List (List ℕ)

@@ -1,26 +1,12 @@
 -- Nets that were found on the way.
-use Rattle.std.proofs.Common.{◌≡◌, ℕ, Bool, true, false, List, [], refl, sym, ap, subst, ◌∙◌, None, All, get_or}
-use Rattle.std.proofs.lemmas.List.Elements.{All-nil}
-use Rattle.fb_deploy.specs.Flatten.Far.{far_of}
-use Rattle.fb_deploy.specs.Flatten.Nets.{net_at}
-use Rattle.fb_deploy.specs.Library.Rests.{Rests}
-use Rattle.fb_deploy.specs.Library.Texts.{Texts, sources_of}
-use Rattle.fb_deploy.specs.Library.View.{Sources}
-use Rattle.fb_deploy.proofs.Flatten.FarNames.{far_is_all}
-use Rattle.fb_deploy.proofs.Library.WalkLemmas.{has-Contains}
-use Rattle.fb_jobs.specs.declared.hints.Hint.{Hint}
-use Rattle.fb_jobs.specs.declared.key.Kind.{Kind}
+use Rattle.std.proofs.{Common.{◌≡◌, ℕ, Bool, true, false, List, [], refl, sym, ap, subst, ◌∙◌, None, All, get_or}, lemmas.List.Elements.{All-nil}}
+use Rattle.fb_deploy.specs.{Flatten.Far.{far_of}, Flatten.Nets.{net_at}, Library.Rests.{Rests}, Library.Texts.{Texts, sources_of}, Library.View.{Sources}}
+use Rattle.fb_deploy.proofs.{Flatten.FarNames.{far_is_all}, Library.WalkLemmas.{has-Contains}}
+use Rattle.fb_jobs.specs.{declared.hints.Hint.{Hint}, declared.key.Kind.{Kind}, declared.key.Key.{Key}, Hints.{IsNetOf, net_key}}
+use Rattle.fb_jobs.specs.{Keys.{needs, needs_of, net_finding, scratch}, Kinds.{needs_all}, Reads.{IsRight, PlainJob, is_among, read_texts, stale}}
+use Rattle.fb_jobs.specs.{Values.{finding_of}, Work.{IsFoundFor, IsFoundIn}}
 use Rattle.fb_jobs.specs.declared.key.Kind.TheVariants as kind
-use Rattle.fb_jobs.specs.declared.key.Key.{Key}
-use Rattle.fb_jobs.specs.Hints.{IsNetOf, net_key}
-use Rattle.fb_jobs.specs.Keys.{needs, needs_of, net_finding, scratch}
-use Rattle.fb_jobs.specs.Kinds.{needs_all}
-use Rattle.fb_jobs.specs.Reads.{IsRight, PlainJob, is_among, read_texts, stale}
-use Rattle.fb_jobs.specs.Values.{finding_of}
-use Rattle.fb_jobs.specs.Work.{IsFoundFor, IsFoundIn}
-use Rattle.fb_jobs.proofs.Currents.{agree_from_current, current_from_stale}
-use Rattle.fb_jobs.proofs.HintLemmas.{net_needed}
-use Rattle.fb_jobs.proofs.SameNeeds.{scratch_local}
+use Rattle.fb_jobs.proofs.{Currents.{agree_from_current, current_from_stale}, HintLemmas.{net_needed}, SameNeeds.{scratch_local}}
 
 rests_by : (kind : Kind) (sources : Sources) (unit n : List ℕ) → needs_all kind ≡ true → Rests sources unit n → is_among n (needs_of kind sources unit) ≡ true
 rests_by kind.Faults sources unit n all r = cc

@@ -1,11 +1,7 @@
 -- What is read of texts, and what is read again under the names of earlier reads.
-use Rattle.std.specs.Prelude.{◌≡◌, List, All}
-use Rattle.std.specs.List.{AllZip}
+use Rattle.std.specs.{Prelude.{◌≡◌, List, All}, List.{AllZip}}
 use Rattle.fb_deploy.specs.Library.Texts.{Texts}
-use Rattle.fb_jobs.specs.declared.key.Key.{Key}
-use Rattle.fb_jobs.specs.declared.read.Read.{Read}
-use Rattle.fb_jobs.specs.Reuse.{MentionsTheSame}
-use Rattle.fb_jobs.specs.Reads.{Seen, read_names, reads_for, reads_under}
+use Rattle.fb_jobs.specs.{declared.key.Key.{Key}, declared.read.Read.{Read}, Reuse.{MentionsTheSame}, Reads.{Seen, read_names, reads_for, reads_under}}
 use Rattle.fb_jobs.specs.Values.{all_seen, IsOwn}
 
 -- what the key needs is read of the library, each source is of the name that it was read under, and these are the texts

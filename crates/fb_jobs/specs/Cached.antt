@@ -1,23 +1,14 @@
 -- What a job knows beside its reads and its hints.
 use Rattle.std.specs.Prelude.{◌≡◌, ◌⊎◌, ℕ, Bool, true, false, ◌&&◌, ◌||◌, if◌then◌else◌, is_some, List, [], ◌∷◌, ◌++◌, Option, Some, None, Contains}
+use Rattle.std.specs.{BTreeMap.{is_at}, declared.sync.Arc.{Arc}, declared.alloc.Global.{Global}}
 use Rattle.std.specs.BTreeMap as tree
-use Rattle.std.specs.BTreeMap.{is_at}
-use Rattle.std.specs.declared.sync.Arc.{Arc}
-use Rattle.std.specs.declared.alloc.Global.{Global}
 use Rattle.fb_text.specs.Order.{name_cmp}
-use Rattle.fb_deploy.specs.Library.Texts.{Texts}
-use Rattle.fb_deploy.specs.Flatten.Blocking.{is_some_fault, is_some_name}
-use Rattle.fb_deploy.specs.Flatten.Net.{PlainNet, blocked, plain_net}
-use Rattle.fb_jobs.specs.declared.hints.Hint.{Hint}
-use Rattle.fb_jobs.specs.declared.cached.Cached.{Cached}
-use Rattle.fb_jobs.specs.declared.key.Kind.TheVariants as kind
-use Rattle.fb_jobs.specs.declared.key.Key.{Key}
-use Rattle.fb_jobs.specs.declared.value.Value.{Value}
+use Rattle.fb_deploy.specs.{Library.Texts.{Texts}, Flatten.Blocking.{is_some_fault, is_some_name}, Flatten.Net.{PlainNet, blocked, plain_net}}
+use Rattle.fb_jobs.specs.{declared.hints.Hint.{Hint}, declared.cached.Cached.{Cached}, declared.key.Key.{Key}, declared.value.Value.{Value}}
 use Rattle.fb_jobs.specs.declared.value.Value.TheVariants.{Faults, Net, Deploy}
-use Rattle.fb_jobs.specs.Keys.{Finding, FaultsFound, NetFound, DeployFound, NothingFound, has_key, scratch}
-use Rattle.fb_jobs.specs.Reads.{Seen, read_names, read_texts, is_among}
-use Rattle.fb_jobs.specs.Hints.{AreHints, net_key}
-use Rattle.fb_jobs.specs.Values.{finding_of}
+use Rattle.fb_jobs.specs.{Keys.{Finding, FaultsFound, NetFound, DeployFound, NothingFound, has_key, scratch}, Reads.{Seen, read_names, read_texts, is_among}}
+use Rattle.fb_jobs.specs.{Hints.{AreHints, net_key}, Values.{finding_of}}
+use Rattle.fb_jobs.specs.declared.key.Kind.TheVariants as kind
 
 -- ---- nets
 

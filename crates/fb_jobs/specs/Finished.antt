@@ -1,16 +1,7 @@
 -- What each `Job` and each `Finished` keeps.
-use Rattle.std.specs.Prelude.{◌≡◌, List, All}
-use Rattle.std.specs.declared.sync.Arc.{Arc}
-use Rattle.std.specs.declared.alloc.Global.{Global}
-use Rattle.fb_jobs.specs.Keys.{scratch}
-use Rattle.fb_jobs.specs.Reads.{PlainJob, Seen, IsRight, read_texts}
-use Rattle.fb_jobs.specs.Values.{finding_of, all_seen, IsOwn}
-use Rattle.fb_jobs.specs.Cached.{IsCached}
-use Rattle.fb_jobs.specs.Work.{IsFoundFor}
-use Rattle.fb_jobs.specs.declared.hints.Hint.{Hint}
-use Rattle.fb_jobs.specs.declared.cached.Cached.{Cached}
-use Rattle.fb_jobs.specs.declared.key.Key.{Key}
-use Rattle.fb_jobs.specs.declared.read.Read.{Read}
+use Rattle.std.specs.{Prelude.{◌≡◌, List, All}, declared.sync.Arc.{Arc}, declared.alloc.Global.{Global}}
+use Rattle.fb_jobs.specs.{Keys.{scratch}, Reads.{PlainJob, Seen, IsRight, read_texts}, Values.{finding_of, all_seen, IsOwn}, Cached.{IsCached}}
+use Rattle.fb_jobs.specs.{Work.{IsFoundFor}, declared.hints.Hint.{Hint}, declared.cached.Cached.{Cached}, declared.key.Key.{Key}, declared.read.Read.{Read}}
 use Rattle.fb_jobs.specs.declared.value.Value.{Value}
 
 abbrev pub plain_job : Key → List Read → PlainJob

@@ -1,19 +1,12 @@
 -- The nets of other subapplications that a job is given along.
-use Rattle.std.specs.Prelude.{◌≡◌, ◌≢◌, ℕ, Bool, true, false, not, ◌&&◌, is_some, List, [], ◌∷◌, ◌++◌, map, filter, Option, Some, All}
-use Rattle.std.specs.List.{AllPairs}
+use Rattle.std.specs.{Prelude.{◌≡◌, ◌≢◌, ℕ, Bool, true, false, not, ◌&&◌, is_some, List, [], ◌∷◌, ◌++◌, map, filter, Option, Some, All}, List.{AllPairs}}
 use Rattle.std.specs.BTreeMap.{is_at}
 use Rattle.fb_text.specs.Order.{name_cmp}
-use Rattle.fb_deploy.specs.Library.Texts.{Texts, sources_of}
-use Rattle.fb_deploy.specs.Library.View.{tree_at}
-use Rattle.fb_deploy.specs.Flatten.Tables.{is_subapplication_in}
+use Rattle.fb_deploy.specs.{Library.Texts.{Texts, sources_of}, Library.View.{tree_at}, Flatten.Tables.{is_subapplication_in}}
 use Rattle.fb_jobs.specs.declared.key.Kind.TheVariants as kind
-use Rattle.fb_jobs.specs.declared.key.Key.{Key}
-use Rattle.fb_jobs.specs.declared.hints.Hint.{Hint}
-use Rattle.fb_jobs.specs.Keys.{Finding, needs, scratch}
+use Rattle.fb_jobs.specs.{declared.key.Key.{Key}, declared.hints.Hint.{Hint}, Keys.{Finding, needs, scratch}, Kinds.{needs_all}}
+use Rattle.fb_jobs.specs.{Reads.{Seen, read_names, is_among}, Values.{finding_of}}
 pub use Rattle.fb_jobs.specs.Cache.{AreKept}
-use Rattle.fb_jobs.specs.Kinds.{needs_all}
-use Rattle.fb_jobs.specs.Reads.{Seen, read_names, is_among}
-use Rattle.fb_jobs.specs.Values.{finding_of}
 
 -- the key of a unit's net
 abbrev pub net_key : List ℕ → Key

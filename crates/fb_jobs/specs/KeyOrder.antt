@@ -1,13 +1,8 @@
 -- The order of keys.
-use Rattle.std.specs.Prelude.{ℕ, Bool}
-use Rattle.std.specs.declared.cmp.Ordering.{Ordering}
-use Rattle.std.specs.Ordering.{nat_cmp, on, then_cmp, is_eq}
-use Rattle.std.specs.Cmp.{IsTotalOrder, then_total, on_total, nat_cmp_total}
-use Rattle.std.specs.Cmp.Lexicographic.{nat_list_cmp_total}
+use Rattle.std.specs.{Prelude.{ℕ, Bool}, declared.cmp.Ordering.{Ordering}, Ordering.{nat_cmp, on, then_cmp, is_eq}}
+use Rattle.std.specs.{Cmp.{IsTotalOrder, then_total, on_total, nat_cmp_total}, Cmp.Lexicographic.{nat_list_cmp_total}}
 use Rattle.fb_text.specs.Order.{name_cmp}
-use Rattle.fb_jobs.specs.declared.key.Kind.{Kind}
-use Rattle.fb_jobs.specs.declared.key.Kind.TheVariants.{Faults, Net, Deploy}
-use Rattle.fb_jobs.specs.declared.key.Key.{Key}
+use Rattle.fb_jobs.specs.{declared.key.Kind.{Kind}, declared.key.Kind.TheVariants.{Faults, Net, Deploy}, declared.key.Key.{Key}}
 
 abbrev pub kind_number : Kind → ℕ
 kind_number Faults = 0

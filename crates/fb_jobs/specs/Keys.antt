@@ -1,19 +1,9 @@
 -- Which keys texts have, what a key needs, and what reading it from scratch gives.
-use Rattle.std.specs.Prelude.{ℕ, Bool, List, Option, Some, None, is_some}
-use Rattle.std.specs.Option.{option_and_then}
-use Rattle.fb_deploy.specs.Library.Texts.{Texts, text_at, sources_of}
-use Rattle.fb_deploy.specs.Library.View.{Sources, tree_of}
-use Rattle.fb_deploy.specs.Library.Near.{near_of}
-use Rattle.fb_deploy.specs.Iface.declared.fault.Fault.{Fault}
-use Rattle.fb_deploy.specs.Faults.Faults.{faults_of}
-use Rattle.fb_deploy.specs.Flatten.Net.{PlainNet}
-use Rattle.fb_deploy.specs.Flatten.Far.{far_of}
-use Rattle.fb_deploy.specs.Flatten.Nets.{has_net_in, net_at}
-use Rattle.fb_deploy.specs.Deploy.{PlainDeploy}
-use Rattle.fb_deploy.specs.Plans.{has_plan_in, plan_at}
-use Rattle.fb_jobs.specs.declared.key.Kind.{Kind}
-use Rattle.fb_jobs.specs.declared.key.Kind.TheVariants.{Faults, Net, Deploy}
-use Rattle.fb_jobs.specs.declared.key.Key.{Key}
+use Rattle.std.specs.{Prelude.{ℕ, Bool, List, Option, Some, None, is_some}, Option.{option_and_then}}
+use Rattle.fb_deploy.specs.{Library.Texts.{Texts, text_at, sources_of}, Library.View.{Sources, tree_of}, Library.Near.{near_of}}
+use Rattle.fb_deploy.specs.{Iface.declared.fault.Fault.{Fault}, Faults.Faults.{faults_of}, Flatten.Net.{PlainNet}, Flatten.Far.{far_of}}
+use Rattle.fb_deploy.specs.{Flatten.Nets.{has_net_in, net_at}, Deploy.{PlainDeploy}, Plans.{has_plan_in, plan_at}}
+use Rattle.fb_jobs.specs.{declared.key.Kind.{Kind}, declared.key.Kind.TheVariants.{Faults, Net, Deploy}, declared.key.Key.{Key}}
 
 -- Whether a unit with this text, or with none, has a key of the kind: each unit has faults, a subapplication and a system have a net,
 -- and a system has a plan.

@@ -1,14 +1,9 @@
 -- What a job has read: under each name a text with its revision, or nothing.
 use Rattle.std.specs.Prelude.{◌≡◌, ℕ, Bool, true, false, ◌&&◌, not, List, [], ◌∷◌, map, Option, Some, None, nat_eq, ◌==◌, find, All, Any}
-use Rattle.std.specs.Cmp.Lexicographic.{pointwise}
-use Rattle.std.specs.Option.{option_map}
-use Rattle.std.specs.List.{list_any}
-use Rattle.std.specs.Ordering.{is_gt}
-use Rattle.std.specs.BTreeMap.{is_at}
+use Rattle.std.specs.{Cmp.Lexicographic.{pointwise}, Option.{option_map}, List.{list_any}, Ordering.{is_gt}, BTreeMap.{is_at}}
 use Rattle.fb_text.specs.Order.{name_cmp}
 use Rattle.fb_deploy.specs.Library.Texts.{Texts, Held, held, text_at}
-use Rattle.fb_jobs.specs.declared.key.Key.{Key}
-use Rattle.fb_jobs.specs.Keys.{has_key, needs}
+use Rattle.fb_jobs.specs.{declared.key.Key.{Key}, Keys.{has_key, needs}}
 
 pub record Seen : Type 0 where
   pub name : List ℕ

@@ -1,20 +1,9 @@
 -- What is read now, beside what gave a value before.
-use Rattle.std.specs.Prelude.{◌≡◌, ◌⊎◌, ⊤, ℕ, Bool, true, false, List, Option, None, Some}
-use Rattle.std.specs.List.{AllZip}
-use Rattle.std.specs.Option.{option_and_then, option_map}
-use Rattle.fb_deploy.specs.Deploy.{plain_deploy}
-use Rattle.fb_deploy.specs.Plans.{is_whole_plan}
-use Rattle.fb_deploy.specs.Flatten.Hints.{is_whole_net}
-use Rattle.fb_deploy.specs.Flatten.Net.{plain_net}
-use Rattle.fb_deploy.specs.Library.Texts.{Held, text_in}
-use Rattle.fb_deploy.specs.Library.View.{mentions_of_tree, tree_of}
-use Rattle.fb_deploy.specs.Flatten.Wiring.Local.{AreAlikeBlocks}
-use Rattle.fb_jobs.specs.declared.key.Key.{Key}
-use Rattle.fb_jobs.specs.declared.value.Value.{Value}
-use Rattle.fb_jobs.specs.declared.value.Value.TheVariants.{Faults, Net, Deploy}
-use Rattle.fb_jobs.specs.Keys.{scratch}
-use Rattle.fb_jobs.specs.Reads.{IsRight, Seen, read_texts}
-use Rattle.fb_jobs.specs.Values.{finding_of}
+use Rattle.std.specs.{Prelude.{◌≡◌, ◌⊎◌, ⊤, ℕ, Bool, true, false, List, Option, None, Some}, List.{AllZip}, Option.{option_and_then, option_map}}
+use Rattle.fb_deploy.specs.{Deploy.{plain_deploy}, Plans.{is_whole_plan}, Flatten.Hints.{is_whole_net}, Flatten.Net.{plain_net}, Library.Texts.{Held, text_in}}
+use Rattle.fb_deploy.specs.{Library.View.{mentions_of_tree, tree_of}, Flatten.Wiring.Local.{AreAlikeBlocks}}
+use Rattle.fb_jobs.specs.{declared.key.Key.{Key}, declared.value.Value.{Value}, declared.value.Value.TheVariants.{Faults, Net, Deploy}, Keys.{scratch}}
+use Rattle.fb_jobs.specs.{Reads.{IsRight, Seen, read_texts}, Values.{finding_of}}
 
 -- the value is that of what was read, from scratch
 pub record IsDerived (key : Key) (reads : List Seen) (value : Value) : Type 0 where

@@ -1,10 +1,6 @@
 -- What is kept of reads: the text that was there under each name, and beside these the names where none was.
-use Rattle.std.specs.Prelude.{◌≡◌, ℕ, List, [], ◌∷◌, suc, map, length, Option, Some, None}
-use Rattle.std.specs.declared.sync.Arc.{Arc}
-use Rattle.std.specs.declared.alloc.Global.{Global}
-use Rattle.fb_deploy.specs.Library.Texts.{FiledText}
-use Rattle.fb_deploy.specs.Library.Filed.{filed_text}
-use Rattle.fb_deploy.specs.Library.declared.filed.Version.{Version}
+use Rattle.std.specs.{Prelude.{◌≡◌, ℕ, List, [], ◌∷◌, suc, map, length, Option, Some, None}, declared.sync.Arc.{Arc}, declared.alloc.Global.{Global}}
+use Rattle.fb_deploy.specs.{Library.Texts.{FiledText}, Library.Filed.{filed_text}, Library.declared.filed.Version.{Version}}
 use Rattle.fb_jobs.specs.Reads.{Seen}
 
 abbrev pub text_of : Option (Arc Version Global) → Option FiledText

@@ -1,20 +1,10 @@
 -- Reads and values of the program as what they say.
-use Rattle.std.specs.Prelude.{◌≡◌, ℕ, List, map, Option, Some, None}
-use Rattle.std.specs.Option.{MatchOption, option_map, option_copied}
-use Rattle.std.specs.declared.sync.Arc.{Arc}
+use Rattle.std.specs.{Prelude.{◌≡◌, ℕ, List, map, Option, Some, None}, Option.{MatchOption, option_map, option_copied}, declared.sync.Arc.{Arc}}
 use Rattle.std.specs.declared.alloc.Global.{Global}
-use Rattle.fb_deploy.specs.Library.Texts.{Held}
-use Rattle.fb_deploy.specs.Library.Filed.{filed_text}
-use Rattle.fb_deploy.specs.Library.declared.filed.Version.{Version}
-use Rattle.fb_deploy.specs.Parse.Source.{Written}
-use Rattle.fb_deploy.specs.Flatten.Net.{plain_net}
-use Rattle.fb_deploy.specs.Deploy.{plain_deploy}
-use Rattle.fb_jobs.specs.Keys.{Finding, FaultsFound, NetFound, DeployFound}
-use Rattle.fb_jobs.specs.Reads.{Seen}
-use Rattle.fb_jobs.specs.declared.read.Read.{Read}
-use Rattle.fb_jobs.specs.declared.texts.TextRead.{TextRead}
-use Rattle.fb_jobs.specs.declared.value.Value.{Value}
-use Rattle.fb_jobs.specs.declared.value.Value.TheVariants.{Faults, Net, Deploy}
+use Rattle.fb_deploy.specs.{Library.Texts.{Held}, Library.Filed.{filed_text}, Library.declared.filed.Version.{Version}, Parse.Source.{Written}}
+use Rattle.fb_deploy.specs.{Flatten.Net.{plain_net}, Deploy.{plain_deploy}}
+use Rattle.fb_jobs.specs.{Keys.{Finding, FaultsFound, NetFound, DeployFound}, Reads.{Seen}, declared.read.Read.{Read}, declared.texts.TextRead.{TextRead}}
+use Rattle.fb_jobs.specs.{declared.value.Value.{Value}, declared.value.Value.TheVariants.{Faults, Net, Deploy}}
 
 abbrev pub found_in : ℕ → Option (Arc Written Global) → Option Held
 found_in revision None = None

@@ -1,27 +1,12 @@
 -- What a job computes: its value, and the nets of other units on the way.
-use Rattle.std.specs.Prelude.{◌≡◌, ℕ, Bool, true, false, List, [], Option, Some, All}
+use Rattle.std.specs.{Prelude.{◌≡◌, ℕ, Bool, true, false, List, [], Option, Some, All}, declared.sync.Arc.{Arc}, declared.alloc.Global.{Global}}
 use Rattle.std.specs.BTreeMap as tree
 use Rattle.std.specs.BTreeSet as set
-use Rattle.std.specs.declared.sync.Arc.{Arc}
-use Rattle.std.specs.declared.alloc.Global.{Global}
 use Rattle.fb_text.specs.Order.{name_cmp}
-use Rattle.fb_deploy.specs.Library.Rests.{Rests}
-use Rattle.fb_deploy.specs.Library.Texts.{Texts}
-use Rattle.fb_deploy.specs.Library.View.{Sources}
-use Rattle.fb_deploy.specs.Flatten.Net.{PlainNet}
-use Rattle.fb_deploy.specs.Flatten.Nets.{net_at}
-use Rattle.fb_jobs.specs.declared.hints.Hint.{Hint}
-use Rattle.fb_jobs.specs.declared.cached.CachedNets.{CachedNets}
-use Rattle.fb_jobs.specs.declared.computed.Worked.{Worked}
-use Rattle.fb_jobs.specs.declared.key.Key.{Key}
-use Rattle.fb_jobs.specs.declared.key.Kind.{Kind}
-use Rattle.fb_jobs.specs.declared.value.Value.{Value}
-use Rattle.fb_jobs.specs.Hints.{IsNetOf}
-use Rattle.fb_jobs.specs.Keys.{needs, net_finding, scratch_of}
-use Rattle.fb_jobs.specs.Kinds.{needs_all}
-use Rattle.fb_jobs.specs.Cached.{hint_in}
-use Rattle.fb_jobs.specs.Reads.{is_among}
-use Rattle.fb_jobs.specs.Values.{finding_of}
+use Rattle.fb_deploy.specs.{Library.Rests.{Rests}, Library.Texts.{Texts}, Library.View.{Sources}, Flatten.Net.{PlainNet}, Flatten.Nets.{net_at}}
+use Rattle.fb_jobs.specs.{declared.hints.Hint.{Hint}, declared.cached.CachedNets.{CachedNets}, declared.computed.Worked.{Worked}, declared.key.Key.{Key}}
+use Rattle.fb_jobs.specs.{declared.key.Kind.{Kind}, declared.value.Value.{Value}, Hints.{IsNetOf}, Keys.{needs, net_finding, scratch_of}, Kinds.{needs_all}}
+use Rattle.fb_jobs.specs.{Cached.{hint_in}, Reads.{is_among}, Values.{finding_of}}
 
 -- what is known of nets, and of units without faults
 abbrev pub known_hints : CachedNets → List ℕ → Option PlainNet

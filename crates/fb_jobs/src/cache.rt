@@ -1,8 +1,6 @@
 //! Values that are kept.
 ghost use Rattle.std.specs.Prelude.{◌≡◌, Option, option_map, option_copied};
-ghost use Rattle.fb_jobs.specs.declared.key.Key.{Key};
-ghost use Rattle.fb_jobs.specs.Keys.{Finding};
-ghost use Rattle.fb_jobs.specs.Values.{finding_of};
+ghost use Rattle.fb_jobs.specs.{declared.key.Key.{Key}, Keys.{Finding}, Values.{finding_of}};
 
 use crate::derivation::Derivation;
 use crate::key::Key;

@@ -1,19 +1,13 @@
 //! What a job knows beside its reads: the nets of its hints, the net of its own unit, and which units have no faults.
-ghost use Rattle.std.specs.Prelude.{◌≡◌, ◌⊎◌, ℕ, List, true, false, [], None, Some, option_map, option_copied, get_or, IfOk, IfSome, OnOk};
-ghost use Rattle.std.specs.List.{AllZip};
+ghost use Rattle.std.specs.{Prelude.{◌≡◌, ◌⊎◌, ℕ, List, true, false, [], None, Some, option_map, option_copied, get_or, IfOk, IfSome, OnOk}, List.{AllZip}};
+ghost use Rattle.std.specs.{declared.alloc.Global.{Global}, declared.sync.Arc.{Arc}};
 ghost use Rattle.std.specs.BTreeMap as tree;
 ghost use Rattle.std.specs.BTreeSet as set;
-ghost use Rattle.std.specs.declared.alloc.Global.{Global};
-ghost use Rattle.std.specs.declared.sync.Arc.{Arc};
 ghost use Rattle.fb_text.specs.Order.{name_cmp};
-ghost use Rattle.fb_deploy.specs.Flatten.Net.{plain_net};
-ghost use Rattle.fb_jobs.specs.Cache.{AreKept};
-ghost use Rattle.fb_deploy.specs.Library.Texts.{Texts};
-ghost use Rattle.fb_jobs.specs.Keys.{has_key};
-ghost use Rattle.fb_jobs.specs.declared.value.Value.{Value};
+ghost use Rattle.fb_deploy.specs.{Flatten.Net.{plain_net}, Library.Texts.{Texts}};
+ghost use Rattle.fb_jobs.specs.{Cache.{AreKept}, Keys.{has_key}, declared.value.Value.{Value}};
 ghost use Rattle.fb_jobs.specs.Cached.{AddsBlocking, AddsNet, AreBlocking, AreNetsOf, IsBlockedNet, IsFlag, IsCached, IsOwnNet, faults_key, hint_in, is_flagged, judged, net_in, some_faults};
-ghost use Rattle.fb_jobs.specs.Reads.{reads_for};
-ghost use Rattle.fb_jobs.specs.Values.{all_seen, seen_of};
+ghost use Rattle.fb_jobs.specs.{Reads.{reads_for}, Values.{all_seen, seen_of}};
 
 use crate::cache::Cache;
 use crate::hints::{Hint, hints_among, net_key};

@@ -1,15 +1,9 @@
 //! The values that jobs compute.
 ghost use Rattle.std.specs.Prelude.{◌≡◌, ℕ, true, Some, List, All, IfOk};
 ghost use Rattle.std.specs.FinMap as map;
-ghost use Rattle.fb_deploy.specs.Flatten.Hints.{AreFaultless, AreRightHints};
-ghost use Rattle.fb_deploy.specs.Flatten.Inner.{IsInnerNet};
-ghost use Rattle.fb_deploy.specs.Flatten.Net.{plain_net};
-ghost use Rattle.fb_deploy.specs.Flatten.Nets.{has_net_in, net_at};
-ghost use Rattle.fb_deploy.specs.Library.View.{Sources, tree_at};
-ghost use Rattle.fb_deploy.specs.Plans.{has_plan_in};
-ghost use Rattle.fb_jobs.specs.Keys.{has_kind_at, scratch_of};
-ghost use Rattle.fb_jobs.specs.Values.{finding_of};
-ghost use Rattle.fb_jobs.specs.Work.{IsFoundIn, IsOwnIn, IsWork, known_faultless, known_hints};
+ghost use Rattle.fb_deploy.specs.{Flatten.Hints.{AreFaultless, AreRightHints}, Flatten.Inner.{IsInnerNet}, Flatten.Net.{plain_net}};
+ghost use Rattle.fb_deploy.specs.{Flatten.Nets.{has_net_in, net_at}, Library.View.{Sources, tree_at}, Plans.{has_plan_in}};
+ghost use Rattle.fb_jobs.specs.{Keys.{has_kind_at, scratch_of}, Values.{finding_of}, Work.{IsFoundIn, IsOwnIn, IsWork, known_faultless, known_hints}};
 ghost use Rattle.fb_jobs.specs.declared.key.Kind.TheVariants as kind;
 
 use crate::cached::{CachedNets, own_net_in};

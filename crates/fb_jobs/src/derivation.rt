@@ -1,10 +1,6 @@
 //! Values with the reads that gave them.
 ghost use Rattle.std.specs.Prelude.{◌≡◌, IfOk};
-ghost use Rattle.fb_jobs.specs.Finished.{plain_job};
-ghost use Rattle.fb_jobs.specs.Keys.{scratch};
-ghost use Rattle.fb_jobs.specs.Reuse.{IsDerived};
-ghost use Rattle.fb_jobs.specs.Reads.{IsRight, read_texts};
-ghost use Rattle.fb_jobs.specs.Values.{all_seen, finding_of};
+ghost use Rattle.fb_jobs.specs.{Finished.{plain_job}, Keys.{scratch}, Reuse.{IsDerived}, Reads.{IsRight, read_texts}, Values.{all_seen, finding_of}};
 
 use crate::key::Key;
 use crate::read::Read;
@@ -35,9 +31,7 @@ impl Model for Derivation {
 
     ghost Value = { PlainJob };
 
-    ghost use Rattle.fb_jobs.specs.Finished.{plain_job};
-    ghost use Rattle.fb_jobs.specs.Reuse.{IsDerived};
-    ghost use Rattle.fb_jobs.specs.Values.{all_seen};
+    ghost use Rattle.fb_jobs.specs.{Finished.{plain_job}, Reuse.{IsDerived}, Values.{all_seen}};
 
     ghost view = { λ it. plain_job it.key it.reads.value.items };
 

@@ -1,15 +1,9 @@
 //! Hints: nets of other subapplications, passed to a job.
-ghost use Rattle.std.specs.Prelude.{◌≡◌, All, IfOk, OnOk};
-ghost use Rattle.std.specs.Option.{option_and_then};
-ghost use Rattle.fb_deploy.specs.Flatten.Tables.{is_subapplication_in, is_subapplication_tree};
-ghost use Rattle.fb_deploy.specs.Library.Texts.{Texts};
-ghost use Rattle.fb_deploy.specs.Library.View.{tree_in, tree_of};
+ghost use Rattle.std.specs.{Prelude.{◌≡◌, All, IfOk, OnOk}, Option.{option_and_then}};
+ghost use Rattle.fb_deploy.specs.{Flatten.Tables.{is_subapplication_in, is_subapplication_tree}, Library.Texts.{Texts}, Library.View.{tree_in, tree_of}};
 ghost use Rattle.fb_parse.specs.Body.{body_tree};
 ghost use Rattle.fb_tree.specs.Tree.{decl_tree};
-ghost use Rattle.fb_jobs.specs.Hints.{AddsChosen, AreChosen, net_key};
-ghost use Rattle.fb_jobs.specs.Reuse.{seen_text};
-ghost use Rattle.fb_jobs.specs.Reads.{IsOf};
-ghost use Rattle.fb_jobs.specs.Values.{all_seen, seen_of};
+ghost use Rattle.fb_jobs.specs.{Hints.{AddsChosen, AreChosen, net_key}, Reuse.{seen_text}, Reads.{IsOf}, Values.{all_seen, seen_of}};
 
 use crate::cache::Cache;
 use crate::key::{Key, Kind};

@@ -1,21 +1,12 @@
 //! Jobs.
 //! A job gets no earlier value of a key as a hint: `run` gives the previous value of its own key only if all that the key reads leaves it
 //! unchanged, or if the new value equals it.
-ghost use Rattle.std.specs.Prelude.{◌≡◌, true, IfOk, IfErr, IfSome, All};
-ghost use Rattle.std.specs.Option.{option_map};
+ghost use Rattle.std.specs.{Prelude.{◌≡◌, true, IfOk, IfErr, IfSome, All}, Option.{option_map}, List.Sorted.{IsStrictlySortedBy}};
 ghost use Rattle.std.specs.FinMap as map;
-ghost use Rattle.std.specs.List.Sorted.{IsStrictlySortedBy};
 ghost use Rattle.fb_text.specs.Order.{name_cmp};
-ghost use Rattle.fb_deploy.specs.Library.Texts.{text_at, sources_of};
-ghost use Rattle.fb_deploy.specs.Library.Place.{IsAt, IsGapFor};
-ghost use Rattle.fb_jobs.specs.Finished.{plain_job};
-ghost use Rattle.fb_jobs.specs.Hints.{AreHints};
-ghost use Rattle.fb_jobs.specs.Cache.{AreKept};
-ghost use Rattle.fb_jobs.specs.Keys.{has_key, scratch};
-ghost use Rattle.fb_jobs.specs.Cached.{IsCached};
-ghost use Rattle.fb_jobs.specs.Reads.{IsRight, read_names, read_texts, reads_for};
-ghost use Rattle.fb_jobs.specs.Values.{all_seen, finding_of, IsOwn};
-ghost use Rattle.fb_jobs.specs.Work.{IsWork};
+ghost use Rattle.fb_deploy.specs.{Library.Texts.{text_at, sources_of}, Library.Place.{IsAt, IsGapFor}};
+ghost use Rattle.fb_jobs.specs.{Finished.{plain_job}, Hints.{AreHints}, Cache.{AreKept}, Keys.{has_key, scratch}, Cached.{IsCached}};
+ghost use Rattle.fb_jobs.specs.{Reads.{IsRight, read_names, read_texts, reads_for}, Values.{all_seen, finding_of, IsOwn}, Work.{IsWork}};
 
 use crate::cache::Cache;
 use crate::cached::{Cached, CachedNets, flagged_names, nets_of, unless};

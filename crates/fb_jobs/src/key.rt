@@ -1,9 +1,7 @@
 //! The keys of entries.
-ghost use Rattle.std.specs.Prelude.{◌≡◌, refl};
-ghost use Rattle.std.specs.Ordering.{eq_by_cmp, as_partial_cmp};
+ghost use Rattle.std.specs.{Prelude.{◌≡◌, refl}, Ordering.{eq_by_cmp, as_partial_cmp}};
 ghost use Rattle.std.specs.Cmp.{eq_by_cmp_equiv, partial_equiv_from_equiv, partial_order_from_total};
-ghost use Rattle.fb_jobs.specs.KeyOrder.{kind_number, key_cmp, key_cmp_total};
-ghost use Rattle.fb_jobs.specs.Kinds.{needs_all};
+ghost use Rattle.fb_jobs.specs.{KeyOrder.{kind_number, key_cmp, key_cmp_total}, Kinds.{needs_all}};
 
 use fb_text::Name;
 use std::cmp::Ordering;

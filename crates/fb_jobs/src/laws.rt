@@ -1,17 +1,9 @@
 //! Laws of keys and reads.
-ghost use Rattle.std.specs.Prelude.{◌≡◌, ℕ, List, None, Some};
-ghost use Rattle.std.specs.List.{Contains};
-ghost use Rattle.std.specs.List.Sorted.{IsStrictlySortedBy};
+ghost use Rattle.std.specs.{Prelude.{◌≡◌, ℕ, List, None, Some}, List.{Contains}, List.Sorted.{IsStrictlySortedBy}};
 ghost use Rattle.fb_text.specs.Order.{name_cmp};
 ghost use Rattle.fb_deploy.specs.Library.Texts.{Texts};
-ghost use Rattle.fb_jobs.specs.declared.key.Key.{Key};
-ghost use Rattle.fb_jobs.specs.declared.key.Kind.{Kind};
-ghost use Rattle.fb_jobs.specs.Hints.{IsNetOf};
-ghost use Rattle.fb_jobs.specs.KeyOrder.{kind_cmp};
-ghost use Rattle.fb_jobs.specs.declared.hints.Hint.{Hint};
-ghost use Rattle.fb_jobs.specs.Work.{IsFoundFor};
-ghost use Rattle.fb_jobs.specs.Kinds.{all_kinds};
-ghost use Rattle.fb_jobs.specs.Keys.{has_key, needs, scratch};
+ghost use Rattle.fb_jobs.specs.{declared.key.Key.{Key}, declared.key.Kind.{Kind}, Hints.{IsNetOf}, KeyOrder.{kind_cmp}, declared.hints.Hint.{Hint}};
+ghost use Rattle.fb_jobs.specs.{Work.{IsFoundFor}, Kinds.{all_kinds}, Keys.{has_key, needs, scratch}};
 ghost use Rattle.fb_jobs.specs.Reads.{Agree, PlainJob, IsLeastStale, IsRight, read_names, read_texts, stale};
 
 /// Each kind is one of all kinds, and these are in order, each once.

@@ -1,10 +1,7 @@
 //! The reads of a library for a key.
 ghost use Rattle.std.specs.Prelude.{◌≡◌, IfOk, IfSome};
 ghost use Rattle.fb_deploy.specs.Library.Texts.{held};
-ghost use Rattle.fb_jobs.specs.Keys.{needs};
-ghost use Rattle.fb_jobs.specs.Again.{AreReadAgain, AreReads};
-ghost use Rattle.fb_jobs.specs.Texts.{seen_under, text_of};
-ghost use Rattle.fb_jobs.specs.Values.{all_seen, seen_of, IsOwn};
+ghost use Rattle.fb_jobs.specs.{Keys.{needs}, Again.{AreReadAgain, AreReads}, Texts.{seen_under, text_of}, Values.{all_seen, seen_of, IsOwn}};
 
 use crate::derivation::Derivation;
 use crate::key::{Key, Kind};

@@ -1,9 +1,6 @@
 //! Results of jobs.
 ghost use Rattle.std.specs.Prelude.{◌≡◌, All, IfOk};
-ghost use Rattle.fb_jobs.specs.Finished.{IsFinished, plain_job};
-ghost use Rattle.fb_jobs.specs.Keys.{scratch};
-ghost use Rattle.fb_jobs.specs.Reads.{IsRight, read_texts};
-ghost use Rattle.fb_jobs.specs.Values.{all_seen, finding_of, IsOwn};
+ghost use Rattle.fb_jobs.specs.{Finished.{IsFinished, plain_job}, Keys.{scratch}, Reads.{IsRight, read_texts}, Values.{all_seen, finding_of, IsOwn}};
 ghost use Rattle.fb_jobs.specs.Work.{IsFoundFor};
 
 use crate::computed::Worked;

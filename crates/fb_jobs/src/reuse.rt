@@ -1,10 +1,7 @@
 //! Decides, without computing, whether the previous value still holds for what was read.
 ghost use Rattle.std.specs.Prelude.{◌≡◌, ℕ, List, Bool, true, IfOk};
-ghost use Rattle.fb_deploy.specs.Library.View.{mentions_of_tree, tree_of};
-ghost use Rattle.fb_deploy.specs.Flatten.Hints.{is_whole_net};
-ghost use Rattle.fb_deploy.specs.Flatten.Net.{plain_net};
-ghost use Rattle.fb_jobs.specs.Cached.{is_flagged};
-ghost use Rattle.fb_jobs.specs.Reuse.{AreStillRead, IsStillRead, IsStillText, MentionsTheSame, is_whole_value};
+ghost use Rattle.fb_deploy.specs.{Library.View.{mentions_of_tree, tree_of}, Flatten.Hints.{is_whole_net}, Flatten.Net.{plain_net}};
+ghost use Rattle.fb_jobs.specs.{Cached.{is_flagged}, Reuse.{AreStillRead, IsStillRead, IsStillText, MentionsTheSame, is_whole_value}};
 ghost use Rattle.fb_jobs.specs.Values.{all_seen, seen_of};
 
 use crate::cached::flag_at;

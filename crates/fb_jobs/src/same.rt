@@ -1,10 +1,7 @@
 //! Whether two values have the same content.
 ghost use Rattle.std.specs.Prelude.{◌≡◌, ◌↔◌, IsTrue, map};
-ghost use Rattle.fb_deploy.specs.Flatten.Net.{plain_net};
-ghost use Rattle.fb_deploy.specs.Deploy.{plain_deploy, planned};
-ghost use Rattle.fb_deploy.specs.Library.Filed.{filed_text};
-ghost use Rattle.fb_jobs.specs.Texts.{text_of};
-ghost use Rattle.fb_jobs.specs.Values.{finding_of};
+ghost use Rattle.fb_deploy.specs.{Flatten.Net.{plain_net}, Deploy.{plain_deploy, planned}, Library.Filed.{filed_text}};
+ghost use Rattle.fb_jobs.specs.{Texts.{text_of}, Values.{finding_of}};
 
 use crate::value::Value;
 use fb_deploy::flatten::Net;

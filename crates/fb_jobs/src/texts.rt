@@ -48,10 +48,8 @@ impl Model for TextReads {
 }
 
 impl TextReads {
-    ghost use Rattle.std.specs.Prelude.{◌≡◌, ◌++◌, ◌↔◌, ◌∷◌, [], IfOk, IsTrue, length, slice_get};
-    ghost use Rattle.std.specs.Option.{option_map};
-    ghost use Rattle.fb_jobs.specs.Texts.{seen_under, text_of};
-    ghost use Rattle.fb_jobs.specs.Values.{text_seen};
+    ghost use Rattle.std.specs.{Prelude.{◌≡◌, ◌++◌, ◌↔◌, ◌∷◌, [], IfOk, IsTrue, length, slice_get}, Option.{option_map}};
+    ghost use Rattle.fb_jobs.specs.{Texts.{seen_under, text_of}, Values.{text_seen}};
 
     /// None yet, with room for this number.
     pub(crate) fn with_capacity(alloc: Global, count: usize) -> Result<TextReads, AllocError>

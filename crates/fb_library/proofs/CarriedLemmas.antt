@@ -1,18 +1,14 @@
 -- What units carry is what their value mentions lead to; what is near a unit is in its list.
 use Rattle.std.proofs.Common.{◌≡◌, ℕ, Bool, true, false, List, [], ◌∷◌, ◌++◌, ◌⊎◌, inl, inr, if◌then◌else◌, refl, sym, subst}
 use Rattle.std.proofs.lemmas.List.Elements.{Contains-append_left, Contains-append_right, Contains-append_cases}
-use Rattle.std.specs.Cmp.Lexicographic.{nat_list_cmp_total}
-use Rattle.std.specs.List.{Contains, flat_map}
-use Rattle.std.specs.List.Sorted.{IsStrictlySortedBy}
+use Rattle.std.specs.{Cmp.Lexicographic.{nat_list_cmp_total}, List.{Contains, flat_map}, List.Sorted.{IsStrictlySortedBy}}
 use Rattle.fb_parse.proofs.Text.Members.{contains_nothing, contains_flat_map, origin_in_flat_map, contains_here, contains_single}
 use Rattle.fb_parse.proofs.Text.OrderLemmas.{in_order-sorted}
 use Rattle.fb_parse.specs.Text.Order.{name_cmp, names_in_order}
 use Rattle.fb_library.specs.View.{Sources, values_in, values_at, parts_at, is_structure_at}
 use Rattle.fb_library.specs.Near.{Carries, directly, onward, IsNear, own, part, carried, carried_by_part, carried_on, in_all_trees, carried_of, bases_at, near_of}
-use Rattle.fb_library.specs.Local.{CarriedIsAll, NearIsAll}
-use Rattle.fb_library.specs.Opened.{Leads, itself, through, LedFrom, IsWithin}
-use Rattle.fb_library.proofs.Opening.{leads_more, in_names, from_names, led_from_is_all}
-use Rattle.fb_library.proofs.FarLemmas.{one_in_order}
+use Rattle.fb_library.specs.{Local.{CarriedIsAll, NearIsAll}, Opened.{Leads, itself, through, LedFrom, IsWithin}}
+use Rattle.fb_library.proofs.{Opening.{leads_more, in_names, from_names, led_from_is_all}, FarLemmas.{one_in_order}}
 use Rattle.fb_library.proofs.WalkLemmas.{Contains-has, has-Contains, mentioned_somewhere, IsWalk, complete_at_end}
 
 -- a name of a list that stands there on a condition

@@ -1,7 +1,7 @@
 -- How many entries there are after an edit.
 use Rattle.std.proofs.Common.{◌≡◌, ℕ, zero, suc, ◌+◌, ◌<◌, ◌≤◌, Bool, true, false, cond, List, [], ◌∷◌, length, map, get_or, set, refl, ap, arith, Option, Some, None}
-use Rattle.std.specs.Map.{lookup, remove_entry}
 use Rattle.std.proofs.lemmas.List.{length-append}
+use Rattle.std.specs.Map.{lookup, remove_entry}
 use Rattle.fb_library.specs.Shelves.{all_on}
 use Rattle.fb_library.proofs.OnShelves.{Row}
 

@@ -1,17 +1,10 @@
 -- The places of a table, seen as entries.
 use Rattle.std.proofs.Common.{◌≡◌, ℕ, zero, suc, List, [], ◌∷◌, map, get_or, set, refl, sym, ap, subst, ◌∙◌, arith, Some}
-use Rattle.std.specs.List.{insert, remove, slice_get}
-use Rattle.std.specs.Option.{option_map}
-use Rattle.std.specs.List.Sorted.{IsStrictlySortedBy}
-use Rattle.std.specs.Map.{lookup, remove_entry}
+use Rattle.std.proofs.{lemmas.List.{map-set, get_or-map, length-map}, lemmas.Option.{slice_get-map}}
+use Rattle.std.specs.{List.{insert, remove, slice_get}, Option.{option_map}, List.Sorted.{IsStrictlySortedBy}, Map.{lookup, remove_entry}}
 use Rattle.std.specs.BTreeMap.{is_at, insert_entry}
-use Rattle.std.proofs.lemmas.List.{map-set, get_or-map, length-map}
-use Rattle.std.proofs.lemmas.Option.{slice_get-map}
 use Rattle.fb_parse.specs.Text.Order.{name_cmp}
-use Rattle.fb_library.specs.Place.{IsAt, IsGapFor}
-use Rattle.fb_library.specs.Entries.{entry_of, entries_of, names_in}
-use Rattle.fb_library.specs.Shelves.{names_of}
-use Rattle.fb_library.specs.declared.placed.Placed.{Placed}
+use Rattle.fb_library.specs.{Place.{IsAt, IsGapFor}, Entries.{entry_of, entries_of, names_in}, Shelves.{names_of}, declared.placed.Placed.{Placed}}
 use Rattle.fb_library.proofs.Places.{set_at, remove_at, lookup_at, put_in_gap, sorted_put, sorted_removed}
 
 module _ {A B : Type 0} (f : A → B) where

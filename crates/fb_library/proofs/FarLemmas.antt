@@ -1,20 +1,12 @@
 -- Two lists in order that have the same names are one; what a unit rests on is what its mentions lead to.
 use Rattle.std.proofs.Common.{◌≡◌, ℕ, Bool, true, false, List, [], ◌∷◌, refl, sym, subst, ◌∙◌}
-use Rattle.std.specs.FinMap.{slice_cmp-IsAntisymmetric, nat_cmp-IsAntisymmetric}
-use Rattle.std.specs.Cmp.Lexicographic.{nat_list_cmp_total}
-use Rattle.std.specs.List.{Contains}
+use Rattle.std.specs.{FinMap.{slice_cmp-IsAntisymmetric, nat_cmp-IsAntisymmetric}, Cmp.Lexicographic.{nat_list_cmp_total}, List.{Contains}}
 use Rattle.std.specs.List.Sorted.{IsStrictlySortedBy}
 use Rattle.fb_parse.specs.Text.Order.{name_cmp}
-use Rattle.fb_parse.proofs.Text.Members.{contains_here, contains_single}
-use Rattle.fb_parse.proofs.Text.OrderLemmas.{has, in_order-same}
-use Rattle.fb_library.specs.Local.{FarIsOneList}
-use Rattle.fb_library.specs.Opened.{Leads, itself as at_start, through as by_step}
-use Rattle.fb_library.specs.Rests.{Rests, itself, through, PartRests, on_itself, through_part}
-use Rattle.fb_library.specs.Seen.{has_name}
-use Rattle.fb_library.specs.View.{Sources, mentions_at, parts_at}
-use Rattle.fb_library.proofs.Places.{already_in_order}
-use Rattle.fb_library.proofs.SeenLemmas.{Contains-has, has-Contains}
-use Rattle.fb_library.proofs.WalkLemmas.{IsWalk, complete_at_end}
+use Rattle.fb_parse.proofs.{Text.Members.{contains_here, contains_single}, Text.OrderLemmas.{has, in_order-same}}
+use Rattle.fb_library.specs.{Local.{FarIsOneList}, Opened.{Leads, itself as at_start, through as by_step}}
+use Rattle.fb_library.specs.{Rests.{Rests, itself, through, PartRests, on_itself, through_part}, Seen.{has_name}, View.{Sources, mentions_at, parts_at}}
+use Rattle.fb_library.proofs.{Places.{already_in_order}, SeenLemmas.{Contains-has, has-Contains}, WalkLemmas.{IsWalk, complete_at_end}}
 
 same_truth : (a b : Bool) → (a ≡ true → b ≡ true) → (b ≡ true → a ≡ true) → a ≡ b
 same_truth true b f g = sym (f refl)

@@ -1,11 +1,8 @@
 -- Items that are kept, each of which reads as a shelf.
 use Rattle.std.proofs.Common.{◌≡◌, ℕ, zero, suc, ◌<◌, ◌≤◌, true, List, [], ◌∷◌, ◌++◌, length, map, take, drop, get_or, set, refl, sym, ap, subst, ◌∙◌, arith, Result, Ok, Err, OnOk}
-use Rattle.std.specs.List.{AllByRecursion, insert}
-use Rattle.std.specs.List.Sorted.{IsStrictlySortedBy, IsBinarySearchResult}
-use Rattle.std.specs.Map.{remove_entry}
-use Rattle.std.specs.BTreeMap.{is_at, insert_entry}
-use Rattle.std.specs.declared.cmp.Ordering.TheVariants.{Less}
 use Rattle.std.proofs.lemmas.List.{map-set, get_or-map, map_push, length-map}
+use Rattle.std.specs.{List.{AllByRecursion, insert}, List.Sorted.{IsStrictlySortedBy, IsBinarySearchResult}, Map.{remove_entry}, BTreeMap.{is_at, insert_entry}}
+use Rattle.std.specs.declared.cmp.Ordering.TheVariants.{Less}
 use Rattle.fb_parse.specs.Text.Order.{name_cmp}
 use Rattle.fb_library.specs.Shelves.{names_of, lasts_of, all_on, AreShelves, IsShelfFor, reaches}
 use Rattle.fb_library.proofs.EntryLemmas.{map_insert}

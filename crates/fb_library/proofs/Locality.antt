@@ -1,17 +1,14 @@
 -- Near and far depend on the texts that they reach alone.
 use Rattle.std.proofs.Common.{◌≡◌, ℕ, List, [], ◌∷◌, ◌++◌, ◌⊎◌, inl, inr, sym, ap, subst, ◌∙◌}
 use Rattle.std.proofs.lemmas.List.Elements.{Contains-append_left, Contains-append_right, Contains-append_cases}
-use Rattle.std.specs.List.{Contains}
-use Rattle.std.specs.Option.{option_and_then}
-use Rattle.std.specs.FinMap.{get}
+use Rattle.std.specs.{List.{Contains}, Option.{option_and_then}, FinMap.{get}}
 use Rattle.fb_parse.specs.Text.Order.{names_in_order}
 use Rattle.fb_parse.proofs.Text.Members.{contains_single}
 use Rattle.fb_library.specs.View.{Sources, tree_of, mentions_of_tree, mentioned_at, mentions_at, mentions_in, parts_at, parts_in, values_at, values_in, is_structure_at}
 use Rattle.fb_library.specs.Near.{Carries, directly, onward, IsNear, own, part, carried, carried_by_part, carried_of, bases_at, near_of}
 use Rattle.fb_library.specs.Local.{Agree, AgreeFar, CarriedIsLocal, NearIsLocal, FarIsLocal}
 use Rattle.fb_library.specs.Rests.{Rests, itself, through, PartRests, on_itself, through_part}
-use Rattle.fb_library.proofs.CarriedLemmas.{carried_is_all, near_is_all, listed_carried}
-use Rattle.fb_library.proofs.FarLemmas.{one_in_order}
+use Rattle.fb_library.proofs.{CarriedLemmas.{carried_is_all, near_is_all, listed_carried}, FarLemmas.{one_in_order}}
 
 -- ---- where two have the same text
 

@@ -1,8 +1,6 @@
 -- The order of names.
 use Rattle.std.proofs.Common.{◌≡◌, ℕ, List}
-use Rattle.std.specs.Cmp.{IsTotalOrder}
-use Rattle.std.specs.Cmp.Lexicographic.{nat_list_cmp_total}
-use Rattle.std.specs.declared.cmp.Ordering.TheVariants.{Equal}
+use Rattle.std.specs.{Cmp.{IsTotalOrder}, Cmp.Lexicographic.{nat_list_cmp_total}, declared.cmp.Ordering.TheVariants.{Equal}}
 use Rattle.std.specs.FinMap.{slice_cmp-IsAntisymmetric, nat_cmp-IsAntisymmetric}
 use Rattle.fb_parse.specs.Text.Order.{name_cmp}
 

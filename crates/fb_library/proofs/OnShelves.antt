@@ -1,21 +1,12 @@
 -- Shelves of entries: what is done at a name is done on one shelf.
 use Rattle.std.proofs.Common.{◌≡◌, ℕ, zero, suc, ◌<◌, ◌≤◌, Bool, true, false, ◌||◌, List, [], ◌∷◌, ◌++◌, length, get_or, set, refl, sym, ap, subst, ◌∙◌, arith}
-use Rattle.std.specs.List.{AllByRecursion}
-use Rattle.std.specs.List.Sorted.{IsStrictlySortedBy}
-use Rattle.std.specs.Map.{lookup, remove_entry}
-use Rattle.std.specs.BTreeMap.{is_at, insert_entry}
-use Rattle.std.specs.Ordering.{is_le, match_ordering}
-use Rattle.std.specs.declared.cmp.Ordering.{Ordering}
-use Rattle.std.specs.declared.cmp.Ordering.TheVariants.{Less, Equal, Greater}
-use Rattle.std.proofs.lemmas.Bool.{false≢true, or_left, or_right}
-use Rattle.std.proofs.lemmas.Cmp.{tied_itself}
-use Rattle.std.proofs.lemmas.Map.Keys.{Less-from_sorted}
+use Rattle.std.proofs.{lemmas.Bool.{false≢true, or_left, or_right}, lemmas.Cmp.{tied_itself}, lemmas.Map.Keys.{Less-from_sorted}}
+use Rattle.std.specs.{List.{AllByRecursion}, List.Sorted.{IsStrictlySortedBy}, Map.{lookup, remove_entry}, BTreeMap.{is_at, insert_entry}}
+use Rattle.std.specs.{Ordering.{is_le, match_ordering}, declared.cmp.Ordering.{Ordering}, declared.cmp.Ordering.TheVariants.{Less, Equal, Greater}}
 use Rattle.fb_parse.specs.Text.Order.{name_cmp}
-use Rattle.fb_library.specs.Place.{IsAt, IsGapFor}
-use Rattle.fb_library.specs.Shelves.{names_of, lasts_of, all_on, IsShelf, AreShelves, IsShelfFor, reaches}
+use Rattle.fb_library.specs.{Place.{IsAt, IsGapFor}, Shelves.{names_of, lasts_of, all_on, IsShelf, AreShelves, IsShelfFor, reaches}}
 use Rattle.fb_library.proofs.Appended.{AllBelow, AllAbove, lookup_behind, lookup_before, put_behind, put_before, remove_behind, remove_before}
-use Rattle.fb_library.proofs.Names.{name_total, exact_name}
-use Rattle.fb_library.proofs.Places.{greater, all_removed, sorted_put, sorted_removed}
+use Rattle.fb_library.proofs.{Names.{name_total, exact_name}, Places.{greater, all_removed, sorted_put, sorted_removed}}
 
 -- ---- the order of names
 

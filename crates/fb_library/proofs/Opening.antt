@@ -1,16 +1,11 @@
 -- Opening names again and again finds all to which they lead.
 use Rattle.std.proofs.Common.{ℕ, zero, suc, ◌<◌, ◌≤◌, List, ◌++◌, length, ◌⊎◌, inl, inr, arith}
 use Rattle.std.proofs.lemmas.List.Elements.{Contains-append_left, Contains-append_right, Contains-append_cases}
-use Rattle.std.specs.List.{Contains, flat_map}
-use Rattle.std.specs.List.Sorted.{IsStrictlySortedBy}
-use Rattle.std.specs.Cmp.Lexicographic.{nat_list_cmp_total}
+use Rattle.std.specs.{List.{Contains, flat_map}, List.Sorted.{IsStrictlySortedBy}, Cmp.Lexicographic.{nat_list_cmp_total}}
 use Rattle.std.specs.FinMap.{slice_cmp-IsAntisymmetric, nat_cmp-IsAntisymmetric}
-use Rattle.fb_parse.proofs.Text.Tests.{by_bool}
+use Rattle.fb_parse.proofs.{Text.Tests.{by_bool}, Text.OrderLemmas.{in_order-members, in_order-sorted}, Text.Members.{contains_flat_map, origin_in_flat_map}}
 use Rattle.fb_parse.specs.Text.Order.{name_cmp, names_in_order}
-use Rattle.fb_parse.proofs.Text.OrderLemmas.{in_order-members, in_order-sorted}
-use Rattle.fb_parse.proofs.Text.Members.{contains_flat_map, origin_in_flat_map}
-use Rattle.fb_library.specs.Seen.{has_name, unseen}
-use Rattle.fb_library.specs.Opened.{Leads, itself, through, LedFrom, opened, opened_times, IsWithin, led_from, AreLedFrom}
+use Rattle.fb_library.specs.{Seen.{has_name, unseen}, Opened.{Leads, itself, through, LedFrom, opened, opened_times, IsWithin, led_from, AreLedFrom}}
 use Rattle.fb_library.proofs.SeenLemmas.{Contains-has, has-Contains, Grows, one_fewer, some_unseen, all_unseen}
 
 pub leads_more : {next : List ℕ → List (List ℕ)} {u v w : List ℕ} → Leads next u v → Contains (next v) w → Leads next u w

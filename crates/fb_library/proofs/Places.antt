@@ -1,15 +1,9 @@
 -- What a search finds among names in order, and what an edit at that place does.
 use Rattle.std.proofs.Common.{◌≡◌, ℕ, zero, suc, Bool, true, false, cond, List, [], ◌∷◌, map, get_or, set, refl, sym, ap, subst, ◌∙◌, arith, Some, None}
-use Rattle.std.specs.List.{insert, remove, AllByRecursion}
-use Rattle.std.specs.List.Sorted.{IsStrictlySortedBy}
-use Rattle.std.specs.Map.{lookup, remove_entry}
-use Rattle.std.specs.BTreeMap.{is_at, insert_entry}
-use Rattle.std.specs.Ordering.{is_eq, match_ordering, ordering_reverse}
-use Rattle.std.specs.declared.cmp.Ordering.{Ordering}
-use Rattle.std.specs.declared.cmp.Ordering.TheVariants.{Less, Equal, Greater}
-use Rattle.std.proofs.lemmas.Cmp.{tied_itself}
-use Rattle.std.proofs.lemmas.Map.Keys.{Less-from_sorted, sorted_tail}
-use Rattle.std.specs.BTreeSet.{insert_key}
+use Rattle.std.proofs.{lemmas.Cmp.{tied_itself}, lemmas.Map.Keys.{Less-from_sorted, sorted_tail}}
+use Rattle.std.specs.{List.{insert, remove, AllByRecursion}, List.Sorted.{IsStrictlySortedBy}, Map.{lookup, remove_entry}, BTreeMap.{is_at, insert_entry}}
+use Rattle.std.specs.{Ordering.{is_eq, match_ordering, ordering_reverse}, declared.cmp.Ordering.{Ordering}}
+use Rattle.std.specs.{declared.cmp.Ordering.TheVariants.{Less, Equal, Greater}, BTreeSet.{insert_key}}
 use Rattle.fb_parse.specs.Text.Order.{name_cmp, in_order}
 use Rattle.fb_parse.proofs.Text.OrderLemmas.{in_order-sorted}
 use Rattle.fb_library.specs.Place.{IsAt, IsGapFor}

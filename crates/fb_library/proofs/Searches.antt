@@ -1,16 +1,11 @@
 -- A search among items that stand by rising name.
 use Rattle.std.proofs.Common.{◌≡◌, ℕ, ◌<◌, ◌≤◌, List, [], ◌∷◌, length, map, get_or, inl, inr, refl, sym, ap, ◌∙◌, arith, Result, Ok, Err, IfOk, IfErr}
-use Rattle.std.specs.List.Sorted.{IsStrictlySortedBy, IsNonDecreasingBy, IsSearchInRange, IsBinarySearchResult}
-use Rattle.std.specs.Ordering.{ordering_index, ordering_reverse}
-use Rattle.std.specs.declared.cmp.Ordering.{Ordering}
-use Rattle.std.specs.declared.cmp.Ordering.TheVariants.{Less, Equal, Greater}
-use Rattle.std.proofs.lemmas.Bool.{cases_lt}
-use Rattle.std.proofs.lemmas.List.{get_or-map, length-map}
-use Rattle.std.proofs.lemmas.Map.Keys.{Less-from_sorted}
+use Rattle.std.proofs.{lemmas.Bool.{cases_lt}, lemmas.List.{get_or-map, length-map}, lemmas.Map.Keys.{Less-from_sorted}}
+use Rattle.std.specs.{List.Sorted.{IsStrictlySortedBy, IsNonDecreasingBy, IsSearchInRange, IsBinarySearchResult}, Ordering.{ordering_index, ordering_reverse}}
+use Rattle.std.specs.{declared.cmp.Ordering.{Ordering}, declared.cmp.Ordering.TheVariants.{Less, Equal, Greater}}
 use Rattle.fb_parse.specs.Text.Order.{name_cmp}
 use Rattle.fb_library.specs.Place.{IsAt, IsGapFor}
-use Rattle.fb_library.proofs.Names.{name_total, exact_name}
-use Rattle.fb_library.proofs.Places.{less}
+use Rattle.fb_library.proofs.{Names.{name_total, exact_name}, Places.{less}}
 
 -- the comparisons with a name rise along names in order
 index_rises : (x y n : List ℕ) → name_cmp x y ≡ Less → (r : Ordering) → name_cmp x n ≡ r → ordering_index r ≤ ordering_index (name_cmp y n)

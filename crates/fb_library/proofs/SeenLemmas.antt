@@ -1,14 +1,9 @@
 -- Names that were seen, and names that are pending.
 use Rattle.std.proofs.Common.{◌≡◌, ℕ, suc, ◌+◌, ◌≤◌, Bool, true, false, not, cond, if◌then◌else◌, ◌||◌, List, [], ◌∷◌, ◌++◌, length, refl, sym, ap, ◌∙◌, arith, nat_cmp, length-append}
-use Rattle.std.proofs.lemmas.Bool.{false≢true}
+use Rattle.std.proofs.{lemmas.Bool.{false≢true}, lemmas.Map.Views.{Contains-from_any, list_any-from_Contains, tells_apart}}
 pub use Rattle.std.proofs.lemmas.Bool.{or_left, or_right}
-use Rattle.std.specs.List.{Contains}
-use Rattle.std.specs.Ordering.{eq_by_cmp}
-use Rattle.std.specs.Cmp.{eq_by_cmp_equiv}
-use Rattle.std.specs.Cmp.Lexicographic.{slice_cmp, nat_list_cmp_total}
-use Rattle.std.specs.BTreeSet.{BTreeSet, Updates}
-use Rattle.std.specs.FinMap.{slice_cmp-IsAntisymmetric, nat_cmp-IsAntisymmetric}
-use Rattle.std.proofs.lemmas.Map.Views.{Contains-from_any, list_any-from_Contains, tells_apart}
+use Rattle.std.specs.{List.{Contains}, Ordering.{eq_by_cmp}, Cmp.{eq_by_cmp_equiv}, Cmp.Lexicographic.{slice_cmp, nat_list_cmp_total}}
+use Rattle.std.specs.{BTreeSet.{BTreeSet, Updates}, FinMap.{slice_cmp-IsAntisymmetric, nat_cmp-IsAntisymmetric}}
 use Rattle.fb_parse.proofs.Text.Tests.{by_bool, or_cases, or_assoc, or_false, no_both}
 use Rattle.fb_library.specs.Seen.{has_name, unseen, Opens}
 

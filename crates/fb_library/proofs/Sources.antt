@@ -1,8 +1,6 @@
 -- The texts of what is held, as a finite map.
 use Rattle.std.proofs.Common.{◌≡◌, ℕ, List, [], ◌∷◌, map, Option, Some, Bool, true, false, cond, refl, ap, ◌∙◌}
-use Rattle.std.specs.Option.{option_map}
-use Rattle.std.specs.Ordering.{eq_by_cmp}
-use Rattle.std.specs.FinMap.{find, get, get-from_entries}
+use Rattle.std.specs.{Option.{option_map}, Ordering.{eq_by_cmp}, FinMap.{find, get, get-from_entries}}
 use Rattle.fb_parse.specs.Text.Order.{name_cmp}
 use Rattle.fb_library.specs.Texts.{Texts, Held, held, text_at, sources_of, text_in}
 use Rattle.fb_library.proofs.Names.{name_total}

@@ -1,20 +1,11 @@
 -- What a table has under a name, and at an index.
 use Rattle.std.proofs.Common.{◌≡◌, ℕ, zero, suc, ◌+◌, ◌<◌, ◌≤◌, true, false, List, [], ◌∷◌, ◌++◌, length, map, take, drop, get_or, refl, sym, ap, ◌∙◌, arith, append_assoc, Option, Some, None}
-use Rattle.std.specs.List.{slice_get}
-use Rattle.std.specs.Option.{option_map, is_some}
-use Rattle.std.specs.Map.{lookup}
-use Rattle.std.specs.BTreeMap.{is_at}
-use Rattle.std.specs.Ordering.{is_le}
-use Rattle.std.specs.declared.cmp.Ordering.{Ordering}
+use Rattle.std.proofs.{lemmas.Bool.{false≢true, or_left, or_right}, lemmas.List.{append-nil, length-map}}
+use Rattle.std.specs.{List.{slice_get}, Option.{option_map, is_some}, Map.{lookup}, BTreeMap.{is_at}, Ordering.{is_le}, declared.cmp.Ordering.{Ordering}}
 use Rattle.std.specs.declared.cmp.Ordering.TheVariants.{Less, Equal, Greater}
-use Rattle.std.proofs.lemmas.Bool.{false≢true, or_left, or_right}
-use Rattle.std.proofs.lemmas.List.{append-nil, length-map}
 use Rattle.fb_parse.specs.Text.Order.{name_cmp}
 use Rattle.fb_library.specs.Shelves.{names_of, lasts_of, all_on, AreShelves, IsShelfFor, reaches}
-use Rattle.fb_library.proofs.Appended.{lookup_behind}
-use Rattle.fb_library.proofs.Kept.{row_there}
-use Rattle.fb_library.proofs.OnShelves.{Row, entries_at, below_shelf, lookup_on}
-use Rattle.fb_library.proofs.Places.{less}
+use Rattle.fb_library.proofs.{Appended.{lookup_behind}, Kept.{row_there}, OnShelves.{Row, entries_at, below_shelf, lookup_on}, Places.{less}}
 
 module _ {A B : Type 0} (f : A → B) where
   pub some_found : (o : Option A) (l : Option B) → option_map f o ≡ l → true ≡ is_some o → (v : B) × (l ≡ Some v)

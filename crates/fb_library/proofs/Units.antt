@@ -1,15 +1,10 @@
 -- A library's units, seen as texts.
 use Rattle.std.proofs.Common.{◌≡◌, ℕ, Bool, true, false, cond, List, [], ◌∷◌, map, refl, sym, ap, subst, ◌∙◌, Option, Some, Result, Ok, Err, OnOk, OnErr}
-use Rattle.std.specs.Option.{option_map}
-use Rattle.std.specs.Map.{lookup, remove_entry}
-use Rattle.std.specs.BTreeMap.{is_at, insert_entry}
-use Rattle.std.specs.Ordering.{is_eq, match_ordering}
-use Rattle.std.specs.declared.cmp.Ordering.{Ordering}
-use Rattle.std.specs.declared.cmp.Ordering.TheVariants.{Less, Equal, Greater}
 use Rattle.std.proofs.lemmas.Bool.{false≢true}
+use Rattle.std.specs.{Option.{option_map}, Map.{lookup, remove_entry}, BTreeMap.{is_at, insert_entry}, Ordering.{is_eq, match_ordering}}
+use Rattle.std.specs.{declared.cmp.Ordering.{Ordering}, declared.cmp.Ordering.TheVariants.{Less, Equal, Greater}}
 use Rattle.fb_parse.specs.Text.Order.{name_cmp}
-use Rattle.fb_library.specs.Texts.{FiledText, Held, held, names_of}
-use Rattle.fb_library.specs.Filed.{texts_of, AreOwn}
+use Rattle.fb_library.specs.{Texts.{FiledText, Held, held, names_of}, Filed.{texts_of, AreOwn}}
 use Rattle.fb_library.proofs.Names.{exact_name}
 
 abbrev Units : Type 0

@@ -1,21 +1,12 @@
 -- The walk from name to name: what it keeps.
 use Rattle.std.proofs.Common.{◌≡◌, ℕ, ◌+◌, ◌<◌, Bool, true, false, cond, ◌||◌, List, [], ◌∷◌, ◌++◌, length, Option, Some, None, refl, sym, ap, subst, ◌∙◌, arith}
-use Rattle.std.proofs.lemmas.List.{append-nil}
-use Rattle.std.proofs.lemmas.List.Concat.{flat_map-append}
-use Rattle.std.proofs.lemmas.List.Elements.{Contains-append_left, Contains-append_right}
-use Rattle.std.specs.List.{Contains, flat_map}
-use Rattle.std.specs.Option.{option_and_then}
-use Rattle.std.specs.Ordering.{eq_by_cmp}
-use Rattle.std.specs.FinMap.{entries, get-entries, find}
-use Rattle.fb_parse.specs.Text.Order.{name_cmp}
-use Rattle.fb_parse.specs.Tree.Tree.{DeclTree}
+use Rattle.std.proofs.{lemmas.List.{append-nil}, lemmas.List.Concat.{flat_map-append}, lemmas.List.Elements.{Contains-append_left, Contains-append_right}}
+use Rattle.std.specs.{List.{Contains, flat_map}, Option.{option_and_then}, Ordering.{eq_by_cmp}, FinMap.{entries, get-entries, find}}
+use Rattle.fb_parse.specs.{Text.Order.{name_cmp}, Tree.Tree.{DeclTree}}
 use Rattle.fb_parse.proofs.Text.Tests.{by_bool, or_cases, or_false, no_both}
-use Rattle.fb_library.specs.View.{Sources, tree_of, tree_at}
-use Rattle.fb_library.specs.Near.{in_all_trees}
-use Rattle.fb_library.specs.Opened.{Leads, itself, through, LedFrom, IsWithin}
+use Rattle.fb_library.specs.{View.{Sources, tree_of, tree_at}, Near.{in_all_trees}, Opened.{Leads, itself, through, LedFrom, IsWithin}}
 use Rattle.fb_library.specs.Seen.{has_name, unseen, Opens}
-use Rattle.fb_library.proofs.SeenLemmas.{or_left, or_right, same, same_is, same_self}
-use Rattle.fb_library.proofs.Opening.{leads_more}
+use Rattle.fb_library.proofs.{SeenLemmas.{or_left, or_right, same, same_is, same_self}, Opening.{leads_more}}
 pub use Rattle.fb_library.proofs.SeenLemmas.{Contains-has, has-Contains, has-push, last_named, Opens-none, Opens-new, Opens-old, Opens-both, has-updates, not_true, not_false, begun, one_pushed, longer}
 
 -- ---- the whole walk

@@ -1,15 +1,10 @@
 -- Shelves that make room for a name have the same entries.
 use Rattle.std.proofs.Common.{◌≡◌, ℕ, zero, suc, ◌<◌, true, false, ◌||◌, List, [], ◌∷◌, ◌++◌, length, take, drop, get_or, set, refl, sym, ap, subst, ◌∙◌, arith, append_assoc}
-use Rattle.std.specs.List.{AllByRecursion, insert}
-use Rattle.std.specs.List.Sorted.{IsStrictlySortedBy}
-use Rattle.std.specs.Ordering.{is_le}
-use Rattle.std.specs.declared.cmp.Ordering.TheVariants.{Less}
-use Rattle.std.proofs.lemmas.Bool.{or_left, or_right}
-use Rattle.std.proofs.lemmas.List.{take-append-drop}
+use Rattle.std.proofs.{lemmas.Bool.{or_left, or_right}, lemmas.List.{take-append-drop}}
+use Rattle.std.specs.{List.{AllByRecursion, insert}, List.Sorted.{IsStrictlySortedBy}, Ordering.{is_le}, declared.cmp.Ordering.TheVariants.{Less}}
 use Rattle.fb_parse.specs.Text.Order.{name_cmp}
 use Rattle.fb_library.specs.Shelves.{names_of, lasts_of, all_on, AreShelves, reaches}
-use Rattle.fb_library.proofs.Names.{name_total}
-use Rattle.fb_library.proofs.OnShelves.{Row, last_at, entries_at, le_lt, lt_le, le_self, each, or_wider, all_append, all_left, all_right}
+use Rattle.fb_library.proofs.{Names.{name_total}, OnShelves.{Row, last_at, entries_at, le_lt, lt_le, le_self, each, or_wider, all_append, all_left, all_right}}
 
 module _ {V : Type 0} where
   all_lasts : (P : List ℕ → Type 0) (ss : List (Row V)) (i : ℕ) (s : Row V) → AllByRecursion P (lasts_of ss) → P s.0 → AllByRecursion P (lasts_of (set ss i s))

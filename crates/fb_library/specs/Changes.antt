@@ -1,8 +1,6 @@
 -- A change as an edit of texts.
 use Rattle.std.specs.Prelude.{List, map}
-use Rattle.fb_library.specs.Texts.{Edit, Puts, Removes}
-use Rattle.fb_library.specs.declared.change.Change.{Change}
-use Rattle.fb_library.specs.declared.change.Change.TheVariants.{Put, Remove}
+use Rattle.fb_library.specs.{Texts.{Edit, Puts, Removes}, declared.change.Change.{Change}, declared.change.Change.TheVariants.{Put, Remove}}
 
 abbrev pub edit_of : Change → Edit
 edit_of (Put base source) = Puts source.value.unit base source.value.text

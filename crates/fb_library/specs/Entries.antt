@@ -1,8 +1,6 @@
 -- Places as entries, and shelves as entries where those of what they hold are given.
 use Rattle.std.specs.Prelude.{ℕ, List, map}
-use Rattle.fb_library.specs.Shelves.{names_of, lasts_of, all_on}
-use Rattle.fb_library.specs.declared.placed.Placed.{Placed}
-use Rattle.fb_library.specs.declared.shelves.Shelf.{Shelf}
+use Rattle.fb_library.specs.{Shelves.{names_of, lasts_of, all_on}, declared.placed.Placed.{Placed}, declared.shelves.Shelf.{Shelf}}
 
 module _ {V : Type 0} where
   abbrev pub entry_of : Placed V → List ℕ × V

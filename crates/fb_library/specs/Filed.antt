@@ -1,9 +1,7 @@
 -- A library's units as texts.
-use Rattle.std.specs.Prelude.{◌≡◌, ℕ, List, map, string_bytes}
-use Rattle.std.specs.List.{AllByRecursion}
+use Rattle.std.specs.{Prelude.{◌≡◌, ℕ, List, map, string_bytes}, List.{AllByRecursion}}
 use Rattle.fb_parse.specs.Source.{Written}
-use Rattle.fb_library.specs.Texts.{Texts, FiledText}
-use Rattle.fb_library.specs.declared.filed.Version.{Version}
+use Rattle.fb_library.specs.{Texts.{Texts, FiledText}, declared.filed.Version.{Version}}
 
 abbrev pub filed_text : Version → FiledText
 filed_text it = record { unit = it.unit; held = record { revision = it.revision; text = string_bytes it.text.value } }

@@ -1,11 +1,7 @@
 -- What near and far are, and what they depend on.
-use Rattle.std.specs.Prelude.{◌≡◌, ℕ, List, Contains, ◌↔◌}
-use Rattle.std.specs.FinMap.{get}
-use Rattle.std.specs.List.Sorted.{IsStrictlySortedBy}
+use Rattle.std.specs.{Prelude.{◌≡◌, ℕ, List, Contains, ◌↔◌}, FinMap.{get}, List.Sorted.{IsStrictlySortedBy}}
 use Rattle.fb_parse.specs.Text.Order.{name_cmp}
-use Rattle.fb_library.specs.View.{Sources}
-use Rattle.fb_library.specs.Near.{SomeCarries, IsNear, carried_of, near_of}
-use Rattle.fb_library.specs.Rests.{Rests}
+use Rattle.fb_library.specs.{View.{Sources}, Near.{SomeCarries, IsNear, carried_of, near_of}, Rests.{Rests}}
 
 -- under each of the names both have the same text, or none
 abbrev pub Agree : List (List ℕ) → Sources → Sources → Type 0

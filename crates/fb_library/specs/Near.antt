@@ -1,11 +1,7 @@
 -- What units carry, and what is near a unit.
-use Rattle.std.specs.Prelude.{◌≡◌, ℕ, true, List, [], ◌∷◌, ◌++◌, if◌then◌else◌, Option, Contains}
-use Rattle.std.specs.List.{flat_map}
-use Rattle.std.specs.FinMap.{entries}
-use Rattle.fb_parse.specs.Text.Order.{names_in_order}
-use Rattle.fb_parse.specs.Tree.Tree.{DeclTree}
-use Rattle.fb_library.specs.View.{Sources, tree_of, parts_at, values_in, values_at, is_structure_at}
-use Rattle.fb_library.specs.Opened.{led_from}
+use Rattle.std.specs.{Prelude.{◌≡◌, ℕ, true, List, [], ◌∷◌, ◌++◌, if◌then◌else◌, Option, Contains}, List.{flat_map}, FinMap.{entries}}
+use Rattle.fb_parse.specs.{Text.Order.{names_in_order}, Tree.Tree.{DeclTree}}
+use Rattle.fb_library.specs.{View.{Sources, tree_of, parts_at, values_in, values_at, is_structure_at}, Opened.{led_from}}
 
 -- u carries v: v is a value mention of u, or of a structure that u carries
 pub data Carries (sources : Sources) : List ℕ → List ℕ → Type 0 where

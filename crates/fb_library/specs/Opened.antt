@@ -1,7 +1,5 @@
 -- All names to which some names lead, as a relation and as a list.
-use Rattle.std.specs.Prelude.{◌↔◌, ℕ, zero, suc, List, ◌++◌, length, Contains}
-use Rattle.std.specs.List.{flat_map}
-use Rattle.std.specs.List.Sorted.{IsStrictlySortedBy}
+use Rattle.std.specs.{Prelude.{◌↔◌, ℕ, zero, suc, List, ◌++◌, length, Contains}, List.{flat_map}, List.Sorted.{IsStrictlySortedBy}}
 use Rattle.fb_parse.specs.Text.Order.{name_cmp, names_in_order}
 
 -- u leads to v: v is reached from u by none or more steps

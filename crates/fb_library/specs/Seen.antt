@@ -1,7 +1,5 @@
 -- How a walk along the mentions goes on: which names it has seen, and which of them are still pending.
-use Rattle.std.specs.Prelude.{◌≡◌, ℕ, ◌+◌, ◌≤◌, Bool, true, false, ◌||◌, List, [], ◌∷◌, length, if◌then◌else◌}
-use Rattle.std.specs.List.{list_any}
-use Rattle.std.specs.Ordering.{eq_by_cmp}
+use Rattle.std.specs.{Prelude.{◌≡◌, ℕ, ◌+◌, ◌≤◌, Bool, true, false, ◌||◌, List, [], ◌∷◌, length, if◌then◌else◌}, List.{list_any}, Ordering.{eq_by_cmp}}
 use Rattle.fb_parse.specs.Text.Order.{name_cmp}
 
 -- whether the name is among these

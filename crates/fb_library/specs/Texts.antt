@@ -1,8 +1,5 @@
 -- The texts of a library, and edits of them.
-use Rattle.std.specs.Prelude.{ℕ, List, [], ◌∷◌, Option, Some, None, map}
-use Rattle.std.specs.Option.{option_map}
-use Rattle.std.specs.Map.{lookup, remove_entry}
-use Rattle.std.specs.BTreeMap.{is_at, insert_entry}
+use Rattle.std.specs.{Prelude.{ℕ, List, [], ◌∷◌, Option, Some, None, map}, Option.{option_map}, Map.{lookup, remove_entry}, BTreeMap.{is_at, insert_entry}}
 use Rattle.std.specs.FinMap.{from_entries}
 use Rattle.fb_parse.specs.Text.Order.{name_cmp}
 use Rattle.fb_library.specs.View.{Sources}

@@ -1,11 +1,8 @@
 -- What is known by name, and what the text of a unit mentions.
-use Rattle.std.specs.Prelude.{ℕ, Bool, List, [], ◌++◌, Option, Some, None, unwrap_or}
-use Rattle.std.specs.Option.{option_and_then}
-use Rattle.std.specs.FinMap.{FinMap, get}
+use Rattle.std.specs.{Prelude.{ℕ, Bool, List, [], ◌++◌, Option, Some, None, unwrap_or}, Option.{option_and_then}, FinMap.{FinMap, get}}
 use Rattle.fb_parse.specs.Text.Order.{name_cmp}
 use Rattle.fb_parse.specs.Tree.Tree.{DeclTree, TypeTree, block_type, adapter_type, subapplication_type, system_configuration, structure_type}
-use Rattle.fb_parse.specs.Tree.Mentions.{Mentioned, nothing_mentioned, all_mentions_of}
-use Rattle.fb_parse.specs.Body.{BodyTree, Whole, BrokenAt, body_of}
+use Rattle.fb_parse.specs.{Tree.Mentions.{Mentioned, nothing_mentioned, all_mentions_of}, Body.{BodyTree, Whole, BrokenAt, body_of}}
 
 -- the texts of units, by name
 abbrev pub Sources : Type 0

@@ -1,7 +1,6 @@
 //! Changes of a library.
 ghost use Rattle.std.specs.Prelude.{◌≡◌, IfOk};
-ghost use Rattle.fb_library.specs.Texts.{unit_of};
-ghost use Rattle.fb_library.specs.Changes.{edit_of, edits_of};
+ghost use Rattle.fb_library.specs.{Texts.{unit_of}, Changes.{edit_of, edits_of}};
 
 use fb_parse::Source;
 use fb_parse::text::Name;

@@ -1,7 +1,5 @@
 //! What a shelf holds.
-ghost use Rattle.std.specs.Prelude.{◌≡◌, ◌++◌, ℕ, List, [], IfOk, OnOk, OnErr, length, slice_get, map};
-ghost use Rattle.std.specs.Option.{option_map};
-ghost use Rattle.std.specs.Map.{lookup, remove_entry};
+ghost use Rattle.std.specs.{Prelude.{◌≡◌, ◌++◌, ℕ, List, [], IfOk, OnOk, OnErr, length, slice_get, map}, Option.{option_map}, Map.{lookup, remove_entry}};
 ghost use Rattle.std.specs.BTreeMap.{insert_entry, is_at};
 ghost use Rattle.fb_parse.specs.Text.Order.{name_cmp};
 

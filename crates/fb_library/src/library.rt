@@ -1,12 +1,8 @@
 //! The library of units.
-ghost use Rattle.std.specs.Prelude.{◌≡◌, [], IfOk, IfSome, OnOk, OnErr, length, slice_get};
-ghost use Rattle.std.specs.Option.{option_map};
-ghost use Rattle.std.specs.List.Sorted.{IsStrictlySortedBy};
-ghost use Rattle.std.specs.Map.{remove_entry};
-ghost use Rattle.std.specs.BTreeMap.{insert_entry, is_at};
+ghost use Rattle.std.specs.{Prelude.{◌≡◌, [], IfOk, IfSome, OnOk, OnErr, length, slice_get}, Option.{option_map}, List.Sorted.{IsStrictlySortedBy}};
+ghost use Rattle.std.specs.{Map.{remove_entry}, BTreeMap.{insert_entry, is_at}};
 ghost use Rattle.fb_parse.specs.Text.Order.{name_cmp};
-ghost use Rattle.fb_library.specs.Texts.{held, text_at, revision_of, names_of, sources_of, edited, all_edited};
-ghost use Rattle.fb_library.specs.Changes.{edit_of, edits_of};
+ghost use Rattle.fb_library.specs.{Texts.{held, text_at, revision_of, names_of, sources_of, edited, all_edited}, Changes.{edit_of, edits_of}};
 
 use crate::change::Change;
 use crate::filed::Filed;

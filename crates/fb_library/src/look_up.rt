@@ -1,6 +1,5 @@
 //! What can be looked up by name.
-ghost use Rattle.std.specs.Prelude.{◌≡◌, IfSome};
-ghost use Rattle.std.specs.Option.{option_map};
+ghost use Rattle.std.specs.{Prelude.{◌≡◌, IfSome}, Option.{option_map}};
 ghost use Rattle.std.specs.FinMap as map;
 ghost use Rattle.fb_parse.specs.Tree.Tree.{decl_tree, type_tree};
 ghost use Rattle.fb_library.specs.View.{Sources, declaration_at, text_or_empty, tree_at, tree_of, type_in};

@@ -1,10 +1,7 @@
 //! Values by name in one list.
-ghost use Rattle.std.specs.Prelude.{◌≡◌, IfOk, IfErr, OnOk, OnErr};
-ghost use Rattle.std.specs.BTreeMap.{insert_entry};
-ghost use Rattle.std.specs.List.Sorted.{IsStrictlySortedBy};
+ghost use Rattle.std.specs.{Prelude.{◌≡◌, IfOk, IfErr, OnOk, OnErr}, BTreeMap.{insert_entry}, List.Sorted.{IsStrictlySortedBy}};
 ghost use Rattle.fb_parse.specs.Text.Order.{name_cmp};
-ghost use Rattle.fb_library.specs.Place.{IsAt, IsGapFor};
-ghost use Rattle.fb_library.specs.Entries.{entries_of, names_in};
+ghost use Rattle.fb_library.specs.{Place.{IsAt, IsGapFor}, Entries.{entries_of, names_in}};
 
 use crate::entries::Entries;
 use fb_parse::text::Name;

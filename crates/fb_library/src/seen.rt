@@ -1,6 +1,5 @@
 //! Walks from name to name.
-ghost use Rattle.std.specs.Prelude.{◌≡◌, IfOk, OnOk};
-ghost use Rattle.std.specs.List.Sorted.{IsStrictlySortedBy};
+ghost use Rattle.std.specs.{Prelude.{◌≡◌, IfOk, OnOk}, List.Sorted.{IsStrictlySortedBy}};
 ghost use Rattle.fb_parse.specs.Text.Order.{name_cmp};
 ghost use Rattle.fb_library.specs.Seen.{Opens};
 

@@ -1,10 +1,7 @@
 //! Shelves of entries, which are entries themselves.
-ghost use Rattle.std.specs.Prelude.{◌≡◌, ℕ, ◌<◌, List, true, IfOk, OnOk, OnErr, length};
-ghost use Rattle.std.specs.Map.{remove_entry};
-ghost use Rattle.std.specs.BTreeMap.{insert_entry, is_at};
+ghost use Rattle.std.specs.{Prelude.{◌≡◌, ℕ, ◌<◌, List, true, IfOk, OnOk, OnErr, length}, Map.{remove_entry}, BTreeMap.{insert_entry, is_at}};
 ghost use Rattle.fb_parse.specs.Text.Order.{name_cmp};
-ghost use Rattle.fb_library.specs.Entries.{shelves_of, entries_on, lasts_on};
-ghost use Rattle.fb_library.specs.Shelves.{AreShelves, IsShelfFor, reaches};
+ghost use Rattle.fb_library.specs.{Entries.{shelves_of, entries_on, lasts_on}, Shelves.{AreShelves, IsShelfFor, reaches}};
 
 use crate::entries::Entries;
 use fb_parse::text::Name;
@@ -35,8 +32,7 @@ impl<V, E: Entries<V>> Model for Shelves<V, E> {
 
     ghost Value = { List (List ℕ × V) };
 
-    ghost use Rattle.fb_library.specs.Entries.{shelves_of, entries_on};
-    ghost use Rattle.fb_library.specs.Shelves.{AreCounted};
+    ghost use Rattle.fb_library.specs.{Entries.{shelves_of, entries_on}, Shelves.{AreCounted}};
 
     ghost view = { λ it. entries_on E.entries it.shelves.items };
 

@@ -1,11 +1,8 @@
 //! Values by name.
 //! A table is shelves of 16 to 32 names in rooms of 16 to 32 shelves, each under an `Arc`: a changed copy costs one count for each room, and nothing
 //! needs to be undone if memory runs out. A tree of pointers would copy less and look up more slowly.
-ghost use Rattle.std.specs.Prelude.{◌≡◌, [], IfOk, OnOk, OnErr, length, slice_get, map};
-ghost use Rattle.std.specs.Option.{option_map};
-ghost use Rattle.std.specs.List.Sorted.{IsStrictlySortedBy};
-ghost use Rattle.std.specs.Map.{lookup, remove_entry};
-ghost use Rattle.std.specs.BTreeMap.{insert_entry, is_at};
+ghost use Rattle.std.specs.{Prelude.{◌≡◌, [], IfOk, OnOk, OnErr, length, slice_get, map}, Option.{option_map}, List.Sorted.{IsStrictlySortedBy}};
+ghost use Rattle.std.specs.{Map.{lookup, remove_entry}, BTreeMap.{insert_entry, is_at}};
 ghost use Rattle.fb_parse.specs.Text.Order.{name_cmp};
 
 use crate::entries::Entries;

@@ -1,11 +1,7 @@
 //! What is near a unit, and what it rests on.
-ghost use Rattle.std.specs.Prelude.{◌≡◌, ℕ, List, Contains, IfOk, OnOk};
-ghost use Rattle.std.specs.List.Sorted.{IsStrictlySortedBy};
+ghost use Rattle.std.specs.{Prelude.{◌≡◌, ℕ, List, Contains, IfOk, OnOk}, List.Sorted.{IsStrictlySortedBy}};
 ghost use Rattle.fb_parse.specs.Text.Order.{name_cmp};
-ghost use Rattle.fb_library.specs.Near.{carried_of, near_of};
-ghost use Rattle.fb_library.specs.Rests.{Rests};
-ghost use Rattle.fb_library.specs.Seen.{Opens};
-ghost use Rattle.fb_library.specs.View.{mentions_at};
+ghost use Rattle.fb_library.specs.{Near.{carried_of, near_of}, Rests.{Rests}, Seen.{Opens}, View.{mentions_at}};
 
 use crate::look_up::View;
 use crate::mentions::{carried_on, mentions_by_name, part_mentions, value_mentions};

@@ -1,14 +1,9 @@
 -- Seats and receipts, one more at a time.
 use Rattle.std.proofs.Common.{◌≡◌, ◌≢◌, zero, suc, ◌==◌, ◌&&◌, ◌||◌, ℕ, ◌+◌, ◌-◌, ◌<◌, ◌≤◌, List, [], ◌∷◌, Bool, true, false, not, cond, Option, Some, None, refl, ap, sym, ◌∙◌, subst, arith, length, take, get_or, set, min, add-zero, get_or-set_same, get_or-set_other}
-use Rattle.std.proofs.lemmas.Option.{slice_get_within}
-use Rattle.std.proofs.lemmas.Bool.{eqb-true, eq-eqb}
-use Rattle.std.proofs.lemmas.Bool.Decides.{nat_tests}
-use Rattle.std.proofs.lemmas.List.Elements.{All-more}
-use Rattle.std.proofs.lemmas.List.Sums.{sum_by_more, sum_by-cons}
-use Rattle.std.proofs.lemmas.List.Folds.{list_any_more}
+use Rattle.std.proofs.{lemmas.Option.{slice_get_within}, lemmas.Bool.{eqb-true, eq-eqb}, lemmas.Bool.Decides.{nat_tests}, lemmas.List.Elements.{All-more}}
+use Rattle.std.proofs.{lemmas.List.Sums.{sum_by_more, sum_by-cons}, lemmas.List.Folds.{list_any_more}}
 use Rattle.fb_bench.specs.History.BenchView.{Record, BenchView, all_turns, record_at}
-use Rattle.fb_locked.specs.Seats.{SeatView, ReceiptView}
-use Rattle.fb_locked.specs.declared.close.CloseError.{CloseError}
+use Rattle.fb_locked.specs.{Seats.{SeatView, ReceiptView}, declared.close.CloseError.{CloseError}}
 use Rattle.fb_locked.specs.declared.close.CloseError.TheVariants.{SeatMissing, SeatDiffers, ReceiptDiffers, ReceiptTwice, Memory}
 use Rattle.fb_locked.specs.Closing.{IsLeast, lesser_of, has_wrong_seat, has_number, times, AreReceiptsRight, IsReceiptRight, AreSeated, AreSeatsRight, IsReceiptFault, IsFirstFault}
 

@@ -1,20 +1,10 @@
 -- The callers of a workbench, one more at a time: whose seats are missing, who gets no seat, and how many calls each has made.
 use Rattle.std.proofs.Common.{◌≡◌, ◌==◌, ◌&&◌, ◌||◌, ℕ, List, [], ◌∷◌, ◌++◌, Bool, true, false, not, cond, Option, Some, None, map, refl, ap, sym, ◌∙◌, arith, nat_lt, nat_cmp, unwrap_or}
-use Rattle.std.specs.Borrow.{Bor}
-use Rattle.std.specs.BTreeMap.{is_at}
-use Rattle.std.specs.List.{list_any}
-use Rattle.std.specs.Map.{keys_of, lookup}
-use Rattle.std.specs.Map.Iter.{deref}
-use Rattle.std.proofs.lemmas.Bool.{and_parts, eqb-true}
-use Rattle.std.proofs.lemmas.Bool.Decides.{nat_tests}
-use Rattle.std.proofs.lemmas.List.{map-append}
-use Rattle.std.proofs.lemmas.List.Folds.{list_any-append}
+use Rattle.std.proofs.{lemmas.Bool.{and_parts, eqb-true}, lemmas.Bool.Decides.{nat_tests}, lemmas.List.{map-append}, lemmas.List.Folds.{list_any-append}}
+use Rattle.std.specs.{Borrow.{Bor}, BTreeMap.{is_at}, List.{list_any}, Map.{keys_of, lookup}, Map.Iter.{deref}}
 use Rattle.fb_bench.specs.History.BenchView.{BenchView, all_turns, on_page, pages_after}
 use Rattle.fb_history.proofs.Pages.{on_all}
-use Rattle.fb_locked.specs.Book.{is_first, is_caller, has_called}
-use Rattle.fb_locked.specs.Closing.{has_seat, is_missing}
-use Rattle.fb_locked.specs.Resuming.{is_left_out}
-use Rattle.fb_locked.specs.Seats.{SeatView}
+use Rattle.fb_locked.specs.{Book.{is_first, is_caller, has_called}, Closing.{has_seat, is_missing}, Resuming.{is_left_out}, Seats.{SeatView}}
 
 -- ---- one caller more is seen
 

@@ -1,8 +1,7 @@
 -- The receipt of the next record is one of the seat that fits.
 use Rattle.std.proofs.Common.{◌≡◌, ◌+◌, ◌≤◌, refl, ap, sym, subst, arith}
 use Rattle.fb_bench.specs.History.Machine.{State, Call, ToCommit, ToTake, ToDeliver, ToGiveBack, ToAsk, reply}
-use Rattle.fb_bench.specs.History.BenchView.{IsOrigin, IsReplay, all_turns, last_number, state_of}
-use Rattle.fb_bench.specs.Calls.{Fits}
+use Rattle.fb_bench.specs.{History.BenchView.{IsOrigin, IsReplay, all_turns, last_number, state_of}, Calls.{Fits}}
 use Rattle.fb_locked.specs.Seats.{LockedView, SeatView, ReceiptView, next_receipt, IsReceiptOf}
 
 -- the machine's reply is of the call's kind

@@ -2,15 +2,11 @@
 use Rattle.std.proofs.Common.{◌≡◌, ◌==◌, ℕ, ◌≤◌, Bool, true, false, cond, Option, Some, None, ap, sym, ◌∙◌, arith, nat_lt, nat_le, length}
 use Rattle.std.proofs.lemmas.Bool.Decides.{nat_tests}
 use Rattle.fb_bench.proofs.Committing.{most_units_of}
-use Rattle.fb_bench.specs.History.Checkpoints.{checkpointed}
-use Rattle.fb_bench.specs.History.Limits.{Bounds}
+use Rattle.fb_bench.specs.{History.Checkpoints.{checkpointed}, History.Limits.{Bounds}}
 use Rattle.fb_bench.specs.History.BenchView.{BenchView, IsOrigin, all_turns, last_number, state_of}
 use Rattle.fb_history.proofs.Restarts.{numbers_go_on, unseen}
-use Rattle.fb_locked.specs.Refusals.{refusal_of}
-use Rattle.fb_locked.specs.Rolling.{locked_rolled, IsRollUnseen}
-use Rattle.fb_locked.specs.Seats.{LockedView, SeatView}
-use Rattle.fb_locked.specs.declared.locked.SharedRefused.{SharedRefused}
-use Rattle.fb_locked.specs.declared.locked.SharedRefused.TheVariants.{SeatDiffers, Behind, HistoryFull}
+use Rattle.fb_locked.specs.{Refusals.{refusal_of}, Rolling.{locked_rolled, IsRollUnseen}, Seats.{LockedView, SeatView}}
+use Rattle.fb_locked.specs.{declared.locked.SharedRefused.{SharedRefused}, declared.locked.SharedRefused.TheVariants.{SeatDiffers, Behind, HistoryFull}}
 
 same_state : (limits : Bounds) (bench : BenchView) → IsOrigin bench.origin → limits.units ≡ bench.origin.most_units → state_of (checkpointed limits bench) ≡ state_of bench
 same_state limits bench begins same =

@@ -1,17 +1,11 @@
 -- Calls of a worker, one list after another.
 use Rattle.std.proofs.Common.{◌≡◌, ℕ, ◌+◌, ◌*◌, ◌≤◌, inr, List, [], ◌∷◌, ◌++◌, Option, Some, None, Result, Ok, Err, option_map, sym, ap, ◌∙◌, subst, arith, append_assoc, append-nil, length-append, refl}
-use Rattle.fb_bench.specs.Jobs.Reads.{PlainJob}
-use Rattle.fb_bench.specs.History.Machine.{Call, ToGiveBack}
-use Rattle.fb_bench.specs.declared.answers.Answered.{Answered}
-use Rattle.fb_locked.specs.declared.locked.SharedRefused.{SharedRefused}
-use Rattle.fb_locked.specs.declared.locked.SharedRefused.TheVariants as refused
-use Rattle.fb_locked.specs.declared.look.WorkEnd.{WorkEnd}
-use Rattle.fb_locked.specs.declared.look.WorkEnd.TheVariants.{Memory}
-use Rattle.fb_locked.specs.Seats.{LockedView, SeatView, ReceiptView, IsReceiptOf, seat_after}
-use Rattle.fb_locked.specs.Refusals.{IsRefusalOf, RefusedAs}
-use Rattle.fb_locked.specs.Calls.{AnswersKept, Stays}
+use Rattle.fb_bench.specs.{Jobs.Reads.{PlainJob}, History.Machine.{Call, ToGiveBack}, declared.answers.Answered.{Answered}}
+use Rattle.fb_locked.specs.{declared.locked.SharedRefused.{SharedRefused}, declared.look.WorkEnd.{WorkEnd}, declared.look.WorkEnd.TheVariants.{Memory}}
+use Rattle.fb_locked.specs.{Seats.{LockedView, SeatView, ReceiptView, IsReceiptOf, seat_after}, Refusals.{IsRefusalOf, RefusedAs}, Calls.{AnswersKept, Stays}}
 use Rattle.fb_locked.specs.Ends.{NamesSeat, EndsAs, GivesUp, end_of}
 use Rattle.fb_locked.specs.Runs.{Hand, Empty, Holds, Gave, hand_after, IsRun, IsWork, Follows, AddsWork, Works, IsRefusal}
+use Rattle.fb_locked.specs.declared.locked.SharedRefused.TheVariants as refused
 
 run_append : (seat : SeatView) (xs ys : List ReceiptView) (middle after : SeatView) → IsRun seat xs middle → IsRun middle ys after → IsRun seat (xs ++ ys) after
 run_append seat [] ys middle after one two = subst (λ (s : SeatView). IsRun s ys after) one two

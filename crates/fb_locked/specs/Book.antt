@@ -1,8 +1,6 @@
 -- The callers, with the number of calls of each.
-use Rattle.std.specs.Prelude.{◌≡◌, ℕ, ◌≤◌, ◌&&◌, ◌||◌, ◌==◌, List, Bool, Option, Some, None, nat_lt, nat_le, if◌then◌else◌}
-use Rattle.std.specs.List.{list_any}
-use Rattle.std.specs.Ordering.{nat_cmp}
-use Rattle.std.specs.BTreeMap.{BTreeMap, get}
+use Rattle.std.specs.{Prelude.{◌≡◌, ℕ, ◌≤◌, ◌&&◌, ◌||◌, ◌==◌, List, Bool, Option, Some, None, nat_lt, nat_le, if◌then◌else◌}, List.{list_any}}
+use Rattle.std.specs.{Ordering.{nat_cmp}, BTreeMap.{BTreeMap, get}}
 use Rattle.fb_bench.specs.History.BenchView.{BenchView, all_turns, last_number}
 use Rattle.fb_locked.specs.Seats.{LockedView, SeatView}
 

@@ -1,9 +1,6 @@
 -- What a call with a seat says: of what lies under the lock, and of its seat and its receipt alone.
 use Rattle.std.specs.Prelude.{◌≡◌, ◌++◌, ◌∷◌, [], List, Result, Ok, Err, None}
-use Rattle.fb_bench.specs.History.Machine.{Call}
-use Rattle.fb_bench.specs.History.BenchView.{reply_at}
-use Rattle.fb_bench.specs.Requests.{reply_in}
-use Rattle.fb_bench.specs.declared.answers.Answered.{Answered}
+use Rattle.fb_bench.specs.{History.Machine.{Call}, History.BenchView.{reply_at}, Requests.{reply_in}, declared.answers.Answered.{Answered}}
 use Rattle.fb_locked.specs.declared.locked.SharedRefused.{SharedRefused}
 use Rattle.fb_locked.specs.Seats.{LockedView, SeatView, ReceiptView, locked_after, next_receipt, seat_after, IsReceiptOf}
 use Rattle.fb_locked.specs.Refusals.{refusal_of, RefusedAs, IsRefusalOf}

@@ -1,11 +1,8 @@
 -- Seats and receipts against the history.
 use Rattle.std.specs.Prelude.{◌≡◌, ◌==◌, ◌&&◌, ℕ, ◌<◌, ◌≤◌, List, Bool, true, false, not, take, min, Option, None, Some, Result, Ok, Err, slice_get, count_by, All}
-use Rattle.std.specs.List.{list_any, Contains}
-use Rattle.std.specs.BTreeMap.{BTreeMap}
+use Rattle.std.specs.{List.{list_any, Contains}, BTreeMap.{BTreeMap}}
 use Rattle.fb_bench.specs.History.BenchView.{Record, BenchView, all_turns, record_numbered, turns_of}
-use Rattle.fb_locked.specs.Seats.{SeatView, ReceiptView}
-use Rattle.fb_locked.specs.Book.{is_caller, IsBookOf}
-use Rattle.fb_locked.specs.declared.close.CloseError.{CloseError}
+use Rattle.fb_locked.specs.{Seats.{SeatView, ReceiptView}, Book.{is_caller, IsBookOf}, declared.close.CloseError.{CloseError}}
 use Rattle.fb_locked.specs.declared.close.CloseError.TheVariants.{SeatMissing, SeatDiffers, ReceiptDiffers, ReceiptTwice, Memory}
 
 -- a seat of this caller is among the seats

@@ -1,19 +1,11 @@
 -- How a worker ends.
-use Rattle.std.specs.Prelude.{◌≡◌, ◌≢◌, ◌<◌, ◌||◌, ◌⊎◌, List, Bool, true, length, nat_le, is_some, Option, Some, None, if◌then◌else◌}
-use Rattle.std.specs.Option.{option_map}
-use Rattle.fb_bench.specs.Jobs.Reads.{PlainJob}
-use Rattle.fb_bench.specs.History.Machine.{ToTake, ToDeliver, ToGiveBack, next, reply}
-use Rattle.fb_bench.specs.Requests.{job_of}
-use Rattle.fb_bench.specs.History.BenchView.{state_of}
-use Rattle.fb_locked.specs.declared.locked.SharedRefused.{SharedRefused}
-use Rattle.fb_locked.specs.declared.locked.SharedRefused.TheVariants as refused
-use Rattle.fb_locked.specs.declared.look.WorkEnd.{WorkEnd}
-use Rattle.fb_locked.specs.declared.look.WorkEnd.TheVariants.{TurnsOver, Stopped, SeatDiffers, Behind, HistoryFull, Memory}
-use Rattle.fb_locked.specs.declared.look.Look.{Look}
-use Rattle.fb_locked.specs.declared.look.Look.TheVariants.{Ended, Nothing, Taken}
-use Rattle.fb_locked.specs.Seats.{LockedView, SeatView, ReceiptView}
-use Rattle.fb_locked.specs.Refusals.{refusal_of}
+use Rattle.std.specs.{Prelude.{◌≡◌, ◌≢◌, ◌<◌, ◌||◌, ◌⊎◌, List, Bool, true, length, nat_le, is_some, Option, Some, None, if◌then◌else◌}, Option.{option_map}}
+use Rattle.fb_bench.specs.{Jobs.Reads.{PlainJob}, History.Machine.{ToTake, ToDeliver, ToGiveBack, next, reply}, Requests.{job_of}, History.BenchView.{state_of}}
+use Rattle.fb_locked.specs.{declared.locked.SharedRefused.{SharedRefused}, declared.look.WorkEnd.{WorkEnd}}
+use Rattle.fb_locked.specs.{declared.look.WorkEnd.TheVariants.{TurnsOver, Stopped, SeatDiffers, Behind, HistoryFull, Memory}, declared.look.Look.{Look}}
+use Rattle.fb_locked.specs.{declared.look.Look.TheVariants.{Ended, Nothing, Taken}, Seats.{LockedView, SeatView, ReceiptView}, Refusals.{refusal_of}}
 use Rattle.fb_locked.specs.Calls.{Keeps, Stays}
+use Rattle.fb_locked.specs.declared.locked.SharedRefused.TheVariants as refused
 
 -- a refusal under its name
 abbrev pub end_of : SharedRefused → WorkEnd

@@ -1,9 +1,8 @@
 -- Why a call with a seat is refused.
 use Rattle.std.specs.Prelude.{◌≡◌, ◌≢◌, ◌==◌, ◌<◌, Option, Some, None, length, nat_lt, nat_le, if◌then◌else◌}
-use Rattle.fb_locked.specs.declared.locked.SharedRefused.{SharedRefused}
-use Rattle.fb_locked.specs.declared.locked.SharedRefused.TheVariants.{SeatDiffers, Behind, HistoryFull, Memory}
-use Rattle.fb_bench.specs.History.BenchView.{all_turns, last_number}
+use Rattle.fb_locked.specs.{declared.locked.SharedRefused.{SharedRefused}, declared.locked.SharedRefused.TheVariants.{SeatDiffers, Behind, HistoryFull, Memory}}
 use Rattle.fb_locked.specs.Seats.{LockedView, SeatView}
+use Rattle.fb_bench.specs.History.BenchView.{all_turns, last_number}
 
 -- the first cause, want of memory apart
 abbrev pub refusal_of : LockedView → SeatView → Option SharedRefused

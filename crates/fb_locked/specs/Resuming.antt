@@ -1,12 +1,8 @@
 -- A workbench that comes under a lock with the calls that it has.
 use Rattle.std.specs.Prelude.{◌≡◌, ◌↔◌, ◌⊎◌, ◌&&◌, ℕ, Bool, Some, None, not, nat_lt}
 use Rattle.fb_bench.specs.History.BenchView.{BenchView, all_turns, IsFull}
-use Rattle.fb_locked.specs.Book.{is_first}
-use Rattle.fb_locked.specs.Closing.{IsLeast}
-use Rattle.fb_locked.specs.Refusals.{refusal_of}
-use Rattle.fb_locked.specs.Seats.{LockedView, SeatView}
-use Rattle.fb_locked.specs.declared.locked.SharedRefused.TheVariants.{HistoryFull}
-use Rattle.fb_locked.specs.declared.resume.ResumeError.{ResumeError}
+use Rattle.fb_locked.specs.{Book.{is_first}, Closing.{IsLeast}, Refusals.{refusal_of}, Seats.{LockedView, SeatView}}
+use Rattle.fb_locked.specs.{declared.locked.SharedRefused.TheVariants.{HistoryFull}, declared.resume.ResumeError.{ResumeError}}
 use Rattle.fb_locked.specs.declared.resume.ResumeError.TheVariants.{CallersFew, Memory}
 
 -- a caller with calls, for whom no seat is made

@@ -1,18 +1,11 @@
 -- A history under a lock that begins anew where it is full, and keys that are out since a take.
 use Rattle.std.specs.Prelude.{◌≡◌, ◌<◌, ◌⊎◌, ◌++◌, ◌∷◌, [], ℕ, Bool, true, false, List, Option, Some, None, Result, Ok, Err}
-use Rattle.fb_bench.specs.Jobs.declared.key.Key.{Key}
-use Rattle.fb_bench.specs.Jobs.KeyOrder.{same_key}
-use Rattle.fb_bench.specs.Jobs.Reads.{PlainJob}
-use Rattle.fb_bench.specs.History.Checkpoints.{checking, checkpointed, ChecksAs}
-use Rattle.fb_bench.specs.History.Limits.{Bounds}
-use Rattle.fb_bench.specs.History.Machine.{ToGiveBack}
+use Rattle.fb_bench.specs.{Jobs.declared.key.Key.{Key}, Jobs.KeyOrder.{same_key}, Jobs.Reads.{PlainJob}, History.Checkpoints.{checking, checkpointed, ChecksAs}}
+use Rattle.fb_bench.specs.{History.Limits.{Bounds}, History.Machine.{ToGiveBack}}
 use Rattle.fb_bench.specs.History.BenchView.{Record, BenchView, IsFull, all_turns, last_number, record_numbered, state_of}
-use Rattle.fb_bench.specs.History.declared.answers.CheckpointError.{CheckpointError}
-use Rattle.fb_bench.specs.Requests.{job_of}
-use Rattle.fb_locked.specs.Calls.{Keeps, Stays}
-use Rattle.fb_locked.specs.Refusals.{refusal_of, RefusedAs, IsRefusalOf}
-use Rattle.fb_locked.specs.Seats.{LockedView, SeatView, ReceiptView, IsReceiptOf, seat_after}
-use Rattle.fb_locked.specs.declared.locked.SharedRefused.{SharedRefused}
+use Rattle.fb_bench.specs.{History.declared.answers.CheckpointError.{CheckpointError}, Requests.{job_of}}
+use Rattle.fb_locked.specs.{Calls.{Keeps, Stays}, Refusals.{refusal_of, RefusedAs, IsRefusalOf}}
+use Rattle.fb_locked.specs.{Seats.{LockedView, SeatView, ReceiptView, IsReceiptOf, seat_after}, declared.locked.SharedRefused.{SharedRefused}}
 use Rattle.fb_locked.specs.declared.locked.SharedRefused.TheVariants.{HistoryFull}
 
 -- the same, with a history that begins where it has led to

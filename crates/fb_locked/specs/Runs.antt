@@ -1,11 +1,7 @@
 -- Calls with one seat, one after another, and those that a worker makes.
 use Rattle.std.specs.Prelude.{◌≡◌, ℕ, ◌≤◌, ◌<◌, ◌++◌, [], ◌∷◌, List, Option, Some, None, length, ⊤}
-use Rattle.fb_bench.specs.Jobs.Reads.{PlainJob}
-use Rattle.fb_bench.specs.History.Machine.{Call, ToCommit, ToTake, ToDeliver, ToGiveBack, ToAsk, Reply}
-use Rattle.fb_bench.specs.Requests.{job_of}
-use Rattle.fb_locked.specs.declared.look.Look.{Look}
-use Rattle.fb_locked.specs.declared.look.Look.TheVariants.{Ended, Nothing, Taken}
-use Rattle.fb_locked.specs.declared.look.WorkEnd.{WorkEnd}
+use Rattle.fb_bench.specs.{Jobs.Reads.{PlainJob}, History.Machine.{Call, ToCommit, ToTake, ToDeliver, ToGiveBack, ToAsk, Reply}, Requests.{job_of}}
+use Rattle.fb_locked.specs.{declared.look.Look.{Look}, declared.look.Look.TheVariants.{Ended, Nothing, Taken}, declared.look.WorkEnd.{WorkEnd}}
 use Rattle.fb_locked.specs.declared.look.WorkEnd.TheVariants.{TurnsOver, Stopped, SeatDiffers, Behind, HistoryFull, Memory}
 use Rattle.fb_locked.specs.Seats.{SeatView, ReceiptView, IsReceiptOf, seat_after}
 

@@ -1,7 +1,6 @@
 -- What contracts see of a seat, of a receipt and of what lies under the lock.
 use Rattle.std.specs.Prelude.{◌≡◌, ℕ, ◌+◌, ◌<◌, List, Bool, Some, length, slice_get}
-use Rattle.fb_bench.specs.Calls.{Fits}
-use Rattle.fb_bench.specs.History.Machine.{Call}
+use Rattle.fb_bench.specs.{Calls.{Fits}, History.Machine.{Call}}
 use Rattle.fb_bench.specs.History.BenchView.{Record, BenchView, all_turns, last_number, recorded, record_of, IsOrigin, IsReplay}
 
 -- a seat: whose it is, how many calls of its caller it knows of, and the greatest number of a record that it has seen

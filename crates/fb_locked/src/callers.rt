@@ -2,8 +2,7 @@
 ghost use Rattle.std.specs.Prelude.{◌≡◌, ◌&&◌, [], IfOk, OnOk, nat_lt, not};
 ghost use Rattle.fb_bench.specs.History.BenchView.{all_turns};
 ghost use Rattle.fb_locked.specs.Book.{CountsCalls, CountsOne, HasCounts, IsBookOf, is_first};
-ghost use Rattle.fb_locked.specs.Closing.{has_seat, has_wrong_seat, is_missing, IsLeast, lesser_of};
-ghost use Rattle.fb_locked.specs.Resuming.{is_left_out};
+ghost use Rattle.fb_locked.specs.{Closing.{has_seat, has_wrong_seat, is_missing, IsLeast, lesser_of}, Resuming.{is_left_out}};
 
 use crate::seat::Seat;
 use fb_bench::Bench;

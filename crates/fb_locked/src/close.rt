@@ -1,7 +1,6 @@
 //! The end of the calls, by all seats and receipts.
 ghost use Rattle.std.specs.Prelude.{◌≡◌, IfErr, IfOk};
-ghost use Rattle.fb_locked.specs.Book.{IsBookOf};
-ghost use Rattle.fb_locked.specs.Closing.{AgreesWith, ChecksAll, IsFirstFault};
+ghost use Rattle.fb_locked.specs.{Book.{IsBookOf}, Closing.{AgreesWith, ChecksAll, IsFirstFault}};
 
 use crate::callers::{count_calls, missing_seat, wrong_seat};
 use crate::locked::Locked;

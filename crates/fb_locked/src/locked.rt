@@ -1,12 +1,8 @@
 //! What is under the lock, and the calls on it.
 ghost use Rattle.std.specs.Prelude.{◌≡◌, ◌≤◌, ◌+◌, true, false, IfOk, IfErr, OnOk, OnErr, None, Some, vec_len, vec_capacity};
-ghost use Rattle.fb_bench.specs.History.Machine.{ToCommit, ToTake, ToDeliver, ToGiveBack, ToAsk};
-ghost use Rattle.fb_bench.specs.Records.{listed};
-ghost use Rattle.fb_bench.specs.Requests.{call_for, reply_in, job_of};
+ghost use Rattle.fb_bench.specs.{History.Machine.{ToCommit, ToTake, ToDeliver, ToGiveBack, ToAsk}, Records.{listed}, Requests.{call_for, reply_in, job_of}};
 ghost use Rattle.fb_bench.specs.History.BenchView.{IsOrigin, IsReplay, all_turns, new_bench};
-ghost use Rattle.fb_locked.specs.Book.{SeatFits};
-ghost use Rattle.fb_locked.specs.Calls.{Answers, AnswersKept, Performs, PerformsKept};
-ghost use Rattle.fb_locked.specs.Refusals.{refusal_of, IsRefusalOf};
+ghost use Rattle.fb_locked.specs.{Book.{SeatFits}, Calls.{Answers, AnswersKept, Performs, PerformsKept}, Refusals.{refusal_of, IsRefusalOf}};
 ghost use Rattle.fb_locked.specs.Seats.{locked_after, next_receipt, AreFirstSeats, AreSeatsAt};
 
 use crate::seat::{Receipt, Seat};

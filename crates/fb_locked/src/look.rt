@@ -2,8 +2,7 @@
 ghost use Rattle.std.specs.Prelude.{◌≡◌, ◌+◌, IfSome, Some, None, is_some, vec_len, vec_capacity};
 ghost use Rattle.fb_bench.specs.Requests.{job_of};
 ghost use Rattle.fb_locked.specs.Ends.{end_of, end_before_take, calls_workers, GivesUp, LookNames, Looks, NamesSeat, SettlesJob};
-ghost use Rattle.fb_locked.specs.Runs.{AddsLook, Holds, LeavesRoom, Works};
-ghost use Rattle.fb_locked.specs.declared.look.WorkEnd.TheVariants.{Memory};
+ghost use Rattle.fb_locked.specs.{Runs.{AddsLook, Holds, LeavesRoom, Works}, declared.look.WorkEnd.TheVariants.{Memory}};
 
 use crate::locked::{Locked, SharedRefused, job_from};
 use crate::seat::{Receipt, Seat};

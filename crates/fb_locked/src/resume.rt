@@ -1,8 +1,6 @@
 //! A workbench that comes under a lock with the calls that it has.
 ghost use Rattle.std.specs.Prelude.{◌≡◌, false, None, IfErr, IfOk, OnOk};
-ghost use Rattle.fb_locked.specs.Closing.{IsLeast};
-ghost use Rattle.fb_locked.specs.Resuming.{is_left_out, IsResumeFault};
-ghost use Rattle.fb_locked.specs.Seats.{AreSeatsAt};
+ghost use Rattle.fb_locked.specs.{Closing.{IsLeast}, Resuming.{is_left_out, IsResumeFault}, Seats.{AreSeatsAt}};
 
 use crate::callers::left_out;
 use crate::locked::{Locked, first_seats};

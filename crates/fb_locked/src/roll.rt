@@ -1,8 +1,6 @@
 //! A workbench under a lock whose history begins again once it is full, and keys that are out since a take.
 ghost use Rattle.std.specs.Prelude.{◌≡◌, ◌↔◌, ◌≤◌, IsTrue, OnOk, OnErr};
-ghost use Rattle.fb_bench.specs.History.Checkpoints.{checking, ChecksAs};
-ghost use Rattle.fb_bench.specs.History.Limits.{Bounds};
-ghost use Rattle.fb_bench.specs.History.BenchView.{IsOrigin};
+ghost use Rattle.fb_bench.specs.{History.Checkpoints.{checking, ChecksAs}, History.Limits.{Bounds}, History.BenchView.{IsOrigin}};
 ghost use Rattle.fb_locked.specs.Rolling.{locked_rolled, takes, takes_at, IsOutSince, IsRollUnseen, IsTakenAfter, MakesRoom, MayReturn, Returns};
 ghost use Rattle.fb_locked.specs.Seats.{LockedView};
 

@@ -5,9 +5,7 @@ use Rattle.fb_placing.specs.Tree.Mentions.{unit_kind_of}
 use Rattle.fb_placing.specs.Tree.Tree.{DeclTree, block_type, adapter_type, subapplication_type, system_configuration, structure_type}
 use Rattle.fb_placing.specs.Tree.declared.kinds.UnitKind.{UnitKind}
 use Rattle.fb_placing.specs.Tree.declared.kinds.UnitKind.TheVariants as kinds
-use Rattle.fb_flatten.specs.Library.View.{Sources, tree_at}
-use Rattle.fb_flatten.specs.Wiring.ByName.{kind_at}
-use Rattle.fb_flatten.specs.Tables.{is_system_tree}
+use Rattle.fb_flatten.specs.{Library.View.{Sources, tree_at}, Wiring.ByName.{kind_at}, Tables.{is_system_tree}}
 use Rattle.fb_mapping.specs.Placed.{IsSystem}
 
 other_kind : (sources : Sources) (unit : List ℕ) (kind : UnitKind) → kind_at sources unit ≡ Some kind → (kind ≡ kinds.System → ⊥) → IsSystem sources unit → ⊥

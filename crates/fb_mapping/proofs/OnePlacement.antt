@@ -1,8 +1,7 @@
 -- A system has one placement only.
 use Rattle.std.proofs.Common.{sym, ◌∙◌, ap}
 use Rattle.fb_flatten.proofs.OneNet.{one_net_only}
-use Rattle.fb_mapping.specs.Laws.{OnePlace}
-use Rattle.fb_mapping.specs.Placed.{placed_by}
+use Rattle.fb_mapping.specs.{Laws.{OnePlace}, Placed.{placed_by}}
 
 pub one_placement : OnePlace
 one_placement sources system a b p q =

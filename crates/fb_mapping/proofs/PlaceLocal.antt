@@ -1,13 +1,9 @@
 -- The placement of a system depends on the texts alone that the system rests on.
 use Rattle.std.proofs.Common.{ℕ, ◌≡◌, List, refl, ◌∙◌, ap}
-use Rattle.fb_flatten.specs.Library.View.{Sources}
-use Rattle.fb_flatten.specs.Library.Local.{AgreeFar}
-use Rattle.fb_flatten.specs.Net.{PlainNet, blocked, recursive, too_large, flat_net}
+use Rattle.fb_flatten.specs.{Library.View.{Sources}, Library.Local.{AgreeFar}, Net.{PlainNet, blocked, recursive, too_large, flat_net}}
 use Rattle.fb_flatten.proofs.NetLocality.{net_local}
-use Rattle.fb_placing.proofs.HomesLocal.{homes_same}
-use Rattle.fb_placing.proofs.ResolvedLocal.{same_instances}
-use Rattle.fb_mapping.specs.Laws.{PlaceIsLocal}
-use Rattle.fb_mapping.specs.Placed.{placed_by, with_cuts}
+use Rattle.fb_placing.proofs.{HomesLocal.{homes_same}, ResolvedLocal.{same_instances}}
+use Rattle.fb_mapping.specs.{Laws.{PlaceIsLocal}, Placed.{placed_by, with_cuts}}
 
 module _ (a b : Sources) (system : List ℕ) (agree : AgreeFar system a b) where
   placed_same : (net : PlainNet) → placed_by a system net ≡ placed_by b system net

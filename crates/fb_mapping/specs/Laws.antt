@@ -1,7 +1,6 @@
 -- Laws of placements.
 use Rattle.std.specs.Prelude.{ℕ, ◌≡◌, List}
-use Rattle.fb_flatten.specs.Library.View.{Sources}
-use Rattle.fb_flatten.specs.Library.Local.{AgreeFar}
+use Rattle.fb_flatten.specs.{Library.View.{Sources}, Library.Local.{AgreeFar}}
 use Rattle.fb_mapping.specs.Placed.{PlainPlaced, IsPlaced}
 
 -- a system has one placement only

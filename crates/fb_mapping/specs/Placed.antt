@@ -1,17 +1,11 @@
 -- The placement of a system on its resources (IEC 61499-1, clause 7: system configurations).
 use Rattle.std.specs.Prelude.{ℕ, ◌≡◌, List, Some}
-use Rattle.fb_placing.specs.Tree.declared.kinds.UnitKind.TheVariants.{System}
-use Rattle.fb_flatten.specs.Library.View.{Sources}
-use Rattle.fb_flatten.specs.Wiring.ByName.{kind_at}
-use Rattle.fb_placing.specs.Network.declared.flat.Link.{Link}
-use Rattle.fb_placing.specs.Network.PlainFlat.{PlainFlat}
-use Rattle.fb_flatten.specs.Net.{PlainNet, IsNet, blocked, recursive, too_large, flat_net, plain_net}
-use Rattle.fb_placing.specs.declared.homes.Home.{Home}
-use Rattle.fb_placing.specs.declared.homes.Misplaced.{Misplaced}
+use Rattle.fb_placing.specs.{Tree.declared.kinds.UnitKind.TheVariants.{System}, Network.declared.flat.Link.{Link}, Network.PlainFlat.{PlainFlat}}
+use Rattle.fb_placing.specs.{declared.homes.Home.{Home}, declared.homes.Misplaced.{Misplaced}, Cuts.{cuts_of, home_at}}
+use Rattle.fb_placing.specs.Homes.{PlainHomes, faulty_homes, all_homes, homes_of}
+use Rattle.fb_flatten.specs.{Library.View.{Sources}, Wiring.ByName.{kind_at}, Net.{PlainNet, IsNet, blocked, recursive, too_large, flat_net, plain_net}}
 use Rattle.fb_mapping.specs.declared.placement.Placed.{Placed}
 use Rattle.fb_mapping.specs.declared.placement.Placed.TheVariants as placed
-use Rattle.fb_placing.specs.Cuts.{cuts_of, home_at}
-use Rattle.fb_placing.specs.Homes.{PlainHomes, faulty_homes, all_homes, homes_of}
 
 -- systems are placed
 abbrev pub IsSystem : Sources → List ℕ → Type 0

@@ -1,7 +1,6 @@
 //! Which units are systems.
 ghost use Rattle.std.specs.Prelude.{◌≡◌, ◌↔◌, IsTrue};
-ghost use Rattle.fb_flatten.specs.Library.View.{tree_at};
-ghost use Rattle.fb_flatten.specs.Tables.{is_system_in};
+ghost use Rattle.fb_flatten.specs.{Library.View.{tree_at}, Tables.{is_system_in}};
 ghost use Rattle.fb_mapping.specs.Placed.{IsSystem};
 
 use fb_flatten::is_of_system;

@@ -1,10 +1,8 @@
 -- The changes of a commit in a value, one after another.
 use Rattle.std.proofs.Common.{◌≡◌, ◌<◌, ◌+◌, ℕ, [], ◌∷◌, ◌++◌, ◌∙◌, List, None, Option, Some, ap, drop, get_or, length, map, option_map, refl, sym, take}
-use Rattle.std.specs.Prelude.{option_and_then}
 use Rattle.std.proofs.lemmas.List.{map-append, take-append-drop, take_more}
-use Rattle.serde_json.specs.Data.{Data}
-use Rattle.serde_json.specs.View.{items_of, view}
-use Rattle.serde_json.specs.declared.value.Value.{Value}
+use Rattle.std.specs.Prelude.{option_and_then}
+use Rattle.serde_json.specs.{Data.{Data}, View.{items_of, view}, declared.value.Value.{Value}}
 use Rattle.fb_messages.specs.Requests.{Change, change_in, changes_of}
 
 no_more : (o : Option (List Change)) → o ≡ option_map (λ more. [] ++ more) o

@@ -1,13 +1,9 @@
 -- The entries of a list that are written one by one.
-use Rattle.std.proofs.Common.{ℕ, ◌≡◌, ◌+◌, ◌∷◌, ◌++◌, ◌∙◌, List, Some, add-one, ap, append_assoc, drop, map, sym}
-use Rattle.std.specs.Prelude.{slice_get}
-use Rattle.std.proofs.Math.Seq.{drop-cons}
+use Rattle.std.proofs.{Common.{ℕ, ◌≡◌, ◌+◌, ◌∷◌, ◌++◌, ◌∙◌, List, Some, add-one, ap, append_assoc, drop, map, sym}, Math.Seq.{drop-cons}}
 use Rattle.std.proofs.lemmas.Option.{get_or_from_slice_get, slice_get_within}
-use Rattle.json.specs.Token.{Token}
-use Rattle.json.specs.Tree.{items_tokens}
-use Rattle.serde_json.specs.Data.{Data}
-use Rattle.serde_json.specs.View.{items_of}
-use Rattle.serde_json.specs.Written.{items_outline}
+use Rattle.std.specs.Prelude.{slice_get}
+use Rattle.json.specs.{Token.{Token}, Tree.{items_tokens}}
+use Rattle.serde_json.specs.{Data.{Data}, View.{items_of}, Written.{items_outline}}
 use Rattle.fb_messages.specs.Tokens.{tokens_of}
 
 -- the tokens of the entries that are left, with the bracket

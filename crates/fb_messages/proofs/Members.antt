@@ -1,7 +1,6 @@
 -- Objects, from what was written of them.
 use Rattle.std.proofs.Common.{◌≡◌, [], ◌∷◌, ◌++◌, ◌∙◌, Err, List, Ok, Result, ap, append_assoc}
-use Rattle.json.specs.Token.{Token, begin_object, end_object}
-use Rattle.json.specs.Written.{Writes, Written}
+use Rattle.json.specs.{Token.{Token, begin_object, end_object}, Written.{Writes, Written}}
 use Rattle.fb_messages.specs.Tokens.{Adds}
 
 -- one writing after another

@@ -1,9 +1,7 @@
 -- The text that is written of data.
 use Rattle.std.proofs.Common.{◌≡◌, [], ◌++◌, ◌∙◌}
-use Rattle.json.specs.Print.{print}
-use Rattle.json.specs.Written.{Written}
-use Rattle.serde_json.specs.Data.{Data}
-use Rattle.serde_json.specs.Written.{compact_text}
+use Rattle.json.specs.{Print.{print}, Written.{Written}}
+use Rattle.serde_json.specs.{Data.{Data}, Written.{compact_text}}
 use Rattle.serde_json.proofs.Texts.{print-outline}
 use Rattle.fb_messages.specs.Tokens.{tokens_of}
 

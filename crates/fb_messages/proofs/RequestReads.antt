@@ -1,9 +1,7 @@
 -- The request of a line, by what was read of it.
-use Rattle.std.proofs.Common.{◌≡◌, ℕ, Bool, List, None, Some, false, refl, true}
+use Rattle.std.proofs.{Common.{◌≡◌, ℕ, Bool, List, None, Some, false, refl, true}, lemmas.Str.{IsUtf8-from_is_utf8, is_utf8-from_IsUtf8}}
 use Rattle.std.specs.Str.{IsUtf8, is_utf8}
-use Rattle.std.proofs.lemmas.Str.{IsUtf8-from_is_utf8, is_utf8-from_IsUtf8}
-use Rattle.serde_json.specs.Data.{Data}
-use Rattle.serde_json.specs.Read.{read}
+use Rattle.serde_json.specs.{Data.{Data}, Read.{read}}
 use Rattle.fb_messages.specs.Requests.{request_in, request_of}
 
 pub request_of-read : (line : List ℕ) (d : Data) → IsUtf8 line → read line ≡ Some d → request_of line ≡ request_in d

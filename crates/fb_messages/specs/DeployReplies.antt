@@ -1,12 +1,9 @@
 -- Plans, as JSON.
 use Rattle.std.specs.Prelude.{ℕ, List, codes, map}
-use Rattle.serde_json.specs.Data.{Data, Items, array, item, member, no_items, no_members, object, string}
-use Rattle.serde_json.specs.View.{items_of}
+use Rattle.serde_json.specs.{Data.{Data, Items, array, item, member, no_items, no_members, object, string}, View.{items_of}}
 use Rattle.fb_network.specs.declared.flat.Link.{Link}
-use Rattle.fb_jobs.specs.Placing.declared.homes.Misplaced.{Misplaced}
-use Rattle.fb_jobs.specs.Placing.declared.homes.Misplaced.TheVariants.{NoSuchBlock, Unmapped}
-use Rattle.fb_jobs.specs.Placing.PlainResource.{PlainResource}
-use Rattle.fb_jobs.specs.Deploy.Deploy.{PlainDeploy, faulty, planned, stopped}
+use Rattle.fb_jobs.specs.{Placing.declared.homes.Misplaced.{Misplaced}, Placing.declared.homes.Misplaced.TheVariants.{NoSuchBlock, Unmapped}}
+use Rattle.fb_jobs.specs.{Placing.PlainResource.{PlainResource}, Deploy.Deploy.{PlainDeploy, faulty, planned, stopped}}
 use Rattle.fb_messages.specs.NetReplies.{link_items, net_said}
 
 -- two texts

@@ -1,13 +1,8 @@
 -- Nets, as JSON.
 use Rattle.std.specs.Prelude.{ℕ, List, codes, map}
-use Rattle.serde_json.specs.Data.{Data, Items, array, item, member, no_items, no_members, object, string}
-use Rattle.serde_json.specs.View.{items_of}
-use Rattle.fb_tree.specs.declared.network.Sort.{Sort}
-use Rattle.fb_tree.specs.declared.network.Sort.TheVariants.{Adapter, Data as DataSort, Event}
-use Rattle.fb_network.specs.declared.flat.FlatBlock.{FlatBlock}
-use Rattle.fb_network.specs.declared.flat.Link.{Link}
-use Rattle.fb_network.specs.declared.flat.Border.{Border}
-use Rattle.fb_network.specs.PlainFlat.{PlainFlat}
+use Rattle.serde_json.specs.{Data.{Data, Items, array, item, member, no_items, no_members, object, string}, View.{items_of}}
+use Rattle.fb_tree.specs.{declared.network.Sort.{Sort}, declared.network.Sort.TheVariants.{Adapter, Data as DataSort, Event}}
+use Rattle.fb_network.specs.{declared.flat.FlatBlock.{FlatBlock}, declared.flat.Link.{Link}, declared.flat.Border.{Border}, PlainFlat.{PlainFlat}}
 use Rattle.fb_jobs.specs.Flatten.Net.{PlainNet, blocked, flat_net, recursive, too_large}
 
 abbrev pub sort_text : Sort → List ℕ

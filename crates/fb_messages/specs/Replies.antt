@@ -1,16 +1,11 @@
 -- The replies, as JSON. Members stand in the order of their names' bytes.
 use Rattle.std.specs.Prelude.{ℕ, [], ◌∷◌, ◌++◌, Bool, List, codes, map}
-use Rattle.serde_json.specs.Data.{Data, Items, array, boolean, item, member, no_items, no_members, number, object, string, unsigned}
-use Rattle.serde_json.specs.View.{items_of}
+use Rattle.serde_json.specs.{Data.{Data, Items, array, boolean, item, member, no_items, no_members, number, object, string, unsigned}, View.{items_of}}
 use Rattle.serde_json.specs.Written.{compact_text}
-use Rattle.fb_jobs.specs.Iface.declared.fault.Fault.{Fault}
-use Rattle.fb_jobs.specs.Iface.Code.{code_word}
-use Rattle.fb_jobs.specs.declared.key.Kind.{Kind}
-use Rattle.fb_jobs.specs.declared.key.Kind.TheVariants.{Deploy, Faults, Net}
-use Rattle.fb_jobs.specs.declared.key.Key.{Key}
+use Rattle.fb_jobs.specs.{Iface.declared.fault.Fault.{Fault}, Iface.Code.{code_word}, declared.key.Kind.{Kind}}
+use Rattle.fb_jobs.specs.{declared.key.Kind.TheVariants.{Deploy, Faults, Net}, declared.key.Key.{Key}}
 use Rattle.fb_jobs.specs.Keys.{DeployFound, FaultsFound, Finding, NetFound, NothingFound}
-use Rattle.fb_messages.specs.NetReplies.{net_found}
-use Rattle.fb_messages.specs.DeployReplies.{deploy_found}
+use Rattle.fb_messages.specs.{NetReplies.{net_found}, DeployReplies.{deploy_found}}
 
 abbrev pub count : ℕ → Data
 count n = number (unsigned n)

@@ -1,10 +1,8 @@
 -- A request of the code, as a request of the definitions.
 use Rattle.std.specs.Prelude.{map}
 use Rattle.fb_messages.specs.Requests as spec
-use Rattle.fb_messages.specs.declared.request.AskedChange.{AskedChange}
-use Rattle.fb_messages.specs.declared.request.AskedChange.TheVariants.{Put, Remove}
-use Rattle.fb_messages.specs.declared.request.Request.{Request}
-use Rattle.fb_messages.specs.declared.request.Request.TheVariants.{Ask, Checkpoint, Commit, Deliver, GiveBack, Take, Work}
+use Rattle.fb_messages.specs.{declared.request.AskedChange.{AskedChange}, declared.request.AskedChange.TheVariants.{Put, Remove}}
+use Rattle.fb_messages.specs.{declared.request.Request.{Request}, declared.request.Request.TheVariants.{Ask, Checkpoint, Commit, Deliver, GiveBack, Take, Work}}
 
 abbrev pub change_view : AskedChange → spec.Change
 change_view (Put unit base text) = spec.puts unit.now base text.now

@@ -1,12 +1,8 @@
 -- The request that a line is.
-use Rattle.std.specs.Prelude.{ℕ, [], ◌∷◌, ◌&&◌, if◌then◌else◌, List, None, Option, Some, bytes_eq, codes, nat_le, option_and_then, option_map}
-use Rattle.std.specs.Str.{is_utf8}
+use Rattle.std.specs.{Prelude.{ℕ, [], ◌∷◌, ◌&&◌, if◌then◌else◌, List, None, Option, Some, bytes_eq, codes, nat_le, option_and_then, option_map}, Str.{is_utf8}}
 use Rattle.fb_history.specs.Limits.{Bounds}
-use Rattle.fb_jobs.specs.declared.key.Kind.{Kind}
-use Rattle.fb_jobs.specs.declared.key.Kind.TheVariants.{Deploy, Faults, Net}
-use Rattle.serde_json.specs.Data.{Data, Items, item, no_items}
-use Rattle.serde_json.specs.Read.{read}
-use Rattle.serde_json.specs.Find.{as_array, as_number, as_str, as_u64, get}
+use Rattle.fb_jobs.specs.{declared.key.Kind.{Kind}, declared.key.Kind.TheVariants.{Deploy, Faults, Net}}
+use Rattle.serde_json.specs.{Data.{Data, Items, item, no_items}, Read.{read}, Find.{as_array, as_number, as_str, as_u64, get}}
 
 -- a change of a commit, before its name is read
 pub data Change : Type 0 where

@@ -1,10 +1,7 @@
 -- For private clauses: data, as the tokens that are written of it.
 use Rattle.std.specs.Prelude.{◌≡◌, ℕ, ◌∷◌, ◌++◌, List, OnOk, Result}
-use Rattle.json.specs.Token.{Token, key}
-use Rattle.json.specs.Tree.{json_tokens}
-use Rattle.json.specs.Written.{Written}
-use Rattle.serde_json.specs.Data.{Data}
-use Rattle.serde_json.specs.Written.{outline}
+use Rattle.json.specs.{Token.{Token, key}, Tree.{json_tokens}, Written.{Written}}
+use Rattle.serde_json.specs.{Data.{Data}, Written.{outline}}
 
 abbrev pub tokens_of : Data → List Token
 tokens_of d = json_tokens (outline d)

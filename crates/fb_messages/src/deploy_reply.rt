@@ -2,8 +2,7 @@
 ghost use Rattle.std.specs.Prelude.{codes};
 ghost use Rattle.serde_json.specs.Data.{array, string};
 ghost use Rattle.fb_jobs.specs.Deploy.Deploy.{plain_deploy};
-ghost use Rattle.fb_messages.specs.DeployReplies.{deploy_said, misplaced_item, plan_said, resource_item, resource_items};
-ghost use Rattle.fb_messages.specs.NetReplies.{link_items};
+ghost use Rattle.fb_messages.specs.{DeployReplies.{deploy_said, misplaced_item, plan_said, resource_item, resource_items}, NetReplies.{link_items}};
 ghost use Rattle.fb_messages.specs.Tokens.{IsMember, IsSaid};
 
 use crate::to_json::{ToJson, write_list, write_list_member, write_one, write_one_list, write_two};

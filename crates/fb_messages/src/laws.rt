@@ -1,6 +1,5 @@
 //! What a request of a checkpoint may ask for.
-ghost use Rattle.std.specs.Prelude.{ℕ};
-ghost use Rattle.std.specs.Option.{SomeIff};
+ghost use Rattle.std.specs.{Prelude.{ℕ}, Option.{SomeIff}};
 ghost use Rattle.fb_history.specs.Limits.{AreLimits};
 ghost use Rattle.fb_messages.specs.Requests.{limits_of};
 

@@ -2,8 +2,7 @@
 ghost use Rattle.std.specs.Prelude.{◌≡◌};
 ghost use Rattle.serde_json.specs.Data.{array};
 ghost use Rattle.fb_jobs.specs.Flatten.Net.{plain_net};
-ghost use Rattle.fb_messages.specs.NetReplies.{block_items, border_items, flat_said, link_item, link_items, net_said, sort_text};
-ghost use Rattle.fb_messages.specs.Tokens.{IsSaid};
+ghost use Rattle.fb_messages.specs.{NetReplies.{block_items, border_items, flat_said, link_item, link_items, net_said, sort_text}, Tokens.{IsSaid}};
 
 use crate::to_json::{ToJson, write_one_list, write_three, write_two};
 use fb_jobs::flatten::Net;

@@ -2,8 +2,7 @@
 ghost use Rattle.std.specs.Prelude.{◌≡◌, IfOk};
 ghost use Rattle.fb_jobs.specs.Values.{finding_of};
 ghost use Rattle.fb_messages.specs.Replies.{fault_item, job_given, kind_text, refused_base, refused_unit, reply_line, value_said, work_refused};
-ghost use Rattle.fb_messages.specs.ReplyView.{data_of, refusal_text};
-ghost use Rattle.fb_messages.specs.Tokens.{IsSaid};
+ghost use Rattle.fb_messages.specs.{ReplyView.{data_of, refusal_text}, Tokens.{IsSaid}};
 
 use crate::to_json::{
     ToJson, write_member, write_one, write_one_list, write_one_text, write_text_member,

@@ -1,12 +1,8 @@
 //! What is written as JSON, token by token. The writer places the quotes, the colons and the commas.
 //! A reply is defined as the text of a JSON value (`reply_line`). Such a value in the code would cost a `String` for each path of a network.
 ghost use Rattle.std.specs.Prelude.{map};
-ghost use Rattle.serde_json.specs.Data.{Data, array, boolean, string};
-ghost use Rattle.serde_json.specs.View.{items_of};
-ghost use Rattle.fb_messages.specs.DeployReplies.{two};
-ghost use Rattle.fb_messages.specs.NetReplies.{three};
-ghost use Rattle.fb_messages.specs.Replies.{count, one_member};
-ghost use Rattle.fb_messages.specs.Tokens.{IsMember, IsSaid};
+ghost use Rattle.serde_json.specs.{Data.{Data, array, boolean, string}, View.{items_of}};
+ghost use Rattle.fb_messages.specs.{DeployReplies.{two}, NetReplies.{three}, Replies.{count, one_member}, Tokens.{IsMember, IsSaid}};
 
 use fb_text::Name;
 use json::Writer;

@@ -1,16 +1,10 @@
 -- Tests of equality that are right, of single values and of lists.
-use Rattle.std.proofs.Common.{◌≡◌, ◌↔◌, ℕ, ◌≤◌, List, true, false, IsTrue, map, length, drop, sym, ap, ◌∙◌, subst, arith}
-use Rattle.std.proofs.lemmas.List.{drop_all}
-use Rattle.std.specs.declared.cmp.Ordering.{Ordering}
-use Rattle.std.specs.declared.cmp.Ordering.TheVariants.{Equal}
-use Rattle.std.specs.Ordering.{eq_by_cmp, is_eq}
-use Rattle.std.specs.Cmp.{IsTotalOrder, tied_itself}
+use Rattle.std.proofs.{Common.{◌≡◌, ◌↔◌, ℕ, ◌≤◌, List, true, false, IsTrue, map, length, drop, sym, ap, ◌∙◌, subst, arith}, lemmas.List.{drop_all}}
+use Rattle.std.specs.{declared.cmp.Ordering.{Ordering}, declared.cmp.Ordering.TheVariants.{Equal}, Ordering.{eq_by_cmp, is_eq}, Cmp.{IsTotalOrder, tied_itself}}
 use Rattle.std.specs.BTreeMap.{is_at}
 use Rattle.fb_tree.specs.Text.Order.{name_cmp}
 use Rattle.fb_tree.proofs.Text.OrderLemmas.{is_equal}
-use Rattle.fb_network.specs.LinkOrder.{border_cmp, border_cmp_total, link_cmp, link_cmp_total}
-use Rattle.fb_network.specs.declared.flat.FlatBlock.{FlatBlock}
-use Rattle.fb_network.specs.declared.flat.Link.{Link}
+use Rattle.fb_network.specs.{LinkOrder.{border_cmp, border_cmp_total, link_cmp, link_cmp_total}, declared.flat.FlatBlock.{FlatBlock}, declared.flat.Link.{Link}}
 use Rattle.fb_network.specs.declared.flat.Border.{Border}
 use Rattle.fb_network.proofs.Equals.{at_not, bytes_same, exact_border, exact_link, same_bytes}
 

@@ -1,35 +1,19 @@
 -- The places behind an end, and the links and borders of connections, by numbers say what they say in plain.
 use Rattle.std.proofs.Common.{ℕ, ◌≡◌, ◌<◌, Bool, true, false, cond, List, [], ◌∷◌, ◌++◌, Option, Some, None, length, map, refl, sym, ap, subst, ◌∙◌}
-use Rattle.std.specs.Prelude.{filter}
-use Rattle.std.specs.List.{All}
-use Rattle.std.specs.BTreeMap.{is_at}
-use Rattle.std.proofs.lemmas.List.{map-append}
-use Rattle.std.proofs.lemmas.List.Elements.{All-append, All-cons, All-filter, All-map, All-nil, All-head, All-tail, All-weaker}
-use Rattle.fb_tree.specs.Text.Order.{name_cmp}
+use Rattle.std.proofs.{lemmas.List.{map-append}, lemmas.List.Elements.{All-append, All-cons, All-filter, All-map, All-nil, All-head, All-tail, All-weaker}}
+use Rattle.std.specs.{Prelude.{filter}, List.{All}, BTreeMap.{is_at}}
+use Rattle.fb_tree.specs.{Text.Order.{name_cmp}, declared.network.Sort.{Sort}}
 use Rattle.fb_tree.proofs.Text.Members.{passes_in_find}
-use Rattle.fb_tree.specs.declared.network.Sort.{Sort}
-use Rattle.fb_network.specs.declared.network.InstanceKind.{InstanceKind}
-use Rattle.fb_network.specs.declared.network.InstanceKind.TheVariants.{Block, Subapplication}
-use Rattle.fb_network.specs.declared.network.Instance.{Instance}
-use Rattle.fb_network.specs.declared.network.End.{End}
-use Rattle.fb_network.specs.declared.network.End.TheVariants.{Own, Of}
-use Rattle.fb_network.specs.declared.flat.Link.{Link}
-use Rattle.fb_network.specs.declared.flat.Border.{Border}
-use Rattle.fb_network.specs.declared.place.Place.{Place}
-use Rattle.fb_network.specs.declared.entries.Edge.{Edge}
-use Rattle.fb_network.specs.declared.table.Standing.{Standing}
-use Rattle.fb_network.specs.Network.{instance_named}
-use Rattle.fb_network.specs.Places.{dotted}
-use Rattle.fb_network.specs.PlainFlat.{PlainFlat}
-use Rattle.fb_network.specs.PlainPrefix.{PlainPrefix}
+use Rattle.fb_network.specs.{declared.network.InstanceKind.{InstanceKind}, declared.network.InstanceKind.TheVariants.{Block, Subapplication}}
+use Rattle.fb_network.specs.{declared.network.Instance.{Instance}, declared.network.End.{End}, declared.network.End.TheVariants.{Own, Of}}
+use Rattle.fb_network.specs.{declared.flat.Link.{Link}, declared.flat.Border.{Border}, declared.place.Place.{Place}, declared.entries.Edge.{Edge}}
+use Rattle.fb_network.specs.{declared.table.Standing.{Standing}, Network.{instance_named}, Places.{dotted}, PlainFlat.{PlainFlat}, PlainPrefix.{PlainPrefix}}
 use Rattle.fb_network.specs.Ready.{Nets}
 use Rattle.fb_network.specs.Composed.{behind_found, behind_instance, behind_kind, behind_of, belongs, border_places, end_borders, link_pairs, links_from, places_of}
-use Rattle.fb_network.specs.Laid.{IsEdgeBelow, IsJoinBelow, border_at, link_at, path_at}
-use Rattle.fb_network.specs.Reading.{AreEdges, AreJoins, ArePlaces, IsPlaceBelow, border_within}
+use Rattle.fb_network.specs.{Laid.{IsEdgeBelow, IsJoinBelow, border_at, link_at, path_at}, Reading.{AreEdges, AreJoins, ArePlaces, IsPlaceBelow, border_within}}
 use Rattle.fb_network.specs.Standing.{IsTable, Says, StandsFor, borders_of, end_text, inner_borders, inner_borders_of_kind}
 use Rattle.fb_network.specs.Behind.{border_places_at, edge_belongs, edges_of_end, join_pairs, joins_from, places_behind, places_of_found, places_of_kind, places_of_standing}
-use Rattle.fb_network.proofs.Equals.{same_bytes}
-use Rattle.fb_network.proofs.Readings.{reading_nothing}
+use Rattle.fb_network.proofs.{Equals.{same_bytes}, Readings.{reading_nothing}}
 
 found_name : (xs : List Instance) (name : List ℕ) (i : Instance) → instance_named xs name ≡ Some i → i.name ≡ name
 found_name xs name i e = same_bytes i.name name (passes_in_find (λ (j : Instance). is_at (name_cmp j.name) name) xs i e).passes

@@ -1,12 +1,8 @@
 -- The blocks that are composed are those of the network.
 use Rattle.std.proofs.Common.{ℕ, ◌≡◌, List, [], ◌∷◌, ◌++◌, Some, refl, sym, ◌∙◌, ap, subst}
 use Rattle.std.specs.Prelude.{Contains, map, flat_map}
-use Rattle.fb_network.specs.declared.network.InstanceKind.{InstanceKind}
-use Rattle.fb_network.specs.declared.network.InstanceKind.TheVariants.{Block, Subapplication}
-use Rattle.fb_network.specs.declared.network.Instance.{Instance}
-use Rattle.fb_network.specs.Plain.{PlainNetwork}
-use Rattle.fb_network.specs.declared.flat.FlatBlock.{FlatBlock}
-use Rattle.fb_network.specs.Network.{View}
+use Rattle.fb_network.specs.{declared.network.InstanceKind.{InstanceKind}, declared.network.InstanceKind.TheVariants.{Block, Subapplication}}
+use Rattle.fb_network.specs.{declared.network.Instance.{Instance}, Plain.{PlainNetwork}, declared.flat.FlatBlock.{FlatBlock}, Network.{View}}
 use Rattle.fb_network.specs.Composed.{block_within, blocks_of, blocks_of_kind, inner_blocks, composed_blocks}
 use Rattle.fb_network.specs.Instances.{Held, held_as, held_within, AreInstances, NoInstance, ThenBlock, ThenSubapplication, leaf_first, leaves_of, AreBlocks}
 use Rattle.fb_network.specs.Ready.{Nets, IsFinished, AreFinished}

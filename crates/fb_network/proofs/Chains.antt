@@ -1,13 +1,9 @@
 -- A chain of a clean network lies inside one subapplication, or crosses one connection of its own.
 use Rattle.std.proofs.Common.{ℕ, ◌≡◌, List, [], ◌∷◌, Some, ◌⊎◌, inl, inr, refl, sym, ◌∙◌, ap, subst}
-use Rattle.fb_tree.specs.declared.network.Sort.{Sort}
-use Rattle.fb_tree.specs.declared.interface.Side.TheVariants.{Input, Output}
-use Rattle.fb_network.specs.declared.network.End.{End}
-use Rattle.fb_network.specs.declared.network.End.TheVariants.{Own, Of}
-use Rattle.fb_network.specs.Plain.{PlainNetwork}
+use Rattle.fb_tree.specs.{declared.network.Sort.{Sort}, declared.interface.Side.TheVariants.{Input, Output}}
+use Rattle.fb_network.specs.{declared.network.End.{End}, declared.network.End.TheVariants.{Own, Of}, Plain.{PlainNetwork}}
 use Rattle.fb_network.specs.Network.{View, Place, place_of, IsInner, IsConnected, Step, Holds, Within, IsBorderPlace, OwnPort, PortWithin, Chain, One, More}
-use Rattle.fb_network.specs.Clean.{type_of, side_at, IsClean, IsCleanThroughout, CleanThroughout}
-use Rattle.fb_network.specs.Composition.{LeavesInner, Crosses, IsComposed}
+use Rattle.fb_network.specs.{Clean.{type_of, side_at, IsClean, IsCleanThroughout, CleanThroughout}, Composition.{LeavesInner, Crosses, IsComposed}}
 
 -- no step leaves the empty place
 pub no_step_from_nothing : {view : View} {sort : Sort} {network : PlainNetwork} {a b : Place} → Step view sort network a b → a ≡ [] → ⊥

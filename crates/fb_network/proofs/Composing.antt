@@ -1,39 +1,21 @@
 -- What is composed of the right flat networks are the links and borders of the network.
 use Rattle.std.proofs.Common.{ℕ, ◌≡◌, Bool, true, false, List, [], ◌∷◌, ◌++◌, Option, Some, None, ◌⊎◌, inl, inr, refl, sym, ◌∙◌, ap, subst, append_assoc}
-use Rattle.std.specs.Prelude.{Contains, flat_map, filter, ◌&&◌}
-use Rattle.std.specs.BTreeMap.{is_at}
-use Rattle.fb_tree.specs.Text.Order.{name_cmp}
 use Rattle.std.proofs.lemmas.List.Elements.{Contains-append_left, Contains-append_right, Contains-append_cases}
-use Rattle.fb_network.specs.Sorts.{same_sort}
-use Rattle.fb_tree.specs.declared.network.Sort.{Sort}
-use Rattle.fb_tree.specs.declared.network.Sort.TheVariants.{Event, Data, Adapter}
-use Rattle.fb_tree.specs.declared.interface.Side.{Side}
-use Rattle.fb_tree.specs.declared.interface.Side.TheVariants.{Input, Output}
-use Rattle.fb_network.specs.declared.network.Port.{Port}
-use Rattle.fb_network.specs.declared.network.InstanceKind.{InstanceKind}
-use Rattle.fb_network.specs.declared.network.InstanceKind.TheVariants.{Block, Subapplication}
-use Rattle.fb_network.specs.declared.network.Instance.{Instance}
-use Rattle.fb_network.specs.declared.network.End.{End}
-use Rattle.fb_network.specs.declared.network.End.TheVariants.{Own, Of}
-use Rattle.fb_network.specs.declared.network.Connection.{Connection}
-use Rattle.fb_network.specs.Plain.{PlainNetwork}
-use Rattle.fb_network.specs.declared.flat.Link.{Link}
-use Rattle.fb_network.specs.declared.flat.Border.{Border}
-use Rattle.fb_network.specs.PlainFlat.{PlainFlat}
-use Rattle.fb_network.specs.Network.{View, Place, place_of, instance_named, IsInner, IsConnected, IsLink, IsBorder}
-use Rattle.fb_network.specs.Clean.{IsCleanThroughout, adapter_at}
-use Rattle.fb_network.specs.NetLink.{IsNetLink, Direct, FromPlug, ToPlug}
-use Rattle.fb_network.proofs.Chains.{here}
-use Rattle.fb_network.proofs.AdapterLemmas.{adapter_at-inner, adapter_behind, net_link_from, net_link_to, net_link_within}
-use Rattle.fb_network.specs.Composition.{IsBehind, BlockItself, BehindBorder, IsComposedLink, IsComposedBorder}
+use Rattle.std.specs.{Prelude.{Contains, flat_map, filter, ◌&&◌}, BTreeMap.{is_at}}
+use Rattle.fb_tree.specs.{Text.Order.{name_cmp}, declared.network.Sort.{Sort}, declared.network.Sort.TheVariants.{Event, Data, Adapter}}
+use Rattle.fb_tree.specs.{declared.interface.Side.{Side}, declared.interface.Side.TheVariants.{Input, Output}}
+use Rattle.fb_network.specs.{Sorts.{same_sort}, declared.network.Port.{Port}, declared.network.InstanceKind.{InstanceKind}}
+use Rattle.fb_network.specs.{declared.network.InstanceKind.TheVariants.{Block, Subapplication}, declared.network.Instance.{Instance}}
+use Rattle.fb_network.specs.{declared.network.End.{End}, declared.network.End.TheVariants.{Own, Of}, declared.network.Connection.{Connection}}
+use Rattle.fb_network.specs.{Plain.{PlainNetwork}, declared.flat.Link.{Link}, declared.flat.Border.{Border}, PlainFlat.{PlainFlat}}
+use Rattle.fb_network.specs.{Network.{View, Place, place_of, instance_named, IsInner, IsConnected, IsLink, IsBorder}, Clean.{IsCleanThroughout, adapter_at}}
+use Rattle.fb_network.specs.{NetLink.{IsNetLink, Direct, FromPlug, ToPlug}, Composition.{IsBehind, BlockItself, BehindBorder, IsComposedLink, IsComposedBorder}}
 use Rattle.fb_network.specs.Composed.{belongs, border_places, places_of, behind_kind, behind_instance, behind_found, behind_of, links_from, link_pairs, link_within, links_of, inner_links_of_kind, inner_links, link_on_side, port_links, plug_links, adapter_links, links_of_adapter, links_of_sort, connection_links, end_borders, connection_borders, composed_links, composed_borders}
-use Rattle.fb_network.specs.Flat.{PrintsLink, PrintsBorder, AreLinks, AreBorders}
-use Rattle.fb_network.specs.Ready.{Nets, AreFinished}
-use Rattle.fb_network.specs.Places.{dotted}
-use Rattle.fb_network.specs.Printed.{printed}
-use Rattle.fb_tree.proofs.Text.Members.{contains_nothing, contains_here, contains_cases, contains_map, origin_in_map, contains_flat_map, origin_in_flat_map, contains_filter, passes_in_filter, passes_in_find}
+use Rattle.fb_network.specs.{Flat.{PrintsLink, PrintsBorder, AreLinks, AreBorders}, Ready.{Nets, AreFinished}, Places.{dotted}, Printed.{printed}}
+use Rattle.fb_network.proofs.{Chains.{here}, AdapterLemmas.{adapter_at-inner, adapter_behind, net_link_from, net_link_to, net_link_within}}
 use Rattle.fb_network.proofs.Equals.{same_bytes, bytes_same, same_sorts, sort_same, same_links, printed-within}
 use Rattle.fb_network.proofs.LinkLemmas.{no_leaf_nothing, leaf_behind, link_composed, border_composed, link_of_composed, border_of_composed}
+use Rattle.fb_tree.proofs.Text.Members.{contains_nothing, contains_here, contains_cases, contains_map, origin_in_map, contains_flat_map, origin_in_flat_map, contains_filter, passes_in_filter, passes_in_find}
 
 -- what a search by name finds
 pub record FoundByName (instances : List Instance) (name : List ℕ) (i : Instance) : Type 0 where

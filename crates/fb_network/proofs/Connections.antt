@@ -1,32 +1,17 @@
 -- The links and borders of connections, read by the prefixes of a draft.
 use Rattle.std.proofs.Common.{ℕ, ◌≡◌, ◌<◌, ◌+◌, List, [], ◌∷◌, ◌++◌, Option, Some, None, length, map, take, get_or, refl, sym, ap, subst, ◌∙◌, arith, append_assoc, append-nil, length-append}
-use Rattle.std.specs.Prelude.{slice_get, flat_map, option_map, option_and_then}
-use Rattle.std.specs.List.{All}
-use Rattle.std.proofs.lemmas.List.{length-map}
-use Rattle.std.proofs.lemmas.Option.{slice_get-map, slice_get_read, slice_get_within}
+use Rattle.std.proofs.{lemmas.List.{length-map}, lemmas.Option.{slice_get-map, slice_get_read, slice_get_within}}
+use Rattle.std.specs.{Prelude.{slice_get, flat_map, option_map, option_and_then}, List.{All}}
 use Rattle.fb_tree.specs.declared.network.Sort.{Sort}
-use Rattle.fb_network.specs.declared.network.Port.{Port}
-use Rattle.fb_network.specs.declared.network.Instance.{Instance}
-use Rattle.fb_network.specs.declared.network.Connection.{Connection}
-use Rattle.fb_network.specs.declared.flat.Link.{Link}
-use Rattle.fb_network.specs.declared.flat.Border.{Border}
-use Rattle.fb_network.specs.declared.place.Place.{Place}
-use Rattle.fb_network.specs.declared.entries.Edge.{Edge}
-use Rattle.fb_network.specs.declared.draft.Draft.{Draft}
-use Rattle.fb_network.specs.declared.table.Standing.{Standing}
-use Rattle.fb_network.specs.Network.{View, instance_named, place_of}
-use Rattle.fb_network.specs.Clean.{adapter_at}
-use Rattle.fb_network.specs.Plain.{PlainNetwork}
-use Rattle.fb_network.specs.PlainPrefix.{PlainPrefix}
-use Rattle.fb_network.specs.Ready.{Nets}
+use Rattle.fb_network.specs.{declared.network.Port.{Port}, declared.network.Instance.{Instance}, declared.network.Connection.{Connection}}
+use Rattle.fb_network.specs.{declared.flat.Link.{Link}, declared.flat.Border.{Border}, declared.place.Place.{Place}, declared.entries.Edge.{Edge}}
+use Rattle.fb_network.specs.{declared.draft.Draft.{Draft}, declared.table.Standing.{Standing}, Network.{View, instance_named, place_of}, Clean.{adapter_at}}
+use Rattle.fb_network.specs.{Plain.{PlainNetwork}, PlainPrefix.{PlainPrefix}, Ready.{Nets}}
 use Rattle.fb_network.specs.Composed.{adapter_links, behind_of, connection_borders, connection_links, end_borders, link_pairs, links_of_sort}
-use Rattle.fb_network.specs.Laid.{IsEdgeBelow, border_at, path_at, path_in, text_or_nothing}
-use Rattle.fb_network.specs.Reading.{AreEdges, AreJoins, ArePlaces, Grows, IsPlaceBelow}
+use Rattle.fb_network.specs.{Laid.{IsEdgeBelow, border_at, path_at, path_in, text_or_nothing}, Reading.{AreEdges, AreJoins, ArePlaces, Grows, IsPlaceBelow}}
 use Rattle.fb_network.specs.Standing.{AddsConnections, AddsLinks, AreEdgesOf, AreNamed, HasInstances, HasOwn, IsTable, Says, StandsFor, end_text, own_place, own_texts}
 use Rattle.fb_network.specs.Behind.{AreMembers, adapter_joins, connection_edges, edges_of_end, join_pairs, places_behind}
-use Rattle.fb_network.proofs.Behinds.{behind_reads, end_edges_read, pairs_read}
-use Rattle.fb_network.proofs.Drafts.{added}
-use Rattle.fb_network.proofs.PortMembers.{adapter_reads, members_grown}
+use Rattle.fb_network.proofs.{Behinds.{behind_reads, end_edges_read, pairs_read}, Drafts.{added}, PortMembers.{adapter_reads, members_grown}}
 use Rattle.fb_network.proofs.Readings.{get_left, get_right, joins_grown, places_grown, reading_both, reading_nothing}
 use Rattle.fb_network.proofs.Standings.{flat_map_push, grows_none, grows_twice, next_taken, table_grown}
 

@@ -1,18 +1,11 @@
 -- A draft that has taken in an inner network.
 use Rattle.std.proofs.Common.{ℕ, ◌≡◌, List, ◌++◌, length, map, sym, ap, subst}
-use Rattle.fb_network.specs.PlainFlat.{PlainFlat}
-use Rattle.fb_network.specs.PlainPrefix.{PlainPrefix}
-use Rattle.fb_network.specs.Composed.{block_within, link_within}
+use Rattle.fb_network.specs.{PlainFlat.{PlainFlat}, PlainPrefix.{PlainPrefix}, Composed.{block_within, link_within}}
 use Rattle.fb_network.specs.Laid.{IsLaid, block_at, border_at, edge_moved, flat_at, prefix_within, join_moved, leaf_moved, link_at}
-use Rattle.fb_network.specs.Reading.{AreEdges, AreJoins, AreLeaves, Grows, IsInOrder, IsReading, TakesIn, border_within}
-use Rattle.fb_network.specs.declared.entries.Leaf.{Leaf}
-use Rattle.fb_network.specs.declared.entries.Join.{Join}
-use Rattle.fb_network.specs.declared.entries.Edge.{Edge}
-use Rattle.fb_network.specs.declared.draft.Draft.{Draft}
-use Rattle.std.specs.List.{Contains}
-use Rattle.std.specs.declared.cmp.Ordering.{Ordering}
+use Rattle.fb_network.specs.{Reading.{AreEdges, AreJoins, AreLeaves, Grows, IsInOrder, IsReading, TakesIn, border_within}, declared.entries.Leaf.{Leaf}}
+use Rattle.fb_network.specs.{declared.entries.Join.{Join}, declared.entries.Edge.{Edge}, declared.draft.Draft.{Draft}, Once.{IsOnce}}
+use Rattle.std.specs.{List.{Contains}, declared.cmp.Ordering.{Ordering}}
 use Rattle.fb_tree.proofs.Text.Members.{contains_map, origin_in_map}
-use Rattle.fb_network.specs.Once.{IsOnce}
 use Rattle.fb_network.proofs.Readings.{edges_moved, joins_grown, joins_moved, leaves_grown, leaves_moved, reading_both}
 
 -- more entries behind those that there are

@@ -1,22 +1,11 @@
 -- What compares equal is equal.
 use Rattle.std.proofs.Common.{ℕ, ◌≡◌, Bool, true, false, List, ◌∷◌, [], refl, sym, ap, arith}
-use Rattle.std.specs.declared.cmp.Ordering.TheVariants.{Equal}
-use Rattle.std.specs.Ordering.{eq_by_cmp, is_eq, nat_cmp, ordering_then}
-use Rattle.std.specs.Cmp.{tied_itself}
-use Rattle.std.specs.Cmp.Lexicographic.{nat_list_cmp_total}
-use Rattle.std.specs.FinMap.{nat_cmp-IsAntisymmetric, slice_cmp-IsAntisymmetric}
-use Rattle.std.specs.BTreeMap.{is_at}
+use Rattle.std.specs.{declared.cmp.Ordering.TheVariants.{Equal}, Ordering.{eq_by_cmp, is_eq, nat_cmp, ordering_then}, Cmp.{tied_itself}}
+use Rattle.std.specs.{Cmp.Lexicographic.{nat_list_cmp_total}, FinMap.{nat_cmp-IsAntisymmetric, slice_cmp-IsAntisymmetric}, BTreeMap.{is_at}}
 use Rattle.fb_tree.proofs.Text.OrderLemmas.{is_equal, both_equal}
-use Rattle.fb_tree.specs.Text.Order.{name_cmp}
-use Rattle.fb_tree.specs.declared.network.Sort.{Sort}
-use Rattle.fb_tree.specs.declared.network.Sort.TheVariants.{Event, Data, Adapter}
-use Rattle.fb_network.specs.Sorts.{number_of, same_sort}
-use Rattle.fb_network.specs.Places.{dotted}
-use Rattle.fb_network.specs.Network.{Place}
-use Rattle.fb_network.specs.Printed.{printed}
-use Rattle.fb_network.specs.LinkOrder.{border_cmp, link_cmp}
-use Rattle.fb_network.specs.declared.flat.Link.{Link}
-use Rattle.fb_network.specs.declared.flat.Border.{Border}
+use Rattle.fb_tree.specs.{Text.Order.{name_cmp}, declared.network.Sort.{Sort}, declared.network.Sort.TheVariants.{Event, Data, Adapter}}
+use Rattle.fb_network.specs.{Sorts.{number_of, same_sort}, Places.{dotted}, Network.{Place}, Printed.{printed}, LinkOrder.{border_cmp, link_cmp}}
+use Rattle.fb_network.specs.{declared.flat.Link.{Link}, declared.flat.Border.{Border}}
 
 exact_name : (x y : List ℕ) → name_cmp x y ≡ Equal → x ≡ y
 exact_name x y e = slice_cmp-IsAntisymmetric nat_cmp-IsAntisymmetric x y e

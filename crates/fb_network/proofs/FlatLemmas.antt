@@ -1,33 +1,15 @@
 -- What is composed, put in order, is the flat network.
 use Rattle.std.proofs.Common.{ℕ, ◌≡◌, ◌++◌, List, Option, length, map, refl, sym, subst, ◌∙◌}
-use Rattle.std.specs.Prelude.{Contains, flat_map}
-use Rattle.std.specs.List.Sorted.{IsStrictlySortedBy}
-use Rattle.fb_network.specs.declared.flat.FlatBlock.{FlatBlock}
-use Rattle.fb_network.specs.declared.flat.Link.{Link}
-use Rattle.fb_network.specs.declared.flat.Border.{Border}
-use Rattle.fb_network.specs.declared.entries.Leaf.{Leaf}
-use Rattle.fb_network.specs.declared.entries.Edge.{Edge}
-use Rattle.fb_network.specs.declared.draft.Draft.{Draft}
-use Rattle.fb_network.specs.declared.table.Standing.{Standing}
-use Rattle.fb_network.specs.Plain.{PlainNetwork}
-use Rattle.fb_network.specs.LinkOrder.{border_cmp, link_cmp}
-use Rattle.fb_network.specs.Network.{View, instance_named}
-use Rattle.fb_network.specs.Clean.{IsCleanThroughout}
-use Rattle.fb_network.specs.Flat.{AreLinks, AreBorders}
-use Rattle.fb_network.specs.Instances.{AreBlocks}
-use Rattle.fb_network.specs.FlatNet.{IsFlat}
-use Rattle.fb_network.specs.Ready.{Nets, AreFinished}
+use Rattle.std.specs.{Prelude.{Contains, flat_map}, List.Sorted.{IsStrictlySortedBy}}
+use Rattle.fb_network.specs.{declared.flat.FlatBlock.{FlatBlock}, declared.flat.Link.{Link}, declared.flat.Border.{Border}, declared.entries.Leaf.{Leaf}}
+use Rattle.fb_network.specs.{declared.entries.Edge.{Edge}, declared.draft.Draft.{Draft}, declared.table.Standing.{Standing}, Plain.{PlainNetwork}}
+use Rattle.fb_network.specs.{LinkOrder.{border_cmp, link_cmp}, Network.{View, instance_named}, Clean.{IsCleanThroughout}, Flat.{AreLinks, AreBorders}}
+use Rattle.fb_network.specs.{Instances.{AreBlocks}, FlatNet.{IsFlat}, Ready.{Nets, AreFinished}}
 use Rattle.fb_network.specs.Composed.{Instances, behind_of, composed_blocks, composed_borders, composed_links, inner_links, links_of_sort}
-use Rattle.fb_network.specs.Part.{IsFlatInWhole, SameAdapters}
-use Rattle.fb_network.specs.PlainFlat.{PlainFlat}
-use Rattle.fb_network.specs.Laid.{IsLaid, border_at, link_at}
-use Rattle.fb_network.specs.Reading.{AreEdges, AreJoins, AreLeaves, IsFinish}
-use Rattle.fb_network.specs.Standing.{AddsConnections, AreEdgesOf, HasOwn, HoldsInstances}
-use Rattle.fb_network.proofs.BlockLemmas.{composed_blocks_are}
-use Rattle.fb_network.proofs.Composing.{borders_kept, composed_borders_are, composed_links_are, links_kept}
-use Rattle.fb_network.proofs.Connections.{own_grown}
-use Rattle.fb_network.proofs.Readings.{leaves_grown}
-use Rattle.fb_network.proofs.Standings.{grows_twice, table_grown}
+use Rattle.fb_network.specs.{Part.{IsFlatInWhole, SameAdapters}, PlainFlat.{PlainFlat}, Laid.{IsLaid, border_at, link_at}}
+use Rattle.fb_network.specs.{Reading.{AreEdges, AreJoins, AreLeaves, IsFinish}, Standing.{AddsConnections, AreEdgesOf, HasOwn, HoldsInstances}}
+use Rattle.fb_network.proofs.{BlockLemmas.{composed_blocks_are}, Composing.{borders_kept, composed_borders_are, composed_links_are, links_kept}}
+use Rattle.fb_network.proofs.{Connections.{own_grown}, Readings.{leaves_grown}, Standings.{grows_twice, table_grown}}
 
 -- a list holds what another holds, in order
 pub record IsOrderOf {X : Type 0} (made sorted : List X) : Type 0 where

@@ -1,10 +1,7 @@
 -- The links and borders of a clean network are those that its own connections and its inner links and borders give.
 use Rattle.std.proofs.Common.{ℕ, ◌≡◌, List, [], ◌∷◌, Some, ◌⊎◌, inl, inr, refl, sym, ◌∙◌, ap, subst}
-use Rattle.fb_tree.specs.declared.network.Sort.{Sort}
-use Rattle.fb_tree.specs.declared.interface.Side.TheVariants.{Input}
-use Rattle.fb_network.specs.declared.network.End.{End}
-use Rattle.fb_network.specs.declared.network.End.TheVariants.{Own, Of}
-use Rattle.fb_network.specs.Plain.{PlainNetwork}
+use Rattle.fb_tree.specs.{declared.network.Sort.{Sort}, declared.interface.Side.TheVariants.{Input}}
+use Rattle.fb_network.specs.{declared.network.End.{End}, declared.network.End.TheVariants.{Own, Of}, Plain.{PlainNetwork}}
 use Rattle.fb_network.specs.Network.{View, Place, place_of, IsInner, IsBlock, IsConnected, Step, Holds, Within, IsBorderPlace, OwnPort, PortWithin, IsLeafPlace, BlockPort, LeafWithin, Chain, One, More, IsLink, IsBorder}
 use Rattle.fb_network.specs.Clean.{side_at, IsSource, IsDestination, IsCleanThroughout}
 use Rattle.fb_network.specs.Composition.{LeavesInner, EntersInner, IsComposed, IsBehind, BlockItself, BehindBorder, IsComposedLink, IsComposedBorder}

@@ -1,7 +1,6 @@
 -- What is nearest is had by the longest prefix that has something.
 use Rattle.std.proofs.Common.{ℕ, zero, suc, ◌≡◌, ◌<◌, ◌≤◌, ◌==◌, ◌⊎◌, Bool, true, false, List, ◌∷◌, ◌++◌, Option, Some, None, inl, inr, refl, sym, ◌∙◌, ap, subst, take, drop, get_or, length, arith, eq-eqb, length-append, length-take-le, take-append-drop}
-use Rattle.std.proofs.lemmas.Bool.Decides.{Decides-eqb}
-use Rattle.std.proofs.Math.Seq.{drop-cons, take-append_seam, get_or-append_seam}
+use Rattle.std.proofs.{lemmas.Bool.Decides.{Decides-eqb}, Math.Seq.{drop-cons, take-append_seam, get_or-append_seam}}
 use Rattle.std.specs.Option.{option_or}
 use native.Mathlib.Decide.{dec_lt}
 use Rattle.fb_network.specs.Prefixes.{IsPrefix, IsNearest, nearest}

@@ -1,19 +1,10 @@
 -- A network has one flat network only.
 use Rattle.std.proofs.Common.{◌≡◌, List, refl, sym, ◌∙◌, ap, subst}
 use Rattle.std.specs.Prelude.{Contains}
-use Rattle.fb_network.specs.declared.flat.FlatBlock.{FlatBlock}
-use Rattle.fb_network.specs.declared.flat.Link.{Link}
-use Rattle.fb_network.specs.declared.flat.Border.{Border}
-use Rattle.fb_network.specs.Plain.{PlainNetwork}
-use Rattle.fb_network.specs.PlainFlat.{PlainFlat}
-use Rattle.fb_network.specs.LinkOrder.{link_cmp_total, border_cmp_total}
-use Rattle.fb_network.specs.Network.{View}
-use Rattle.fb_network.specs.Flat.{AreLinks, AreBorders}
-use Rattle.fb_network.specs.Instances.{AreBlocks, leaves_of}
-use Rattle.fb_network.specs.FlatNet.{IsFlat}
-use Rattle.fb_network.proofs.BlockLemmas.{same_instances}
-use Rattle.fb_network.proofs.Equals.{same_links, same_borders}
-use Rattle.fb_network.proofs.SameSorted.{same_sorted}
+use Rattle.fb_network.specs.{declared.flat.FlatBlock.{FlatBlock}, declared.flat.Link.{Link}, declared.flat.Border.{Border}, Plain.{PlainNetwork}}
+use Rattle.fb_network.specs.{PlainFlat.{PlainFlat}, LinkOrder.{link_cmp_total, border_cmp_total}, Network.{View}, Flat.{AreLinks, AreBorders}}
+use Rattle.fb_network.specs.{Instances.{AreBlocks, leaves_of}, FlatNet.{IsFlat}}
+use Rattle.fb_network.proofs.{BlockLemmas.{same_instances}, Equals.{same_links, same_borders}, SameSorted.{same_sorted}}
 
 -- a link of one list is in each other list of the links
 links_in : {view : View} {network : PlainNetwork} (xs ys : List Link) → AreLinks view network xs → AreLinks view network ys → (l : Link) → Contains xs l → Contains ys l

@@ -1,23 +1,14 @@
 -- Prefixes behind plugs and sockets, and the links of an adapter's ports between them.
 use Rattle.std.proofs.Common.{ℕ, ◌≡◌, ◌<◌, ◌+◌, suc, List, [], ◌∷◌, ◌++◌, Option, Some, length, map, take, get_or, refl, sym, ap, subst, ◌∙◌, arith, append_assoc, length-append}
-use Rattle.std.specs.Prelude.{slice_get}
-use Rattle.std.specs.List.{All}
-use Rattle.std.proofs.lemmas.List.{length-take-le, map-append}
-use Rattle.std.proofs.lemmas.Option.{slice_get_within}
+use Rattle.std.proofs.{lemmas.List.{length-take-le, map-append}, lemmas.Option.{slice_get_within}}
 use Rattle.std.proofs.lemmas.List.Elements.{All-append, All-cons, All-get_or, All-nil}
-use Rattle.fb_tree.specs.declared.interface.Side.{Side}
-use Rattle.fb_tree.specs.declared.interface.Side.TheVariants.{Input, Output}
-use Rattle.fb_network.specs.declared.network.Port.{Port}
-use Rattle.fb_network.specs.declared.place.Place.{Place}
-use Rattle.fb_network.specs.declared.entries.Join.{Join}
-use Rattle.fb_network.specs.Places.{dotted}
-use Rattle.fb_network.specs.PlainPrefix.{PlainPrefix}
-use Rattle.fb_network.specs.Composed.{adapter_links, link_on_side, plug_links, port_links}
-use Rattle.fb_network.specs.Laid.{IsJoinBelow, link_at, path_at, path_in, text_or_nothing}
-use Rattle.fb_network.specs.Reading.{AreJoins, Grows, IsPlaceBelow}
+use Rattle.std.specs.{Prelude.{slice_get}, List.{All}}
+use Rattle.fb_tree.specs.{declared.interface.Side.{Side}, declared.interface.Side.TheVariants.{Input, Output}}
+use Rattle.fb_network.specs.{declared.network.Port.{Port}, declared.place.Place.{Place}, declared.entries.Join.{Join}, Places.{dotted}}
+use Rattle.fb_network.specs.{PlainPrefix.{PlainPrefix}, Composed.{adapter_links, link_on_side, plug_links, port_links}}
+use Rattle.fb_network.specs.{Laid.{IsJoinBelow, link_at, path_at, path_in, text_or_nothing}, Reading.{AreJoins, Grows, IsPlaceBelow}}
 use Rattle.fb_network.specs.Behind.{AreMembers, IsMember, adapter_joins, prefix_behind, join_on_side, member_join, member_joins, plug_joins}
-use Rattle.fb_network.proofs.Readings.{get_left, get_right, path_grown}
-use Rattle.fb_network.proofs.Standings.{grows_none, grows_twice, next_taken}
+use Rattle.fb_network.proofs.{Readings.{get_left, get_right, path_grown}, Standings.{grows_none, grows_twice, next_taken}}
 
 -- the prefixes behind places have been added under these numbers
 pub record AddsMembers (old new : List PlainPrefix) (names : List (List ℕ)) (numbers : List ℕ) (places : List Place) : Type 0 where

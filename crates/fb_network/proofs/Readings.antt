@@ -1,21 +1,11 @@
 -- Entries keep what they say where prefixes are added, and say it inside an instance where they are moved.
 use Rattle.std.proofs.Common.{ℕ, ◌≡◌, ◌<◌, ◌≤◌, ◌+◌, suc, zero, List, [], ◌∷◌, ◌++◌, Option, Some, None, length, map, refl, sym, ap, subst, ◌∙◌, arith, append_assoc, length-append, append-nil}
-use Rattle.std.specs.Prelude.{slice_get, option_map}
-use Rattle.std.specs.List.{All}
-use Rattle.std.proofs.lemmas.List.{length-map, map-append}
-use Rattle.std.proofs.lemmas.Option.{slice_get-map}
-use Rattle.std.proofs.lemmas.Simd.{map-map}
+use Rattle.std.proofs.{lemmas.List.{length-map, map-append}, lemmas.Option.{slice_get-map}, lemmas.Simd.{map-map}}
 use Rattle.std.proofs.lemmas.List.Elements.{All-append, All-map, All-nil, All-weaker, All-head, All-tail}
-use Rattle.fb_network.specs.Places.{dotted}
-use Rattle.fb_network.specs.PlainPrefix.{PlainPrefix}
-use Rattle.fb_network.specs.declared.flat.FlatBlock.{FlatBlock}
-use Rattle.fb_network.specs.declared.flat.Link.{Link}
-use Rattle.fb_network.specs.declared.flat.Border.{Border}
-use Rattle.fb_network.specs.declared.place.Place.{Place}
-use Rattle.fb_network.specs.declared.entries.Leaf.{Leaf}
-use Rattle.fb_network.specs.declared.entries.Join.{Join}
-use Rattle.fb_network.specs.declared.entries.Edge.{Edge}
-use Rattle.fb_network.specs.Composed.{block_within, link_within}
+use Rattle.std.specs.{Prelude.{slice_get, option_map}, List.{All}}
+use Rattle.fb_network.specs.{Places.{dotted}, PlainPrefix.{PlainPrefix}, declared.flat.FlatBlock.{FlatBlock}, declared.flat.Link.{Link}}
+use Rattle.fb_network.specs.{declared.flat.Border.{Border}, declared.place.Place.{Place}, declared.entries.Leaf.{Leaf}, declared.entries.Join.{Join}}
+use Rattle.fb_network.specs.{declared.entries.Edge.{Edge}, Composed.{block_within, link_within}}
 use Rattle.fb_network.specs.Laid.{IsEdgeBelow, IsJoinBelow, IsLeafBelow, block_at, border_at, edge_moved, prefix_within, join_moved, leaf_moved, link_at, path_at, path_in, place_moved, text_or_nothing}
 use Rattle.fb_network.specs.Reading.{AreEdges, AreJoins, AreLeaves, ArePlaces, Grows, IsPlaceBelow, IsReading, border_within}
 

@@ -1,12 +1,8 @@
 -- Two strictly sorted lists with the same members are one list.
 use Rattle.std.proofs.Common.{ℕ, suc, ◌≡◌, ◌<◌, List, [], ◌∷◌, length, get_or, ◌⊎◌, inl, inr, refl, sym, ◌∙◌, ap, subst, arith}
-use Rattle.std.specs.Prelude.{Contains}
-use Rattle.std.specs.Cmp.{IsTotalOrder}
-use Rattle.std.specs.declared.cmp.Ordering.{Ordering}
-use Rattle.std.specs.declared.cmp.Ordering.TheVariants.{Less, Greater}
-use Rattle.std.specs.Ordering.{ordering_reverse}
-use Rattle.std.specs.List.Sorted.{IsStrictlySortedBy}
 use Rattle.std.proofs.lemmas.Map.Keys.{Less-from_sorted}
+use Rattle.std.specs.{Prelude.{Contains}, Cmp.{IsTotalOrder}, declared.cmp.Ordering.{Ordering}, declared.cmp.Ordering.TheVariants.{Less, Greater}}
+use Rattle.std.specs.{Ordering.{ordering_reverse}, List.Sorted.{IsStrictlySortedBy}}
 use Rattle.fb_tree.proofs.Text.Members.{contains_nothing, contains_here, contains_later, contains_cases}
 
 -- each element is below the later ones

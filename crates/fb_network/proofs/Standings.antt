@@ -1,34 +1,18 @@
 -- Instances that are taken in one by one.
 use Rattle.std.proofs.Common.{ℕ, ◌≡◌, ◌<◌, ◌+◌, Bool, true, false, cond, List, [], ◌∷◌, ◌++◌, Option, Some, None, length, take, get_or, refl, sym, ap, subst, ◌∙◌, arith, append_assoc, append-nil, length-append}
-use Rattle.std.specs.Prelude.{flat_map, is_some}
-use Rattle.std.specs.BTreeMap.{is_at}
-use Rattle.std.proofs.lemmas.List.{take_more}
-use Rattle.std.proofs.lemmas.List.Concat.{flat_map-append, flat_map-cons}
-use Rattle.std.proofs.lemmas.List.Elements.{All-cons, All-nil}
+use Rattle.std.proofs.{lemmas.List.{take_more}, lemmas.List.Concat.{flat_map-append, flat_map-cons}, lemmas.List.Elements.{All-cons, All-nil}}
+use Rattle.std.specs.{Prelude.{flat_map, is_some}, BTreeMap.{is_at}}
 use Rattle.fb_tree.specs.Text.Order.{name_cmp}
-use Rattle.fb_network.specs.declared.network.InstanceKind.{InstanceKind}
-use Rattle.fb_network.specs.declared.network.InstanceKind.TheVariants.{Block, Subapplication}
-use Rattle.fb_network.specs.declared.network.Instance.{Instance}
-use Rattle.fb_network.specs.declared.flat.FlatBlock.{FlatBlock}
-use Rattle.fb_network.specs.declared.flat.Link.{Link}
-use Rattle.fb_network.specs.declared.flat.Border.{Border}
-use Rattle.fb_network.specs.declared.place.Place.{Place}
-use Rattle.fb_network.specs.declared.entries.Leaf.{Leaf}
-use Rattle.fb_network.specs.declared.entries.Join.{Join}
-use Rattle.fb_network.specs.declared.entries.Edge.{Edge}
-use Rattle.fb_network.specs.declared.draft.Draft.{Draft}
-use Rattle.fb_network.specs.declared.table.Standing.{Standing}
-use Rattle.fb_network.specs.Network.{instance_named}
-use Rattle.fb_network.specs.PlainFlat.{PlainFlat}
-use Rattle.fb_network.specs.PlainPrefix.{PlainPrefix}
-use Rattle.fb_network.specs.Ready.{Nets}
+use Rattle.fb_network.specs.{declared.network.InstanceKind.{InstanceKind}, declared.network.InstanceKind.TheVariants.{Block, Subapplication}}
+use Rattle.fb_network.specs.{declared.network.Instance.{Instance}, declared.flat.FlatBlock.{FlatBlock}, declared.flat.Link.{Link}}
+use Rattle.fb_network.specs.{declared.flat.Border.{Border}, declared.place.Place.{Place}, declared.entries.Leaf.{Leaf}, declared.entries.Join.{Join}}
+use Rattle.fb_network.specs.{declared.entries.Edge.{Edge}, declared.draft.Draft.{Draft}, declared.table.Standing.{Standing}, Network.{instance_named}}
+use Rattle.fb_network.specs.{PlainFlat.{PlainFlat}, PlainPrefix.{PlainPrefix}, Ready.{Nets}}
 use Rattle.fb_network.specs.Composed.{blocks_of, blocks_of_kind, inner_blocks, inner_links, inner_links_of_kind, links_of}
 use Rattle.fb_network.specs.Laid.{IsEdgeBelow, IsJoinBelow, IsLeafBelow, block_at, border_at, link_at}
 use Rattle.fb_network.specs.Reading.{AreEdges, AreJoins, AreLeaves, Grows, TakesIn}
 use Rattle.fb_network.specs.Standing.{HoldsInstances, IsTable, Says, StandsFor, TakesInstance, borders_of, inner_borders, inner_borders_of_kind, or_alone, or_instance}
-use Rattle.fb_network.proofs.Drafts.{added}
-use Rattle.fb_network.proofs.Equals.{same_bytes}
-use Rattle.fb_network.proofs.Readings.{edges_grown, joins_grown, leaves_grown, path_grown, reading_nothing}
+use Rattle.fb_network.proofs.{Drafts.{added}, Equals.{same_bytes}, Readings.{edges_grown, joins_grown, leaves_grown, path_grown, reading_nothing}}
 
 -- a new name is put
 pub put_new : (old new : List ℕ → Option Standing) (s : Standing) → is_some (old s.instance.name) ≡ false → ((q : List ℕ) → new q ≡ cond (is_at (name_cmp s.instance.name) q) (Some s) (old q)) → (q : List ℕ) → new q ≡ or_alone s q (old q)

@@ -1,24 +1,13 @@
 -- The links of a system.
-use Rattle.std.proofs.Common.{ℕ, ◌≡◌, ◌<◌, ◌+◌, ◌∙◌, List, [], ◌∷◌, length, map, take, get_or, refl, sym, ap, subst}
-use Rattle.std.specs.Prelude.{◌↔◌, Contains}
-use Rattle.std.specs.List.{All, flat_map}
-use Rattle.std.proofs.lemmas.List.Elements.{All-nil}
-use Rattle.fb_network.specs.declared.flat.FlatBlock.{FlatBlock}
-use Rattle.fb_network.specs.declared.flat.Link.{Link}
-use Rattle.fb_network.specs.declared.entries.Leaf.{Leaf}
-use Rattle.fb_network.specs.declared.entries.Join.{Join}
-use Rattle.fb_network.specs.declared.entries.Edge.{Edge}
-use Rattle.fb_network.specs.declared.draft.Draft.{Draft}
-use Rattle.fb_network.specs.declared.application.FlatApplication.{FlatApplication}
-use Rattle.fb_network.specs.Composed.{link_within}
-use Rattle.fb_network.specs.PlainFlat.{PlainFlat}
-use Rattle.fb_network.specs.LinkOrder.{link_cmp_total}
+use Rattle.std.proofs.{Common.{ℕ, ◌≡◌, ◌<◌, ◌+◌, ◌∙◌, List, [], ◌∷◌, length, map, take, get_or, refl, sym, ap, subst}, lemmas.List.Elements.{All-nil}}
+use Rattle.std.specs.{Prelude.{◌↔◌, Contains}, List.{All, flat_map}}
+use Rattle.fb_network.specs.{declared.flat.FlatBlock.{FlatBlock}, declared.flat.Link.{Link}, declared.entries.Leaf.{Leaf}, declared.entries.Join.{Join}}
+use Rattle.fb_network.specs.{declared.entries.Edge.{Edge}, declared.draft.Draft.{Draft}, declared.application.FlatApplication.{FlatApplication}}
+use Rattle.fb_network.specs.{Composed.{link_within}, PlainFlat.{PlainFlat}, LinkOrder.{link_cmp_total}}
 use Rattle.fb_network.specs.SystemFlat.{IsApplicationLink, IsSystemFlat, application_blocks, application_links}
 use Rattle.fb_network.specs.Laid.{IsEdgeBelow, IsJoinBelow, IsLaid, IsLeafBelow, block_at, border_at, link_at}
 use Rattle.fb_network.specs.Reading.{AreJoins, AreLeaves, IsFinish, TakesIn}
-use Rattle.fb_network.proofs.Readings.{reading_nothing}
-use Rattle.fb_network.proofs.SameSorted.{same_sorted}
-use Rattle.fb_network.proofs.Standings.{flat_map_push, next_taken}
+use Rattle.fb_network.proofs.{Readings.{reading_nothing}, SameSorted.{same_sorted}, Standings.{flat_map_push, next_taken}}
 use Rattle.fb_tree.proofs.Text.Members.{contains_flat_map, contains_here, contains_map, contains_nothing, origin_in_flat_map, origin_in_map}
 
 link_of_application : (applications : List FlatApplication) (link : Link) → Contains (flat_map application_links applications) link → IsApplicationLink applications link

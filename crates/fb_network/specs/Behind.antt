@@ -1,24 +1,12 @@
 -- Links and borders by numbers, of the connections of a network that is being composed.
-use Rattle.std.specs.Prelude.{ℕ, ◌+◌, ◌≡◌, Bool, ◌&&◌, List, [], ◌∷◌, ◌++◌, Option, Some, None, slice_get, map, filter, flat_map}
-use Rattle.std.specs.List.{AllZip}
+use Rattle.std.specs.{Prelude.{ℕ, ◌+◌, ◌≡◌, Bool, ◌&&◌, List, [], ◌∷◌, ◌++◌, Option, Some, None, slice_get, map, filter, flat_map}, List.{AllZip}}
 use Rattle.std.specs.BTreeMap.{is_at}
-use Rattle.fb_tree.specs.Text.Order.{name_cmp}
-use Rattle.fb_tree.specs.declared.network.Sort.{Sort}
-use Rattle.fb_tree.specs.declared.interface.Side.{Side}
+use Rattle.fb_tree.specs.{Text.Order.{name_cmp}, declared.network.Sort.{Sort}, declared.interface.Side.{Side}}
 use Rattle.fb_tree.specs.declared.interface.Side.TheVariants.{Input, Output}
-use Rattle.fb_network.specs.Sorts.{same_sort}
-use Rattle.fb_network.specs.Places.{dotted}
-use Rattle.fb_network.specs.declared.network.Port.{Port}
-use Rattle.fb_network.specs.declared.network.InstanceKind.{InstanceKind}
-use Rattle.fb_network.specs.declared.network.InstanceKind.TheVariants.{Block, Subapplication}
-use Rattle.fb_network.specs.declared.network.End.{End}
-use Rattle.fb_network.specs.declared.network.End.TheVariants.{Own, Of}
-use Rattle.fb_network.specs.declared.network.Connection.{Connection}
-use Rattle.fb_network.specs.declared.place.Place.{Place}
-use Rattle.fb_network.specs.declared.entries.Join.{Join}
-use Rattle.fb_network.specs.declared.entries.Edge.{Edge}
-use Rattle.fb_network.specs.declared.table.Standing.{Standing}
-use Rattle.fb_network.specs.PlainPrefix.{PlainPrefix}
+use Rattle.fb_network.specs.{Sorts.{same_sort}, Places.{dotted}, declared.network.Port.{Port}, declared.network.InstanceKind.{InstanceKind}}
+use Rattle.fb_network.specs.{declared.network.InstanceKind.TheVariants.{Block, Subapplication}, declared.network.End.{End}}
+use Rattle.fb_network.specs.{declared.network.End.TheVariants.{Own, Of}, declared.network.Connection.{Connection}, declared.place.Place.{Place}}
+use Rattle.fb_network.specs.{declared.entries.Join.{Join}, declared.entries.Edge.{Edge}, declared.table.Standing.{Standing}, PlainPrefix.{PlainPrefix}}
 
 abbrev pub edge_belongs : Sort → List ℕ → Edge → Bool
 edge_belongs sort port e = same_sort e.sort sort && is_at (name_cmp e.port) port

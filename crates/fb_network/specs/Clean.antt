@@ -1,17 +1,9 @@
 -- What a network without faults keeps (IEC 61499-1, 5.4: subapplication types; 5.5: adapters).
-use Rattle.std.specs.Prelude.{ℕ, ◌≡◌, List, [], ◌∷◌, Option, Some, None, Contains, ◌&&◌, find, option_map, option_and_then}
-use Rattle.std.specs.BTreeMap.{is_at}
-use Rattle.fb_tree.specs.Text.Order.{name_cmp}
-use Rattle.fb_tree.specs.declared.network.Sort.{Sort}
-use Rattle.fb_tree.specs.declared.network.Sort.TheVariants.{Adapter}
-use Rattle.fb_tree.specs.declared.interface.Side.{Side}
+use Rattle.std.specs.{Prelude.{ℕ, ◌≡◌, List, [], ◌∷◌, Option, Some, None, Contains, ◌&&◌, find, option_map, option_and_then}, BTreeMap.{is_at}}
+use Rattle.fb_tree.specs.{Text.Order.{name_cmp}, declared.network.Sort.{Sort}, declared.network.Sort.TheVariants.{Adapter}, declared.interface.Side.{Side}}
 use Rattle.fb_tree.specs.declared.interface.Side.TheVariants.{Input, Output}
-use Rattle.fb_network.specs.Sorts.{same_sort}
-use Rattle.fb_network.specs.declared.network.Port.{Port}
-use Rattle.fb_network.specs.declared.network.Instance.{Instance}
-use Rattle.fb_network.specs.declared.network.End.{End}
-use Rattle.fb_network.specs.declared.network.End.TheVariants.{Own, Of}
-use Rattle.fb_network.specs.Plain.{PlainNetwork}
+use Rattle.fb_network.specs.{Sorts.{same_sort}, declared.network.Port.{Port}, declared.network.Instance.{Instance}, declared.network.End.{End}}
+use Rattle.fb_network.specs.{declared.network.End.TheVariants.{Own, Of}, Plain.{PlainNetwork}}
 use Rattle.fb_network.specs.Network.{View, Place, place_of, instance_named, IsConnected, IsInner}
 
 -- the first port of that sort and name

@@ -1,28 +1,12 @@
 -- The lists of links, borders and blocks that a network and the flat networks of its subapplications give.
-use Rattle.std.specs.Prelude.{ℕ, List, [], ◌∷◌, ◌++◌, Option, Some, None, Bool, ◌&&◌, filter, map, flat_map}
-use Rattle.std.specs.BTreeMap.{is_at}
-use Rattle.fb_tree.specs.Text.Order.{name_cmp}
-use Rattle.fb_tree.specs.declared.network.Sort.{Sort}
-use Rattle.fb_tree.specs.declared.network.Sort.TheVariants.{Event, Data, Adapter}
-use Rattle.fb_tree.specs.declared.interface.Side.{Side}
-use Rattle.fb_tree.specs.declared.interface.Side.TheVariants.{Input, Output}
-use Rattle.fb_network.specs.Sorts.{same_sort}
-use Rattle.fb_network.specs.Places.{dotted}
-use Rattle.fb_network.specs.declared.network.Port.{Port}
-use Rattle.fb_network.specs.declared.network.InstanceKind.{InstanceKind}
-use Rattle.fb_network.specs.declared.network.InstanceKind.TheVariants.{Block, Subapplication}
-use Rattle.fb_network.specs.declared.network.Instance.{Instance}
-use Rattle.fb_network.specs.declared.network.End.{End}
-use Rattle.fb_network.specs.declared.network.End.TheVariants.{Own, Of}
-use Rattle.fb_network.specs.declared.network.Connection.{Connection}
-use Rattle.fb_network.specs.Plain.{PlainNetwork}
-use Rattle.fb_network.specs.PlainFlat.{PlainFlat}
-use Rattle.fb_network.specs.declared.flat.Link.{Link}
-use Rattle.fb_network.specs.declared.flat.Border.{Border}
-use Rattle.fb_network.specs.declared.flat.FlatBlock.{FlatBlock}
-use Rattle.fb_network.specs.Network.{View, place_of}
-use Rattle.fb_network.specs.Clean.{adapter_at}
-use Rattle.fb_network.specs.Ready.{Nets}
+use Rattle.std.specs.{Prelude.{ℕ, List, [], ◌∷◌, ◌++◌, Option, Some, None, Bool, ◌&&◌, filter, map, flat_map}, BTreeMap.{is_at}}
+use Rattle.fb_tree.specs.{Text.Order.{name_cmp}, declared.network.Sort.{Sort}, declared.network.Sort.TheVariants.{Event, Data, Adapter}}
+use Rattle.fb_tree.specs.{declared.interface.Side.{Side}, declared.interface.Side.TheVariants.{Input, Output}}
+use Rattle.fb_network.specs.{Sorts.{same_sort}, Places.{dotted}, declared.network.Port.{Port}, declared.network.InstanceKind.{InstanceKind}}
+use Rattle.fb_network.specs.{declared.network.InstanceKind.TheVariants.{Block, Subapplication}, declared.network.Instance.{Instance}}
+use Rattle.fb_network.specs.{declared.network.End.{End}, declared.network.End.TheVariants.{Own, Of}, declared.network.Connection.{Connection}}
+use Rattle.fb_network.specs.{Plain.{PlainNetwork}, PlainFlat.{PlainFlat}, declared.flat.Link.{Link}, declared.flat.Border.{Border}}
+use Rattle.fb_network.specs.{declared.flat.FlatBlock.{FlatBlock}, Network.{View, place_of}, Clean.{adapter_at}, Ready.{Nets}}
 
 -- the instances of a network by their names
 abbrev pub Instances : Type 0

@@ -1,9 +1,6 @@
 -- The number of instances of a network, of all depths, as far as it is looked at.
 use Rattle.std.specs.Prelude.{ℕ, ◌≡◌, ◌+◌, List, length, min}
-use Rattle.fb_network.specs.declared.network.Instance.{Instance}
-use Rattle.fb_network.specs.declared.count.TheConstants.{INSTANCE_LIMIT}
-use Rattle.fb_network.specs.Network.{View}
-use Rattle.fb_network.specs.Instances.{Held, AreInstances}
+use Rattle.fb_network.specs.{declared.network.Instance.{Instance}, declared.count.TheConstants.{INSTANCE_LIMIT}, Network.{View}, Instances.{Held, AreInstances}}
 
 -- the list of instances has that many of all depths, or more than the limit where the count is one past it
 pub record IsCount (view : View) (list : List Instance) (count : ℕ) : Type 0 where

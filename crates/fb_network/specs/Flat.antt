@@ -1,12 +1,8 @@
 -- The links and borders of a flat network (IEC 61499-1, 5.4: subapplication types; 5.5: adapters).
 use Rattle.std.specs.Prelude.{ℕ, ◌≡◌, List, Contains}
 use Rattle.fb_tree.specs.declared.network.Sort.{Sort}
-use Rattle.fb_network.specs.Plain.{PlainNetwork}
-use Rattle.fb_network.specs.declared.flat.Link.{Link}
-use Rattle.fb_network.specs.declared.flat.Border.{Border}
-use Rattle.fb_network.specs.Network.{View, Place, IsBorder}
-use Rattle.fb_network.specs.NetLink.{IsNetLink}
-use Rattle.fb_network.specs.Printed.{printed}
+use Rattle.fb_network.specs.{Plain.{PlainNetwork}, declared.flat.Link.{Link}, declared.flat.Border.{Border}, Network.{View, Place, IsBorder}}
+use Rattle.fb_network.specs.{NetLink.{IsNetLink}, Printed.{printed}}
 
 -- the link names two places that the network links
 pub record PrintsLink (view : View) (network : PlainNetwork) (l : Link) : Type 0 where

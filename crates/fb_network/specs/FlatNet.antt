@@ -1,10 +1,6 @@
 -- A flat network is that of a network (IEC 61499-1, 5.4: subapplication types; 5.5: adapters).
 use Rattle.std.specs.List.Sorted.{IsStrictlySortedBy}
-use Rattle.fb_network.specs.Plain.{PlainNetwork}
-use Rattle.fb_network.specs.PlainFlat.{PlainFlat}
-use Rattle.fb_network.specs.LinkOrder.{link_cmp, border_cmp}
-use Rattle.fb_network.specs.Network.{View}
-use Rattle.fb_network.specs.Flat.{AreLinks, AreBorders}
+use Rattle.fb_network.specs.{Plain.{PlainNetwork}, PlainFlat.{PlainFlat}, LinkOrder.{link_cmp, border_cmp}, Network.{View}, Flat.{AreLinks, AreBorders}}
 use Rattle.fb_network.specs.Instances.{AreBlocks}
 
 -- it has the blocks of the network, and its links and its borders, in order, each once

@@ -1,11 +1,7 @@
 -- The instances of a network, of all depths, and its blocks (IEC 61499-1, 5.4: subapplication types).
 use Rattle.std.specs.Prelude.{ℕ, ◌≡◌, List, [], ◌∷◌, ◌++◌, Some, map}
-use Rattle.fb_network.specs.declared.network.InstanceKind.{InstanceKind}
-use Rattle.fb_network.specs.declared.network.InstanceKind.TheVariants.{Block, Subapplication}
-use Rattle.fb_network.specs.declared.network.Instance.{Instance}
-use Rattle.fb_network.specs.Plain.{PlainNetwork}
-use Rattle.fb_network.specs.declared.flat.FlatBlock.{FlatBlock}
-use Rattle.fb_network.specs.Network.{View, Place}
+use Rattle.fb_network.specs.{declared.network.InstanceKind.{InstanceKind}, declared.network.InstanceKind.TheVariants.{Block, Subapplication}}
+use Rattle.fb_network.specs.{declared.network.Instance.{Instance}, Plain.{PlainNetwork}, declared.flat.FlatBlock.{FlatBlock}, Network.{View, Place}}
 use Rattle.fb_network.specs.Printed.{printed}
 
 -- an instance at its path

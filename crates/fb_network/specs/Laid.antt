@@ -1,15 +1,7 @@
 -- Flat networks by numbers.
-use Rattle.std.specs.Prelude.{ℕ, ◌+◌, ◌<◌, List, [], ◌++◌, Option, Some, None, slice_get, map}
-use Rattle.std.specs.List.{All}
-use Rattle.fb_network.specs.Places.{dotted}
-use Rattle.fb_network.specs.PlainFlat.{PlainFlat}
-use Rattle.fb_network.specs.PlainPrefix.{PlainPrefix}
-use Rattle.fb_network.specs.declared.flat.FlatBlock.{FlatBlock}
-use Rattle.fb_network.specs.declared.flat.Link.{Link}
-use Rattle.fb_network.specs.declared.flat.Border.{Border}
-use Rattle.fb_network.specs.declared.place.Place.{Place}
-use Rattle.fb_network.specs.declared.entries.Leaf.{Leaf}
-use Rattle.fb_network.specs.declared.entries.Join.{Join}
+use Rattle.std.specs.{Prelude.{ℕ, ◌+◌, ◌<◌, List, [], ◌++◌, Option, Some, None, slice_get, map}, List.{All}}
+use Rattle.fb_network.specs.{Places.{dotted}, PlainFlat.{PlainFlat}, PlainPrefix.{PlainPrefix}, declared.flat.FlatBlock.{FlatBlock}, declared.flat.Link.{Link}}
+use Rattle.fb_network.specs.{declared.flat.Border.{Border}, declared.place.Place.{Place}, declared.entries.Leaf.{Leaf}, declared.entries.Join.{Join}}
 use Rattle.fb_network.specs.declared.entries.Edge.{Edge}
 
 abbrev pub text_or_nothing : Option (List ℕ) → List ℕ

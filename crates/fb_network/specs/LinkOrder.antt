@@ -1,12 +1,8 @@
 -- The order of links and of borders: by sort, and then by bytes.
-use Rattle.std.specs.declared.cmp.Ordering.{Ordering}
-use Rattle.std.specs.Ordering.{nat_cmp, on, then_cmp}
-use Rattle.std.specs.Cmp.{IsTotalOrder, then_total, on_total, nat_cmp_total}
+use Rattle.std.specs.{declared.cmp.Ordering.{Ordering}, Ordering.{nat_cmp, on, then_cmp}, Cmp.{IsTotalOrder, then_total, on_total, nat_cmp_total}}
 use Rattle.std.specs.Cmp.Lexicographic.{nat_list_cmp_total}
 use Rattle.fb_tree.specs.Text.Order.{name_cmp}
-use Rattle.fb_network.specs.Sorts.{number_of}
-use Rattle.fb_network.specs.declared.flat.Link.{Link}
-use Rattle.fb_network.specs.declared.flat.Border.{Border}
+use Rattle.fb_network.specs.{Sorts.{number_of}, declared.flat.Link.{Link}, declared.flat.Border.{Border}}
 
 -- by sort, then by the bytes of `from`, then of `to`
 abbrev pub link_cmp : Link → Link → Ordering

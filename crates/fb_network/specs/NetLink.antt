@@ -1,12 +1,7 @@
 -- The links of a flat network: chains of adapters stand for links of the adapter's events and data (IEC 61499-1, 5.5: adapters).
 use Rattle.std.specs.Prelude.{◌≡◌, [], ◌∷◌, ◌++◌, Some, Contains}
-use Rattle.fb_tree.specs.declared.network.Sort.{Sort}
-use Rattle.fb_tree.specs.declared.network.Sort.TheVariants.{Adapter}
-use Rattle.fb_tree.specs.declared.interface.Side.TheVariants.{Input, Output}
-use Rattle.fb_network.specs.declared.network.Port.{Port}
-use Rattle.fb_network.specs.Plain.{PlainNetwork}
-use Rattle.fb_network.specs.Network.{View, Place, IsLink}
-use Rattle.fb_network.specs.Clean.{adapter_at}
+use Rattle.fb_tree.specs.{declared.network.Sort.{Sort}, declared.network.Sort.TheVariants.{Adapter}, declared.interface.Side.TheVariants.{Input, Output}}
+use Rattle.fb_network.specs.{declared.network.Port.{Port}, Plain.{PlainNetwork}, Network.{View, Place, IsLink}, Clean.{adapter_at}}
 
 -- an event or data chain; or, for a chain from a plug to a socket, each output of the adapter from the plug
 -- to the socket, and each input of it from the socket to the plug

@@ -1,13 +1,8 @@
 -- Places, chains and links of a network (IEC 61499-1, 5.4: subapplication types).
-use Rattle.std.specs.Prelude.{ℕ, ◌≡◌, List, [], ◌∷◌, Option, Some, Contains, ◌⊎◌, find}
-use Rattle.std.specs.BTreeMap.{is_at}
-use Rattle.fb_tree.specs.Text.Order.{name_cmp}
-use Rattle.fb_tree.specs.declared.network.Sort.{Sort}
-use Rattle.fb_network.specs.declared.network.InstanceKind.TheVariants.{Block, Subapplication}
-use Rattle.fb_network.specs.declared.network.Instance.{Instance}
-use Rattle.fb_network.specs.declared.network.End.{End}
-use Rattle.fb_network.specs.declared.network.End.TheVariants.{Own, Of}
-use Rattle.fb_network.specs.declared.network.Connection.{Connection}
+use Rattle.std.specs.{Prelude.{ℕ, ◌≡◌, List, [], ◌∷◌, Option, Some, Contains, ◌⊎◌, find}, BTreeMap.{is_at}}
+use Rattle.fb_tree.specs.{Text.Order.{name_cmp}, declared.network.Sort.{Sort}}
+use Rattle.fb_network.specs.{declared.network.InstanceKind.TheVariants.{Block, Subapplication}, declared.network.Instance.{Instance}}
+use Rattle.fb_network.specs.{declared.network.End.{End}, declared.network.End.TheVariants.{Own, Of}, declared.network.Connection.{Connection}}
 use Rattle.fb_network.specs.Plain.{PlainNetwork}
 
 -- networks by the names of their types

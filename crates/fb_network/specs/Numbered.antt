@@ -1,9 +1,7 @@
 -- What stands at the numbers of a flat network.
 use Rattle.std.specs.Prelude.{ℕ, [], Option, Some, None, slice_get}
 use Rattle.fb_tree.specs.declared.network.Sort.TheVariants.{Event}
-use Rattle.fb_network.specs.PlainFlat.{PlainFlat}
-use Rattle.fb_network.specs.declared.flat.FlatBlock.{FlatBlock}
-use Rattle.fb_network.specs.declared.flat.Link.{Link}
+use Rattle.fb_network.specs.{PlainFlat.{PlainFlat}, declared.flat.FlatBlock.{FlatBlock}, declared.flat.Link.{Link}}
 
 abbrev pub block_or_nothing : Option FlatBlock → FlatBlock
 block_or_nothing None = record { path = []; type_name = [] }

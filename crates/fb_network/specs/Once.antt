@@ -1,8 +1,5 @@
 -- Entries in the order of what they say, each once.
-use Rattle.std.specs.Prelude.{List, map}
-use Rattle.std.specs.List.{Contains}
-use Rattle.std.specs.List.Sorted.{IsStrictlySortedBy}
-use Rattle.std.specs.declared.cmp.Ordering.{Ordering}
+use Rattle.std.specs.{Prelude.{List, map}, List.{Contains}, List.Sorted.{IsStrictlySortedBy}, declared.cmp.Ordering.{Ordering}}
 
 -- of the old entries some are left; they say all that the old ones say, each once, in order
 pub record IsOnce {E X : Type 0} (says : E → X) (cmp : X → X → Ordering) (old new : List E) : Type 0 where

@@ -1,12 +1,7 @@
 -- What is composed where a part of a view is seen.
 use Rattle.std.specs.Prelude.{◌≡◌}
-use Rattle.fb_network.specs.declared.network.End.{End}
-use Rattle.fb_network.specs.Plain.{PlainNetwork}
-use Rattle.fb_network.specs.PlainFlat.{PlainFlat}
-use Rattle.fb_network.specs.Network.{View, place_of}
-use Rattle.fb_network.specs.Clean.{IsCleanThroughout, adapter_at}
-use Rattle.fb_network.specs.FlatNet.{IsFlat}
-use Rattle.fb_network.specs.Ready.{Nets, AreFinished}
+use Rattle.fb_network.specs.{declared.network.End.{End}, Plain.{PlainNetwork}, PlainFlat.{PlainFlat}, Network.{View, place_of}}
+use Rattle.fb_network.specs.{Clean.{IsCleanThroughout, adapter_at}, FlatNet.{IsFlat}, Ready.{Nets, AreFinished}}
 
 -- both views have the same adapters at the ends of connections of the network
 abbrev pub SameAdapters : View → View → PlainNetwork → Type 0

@@ -1,8 +1,6 @@
 -- Flat networks in plain.
 use Rattle.std.specs.Prelude.{List}
-use Rattle.fb_network.specs.declared.flat.FlatBlock.{FlatBlock}
-use Rattle.fb_network.specs.declared.flat.Link.{Link}
-use Rattle.fb_network.specs.declared.flat.Border.{Border}
+use Rattle.fb_network.specs.{declared.flat.FlatBlock.{FlatBlock}, declared.flat.Link.{Link}, declared.flat.Border.{Border}}
 
 pub record PlainFlat : Type 0 where
   pub blocks : List FlatBlock

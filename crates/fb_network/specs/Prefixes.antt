@@ -1,6 +1,5 @@
 -- Paths in front of a path.
-use Rattle.std.specs.Prelude.{ℕ, ◌≡◌, ◌<◌, ◌⊎◌, ◌==◌, if◌then◌else◌, List, [], ◌∷◌, ◌++◌, length, map, Option, Some, None}
-use Rattle.std.specs.Option.{option_or}
+use Rattle.std.specs.{Prelude.{ℕ, ◌≡◌, ◌<◌, ◌⊎◌, ◌==◌, if◌then◌else◌, List, [], ◌∷◌, ◌++◌, length, map, Option, Some, None}, Option.{option_or}}
 
 -- the first path is the other one, or stands in front of it by whole names
 abbrev pub IsPrefix : List ℕ → List ℕ → Type 0

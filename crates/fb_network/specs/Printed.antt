@@ -1,7 +1,6 @@
 -- Places as they are printed.
 use Rattle.std.specs.Prelude.{ℕ, List, [], ◌∷◌}
-use Rattle.fb_network.specs.Places.{dotted}
-use Rattle.fb_network.specs.Network.{Place}
+use Rattle.fb_network.specs.{Places.{dotted}, Network.{Place}}
 
 -- the names joined by points
 abbrev pub printed : Place → List ℕ

@@ -1,22 +1,10 @@
 -- Entries of a flat network that is being composed, and what they say in plain.
-use Rattle.std.specs.Prelude.{ℕ, ◌<◌, ◌≡◌, List, ◌++◌, Some, map, length}
-use Rattle.std.specs.List.{All, Contains}
-use Rattle.std.specs.List.Sorted.{IsStrictlySortedBy}
+use Rattle.std.specs.{Prelude.{ℕ, ◌<◌, ◌≡◌, List, ◌++◌, Some, map, length}, List.{All, Contains}, List.Sorted.{IsStrictlySortedBy}}
 use Rattle.std.specs.declared.cmp.Ordering.{Ordering}
-use Rattle.fb_network.specs.LinkOrder.{border_cmp, link_cmp}
-use Rattle.fb_network.specs.Places.{dotted}
-use Rattle.fb_network.specs.Composed.{blocks_of, links_of}
-use Rattle.fb_network.specs.PlainFlat.{PlainFlat}
-use Rattle.fb_network.specs.PlainPrefix.{PlainPrefix}
-use Rattle.fb_network.specs.Laid.{IsEdgeBelow, IsJoinBelow, IsLeafBelow, block_at, border_at, link_at, path_at}
-use Rattle.fb_network.specs.declared.flat.FlatBlock.{FlatBlock}
-use Rattle.fb_network.specs.declared.flat.Link.{Link}
-use Rattle.fb_network.specs.declared.flat.Border.{Border}
-use Rattle.fb_network.specs.declared.place.Place.{Place}
-use Rattle.fb_network.specs.declared.entries.Leaf.{Leaf}
-use Rattle.fb_network.specs.declared.entries.Join.{Join}
-use Rattle.fb_network.specs.declared.entries.Edge.{Edge}
-use Rattle.fb_network.specs.declared.draft.Draft.{Draft}
+use Rattle.fb_network.specs.{LinkOrder.{border_cmp, link_cmp}, Places.{dotted}, Composed.{blocks_of, links_of}, PlainFlat.{PlainFlat}}
+use Rattle.fb_network.specs.{PlainPrefix.{PlainPrefix}, Laid.{IsEdgeBelow, IsJoinBelow, IsLeafBelow, block_at, border_at, link_at, path_at}}
+use Rattle.fb_network.specs.{declared.flat.FlatBlock.{FlatBlock}, declared.flat.Link.{Link}, declared.flat.Border.{Border}, declared.place.Place.{Place}}
+use Rattle.fb_network.specs.{declared.entries.Leaf.{Leaf}, declared.entries.Join.{Join}, declared.entries.Edge.{Edge}, declared.draft.Draft.{Draft}}
 
 -- the entries name prefixes that there are, and by these they say what the plain ones say
 pub record IsReading {E X : Type 0} (below : ℕ → E → Type 0) (at : List PlainPrefix → E → X) (prefixes : List PlainPrefix) (entries : List E) (plain : List X) : Type 0 where

@@ -1,11 +1,7 @@
 -- The flat networks that a network is composed of.
 use Rattle.std.specs.Prelude.{ℕ, ◌≡◌, List, Option, Some, Contains}
-use Rattle.fb_network.specs.declared.network.InstanceKind.TheVariants.{Subapplication}
-use Rattle.fb_network.specs.declared.network.Instance.{Instance}
-use Rattle.fb_network.specs.Plain.{PlainNetwork}
-use Rattle.fb_network.specs.PlainFlat.{PlainFlat}
-use Rattle.fb_network.specs.Network.{View}
-use Rattle.fb_network.specs.FlatNet.{IsFlat}
+use Rattle.fb_network.specs.{declared.network.InstanceKind.TheVariants.{Subapplication}, declared.network.Instance.{Instance}, Plain.{PlainNetwork}}
+use Rattle.fb_network.specs.{PlainFlat.{PlainFlat}, Network.{View}, FlatNet.{IsFlat}}
 
 -- flat networks by the names of their types
 abbrev pub Nets : Type 0

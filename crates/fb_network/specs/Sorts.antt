@@ -1,7 +1,6 @@
 -- Sorts of connections, and their order.
 use Rattle.std.specs.Prelude.{ℕ, Bool, true, false}
-use Rattle.fb_tree.specs.declared.network.Sort.{Sort}
-use Rattle.fb_tree.specs.declared.network.Sort.TheVariants.{Event, Data, Adapter}
+use Rattle.fb_tree.specs.{declared.network.Sort.{Sort}, declared.network.Sort.TheVariants.{Event, Data, Adapter}}
 
 abbrev pub same_sort : Sort → Sort → Bool
 same_sort Event Event = true

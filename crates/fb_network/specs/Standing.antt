@@ -2,29 +2,13 @@
 use Rattle.std.specs.Prelude.{ℕ, ◌<◌, ◌≡◌, cond, List, [], ◌++◌, Option, Some, None, ⊤, length, map, flat_map, option_map, slice_get, slice_index_or}
 use Rattle.std.specs.BTreeMap.{is_at}
 use Rattle.fb_tree.specs.Text.Order.{name_cmp}
-use Rattle.fb_network.specs.declared.network.InstanceKind.{InstanceKind}
-use Rattle.fb_network.specs.declared.network.InstanceKind.TheVariants.{Block, Subapplication}
-use Rattle.fb_network.specs.declared.network.Instance.{Instance}
-use Rattle.fb_network.specs.declared.network.End.{End}
-use Rattle.fb_network.specs.declared.network.End.TheVariants.{Own, Of}
-use Rattle.fb_network.specs.declared.flat.FlatBlock.{FlatBlock}
-use Rattle.fb_network.specs.declared.flat.Link.{Link}
-use Rattle.fb_network.specs.declared.flat.Border.{Border}
-use Rattle.fb_network.specs.declared.place.Place.{Place}
-use Rattle.fb_network.specs.declared.entries.Edge.{Edge}
-use Rattle.fb_network.specs.declared.draft.Draft.{Draft}
-use Rattle.fb_network.specs.declared.table.Standing.{Standing}
-use Rattle.fb_network.specs.Network.{instance_named}
-use Rattle.fb_network.specs.Places.{dotted}
-use Rattle.fb_network.specs.Plain.{PlainNetwork}
-use Rattle.fb_network.specs.PlainFlat.{PlainFlat}
-use Rattle.fb_network.specs.PlainPrefix.{PlainPrefix}
-use Rattle.fb_network.specs.Ready.{Nets}
-use Rattle.fb_network.specs.declared.network.Connection.{Connection}
-use Rattle.fb_network.specs.Network.{View}
-use Rattle.fb_network.specs.Composed.{connection_borders, connection_links, inner_blocks, inner_links}
-use Rattle.fb_network.specs.Laid.{path_at}
-use Rattle.fb_network.specs.Reading.{AreEdges, AreJoins, AreLeaves, Grows, border_within}
+use Rattle.fb_network.specs.{declared.network.InstanceKind.{InstanceKind}, declared.network.InstanceKind.TheVariants.{Block, Subapplication}}
+use Rattle.fb_network.specs.{declared.network.Instance.{Instance}, declared.network.End.{End}, declared.network.End.TheVariants.{Own, Of}}
+use Rattle.fb_network.specs.{declared.flat.FlatBlock.{FlatBlock}, declared.flat.Link.{Link}, declared.flat.Border.{Border}, declared.place.Place.{Place}}
+use Rattle.fb_network.specs.{declared.entries.Edge.{Edge}, declared.draft.Draft.{Draft}, declared.table.Standing.{Standing}, Network.{instance_named, View}}
+use Rattle.fb_network.specs.{Places.{dotted}, Plain.{PlainNetwork}, PlainFlat.{PlainFlat}, PlainPrefix.{PlainPrefix}, Ready.{Nets}}
+use Rattle.fb_network.specs.{declared.network.Connection.{Connection}, Composed.{connection_borders, connection_links, inner_blocks, inner_links}}
+use Rattle.fb_network.specs.{Laid.{path_at}, Reading.{AreEdges, AreJoins, AreLeaves, Grows, border_within}}
 
 -- the text of an end of a connection
 abbrev pub end_text : End → List ℕ

@@ -1,11 +1,7 @@
 //! Adapters: which one a plug or socket has (IEC 61499-1, 5.5).
-ghost use Rattle.std.specs.Prelude.{◌≡◌, [], ◌∷◌};
-ghost use Rattle.std.specs.Option.{option_copied, option_and_then};
-ghost use Rattle.std.specs.BTreeMap.{get};
+ghost use Rattle.std.specs.{Prelude.{◌≡◌, [], ◌∷◌}, Option.{option_copied, option_and_then}, BTreeMap.{get}};
 ghost use Rattle.fb_tree.specs.Text.Order.{name_cmp};
-ghost use Rattle.fb_network.specs.Network.{place_of};
-ghost use Rattle.fb_network.specs.Clean.{adapter_at, port_named};
-ghost use Rattle.fb_network.specs.Standing.{HasInstances};
+ghost use Rattle.fb_network.specs.{Network.{place_of}, Clean.{adapter_at, port_named}, Standing.{HasInstances}};
 
 use crate::look_up::Networks;
 use crate::network::{End, Network, Port, is_same_sort};

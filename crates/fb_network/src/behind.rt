@@ -1,6 +1,5 @@
 //! The places of blocks to which an end of a connection leads.
-ghost use Rattle.std.specs.Prelude.{◌≡◌, IfOk};
-ghost use Rattle.std.specs.BTreeMap.{get};
+ghost use Rattle.std.specs.{Prelude.{◌≡◌, IfOk}, BTreeMap.{get}};
 ghost use Rattle.fb_tree.specs.Text.Order.{name_cmp};
 ghost use Rattle.fb_network.specs.Behind.{border_places_at, edge_belongs, places_behind, places_of_standing};
 

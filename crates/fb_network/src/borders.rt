@@ -1,9 +1,7 @@
 //! The borders of a network, not yet in order.
-ghost use Rattle.std.specs.Prelude.{◌≡◌, ◌++◌, IfOk, OnOk};
-ghost use Rattle.std.specs.BTreeMap.{get};
+ghost use Rattle.std.specs.{Prelude.{◌≡◌, ◌++◌, IfOk, OnOk}, BTreeMap.{get}};
 ghost use Rattle.fb_tree.specs.Text.Order.{name_cmp};
-ghost use Rattle.fb_network.specs.Behind.{connection_edges, edges_of_end, places_behind};
-ghost use Rattle.fb_network.specs.Standing.{AreEdgesOf};
+ghost use Rattle.fb_network.specs.{Behind.{connection_edges, edges_of_end, places_behind}, Standing.{AreEdgesOf}};
 
 use crate::behind::behind;
 use crate::entries::Edge;

@@ -1,6 +1,5 @@
 //! Texts in two parts, compared without joining these.
-ghost use Rattle.std.specs.Prelude.{◌≡◌, ◌≤◌, ◌++◌, length};
-ghost use Rattle.std.specs.Ordering.{ordering_then};
+ghost use Rattle.std.specs.{Prelude.{◌≡◌, ◌≤◌, ◌++◌, length}, Ordering.{ordering_then}};
 ghost use Rattle.fb_tree.specs.Text.Order.{name_cmp};
 
 use std::cmp::Ordering;

@@ -1,7 +1,6 @@
 //! Flat networks that are being composed.
 ghost use Rattle.std.specs.Prelude.{◌≡◌, [], ◌++◌, IfOk, OnOk, length, map};
-ghost use Rattle.fb_network.specs.Laid.{prefix_within, IsLaid};
-ghost use Rattle.fb_network.specs.Reading.{IsFinish, TakesIn};
+ghost use Rattle.fb_network.specs.{Laid.{prefix_within, IsLaid}, Reading.{IsFinish, TakesIn}};
 
 use crate::entries::{Edge, Join, Leaf, edges_moved, push_joins_moved, push_leaves_moved};
 use crate::flat::{Flat, Tables};

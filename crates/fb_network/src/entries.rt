@@ -1,7 +1,6 @@
 //! Blocks, links and borders by numbers.
 ghost use Rattle.std.specs.Prelude.{◌≡◌, ◌++◌, IfOk, OnOk, map};
-ghost use Rattle.fb_network.specs.Laid.{block_at, border_at, edge_moved, join_moved, leaf_moved, link_at};
-ghost use Rattle.fb_network.specs.LinkOrder.{border_cmp, link_cmp};
+ghost use Rattle.fb_network.specs.{Laid.{block_at, border_at, edge_moved, join_moved, leaf_moved, link_at}, LinkOrder.{border_cmp, link_cmp}};
 
 use crate::flat::{Border, FlatBlock, Link};
 use crate::network::sort_number;

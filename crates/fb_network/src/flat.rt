@@ -1,6 +1,5 @@
 //! Flat networks.
-ghost use Rattle.std.specs.Prelude.{◌≡◌, ◌↔◌, refl, IfOk, IsTrue};
-ghost use Rattle.std.specs.Ordering.{eq_by_cmp, as_partial_cmp};
+ghost use Rattle.std.specs.{Prelude.{◌≡◌, ◌↔◌, refl, IfOk, IsTrue}, Ordering.{eq_by_cmp, as_partial_cmp}};
 ghost use Rattle.std.specs.Cmp.{eq_by_cmp_equiv, partial_equiv_from_equiv, partial_order_from_total};
 ghost use Rattle.fb_network.specs.LinkOrder.{link_cmp, link_cmp_total, border_cmp, border_cmp_total};
 
@@ -144,8 +143,7 @@ impl Drop for Flat {
 
 impl Model for Flat {
     ghost use Rattle.std.specs.Prelude.{length};
-    ghost use Rattle.fb_network.specs.PlainFlat.{PlainFlat};
-    ghost use Rattle.fb_network.specs.Laid.{flat_at, IsLaid};
+    ghost use Rattle.fb_network.specs.{PlainFlat.{PlainFlat}, Laid.{flat_at, IsLaid}};
 
     ghost Value = { PlainFlat };
 

@@ -1,7 +1,6 @@
 //! The flat network of a network.
 ghost use Rattle.std.specs.Prelude.{◌≡◌, [], IfOk};
-ghost use Rattle.fb_network.specs.Part.{IsFlatInWhole};
-ghost use Rattle.fb_network.specs.Standing.{HasOwn};
+ghost use Rattle.fb_network.specs.{Part.{IsFlatInWhole}, Standing.{HasOwn}};
 
 use crate::borders::borders_of_network;
 use crate::draft::{Draft, finish};

@@ -1,6 +1,5 @@
 //! What the instances of a network hold.
-ghost use Rattle.std.specs.Prelude.{◌≡◌, [], IfOk, OnOk, map};
-ghost use Rattle.std.specs.BTreeMap.{get};
+ghost use Rattle.std.specs.{Prelude.{◌≡◌, [], IfOk, OnOk, map}, BTreeMap.{get}};
 ghost use Rattle.fb_tree.specs.Text.Order.{name_cmp};
 ghost use Rattle.fb_network.specs.Standing.{AreNamed, HoldsInstances, Says, TakesInstance};
 

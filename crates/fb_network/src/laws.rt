@@ -1,13 +1,7 @@
 //! Laws of flat networks.
 ghost use Rattle.std.specs.Prelude.{◌≡◌, List};
-ghost use Rattle.fb_network.specs.Plain.{PlainNetwork};
-ghost use Rattle.fb_network.specs.PlainFlat.{PlainFlat};
-ghost use Rattle.fb_network.specs.Network.{View};
-ghost use Rattle.fb_network.specs.Clean.{IsCleanThroughout};
-ghost use Rattle.fb_network.specs.FlatNet.{IsFlat};
-ghost use Rattle.fb_network.specs.declared.application.FlatApplication.{FlatApplication};
-ghost use Rattle.fb_network.specs.Composition.{ChainsAreComposed};
-ghost use Rattle.fb_network.specs.SystemFlat.{IsSystemFlat};
+ghost use Rattle.fb_network.specs.{Plain.{PlainNetwork}, PlainFlat.{PlainFlat}, Network.{View}, Clean.{IsCleanThroughout}, FlatNet.{IsFlat}};
+ghost use Rattle.fb_network.specs.{declared.application.FlatApplication.{FlatApplication}, Composition.{ChainsAreComposed}, SystemFlat.{IsSystemFlat}};
 
 /// The law that composing rests on: a chain is inside one subapplication instance, or holds exactly one connection of the network
 /// itself, and before and after it nothing or a border of an inner network.

@@ -1,15 +1,9 @@
 //! The links by the connections of a network itself.
-ghost use Rattle.std.specs.Prelude.{◌≡◌, ◌+◌, [], ◌∷◌, length, map, IfOk, OnOk};
-ghost use Rattle.std.specs.List.{All};
-ghost use Rattle.std.specs.BTreeMap.{get};
+ghost use Rattle.std.specs.{Prelude.{◌≡◌, ◌+◌, [], ◌∷◌, length, map, IfOk, OnOk}, List.{All}, BTreeMap.{get}};
 ghost use Rattle.fb_tree.specs.Text.Order.{name_cmp};
 ghost use Rattle.fb_network.specs.Ready as ready;
-ghost use Rattle.fb_network.specs.Network.{place_of};
-ghost use Rattle.fb_network.specs.Clean.{adapter_at};
-ghost use Rattle.fb_network.specs.Composed.{adapter_links, link_pairs, links_of_sort};
-ghost use Rattle.fb_network.specs.Laid.{path_at};
-ghost use Rattle.fb_network.specs.Reading.{IsPlaceBelow};
-ghost use Rattle.fb_network.specs.Standing.{AddsConnections, AddsLinks, HasInstances, HasOwn, IsTable, Says, end_text, own_place};
+ghost use Rattle.fb_network.specs.{Network.{place_of}, Clean.{adapter_at}, Composed.{adapter_links, link_pairs, links_of_sort}, Laid.{path_at}};
+ghost use Rattle.fb_network.specs.{Reading.{IsPlaceBelow}, Standing.{AddsConnections, AddsLinks, HasInstances, HasOwn, IsTable, Says, end_text, own_place}};
 
 use crate::adapters::find_adapter;
 use crate::behind::behind;

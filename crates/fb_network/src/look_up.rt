@@ -1,7 +1,5 @@
 //! What can be looked up by the names of types.
-ghost use Rattle.std.specs.Prelude.{◌≡◌};
-ghost use Rattle.std.specs.Option.{option_copied};
-ghost use Rattle.std.specs.BTreeMap.{get};
+ghost use Rattle.std.specs.{Prelude.{◌≡◌}, Option.{option_copied}, BTreeMap.{get}};
 ghost use Rattle.fb_tree.specs.Text.Order.{name_cmp};
 ghost use Rattle.fb_network.specs.Network.{View};
 ghost use Rattle.fb_network.specs.Ready as ready;

@@ -1,8 +1,6 @@
 //! The links of an adapter's ports between plugs and sockets (IEC 61499-1, 5.5).
-ghost use Rattle.std.specs.Prelude.{◌≡◌, ◌++◌, IfOk, OnOk, length, map};
-ghost use Rattle.std.specs.List.{All};
-ghost use Rattle.fb_network.specs.Laid.{path_at};
-ghost use Rattle.fb_network.specs.Reading.{Grows, IsPlaceBelow};
+ghost use Rattle.std.specs.{Prelude.{◌≡◌, ◌++◌, IfOk, OnOk, length, map}, List.{All}};
+ghost use Rattle.fb_network.specs.{Laid.{path_at}, Reading.{Grows, IsPlaceBelow}};
 ghost use Rattle.fb_network.specs.Behind.{AreMembers, adapter_joins, prefix_behind, join_on_side, member_joins, plug_joins};
 
 use crate::draft::count_of;

@@ -1,7 +1,6 @@
 //! What the numbers of a flat network mean.
 ghost use Rattle.std.specs.Prelude.{◌≡◌, ◌++◌, length, map, slice_get};
-ghost use Rattle.fb_network.specs.Laid.{block_at, link_at};
-ghost use Rattle.fb_network.specs.Numbered.{block_numbered, block_or_nothing, link_numbered, link_or_nothing};
+ghost use Rattle.fb_network.specs.{Laid.{block_at, link_at}, Numbered.{block_numbered, block_or_nothing, link_numbered, link_or_nothing}};
 
 use crate::entries::{Join, Leaf};
 use crate::flat::Flat;

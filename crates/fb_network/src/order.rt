@@ -1,8 +1,6 @@
 //! Entries in order, each once.
 ghost use Rattle.std.specs.Prelude.{OnOk};
-ghost use Rattle.fb_network.specs.Laid.{border_at, link_at};
-ghost use Rattle.fb_network.specs.LinkOrder.{border_cmp, link_cmp};
-ghost use Rattle.fb_network.specs.Once.{IsOnce};
+ghost use Rattle.fb_network.specs.{Laid.{border_at, link_at}, LinkOrder.{border_cmp, link_cmp}, Once.{IsOnce}};
 
 use crate::entries::{Edge, Join, compare_edges, compare_joins};
 use crate::prefix::Prefix;

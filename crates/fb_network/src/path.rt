@@ -1,7 +1,5 @@
 //! Paths and places: names joined by points.
-ghost use Rattle.std.specs.Prelude.{◌≡◌, ◌++◌, [], IfOk, nat_eq, refl, string_bytes};
-ghost use Rattle.std.specs.Ordering.{as_partial_cmp};
-ghost use Rattle.std.specs.Cmp.{partial_equiv_from_equiv};
+ghost use Rattle.std.specs.{Prelude.{◌≡◌, ◌++◌, [], IfOk, nat_eq, refl, string_bytes}, Ordering.{as_partial_cmp}, Cmp.{partial_equiv_from_equiv}};
 ghost use Rattle.std.specs.Cmp.Lexicographic.{pointwise, nat_list_eq_equiv, nat_list_cmp_total, texts_po, texts_ties};
 ghost use Rattle.fb_tree.specs.Text.Order.{name_cmp};
 ghost use Rattle.fb_network.specs.Places.{dotted};

@@ -1,6 +1,5 @@
 //! Prefixes of paths, and what they mean.
-ghost use Rattle.std.specs.Prelude.{◌≡◌, option_copied};
-ghost use Rattle.std.specs.HashMap.{get_by_text};
+ghost use Rattle.std.specs.{Prelude.{◌≡◌, option_copied}, HashMap.{get_by_text}};
 ghost use Rattle.fb_network.specs.Prefixes.{nearest};
 
 use crate::path::Path;

@@ -1,6 +1,5 @@
 //! Lists in order, each item once.
-ghost use Rattle.std.specs.Prelude.{◌≡◌, true, Contains, OnOk};
-ghost use Rattle.std.specs.List.Sorted.{IsStrictlySortedBy};
+ghost use Rattle.std.specs.{Prelude.{◌≡◌, true, Contains, OnOk}, List.Sorted.{IsStrictlySortedBy}};
 
 use std::alloc::AllocError;
 

@@ -1,19 +1,12 @@
 -- Each text has one body, that which is computed.
 use Rattle.std.proofs.Common.{◌≡◌, ℕ, List, [], ◌∷◌, ◌++◌, length, Some, None, Result, Ok, Err, true, inl, inr, refl, sym, ap, ap₂, ◌∙◌, subst, arith}
-use Rattle.fb_tree.specs.Text.declared.token.Span.{Span}
-use Rattle.fb_tree.specs.Tree.{DeclTree}
-use Rattle.fb_structured_text.specs.Forms.declared.kind.Kind.TheVariants.{End, NeverClosed}
-use Rattle.fb_structured_text.specs.Forms.declared.lexeme.Lexeme.{Lexeme}
+use Rattle.fb_tree.specs.{Text.declared.token.Span.{Span}, Tree.{DeclTree}}
+use Rattle.fb_structured_text.specs.{Forms.declared.kind.Kind.TheVariants.{End, NeverClosed}, Forms.declared.lexeme.Lexeme.{Lexeme}}
+use Rattle.fb_structured_text.specs.{Forms.Fault.{IsStuck, IsFault}, Forms.Form.{Form, Prefix}, Forms.Lexemes.{lexemes_of, place}}
+use Rattle.fb_structured_text.specs.{Forms.Reading.{Outcome, read}, Forms.Kind.{is_among}, Forms.Upcoming.{closing, closing_at, front, tokens_to_end, unended}}
 use Rattle.fb_parse.specs.Body.{BodyTree, Whole, BrokenAt, IsBodyIn, IsBody, whole_or_broken, body_read, body_in, broken_at, whole_if_over, body_of}
-use Rattle.fb_structured_text.specs.Forms.Fault.{IsStuck, IsFault}
-use Rattle.fb_structured_text.specs.Forms.Form.{Form, Prefix}
 use Rattle.fb_parse.specs.Grammar.{unit}
-use Rattle.fb_structured_text.specs.Forms.Lexemes.{lexemes_of, place}
-use Rattle.fb_structured_text.specs.Forms.Reading.{Outcome, read}
-use Rattle.fb_structured_text.specs.Forms.Kind.{is_among}
-use Rattle.fb_structured_text.specs.Forms.Upcoming.{closing, closing_at, front, tokens_to_end, unended}
-use Rattle.fb_parse.proofs.Predictive.{predictive_unit}
-use Rattle.fb_parse.proofs.Ending.{unit_of_tokens}
+use Rattle.fb_parse.proofs.{Predictive.{predictive_unit}, Ending.{unit_of_tokens}}
 use Rattle.fb_structured_text.proofs.Forms.Ending.{AreTokens, LeavesTokens, Parts, closing_comment, closing_end, closings, ended_pulled, leaves_tokens, no_end, parts_of, read_kept, unended_comment, unended_end, unended_pulled, with_last}
 use Rattle.fb_structured_text.proofs.Forms.Forms.{spelled_of_ok, ok_of_spelled, none_spelled_of_rest, none_spelled_of_err, fault_of_rest, fault_of_err}
 

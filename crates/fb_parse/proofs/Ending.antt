@@ -1,20 +1,14 @@
 -- No part of the grammar of units takes the end of a text or a comment that is never closed.
-use Rattle.std.proofs.Common.{◌≡◌, ℕ, zero, suc, Bool, true, List, [], ◌∷◌, refl}
-use Rattle.std.proofs.lemmas.Bool.{and_parts}
+use Rattle.std.proofs.{Common.{◌≡◌, ℕ, zero, suc, Bool, true, List, [], ◌∷◌, refl}, lemmas.Bool.{and_parts}}
 use Rattle.std.specs.List.{list_all}
-use Rattle.fb_structured_text.specs.Forms.declared.kind.Kind.{Kind}
-use Rattle.fb_structured_text.specs.Forms.Form.{Form}
-use Rattle.fb_structured_text.specs.Forms.Reading.{are_apart}
-use Rattle.fb_structured_text.specs.Forms.Words.{name, names}
-use Rattle.fb_structured_text.proofs.Forms.Ending.{closings, is_without}
-use Rattle.fb_tree.specs.Expression.{Expression}
-use Rattle.fb_tree.specs.Statement.{Statement}
+use Rattle.fb_structured_text.specs.{Forms.declared.kind.Kind.{Kind}, Forms.Form.{Form}, Forms.Reading.{are_apart}, Forms.Words.{name, names}}
 use Rattle.fb_structured_text.specs.Operators.{strengths}
 use Rattle.fb_structured_text.specs.Expression.{levels, expressions, subscripts, flat_part, deep_part, flat_reference, deep_reference, literal, parenthesized, flat_primary, deep_primary, unary, operand, row, rows, expression, reference}
 use Rattle.fb_structured_text.specs.Statement.{int, label, labels, ended, assignment_statement, simple_statement, enclosed, announced, otherwise, arm, arms, if_statement, case, cases, case_statement, for_statement, while_statement, repeat_statement, nested_statement, statement}
+use Rattle.fb_structured_text.proofs.Forms.Ending.{closings, is_without}
+use Rattle.fb_tree.specs.{Expression.{Expression}, Statement.{Statement}}
 use Rattle.fb_sections.specs.Constants.{number, range, ranges, length_of_string, plain_type, array_type, type_use, simple, constant_list, constant}
-use Rattle.fb_sections.specs.Sections.{optional_name}
-use Rattle.fb_sections.specs.Interface.{with_names, event, events, initial, variables, data_variables, internal_variables, fields}
+use Rattle.fb_sections.specs.{Sections.{optional_name}, Interface.{with_names, event, events, initial, variables, data_variables, internal_variables, fields}}
 use Rattle.fb_sections.specs.Network.{parameter, listed_parameters, parameters, optional_parameters, instance, plugs, sockets, blocks, inner_subapplication, subapplications, end, connection, connections}
 use Rattle.fb_sections.specs.Chart.{sent_event, action, actions, state, states}
 use Rattle.fb_sections.specs.SystemParts.{path, mapping, mappings, optional_semicolon, header, resource, device}

@@ -1,6 +1,5 @@
 -- Joining what sections hold, one section after the other.
-use Rattle.std.proofs.Common.{◌≡◌, Bool, true, false, ◌||◌, List, [], ◌∷◌, ◌++◌, map, refl, ap, ◌∙◌, append_assoc}
-use Rattle.std.proofs.lemmas.List.{append-nil, map_push}
+use Rattle.std.proofs.{Common.{◌≡◌, Bool, true, false, ◌||◌, List, [], ◌∷◌, ◌++◌, map, refl, ap, ◌∙◌, append_assoc}, lemmas.List.{append-nil, map_push}}
 use Rattle.fb_tree.proofs.Text.Tests.{or_assoc}
 use Rattle.fb_tree.specs.Tree.{InterfaceTree, NetworkTree, ChartTree}
 use Rattle.fb_parse.specs.declared.contents.Contents.{Contents}

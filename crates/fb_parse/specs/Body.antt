@@ -1,19 +1,10 @@
 -- The body of a text: the tree that its tokens spell, or the place where they spell none.
 use Rattle.std.specs.Prelude.{◌≡◌, ℕ, List, [], ◌∷◌, length, if◌then◌else◌, Some, None, Result, Ok, Err}
-use Rattle.fb_tree.specs.Text.declared.token.Span.{Span}
-use Rattle.fb_tree.specs.Tree.{DeclTree, decl_tree}
-use Rattle.fb_tree.specs.Mentions.{Mentioned, all_mentions_of, nothing_mentioned}
-use Rattle.fb_structured_text.specs.Forms.declared.lexeme.Lexeme.{Lexeme}
-use Rattle.fb_parse.specs.declared.body.Body.{Body}
-use Rattle.fb_parse.specs.declared.body.Body.TheVariants.{Tree as IsTree, Broken}
-use Rattle.fb_structured_text.specs.Forms.Form.{Spells}
-use Rattle.fb_structured_text.specs.Forms.Fault.{IsFault}
-use Rattle.fb_parse.specs.Grammar.{unit}
-use Rattle.fb_structured_text.specs.Forms.Lexemes.{lexemes_of, place}
-use Rattle.fb_structured_text.specs.Forms.Reading.{Outcome, read}
-use Rattle.fb_structured_text.specs.Forms.Upcoming.{closing, front}
-use Rattle.fb_structured_text.specs.Forms.Kind.{same_kind}
+use Rattle.fb_tree.specs.{Text.declared.token.Span.{Span}, Tree.{DeclTree, decl_tree}, Mentions.{Mentioned, all_mentions_of, nothing_mentioned}}
+use Rattle.fb_structured_text.specs.{Forms.declared.lexeme.Lexeme.{Lexeme}, Forms.Form.{Spells}, Forms.Fault.{IsFault}, Forms.Lexemes.{lexemes_of, place}}
+use Rattle.fb_structured_text.specs.{Forms.Reading.{Outcome, read}, Forms.Upcoming.{closing, front}, Forms.Kind.{same_kind}}
 use Rattle.fb_structured_text.specs.Forms.declared.kind.Kind.TheVariants.{End}
+use Rattle.fb_parse.specs.{declared.body.Body.{Body}, declared.body.Body.TheVariants.{Tree as IsTree, Broken}, Grammar.{unit}}
 
 -- a body without where it lies in memory
 pub data BodyTree : Type 0 where

@@ -2,20 +2,14 @@
 use Rattle.std.specs.Prelude.{List, [], ◌∷◌, map, Option, Some, None}
 use Rattle.fb_tree.specs.Text.declared.name.NameUse.{NameUse}
 use Rattle.fb_structured_text.specs.Forms.declared.kind.Kind.TheVariants.{One, OpenBracket, CloseBracket, Ampersand, And, To, Assign, Semicolon, Colon, EcTransitions, EndTransitions, Algorithm, EndAlgorithm, Name, NameIn, NameOn, NameSt}
-use Rattle.fb_structured_text.specs.Forms.Lexemes.{name_use}
-use Rattle.fb_structured_text.specs.Forms.Form.{Form, one, both, either, option, many, as_value}
+use Rattle.fb_structured_text.specs.{Forms.Lexemes.{name_use}, Forms.Form.{Form, one, both, either, option, many, as_value}}
 use Rattle.fb_structured_text.specs.Forms.Words.{key, before, behind, passed}
 unfoldable pub use Rattle.fb_structured_text.specs.Forms.Words.{name}
-use Rattle.fb_tree.specs.Expression.{Expression}
-use Rattle.fb_tree.specs.Statement.{Statement, statement_tree}
-use Rattle.fb_tree.specs.Tree.{ConditionTree, always, on_event, guarded, guard, TransitionTree, AlgorithmTree}
-use Rattle.fb_tree.specs.declared.network.End.{End}
+use Rattle.fb_tree.specs.{Expression.{Expression}, Statement.{Statement, statement_tree}}
+use Rattle.fb_tree.specs.{Tree.{ConditionTree, always, on_event, guarded, guard, TransitionTree, AlgorithmTree}, declared.network.End.{End}}
 use Rattle.fb_parse.specs.declared.chart.AlgorithmBody.{AlgorithmBody}
-use Rattle.fb_sections.specs.Network.{end}
-use Rattle.fb_sections.specs.Sections.{section}
-use Rattle.fb_sections.specs.Skipped.{skipped}
-use Rattle.fb_structured_text.specs.Expression.{levels, expression}
-use Rattle.fb_structured_text.specs.Statement.{statement}
+use Rattle.fb_sections.specs.{Network.{end}, Sections.{section}, Skipped.{skipped}}
+use Rattle.fb_structured_text.specs.{Expression.{levels, expression}, Statement.{statement}}
 
 -- '[' expr ']'
 unfoldable pub bracketed : Form Expression

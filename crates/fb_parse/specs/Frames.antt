@@ -1,9 +1,7 @@
 -- The sections that may stand in a frame.
 use Rattle.fb_structured_text.specs.Forms.Form.{Form}
-use Rattle.fb_parse.specs.declared.frame.Frame.{Frame}
-use Rattle.fb_parse.specs.declared.frame.Frame.TheVariants.{Block, Adapter, Subapplication, Application}
-use Rattle.fb_parse.specs.Contents.{ContentsTree}
-use Rattle.fb_parse.specs.Grammar.{block_section, adapter_section, subapplication_section, application_section}
+use Rattle.fb_parse.specs.{declared.frame.Frame.{Frame}, declared.frame.Frame.TheVariants.{Block, Adapter, Subapplication, Application}}
+use Rattle.fb_parse.specs.{Contents.{ContentsTree}, Grammar.{block_section, adapter_section, subapplication_section, application_section}}
 
 abbrev pub section_of : Frame → Form ContentsTree
 section_of Block = block_section

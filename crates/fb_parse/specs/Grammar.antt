@@ -3,8 +3,7 @@ use Rattle.std.specs.Prelude.{List}
 use Rattle.fb_tree.specs.Text.declared.name.NameUse.{NameUse}
 use Rattle.fb_structured_text.specs.Forms.declared.kind.Kind.{Kind}
 use Rattle.fb_structured_text.specs.Forms.declared.kind.Kind.TheVariants.{FunctionBlock, EndFunctionBlock, Adapter, EndAdapter, Subapplication, EndSubapplication, Application, EndApplication, System, EndSystem, TypeWord, EndType, Colon}
-use Rattle.fb_structured_text.specs.Forms.Form.{Form, both, either, many, as_value}
-use Rattle.fb_structured_text.specs.Forms.Words.{key, before, behind, name}
+use Rattle.fb_structured_text.specs.{Forms.Form.{Form, both, either, many, as_value}, Forms.Words.{key, before, behind, name}}
 unfoldable pub use Rattle.fb_sections.specs.Chart.{states}
 unfoldable pub use Rattle.fb_sections.specs.Interface.{events, data_variables, internal_variables, fields}
 unfoldable pub use Rattle.fb_sections.specs.Network.{plugs, sockets, blocks, subapplications, connections}

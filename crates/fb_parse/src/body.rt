@@ -1,9 +1,7 @@
 //! The body of a text.
 
-ghost use Rattle.fb_structured_text.specs.Forms.Form.{Spells};
-ghost use Rattle.fb_structured_text.specs.Forms.declared.lexeme.Lexeme.{Lexeme};
-ghost use Rattle.fb_parse.specs.Body.{BodyTree, IsBody, body_of};
-ghost use Rattle.fb_parse.specs.Grammar.{unit};
+ghost use Rattle.fb_structured_text.specs.{Forms.Form.{Spells}, Forms.declared.lexeme.Lexeme.{Lexeme}};
+ghost use Rattle.fb_parse.specs.{Body.{BodyTree, IsBody, body_of}, Grammar.{unit}};
 ghost use Rattle.fb_tree.specs.Tree.{DeclTree};
 ghost use Rattle.std.specs.Prelude.{◌≡◌, ◌<◌, ℕ, IfOk, List, length};
 
@@ -23,8 +21,7 @@ pub enum Body {
 impl Body {
     ghost use Rattle.fb_structured_text.specs.Forms.Reading.{read};
     ghost use Rattle.fb_parse.specs.Body.{body_tree, broken_at, mentions_in_body, whole_if_over};
-    ghost use Rattle.fb_tree.specs.Mentions.{mentioned};
-    ghost use Rattle.fb_tree.specs.Tree.{decl_tree};
+    ghost use Rattle.fb_tree.specs.{Mentions.{mentioned}, Tree.{decl_tree}};
 
     /// The body of a text of less than 4 GiB.
     pub fn of_text(alloc: Global, text: &str) -> Result<Body, AllocError>

@@ -1,10 +1,8 @@
 //! Transitions and algorithms (IEC 61499-1, 5.2.1 and 5.2.2).
 
-ghost use Rattle.fb_structured_text.specs.Forms.Gives.{Gives, GivesEach};
-ghost use Rattle.fb_structured_text.specs.Forms.Reading.{read};
+ghost use Rattle.fb_structured_text.specs.{Forms.Gives.{Gives, GivesEach}, Forms.Reading.{read}};
 ghost use Rattle.fb_parse.specs.Chart.{algorithm, algorithm_body, algorithm_body_tree, bracketed, condition, event_condition, joined_test, optional_colon, optional_test, other_language, structured_text, transition, transitions};
-ghost use Rattle.fb_tree.specs.Expression.{expression_tree};
-ghost use Rattle.fb_tree.specs.Statement.{statement_tree};
+ghost use Rattle.fb_tree.specs.{Expression.{expression_tree}, Statement.{statement_tree}};
 ghost use Rattle.fb_tree.specs.Tree.{TransitionTree, algorithm_tree, condition_tree, transition_tree};
 ghost use Rattle.std.specs.Prelude.{◌≡◌, Ok, map, option_map};
 

@@ -1,12 +1,7 @@
 //! Sections between a name and the word that ends a declaration.
 
-ghost use Rattle.fb_structured_text.specs.Forms.Form.{as_value, many};
-ghost use Rattle.fb_structured_text.specs.Forms.Gives.{Gives};
-ghost use Rattle.fb_structured_text.specs.Forms.Reading.{first, read};
-ghost use Rattle.fb_structured_text.specs.Forms.Upcoming.{are_tokens};
-ghost use Rattle.fb_parse.specs.Contents.{ContentsTree, contents_tree, joined};
-ghost use Rattle.fb_parse.specs.Frames.{section_of};
-ghost use Rattle.fb_parse.specs.Grammar.{framed};
+ghost use Rattle.fb_structured_text.specs.{Forms.Form.{as_value, many}, Forms.Gives.{Gives}, Forms.Reading.{first, read}, Forms.Upcoming.{are_tokens}};
+ghost use Rattle.fb_parse.specs.{Contents.{ContentsTree, contents_tree, joined}, Frames.{section_of}, Grammar.{framed}};
 ghost use Rattle.std.specs.Prelude.{◌≡◌, ◌∷◌, []};
 
 use crate::contents::{Contents, joined};

@@ -1,12 +1,9 @@
 //! The sections of declarations, each as what it holds.
 
-ghost use Rattle.fb_structured_text.specs.Forms.Form.{as_value};
-ghost use Rattle.fb_structured_text.specs.Forms.Gives.{Gives};
-ghost use Rattle.fb_structured_text.specs.Forms.Reading.{read};
+ghost use Rattle.fb_structured_text.specs.{Forms.Form.{as_value}, Forms.Gives.{Gives}, Forms.Reading.{read}};
 ghost use Rattle.fb_parse.specs.Contents.{contents_tree, of_instances, of_variables};
 ghost use Rattle.fb_parse.specs.Grammar.{adapter_section, application_section, block_section, chart_section, data_section, interface_section, network_section, service_section, subapplication_section};
-ghost use Rattle.fb_sections.specs.Interface.{internal_variables};
-ghost use Rattle.fb_sections.specs.Network.{subapplications};
+ghost use Rattle.fb_sections.specs.{Interface.{internal_variables}, Network.{subapplications}};
 ghost use Rattle.std.specs.Prelude.{◌≡◌};
 
 use crate::chart::{algorithm, transitions};

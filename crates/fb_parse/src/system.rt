@@ -1,8 +1,6 @@
 //! System configurations.
 
-ghost use Rattle.fb_structured_text.specs.Forms.Form.{as_value, many};
-ghost use Rattle.fb_structured_text.specs.Forms.Gives.{Gives};
-ghost use Rattle.fb_structured_text.specs.Forms.Reading.{read};
+ghost use Rattle.fb_structured_text.specs.{Forms.Form.{as_value, many}, Forms.Gives.{Gives}, Forms.Reading.{read}};
 ghost use Rattle.fb_parse.specs.Grammar.{system, system_section};
 ghost use Rattle.fb_parse.specs.SystemContents.{SystemContentsTree, of_application, of_device, of_mappings, system_contents_tree, system_joined, systems_merged};
 ghost use Rattle.fb_tree.specs.Tree.{application_tree, device_tree, mapping_tree, system_tree};

@@ -1,9 +1,7 @@
 //! The declarations of units.
 
-ghost use Rattle.fb_structured_text.specs.Forms.Gives.{Gives};
-ghost use Rattle.fb_structured_text.specs.Forms.Reading.{read};
-ghost use Rattle.fb_parse.specs.Contents.{contents_tree};
-ghost use Rattle.fb_parse.specs.Grammar.{adapter, application, block, structure, subapplication, type_of, unit};
+ghost use Rattle.fb_structured_text.specs.{Forms.Gives.{Gives}, Forms.Reading.{read}};
+ghost use Rattle.fb_parse.specs.{Contents.{contents_tree}, Grammar.{adapter, application, block, structure, subapplication, type_of, unit}};
 ghost use Rattle.fb_tree.specs.Tree.{application_tree, decl_tree, structure_tree, type_tree};
 ghost use Rattle.std.specs.Prelude.{◌≡◌};
 

@@ -1,20 +1,11 @@
 -- Blocks none of which stands inside another one.
 use Rattle.std.proofs.Common.{ℕ, ◌≡◌, ◌<◌, ◌+◌, ◌==◌, ◌⊎◌, inl, inr, Bool, true, false, cond, List, [], ◌∷◌, ◌++◌, Option, Some, None, refl, sym, ◌∙◌, ap, subst, take, get_or, length, map, append_assoc, arith}
-use Rattle.std.specs.Prelude.{nat_eq, slice_index_or}
-use Rattle.std.specs.Option.{option_or}
-use Rattle.std.specs.Str.{bytes_eq}
-use Rattle.std.proofs.lemmas.Bool.Decides.{Decides-eqb}
-use Rattle.std.proofs.lemmas.List.{map-append}
-use Rattle.fb_placing.specs.Cuts.{home_at}
+use Rattle.std.proofs.{lemmas.Bool.Decides.{Decides-eqb}, lemmas.List.{map-append}}
+use Rattle.std.specs.{Prelude.{nat_eq, slice_index_or}, Option.{option_or}, Str.{bytes_eq}}
+use Rattle.fb_placing.specs.{Cuts.{home_at}, Points.{AreApart, HasNoPoint, IsInside}, declared.homes.Home.{Home}}
 use Rattle.fb_network.specs.Prefixes.{IsPrefix, IsNearest, prefixes, last_there, nearest}
-use Rattle.fb_placing.specs.Points.{AreApart, HasNoPoint, IsInside}
-use Rattle.fb_placing.specs.declared.homes.Home.{Home}
-use Rattle.fb_placing.proofs.FirstEntryLemmas.{first_at-push}
-use Rattle.fb_network.proofs.PrefixLemmas.{nearest_here}
-use Rattle.fb_placing.proofs.InsideLemmas.{prefixes_inside, nearest_inside}
-use Rattle.fb_network.proofs.NearestLemmas.{is_nearest}
-use Rattle.fb_placing.proofs.ListLemmas.{one_more}
-use Rattle.fb_placing.proofs.TableLemmas.{same_text}
+use Rattle.fb_placing.proofs.{FirstEntryLemmas.{first_at-push}, InsideLemmas.{prefixes_inside, nearest_inside}, ListLemmas.{one_more}, TableLemmas.{same_text}}
+use Rattle.fb_network.proofs.{PrefixLemmas.{nearest_here}, NearestLemmas.{is_nearest}}
 
 -- a name is its own prefix, and has no other
 one_prefix : (name : List ℕ) → HasNoPoint name → prefixes name ≡ name ∷ []

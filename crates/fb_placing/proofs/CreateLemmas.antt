@@ -1,24 +1,12 @@
 -- The blocks that are made, in order.
-use Rattle.std.proofs.Common.{ℕ, ◌≡◌, ◌<◌, List, [], ◌∷◌, ◌++◌, length, get_or, map, refl, sym, ap, ◌∙◌, codes}
-use Rattle.std.specs.Prelude.{slice_get}
-use Rattle.std.specs.declared.cmp.Ordering.{Ordering}
-use Rattle.std.specs.declared.cmp.Ordering.TheVariants.{Less, Equal, Greater}
-use Rattle.std.specs.Ordering.{ordering_then}
-use Rattle.std.specs.Cmp.{tied_itself}
-use Rattle.std.specs.Cmp.Lexicographic.{nat_list_cmp_total}
-use Rattle.std.specs.FinMap.{nat_cmp-IsAntisymmetric, slice_cmp-IsAntisymmetric}
-use Rattle.std.proofs.lemmas.Option.{slice_get-get_or}
+use Rattle.std.proofs.{Common.{ℕ, ◌≡◌, ◌<◌, List, [], ◌∷◌, ◌++◌, length, get_or, map, refl, sym, ap, ◌∙◌, codes}, lemmas.Option.{slice_get-get_or}}
+use Rattle.std.specs.{Prelude.{slice_get}, declared.cmp.Ordering.{Ordering}, declared.cmp.Ordering.TheVariants.{Less, Equal, Greater}, Ordering.{ordering_then}}
+use Rattle.std.specs.{Cmp.{tied_itself}, Cmp.Lexicographic.{nat_list_cmp_total}, FinMap.{nat_cmp-IsAntisymmetric, slice_cmp-IsAntisymmetric}}
 use Rattle.fb_tree.specs.Text.Order.{in_order, name_cmp}
 use Rattle.fb_tree.proofs.Text.OrderLemmas.{in_order-members, in_order-sorted}
-use Rattle.fb_network.proofs.Drafts.{once_ordered}
-use Rattle.fb_network.proofs.SameSorted.{same_sorted}
-use Rattle.fb_network.proofs.Texts.{by_parts}
-use Rattle.fb_network.specs.Numbered.{block_or_nothing, link_or_nothing}
-use Rattle.fb_network.specs.Once.{IsOnce}
-use Rattle.fb_network.specs.declared.flat.FlatBlock.{FlatBlock}
-use Rattle.fb_network.specs.declared.flat.Link.{Link}
-use Rattle.fb_placing.specs.PlacedCommands.{create_text, command_cmp, command_cmp_total}
-use Rattle.fb_placing.specs.declared.plan.write_commands.PlacedCommand.{PlacedCommand}
+use Rattle.fb_network.proofs.{Drafts.{once_ordered}, SameSorted.{same_sorted}, Texts.{by_parts}}
+use Rattle.fb_network.specs.{Numbered.{block_or_nothing, link_or_nothing}, Once.{IsOnce}, declared.flat.FlatBlock.{FlatBlock}, declared.flat.Link.{Link}}
+use Rattle.fb_placing.specs.{PlacedCommands.{create_text, command_cmp, command_cmp_total}, declared.plan.write_commands.PlacedCommand.{PlacedCommand}}
 use Rattle.fb_placing.proofs.PlacedLemmas.{command_cmp-IsAntisymmetric}
 
 -- the block of a number that there is

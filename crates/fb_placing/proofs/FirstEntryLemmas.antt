@@ -1,10 +1,7 @@
 -- One more item of those of which the first counts.
 use Rattle.std.proofs.Common.{ℕ, ◌≡◌, ◌<◌, ◌+◌, Bool, true, false, cond, List, [], ◌∷◌, ◌++◌, Option, Some, None, refl, sym, ◌∙◌, ap, take, drop, get_or, length, map, add-one}
-use Rattle.std.specs.Prelude.{option_map, find}
-use Rattle.std.specs.Option.{option_or}
-use Rattle.std.specs.Str.{bytes_eq}
-use Rattle.std.proofs.Math.Seq.{take-suc}
-use Rattle.std.proofs.lemmas.List.{take-append-drop}
+use Rattle.std.proofs.{Math.Seq.{take-suc}, lemmas.List.{take-append-drop}}
+use Rattle.std.specs.{Prelude.{option_map, find}, Option.{option_or}, Str.{bytes_eq}}
 use Rattle.fb_placing.specs.FirstEntry.{first_at}
 
 pub first_at-push : {X Y : Type 0} (key : X → List ℕ) (value : X → Y) (xs : List X) (x : X) (q : List ℕ) → first_at key value (xs ++ x ∷ []) q ≡ option_or (first_at key value xs q) (cond (bytes_eq (key x) q) (Some (value x)) None)

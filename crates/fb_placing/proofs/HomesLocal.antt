@@ -1,16 +1,12 @@
 -- The homes of the blocks of a system depend on the texts alone that declare what is placed.
 use Rattle.std.proofs.Common.{ℕ, ◌≡◌, ◌++◌, List, Option, ◌∙◌, ap, map}
-use Rattle.fb_tree.specs.Text.Order.{names_in_order}
-use Rattle.fb_tree.specs.Tree.{DeclTree, MappingTree}
+use Rattle.fb_tree.specs.{Text.Order.{names_in_order}, Tree.{DeclTree, MappingTree}}
 use Rattle.fb_library.specs.View.{Sources, tree_at}
 use Rattle.fb_network.specs.declared.flat.FlatBlock.{FlatBlock}
 use Rattle.fb_placing.specs.Homes.{PlainHomes, unmatched, block_homes, homeless, homes_of, misplaced, unless_faulty}
-use Rattle.fb_placing.specs.Mappings.{mapping_path, names_used, resource_at}
-use Rattle.fb_placing.specs.Resolved.{leads_nowhere}
-use Rattle.fb_placing.specs.Systems.{applications_in, mappings_in}
+use Rattle.fb_placing.specs.{Mappings.{mapping_path, names_used, resource_at}, Resolved.{leads_nowhere}, Systems.{applications_in, mappings_in}}
 use Rattle.fb_placing.specs.declared.homes.Misplaced.TheVariants.{NoSuchBlock, Unmapped}
-use Rattle.fb_placing.proofs.ListLemmas.{filter_same}
-use Rattle.fb_placing.proofs.ResolvedLocal.{SameInstances, nowhere_same, own_tree}
+use Rattle.fb_placing.proofs.{ListLemmas.{filter_same}, ResolvedLocal.{SameInstances, nowhere_same, own_tree}}
 
 -- homes of blocks by a tree
 abbrev homes_by : Sources → List ℕ → List FlatBlock → Option DeclTree → PlainHomes

@@ -1,11 +1,8 @@
 -- Where there are as many homes as blocks, each block has one.
 use Rattle.std.proofs.Common.{ℕ, suc, ◌≡◌, ◌≤◌, Option, Some, None, List, [], ◌∷◌, cond, length, map, refl, ap, ◌∙◌, arith}
-use Rattle.std.specs.Prelude.{filter, is_none, option_map}
-use Rattle.std.specs.List.{cons_option, filter_map}
-use Rattle.fb_network.specs.declared.flat.FlatBlock.{FlatBlock}
-use Rattle.fb_network.specs.Prefixes.{nearest}
-use Rattle.fb_placing.specs.Homes.{all_homes, block_homes, faulty_homes, homeless, unless_faulty}
-use Rattle.fb_placing.specs.declared.homes.Home.{Home}
+use Rattle.std.specs.{Prelude.{filter, is_none, option_map}, List.{cons_option, filter_map}}
+use Rattle.fb_network.specs.{declared.flat.FlatBlock.{FlatBlock}, Prefixes.{nearest}}
+use Rattle.fb_placing.specs.{Homes.{all_homes, block_homes, faulty_homes, homeless, unless_faulty}, declared.homes.Home.{Home}}
 use Rattle.fb_placing.specs.declared.homes.Misplaced.{Misplaced}
 
 -- no more is given than there are items

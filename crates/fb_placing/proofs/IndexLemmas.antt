@@ -1,18 +1,11 @@
 -- The commands of resources, by items.
 use Rattle.std.proofs.Common.{ℕ, ◌≡◌, ◌<◌, Bool, true, false, cond, List, [], ◌∷◌, ◌++◌, length, get_or, map, refl, sym, ap, ◌∙◌}
-use Rattle.std.specs.Prelude.{filter, slice_get}
-use Rattle.std.specs.Cmp.Lexicographic.{same_text}
-use Rattle.std.specs.Str.{bytes_eq}
 use Rattle.std.proofs.lemmas.Option.{slice_get-map, slice_get_read}
-use Rattle.std.specs.Option.{option_map}
-use Rattle.fb_network.specs.Laid.{text_or_nothing}
-use Rattle.fb_network.specs.PlainFlat.{PlainFlat}
-use Rattle.fb_placing.specs.CommandIndexes.{command_text, command_texts_of, plain_command}
-use Rattle.fb_placing.specs.PlainResource.{PlainResource}
-use Rattle.fb_placing.specs.Resources.{commands_for, resource_plan}
-use Rattle.fb_placing.specs.declared.plan.command_index.CommandIndex.{CommandIndex}
-use Rattle.fb_placing.specs.declared.plan.write_commands.PlacedCommand.{PlacedCommand}
-use Rattle.fb_placing.specs.declared.plan.assigned_commands.AssignedCommand.{AssignedCommand}
+use Rattle.std.specs.{Prelude.{filter, slice_get}, Cmp.Lexicographic.{same_text}, Str.{bytes_eq}, Option.{option_map}}
+use Rattle.fb_network.specs.{Laid.{text_or_nothing}, PlainFlat.{PlainFlat}}
+use Rattle.fb_placing.specs.{CommandIndexes.{command_text, command_texts_of, plain_command}, PlainResource.{PlainResource}}
+use Rattle.fb_placing.specs.{Resources.{commands_for, resource_plan}, declared.plan.command_index.CommandIndex.{CommandIndex}}
+use Rattle.fb_placing.specs.{declared.plan.write_commands.PlacedCommand.{PlacedCommand}, declared.plan.assigned_commands.AssignedCommand.{AssignedCommand}}
 
 -- the items that are for a resource say its commands
 pub items_said : (flat : PlainFlat) (writes : List (List ℕ)) (name : List ℕ) (commands : List AssignedCommand) → command_texts_of flat writes name (map (λ o. o.index) (filter (λ o. bytes_eq name o.resource.now) commands)) ≡ commands_for (map (plain_command flat writes) commands) name

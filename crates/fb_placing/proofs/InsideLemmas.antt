@@ -1,7 +1,6 @@
 -- What stands inside a path that has nothing inside.
-use Rattle.std.proofs.Common.{ℕ, ◌≡◌, ◌==◌, if◌then◌else◌, List, [], ◌∷◌, ◌++◌, Option, None, map, refl, sym, ap, ◌∙◌, append_assoc}
+use Rattle.std.proofs.{Common.{ℕ, ◌≡◌, ◌==◌, if◌then◌else◌, List, [], ◌∷◌, ◌++◌, Option, None, map, refl, sym, ap, ◌∙◌, append_assoc}, lemmas.List.{map-append}}
 use Rattle.std.specs.Option.{option_or}
-use Rattle.std.proofs.lemmas.List.{map-append}
 use Rattle.fb_network.specs.Prefixes.{prefixes, last_there, nearest}
 
 -- the prefixes of what stands inside a path: those of the path, and then those inside

@@ -1,13 +1,8 @@
 -- Instances by their names, and those of applications.
 use Rattle.std.proofs.Common.{ℕ, ◌≡◌, Bool, true, false, cond, List, Option, Some, None, refl, sym, ◌∙◌, ap, subst}
-use Rattle.std.specs.Prelude.{find, option_map}
-use Rattle.std.specs.Option.{option_or}
-use Rattle.std.specs.Str.{bytes_eq}
-use Rattle.std.specs.BTreeMap.{is_at}
-use Rattle.fb_tree.specs.Text.Order.{name_cmp}
+use Rattle.std.specs.{Prelude.{find, option_map}, Option.{option_or}, Str.{bytes_eq}, BTreeMap.{is_at}}
+use Rattle.fb_tree.specs.{Text.Order.{name_cmp}, Tree.{ApplicationTree, InstanceTree, application_tree}, declared.system.Application.{Application}}
 use Rattle.fb_network.proofs.Equals.{same_bytes}
-use Rattle.fb_tree.specs.Tree.{ApplicationTree, InstanceTree, application_tree}
-use Rattle.fb_tree.specs.declared.system.Application.{Application}
 use Rattle.fb_placing.specs.Resolved.{PlainResolved, instance_called, resolved_among, resolved_in}
 
 -- the instances of an application by their names

@@ -1,14 +1,10 @@
 -- First places of names, and the items that are listed there.
 use Rattle.std.proofs.Common.{ℕ, ◌≡◌, ◌<◌, ◌+◌, ◌==◌, Bool, true, false, cond, List, [], ◌∷◌, ◌++◌, Option, Some, length, map, get_or, refl, sym, ◌∙◌, ap, subst, arith, eq-eqb}
-use Rattle.std.specs.Prelude.{◌≢◌, filter, option_map, slice_get}
-use Rattle.std.specs.Str.{bytes_eq}
-use Rattle.std.proofs.lemmas.Bool.Decides.{Decides-eqb}
-use Rattle.std.proofs.lemmas.Option.{slice_get_read}
-use Rattle.std.proofs.lemmas.Slice.Eq.{bytes_eq-Decides}
+use Rattle.std.proofs.{lemmas.Bool.Decides.{Decides-eqb}, lemmas.Option.{slice_get_read}, lemmas.Slice.Eq.{bytes_eq-Decides}}
+use Rattle.std.specs.{Prelude.{◌≢◌, filter, option_map, slice_get}, Str.{bytes_eq}}
 use native.Mathlib.Decide.{dec_lt}
 use Rattle.fb_placing.specs.ByResource.{AreListed, IsFirst, IsFirstPlace, IsNowhere, indexes_more, indexes_of}
-use Rattle.fb_placing.specs.declared.plan.command_index.CommandIndex.{CommandIndex}
-use Rattle.fb_placing.specs.declared.plan.assigned_commands.AssignedCommand.{AssignedCommand}
+use Rattle.fb_placing.specs.{declared.plan.command_index.CommandIndex.{CommandIndex}, declared.plan.assigned_commands.AssignedCommand.{AssignedCommand}}
 use Rattle.fb_placing.proofs.TableLemmas.{same_text}
 
 -- the name does not stand at this place either

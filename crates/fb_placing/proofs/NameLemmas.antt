@@ -2,9 +2,7 @@
 use Rattle.std.proofs.Common.{ℕ, zero, suc, ◌≡◌, ◌<◌, ◌+◌, List, [], ◌∷◌, ◌++◌, refl, sym, ◌∙◌, ap, append_assoc, map, take, get_or, length, add-one, arith}
 use Rattle.std.proofs.Math.Seq.{take-suc}
 use Rattle.fb_tree.specs.Text.declared.name.NameUse.{NameUse}
-use Rattle.fb_network.specs.Places.{dotted}
-use Rattle.fb_network.specs.Network.{Place}
-use Rattle.fb_network.specs.Printed.{printed}
+use Rattle.fb_network.specs.{Places.{dotted}, Network.{Place}, Printed.{printed}}
 use Rattle.fb_placing.specs.Mappings.{names_used}
 
 pub printed-push : (x : List ℕ) (xs : Place) (y : List ℕ) → printed ((x ∷ xs) ++ y ∷ []) ≡ dotted (printed (x ∷ xs)) y

@@ -1,12 +1,10 @@
 -- Commands that compare equal are one.
 use Rattle.std.proofs.Common.{ℕ, ◌≡◌, true, List}
-use Rattle.std.specs.declared.cmp.Ordering.TheVariants.{Equal}
-use Rattle.std.specs.FinMap.{IsAntisymmetric, nat_cmp-IsAntisymmetric, slice_cmp-IsAntisymmetric}
+use Rattle.std.specs.{declared.cmp.Ordering.TheVariants.{Equal}, FinMap.{IsAntisymmetric, nat_cmp-IsAntisymmetric, slice_cmp-IsAntisymmetric}}
 use Rattle.std.specs.Ordering.{eq_by_cmp, ordering_then}
 use Rattle.fb_tree.proofs.Text.OrderLemmas.{is_equal, both_equal}
 use Rattle.fb_tree.specs.Text.Order.{name_cmp}
-use Rattle.fb_placing.specs.PlacedCommands.{command_cmp}
-use Rattle.fb_placing.specs.declared.plan.write_commands.PlacedCommand.{PlacedCommand}
+use Rattle.fb_placing.specs.{PlacedCommands.{command_cmp}, declared.plan.write_commands.PlacedCommand.{PlacedCommand}}
 
 exact_text : (x y : List ℕ) → name_cmp x y ≡ Equal → x ≡ y
 exact_text x y e = slice_cmp-IsAntisymmetric nat_cmp-IsAntisymmetric x y e

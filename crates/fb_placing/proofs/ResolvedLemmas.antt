@@ -1,10 +1,7 @@
 -- Instances with their unit, and where names lead to from them.
 use Rattle.std.proofs.Common.{ℕ, suc, ◌≡◌, ◌<◌, List, [], ◌∷◌, ◌++◌, Option, Some, None, refl, sym, ◌∙◌, ap, drop, get_or, length, map, arith}
 use Rattle.std.proofs.Math.Seq.{drop-cons}
-use Rattle.std.specs.Borrow.{Bor}
-use Rattle.std.specs.Prelude.{find, is_none, is_some, not, option_and_then, option_map}
-use Rattle.std.specs.Option.{option_map_or}
-use Rattle.std.specs.Str.{bytes_eq}
+use Rattle.std.specs.{Borrow.{Bor}, Prelude.{find, is_none, is_some, not, option_and_then, option_map}, Option.{option_map_or}, Str.{bytes_eq}}
 use Rattle.fb_tree.specs.Tree.{ApplicationTree, InstanceTree}
 use Rattle.fb_library.specs.View.{Sources}
 use Rattle.fb_placing.specs.Resolved.{PlainResolved, application_called, instance_called, leads_nowhere, path_names, resolved_among, resolved_at, resolved_beyond, resolved_from, resolved_in, resolved_inside}

@@ -1,19 +1,13 @@
 -- What stands at the paths of a system depends on the texts alone in which it is declared.
 use Rattle.std.proofs.Common.{ℕ, ◌≡◌, Bool, true, false, not, cond, List, [], ◌∷◌, Option, Some, None, refl, sym, ◌∙◌, ap, subst}
-use Rattle.std.specs.Prelude.{Contains, find, option_map, option_and_then}
-use Rattle.std.specs.Option.{option_map_or}
-use Rattle.std.specs.Str.{bytes_eq}
-use Rattle.std.specs.FinMap.{get, slice_cmp-IsAntisymmetric, nat_cmp-IsAntisymmetric}
-use Rattle.std.specs.Cmp.Lexicographic.{nat_list_cmp_total}
+use Rattle.std.specs.{Prelude.{Contains, find, option_map, option_and_then}, Option.{option_map_or}, Str.{bytes_eq}}
+use Rattle.std.specs.{FinMap.{get, slice_cmp-IsAntisymmetric, nat_cmp-IsAntisymmetric}, Cmp.Lexicographic.{nat_list_cmp_total}}
 use Rattle.fb_tree.specs.Text.Order.{name_cmp}
-use Rattle.fb_tree.proofs.Text.OrderLemmas.{in_order-members}
 use Rattle.fb_tree.specs.Tree.{ApplicationTree, DeclTree, InstanceTree, block_type, adapter_type, subapplication_type, system_configuration, structure_type}
 use Rattle.fb_tree.specs.Mentions.{instance_types, types_in}
-use Rattle.fb_library.specs.View.{Sources, tree_at, tree_of, parts_at, parts_in}
-use Rattle.fb_library.specs.Rests.{Rests, itself}
+use Rattle.fb_tree.proofs.{Text.OrderLemmas.{in_order-members}, Text.Members.{contains_nothing, contains_here, contains_later, contains_flat_map, contains_map}}
+use Rattle.fb_library.specs.{View.{Sources, tree_at, tree_of, parts_at, parts_in}, Rests.{Rests, itself}, Local.{AgreeFar}}
 use Rattle.fb_library.proofs.Locality.{part_mention, rests_more}
-use Rattle.fb_library.specs.Local.{AgreeFar}
-use Rattle.fb_tree.proofs.Text.Members.{contains_nothing, contains_here, contains_later, contains_flat_map, contains_map}
 use Rattle.fb_placing.specs.FirstEntry.{first_at}
 use Rattle.fb_placing.specs.Resolved.{PlainResolved, application_called, inner_instances, is_placed, leads_nowhere, resolved_among, resolved_at, resolved_beyond, resolved_from, resolved_inside}
 use Rattle.fb_placing.specs.Systems.{applications_in}

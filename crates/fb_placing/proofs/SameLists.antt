@@ -1,6 +1,5 @@
 -- Two lists that are compared item by item.
-use Rattle.std.proofs.Common.{◌≡◌, ℕ, ◌<◌, ◌+◌, List, ◌∷◌, map, length, drop, get_or, sym, ap, add-one, ◌∙◌, arith}
-use Rattle.std.proofs.Math.Seq.{drop-cons}
+use Rattle.std.proofs.{Common.{◌≡◌, ℕ, ◌<◌, ◌+◌, List, ◌∷◌, map, length, drop, get_or, sym, ap, add-one, ◌∙◌, arith}, Math.Seq.{drop-cons}}
 use Rattle.fb_network.proofs.Alike.{SameLeftBy}
 
 -- what is left of a list, at an item

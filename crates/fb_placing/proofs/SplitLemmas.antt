@@ -1,7 +1,6 @@
 -- Paths in two parts: their names, and their prefixes.
 use Rattle.std.proofs.Common.{ℕ, ◌≡◌, ◌==◌, Bool, true, false, cond, List, [], ◌∷◌, ◌++◌, refl, ◌∙◌, ap}
-use Rattle.fb_placing.specs.Points.{HasNoPoint}
-use Rattle.fb_placing.specs.Resolved.{on_first, path_names}
+use Rattle.fb_placing.specs.{Points.{HasNoPoint}, Resolved.{on_first, path_names}}
 
 -- the names of a name are that name
 pub one_name : (name : List ℕ) → HasNoPoint name → path_names name ≡ name ∷ []

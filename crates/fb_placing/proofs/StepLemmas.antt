@@ -1,8 +1,7 @@
 -- One item further in lists of commands and of resources.
 use Rattle.std.proofs.Common.{ℕ, ◌≡◌, ◌<◌, ◌+◌, List, [], ◌∷◌, ◌++◌, sym, ◌∙◌, ap, take, get_or, length, map, append_assoc, append-nil}
 use Rattle.std.proofs.lemmas.Grind.{flat_map-append}
-use Rattle.fb_tree.specs.Tree.{device_tree}
-use Rattle.fb_tree.specs.declared.system.Device.{Device}
+use Rattle.fb_tree.specs.{Tree.{device_tree}, declared.system.Device.{Device}}
 use Rattle.fb_placing.proofs.ListLemmas.{map-push, one_more}
 use Rattle.fb_placing.specs.Resources.{device_resources, resources_of}
 

@@ -1,9 +1,6 @@
 -- Texts that stand for nothing yet, and texts that stand for something.
-use Rattle.std.proofs.Common.{ℕ, ◌≡◌, Bool, true, false, cond, List, Option, Some, None, is_some, refl, sym, ◌∙◌, ap}
-use Rattle.std.specs.Map.{update}
-use Rattle.std.specs.Option.{option_or}
-use Rattle.std.specs.Str.{bytes_eq}
-use Rattle.std.proofs.lemmas.Slice.Eq.{bytes_eq-Decides}
+use Rattle.std.proofs.{Common.{ℕ, ◌≡◌, Bool, true, false, cond, List, Option, Some, None, is_some, refl, sym, ◌∙◌, ap}, lemmas.Slice.Eq.{bytes_eq-Decides}}
+use Rattle.std.specs.{Map.{update}, Option.{option_or}, Str.{bytes_eq}}
 
 -- texts that pass the test are equal
 pub same_text : (a b : List ℕ) → bytes_eq a b ≡ true → a ≡ b

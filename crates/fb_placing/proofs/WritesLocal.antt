@@ -1,15 +1,11 @@
 -- The commands that set parameters depend on the texts alone that declare what is placed.
 use Rattle.std.proofs.Common.{ℕ, ◌≡◌, ◌++◌, List, [], ◌∷◌, Option, Some, None, refl, ◌∙◌, ap, map}
-use Rattle.std.specs.Prelude.{unwrap_or}
-use Rattle.std.specs.FinMap.{get}
-use Rattle.std.specs.List.{flat_map}
+use Rattle.std.specs.{Prelude.{unwrap_or}, FinMap.{get}, List.{flat_map}}
 use Rattle.fb_tree.specs.Text.Order.{in_order}
 use Rattle.fb_library.specs.View.{Sources, text_or_empty, tree_at}
-use Rattle.fb_placing.specs.Resolved.{PlainResolved, path_names, resolved_at}
-use Rattle.fb_placing.specs.Systems.{applications_in}
-use Rattle.fb_placing.specs.declared.homes.Home.{Home}
-use Rattle.fb_placing.proofs.ResolvedLocal.{SameInstances, at_same, declared_alike}
+use Rattle.fb_placing.specs.{Resolved.{PlainResolved, path_names, resolved_at}, Systems.{applications_in}, declared.homes.Home.{Home}}
 use Rattle.fb_placing.specs.PlacedCommands.{home_commands, command_cmp, commands_at, write_command, write_commands}
+use Rattle.fb_placing.proofs.ResolvedLocal.{SameInstances, at_same, declared_alike}
 
 flat_map_same : {X Y : Type 0} (f g : X → List Y) (xs : List X) → ((x : X) → f x ≡ g x) → flat_map f xs ≡ flat_map g xs
 flat_map_same f g [] same = refl

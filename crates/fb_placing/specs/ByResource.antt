@@ -1,9 +1,7 @@
 -- The items for each resource.
 use Rattle.std.specs.Prelude.{ℕ, ◌≡◌, ◌≢◌, ◌<◌, ◌==◌, if◌then◌else◌, List, [], ◌∷◌, ◌++◌, Option, Some, Vec, filter, map, option_map, slice_get}
-use Rattle.std.specs.Str.{bytes_eq}
-use Rattle.std.specs.declared.alloc.Global.{Global}
-use Rattle.fb_placing.specs.declared.plan.command_index.CommandIndex.{CommandIndex}
-use Rattle.fb_placing.specs.declared.plan.assigned_commands.AssignedCommand.{AssignedCommand}
+use Rattle.std.specs.{Str.{bytes_eq}, declared.alloc.Global.{Global}}
+use Rattle.fb_placing.specs.{declared.plan.command_index.CommandIndex.{CommandIndex}, declared.plan.assigned_commands.AssignedCommand.{AssignedCommand}}
 
 -- the name stands at the place, and at none before
 abbrev pub IsFirstPlace : List (List ℕ) → ℕ → List ℕ → Type 0

@@ -1,19 +1,11 @@
 -- Plans by numbers.
 use Rattle.std.specs.Prelude.{ℕ, List, map, slice_get}
-use Rattle.fb_network.specs.Laid.{text_or_nothing}
-use Rattle.fb_network.specs.Numbered.{block_numbered, link_numbered}
-use Rattle.fb_network.specs.PlainFlat.{PlainFlat}
-use Rattle.fb_network.specs.declared.flat.FlatBlock.{FlatBlock}
+use Rattle.fb_network.specs.{Laid.{text_or_nothing}, Numbered.{block_numbered, link_numbered}, PlainFlat.{PlainFlat}, declared.flat.FlatBlock.{FlatBlock}}
 use Rattle.fb_network.specs.declared.flat.Link.{Link}
-use Rattle.fb_placing.specs.PlacedCommands.{create_text}
-use Rattle.fb_placing.specs.ResourceCommand.{ResourceCommand}
-use Rattle.fb_placing.specs.SystemCommands.{connection_text, start_text}
-use Rattle.fb_placing.specs.PlainPlan.{PlainPlan}
-use Rattle.fb_placing.specs.PlainResource.{PlainResource}
-use Rattle.fb_placing.specs.declared.plan.command_index.CommandIndex.{CommandIndex}
+use Rattle.fb_placing.specs.{PlacedCommands.{create_text}, ResourceCommand.{ResourceCommand}, SystemCommands.{connection_text, start_text}}
+use Rattle.fb_placing.specs.{PlainPlan.{PlainPlan}, PlainResource.{PlainResource}, declared.plan.command_index.CommandIndex.{CommandIndex}}
 use Rattle.fb_placing.specs.declared.plan.command_index.CommandIndex.TheVariants.{Create, Write, Connect, Start}
-use Rattle.fb_placing.specs.declared.plan.command_index.ResourceCommands.{ResourceCommands}
-use Rattle.fb_placing.specs.declared.plan.assigned_commands.AssignedCommand.{AssignedCommand}
+use Rattle.fb_placing.specs.{declared.plan.command_index.ResourceCommands.{ResourceCommands}, declared.plan.assigned_commands.AssignedCommand.{AssignedCommand}}
 
 -- the command that makes a block
 abbrev pub block_text : FlatBlock → List ℕ

@@ -3,10 +3,7 @@ use Rattle.std.specs.Prelude.{ℕ, List, Option}
 use Rattle.fb_tree.specs.Tree.{DeclTree}
 use Rattle.fb_library.specs.View.{Sources}
 use Rattle.fb_network.specs.PlainFlat.{PlainFlat}
-use Rattle.fb_placing.specs.Systems.{applications_in, devices_in}
-use Rattle.fb_placing.specs.declared.homes.Home.{Home}
-use Rattle.fb_placing.specs.SystemCommands.{system_commands}
-use Rattle.fb_placing.specs.PlainResource.{PlainResource}
+use Rattle.fb_placing.specs.{Systems.{applications_in, devices_in}, declared.homes.Home.{Home}, SystemCommands.{system_commands}, PlainResource.{PlainResource}}
 use Rattle.fb_placing.specs.Resources.{resource_plans, resources_of}
 
 -- each resource with its commands, in the order of the text, where blocks have these homes

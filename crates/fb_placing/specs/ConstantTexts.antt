@@ -1,10 +1,6 @@
 -- Constants as they are written.
-use Rattle.std.specs.Prelude.{ℕ, List, [], Result, Ok, Err, slice_range}
-use Rattle.std.specs.List.{flat_map}
-use Rattle.fb_tree.specs.Text.Tokens.{tokens_of}
-use Rattle.fb_tree.specs.Text.declared.token.Span.{Span}
-use Rattle.fb_tree.specs.Text.declared.token.Token.{Token}
-use Rattle.fb_tree.specs.Tree.{ConstantTree, constant_span}
+use Rattle.std.specs.{Prelude.{ℕ, List, [], Result, Ok, Err, slice_range}, List.{flat_map}}
+use Rattle.fb_tree.specs.{Text.Tokens.{tokens_of}, Text.declared.token.Span.{Span}, Text.declared.token.Token.{Token}, Tree.{ConstantTree, constant_span}}
 use Rattle.fb_library.specs.Parts.{part}
 
 abbrev pub token_text : List ℕ → Token → List ℕ

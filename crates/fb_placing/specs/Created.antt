@@ -1,8 +1,6 @@
 -- The blocks that are made.
-use Rattle.fb_network.specs.Numbered.{block_numbered}
-use Rattle.fb_network.specs.PlainFlat.{PlainFlat}
-use Rattle.fb_placing.specs.PlacedCommands.{create_text}
-use Rattle.fb_placing.specs.declared.plan.create_commands.Created.{Created}
+use Rattle.fb_network.specs.{Numbered.{block_numbered}, PlainFlat.{PlainFlat}}
+use Rattle.fb_placing.specs.{PlacedCommands.{create_text}, declared.plan.create_commands.Created.{Created}}
 use Rattle.fb_placing.specs.declared.plan.write_commands.PlacedCommand.{PlacedCommand}
 
 -- the line that makes a block

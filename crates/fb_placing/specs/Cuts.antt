@@ -1,10 +1,7 @@
 -- Links between blocks with different homes.
-use Rattle.std.specs.Prelude.{ℕ, Bool, true, false, not, List, filter, Option, Some, None}
-use Rattle.std.specs.Str.{bytes_eq}
-use Rattle.fb_network.specs.declared.flat.Link.{Link}
-use Rattle.fb_placing.specs.declared.homes.Home.{Home}
-use Rattle.fb_placing.specs.FirstEntry.{first_at}
-use Rattle.fb_network.specs.Prefixes.{nearest}
+use Rattle.std.specs.{Prelude.{ℕ, Bool, true, false, not, List, filter, Option, Some, None}, Str.{bytes_eq}}
+use Rattle.fb_network.specs.{declared.flat.Link.{Link}, Prefixes.{nearest}}
+use Rattle.fb_placing.specs.{declared.homes.Home.{Home}, FirstEntry.{first_at}}
 
 -- the home of the block at a path
 abbrev pub home_at : List Home → List ℕ → Option (List ℕ)

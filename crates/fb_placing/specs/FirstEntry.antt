@@ -1,6 +1,5 @@
 -- What texts stand for, where the first of several counts.
-use Rattle.std.specs.Prelude.{ℕ, List, Option, option_map, find}
-use Rattle.std.specs.Str.{bytes_eq}
+use Rattle.std.specs.{Prelude.{ℕ, List, Option, option_map, find}, Str.{bytes_eq}}
 
 -- what a text means: the value of the first item that has the text as its key
 abbrev pub first_at : {X Y : Type 0} → (X → List ℕ) → (X → Y) → List X → List ℕ → Option Y

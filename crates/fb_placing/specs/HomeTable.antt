@@ -1,10 +1,6 @@
 -- Homes by the paths of blocks.
-use Rattle.std.specs.Prelude.{ℕ, ◌≡◌, List, Option, Some, option_map}
-use Rattle.std.specs.Borrow.{Bor}
-use Rattle.std.specs.HashMap.{HashMap, get_by}
-use Rattle.std.specs.Str.{bytes_eq}
-use Rattle.std.specs.declared.hash.FoldHasher.{FoldHasher}
-use Rattle.std.specs.declared.hash.BuildHasherDefault.{BuildHasherDefault}
+use Rattle.std.specs.{Prelude.{ℕ, ◌≡◌, List, Option, Some, option_map}, Borrow.{Bor}, HashMap.{HashMap, get_by}, Str.{bytes_eq}}
+use Rattle.std.specs.{declared.hash.FoldHasher.{FoldHasher}, declared.hash.BuildHasherDefault.{BuildHasherDefault}}
 
 abbrev pub ByPath : Type 0
 ByPath = HashMap (Bor (List ℕ)) (Bor (List ℕ)) (BuildHasherDefault FoldHasher)

@@ -1,19 +1,12 @@
 -- The homes of the blocks of a system, and what is misplaced (IEC 61499-1, clause 7: system configurations).
-use Rattle.std.specs.Prelude.{ℕ, List, [], ◌∷◌, ◌++◌, map, filter, Option, is_none, option_map}
-use Rattle.std.specs.List.{filter_map}
-use Rattle.fb_tree.specs.Text.Order.{names_in_order}
-use Rattle.fb_tree.specs.Tree.{ApplicationTree, DeclTree, MappingTree}
+use Rattle.std.specs.{Prelude.{ℕ, List, [], ◌∷◌, ◌++◌, map, filter, Option, is_none, option_map}, List.{filter_map}}
+use Rattle.fb_tree.specs.{Text.Order.{names_in_order}, Tree.{ApplicationTree, DeclTree, MappingTree}}
 use Rattle.fb_library.specs.View.{Sources, tree_at}
-use Rattle.fb_network.specs.declared.flat.FlatBlock.{FlatBlock}
-use Rattle.fb_placing.specs.declared.homes.Home.{Home}
-use Rattle.fb_placing.specs.declared.homes.Homes.{Homes}
+use Rattle.fb_network.specs.{declared.flat.FlatBlock.{FlatBlock}, Prefixes.{nearest}}
+use Rattle.fb_placing.specs.{declared.homes.Home.{Home}, declared.homes.Homes.{Homes}, declared.homes.Misplaced.{Misplaced}}
+use Rattle.fb_placing.specs.{declared.homes.Misplaced.TheVariants.{Unmapped, NoSuchBlock}, Mappings.{mapping_path, names_used, resource_at}}
+use Rattle.fb_placing.specs.{Resolved.{leads_nowhere}, Systems.{applications_in, mappings_in}}
 use Rattle.fb_placing.specs.declared.homes.Homes.TheVariants as homes
-use Rattle.fb_placing.specs.declared.homes.Misplaced.{Misplaced}
-use Rattle.fb_placing.specs.declared.homes.Misplaced.TheVariants.{Unmapped, NoSuchBlock}
-use Rattle.fb_network.specs.Prefixes.{nearest}
-use Rattle.fb_placing.specs.Mappings.{mapping_path, names_used, resource_at}
-use Rattle.fb_placing.specs.Resolved.{leads_nowhere}
-use Rattle.fb_placing.specs.Systems.{applications_in, mappings_in}
 
 -- homes, or what is misplaced
 pub data PlainHomes : Type 0 where

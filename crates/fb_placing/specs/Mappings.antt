@@ -1,11 +1,8 @@
 -- Mappings, and the resources that paths are mapped to (IEC 61499-1, clause 7: system configurations).
 use Rattle.std.specs.Prelude.{ℕ, List, map, Option}
-use Rattle.fb_tree.specs.Text.declared.name.NameUse.{NameUse}
-use Rattle.fb_tree.specs.Tree.{MappingTree}
-use Rattle.fb_network.specs.Places.{dotted}
-use Rattle.fb_network.specs.Printed.{printed}
+use Rattle.fb_tree.specs.{Text.declared.name.NameUse.{NameUse}, Tree.{MappingTree}}
+use Rattle.fb_network.specs.{Places.{dotted}, Printed.{printed}, Prefixes.{nearest}}
 use Rattle.fb_placing.specs.FirstEntry.{first_at}
-use Rattle.fb_network.specs.Prefixes.{nearest}
 
 abbrev pub names_used : List NameUse → List (List ℕ)
 names_used names = map (λ n. n.name) names

@@ -1,19 +1,11 @@
 -- Commands in the order of the places that they are about.
-use Rattle.std.specs.Prelude.{ℕ, List, [], ◌∷◌, ◌++◌, map, Option, Some, None, option_map, codes}
-use Rattle.std.specs.declared.cmp.Ordering.{Ordering}
-use Rattle.std.specs.List.{filter_map, flat_map}
-use Rattle.std.specs.Ordering.{on, then_cmp}
-use Rattle.std.specs.Cmp.{IsTotalOrder, then_total, on_total}
-use Rattle.std.specs.Cmp.Lexicographic.{nat_list_cmp_total}
-use Rattle.fb_tree.specs.Text.Order.{in_order, name_cmp}
-use Rattle.fb_tree.specs.Tree.{ApplicationTree, ParameterTree}
+use Rattle.std.specs.{Prelude.{ℕ, List, [], ◌∷◌, ◌++◌, map, Option, Some, None, option_map, codes}, declared.cmp.Ordering.{Ordering}}
+use Rattle.std.specs.{List.{filter_map, flat_map}, Ordering.{on, then_cmp}, Cmp.{IsTotalOrder, then_total, on_total}, Cmp.Lexicographic.{nat_list_cmp_total}}
+use Rattle.fb_tree.specs.{Text.Order.{in_order, name_cmp}, Tree.{ApplicationTree, ParameterTree}}
 use Rattle.fb_library.specs.View.{Sources, text_or_empty}
-use Rattle.fb_network.specs.Places.{dotted}
-use Rattle.fb_network.specs.declared.flat.FlatBlock.{FlatBlock}
-use Rattle.fb_placing.specs.Resolved.{PlainResolved, path_names, resolved_at}
-use Rattle.fb_placing.specs.declared.homes.Home.{Home}
-use Rattle.fb_placing.specs.declared.plan.write_commands.PlacedCommand.{PlacedCommand}
-use Rattle.fb_placing.specs.ConstantTexts.{written}
+use Rattle.fb_network.specs.{Places.{dotted}, declared.flat.FlatBlock.{FlatBlock}}
+use Rattle.fb_placing.specs.{Resolved.{PlainResolved, path_names, resolved_at}, declared.homes.Home.{Home}}
+use Rattle.fb_placing.specs.{declared.plan.write_commands.PlacedCommand.{PlacedCommand}, ConstantTexts.{written}}
 
 -- by the bytes of the places, then of the commands, then of the resources
 abbrev pub command_cmp : PlacedCommand → PlacedCommand → Ordering

@@ -5,8 +5,7 @@ use Rattle.fb_tree.specs.Tree.{ApplicationTree, DeclTree, InstanceTree, block_ty
 use Rattle.fb_tree.specs.declared.network.Role.{Role}
 use Rattle.fb_tree.specs.declared.network.Role.TheVariants as roles
 use Rattle.fb_library.specs.View.{Sources, tree_at}
-use Rattle.fb_placing.specs.declared.paths.resolver.Resolved.{Resolved}
-use Rattle.fb_placing.specs.FirstEntry.{first_at}
+use Rattle.fb_placing.specs.{declared.paths.resolver.Resolved.{Resolved}, FirstEntry.{first_at}}
 
 abbrev pub on_first : ℕ → List (List ℕ) → List (List ℕ)
 on_first b [] = []

@@ -1,12 +1,9 @@
 -- What a resolver of paths has looked into.
-use Rattle.std.specs.Prelude.{ℕ, ◌≡◌, List, Option, option_map, refl}
-use Rattle.std.specs.Coded.{Coded, code_by, coded×, coded_list, coded_ℕ}
+use Rattle.std.specs.{Prelude.{ℕ, ◌≡◌, List, Option, option_map, refl}, Coded.{Coded, code_by, coded×, coded_list, coded_ℕ}}
 use Rattle.std.specs.FinMap as map
 use Rattle.fb_library.specs.View.{Sources, tree_at}
-use Rattle.fb_placing.specs.Resolved.{PlainResolved, path_names, plain_resolved, resolved_at}
-use Rattle.fb_placing.specs.Systems.{applications_in}
-use Rattle.fb_placing.specs.Tables.{AreApplications, AreUnits, Instances}
-use Rattle.fb_placing.specs.declared.paths.resolver.Resolved.{Resolved}
+use Rattle.fb_placing.specs.{Resolved.{PlainResolved, path_names, plain_resolved, resolved_at}, Systems.{applications_in}}
+use Rattle.fb_placing.specs.{Tables.{AreApplications, AreUnits, Instances}, declared.paths.resolver.Resolved.{Resolved}}
 
 -- a system, and the texts that it is read from
 pub record ResolverView : Type 0 where

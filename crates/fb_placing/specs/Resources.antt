@@ -1,11 +1,8 @@
 -- The resources of a system, and the commands of each (IEC 61499-1, clause 7: system configurations).
-use Rattle.std.specs.Prelude.{ℕ, List, map, filter}
-use Rattle.std.specs.List.{flat_map}
-use Rattle.std.specs.Str.{bytes_eq}
+use Rattle.std.specs.{Prelude.{ℕ, List, map, filter}, List.{flat_map}, Str.{bytes_eq}}
 use Rattle.fb_tree.specs.Tree.{DeviceTree}
 use Rattle.fb_network.specs.Places.{dotted}
-use Rattle.fb_placing.specs.PlainResource.{PlainResource}
-use Rattle.fb_placing.specs.ResourceCommand.{ResourceCommand}
+use Rattle.fb_placing.specs.{PlainResource.{PlainResource}, ResourceCommand.{ResourceCommand}}
 
 -- the resources of a device, as DEVICE.RESOURCE
 abbrev pub device_resources : DeviceTree → List (List ℕ)

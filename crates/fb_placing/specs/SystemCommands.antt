@@ -1,16 +1,10 @@
 -- The commands of a system, each with the resource that it is for.
-use Rattle.std.specs.Prelude.{ℕ, List, ◌∷◌, ◌++◌, map, Option, None, option_map, if◌then◌else◌, codes}
-use Rattle.std.specs.List.{filter_map}
+use Rattle.std.specs.{Prelude.{ℕ, List, ◌∷◌, ◌++◌, map, Option, None, option_map, if◌then◌else◌, codes}, List.{filter_map}}
 use Rattle.fb_tree.specs.Tree.{ApplicationTree}
 use Rattle.fb_library.specs.View.{Sources}
-use Rattle.fb_network.specs.PlainFlat.{PlainFlat}
-use Rattle.fb_network.specs.declared.flat.Link.{Link}
-use Rattle.fb_placing.specs.Cuts.{home_at, same_home}
-use Rattle.fb_network.specs.Prefixes.{nearest}
-use Rattle.fb_placing.specs.declared.homes.Home.{Home}
-use Rattle.fb_placing.specs.declared.plan.write_commands.PlacedCommand.{PlacedCommand}
-use Rattle.fb_placing.specs.ResourceCommand.{ResourceCommand}
-use Rattle.fb_placing.specs.PlacedCommands.{create_commands, write_commands}
+use Rattle.fb_network.specs.{PlainFlat.{PlainFlat}, declared.flat.Link.{Link}, Prefixes.{nearest}}
+use Rattle.fb_placing.specs.{Cuts.{home_at, same_home}, declared.homes.Home.{Home}, declared.plan.write_commands.PlacedCommand.{PlacedCommand}}
+use Rattle.fb_placing.specs.{ResourceCommand.{ResourceCommand}, PlacedCommands.{create_commands, write_commands}}
 
 abbrev pub without_place : PlacedCommand → ResourceCommand
 without_place l = record { resource = l.resource; command = l.command }

@@ -1,15 +1,9 @@
 -- Tables of instances by their names.
-use Rattle.std.specs.Prelude.{ℕ, ◌≡◌, List, Option, Some, String, option_map}
-use Rattle.std.specs.HashMap.{HashMap, get_by_text}
-use Rattle.std.specs.Borrow.{Bor}
-use Rattle.std.specs.declared.alloc.Global.{Global}
-use Rattle.std.specs.declared.hash.FoldHasher.{FoldHasher}
-use Rattle.std.specs.declared.hash.BuildHasherDefault.{BuildHasherDefault}
-use Rattle.fb_tree.specs.Tree.{ApplicationTree, InstanceTree, instance_tree}
-use Rattle.fb_tree.specs.declared.network.Instance.{Instance}
+use Rattle.std.specs.{Prelude.{ℕ, ◌≡◌, List, Option, Some, String, option_map}, HashMap.{HashMap, get_by_text}, Borrow.{Bor}, declared.alloc.Global.{Global}}
+use Rattle.std.specs.{declared.hash.FoldHasher.{FoldHasher}, declared.hash.BuildHasherDefault.{BuildHasherDefault}}
+use Rattle.fb_tree.specs.{Tree.{ApplicationTree, InstanceTree, instance_tree}, declared.network.Instance.{Instance}}
 use Rattle.fb_library.specs.View.{Sources, tree_at}
-use Rattle.fb_placing.specs.FirstEntry.{first_at}
-use Rattle.fb_placing.specs.Resolved.{inner_instances, instance_called}
+use Rattle.fb_placing.specs.{FirstEntry.{first_at}, Resolved.{inner_instances, instance_called}}
 
 abbrev pub Instances : Type 0
 Instances = HashMap (String Global) (Bor Instance) (BuildHasherDefault FoldHasher)

@@ -1,7 +1,5 @@
 -- Texts in parts.
-use Rattle.std.specs.Prelude.{ℕ, List}
-use Rattle.std.specs.Borrow.{Bor}
-use Rattle.std.specs.List.{flat_map}
+use Rattle.std.specs.{Prelude.{ℕ, List}, Borrow.{Bor}, List.{flat_map}}
 
 -- the text that the parts make
 abbrev pub joined : List (Bor (List ℕ)) → List ℕ

@@ -1,8 +1,5 @@
 //! Tables of what texts mean, where the first of several counts.
-ghost use Rattle.std.specs.Prelude.{◌≡◌, ℕ, List, Some, None, if◌then◌else◌, OnOk, string_bytes};
-ghost use Rattle.std.specs.HashMap.{get_by_text};
-ghost use Rattle.std.specs.Option.{option_or};
-ghost use Rattle.std.specs.Str.{bytes_eq};
+ghost use Rattle.std.specs.{Prelude.{◌≡◌, ℕ, List, Some, None, if◌then◌else◌, OnOk, string_bytes}, HashMap.{get_by_text}, Option.{option_or}, Str.{bytes_eq}};
 
 use std::alloc::AllocError;
 use std::collections::HashMap;

@@ -1,14 +1,10 @@
 //! The homes of the blocks of a system.
-ghost use Rattle.std.specs.Prelude.{◌≡◌, [], ◌∷◌, ◌++◌, length, List, map, IfOk, OnOk};
-ghost use Rattle.std.specs.HashMap.{get_by_text};
+ghost use Rattle.std.specs.{Prelude.{◌≡◌, [], ◌∷◌, ◌++◌, length, List, map, IfOk, OnOk}, HashMap.{get_by_text}};
 ghost use Rattle.fb_tree.specs.Tree.{mapping_tree};
 ghost use Rattle.fb_library.specs.View.{tree_at};
-ghost use Rattle.fb_network.specs.Numbered.{block_numbered};
-ghost use Rattle.fb_network.specs.declared.flat.FlatBlock.{FlatBlock};
-ghost use Rattle.fb_placing.specs.Homes.{unmatched, block_home, block_homes, homeless, homes_of, misplaced, plain_homes};
-ghost use Rattle.fb_placing.specs.Mappings.{names_used, resource_at};
-ghost use Rattle.fb_placing.specs.Systems.{applications_in, mappings_in};
-ghost use Rattle.fb_placing.specs.declared.homes.Misplaced.TheVariants.{NoSuchBlock, Unmapped};
+ghost use Rattle.fb_network.specs.{Numbered.{block_numbered}, declared.flat.FlatBlock.{FlatBlock}};
+ghost use Rattle.fb_placing.specs.{Homes.{unmatched, block_home, block_homes, homeless, homes_of, misplaced, plain_homes}, Mappings.{names_used, resource_at}};
+ghost use Rattle.fb_placing.specs.{Systems.{applications_in, mappings_in}, declared.homes.Misplaced.TheVariants.{NoSuchBlock, Unmapped}};
 
 pub(crate) mod cuts;
 pub(crate) mod end_finder;

@@ -44,8 +44,7 @@ impl Drop for Plan {
 }
 
 impl Model for Plan {
-    ghost use Rattle.fb_placing.specs.PlainPlan.{PlainPlan};
-    ghost use Rattle.fb_placing.specs.CommandIndexes.{plain_plan};
+    ghost use Rattle.fb_placing.specs.{PlainPlan.{PlainPlan}, CommandIndexes.{plain_plan}};
 
     ghost Value = { PlainPlan };
 

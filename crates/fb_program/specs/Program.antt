@@ -1,11 +1,7 @@
 -- What a run of the program has said.
 use Rattle.std.specs.Prelude.{◌≡◌, ◌≤◌, ◌⊎◌, ℕ, [], List}
-use Rattle.fb_wire.specs.History.BenchView.{new_bench}
-use Rattle.fb_wire.specs.Script.{IsPrefixOf, script}
-use Rattle.fb_wire.specs.History.Limits.{Bounds}
-use Rattle.fb_program.specs.Words.{Asks}
-use Rattle.fb_program.specs.declared.asked.Settings.TheVariants.{Host, Script, Serve}
-use Rattle.fb_program.specs.declared.program.Outcome.{Outcome}
+use Rattle.fb_wire.specs.{History.BenchView.{new_bench}, Script.{IsPrefixOf, script}, History.Limits.{Bounds}}
+use Rattle.fb_program.specs.{Words.{Asks}, declared.asked.Settings.TheVariants.{Host, Script, Serve}, declared.program.Outcome.{Outcome}}
 use Rattle.fb_program.specs.declared.program.Outcome.TheVariants.{Ended, Hosts, Serves}
 
 -- what a new workbench of these limits says to the bytes, to caller 1

@@ -1,11 +1,9 @@
 -- What the program's words ask for.
-use Rattle.std.specs.Prelude.{◌≡◌, ◌≤◌, ℕ, [], ◌∷◌, List, Option, Some, codes, option_map, true}
-use Rattle.std.specs.Str.Parse.{digits_value, without_leading_plus}
+use Rattle.std.specs.{Prelude.{◌≡◌, ◌≤◌, ℕ, [], ◌∷◌, List, Option, Some, codes, option_map, true}, Str.Parse.{digits_value, without_leading_plus}}
 use Rattle.clap.specs.Words.{App, Row, Rule, Text, new_app, new_rule, one_of, subcommand_of, with_rule, with_subcommand}
 use Rattle.clap.specs.declared.builder.value_parser.ValueParser.TheVariants as reads
 use Rattle.fb_wire.specs.History.Limits.{Bounds}
-use Rattle.fb_program.specs.declared.asked.Settings.{Settings}
-use Rattle.fb_program.specs.declared.asked.Settings.TheVariants.{Host, Script, Serve}
+use Rattle.fb_program.specs.{declared.asked.Settings.{Settings}, declared.asked.Settings.TheVariants.{Host, Script, Serve}}
 
 -- an option `--name N` with N from 1 to a most, and its default
 abbrev pub number_option : Text → ℕ → Text → Rule

@@ -3,12 +3,9 @@ use Rattle.std.proofs.Common.{◌≡◌, Bool, true, false, not, ◌&&◌, ◌||
 use Rattle.std.proofs.lemmas.Bool.{eqb-true}
 use Rattle.std.specs.Prelude.{filter}
 use Rattle.fb_tree.proofs.Text.Tests.{and_false, or_false}
-use Rattle.fb_grammar.specs.Kind.{is_among, same_kind, code_of}
-use Rattle.fb_grammar.specs.declared.kind.Kind.{Kind}
+use Rattle.fb_grammar.specs.{Kind.{is_among, same_kind, code_of}, declared.kind.Kind.{Kind}}
 use Rattle.fb_grammar.specs.declared.kind.Kind.TheVariants.{FunctionBlock, EndFunctionBlock, Adapter, EndAdapter, Subapplication, EndSubapplication, System, EndSystem, Application, EndApplication, Device, EndDevice, Resource, EndResource, Mappings, EndMappings, EventInput, EventOutput, EndEvent, Var, VarInput, VarOutput, EndVar, Plugs, EndPlugs, Sockets, EndSockets, Fbs, EndFbs, Subapps, EndSubapps, EventConnections, DataConnections, AdapterConnections, EndConnections, EcStates, EndStates, EcTransitions, EndTransitions, Algorithm, EndAlgorithm, Service, EndService, With, To, Array, Of, If, Then, Elsif, Else, EndIf, Case, EndCase, For, By, Do, EndFor, While, EndWhile, Repeat, Until, EndRepeat, Exit, Return, And, Or, Xor, Not, Mod, True, False, NameIn, NameOn, NameSt, Name, Zero, One, Number, RealNumber, TypedTruth, TypedInteger, TypedBits, TypedFree, TypedOther, Text, Assign, LessEqual, GreaterEqual, NotEqual, Power, Arrow, Range, Semicolon, Colon, Comma, Point, OpenParenthesis, CloseParenthesis, OpenBracket, CloseBracket, Equal, Less, Greater, Plus, Minus, Times, Divide, Ampersand, Other, TypeWord, EndType, Struct, EndStruct, End, NeverClosed}
-use Rattle.fb_grammar.specs.declared.lexeme.Lexeme.{Lexeme}
-use Rattle.fb_grammar.specs.Reading.{Outcome, ◌>>=◌, read_one, read_each, read}
-use Rattle.fb_grammar.specs.Upcoming.{are_over, front}
+use Rattle.fb_grammar.specs.{declared.lexeme.Lexeme.{Lexeme}, Reading.{Outcome, ◌>>=◌, read_one, read_each, read}, Upcoming.{are_over, front}}
 use Rattle.fb_sections.specs.Skipped.{all_kinds, others, skipped}
 
 -- what stands behind all tokens

@@ -1,13 +1,9 @@
 -- The forms of states and their actions.
 use Rattle.std.specs.Prelude.{List, Some, None}
-use Rattle.fb_grammar.specs.declared.kind.Kind.TheVariants.{EcStates, EndStates, Arrow, Colon, Semicolon}
-use Rattle.fb_grammar.specs.Form.{Form, both, either, option, as_value}
+use Rattle.fb_grammar.specs.{declared.kind.Kind.TheVariants.{EcStates, EndStates, Arrow, Colon, Semicolon}, Form.{Form, both, either, option, as_value}}
 use Rattle.fb_grammar.specs.Words.{key, before, behind, optional_list, list, name}
-use Rattle.fb_tree.specs.Tree.{StateTree}
-use Rattle.fb_tree.specs.declared.chart.Action.{Action}
-use Rattle.fb_tree.specs.declared.network.End.{End}
-use Rattle.fb_sections.specs.Network.{end}
-use Rattle.fb_sections.specs.Sections.{section}
+use Rattle.fb_tree.specs.{Tree.{StateTree}, declared.chart.Action.{Action}, declared.network.End.{End}}
+use Rattle.fb_sections.specs.{Network.{end}, Sections.{section}}
 
 -- '->' end
 unfoldable pub sent_event : Form End

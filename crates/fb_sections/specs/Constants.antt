@@ -1,20 +1,14 @@
 -- The forms of types and constants.
 use Rattle.std.specs.Prelude.{List, [], ◌∷◌, Option, Some, None}
-use Rattle.fb_tree.specs.Text.declared.name.NameUse.{NameUse}
+use Rattle.fb_tree.specs.{Text.declared.name.NameUse.{NameUse}, Tree.{ConstantTree, one_value, value_list}, declared.constant.Literal.{Literal}}
+use Rattle.fb_tree.specs.{declared.constant.LiteralForm.{LiteralForm}, declared.constant.LiteralForm.TheVariants.{Bit, Whole}}
+use Rattle.fb_tree.specs.{declared.constant.Simple.{Simple}, declared.interface.TypeForm.TheVariants.{Plain, Sized, Array as ArrayForm}}
+use Rattle.fb_tree.specs.declared.interface.TypeUse.{TypeUse}
 use Rattle.fb_grammar.specs.declared.kind.Kind.{Kind}
 use Rattle.fb_grammar.specs.declared.kind.Kind.TheVariants.{Array, Of, Range, OpenBracket, CloseBracket, Plus, Minus, TypedTruth, TypedInteger, TypedBits, TypedFree, TypedOther, Text, True, False}
-use Rattle.fb_grammar.specs.declared.lexeme.Lexeme.{Lexeme}
-use Rattle.fb_grammar.specs.Form.{Form, one, both, either, option, as_value}
-use Rattle.fb_grammar.specs.Words.{key, behind, passed, list, name}
-use Rattle.fb_tree.specs.Tree.{ConstantTree, one_value, value_list}
-use Rattle.fb_tree.specs.declared.constant.Literal.{Literal}
-use Rattle.fb_tree.specs.declared.constant.LiteralForm.{LiteralForm}
-use Rattle.fb_tree.specs.declared.constant.LiteralForm.TheVariants.{Bit, Whole}
-use Rattle.fb_tree.specs.declared.constant.Simple.{Simple}
-use Rattle.fb_tree.specs.declared.constant.Simple.TheVariants as simple_value
-use Rattle.fb_tree.specs.declared.interface.TypeForm.TheVariants.{Plain, Sized, Array as ArrayForm}
-use Rattle.fb_tree.specs.declared.interface.TypeUse.{TypeUse}
+use Rattle.fb_grammar.specs.{declared.lexeme.Lexeme.{Lexeme}, Form.{Form, one, both, either, option, as_value}, Words.{key, behind, passed, list, name}}
 use Rattle.fb_grammar.specs.Literals.{number_kinds, literal_form, literal_use, across}
+use Rattle.fb_tree.specs.declared.constant.Simple.TheVariants as simple_value
 
 -- with a sign `0` and `1` are numbers as others are
 abbrev pub signed_form : LiteralForm → LiteralForm

@@ -1,16 +1,12 @@
 -- The forms of events and variables.
 use Rattle.std.specs.Prelude.{List, Option}
-use Rattle.fb_tree.specs.Text.declared.name.NameUse.{NameUse}
-use Rattle.fb_grammar.specs.declared.kind.Kind.TheVariants.{EventInput, EventOutput, EndEvent, VarInput, VarOutput, Var, EndVar, Struct, EndStruct, With, Colon, Semicolon, Assign}
-use Rattle.fb_grammar.specs.Form.{Form, both, either, option, as_value}
-use Rattle.fb_grammar.specs.Words.{key, before, behind, optional_list, name, names}
-use Rattle.fb_tree.specs.Tree.{EventTree, VariablesTree, ConstantTree}
-use Rattle.fb_tree.specs.declared.interface.Side.{Side}
-use Rattle.fb_tree.specs.declared.interface.Side.TheVariants as side
+use Rattle.fb_tree.specs.{Text.declared.name.NameUse.{NameUse}, Tree.{EventTree, VariablesTree, ConstantTree}, declared.interface.Side.{Side}}
 use Rattle.fb_tree.specs.declared.interface.Section.{Section}
+use Rattle.fb_grammar.specs.declared.kind.Kind.TheVariants.{EventInput, EventOutput, EndEvent, VarInput, VarOutput, Var, EndVar, Struct, EndStruct, With, Colon, Semicolon, Assign}
+use Rattle.fb_grammar.specs.{Form.{Form, both, either, option, as_value}, Words.{key, before, behind, optional_list, name, names}}
+use Rattle.fb_tree.specs.declared.interface.Side.TheVariants as side
 use Rattle.fb_tree.specs.declared.interface.Section.TheVariants as where_declared
-use Rattle.fb_sections.specs.Constants.{type_use, constant}
-use Rattle.fb_sections.specs.Sections.{optional_name, section}
+use Rattle.fb_sections.specs.{Constants.{type_use, constant}, Sections.{optional_name, section}}
 
 -- ['WITH' name {',' name}]
 unfoldable pub with_names : Form (List NameUse)

@@ -1,17 +1,12 @@
 -- The forms of instances and connections.
 use Rattle.std.specs.Prelude.{List, []}
 use Rattle.fb_grammar.specs.declared.kind.Kind.TheVariants.{Plugs, EndPlugs, Sockets, EndSockets, Fbs, EndFbs, Subapps, EndSubapps, EventConnections, DataConnections, AdapterConnections, EndConnections, To, Colon, Semicolon, Point, Assign, OpenParenthesis, CloseParenthesis}
-use Rattle.fb_grammar.specs.Form.{Form, both, either, as_value}
-use Rattle.fb_grammar.specs.Words.{key, before, behind, optional_list, list, name}
-use Rattle.fb_tree.specs.Tree.{ParameterTree, InstanceTree}
-use Rattle.fb_tree.specs.declared.network.Connection.{Connection}
-use Rattle.fb_tree.specs.declared.network.End.{End}
-use Rattle.fb_tree.specs.declared.network.Role.{Role}
+use Rattle.fb_grammar.specs.{Form.{Form, both, either, as_value}, Words.{key, before, behind, optional_list, list, name}}
+use Rattle.fb_tree.specs.{Tree.{ParameterTree, InstanceTree}, declared.network.Connection.{Connection}, declared.network.End.{End}}
+use Rattle.fb_tree.specs.{declared.network.Role.{Role}, declared.network.Sort.{Sort}}
 use Rattle.fb_tree.specs.declared.network.Role.TheVariants as role
-use Rattle.fb_tree.specs.declared.network.Sort.{Sort}
 use Rattle.fb_tree.specs.declared.network.Sort.TheVariants as sort
-use Rattle.fb_sections.specs.Constants.{constant}
-use Rattle.fb_sections.specs.Sections.{optional_name, section}
+use Rattle.fb_sections.specs.{Constants.{constant}, Sections.{optional_name, section}}
 
 -- name ':=' constant
 unfoldable pub parameter : Form ParameterTree

@@ -1,13 +1,8 @@
 -- What sections have in common.
 use Rattle.std.specs.Prelude.{List, [], ◌∷◌, length, Option}
 use Rattle.fb_tree.specs.Text.declared.name.NameUse.{NameUse}
-use Rattle.fb_grammar.specs.Kind.{name_kinds}
-use Rattle.fb_grammar.specs.declared.kind.Kind.{Kind}
-use Rattle.fb_grammar.specs.declared.lexeme.Lexeme.{Lexeme}
-use Rattle.fb_grammar.specs.Form.{Form, option, many}
-use Rattle.fb_grammar.specs.Reading.{Outcome, read_one, read_each}
-use Rattle.fb_grammar.specs.Repetition.{read_both, read_as}
-use Rattle.fb_grammar.specs.Words.{key, before, behind, name}
+use Rattle.fb_grammar.specs.{Kind.{name_kinds}, declared.kind.Kind.{Kind}, declared.lexeme.Lexeme.{Lexeme}, Form.{Form, option, many}}
+use Rattle.fb_grammar.specs.{Reading.{Outcome, read_one, read_each}, Repetition.{read_both, read_as}, Words.{key, before, behind, name}}
 
 -- [KIND name]
 unfoldable pub optional_name : Kind → Form (Option NameUse)

@@ -1,13 +1,9 @@
 -- The forms of mappings, resources and devices.
 use Rattle.std.specs.Prelude.{List, map}
-use Rattle.fb_tree.specs.Text.declared.name.NameUse.{NameUse}
+use Rattle.fb_tree.specs.{Text.declared.name.NameUse.{NameUse}, Tree.{ParameterTree, parameter_tree, MappingTree, ResourceTree, DeviceTree}}
 use Rattle.fb_grammar.specs.declared.kind.Kind.TheVariants.{Mappings, EndMappings, Resource, EndResource, Device, EndDevice, NameOn, Colon, Semicolon, Point}
-use Rattle.fb_grammar.specs.Form.{Form, both, option, many, as_value}
-use Rattle.fb_grammar.specs.Words.{key, before, behind, passed, separated, name}
-use Rattle.fb_tree.specs.Tree.{ParameterTree, parameter_tree, MappingTree, ResourceTree, DeviceTree}
-use Rattle.fb_sections.specs.declared.system_parts.HeaderParts.{HeaderParts}
-use Rattle.fb_sections.specs.Network.{optional_parameters}
-use Rattle.fb_sections.specs.Sections.{section}
+use Rattle.fb_grammar.specs.{Form.{Form, both, option, many, as_value}, Words.{key, before, behind, passed, separated, name}}
+use Rattle.fb_sections.specs.{declared.system_parts.HeaderParts.{HeaderParts}, Network.{optional_parameters}, Sections.{section}}
 
 -- name {'.' name}
 unfoldable pub path : Form (List NameUse)

@@ -1,10 +1,8 @@
 //! States and their actions.
 
-ghost use Rattle.fb_grammar.specs.Gives.{Gives, GivesEach};
-ghost use Rattle.fb_grammar.specs.Reading.{read};
+ghost use Rattle.fb_grammar.specs.{Gives.{Gives, GivesEach}, Reading.{read}};
 ghost use Rattle.fb_sections.specs.Chart.{action, actions, sent_event, state, states};
-ghost use Rattle.fb_tree.specs.Tree.{StateTree, state_tree};
-ghost use Rattle.fb_tree.specs.declared.chart.Action.{Action};
+ghost use Rattle.fb_tree.specs.{Tree.{StateTree, state_tree}, declared.chart.Action.{Action}};
 ghost use Rattle.std.specs.Prelude.{◌≡◌, map};
 
 use crate::connecting::end;

@@ -1,7 +1,6 @@
 //! Connections and their ends.
 
-ghost use Rattle.fb_grammar.specs.Gives.{Gives};
-ghost use Rattle.fb_grammar.specs.Reading.{read};
+ghost use Rattle.fb_grammar.specs.{Gives.{Gives}, Reading.{read}};
 ghost use Rattle.fb_sections.specs.Network.{connection, connections, end};
 ghost use Rattle.fb_tree.specs.declared.network.Connection.{Connection};
 ghost use Rattle.std.specs.Prelude.{◌≡◌, IfOk};

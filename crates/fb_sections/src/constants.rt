@@ -1,10 +1,8 @@
 //! Types and constants.
 
-ghost use Rattle.fb_grammar.specs.Gives.{Gives, Passes};
-ghost use Rattle.fb_grammar.specs.Reading.{read};
+ghost use Rattle.fb_grammar.specs.{Gives.{Gives, Passes}, Reading.{read}};
 ghost use Rattle.fb_sections.specs.Constants.{array_type, constant, constant_list, number, plain_type, range, ranges, signed_form, simple, type_use};
-ghost use Rattle.fb_tree.specs.Tree.{constant_tree};
-ghost use Rattle.fb_tree.specs.declared.constant.Simple.{Simple};
+ghost use Rattle.fb_tree.specs.{Tree.{constant_tree}, declared.constant.Simple.{Simple}};
 ghost use Rattle.std.specs.Prelude.{◌≡◌};
 
 use fb_grammar::{

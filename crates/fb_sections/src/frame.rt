@@ -1,9 +1,6 @@
 //! What sections have in common.
 
-ghost use Rattle.fb_grammar.specs.Gives.{Gives, GivesEach};
-ghost use Rattle.fb_grammar.specs.Reading.{read};
-ghost use Rattle.fb_grammar.specs.Lexemes.{name_use};
-ghost use Rattle.fb_grammar.specs.Upcoming.{are_tokens};
+ghost use Rattle.fb_grammar.specs.{Gives.{Gives, GivesEach}, Reading.{read}, Lexemes.{name_use}, Upcoming.{are_tokens}};
 ghost use Rattle.fb_sections.specs.Sections.{optional_name, read_section};
 ghost use Rattle.std.specs.Prelude.{◌≡◌, ◌∷◌, [], map};
 

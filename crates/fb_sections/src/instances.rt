@@ -1,7 +1,6 @@
 //! Instances with their parameters.
 
-ghost use Rattle.fb_grammar.specs.Gives.{GivesEach};
-ghost use Rattle.fb_grammar.specs.Reading.{read};
+ghost use Rattle.fb_grammar.specs.{Gives.{GivesEach}, Reading.{read}};
 ghost use Rattle.fb_sections.specs.Network.{blocks, instance, listed_parameters, optional_parameters, parameter, parameters, plugs, sockets, inner_subapplication, subapplications};
 ghost use Rattle.fb_tree.specs.Tree.{InstanceTree, ParameterTree, instance_tree, parameter_tree};
 ghost use Rattle.std.specs.Prelude.{◌≡◌, map};

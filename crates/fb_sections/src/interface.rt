@@ -1,7 +1,6 @@
 //! Events and variables.
 
-ghost use Rattle.fb_grammar.specs.Gives.{Gives, GivesEach};
-ghost use Rattle.fb_grammar.specs.Reading.{read};
+ghost use Rattle.fb_grammar.specs.{Gives.{Gives, GivesEach}, Reading.{read}};
 ghost use Rattle.fb_sections.specs.Interface.{data_variables, event, events, fields, initial, internal_variables, variables, with_names};
 ghost use Rattle.fb_tree.specs.Tree.{EventTree, VariablesTree, constant_tree, event_tree, variables_tree};
 ghost use Rattle.std.specs.Prelude.{◌≡◌, map, option_map};

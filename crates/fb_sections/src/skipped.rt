@@ -1,7 +1,6 @@
 //! What is skipped token by token.
 
-ghost use Rattle.fb_grammar.specs.Gives.{Passes};
-ghost use Rattle.fb_grammar.specs.Reading.{read};
+ghost use Rattle.fb_grammar.specs.{Gives.{Passes}, Reading.{read}};
 ghost use Rattle.fb_sections.specs.Skipped.{service, skipped};
 ghost use Rattle.std.specs.Prelude.{◌≡◌, Ok};
 

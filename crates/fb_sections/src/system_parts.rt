@@ -1,8 +1,6 @@
 //! Mappings, resources and devices.
 
-ghost use Rattle.fb_grammar.specs.Gives.{Gives, GivesEach};
-ghost use Rattle.fb_grammar.specs.Reading.{read};
-ghost use Rattle.fb_grammar.specs.Lexemes.{name_use};
+ghost use Rattle.fb_grammar.specs.{Gives.{Gives, GivesEach}, Reading.{read}, Lexemes.{name_use}};
 ghost use Rattle.fb_sections.specs.SystemParts.{device, header, header_tree, mapping, mappings, optional_semicolon, path, resource};
 ghost use Rattle.fb_tree.specs.Tree.{MappingTree, ResourceTree, device_tree, mapping_tree, parameter_tree, resource_tree};
 ghost use Rattle.std.specs.Prelude.{◌≡◌, Ok, map};

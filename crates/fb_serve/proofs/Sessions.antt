@@ -1,11 +1,8 @@
 -- What the steps of a desk with a seat leave in its receipts.
 use Rattle.std.proofs.Common.{◌≡◌, [], ◌∷◌, ◌++◌, ◌∙◌, List, ap, append-nil, append_assoc, map, refl, subst, sym}
 use Rattle.fb_wire.specs.History.Machine.{Call, Reply}
-use Rattle.fb_wire.specs.Bench.Calls.{AskedCall, AskedCheckpoint, BehindHistory, Checked, Exchange, FullHistory, Replied, SharedHistory}
-use Rattle.fb_wire.specs.Conversations.{Runs}
-use Rattle.fb_shared.specs.Locked.Runs.{IsRun}
-use Rattle.fb_shared.specs.Locked.Seats.{IsReceiptOf, ReceiptView, SeatView, seat_after}
-use Rattle.fb_shared.specs.Sitting.{SeatedView, SitterStep}
+use Rattle.fb_wire.specs.{Bench.Calls.{AskedCall, AskedCheckpoint, BehindHistory, Checked, Exchange, FullHistory, Replied, SharedHistory}, Conversations.{Runs}}
+use Rattle.fb_shared.specs.{Locked.Runs.{IsRun}, Locked.Seats.{IsReceiptOf, ReceiptView, SeatView, seat_after}, Sitting.{SeatedView, SitterStep}}
 use Rattle.fb_serve.specs.Sessions.{answered_before, answered_in, call_shown}
 
 -- these receipts were added, of the answered calls

@@ -1,7 +1,6 @@
 -- The receipts of a caller's calls.
 use Rattle.std.specs.Prelude.{◌≡◌, ◌++◌, List}
-use Rattle.fb_shared.specs.Locked.Runs.{IsRun}
-use Rattle.fb_shared.specs.Locked.Seats.{ReceiptView, SeatView}
+use Rattle.fb_shared.specs.{Locked.Runs.{IsRun}, Locked.Seats.{ReceiptView, SeatView}}
 
 -- Receipts of calls with the seat, one after another, were added at the end, and the seat goes on where they lead.
 abbrev pub AddsRun : SeatView → List ReceiptView → SeatView → List ReceiptView → Type 0

@@ -1,6 +1,5 @@
 -- What the server prints.
-use Rattle.std.specs.Prelude.{◌≡◌, ◌<◌, ◌^◌, ℕ, [], ◌∷◌, ◌++◌, Bool, List, codes, take, true}
-use Rattle.std.specs.Fmt.{decimal}
+use Rattle.std.specs.{Prelude.{◌≡◌, ◌<◌, ◌^◌, ℕ, [], ◌∷◌, ◌++◌, Bool, List, codes, take, true}, Fmt.{decimal}}
 
 -- where it listens
 abbrev pub greeting : ℕ → List ℕ

@@ -1,7 +1,6 @@
 -- What the receipts of a session say of its calls.
 use Rattle.std.specs.Prelude.{[], ◌∷◌, List}
-use Rattle.fb_wire.specs.History.Machine.{Call, Reply}
-use Rattle.fb_wire.specs.Bench.Calls.{AskedCall, AskedCheckpoint, BehindHistory, Exchange, FullHistory, Replied}
+use Rattle.fb_wire.specs.{History.Machine.{Call, Reply}, Bench.Calls.{AskedCall, AskedCheckpoint, BehindHistory, Exchange, FullHistory, Replied}}
 use Rattle.fb_shared.specs.Locked.Seats.{ReceiptView}
 
 -- a call with its reply stands in front; one that was refused does not, and no checkpoint

@@ -1,8 +1,7 @@
 -- Receipts that show all calls of their callers.
 use Rattle.std.specs.Prelude.{◌≡◌, ◌≤◌, ℕ, All, List}
 use Rattle.fb_wire.specs.History.BenchView.{BenchView, turns_of}
-use Rattle.fb_shared.specs.Locked.Closing.{AreReceiptsRight, receipts_of}
-use Rattle.fb_shared.specs.Locked.Seats.{ReceiptView, SeatView}
+use Rattle.fb_shared.specs.{Locked.Closing.{AreReceiptsRight, receipts_of}, Locked.Seats.{ReceiptView, SeatView}}
 
 -- no call was made with the seat
 abbrev pub IsNew : SeatView → Type 0

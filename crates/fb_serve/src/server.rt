@@ -1,8 +1,7 @@
 //! The server, on the listener that it gets.
 ghost use Rattle.std.specs.Prelude.{◌≡◌, ◌+◌, if◌then◌else◌, All, IfOk, OnOk, false, is_ok, true};
 ghost use Rattle.fb_shared.specs.Locked.Book.{IsBookOf};
-ghost use Rattle.fb_serve.specs.Lines.{SaysLines};
-ghost use Rattle.fb_serve.specs.Shown.{IsNew, ShowsAll};
+ghost use Rattle.fb_serve.specs.{Lines.{SaysLines}, Shown.{IsNew, ShowsAll}};
 
 use crate::callers::{NewSeat, Results, run_callers};
 use crate::say::greet;

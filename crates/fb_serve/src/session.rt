@@ -1,9 +1,7 @@
 //! One session.
 ghost use Rattle.std.specs.Prelude.{◌≡◌, [], false, map};
-ghost use Rattle.fb_wire.specs.Ends.{IsConversation, streams};
-ghost use Rattle.fb_wire.specs.Conversations.{Runs};
-ghost use Rattle.fb_shared.specs.Locked.Runs.{IsRun};
-ghost use Rattle.fb_shared.specs.Sitting.{SitterStep};
+ghost use Rattle.fb_wire.specs.{Ends.{IsConversation, streams}, Conversations.{Runs}};
+ghost use Rattle.fb_shared.specs.{Locked.Runs.{IsRun}, Sitting.{SitterStep}};
 ghost use Rattle.fb_serve.specs.Sessions.{answered_in, call_shown};
 
 use fb_shared::{Receipt, Seat, Seated, Shared};

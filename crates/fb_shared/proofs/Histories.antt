@@ -1,20 +1,12 @@
 -- Numbers and turns in a history, receipts that show all calls of a caller, and seats that fit.
 use Rattle.std.proofs.Common.{◌≡◌, ◌==◌, ℕ, zero, suc, ◌+◌, ◌-◌, ◌<◌, ◌≤◌, ◌⊎◌, ◌↔◌, inl, inr, List, [], ◌∷◌, Bool, true, false, cond, Option, Some, None, refl, ap, sym, ◌∙◌, subst, arith, nat_lt, nat_le, length, take, slice_get}
-use Rattle.std.proofs.Math.Nat.{eq-or-lt_of_le}
-use Rattle.std.proofs.Math.Seq.{take-length}
-use Rattle.std.proofs.lemmas.Bool.{eqb-true, eq-eqb}
-use Rattle.std.proofs.lemmas.Bool.Decides.{nat_tests}
-use Rattle.std.proofs.lemmas.List.{take-take}
-use Rattle.std.proofs.lemmas.List.Elements.{recursion_from_All, Contains-append_right}
-use Rattle.std.proofs.lemmas.List.Sums.{sum_by-cons, sum_by-take-le}
-use Rattle.std.proofs.lemmas.Option.{slice_get_within}
+use Rattle.std.proofs.{Math.Nat.{eq-or-lt_of_le}, Math.Seq.{take-length}, lemmas.Bool.{eqb-true, eq-eqb}, lemmas.Bool.Decides.{nat_tests}}
+use Rattle.std.proofs.{lemmas.List.{take-take}, lemmas.List.Elements.{recursion_from_All, Contains-append_right}}
+use Rattle.std.proofs.{lemmas.List.Sums.{sum_by-cons, sum_by-take-le}, lemmas.Option.{slice_get_within}}
 use Rattle.std.specs.List.{sum_by, AllByRecursion, Contains}
 use Rattle.fb_locked.specs.History.BenchView.{Record, BenchView, all_turns, last_number, on_page, record_at, record_numbered, turns_of, AreTurns}
-use Rattle.fb_locked.specs.declared.locked.SharedRefused.{SharedRefused}
-use Rattle.fb_locked.specs.declared.locked.SharedRefused.TheVariants.{SeatDiffers, Behind, HistoryFull}
-use Rattle.fb_locked.specs.Seats.{AreSeatsAt, ReceiptView, LockedView, SeatView, seat_at}
-use Rattle.fb_locked.specs.Refusals.{refusal_of}
-use Rattle.fb_locked.specs.Resuming.{IsUpToDate}
+use Rattle.fb_locked.specs.{declared.locked.SharedRefused.{SharedRefused}, declared.locked.SharedRefused.TheVariants.{SeatDiffers, Behind, HistoryFull}}
+use Rattle.fb_locked.specs.{Seats.{AreSeatsAt, ReceiptView, LockedView, SeatView, seat_at}, Refusals.{refusal_of}, Resuming.{IsUpToDate}}
 use Rattle.fb_locked.specs.Closing.{IsReceiptRight, AreReceiptsRight, times, receipts_of}
 use Rattle.fb_locked.proofs.Closings.{placed}
 

@@ -1,7 +1,6 @@
 -- A shared workbench as the desk of one seat. Nothing is known of the workbench but what the seat and its receipts tell.
 use Rattle.std.specs.Prelude.{◌≡◌, ◌++◌, ◌∷◌, [], List, ℕ}
-use Rattle.fb_locked.specs.History.Machine.{Call}
-use Rattle.fb_locked.specs.History.Limits.{Bounds}
+use Rattle.fb_locked.specs.{History.Machine.{Call}, History.Limits.{Bounds}}
 use Rattle.fb_locked.specs.Bench.Calls.{Answer, Replied, FullHistory, BehindHistory, CheckpointAnswer, Checked, SharedHistory, Exchange, Exchanges}
 use Rattle.fb_locked.specs.Seats.{SeatView, ReceiptView, IsReceiptOf, seat_after}
 

@@ -1,8 +1,6 @@
 //! Laws of histories, of the receipts of their calls, and of seats.
 ghost use Rattle.std.specs.Prelude.{◌≡◌, ℕ, List, Some, slice_get};
-ghost use Rattle.fb_locked.specs.History.BenchView.{BenchView, AreTurns};
-ghost use Rattle.fb_locked.specs.Closing.{AreReceiptsRight, NumbersRise, EnoughShowAll};
-ghost use Rattle.fb_locked.specs.Resuming.{IsUpToDate};
+ghost use Rattle.fb_locked.specs.{History.BenchView.{BenchView, AreTurns}, Closing.{AreReceiptsRight, NumbersRise, EnoughShowAll}, Resuming.{IsUpToDate}};
 ghost use Rattle.fb_locked.specs.Seats.{AreSeatsAt, ReceiptView, LockedView, SeatView};
 
 /// In a history, whose turns count their callers' calls, numbers rise with the turns of a caller.

@@ -1,13 +1,8 @@
 //! The workbench that threads share, under its lock.
 ghost use Rattle.std.specs.Prelude.{◌≡◌, None, IfErr, IfOk, OnOk};
-ghost use Rattle.fb_locked.specs.History.Machine.{ToCommit, ToTake, ToDeliver, ToGiveBack, ToAsk};
-ghost use Rattle.fb_locked.specs.Bench.Records.{listed};
-ghost use Rattle.fb_locked.specs.Bench.Requests.{call_for, job_of};
-ghost use Rattle.fb_locked.specs.Calls.{Answers, AnswersKept};
-ghost use Rattle.fb_locked.specs.Closing.{IsCloseOf, IsFaultOf, IsLeast};
-ghost use Rattle.fb_locked.specs.Resuming.{is_left_out, IsResumeFault};
-ghost use Rattle.fb_locked.specs.Rolling.{MayReturn};
-ghost use Rattle.fb_locked.specs.Seats.{AreFirstSeats, AreSeatsAt};
+ghost use Rattle.fb_locked.specs.{History.Machine.{ToCommit, ToTake, ToDeliver, ToGiveBack, ToAsk}, Bench.Records.{listed}, Bench.Requests.{call_for, job_of}};
+ghost use Rattle.fb_locked.specs.{Calls.{Answers, AnswersKept}, Closing.{IsCloseOf, IsFaultOf, IsLeast}, Resuming.{is_left_out, IsResumeFault}};
+ghost use Rattle.fb_locked.specs.{Rolling.{MayReturn}, Seats.{AreFirstSeats, AreSeatsAt}};
 
 use fb_locked::bench::{Answered, Bench, Limits, Request};
 use fb_locked::jobs::{Finished, Job, Key};

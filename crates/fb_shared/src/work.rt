@@ -1,8 +1,6 @@
 //! Workers, which take jobs, run them and deliver the results.
 ghost use Rattle.std.specs.Prelude.{◌≡◌, ◌*◌, IfOk, IfSome, Some};
-ghost use Rattle.fb_locked.specs.Ends.{NamesSeat, LookNames};
-ghost use Rattle.fb_locked.specs.Runs.{AddsLook, Works, Empty, Holds};
-ghost use Rattle.fb_locked.specs.declared.look.WorkEnd.TheVariants.{TurnsOver};
+ghost use Rattle.fb_locked.specs.{Ends.{NamesSeat, LookNames}, Runs.{AddsLook, Works, Empty, Holds}, declared.look.WorkEnd.TheVariants.{TurnsOver}};
 
 use crate::shared::Shared;
 use fb_locked::jobs::{Finished, Job};

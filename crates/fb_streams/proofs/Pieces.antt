@@ -1,8 +1,6 @@
 -- Parts of a list of bytes.
-use Rattle.std.proofs.Common.{◌≡◌, ◌≤◌, ℕ, ◌+◌, ◌-◌, List, ◌++◌, length, take, drop, ap, ◌∙◌, arith}
-use Rattle.std.proofs.Math.Seq.{take-append_seam}
-use Rattle.std.proofs.lemmas.List.Folds.{drop_split}
-use Rattle.std.proofs.lemmas.List.{take_rest, length-take-le}
+use Rattle.std.proofs.{Common.{◌≡◌, ◌≤◌, ℕ, ◌+◌, ◌-◌, List, ◌++◌, length, take, drop, ap, ◌∙◌, arith}, Math.Seq.{take-append_seam}}
+use Rattle.std.proofs.{lemmas.List.Folds.{drop_split}, lemmas.List.{take_rest, length-take-le}}
 
 -- the list from a place on: n bytes, and then those from behind them on
 pub drop-by : (xs : List ℕ) (at n : ℕ) → drop at xs ≡ take n (drop at xs) ++ drop (at + n) xs

@@ -1,6 +1,5 @@
 //! Std's readers as feeds.
-ghost use Rattle.std.specs.Prelude.{◌≡◌, [], length, false};
-ghost use Rattle.std.specs.List.{concat};
+ghost use Rattle.std.specs.{Prelude.{◌≡◌, [], length, false}, List.{concat}};
 
 use crate::feed::{Feed, StreamError};
 use crate::tape::{Piece, Tape};

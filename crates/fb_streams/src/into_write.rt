@@ -1,7 +1,5 @@
 //! Std's writers as sinks.
-ghost use Rattle.std.specs.Prelude.{◌≡◌, ◌++◌, ◌≤◌, ◌<◌, [], length, true, false, IfOk, is_err};
-ghost use Rattle.std.specs.Io.KnownBytes.{Appends, Keeps};
-ghost use Rattle.std.specs.List.{concat};
+ghost use Rattle.std.specs.{Prelude.{◌≡◌, ◌++◌, ◌≤◌, ◌<◌, [], length, true, false, IfOk, is_err}, Io.KnownBytes.{Appends, Keeps}, List.{concat}};
 ghost use Rattle.fb_streams.specs.Streams.{bytes_in};
 
 use crate::feed::{Sink, StreamError};

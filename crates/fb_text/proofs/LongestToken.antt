@@ -1,22 +1,15 @@
 -- The token at the front of a text, by its first byte.
 use Rattle.std.proofs.Common.{◌≡◌, ℕ, zero, suc, ◌+◌, ◌-◌, ◌<◌, ◌≤◌, Bool, true, false, not, cond, ◌&&◌, List, [], ◌∷◌, length, take, drop, sym, refl, ap, ◌∙◌, arith, length-drop, Some, None, ⊎_elim}
-use Rattle.std.specs.Prelude.{◌==◌, codes}
-use Rattle.std.specs.List.{prefix_len, list_all, list_any}
-use Rattle.std.specs.Char.{is_ascii_digit}
-use Rattle.std.specs.Cmp.Lexicographic.{pointwise}
 use Rattle.std.proofs.lemmas.Bool.Decides.{nat_tests}
 use Rattle.std.proofs.lemmas.Bool.{cond-true, cond-false, and_left, and_parts, or_cases, eqb-true, cases_lt, false_from_ne_true}
 use Rattle.std.proofs.lemmas.List.Sums.{prefix_len-le-length}
-use Rattle.fb_text.specs.Bytes.{is_word_start, is_word_byte, is_quote, first}
-use Rattle.fb_text.specs.Words.{is_word}
+use Rattle.std.specs.{Prelude.{◌==◌, codes}, List.{prefix_len, list_all, list_any}, Char.{is_ascii_digit}, Cmp.Lexicographic.{pointwise}}
+use Rattle.fb_text.specs.{Bytes.{is_word_start, is_word_byte, is_quote, first}, Words.{is_word}}
 use Rattle.fb_text.specs.Forms.{is_number, is_typed, is_typed_tail, is_date, is_real, leading_word, after_word, is_string, is_string_rest, is_symbol, is_symbol_byte, is_symbol_pair, form_of}
 use Rattle.fb_text.specs.Scan.{number_len, typed_len, through_quote, through_len, string_len, symbol_len}
-use Rattle.fb_text.specs.Tokens.{of_kind, longest, token_or_char, token_at, char_len}
-use Rattle.fb_text.specs.declared.token.TokenKind.{TokenKind}
-use Rattle.fb_text.specs.declared.token.TokenKind.TheVariants.{Word, Number, Typed, String, Symbol, Other}
-use Rattle.fb_text.specs.declared.scan.Piece.TheVariants.{Found}
-use Rattle.fb_text.proofs.NameLemmas.{is_word_byte-start}
-use Rattle.fb_text.proofs.Longest.{by_test}
+use Rattle.fb_text.specs.{Tokens.{of_kind, longest, token_or_char, token_at, char_len}, declared.token.TokenKind.{TokenKind}}
+use Rattle.fb_text.specs.{declared.token.TokenKind.TheVariants.{Word, Number, Typed, String, Symbol, Other}, declared.scan.Piece.TheVariants.{Found}}
+use Rattle.fb_text.proofs.{NameLemmas.{is_word_byte-start}, Longest.{by_test}}
 use Rattle.fb_text.proofs.LongestForms.{first-take, prefix_len-pos, Takes-number, word-take, word-take-past, typed-take, Takes-typed-tail, Takes-string, Takes-symbol}
 
 -- classes of first bytes

@@ -1,10 +1,7 @@
 -- What is a member of a list that is built from others.
 use Rattle.std.proofs.Common.{zero, suc, ◌≡◌, ℕ, ◌<◌, Bool, true, false, cond, List, [], ◌∷◌, ◌++◌, Option, Some, None, option_map, ◌⊎◌, inl, inr, refl, sym, ◌∙◌, ap, subst, true≢false, arith}
-use Rattle.std.specs.Prelude.{Contains, map, filter, flat_map, find}
-use Rattle.std.specs.List.{slice_get}
-use Rattle.std.specs.Option.{option_map_or}
-use Rattle.std.proofs.lemmas.List.Elements.{Contains-append_left, Contains-append_right, Contains-append_cases}
-use Rattle.std.proofs.lemmas.Option.{slice_get-map}
+use Rattle.std.proofs.{lemmas.List.Elements.{Contains-append_left, Contains-append_right, Contains-append_cases}, lemmas.Option.{slice_get-map}}
+use Rattle.std.specs.{Prelude.{Contains, map, filter, flat_map, find}, List.{slice_get}, Option.{option_map_or}}
 
 pub contains_nothing : {X : Type 0} (y : X) → Contains [] y → ⊥
 contains_nothing y c = let h : c.0 < 0 = c.1 in omega arith

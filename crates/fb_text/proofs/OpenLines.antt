@@ -1,20 +1,12 @@
 -- Quotes that are not closed on their line.
 use Rattle.std.proofs.Common.{◌≡◌, ◌≢◌, ⊎_elim, take, ℕ, zero, suc, ◌+◌, ◌-◌, ◌<◌, Bool, true, false, not, cond, ◌&&◌, List, [], ◌∷◌, drop, get_or, sym, refl, ap, subst, ◌∙◌, arith, Option, Some, None, true≢false}
-use Rattle.std.specs.Prelude.{◌==◌, option_map}
-use Rattle.std.specs.List.{prefix_len}
-use Rattle.std.specs.Char.{is_ascii_digit}
-use Rattle.std.proofs.lemmas.Bool.Decides.{nat_tests}
-use Rattle.std.proofs.lemmas.Bool.{cond-true, cond-false, eqb-true, cases_lt}
-use Rattle.std.proofs.lemmas.List.{drop-drop, get_or-drop}
+use Rattle.std.proofs.{lemmas.Bool.Decides.{nat_tests}, lemmas.Bool.{cond-true, cond-false, eqb-true, cases_lt}, lemmas.List.{drop-drop, get_or-drop}}
+use Rattle.std.specs.{Prelude.{◌==◌, option_map}, List.{prefix_len}, Char.{is_ascii_digit}}
 use Rattle.fb_text.specs.Bytes.{is_blank, is_line_end, is_quote, is_word_start, escape, first}
 use Rattle.fb_text.specs.Scan.{AreOpen, NoString, no_quotes, extended, line_rest, reach_of, string_len, symbol_len, through_len, through_quote}
-use Rattle.fb_text.specs.Tokens.{char_len, piece_at, token_at}
-use Rattle.fb_text.specs.declared.token.TokenKind.TheVariants.{String, Other}
-use Rattle.fb_text.specs.declared.scan.Piece.TheVariants.{Found}
-use Rattle.fb_text.proofs.Longest.{by_test}
+use Rattle.fb_text.specs.{Tokens.{char_len, piece_at, token_at}, declared.token.TokenKind.TheVariants.{String, Other}, declared.scan.Piece.TheVariants.{Found}}
 use Rattle.fb_text.specs.declared.quotes.OpenQuotes.{OpenQuotes}
-use Rattle.fb_text.proofs.Pieces.{token-piece}
-use Rattle.fb_text.proofs.LongestForms.{first-take, Takes-symbol}
+use Rattle.fb_text.proofs.{Longest.{by_test}, Pieces.{token-piece}, LongestForms.{first-take, Takes-symbol}}
 use Rattle.fb_text.proofs.LongestToken.{string-no-symbol, token-string, token-other}
 
 none-suc : (o : Option ℕ) → option_map suc o ≡ None → o ≡ None

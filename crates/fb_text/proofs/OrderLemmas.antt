@@ -1,21 +1,12 @@
 -- Two lists with the same items are the same in order.
 use Rattle.std.proofs.Common.{◌↔◌, nat_eq, ◌≡◌, ℕ, Bool, true, false, cond, ◌||◌, List, [], ◌∷◌, ◌++◌, map, is_some, Some, None, refl, sym, true≢false, ap, ◌∙◌}
-use Rattle.std.specs.declared.cmp.Ordering.{Ordering}
-use Rattle.std.specs.declared.cmp.Ordering.TheVariants.{Less, Equal, Greater}
-use Rattle.std.specs.List.{list_any}
-use Rattle.std.specs.Ordering.{eq_by_cmp, is_eq, match_ordering, ordering_reverse, ordering_then}
-use Rattle.std.specs.List.{AllByRecursion, Contains}
-use Rattle.std.specs.List.Sorted.{IsStrictlySortedBy}
-use Rattle.std.specs.BTreeMap.{is_at}
-use Rattle.std.specs.Cmp.Lexicographic.{pointwise, texts_ties}
-use Rattle.std.proofs.lemmas.Cmp.{eq_by_cmp_equiv}
-use Rattle.std.proofs.lemmas.List.{nil_from_length}
-use Rattle.std.proofs.lemmas.List.Elements.{All-from_recursion, recursion_from_All}
+use Rattle.std.proofs.{lemmas.Cmp.{eq_by_cmp_equiv}, lemmas.List.{nil_from_length}, lemmas.List.Elements.{All-from_recursion, recursion_from_All}}
 use Rattle.std.proofs.lemmas.Map.Views.{All-insert_key, Contains-from_any, list_any-from_Contains}
-use Rattle.std.specs.Cmp.{IsTotalOrder}
+use Rattle.std.specs.{declared.cmp.Ordering.{Ordering}, declared.cmp.Ordering.TheVariants.{Less, Equal, Greater}, List.{list_any, AllByRecursion, Contains}}
+use Rattle.std.specs.{Ordering.{eq_by_cmp, is_eq, match_ordering, ordering_reverse, ordering_then}, List.Sorted.{IsStrictlySortedBy}, BTreeMap.{is_at}}
+use Rattle.std.specs.{Cmp.Lexicographic.{pointwise, texts_ties}, Cmp.{IsTotalOrder}}
 use Rattle.std.specs.FinMap.{IsAntisymmetric, from_entries, entries, entries-insert, get-from_entries, contains_key-keys, same_map, len-entries, len-empty}
-use Rattle.std.specs.FinMap.Entries.{find, put, by_order}
-use Rattle.std.specs.BTreeSet.{insert_key}
+use Rattle.std.specs.{FinMap.Entries.{find, put, by_order}, BTreeSet.{insert_key}}
 use Rattle.fb_text.specs.Order.{in_order, name_cmp}
 use Rattle.fb_text.proofs.Tests.{or_assoc}
 

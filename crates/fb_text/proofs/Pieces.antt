@@ -1,18 +1,12 @@
 -- Pieces that the first byte tells.
 use Rattle.std.proofs.Common.{◌≡◌, ◌≢◌, ℕ, ◌+◌, ◌<◌, Bool, true, false, not, List, [], ◌∷◌, length, refl, ap, sym, ◌∙◌, arith, true≢false}
-use Rattle.std.specs.Prelude.{◌==◌, codes, nat_eq}
-use Rattle.std.specs.List.{list_any, prefix_len, starts_with}
-use Rattle.std.specs.Char.{is_ascii_digit}
-use Rattle.std.proofs.lemmas.Bool.Decides.{nat_tests}
-use Rattle.std.proofs.lemmas.Bool.{cond-true, cond-false, false_from_ne_true, not-true}
+use Rattle.std.proofs.{lemmas.Bool.Decides.{nat_tests}, lemmas.Bool.{cond-true, cond-false, false_from_ne_true, not-true}}
+use Rattle.std.specs.{Prelude.{◌==◌, codes, nat_eq}, List.{list_any, prefix_len, starts_with}, Char.{is_ascii_digit}}
 use Rattle.fb_text.specs.Bytes.{is_blank, is_quote, is_word_byte, is_word_start, hash, first}
 use Rattle.fb_text.specs.Forms.{after_word, is_date, is_real, is_symbol_byte, is_symbol_pair, leading_word}
-use Rattle.fb_text.specs.Scan.{string_len, symbol_len, typed_len, typed_tail_len}
-use Rattle.fb_text.specs.Tokens.{piece_at, token_at}
-use Rattle.fb_text.specs.declared.token.TokenKind.TheVariants.{Word, Typed, Symbol}
-use Rattle.fb_text.specs.declared.scan.Piece.TheVariants.{Found, Gap}
-use Rattle.fb_text.proofs.Boundaries.{begins}
-use Rattle.fb_text.proofs.LongestToken.{any-byte, any-pair, token-symbol, token-typed, token-word}
+use Rattle.fb_text.specs.{Scan.{string_len, symbol_len, typed_len, typed_tail_len}, Tokens.{piece_at, token_at}}
+use Rattle.fb_text.specs.{declared.token.TokenKind.TheVariants.{Word, Typed, Symbol}, declared.scan.Piece.TheVariants.{Found, Gap}}
+use Rattle.fb_text.proofs.{Boundaries.{begins}, LongestToken.{any-byte, any-pair, token-symbol, token-typed, token-word}}
 
 -- where neither a blank nor a comment can begin a token does
 pub token-piece : (bs : List ℕ) → is_blank (first bs) ≡ false → first bs ≢ 40 → first bs ≢ 47 → piece_at bs ≡ token_at bs

@@ -1,21 +1,12 @@
 -- Reading the tokens of a text piece by piece.
 use Rattle.std.proofs.Common.{◌≡◌, Bool, false, ℕ, zero, suc, ◌+◌, ◌-◌, ◌<◌, ◌≤◌, List, [], ◌∷◌, ◌++◌, length, take, drop, sym, refl, ap, subst, ◌∙◌, arith, add-zero, length-drop, append-nil, append_assoc, Result, Ok, Err, IsUtf8}
-use Rattle.std.specs.Prelude.{All}
-use Rattle.std.specs.Str.{IsCharBoundary}
-use Rattle.std.proofs.lemmas.List.{drop-drop, drop_all}
-use Rattle.std.proofs.lemmas.List.Elements.{All-nil, All-push}
-use Rattle.std.proofs.lemmas.Str.{IsCharBoundary-start, IsCharBoundary-from_rest}
+use Rattle.std.proofs.{lemmas.List.{drop-drop, drop_all}, lemmas.List.Elements.{All-nil, All-push}, lemmas.Str.{IsCharBoundary-start, IsCharBoundary-from_rest}}
+use Rattle.std.specs.{Prelude.{All}, Str.{IsCharBoundary}}
 use Rattle.fb_text.specs.Tokens.{piece_before, with_token, piece_at, tokens_from, tokens_of, IsPrefix, LiesIn, IsSpelled, SpansRise, spans_of}
-use Rattle.fb_text.specs.Forms.{HasForm}
-use Rattle.fb_text.specs.Scan.{AreOpen, no_quotes}
-use Rattle.fb_text.proofs.OpenLines.{AreOpen-later, AreOpen-none}
-use Rattle.fb_text.specs.declared.quotes.OpenQuotes.{OpenQuotes}
-use Rattle.fb_text.proofs.Boundaries.{piece-spelled}
-use Rattle.fb_text.specs.declared.token.Span.{Span}
-use Rattle.fb_text.specs.declared.token.Token.{Token}
-use Rattle.fb_text.specs.declared.token.TokenKind.{TokenKind}
-use Rattle.fb_text.specs.declared.scan.Piece.{Piece}
+use Rattle.fb_text.specs.{Forms.{HasForm}, Scan.{AreOpen, no_quotes}, declared.quotes.OpenQuotes.{OpenQuotes}, declared.token.Span.{Span}}
+use Rattle.fb_text.specs.{declared.token.Token.{Token}, declared.token.TokenKind.{TokenKind}, declared.scan.Piece.{Piece}}
 use Rattle.fb_text.specs.declared.scan.Piece.TheVariants.{Gap, Unclosed, Found}
+use Rattle.fb_text.proofs.{OpenLines.{AreOpen-later, AreOpen-none}, Boundaries.{piece-spelled}}
 
 -- tokens before those that a reading has
 abbrev pub behind : List Token → Result (List Token) Span → Result (List Token) Span

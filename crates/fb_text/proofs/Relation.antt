@@ -1,28 +1,14 @@
 -- The relation of reading and the function that reads are one.
 use Rattle.std.proofs.Common.{◌≡◌, ◌≢◌, ℕ, zero, suc, ◌+◌, ◌<◌, ◌≤◌, Bool, true, false, not, List, [], ◌∷◌, ◌++◌, length, take, drop, codes, nat_eq, sym, refl, ap, subst, ◌∙◌, arith, length-drop, length-append, length-take-le, take-append-drop, Option, Some, None, Result, Ok, Err, true≢false, ⊎_elim}
-use Rattle.std.specs.Prelude.{◌==◌, All, option_map}
-use Rattle.std.specs.List.{prefix_len, starts_with}
-use Rattle.std.proofs.Math.Seq.{drop-append-add}
-use Rattle.std.proofs.lemmas.Bool.{cond-true, cond-false, cases_lt}
-use Rattle.std.proofs.lemmas.Bool.Decides.{Decides-eqb, nat_tests}
-use Rattle.std.proofs.lemmas.List.Elements.{All-nil, All-cons, All-head, All-tail}
-use Rattle.std.proofs.lemmas.Option.{none-some, same_Some}
-use Rattle.std.proofs.lemmas.Slice.Eq.{starts_is}
-use Rattle.fb_text.specs.Bytes.{is_blank, is_word_start, first}
-use Rattle.fb_text.specs.Words.{is_word}
-use Rattle.fb_text.specs.Forms.{form_of, is_number, is_typed, is_string, is_symbol}
+use Rattle.std.proofs.{Math.Seq.{drop-append-add}, lemmas.Bool.{cond-true, cond-false, cases_lt}, lemmas.Bool.Decides.{Decides-eqb, nat_tests}}
+use Rattle.std.proofs.{lemmas.List.Elements.{All-nil, All-cons, All-head, All-tail}, lemmas.Option.{none-some, same_Some}, lemmas.Slice.Eq.{starts_is}}
+use Rattle.std.specs.{Prelude.{◌==◌, All, option_map}, List.{prefix_len, starts_with}}
+use Rattle.fb_text.specs.{Bytes.{is_blank, is_word_start, first}, Words.{is_word}, Forms.{form_of, is_number, is_typed, is_string, is_symbol}}
 use Rattle.fb_text.specs.Tokens.{IsLongest, before_close, char_len, comment_at, longest, of_kind, piece_at, token_at, token_or_char, tokens_from, tokens_of, with_token}
 use Rattle.fb_text.specs.Reads.{AtBlank, AtComment, AtEnd, AtLineComment, AtOpenComment, AtOther, AtToken, BeginsToken, EndsLine, HasNoForm, IsFirstClose, NeverCloses, Reads, token_of}
-use Rattle.fb_text.specs.declared.token.Span.{Span}
-use Rattle.fb_text.specs.declared.token.Token.{Token}
-use Rattle.fb_text.specs.declared.token.TokenKind.{TokenKind}
-use Rattle.fb_text.specs.declared.token.TokenKind.TheVariants.{Other}
-use Rattle.fb_text.specs.declared.scan.Piece.{Piece}
-use Rattle.fb_text.specs.declared.scan.Piece.TheVariants.{Gap, Unclosed}
-use Rattle.fb_text.proofs.Boundaries.{longest-is}
-use Rattle.fb_text.proofs.Longest.{by_test}
-use Rattle.fb_text.proofs.LongestToken.{found, longest-none}
-use Rattle.fb_text.proofs.Reading.{found-step, gap-step, unclosed-step}
+use Rattle.fb_text.specs.{declared.token.Span.{Span}, declared.token.Token.{Token}, declared.token.TokenKind.{TokenKind}}
+use Rattle.fb_text.specs.{declared.token.TokenKind.TheVariants.{Other}, declared.scan.Piece.{Piece}, declared.scan.Piece.TheVariants.{Gap, Unclosed}}
+use Rattle.fb_text.proofs.{Boundaries.{longest-is}, Longest.{by_test}, LongestToken.{found, longest-none}, Reading.{found-step, gap-step, unclosed-step}}
 
 -- prefixes
 starts : (needle text : List ℕ) → starts_with nat_eq text needle ≡ true → text ≡ needle ++ drop (length needle) text

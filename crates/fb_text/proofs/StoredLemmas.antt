@@ -1,8 +1,7 @@
 -- A name at the front of a field, before zeros.
 use Rattle.std.proofs.Common.{◌≡◌, ℕ, ◌+◌, ◌-◌, ◌≤◌, List, ◌++◌, length, drop, replicate, sym, refl, ap, subst, ◌∙◌, arith}
 use Rattle.std.proofs.lemmas.List.{take_at, drop_at, take-append-le, drop-append-le, length-append, length-replicate, drop-replicate, replicate-append-replicate}
-use Rattle.fb_text.specs.Spelling.{IsName}
-use Rattle.fb_text.specs.Stored.{IsStoredIn}
+use Rattle.fb_text.specs.{Spelling.{IsName}, Stored.{IsStoredIn}}
 
 -- the name, written over zeros
 pub stored_prefix : (size : ℕ) (name copied : List ℕ) → length name ≤ size → copied ≡ name → IsName name → IsStoredIn size (copied ++ drop (length name) (replicate size 0)) (length name)

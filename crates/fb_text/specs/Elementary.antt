@@ -1,8 +1,6 @@
 -- Classes of types, by their names in any case.
-use Rattle.std.specs.Prelude.{ℕ, Bool, true, false, ◌&&◌, ◌||◌, nat_le, length, if◌then◌else◌, List, [], ◌∷◌, take, codes}
-use Rattle.std.specs.List.{list_any}
-use Rattle.fb_text.specs.Forms.{same_word}
-use Rattle.fb_text.specs.declared.elementary.TypeClass.{TypeClass}
+use Rattle.std.specs.{Prelude.{ℕ, Bool, true, false, ◌&&◌, ◌||◌, nat_le, length, if◌then◌else◌, List, [], ◌∷◌, take, codes}, List.{list_any}}
+use Rattle.fb_text.specs.{Forms.{same_word}, declared.elementary.TypeClass.{TypeClass}}
 use Rattle.fb_text.specs.declared.elementary.TypeClass.TheVariants as class
 
 -- the types of truth values

@@ -1,9 +1,5 @@
 -- The order of names, and lists in order, each item once.
-use Rattle.std.specs.Prelude.{ℕ, List, [], ◌∷◌}
-use Rattle.std.specs.Ordering.{nat_cmp}
-use Rattle.std.specs.Cmp.Lexicographic.{slice_cmp}
-use Rattle.std.specs.BTreeSet.{insert_key}
-use Rattle.std.specs.declared.cmp.Ordering.{Ordering}
+use Rattle.std.specs.{Prelude.{ℕ, List, [], ◌∷◌}, Ordering.{nat_cmp}, Cmp.Lexicographic.{slice_cmp}, BTreeSet.{insert_key}, declared.cmp.Ordering.{Ordering}}
 
 -- the order of names, by their bytes
 abbrev pub name_cmp : List ℕ → List ℕ → Ordering

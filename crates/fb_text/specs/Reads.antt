@@ -1,12 +1,7 @@
 -- What the tokens of a text are: blanks and comments are passed over, and elsewhere the longest form is the next token.
 use Rattle.std.specs.Prelude.{◌≡◌, ◌≢◌, ℕ, ◌+◌, ◌≤◌, true, false, List, [], ◌∷◌, ◌++◌, length, take, drop, codes, All, None, Result, Ok, Err}
-use Rattle.fb_text.specs.Bytes.{is_blank, first}
-use Rattle.fb_text.specs.Forms.{form_of}
-use Rattle.fb_text.specs.Tokens.{IsLongest, char_len, with_token}
-use Rattle.fb_text.specs.declared.token.Span.{Span}
-use Rattle.fb_text.specs.declared.token.Token.{Token}
-use Rattle.fb_text.specs.declared.token.TokenKind.{TokenKind}
-use Rattle.fb_text.specs.declared.token.TokenKind.TheVariants.{Other}
+use Rattle.fb_text.specs.{Bytes.{is_blank, first}, Forms.{form_of}, Tokens.{IsLongest, char_len, with_token}, declared.token.Span.{Span}}
+use Rattle.fb_text.specs.{declared.token.Token.{Token}, declared.token.TokenKind.{TokenKind}, declared.token.TokenKind.TheVariants.{Other}}
 
 -- the text's first `*)` stands between the two parts
 pub record IsFirstClose (text inside rest : List ℕ) : Type 0 where

@@ -1,7 +1,6 @@
 -- How many bytes each form takes at the front of a text, 0 where it takes none.
 use Rattle.std.specs.Prelude.{◌≡◌, ℕ, suc, ◌+◌, ◌<◌, ◌≤◌, Bool, false, not, ◌&&◌, ◌==◌, if◌then◌else◌, List, [], ◌∷◌, drop, slice_index, Option, Some, None, option_map}
-use Rattle.std.specs.List.{prefix_len}
-use Rattle.std.specs.Char.{is_ascii_digit}
+use Rattle.std.specs.{List.{prefix_len}, Char.{is_ascii_digit}}
 use Rattle.fb_text.specs.Bytes.{is_word_byte, is_line_end, is_number_byte, is_exponent_mark, is_quote, hash, point, escape, first}
 use Rattle.fb_text.specs.declared.quotes.OpenQuotes.{OpenQuotes}
 use Rattle.fb_text.specs.Forms.{sign_len, after_sign, is_date, is_real, is_value_byte, leading_word, after_word, is_symbol_byte, is_symbol_pair}

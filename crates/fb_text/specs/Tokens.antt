@@ -1,17 +1,9 @@
 -- The tokens of a text: at each place the longest prefix that has a form, with blanks and comments between.
 use Rattle.std.specs.Prelude.{◌≡◌, ℕ, zero, suc, ◌+◌, ◌-◌, ◌<◌, ◌≤◌, not, ◌==◌, if◌then◌else◌, List, [], ◌∷◌, length, take, drop, Vec, codes, slice_range, nat_eq, Option, Some, None, Result, Ok, Err, IsOk, option_map, map}
-use Rattle.std.specs.List.{prefix_len, starts_with}
-use Rattle.std.specs.Str.{continuation_len, IsCharBoundary}
-use Rattle.std.specs.declared.alloc.Global.{Global}
-use Rattle.fb_text.specs.Bytes.{is_blank, first}
-use Rattle.fb_text.specs.Forms.{form_of, HasForm}
-use Rattle.fb_text.specs.declared.token.Span.{Span}
-use Rattle.fb_text.specs.declared.token.Token.{Token}
-use Rattle.fb_text.specs.declared.token.TokenKind.{TokenKind}
-use Rattle.fb_text.specs.declared.token.TokenKind.TheVariants.{Other}
-use Rattle.fb_text.specs.declared.token.TokenFault.{TokenFault}
-use Rattle.fb_text.specs.declared.token.TokenFault.TheVariants.{BadToken, Memory}
-use Rattle.fb_text.specs.declared.scan.Piece.{Piece}
+use Rattle.std.specs.{List.{prefix_len, starts_with}, Str.{continuation_len, IsCharBoundary}, declared.alloc.Global.{Global}}
+use Rattle.fb_text.specs.{Bytes.{is_blank, first}, Forms.{form_of, HasForm}, declared.token.Span.{Span}, declared.token.Token.{Token}}
+use Rattle.fb_text.specs.{declared.token.TokenKind.{TokenKind}, declared.token.TokenKind.TheVariants.{Other}, declared.token.TokenFault.{TokenFault}}
+use Rattle.fb_text.specs.{declared.token.TokenFault.TheVariants.{BadToken, Memory}, declared.scan.Piece.{Piece}}
 use Rattle.fb_text.specs.declared.scan.Piece.TheVariants.{Gap, Unclosed, Found}
 
 -- n bytes of a kind, or what a shorter prefix gives

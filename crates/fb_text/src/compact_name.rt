@@ -1,10 +1,6 @@
 //! Names that are kept. Most are short, and take little memory.
-ghost use Rattle.std.specs.Prelude.{◌≡◌, ◌≤◌, IfOk, codes, length, true};
-ghost use Rattle.std.specs.Str.{str_to_ascii_uppercase};
-ghost use Rattle.fb_text.specs.Words.{is_word};
-ghost use Rattle.std.specs.BTreeMap.{is_at};
-ghost use Rattle.fb_text.specs.Name.{name_of};
-ghost use Rattle.fb_text.specs.Order.{name_cmp};
+ghost use Rattle.std.specs.{Prelude.{◌≡◌, ◌≤◌, IfOk, codes, length, true}, Str.{str_to_ascii_uppercase}, BTreeMap.{is_at}};
+ghost use Rattle.fb_text.specs.{Words.{is_word}, Name.{name_of}, Order.{name_cmp}};
 
 use crate::name::{Name, NameFault};
 use crate::short_name::{SHORT_ROOM, ShortName};

@@ -1,12 +1,8 @@
 //! The tokens of a text.
 ghost use Rattle.std.specs.Prelude.{◌≡◌, ◌≢◌, ℕ, List, Result, length, IfOk, All};
-ghost use Rattle.fb_text.specs.Tokens.{tokens_of, token_at, GivesReading, IsLongest, IsSpelled, LiesIn, SpansRise, spans_of};
-ghost use Rattle.fb_text.specs.Reads.{Reads};
-ghost use Rattle.fb_text.specs.declared.token.Span.{Span};
-ghost use Rattle.fb_text.specs.declared.token.Token.{Token};
-ghost use Rattle.fb_text.specs.declared.scan.Piece.TheVariants.{Found};
-ghost use Rattle.fb_text.specs.declared.token.TokenKind.{TokenKind};
-ghost use Rattle.fb_text.specs.declared.token.TokenKind.TheVariants.{Other};
+ghost use Rattle.fb_text.specs.{Tokens.{tokens_of, token_at, GivesReading, IsLongest, IsSpelled, LiesIn, SpansRise, spans_of}, Reads.{Reads}};
+ghost use Rattle.fb_text.specs.{declared.token.Span.{Span}, declared.token.Token.{Token}, declared.scan.Piece.TheVariants.{Found}};
+ghost use Rattle.fb_text.specs.{declared.token.TokenKind.{TokenKind}, declared.token.TokenKind.TheVariants.{Other}};
 
 use crate::quotes::OpenQuotes;
 use crate::scan::{Piece, next_piece};

@@ -1,10 +1,7 @@
 //! Names, which are compared in upper case.
 ghost use Rattle.std.specs.Prelude.{◌≡◌, ℕ, ◌+◌, ◌-◌, ◌≤◌, ◌<◌, true, List, [], ◌∷◌, ◌++◌, length, take, drop, replicate, Some, IsOk, ◌↔◌, nat_eq, refl};
-ghost use Rattle.std.specs.Str.{str_to_ascii_uppercase};
-ghost use Rattle.std.specs.Ordering.{nat_cmp};
-ghost use Rattle.std.specs.Cmp.{partial_equiv_from_equiv};
-ghost use Rattle.std.specs.Cmp.Lexicographic.{pointwise, slice_cmp, nat_list_eq_equiv, nat_list_cmp_total, texts_po, texts_ties};
-ghost use Rattle.std.specs.Cmp.Rules.{hashing};
+ghost use Rattle.std.specs.{Str.{str_to_ascii_uppercase}, Ordering.{nat_cmp}, Cmp.{partial_equiv_from_equiv}};
+ghost use Rattle.std.specs.{Cmp.Lexicographic.{pointwise, slice_cmp, nat_list_eq_equiv, nat_list_cmp_total, texts_po, texts_ties}, Cmp.Rules.{hashing}};
 ghost use Rattle.std.specs.Hash as fed;
 ghost use Rattle.std.proofs.Common.{rules};
 ghost use Rattle.fb_text.specs.Words.{is_word};
@@ -73,9 +70,7 @@ impl Model for Name {
 
 impl Name {
     ghost use Rattle.std.specs.Prelude.{codes};
-    ghost use Rattle.fb_text.specs.Spelling.{IsName};
-    ghost use Rattle.fb_text.specs.Stored.{IsStoredIn};
-    ghost use Rattle.fb_text.specs.Name.{name_of};
+    ghost use Rattle.fb_text.specs.{Spelling.{IsName}, Stored.{IsStoredIn}, Name.{name_of}};
 
     /// The name that a text spells in any case.
     pub fn read(text: &str) -> Result<Name, NameFault>

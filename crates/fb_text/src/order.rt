@@ -1,9 +1,5 @@
 //! Lists in order, each item once.
-ghost use Rattle.std.specs.Prelude.{◌≡◌, ◌↔◌, ℕ, List, IfOk};
-ghost use Rattle.std.specs.List.{Contains};
-ghost use Rattle.std.specs.List.Sorted.{IsStrictlySortedBy};
-ghost use Rattle.std.specs.BTreeMap.{is_at};
-ghost use Rattle.std.specs.FinMap.{IsAntisymmetric};
+ghost use Rattle.std.specs.{Prelude.{◌≡◌, ◌↔◌, ℕ, List, IfOk}, List.{Contains}, List.Sorted.{IsStrictlySortedBy}, BTreeMap.{is_at}, FinMap.{IsAntisymmetric}};
 ghost use Rattle.fb_text.specs.Order.{in_order, name_cmp, names_in_order};
 
 use crate::name::Name;

@@ -1,9 +1,6 @@
 //! Strings, and quotes that open none.
-ghost use Rattle.std.specs.Prelude.{◌≡◌, ◌≤◌, ◌<◌, ◌+◌, true, false, not, drop, length, slice_index, IfSome};
-ghost use Rattle.std.specs.List.{prefix_len};
-ghost use Rattle.std.specs.Str.{IsCharBoundary};
-ghost use Rattle.fb_text.specs.Bytes.{is_line_end, is_quote, first};
-ghost use Rattle.fb_text.specs.Scan.{AreOpen, extended, line_rest, no_quotes, reach_of, string_len, through_quote};
+ghost use Rattle.std.specs.{Prelude.{◌≡◌, ◌≤◌, ◌<◌, ◌+◌, true, false, not, drop, length, slice_index, IfSome}, List.{prefix_len}, Str.{IsCharBoundary}};
+ghost use Rattle.fb_text.specs.{Bytes.{is_line_end, is_quote, first}, Scan.{AreOpen, extended, line_rest, no_quotes, reach_of, string_len, through_quote}};
 ghost use Rattle.fb_text.specs.Tokens.{piece_at};
 
 use crate::bytes::{is_line_end, is_quote};

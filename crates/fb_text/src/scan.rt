@@ -1,11 +1,9 @@
 //! The scanner: what a text begins with, found in one pass over its bytes.
-ghost use Rattle.std.specs.Prelude.{◌≡◌, ℕ, ◌+◌, ◌<◌, ◌≤◌, ◌==◌, not, length, true, false, nat_eq, drop, IfSome, slice_index};
-ghost use Rattle.std.specs.List.{prefix_len};
+ghost use Rattle.std.specs.{Prelude.{◌≡◌, ℕ, ◌+◌, ◌<◌, ◌≤◌, ◌==◌, not, length, true, false, nat_eq, drop, IfSome, slice_index}, List.{prefix_len}};
 ghost use Rattle.std.specs.Str.{continuation_len, IsCharBoundary};
 ghost use Rattle.fb_text.specs.Forms.{sign_len, same_word, is_date, is_real, is_value_byte, is_symbol_byte, is_symbol_pair};
 ghost use Rattle.fb_text.specs.Scan.{exponent_len, fraction_len, number_tail_len, number_len, value_len, typed_tail_len, typed_len, symbol_len, AreOpen};
-ghost use Rattle.fb_text.specs.Bytes.{is_quote, is_word_byte};
-ghost use Rattle.fb_text.specs.Tokens.{before_close, comment_at, token_at, piece_at, FitsIn};
+ghost use Rattle.fb_text.specs.{Bytes.{is_quote, is_word_byte}, Tokens.{before_close, comment_at, token_at, piece_at, FitsIn}};
 
 use crate::bytes::{
     digit_run, is_blank, is_exponent_mark, is_quote, is_sign, is_word_byte, is_word_start,

@@ -1,9 +1,6 @@
 //! Short names, which take less memory.
-ghost use Rattle.std.specs.Prelude.{◌≡◌, ◌≤◌, true, length};
-ghost use Rattle.std.specs.Str.{str_to_ascii_uppercase};
-ghost use Rattle.fb_text.specs.Name.{name_of};
-ghost use Rattle.fb_text.specs.ShortName.{shortened};
-ghost use Rattle.fb_text.specs.Words.{is_word};
+ghost use Rattle.std.specs.{Prelude.{◌≡◌, ◌≤◌, true, length}, Str.{str_to_ascii_uppercase}};
+ghost use Rattle.fb_text.specs.{Name.{name_of}, ShortName.{shortened}, Words.{is_word}};
 
 use crate::bytes::word_len;
 use crate::name::{Name, NameFault};

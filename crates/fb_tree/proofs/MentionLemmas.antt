@@ -1,11 +1,8 @@
 -- The types in the mirror of a declaration are those in the declaration.
 use Rattle.std.proofs.Common.{◌≡◌, ℕ, List, [], ◌∷◌, ◌++◌, map, refl, ap, ap₂}
 use Rattle.std.specs.List.{flat_map}
-use Rattle.fb_tree.specs.Mentions.{types_in, variable_types}
-use Rattle.fb_tree.specs.Tree.{application_tree, instance_tree, variables_tree}
-use Rattle.fb_tree.specs.declared.network.Instance.{Instance}
-use Rattle.fb_tree.specs.declared.interface.Variables.{Variables}
-use Rattle.fb_tree.specs.declared.system.Application.{Application}
+use Rattle.fb_tree.specs.{Mentions.{types_in, variable_types}, Tree.{application_tree, instance_tree, variables_tree}, declared.network.Instance.{Instance}}
+use Rattle.fb_tree.specs.{declared.interface.Variables.{Variables}, declared.system.Application.{Application}}
 
 pub types_of_instances : (instances : List Instance) → types_in (map instance_tree instances) ≡ map (λ i. i.type_name.name) instances
 types_of_instances [] = refl

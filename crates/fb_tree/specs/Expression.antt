@@ -1,15 +1,9 @@
 -- Expressions without where they lie in memory.
 use Rattle.std.specs.Prelude.{ℕ, List, [], ◌∷◌, box_value}
-use Rattle.fb_text.specs.declared.token.Span.{Span}
-use Rattle.fb_text.specs.declared.name.NameUse.{NameUse}
-use Rattle.fb_tree.specs.Reference.{first_use, further_names}
-use Rattle.fb_tree.specs.declared.constant.Literal.{Literal as LiteralUse}
-use Rattle.fb_tree.specs.declared.expression.BinaryUse.{BinaryUse}
-use Rattle.fb_tree.specs.declared.expression.UnaryUse.{UnaryUse}
-use Rattle.fb_tree.specs.declared.reference.Member.{Member}
-use Rattle.fb_tree.specs.declared.reference.Reference.{Reference as ReferenceUse}
-use Rattle.fb_tree.specs.declared.expression.Expr.{Expr}
-use Rattle.fb_tree.specs.declared.expression.Expr.TheOpen.{Expr-F, Literal, Name, Reference, Unary, Pair, Row, Parentheses}
+use Rattle.fb_text.specs.{declared.token.Span.{Span}, declared.name.NameUse.{NameUse}}
+use Rattle.fb_tree.specs.{Reference.{first_use, further_names}, declared.constant.Literal.{Literal as LiteralUse}, declared.expression.BinaryUse.{BinaryUse}}
+use Rattle.fb_tree.specs.{declared.expression.UnaryUse.{UnaryUse}, declared.reference.Member.{Member}, declared.reference.Reference.{Reference as ReferenceUse}}
+use Rattle.fb_tree.specs.{declared.expression.Expr.{Expr}, declared.expression.Expr.TheOpen.{Expr-F, Literal, Name, Reference, Unary, Pair, Row, Parentheses}}
 use Rattle.fb_tree.specs.declared.expression.Expr.TheFolds.{fold-Expr}
 
 -- names with points between them, and how many subscripts stand behind each; the subscripts of all of them stand beside it in one list

@@ -1,11 +1,8 @@
 -- What kind a declaration is of, and which types it mentions.
-use Rattle.std.specs.Prelude.{ℕ, Bool, true, false, not, List, [], map, filter}
-use Rattle.std.specs.List.{flat_map}
-use Rattle.fb_text.specs.Elementary.{is_elementary}
-use Rattle.fb_text.specs.Order.{names_in_order}
+use Rattle.std.specs.{Prelude.{ℕ, Bool, true, false, not, List, [], map, filter}, List.{flat_map}}
+use Rattle.fb_text.specs.{Elementary.{is_elementary}, Order.{names_in_order}}
 use Rattle.fb_tree.specs.Tree.{DeclTree, block_type, adapter_type, subapplication_type, system_configuration, structure_type, InstanceTree, VariablesTree}
-use Rattle.fb_tree.specs.declared.kinds.UnitKind.{UnitKind}
-use Rattle.fb_tree.specs.declared.kinds.UnitKind.TheVariants.{Block, Adapter, Subapplication, System, Structure}
+use Rattle.fb_tree.specs.{declared.kinds.UnitKind.{UnitKind}, declared.kinds.UnitKind.TheVariants.{Block, Adapter, Subapplication, System, Structure}}
 use Rattle.fb_tree.specs.declared.mentioned.Mentions.{Mentions}
 
 abbrev pub unit_kind_of : DeclTree → UnitKind

@@ -1,8 +1,7 @@
 -- The names of references.
 use Rattle.std.specs.Prelude.{List, [], box_value}
 use Rattle.fb_text.specs.declared.name.NameUse.{NameUse}
-use Rattle.fb_tree.specs.declared.reference.Member.{Member}
-use Rattle.fb_tree.specs.declared.reference.ReferenceNames.{ReferenceNames}
+use Rattle.fb_tree.specs.{declared.reference.Member.{Member}, declared.reference.ReferenceNames.{ReferenceNames}}
 use Rattle.fb_tree.specs.declared.reference.ReferenceNames.TheVariants.{One, Members}
 
 -- the first name where it stands

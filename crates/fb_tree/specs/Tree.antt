@@ -1,41 +1,20 @@
 -- Declarations without where they lie in memory.
 use Rattle.std.specs.Prelude.{Bool, List, map, Option, option_map}
-use Rattle.fb_text.specs.declared.token.Span.{Span}
-use Rattle.fb_text.specs.declared.name.NameUse.{NameUse}
-use Rattle.fb_tree.specs.Expression.{Expression, expression_tree}
-use Rattle.fb_tree.specs.Statement.{Statement, statement_tree}
-use Rattle.fb_tree.specs.declared.constant.Simple.{Simple}
+use Rattle.fb_text.specs.{declared.token.Span.{Span}, declared.name.NameUse.{NameUse}}
+use Rattle.fb_tree.specs.{Expression.{Expression, expression_tree}, Statement.{Statement, statement_tree}, declared.constant.Simple.{Simple}}
+use Rattle.fb_tree.specs.{declared.constant.Constant.{Constant}, declared.interface.Side.{Side}, declared.interface.Section.{Section}}
+use Rattle.fb_tree.specs.{declared.interface.TypeUse.{TypeUse}, declared.interface.Event.{Event}, declared.interface.Variables.{Variables}}
+use Rattle.fb_tree.specs.{declared.interface.Interface.{Interface}, declared.network.Role.{Role}, declared.network.Parameter.{Parameter}}
+use Rattle.fb_tree.specs.{declared.network.Instance.{Instance}, declared.network.End.{End}, declared.network.Connection.{Connection}}
+use Rattle.fb_tree.specs.{declared.network.Network.{Network}, declared.chart.Action.{Action}, declared.chart.State.{State}}
+use Rattle.fb_tree.specs.{declared.chart.Condition.{Condition}, declared.chart.Transition.{Transition}, declared.chart.Algorithm.{Algorithm}}
+use Rattle.fb_tree.specs.{declared.chart.Chart.{Chart}, declared.declaration.TypeDeclaration.{TypeDeclaration}, declared.declaration.Decl.{Decl}}
+use Rattle.fb_tree.specs.{declared.system.Application.{Application}, declared.system.Resource.{Resource}, declared.system.Device.{Device}}
+use Rattle.fb_tree.specs.{declared.system.Mapping.{Mapping}, declared.system.System.{System}, declared.structure.Structure.{Structure}}
 use Rattle.fb_tree.specs.declared.constant.Simple.TheVariants as simple
-use Rattle.fb_tree.specs.declared.constant.Constant.{Constant}
 use Rattle.fb_tree.specs.declared.constant.Constant.TheVariants as constant
-use Rattle.fb_tree.specs.declared.interface.Side.{Side}
-use Rattle.fb_tree.specs.declared.interface.Section.{Section}
-use Rattle.fb_tree.specs.declared.interface.TypeUse.{TypeUse}
-use Rattle.fb_tree.specs.declared.interface.Event.{Event}
-use Rattle.fb_tree.specs.declared.interface.Variables.{Variables}
-use Rattle.fb_tree.specs.declared.interface.Interface.{Interface}
-use Rattle.fb_tree.specs.declared.network.Role.{Role}
-use Rattle.fb_tree.specs.declared.network.Parameter.{Parameter}
-use Rattle.fb_tree.specs.declared.network.Instance.{Instance}
-use Rattle.fb_tree.specs.declared.network.End.{End}
-use Rattle.fb_tree.specs.declared.network.Connection.{Connection}
-use Rattle.fb_tree.specs.declared.network.Network.{Network}
-use Rattle.fb_tree.specs.declared.chart.Action.{Action}
-use Rattle.fb_tree.specs.declared.chart.State.{State}
-use Rattle.fb_tree.specs.declared.chart.Condition.{Condition}
 use Rattle.fb_tree.specs.declared.chart.Condition.TheVariants as condition
-use Rattle.fb_tree.specs.declared.chart.Transition.{Transition}
-use Rattle.fb_tree.specs.declared.chart.Algorithm.{Algorithm}
-use Rattle.fb_tree.specs.declared.chart.Chart.{Chart}
-use Rattle.fb_tree.specs.declared.declaration.TypeDeclaration.{TypeDeclaration}
-use Rattle.fb_tree.specs.declared.declaration.Decl.{Decl}
 use Rattle.fb_tree.specs.declared.declaration.Decl.TheVariants as declared
-use Rattle.fb_tree.specs.declared.system.Application.{Application}
-use Rattle.fb_tree.specs.declared.system.Resource.{Resource}
-use Rattle.fb_tree.specs.declared.system.Device.{Device}
-use Rattle.fb_tree.specs.declared.system.Mapping.{Mapping}
-use Rattle.fb_tree.specs.declared.system.System.{System}
-use Rattle.fb_tree.specs.declared.structure.Structure.{Structure}
 
 pub data ConstantTree : Type 0 where
   one_value : Simple → ConstantTree

@@ -1,7 +1,6 @@
 //! The kinds of units.
 
-ghost use Rattle.fb_tree.specs.Mentions.{unit_kind_of};
-ghost use Rattle.fb_tree.specs.Tree.{decl_tree};
+ghost use Rattle.fb_tree.specs.{Mentions.{unit_kind_of}, Tree.{decl_tree}};
 ghost use Rattle.std.specs.Prelude.{◌≡◌};
 
 use crate::declaration::Decl;

@@ -1,9 +1,7 @@
 //! The types that a declaration mentions.
 
-ghost use Rattle.fb_tree.specs.Mentions.{instance_types, parts_of};
-ghost use Rattle.fb_tree.specs.Tree.{decl_tree};
-ghost use Rattle.std.specs.List.{flat_map};
-ghost use Rattle.std.specs.Prelude.{◌≡◌, IfOk, map};
+ghost use Rattle.fb_tree.specs.{Mentions.{instance_types, parts_of}, Tree.{decl_tree}};
+ghost use Rattle.std.specs.{List.{flat_map}, Prelude.{◌≡◌, IfOk, map}};
 
 use crate::declaration::Decl;
 use crate::network::Instance;

@@ -1,8 +1,7 @@
 //! What a unit mentions, of both sorts.
 
 ghost use Rattle.fb_text.specs.Elementary.{is_elementary};
-ghost use Rattle.fb_tree.specs.Mentions.{all_mentions_of, is_structure_tree, mentioned, value_types, values_of};
-ghost use Rattle.fb_tree.specs.Tree.{decl_tree};
+ghost use Rattle.fb_tree.specs.{Mentions.{all_mentions_of, is_structure_tree, mentioned, value_types, values_of}, Tree.{decl_tree}};
 ghost use Rattle.std.specs.Prelude.{◌≡◌, IfOk, filter, map, not};
 
 use crate::declaration::Decl;

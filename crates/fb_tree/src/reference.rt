@@ -1,7 +1,6 @@
 //! References to variables. They take little memory, since a text has many.
 ghost use Rattle.std.specs.Prelude.{◌≡◌, IfOk};
-ghost use Rattle.fb_tree.specs.Expression.{reference_tree};
-ghost use Rattle.fb_tree.specs.Reference.{first_use, further_names};
+ghost use Rattle.fb_tree.specs.{Expression.{reference_tree}, Reference.{first_use, further_names}};
 
 use fb_text::{Name, NameUse, Place};
 use std::alloc::{AllocError, Global};

@@ -1,30 +1,19 @@
 -- Plans, runs and talks, one after another.
 use Rattle.std.proofs.Common.{◌-◌, ◌+◌, ◌<◌, ◌≡◌, ℕ, [], ◌∷◌, ◌++◌, ◌∙◌, Err, List, None, Ok, Option, Result, Some, ap, append-nil, ap₂, arith, false, length, nat_le, option_map, refl, subst, suc, sym, true}
-use Rattle.std.specs.declared.alloc.AllocError.{AllocError}
-use Rattle.fb_bench.specs.History.Checkpoints.{KeptUpTo, OverNumbers, OverUnits}
-use Rattle.fb_bench.specs.History.Limits.{Bounds}
-use Rattle.fb_bench.specs.History.Machine.{Call, OfDeliver, OfTake, Reply as MachineReply, ToDeliver, ToTake}
-use Rattle.fb_bench.specs.Solo.{IsStep, SoloStep}
+use Rattle.std.specs.{declared.alloc.AllocError.{AllocError}, Result.{result_ok}}
+use Rattle.fb_bench.specs.{History.Checkpoints.{KeptUpTo, OverNumbers, OverUnits}, History.Limits.{Bounds}}
+use Rattle.fb_bench.specs.{History.Machine.{Call, OfDeliver, OfTake, Reply as MachineReply, ToDeliver, ToTake}, Solo.{IsStep, SoloStep}}
 use Rattle.fb_bench.specs.declared.desk.Solo.{Solo}
 use Rattle.fb_bench.specs.Calls.{Answer, AskedCall, AskedCheckpoint, BehindHistory, Checked, CheckpointAnswer, Exchange, Exchanges, FullHistory, Replied, Serves, ServesCheckpoint, SharedHistory, take_reply}
-use Rattle.fb_messages.specs.Jobs.Reads.{PlainJob}
-use Rattle.std.specs.Result.{result_ok}
-use Rattle.fb_bench.specs.declared.answers.Taken.{Taken}
-use Rattle.fb_bench.specs.History.declared.answers.Delivered.{Delivered}
-use Rattle.fb_wire.specs.declared.answer.Round.{Round}
-use Rattle.fb_bench.specs.declared.desk.DeskError.{DeskError}
-use Rattle.fb_bench.specs.declared.desk.DeskError.TheVariants.{Behind, HistoryFull, Memory}
-use Rattle.fb_bench.specs.declared.desk.DeskCheckpointError.{DeskCheckpointError}
-use Rattle.fb_bench.specs.declared.desk.DeskCheckpointError.TheVariants as checkpoint
-use Rattle.serde_json.specs.Data.{Data}
-use Rattle.fb_wire.specs.Lines.{is_blank}
-use Rattle.fb_messages.specs.Replies.{refused, work_done, work_refused}
-use Rattle.fb_wire.specs.Said.{checkpoint_said, said_to}
-use Rattle.fb_messages.specs.ReplyView.{data_of, refusal_text}
+use Rattle.fb_bench.specs.{declared.answers.Taken.{Taken}, History.declared.answers.Delivered.{Delivered}, declared.desk.DeskError.{DeskError}}
+use Rattle.fb_bench.specs.{declared.desk.DeskError.TheVariants.{Behind, HistoryFull, Memory}, declared.desk.DeskCheckpointError.{DeskCheckpointError}}
+use Rattle.fb_messages.specs.{Jobs.Reads.{PlainJob}, Replies.{refused, work_done, work_refused}, ReplyView.{data_of, refusal_text}}
+use Rattle.fb_messages.specs.{declared.reply.Refusal.{Refusal}, declared.reply.Reply.{Reply}}
+use Rattle.fb_wire.specs.{declared.answer.Round.{Round}, Lines.{is_blank}, Said.{checkpoint_said, said_to}}
 use Rattle.fb_wire.specs.Progress.{KeepsTaken, LineSaid, Progress, ProgressTo, RoundProgress, answer_in, checked_in, data_in, left_after, refusal_for, unrecorded}
 use Rattle.fb_wire.specs.Conversations.{Jobs, Leads, Plan, Runs, after_deliver, after_take, asks, call_once, checkpoint_once, checks, held_after, says, take_plan, work_plan}
-use Rattle.fb_messages.specs.declared.reply.Refusal.{Refusal}
-use Rattle.fb_messages.specs.declared.reply.Reply.{Reply}
+use Rattle.fb_bench.specs.declared.desk.DeskCheckpointError.TheVariants as checkpoint
+use Rattle.serde_json.specs.Data.{Data}
 
 pub Leads-append : (plan mid rest : Plan) (ps qs : List Exchange) → Leads plan ps mid → Leads mid qs rest → Leads plan (ps ++ qs) rest
 Leads-append plan mid rest [] qs first more = let P : Plan → Type 0 = λ q. Leads q qs rest in subst P first more

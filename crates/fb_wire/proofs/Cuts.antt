@@ -1,7 +1,6 @@
 -- The lines of bytes that come in pieces.
 use Rattle.std.proofs.Common.{◌≡◌, ◌≢◌, ◌<◌, ◌+◌, ℕ, [], ◌∷◌, ◌++◌, ◌==◌, ◌∙◌, Bool, List, ap, arith, cond, false, get_or, length, refl, take, true}
-use Rattle.std.proofs.lemmas.Bool.Decides.{nat_tests}
-use Rattle.std.proofs.lemmas.List.{take_more}
+use Rattle.std.proofs.{lemmas.Bool.Decides.{nat_tests}, lemmas.List.{take_more}}
 use Rattle.fb_wire.specs.Lines.{IsLine, lines_of, onto_first}
 
 -- the last of the first lines and the first of the others are one line

@@ -1,9 +1,7 @@
 -- Which ends may come where.
 use Rattle.std.proofs.Common.{◌≡◌, ◌↔◌, Bool, Err, IsTrue, Ok, Result, false, refl, true}
 use Rattle.std.specs.Prelude.{⊤}
-use Rattle.fb_wire.specs.Progress.{StopsInside}
-use Rattle.fb_wire.specs.Turns.{StopsAtEnd}
-use Rattle.fb_wire.specs.declared.end.RunEnd.{RunEnd}
+use Rattle.fb_wire.specs.{Progress.{StopsInside}, Turns.{StopsAtEnd}, declared.end.RunEnd.{RunEnd}}
 use Rattle.fb_wire.specs.declared.end.RunEnd.TheVariants as end
 
 pub inside_at_end : (stop : RunEnd) → StopsInside stop → StopsAtEnd stop

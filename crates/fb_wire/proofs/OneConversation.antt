@@ -1,17 +1,11 @@
 -- A conversation is decided by its bytes and by what decides its answers.
 use Rattle.std.proofs.Common.{◌≡◌, ℕ, [], ◌∷◌, ◌++◌, ◌∙◌, Bool, List, MatchBool, ap, ap₂, arith, false, inl, inr, refl, subst, sym, true}
 use Rattle.serde_json.specs.Data.{Data}
-use Rattle.fb_bench.specs.History.Limits.{Bounds}
-use Rattle.fb_bench.specs.History.Machine.{Call}
-use Rattle.fb_bench.specs.Calls.{Answer, AskedCall, AskedCheckpoint, CheckpointAnswer, Exchange}
-use Rattle.fb_bench.specs.Solo.{IsCallStep, IsCheckpointStep, IsStep}
-use Rattle.fb_bench.specs.History.BenchView.{BenchView}
-use Rattle.fb_wire.specs.Lines.{Fits, IsTooLong, is_blank, lines_of}
-use Rattle.fb_messages.specs.Requests.{request_of}
-use Rattle.fb_messages.specs.Replies.{reply_line}
-use Rattle.fb_wire.specs.Ends.{AnsweredAll, AnsweredEnded, IsBetweenLines, OutputAt}
-use Rattle.fb_wire.specs.Conversations.{AnswersLines, Jobs, Leads, Plan, Runs, answers_of, asks, checks, plan_of, says}
-use Rattle.fb_wire.specs.declared.end.RunEnd.{RunEnd}
+use Rattle.fb_bench.specs.{History.Limits.{Bounds}, History.Machine.{Call}, Calls.{Answer, AskedCall, AskedCheckpoint, CheckpointAnswer, Exchange}}
+use Rattle.fb_bench.specs.{Solo.{IsCallStep, IsCheckpointStep, IsStep}, History.BenchView.{BenchView}}
+use Rattle.fb_wire.specs.{Lines.{Fits, IsTooLong, is_blank, lines_of}, Ends.{AnsweredAll, AnsweredEnded, IsBetweenLines, OutputAt}}
+use Rattle.fb_wire.specs.{Conversations.{AnswersLines, Jobs, Leads, Plan, Runs, answers_of, asks, checks, plan_of, says}, declared.end.RunEnd.{RunEnd}}
+use Rattle.fb_messages.specs.{Requests.{request_of}, Replies.{reply_line}}
 use Rattle.fb_wire.specs.declared.end.RunEnd.TheVariants as end
 use Rattle.fb_wire.proofs.Scripts.{call_is, checkpoint_is}
 

@@ -1,21 +1,14 @@
 -- What was said on a workbench is what the script says.
 use Rattle.std.proofs.Common.{◌≡◌, ◌<◌, ◌≤◌, ℕ, [], ◌∷◌, ◌++◌, ◌∙◌, Bool, List, MatchBool, ap, append-nil, append_assoc, arith, cond, drop, false, length, nat_lt, refl, subst, sym, true}
-use Rattle.std.proofs.lemmas.Bool.Decides.{nat_tests}
-use Rattle.std.proofs.lemmas.List.{take-append-drop}
+use Rattle.std.proofs.{lemmas.Bool.Decides.{nat_tests}, lemmas.List.{take-append-drop}}
 use Rattle.serde_json.specs.Data.{Data}
-use Rattle.fb_bench.specs.History.Checkpoints.{bench_checked}
-use Rattle.fb_bench.specs.History.Machine.{Call, reply}
-use Rattle.fb_bench.specs.History.Limits.{Bounds}
+use Rattle.fb_bench.specs.{History.Checkpoints.{bench_checked}, History.Machine.{Call, reply}, History.Limits.{Bounds}}
 use Rattle.fb_bench.specs.Calls.{Answer, AskedCall, AskedCheckpoint, BehindHistory, Checked, CheckpointAnswer, Exchange, FullHistory, Replied, SharedHistory}
-use Rattle.fb_bench.specs.Solo.{IsCallStep, IsCheckpointStep, IsStep}
-use Rattle.fb_bench.specs.History.BenchView.{BenchView}
-use Rattle.fb_wire.specs.Ends.{IsNothing, IsPrefixOfReply, OutputAt}
-use Rattle.fb_wire.specs.Lines.{is_blank, lines_of}
-use Rattle.fb_messages.specs.Replies.{reply_line}
-use Rattle.fb_messages.specs.Requests.{request_of}
+use Rattle.fb_bench.specs.{Solo.{IsCallStep, IsCheckpointStep, IsStep}, History.BenchView.{BenchView}}
+use Rattle.fb_wire.specs.{Ends.{IsNothing, IsPrefixOfReply, OutputAt}, Lines.{is_blank, lines_of}}
 use Rattle.fb_wire.specs.Script.{IsPrefixOf, SaysBy, Script, answer_from, bench_after, bench_anew, checkpoint_from, line_result, reply_before, script, script_from}
-use Rattle.fb_wire.specs.Conversations.{AnswersLines, Jobs, Leads, Plan, Runs, asks, checks, plan_of, says}
-use Rattle.fb_wire.specs.declared.end.RunEnd.{RunEnd}
+use Rattle.fb_wire.specs.{Conversations.{AnswersLines, Jobs, Leads, Plan, Runs, asks, checks, plan_of, says}, declared.end.RunEnd.{RunEnd}}
+use Rattle.fb_messages.specs.{Replies.{reply_line}, Requests.{request_of}}
 use Rattle.fb_wire.specs.declared.end.RunEnd.TheVariants as end
 
 has_room : (n limit : ℕ) → n < limit → nat_lt n limit ≡ true

@@ -1,17 +1,13 @@
 -- Conversations that go on by a line, and pieces of the bytes.
-use Rattle.std.proofs.Math.Seq.{take-add}
-use Rattle.std.proofs.lemmas.List.{take-append-drop, take_rest}
+use Rattle.std.proofs.{Math.Seq.{take-add}, lemmas.List.{take-append-drop, take_rest}}
 use Rattle.std.proofs.Common.{◌-◌, ◌≡◌, ◌+◌, ℕ, [], ◌∷◌, ◌++◌, ◌∙◌, Bool, Err, List, MatchBool, Ok, Result, ap, append-nil, append_assoc, arith, drop, false, length, refl, subst, sym, take, true}
 use Rattle.fb_bench.specs.Calls.{Exchange}
-use Rattle.fb_wire.specs.Lines.{Fits, IsLine, is_blank, lines_of}
-use Rattle.fb_messages.specs.Requests.{request_of}
-use Rattle.fb_wire.specs.Ends.{AnsweredEnded, IsNothing, OutputAt}
-use Rattle.fb_wire.specs.Progress.{ConversationAt, Extends, LineSaid, PieceTaken}
-use Rattle.fb_wire.specs.Conversations.{AnswersLine, AnswersLines, Jobs, Leads, Plan, Runs, plan_of}
+use Rattle.fb_wire.specs.{Lines.{Fits, IsLine, is_blank, lines_of}, Ends.{AnsweredEnded, IsNothing, OutputAt}}
+use Rattle.fb_wire.specs.{Progress.{ConversationAt, Extends, LineSaid, PieceTaken}, Conversations.{AnswersLine, AnswersLines, Jobs, Leads, Plan, Runs, plan_of}}
 use Rattle.fb_wire.specs.declared.end.RunEnd.{RunEnd}
+use Rattle.fb_messages.specs.Requests.{request_of}
 use Rattle.fb_wire.specs.declared.end.RunEnd.TheVariants as end
-use Rattle.fb_wire.proofs.Cuts.{after_line, after_part}
-use Rattle.fb_wire.proofs.Conversations.{Runs-append}
+use Rattle.fb_wire.proofs.{Cuts.{after_line, after_part}, Conversations.{Runs-append}}
 
 pub none_fits : Fits []
 none_fits = omega arith

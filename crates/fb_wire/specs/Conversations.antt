@@ -2,22 +2,16 @@
 use Rattle.std.specs.Prelude.{◌≡◌, ◌⊎◌, ℕ, ◌+◌, [], ◌∷◌, ◌++◌, if◌then◌else◌, Err, List, MatchBool, None, Ok, Option, Result, Some, length, map, nat_le, slice_get, suc, take, zero}
 use mathlib.Core.Logic.{inl, inr}
 use Rattle.serde_json.specs.Data.{Data}
-use Rattle.fb_text.specs.Name.{name_of}
-use Rattle.fb_text.specs.declared.name.NameFault.{NameFault}
-use Rattle.fb_library.specs.Parse.Source.{longest_text}
-use Rattle.fb_library.specs.Texts.{Edit, Puts, Removes}
-use Rattle.fb_messages.specs.Jobs.Reads.{PlainJob}
-use Rattle.fb_bench.specs.History.Machine.{Call, OfDeliver, OfTake, ToAsk, ToCommit, ToDeliver, ToGiveBack, ToTake, most_changes}
-use Rattle.fb_bench.specs.History.Limits.{Bounds}
+use Rattle.fb_text.specs.{Name.{name_of}, declared.name.NameFault.{NameFault}}
+use Rattle.fb_library.specs.{Parse.Source.{longest_text}, Texts.{Edit, Puts, Removes}}
+use Rattle.fb_messages.specs.{Jobs.Reads.{PlainJob}, Replies.{refused, reply_line, work_done, work_refused}, ReplyView.{refusal_text}}
+use Rattle.fb_messages.specs.Requests.{Change, Request, puts, removes, request_of}
+use Rattle.fb_bench.specs.{History.Machine.{Call, OfDeliver, OfTake, ToAsk, ToCommit, ToDeliver, ToGiveBack, ToTake, most_changes}, History.Limits.{Bounds}}
 use Rattle.fb_bench.specs.Calls.{Answer, AskedCall, AskedCheckpoint, BehindHistory, CheckpointAnswer, Exchange, FullHistory, Replied}
 use Rattle.fb_bench.specs.History.declared.answers.Delivered.TheVariants.{Accepted}
-use Rattle.fb_wire.specs.Lines.{Fits, is_blank}
-use Rattle.fb_messages.specs.Replies.{refused, reply_line, work_done, work_refused}
-use Rattle.fb_messages.specs.ReplyView.{refusal_text}
+use Rattle.fb_wire.specs.{Lines.{Fits, is_blank}, Said.{checkpoint_said, said_to}}
 use Rattle.fb_messages.specs.declared.reply.Refusal.TheVariants as because
-use Rattle.fb_wire.specs.Said.{checkpoint_said, said_to}
 use Rattle.fb_messages.specs.Requests as asked
-use Rattle.fb_messages.specs.Requests.{Change, Request, puts, removes, request_of}
 
 -- the jobs that a run holds, by their keys and what they read
 abbrev pub Jobs : Type 0

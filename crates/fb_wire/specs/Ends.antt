@@ -1,14 +1,11 @@
 -- How a run ends, and what it has said and done by then.
-use Rattle.std.specs.Prelude.{◌≡◌, ◌↔◌, ◌≤◌, ◌+◌, ℕ, [], ◌∷◌, ◌++◌, Bool, IsTrue, List, Option, length, take}
-use Rattle.std.specs.Io.KnownBytes.{Consumes, IsAtEnd}
+use Rattle.std.specs.{Prelude.{◌≡◌, ◌↔◌, ◌≤◌, ◌+◌, ℕ, [], ◌∷◌, ◌++◌, Bool, IsTrue, List, Option, length, take}, Io.KnownBytes.{Consumes, IsAtEnd}}
 use Rattle.fb_streams.specs.Streams.{StaysFlushed}
 use Rattle.serde_json.specs.Data.{Data}
 use Rattle.fb_bench.specs.Calls.{Exchange}
-use Rattle.fb_wire.specs.Lines.{Fits, IsTooLong, lines_of}
-use Rattle.fb_messages.specs.Replies.{reply_line}
-use Rattle.fb_wire.specs.Conversations.{AnswersLines, Jobs, LinePart, Plan, says}
-use Rattle.fb_wire.specs.declared.end.RunEnd.{RunEnd}
+use Rattle.fb_wire.specs.{Lines.{Fits, IsTooLong, lines_of}, Conversations.{AnswersLines, Jobs, LinePart, Plan, says}, declared.end.RunEnd.{RunEnd}}
 use Rattle.fb_wire.specs.declared.end.RunEnd.TheVariants.{End, LineTooLong, Memory, ReadFailed, TurnsOver, WriteFailed}
+use Rattle.fb_messages.specs.Replies.{reply_line}
 
 -- every line was answered, the last one too; so none is too long
 abbrev pub AnsweredAll : List ℕ → List Exchange → List ℕ → Type 0

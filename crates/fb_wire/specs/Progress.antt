@@ -1,36 +1,23 @@
 -- For private clauses: how far a plan has come on a desk.
 use Rattle.std.specs.Prelude.{[], ◌∷◌, ◌++◌, ⊤, ◌≡◌, ℕ, ◌+◌, Err, List, MatchResult, None, Ok, Option, Result, Some, Vec, false, length, option_map}
-use Rattle.std.specs.declared.alloc.AllocError.{AllocError}
+use Rattle.std.specs.{declared.alloc.AllocError.{AllocError}, declared.alloc.Global.{Global}}
 use Rattle.serde_json.specs.Data.{Data}
-use Rattle.fb_bench.specs.History.Checkpoints.{KeptUpTo, OverNumbers, OverUnits}
-use Rattle.fb_bench.specs.History.Machine.{OfTake, Reply as MachineReply, ToTake}
+use Rattle.fb_bench.specs.{History.Checkpoints.{KeptUpTo, OverNumbers, OverUnits}, History.Machine.{OfTake, Reply as MachineReply, ToTake}}
 use Rattle.fb_bench.specs.Calls.{Answer, BehindHistory, Checked, CheckpointAnswer, Exchange, FullHistory, Replied, SharedHistory}
-use Rattle.fb_bench.specs.declared.desk.DeskError.{DeskError}
-use Rattle.fb_bench.specs.declared.desk.DeskError.TheVariants.{Behind, HistoryFull, Memory}
+use Rattle.fb_bench.specs.{declared.desk.DeskError.{DeskError}, declared.desk.DeskError.TheVariants.{Behind, HistoryFull, Memory}}
 use Rattle.fb_bench.specs.declared.desk.DeskCheckpointError.{DeskCheckpointError}
 use Rattle.fb_bench.specs.declared.desk.DeskCheckpointError.TheVariants as checkpoint
-use Rattle.std.specs.declared.alloc.Global.{Global}
-use Rattle.fb_library.specs.Texts.{Edit}
-use Rattle.fb_library.specs.Changes.{edit_of, edits_of}
-use Rattle.fb_library.specs.declared.change.Change.{Change}
-use Rattle.fb_wire.specs.declared.change.ChangeFault.{ChangeFault}
-use Rattle.fb_wire.specs.declared.change.ChangeFault.TheVariants as fault
-use Rattle.fb_wire.specs.Lines.{Fits, IsTooLong, is_blank, lines_of}
-use Rattle.fb_messages.specs.Requests.{request_of}
-use Rattle.fb_wire.specs.Ends.{IsNothing, IsPrefixOfReply, OutputAt}
+use Rattle.fb_library.specs.{Texts.{Edit}, Changes.{edit_of, edits_of}, declared.change.Change.{Change}}
+use Rattle.fb_wire.specs.{declared.change.ChangeFault.{ChangeFault}, Lines.{Fits, IsTooLong, is_blank, lines_of}, Ends.{IsNothing, IsPrefixOfReply, OutputAt}}
 use Rattle.fb_wire.specs.declared.end.RunEnd.{RunEnd}
-use Rattle.fb_wire.specs.declared.end.RunEnd.TheVariants as end
-use Rattle.fb_wire.specs.Conversations.{AnswersLine, AnswersLines, Jobs, Leads, Plan, Runs, after_take, asks, held_after, plan_of, says}
-use Rattle.fb_messages.specs.Replies.{work_done, work_refused}
-use Rattle.fb_wire.specs.Said.{said_to}
-use Rattle.fb_messages.specs.ReplyView.{data_of, refusal_text}
-use Rattle.fb_wire.specs.declared.answer.Round.{Round}
-use Rattle.fb_wire.specs.declared.answer.Round.TheVariants as rounds
-use Rattle.fb_messages.specs.declared.reply.Reply.{Reply}
+use Rattle.fb_wire.specs.{Conversations.{AnswersLine, AnswersLines, Jobs, Leads, Plan, Runs, after_take, asks, held_after, plan_of, says}, Said.{said_to}}
+use Rattle.fb_wire.specs.{declared.answer.Round.{Round}, declared.answer.Taking.{Taking}, declared.answer.Taking.TheVariants.{Ended, Job}}
+use Rattle.fb_wire.specs.declared.change.ChangeFault.TheVariants as fault
+use Rattle.fb_messages.specs.{Requests.{request_of}, Replies.{work_done, work_refused}, ReplyView.{data_of, refusal_text}, declared.reply.Reply.{Reply}}
 use Rattle.fb_messages.specs.declared.reply.Refusal.{Refusal}
+use Rattle.fb_wire.specs.declared.end.RunEnd.TheVariants as end
+use Rattle.fb_wire.specs.declared.answer.Round.TheVariants as rounds
 use Rattle.fb_messages.specs.declared.reply.Refusal.TheVariants as because
-use Rattle.fb_wire.specs.declared.answer.Taking.{Taking}
-use Rattle.fb_wire.specs.declared.answer.Taking.TheVariants.{Ended, Job}
 
 -- some calls and checkpoints of the plan lead the desk from old to new, and this is left of it
 abbrev pub ProgressTo : {S : Type 0} → (S → Exchange → S → Type 0) → Plan → S → Plan → S → Type 0

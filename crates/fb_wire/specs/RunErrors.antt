@@ -1,8 +1,7 @@
 -- Why a run fails.
 use Rattle.std.specs.Prelude.{None, Option, Some}
-use Rattle.fb_wire.specs.declared.end.RunEnd.{RunEnd}
+use Rattle.fb_wire.specs.{declared.end.RunEnd.{RunEnd}, declared.run_error.RunError.{RunError}}
 use Rattle.fb_wire.specs.declared.end.RunEnd.TheVariants as end
-use Rattle.fb_wire.specs.declared.run_error.RunError.{RunError}
 use Rattle.fb_wire.specs.declared.run_error.RunError.TheVariants as fault
 
 -- each end but that of the input has a fault of its own

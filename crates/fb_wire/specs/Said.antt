@@ -2,6 +2,8 @@
 use Rattle.std.specs.Prelude.{ℕ, None, Option, Some, false, true}
 use Rattle.serde_json.specs.Data.{Data}
 use Rattle.fb_messages.specs.Jobs.Reads.{PlainJob}
+use Rattle.fb_messages.specs.Replies.{checkpointed, committed, delivered, job_given, no_job, pending_said, refused, refused_base, refused_unit, returned, value_said}
+use Rattle.fb_messages.specs.ReplyView.{refusal_text}
 use Rattle.fb_bench.specs.History.Checkpoints.{Checking, KeptUpTo, OverNumbers, OverUnits}
 use Rattle.fb_bench.specs.History.Machine.{Finds, OfAsk, OfCommit, OfDeliver, OfGiveBack, OfTake, Reply, Shown, Unknown, Waits}
 use Rattle.fb_bench.specs.Calls.{Answer, BehindHistory, Checked, CheckpointAnswer, FullHistory, Replied, SharedHistory}
@@ -9,10 +11,7 @@ use Rattle.fb_bench.specs.History.declared.answers.Committed.{Committed}
 use Rattle.fb_bench.specs.History.declared.answers.Committed.TheVariants.{Done, NoChange, NoSuchUnit, SameUnitTwice, StaleBase, TooManyChanges, TooManyUnits}
 use Rattle.fb_bench.specs.History.declared.answers.Delivered.{Delivered}
 use Rattle.fb_bench.specs.History.declared.answers.Delivered.TheVariants.{Accepted, NoSuchKey, NotPending, Stale}
-use Rattle.fb_bench.specs.History.declared.answers.GivenBack.{GivenBack}
-use Rattle.fb_bench.specs.History.declared.answers.GivenBack.TheVariants.{NothingOut, Returned}
-use Rattle.fb_messages.specs.Replies.{checkpointed, committed, delivered, job_given, no_job, pending_said, refused, refused_base, refused_unit, returned, value_said}
-use Rattle.fb_messages.specs.ReplyView.{refusal_text}
+use Rattle.fb_bench.specs.{History.declared.answers.GivenBack.{GivenBack}, History.declared.answers.GivenBack.TheVariants.{NothingOut, Returned}}
 use Rattle.fb_messages.specs.declared.reply.Refusal.TheVariants as because
 
 abbrev pub commit_said : Committed → Data

@@ -1,17 +1,11 @@
 -- What a workbench says to the bytes of a script: a function of the two.
 use Rattle.std.specs.Prelude.{◌≡◌, ℕ, [], ◌∷◌, ◌++◌, if◌then◌else◌, List, length, nat_lt}
 use Rattle.serde_json.specs.Data.{Data}
-use Rattle.fb_bench.specs.History.Checkpoints.{checking, bench_checked}
-use Rattle.fb_bench.specs.History.Limits.{Bounds}
-use Rattle.fb_bench.specs.History.Machine.{Call, reply}
-use Rattle.fb_bench.specs.History.BenchView.{BenchView, recorded, state_of}
-use Rattle.fb_bench.specs.Calls.{Answer, Checked, CheckpointAnswer, FullHistory, Replied}
-use Rattle.fb_wire.specs.Lines.{is_blank, lines_of}
-use Rattle.fb_messages.specs.Replies.{reply_line}
-use Rattle.fb_messages.specs.Requests.{request_of}
-use Rattle.fb_wire.specs.Conversations.{Jobs, Plan, asks, checks, plan_of, says}
-use Rattle.fb_wire.specs.declared.end.RunEnd.{RunEnd}
+use Rattle.fb_bench.specs.{History.Checkpoints.{checking, bench_checked}, History.Limits.{Bounds}, History.Machine.{Call, reply}}
+use Rattle.fb_bench.specs.{History.BenchView.{BenchView, recorded, state_of}, Calls.{Answer, Checked, CheckpointAnswer, FullHistory, Replied}}
+use Rattle.fb_wire.specs.{Lines.{is_blank, lines_of}, Conversations.{Jobs, Plan, asks, checks, plan_of, says}, declared.end.RunEnd.{RunEnd}}
 use Rattle.fb_wire.specs.declared.end.RunEnd.TheVariants.{End}
+use Rattle.fb_messages.specs.{Replies.{reply_line}, Requests.{request_of}}
 
 -- the answer to a call: the machine's, where the history has room
 abbrev pub answer_from : BenchView → Call → Answer

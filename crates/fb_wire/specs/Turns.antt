@@ -1,10 +1,8 @@
 -- For private clauses: what one read comes to.
 use Rattle.std.specs.Prelude.{⊤, ℕ, List, Result}
 use Rattle.fb_bench.specs.Calls.{Exchange}
-use Rattle.fb_wire.specs.Progress.{PieceTaken}
-use Rattle.fb_wire.specs.declared.end.RunEnd.{RunEnd}
+use Rattle.fb_wire.specs.{Progress.{PieceTaken}, declared.end.RunEnd.{RunEnd}, declared.line.Conversation.{Conversation}}
 use Rattle.fb_wire.specs.declared.end.RunEnd.TheVariants as end
-use Rattle.fb_wire.specs.declared.line.Conversation.{Conversation}
 
 -- the conversation takes a piece of the bytes, by its line and its jobs
 abbrev pub TakesPiece : {S : Type 0} → (S → Exchange → S → Type 0) → S → Conversation → List ℕ → List ℕ → List ℕ → Result ⊤ RunEnd → S → Conversation → List ℕ → Type 0

@@ -1,15 +1,10 @@
 //! The calls of a desk for a request, and the reply.
-ghost use Rattle.std.specs.Prelude.{◌≡◌, ℕ, Some, length, map, option_map};
-ghost use Rattle.std.specs.Option.{option_copied};
-ghost use Rattle.std.specs.Result.{result_ok};
+ghost use Rattle.std.specs.{Prelude.{◌≡◌, ℕ, Some, length, map, option_map}, Option.{option_copied}, Result.{result_ok}};
 ghost use Rattle.fb_text.specs.Name.{name_of};
-ghost use Rattle.fb_bench.specs.Calls.{Exchanges, take_reply};
-ghost use Rattle.fb_bench.specs.History.Machine.{OfDeliver, ToAsk, ToCommit, ToDeliver, ToGiveBack};
-ghost use Rattle.fb_bench.specs.Requests.{call_for, reply_in};
-ghost use Rattle.fb_bench.specs.Records.{listed};
-ghost use Rattle.fb_messages.specs.ReplyView.{data_of};
+ghost use Rattle.fb_bench.specs.{Calls.{Exchanges, take_reply}, History.Machine.{OfDeliver, ToAsk, ToCommit, ToDeliver, ToGiveBack}};
+ghost use Rattle.fb_bench.specs.{Requests.{call_for, reply_in}, Records.{listed}};
+ghost use Rattle.fb_messages.specs.{ReplyView.{data_of}, RequestView.{change_view, request_view}};
 ghost use Rattle.fb_wire.specs.Said.{checkpoint_said, commit_said, deliver_said, reply_said, said_to};
-ghost use Rattle.fb_messages.specs.RequestView.{change_view, request_view};
 ghost use Rattle.fb_wire.specs.Progress.{KeepsTaken, Progress, RoundProgress, Takes, answer_in, checked_in, data_in, left_after, refusal_for, unrecorded};
 ghost use Rattle.fb_wire.specs.Conversations.{Jobs, Plan, after_deliver, call_once, checkpoint_once, commit_plan, deliver_plan, edits_in, job_at, plan_of, take_plan, with_name, work_plan};
 

@@ -1,9 +1,7 @@
 //! The changes of a commit, with their names and texts read.
 ghost use Rattle.std.specs.Prelude.{map};
-ghost use Rattle.fb_messages.specs.RequestView.{change_view};
-ghost use Rattle.fb_wire.specs.Progress.{ChangeMade, ChangesMade};
-ghost use Rattle.fb_messages.specs.Requests.{puts, removes};
-ghost use Rattle.fb_wire.specs.Conversations.{edit_in, edits_in};
+ghost use Rattle.fb_messages.specs.{RequestView.{change_view}, Requests.{puts, removes}};
+ghost use Rattle.fb_wire.specs.{Progress.{ChangeMade, ChangesMade}, Conversations.{edit_in, edits_in}};
 
 use fb_library::Change;
 use fb_library::parse::{ReadFault, Source};

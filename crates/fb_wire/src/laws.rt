@@ -1,11 +1,7 @@
 //! What decides a conversation.
 ghost use Rattle.std.specs.Prelude.{◌≡◌, ℕ, List};
-ghost use Rattle.fb_bench.specs.Calls.{Exchange};
-ghost use Rattle.fb_bench.specs.Solo.{IsStep};
-ghost use Rattle.fb_bench.specs.History.BenchView.{BenchView};
-ghost use Rattle.fb_wire.specs.Ends.{AnsweredAll, IsBetweenLines, OutputAt};
-ghost use Rattle.fb_wire.specs.Conversations.{Runs, answers_of};
-ghost use Rattle.fb_wire.specs.declared.end.RunEnd.{RunEnd};
+ghost use Rattle.fb_bench.specs.{Calls.{Exchange}, Solo.{IsStep}, History.BenchView.{BenchView}};
+ghost use Rattle.fb_wire.specs.{Ends.{AnsweredAll, IsBetweenLines, OutputAt}, Conversations.{Runs, answers_of}, declared.end.RunEnd.{RunEnd}};
 
 /// The bytes and the answers decide which calls and checkpoints are made and what is written, at each end that comes between two lines.
 pub fn one_conversation()

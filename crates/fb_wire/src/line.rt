@@ -1,12 +1,10 @@
 //! The reply to one line.
 ghost use Rattle.std.specs.Prelude.{◌≡◌, ◌↔◌, [], IfErr, IfOk, IsTrue, false, is_err, true};
 ghost use Rattle.fb_bench.specs.Calls.{Exchanges};
-ghost use Rattle.fb_wire.specs.Lines.{is_blank};
+ghost use Rattle.fb_wire.specs.{Lines.{is_blank}, Progress.{LineSaid, Progress, StopsInside}, Conversations.{plan_of}};
 ghost use Rattle.serde_json.specs.View.{view};
 ghost use Rattle.fb_messages.specs.Requests.{request_in, request_of};
-ghost use Rattle.fb_wire.specs.Progress.{LineSaid, Progress, StopsInside};
 ghost use Rattle.fb_streams.specs.Streams.{StaysFlushed, WritesAll};
-ghost use Rattle.fb_wire.specs.Conversations.{plan_of};
 
 use crate::answer::answer;
 use crate::end::RunEnd;

@@ -2,9 +2,7 @@
 ghost use Rattle.std.specs.Prelude.{◌≡◌, ◌↔◌, ◌≤◌, ◌<◌, ◌+◌, ◌==◌, ℕ, ◌∷◌, [], ◌++◌, IfErr, IsTrue, List, MatchOption, MatchResult, false, length, take};
 ghost use Rattle.fb_bench.specs.Calls.{Exchanges};
 ghost use Rattle.fb_streams.specs.Streams.{StaysFlushed};
-ghost use Rattle.fb_wire.specs.Lines.{IsLine};
-ghost use Rattle.fb_wire.specs.Progress.{Extends, StopsInside};
-ghost use Rattle.fb_wire.specs.Turns.{TakesPiece};
+ghost use Rattle.fb_wire.specs.{Lines.{IsLine}, Progress.{Extends, StopsInside}, Turns.{TakesPiece}};
 
 use crate::end::RunEnd;
 use crate::line::{Conversation, say_line};

@@ -1,13 +1,9 @@
 //! The whole conversation.
 ghost use Rattle.std.specs.Prelude.{◌≡◌, ◌↔◌, ◌≤◌, ◌<◌, ◌+◌, ℕ, [], ◌++◌, Err, IfErr, IsTrue, List, Ok, OnOk, false, length};
 ghost use Rattle.std.specs.Io.KnownBytes.{Consumes, IsAtEnd};
-ghost use Rattle.fb_bench.specs.Calls.{Exchanges};
-ghost use Rattle.fb_bench.specs.Solo.{IsStep};
+ghost use Rattle.fb_bench.specs.{Calls.{Exchanges}, Solo.{IsStep}};
 ghost use Rattle.fb_streams.specs.Streams.{StaysFlushed};
-ghost use Rattle.fb_wire.specs.Ends.{IsConversation, streams};
-ghost use Rattle.fb_wire.specs.Script.{SaysBy};
-ghost use Rattle.fb_wire.specs.Turns.{StopsAtEnd, StopsRead, TakesPiece};
-ghost use Rattle.fb_wire.specs.Conversations.{Runs};
+ghost use Rattle.fb_wire.specs.{Ends.{IsConversation, streams}, Script.{SaysBy}, Turns.{StopsAtEnd, StopsRead, TakesPiece}, Conversations.{Runs}};
 
 use crate::end::RunEnd;
 use crate::line::{Conversation, say_line};

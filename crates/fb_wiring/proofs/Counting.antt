@@ -1,23 +1,14 @@
 -- The count of more instances.
 use Rattle.std.proofs.Common.{ℕ, suc, ◌≡◌, ◌+◌, ◌<◌, List, [], ◌∷◌, ◌++◌, Option, Some, None, refl, sym, ◌∙◌, ap, subst, arith, length, min, take, get_or, append-nil, append_assoc, length-append}
-use Rattle.std.specs.Prelude.{map, unwrap_or}
-use Rattle.std.proofs.lemmas.List.{take_more}
-use Rattle.std.proofs.lemmas.List.Elements.{Contains-append_left, Contains-append_right, filter_map-append}
-use Rattle.std.specs.List.{cons_option}
-use Rattle.fb_network.specs.declared.count.TheConstants.{INSTANCE_LIMIT}
-use Rattle.fb_network.specs.declared.network.InstanceKind.{InstanceKind}
-use Rattle.fb_network.specs.declared.network.InstanceKind.TheVariants.{Block, Subapplication}
-use Rattle.fb_network.specs.declared.network.Instance.{Instance}
-use Rattle.fb_network.specs.Plain.{PlainNetwork}
-use Rattle.fb_network.specs.Network.{View}
-use Rattle.fb_network.specs.Instances.{Held, held_as, held_within, AreInstances, NoInstance, ThenBlock, ThenSubapplication}
-use Rattle.fb_network.specs.Count.{IsCount}
+use Rattle.std.proofs.{lemmas.List.{take_more}, lemmas.List.Elements.{Contains-append_left, Contains-append_right, filter_map-append}}
+use Rattle.std.specs.{Prelude.{map, unwrap_or}, List.{cons_option}}
+use Rattle.fb_network.specs.{declared.count.TheConstants.{INSTANCE_LIMIT}, declared.network.InstanceKind.{InstanceKind}}
+use Rattle.fb_network.specs.{declared.network.InstanceKind.TheVariants.{Block, Subapplication}, declared.network.Instance.{Instance}, Plain.{PlainNetwork}}
+use Rattle.fb_network.specs.{Network.{View}, Instances.{Held, held_as, held_within, AreInstances, NoInstance, ThenBlock, ThenSubapplication}, Count.{IsCount}}
 use Rattle.fb_tree.specs.Tree.{InstanceTree}
 use Rattle.fb_tree.proofs.Text.Members.{contains_here}
-use Rattle.fb_wiring.specs.Counts.{IsCounted, AreCounted, CountsAll, CountsOn, count_of_kind, counted_with, plain_instances}
-use Rattle.fb_wiring.specs.Networks.{plain_instance}
-use Rattle.fb_wiring.specs.Units.{instances_in}
-use Rattle.fb_wiring.specs.declared.systems.Application.{Application}
+use Rattle.fb_wiring.specs.{Counts.{IsCounted, AreCounted, CountsAll, CountsOn, count_of_kind, counted_with, plain_instances}, Networks.{plain_instance}}
+use Rattle.fb_wiring.specs.{Units.{instances_in}, declared.systems.Application.{Application}}
 
 pub instances-append : {view : View} {xs ys : List Instance} {xhs bs : List Held} → AreInstances view xs xhs → AreInstances view ys bs → AreInstances view (xs ++ ys) (xhs ++ bs)
 instances-append NoInstance b = b

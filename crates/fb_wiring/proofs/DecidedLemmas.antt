@@ -3,12 +3,10 @@ use Rattle.std.proofs.Common.{◌≡◌, ℕ, Bool, true, false, cond, ◌||◌,
 use Rattle.std.proofs.lemmas.Bool.{false≢true, or_left, or_right}
 use Rattle.std.specs.List.{Contains}
 use Rattle.fb_tree.proofs.Text.Tests.{by_bool, or_cases, no_both}
-use Rattle.fb_iface.proofs.Library.SeenLemmas.{same, same_is}
+use Rattle.fb_iface.proofs.{Library.SeenLemmas.{same, same_is}, Library.WalkLemmas.{Contains-has, has-Contains, has-push}}
 use Rattle.fb_iface.specs.Library.Seen.{has_name}
-use Rattle.fb_iface.proofs.Library.WalkLemmas.{Contains-has, has-Contains, has-push}
 use Rattle.fb_wiring.specs.Graph.{Follows, IsDecided, AreDecided}
-use Rattle.fb_wiring.proofs.NameLemmas.{or_none, or_none_left}
-use Rattle.fb_wiring.proofs.GraphLemmas.{follow_both, no_follow}
+use Rattle.fb_wiring.proofs.{NameLemmas.{or_none, or_none_left}, GraphLemmas.{follow_both, no_follow}}
 
 gone : (b x : Bool) → b ≡ true → cond b false x ≡ false
 gone b x t = ap (λ c. cond c false x) t

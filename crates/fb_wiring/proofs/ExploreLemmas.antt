@@ -1,25 +1,15 @@
 -- The search that makes a graph: what it keeps.
 use Rattle.std.proofs.Common.{◌≡◌, ℕ, ◌<◌, Bool, true, false, cond, ◌||◌, ◌&&◌, List, [], ◌∷◌, ◌++◌, Option, Some, refl, sym, ap, subst, ◌∙◌, append_assoc, nat_cmp}
-use Rattle.std.proofs.lemmas.Bool.{or_left, or_right}
-use Rattle.std.proofs.lemmas.List.Elements.{Contains-append_left, Contains-append_right}
-use Rattle.std.specs.Option.{option_map_or}
-use Rattle.std.specs.BTreeMap.{Updates, get, is_at}
-use Rattle.std.specs.Map.{lookup}
-use Rattle.std.specs.Cmp.Lexicographic.{slice_cmp}
-use Rattle.std.specs.declared.vec.Vec.{Vec}
+use Rattle.std.proofs.{lemmas.Bool.{or_left, or_right}, lemmas.List.Elements.{Contains-append_left, Contains-append_right}}
+use Rattle.std.specs.{Option.{option_map_or}, BTreeMap.{Updates, get, is_at}, Map.{lookup}, Cmp.Lexicographic.{slice_cmp}, declared.vec.Vec.{Vec}}
 use Rattle.std.specs.declared.alloc.Global.{Global}
 use Rattle.fb_tree.proofs.Text.Tests.{by_bool, or_cases, or_assoc, or_false, no_both}
 use Rattle.fb_tree.specs.Text.Order.{name_cmp}
-use Rattle.fb_iface.proofs.Library.SeenLemmas.{same, same_is, same_self}
-use Rattle.fb_iface.specs.Library.View.{Sources, parts_at, parts_in}
-use Rattle.fb_iface.specs.Library.Seen.{has_name}
-use Rattle.fb_iface.proofs.Library.WalkLemmas.{Contains-has, has-Contains, has-push, mentioned_somewhere}
-use Rattle.fb_wiring.specs.Graph.{Edges, edges_at, IsReverse, IsGraph}
-use Rattle.fb_wiring.specs.Steps.{enters}
-use Rattle.fb_wiring.specs.declared.search.Step.{Step}
+use Rattle.fb_iface.proofs.{Library.SeenLemmas.{same, same_is, same_self}, Library.WalkLemmas.{Contains-has, has-Contains, has-push, mentioned_somewhere}}
+use Rattle.fb_iface.specs.{Library.View.{Sources, parts_at, parts_in}, Library.Seen.{has_name}}
+use Rattle.fb_wiring.specs.{Graph.{Edges, edges_at, IsReverse, IsGraph}, Steps.{enters}, declared.search.Step.{Step}}
 use Rattle.fb_wiring.specs.declared.search.Step.TheVariants.{Enter, Leave}
-use Rattle.fb_wiring.proofs.NameLemmas.{or_none_left, or_none_right, same_swap}
-use Rattle.fb_wiring.proofs.SearchLemmas.{all_parts, reachable, fuel, fuel_opens, at_step}
+use Rattle.fb_wiring.proofs.{NameLemmas.{or_none_left, or_none_right, same_swap}, SearchLemmas.{all_parts, reachable, fuel, fuel_opens, at_step}}
 
 -- ---- names that are still to be entered
 abbrev pub awaits : List Step → List ℕ → Bool

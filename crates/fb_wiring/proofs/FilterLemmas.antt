@@ -1,8 +1,6 @@
 -- The names that a test keeps.
-use Rattle.std.proofs.Common.{◌≡◌, ℕ, Bool, true, false, cond, List, [], ◌∷◌, ◌++◌, sym, ap, ◌∙◌, filter}
-use Rattle.std.proofs.lemmas.Bool.{false≢true, or_left, or_right}
-use Rattle.std.proofs.lemmas.List.{append-nil}
-use Rattle.std.proofs.lemmas.List.Elements.{filter-append}
+use Rattle.std.proofs.{Common.{◌≡◌, ℕ, Bool, true, false, cond, List, [], ◌∷◌, ◌++◌, sym, ap, ◌∙◌, filter}, lemmas.Bool.{false≢true, or_left, or_right}}
+use Rattle.std.proofs.{lemmas.List.{append-nil}, lemmas.List.Elements.{filter-append}}
 use Rattle.fb_tree.proofs.Text.Tests.{by_bool, or_cases}
 use Rattle.fb_iface.proofs.Library.SeenLemmas.{same, same_is}
 use Rattle.fb_iface.specs.Library.Seen.{has_name}

@@ -1,18 +1,13 @@
 -- What is found of a unit.
 use Rattle.std.proofs.Common.{ℕ, ◌≡◌, ◌<◌, ◌≤◌, ◌+◌, true, false, List, [], ◌∷◌, ◌++◌, Option, Some, None, Result, Ok, Err, refl, sym, ◌∙◌, ap, subst, arith, length, is_some, take, get_or, add-one}
-use Rattle.std.specs.Prelude.{Contains, IfOk, option_map}
 use Rattle.std.proofs.Math.Seq.{take-suc}
+use Rattle.std.specs.Prelude.{Contains, IfOk, option_map}
 use Rattle.fb_tree.specs.Tree.{DeclTree, block_type, adapter_type, subapplication_type, system_configuration, structure_type}
 use Rattle.fb_iface.specs.Library.View.{Sources, tree_at}
-use Rattle.fb_network.specs.declared.count.TheConstants.{INSTANCE_LIMIT}
-use Rattle.fb_network.specs.declared.network.Instance.{Instance}
-use Rattle.fb_network.specs.Network.{View}
+use Rattle.fb_network.specs.{declared.count.TheConstants.{INSTANCE_LIMIT}, declared.network.Instance.{Instance}, Network.{View}}
 use Rattle.fb_network.specs.declared.application.FlatApplication.{FlatApplication}
 use Rattle.fb_tree.proofs.Text.Members.{contains_nothing, contains_flat_map}
-use Rattle.fb_wiring.specs.Applications.{applications_of}
-use Rattle.fb_wiring.specs.Networks.{network_of}
-use Rattle.fb_wiring.specs.ByName.{applications_at}
-use Rattle.fb_wiring.specs.declared.systems.Application.{Application}
+use Rattle.fb_wiring.specs.{Applications.{applications_of}, Networks.{network_of}, ByName.{applications_at}, declared.systems.Application.{Application}}
 use Rattle.fb_wiring.specs.Tables.{IsUnitCount, is_system_tree}
 use Rattle.fb_wiring.specs.Units.{AreFlatApplications, NoApplication, ThenApplication, IsFlatApplication, IsTooLarge, IsWithinLimit, instances_in, own_instances}
 

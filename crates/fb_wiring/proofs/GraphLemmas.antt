@@ -1,12 +1,6 @@
 -- Graphs of names: what is followed forth and back.
-use Rattle.std.proofs.Common.{◌≡◌, ℕ, true, List, [], Some, None, sym, ap, subst, ◌∙◌, filter}
-use Rattle.std.proofs.lemmas.Bool.{false≢true}
-use Rattle.std.specs.List.{Contains}
-use Rattle.std.specs.Option.{option_map_or}
-use Rattle.std.specs.BTreeMap.{get}
-use Rattle.std.specs.BTreeSet.{BTreeSet}
-use Rattle.std.specs.declared.vec.Vec.{Vec}
-use Rattle.std.specs.declared.alloc.Global.{Global}
+use Rattle.std.proofs.{Common.{◌≡◌, ℕ, true, List, [], Some, None, sym, ap, subst, ◌∙◌, filter}, lemmas.Bool.{false≢true}}
+use Rattle.std.specs.{List.{Contains}, Option.{option_map_or}, BTreeMap.{get}, BTreeSet.{BTreeSet}, declared.vec.Vec.{Vec}, declared.alloc.Global.{Global}}
 use Rattle.fb_tree.specs.Text.Order.{name_cmp}
 use Rattle.fb_iface.specs.Library.Seen.{has_name}
 use Rattle.fb_iface.proofs.Library.WalkLemmas.{Contains-has, has-Contains}

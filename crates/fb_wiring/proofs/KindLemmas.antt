@@ -1,13 +1,10 @@
 -- Subapplications and systems have nets.
 use Rattle.std.proofs.Common.{ℕ, ◌≡◌, Bool, true, false, List, Option, Some, None, inl, inr, refl, ap}
 use Rattle.std.specs.Prelude.{◌↔◌, option_map}
-use Rattle.fb_tree.specs.Mentions.{unit_kind_of}
-use Rattle.fb_tree.specs.Tree.{DeclTree, block_type, adapter_type, subapplication_type, system_configuration, structure_type}
+use Rattle.fb_tree.specs.{Mentions.{unit_kind_of}, Tree.{DeclTree, block_type, adapter_type, subapplication_type, system_configuration, structure_type}}
 use Rattle.fb_tree.specs.declared.kinds.UnitKind.TheVariants as kinds
 use Rattle.fb_iface.specs.Library.View.{Sources, tree_at}
-use Rattle.fb_wiring.specs.ByName.{kind_at}
-use Rattle.fb_wiring.specs.Tables.{is_subapplication_in}
-use Rattle.fb_wiring.specs.Units.{HasNet, has_net_tree}
+use Rattle.fb_wiring.specs.{ByName.{kind_at}, Tables.{is_subapplication_in}, Units.{HasNet, has_net_tree}}
 
 pub net_kind : (sources : Sources) (unit : List ℕ) (tree : DeclTree) (b : Bool) → tree_at sources unit ≡ Some tree → b ≡ has_net_tree tree → (b ≡ true) ↔ HasNet sources unit
 net_kind sources unit (block_type d) b present e = (λ t. absurd (let no : ⊥ = cc in no), no_net)

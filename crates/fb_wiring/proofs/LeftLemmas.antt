@@ -2,9 +2,7 @@
 use Rattle.std.proofs.Common.{ℕ, ◌≡◌, cond, List, Option, None, sym, ap}
 use Rattle.std.specs.FinMap.{get, get-retain_keys, slice_cmp-IsAntisymmetric, nat_cmp-IsAntisymmetric}
 use Rattle.fb_iface.specs.Library.View.{Sources}
-use Rattle.fb_wiring.specs.Hints.{is_left, left_of}
-use Rattle.fb_wiring.specs.Holders.{holders_of, is_holder}
-use Rattle.fb_wiring.specs.Net.{PlainNet}
+use Rattle.fb_wiring.specs.{Hints.{is_left, left_of}, Holders.{holders_of, is_holder}, Net.{PlainNet}}
 
 pub get_left : (hints : List ℕ → Option PlainNet) (sources : Sources) (unit n : List ℕ) → get (left_of hints sources unit) n ≡ cond (is_left hints unit n) (get sources n) None
 get_left hints sources unit n = get-retain_keys sources (is_left hints unit) n (λ x e. ap (is_left hints unit) (sym (slice_cmp-IsAntisymmetric nat_cmp-IsAntisymmetric n x e)))

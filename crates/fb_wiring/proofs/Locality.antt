@@ -3,9 +3,7 @@ use Rattle.std.proofs.Common.{option_map, ap}
 use Rattle.std.specs.Option.{option_and_then}
 use Rattle.fb_tree.specs.Mentions.{unit_kind_of}
 use Rattle.fb_iface.specs.Library.View.{tree_of}
-use Rattle.fb_wiring.specs.Applications.{applications_of}
-use Rattle.fb_wiring.specs.Local.{NetworksAreLocal}
-use Rattle.fb_wiring.specs.Networks.{network_of}
+use Rattle.fb_wiring.specs.{Applications.{applications_of}, Local.{NetworksAreLocal}, Networks.{network_of}}
 
 pub networks_local : NetworksAreLocal
 networks_local a b name same =

@@ -1,8 +1,6 @@
 -- Names among names, and tests.
 use Rattle.std.proofs.Common.{◌≡◌, ℕ, Bool, true, false, ◌||◌, List, refl}
-use Rattle.std.specs.Bool.{OnFalse}
-use Rattle.std.specs.Cmp.{eq_by_cmp_equiv}
-use Rattle.std.specs.Cmp.Lexicographic.{nat_list_cmp_total}
+use Rattle.std.specs.{Bool.{OnFalse}, Cmp.{eq_by_cmp_equiv}, Cmp.Lexicographic.{nat_list_cmp_total}}
 use Rattle.fb_tree.proofs.Text.Tests.{no_both}
 use Rattle.fb_iface.proofs.Library.SeenLemmas.{same}
 

@@ -3,13 +3,9 @@ use Rattle.std.proofs.Common.{◌≡◌, ℕ, ◌+◌, ◌<◌, ◌≤◌, true,
 use Rattle.std.proofs.lemmas.List.{take-append-le, take_at, get_or_append_left, get_or_at, get_or_default, get_or-take, length-take-le}
 use Rattle.std.specs.List.{Contains}
 use Rattle.fb_tree.proofs.Text.Tests.{no_both}
-use Rattle.fb_iface.specs.Library.View.{Sources, parts_at}
-use Rattle.fb_iface.specs.Library.Rests.{PartRests, on_itself, through_part}
-use Rattle.fb_iface.specs.Library.Seen.{has_name}
+use Rattle.fb_iface.specs.{Library.View.{Sources, parts_at}, Library.Rests.{PartRests, on_itself, through_part}, Library.Seen.{has_name}}
 use Rattle.fb_iface.proofs.Library.WalkLemmas.{has-Contains, Contains-has}
-use Rattle.fb_wiring.specs.Reaches.{Reaches, directly, onward}
-use Rattle.fb_wiring.specs.Order.{IsOrdered}
-use Rattle.fb_wiring.specs.LocalOrder.{OrderedIsNotRecursive}
+use Rattle.fb_wiring.specs.{Reaches.{Reaches, directly, onward}, Order.{IsOrdered}, LocalOrder.{OrderedIsNotRecursive}}
 
 -- ---- the first names of a list
 -- a name that a list contains stands at its place for any default

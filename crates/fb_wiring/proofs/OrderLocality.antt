@@ -1,12 +1,9 @@
 -- Recursion depends on the texts that a unit rests on alone.
 use Rattle.std.proofs.Common.{◌≡◌, ℕ, List, sym, subst}
 use Rattle.std.specs.List.{Contains}
-use Rattle.fb_iface.specs.Library.View.{Sources, parts_at}
-use Rattle.fb_iface.specs.Library.Local.{AgreeFar}
-use Rattle.fb_iface.specs.Library.Rests.{Rests, itself, through}
+use Rattle.fb_iface.specs.{Library.View.{Sources, parts_at}, Library.Local.{AgreeFar}, Library.Rests.{Rests, itself, through}}
 use Rattle.fb_iface.proofs.Library.Locality.{far_local, part_mention, rests_both, same_parts}
-use Rattle.fb_wiring.specs.LocalOrder.{RecursionIsLocal}
-use Rattle.fb_wiring.specs.Reaches.{Reaches, directly, onward}
+use Rattle.fb_wiring.specs.{LocalOrder.{RecursionIsLocal}, Reaches.{Reaches, directly, onward}}
 
 there : (a b : Sources) {u v : List ℕ} → AgreeFar u a b → Reaches a u v → Reaches b u v
 there a b {u} {v} agree (directly m) = directly (subst (λ (l : List (List ℕ)). Contains l v) (same_parts a b u (agree u itself)) m)

@@ -1,20 +1,14 @@
 -- The names of a list that reach themselves.
-use Rattle.std.proofs.Common.{◌≡◌, ℕ, Bool, true, cond, List, [], ◌∷◌, refl, sym, ap, subst, ◌∙◌}
-use Rattle.std.proofs.lemmas.Bool.{false≢true, or_left, or_right}
+use Rattle.std.proofs.{Common.{◌≡◌, ℕ, Bool, true, cond, List, [], ◌∷◌, refl, sym, ap, subst, ◌∙◌}, lemmas.Bool.{false≢true, or_left, or_right}}
 use Rattle.std.proofs.lemmas.List.Kept.{IsStrictlySortedBy-filter}
-use Rattle.std.specs.List.{Contains, filter}
-use Rattle.std.specs.List.Sorted.{IsStrictlySortedBy}
+use Rattle.std.specs.{List.{Contains, filter}, List.Sorted.{IsStrictlySortedBy}}
 use Rattle.fb_tree.proofs.Text.Tests.{by_bool, or_cases, no_both}
 use Rattle.fb_tree.specs.Text.Order.{name_cmp}
-use Rattle.fb_iface.proofs.Library.SeenLemmas.{same, same_is, same_self}
-use Rattle.fb_iface.specs.Library.View.{Sources, parts_at}
-use Rattle.fb_iface.specs.Library.Rests.{on_itself}
-use Rattle.fb_iface.specs.Library.Seen.{has_name}
-use Rattle.fb_iface.proofs.Library.WalkLemmas.{Contains-has, has-Contains}
+use Rattle.fb_iface.proofs.{Library.SeenLemmas.{same, same_is, same_self}, Library.WalkLemmas.{Contains-has, has-Contains}}
+use Rattle.fb_iface.specs.{Library.View.{Sources, parts_at}, Library.Rests.{on_itself}, Library.Seen.{has_name}}
 use Rattle.fb_wiring.specs.Reaches.{Reaches, directly, onward, IsRecursive, RecursivePart, none, keeps, skips, SomePartRestsOnRecursive}
 use Rattle.fb_wiring.specs.Graph.{Edges, edges_at, Follows, one, more, IsGraph}
-use Rattle.fb_wiring.proofs.GraphLemmas.{follow_first}
-use Rattle.fb_wiring.proofs.StackLemmas.{reaches_more}
+use Rattle.fb_wiring.proofs.{GraphLemmas.{follow_first}, StackLemmas.{reaches_more}}
 
 module _ (sources : Sources) where
   -- none of the names reaches itself

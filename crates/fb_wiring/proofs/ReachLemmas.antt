@@ -3,9 +3,8 @@ use Rattle.std.proofs.Common.{◌≡◌, ℕ, ◌+◌, ◌<◌, true, false, ◌
 use Rattle.std.proofs.lemmas.Bool.{false≢true, or_left, or_right}
 use Rattle.std.specs.List.{Contains}
 use Rattle.fb_tree.proofs.Text.Tests.{by_bool, or_cases, or_false, no_both}
-use Rattle.fb_iface.proofs.Library.SeenLemmas.{same, same_is, same_self}
+use Rattle.fb_iface.proofs.{Library.SeenLemmas.{same, same_is, same_self}, Library.WalkLemmas.{Contains-has, has-Contains, has-push, longer}}
 use Rattle.fb_iface.specs.Library.Seen.{has_name, unseen, Opens}
-use Rattle.fb_iface.proofs.Library.WalkLemmas.{Contains-has, has-Contains, has-push, longer}
 use Rattle.fb_wiring.specs.Graph.{Follows, one, more}
 
 -- seen names are reached; the edges of those that are not pending lead to seen ones, and so do those of the first name

@@ -1,25 +1,16 @@
 -- The search: what it keeps, and that it ends.
-use Rattle.std.proofs.Common.{◌≡◌, ℕ, ◌+◌, ◌<◌, ◌≤◌, Bool, true, false, cond, ◌||◌, List, [], ◌∷◌, ◌++◌, length, refl, sym, ap, subst, ◌∙◌, arith, length-append}
-use Rattle.std.proofs.lemmas.Bool.{false≢true, or_left, or_right}
-use Rattle.std.proofs.lemmas.List.{map_push, length-map}
-use Rattle.std.proofs.Common.{append_assoc}
-use Rattle.std.specs.List.{Contains}
+use Rattle.std.proofs.Common.{◌≡◌, ℕ, ◌+◌, ◌<◌, ◌≤◌, Bool, true, false, cond, ◌||◌, List, [], ◌∷◌, ◌++◌, length, refl, sym, ap, subst, ◌∙◌, arith, length-append, append_assoc}
+use Rattle.std.proofs.{lemmas.Bool.{false≢true, or_left, or_right}, lemmas.List.{map_push, length-map}}
 use Rattle.std.proofs.lemmas.List.Elements.{Contains-append_left, Contains-append_right}
+use Rattle.std.specs.List.{Contains}
 use Rattle.fb_tree.proofs.Text.Tests.{by_bool, or_cases, or_assoc, or_false, no_both}
-use Rattle.fb_iface.proofs.Library.SeenLemmas.{same, same_is, same_self}
-use Rattle.fb_iface.specs.Library.View.{Sources, parts_at, parts_in}
-use Rattle.fb_iface.specs.Library.Rests.{PartRests, on_itself, through_part}
-use Rattle.fb_iface.specs.Library.Seen.{has_name}
-use Rattle.fb_iface.proofs.Library.WalkLemmas.{Contains-has, has-Contains, has-push, mentioned_somewhere}
-use Rattle.fb_iface.specs.Library.Near.{in_all_trees}
+use Rattle.fb_iface.proofs.{Library.SeenLemmas.{same, same_is, same_self}, Library.WalkLemmas.{Contains-has, has-Contains, has-push, mentioned_somewhere}}
 use Rattle.fb_iface.proofs.Library.Locality.{parts_more}
-use Rattle.fb_wiring.specs.Order.{IsOrdered}
-use Rattle.fb_wiring.specs.Reaches.{SomePartRests, SomePartRestsOnRecursive}
-use Rattle.fb_wiring.specs.Steps.{enters}
-use Rattle.fb_wiring.specs.declared.search.Step.{Step}
+use Rattle.fb_iface.specs.{Library.View.{Sources, parts_at, parts_in}, Library.Rests.{PartRests, on_itself, through_part}, Library.Seen.{has_name}}
+use Rattle.fb_iface.specs.Library.Near.{in_all_trees}
+use Rattle.fb_wiring.specs.{Order.{IsOrdered}, Reaches.{SomePartRests, SomePartRestsOnRecursive}, Steps.{enters}, declared.search.Step.{Step}}
 use Rattle.fb_wiring.specs.declared.search.Step.TheVariants.{Enter, Leave}
-use Rattle.fb_wiring.proofs.NameLemmas.{or_none_right, or_swap}
-use Rattle.fb_wiring.proofs.OrderLemmas.{IsOrdered-none, IsOrdered-push, all_listed, not_recursive}
+use Rattle.fb_wiring.proofs.{NameLemmas.{or_none_right, or_swap}, OrderLemmas.{IsOrdered-none, IsOrdered-push, all_listed, not_recursive}}
 use Rattle.fb_wiring.proofs.StackLemmas.{has_step, on_path, has_step-append, on_path-append, has_step-enters, on_path-enters, Stands, enters_stand, skips, opens, leaves, unlisted_last, ready_last, meets}
 
 -- ---- the steps of a list of names

@@ -1,13 +1,9 @@
 -- A search from one unit.
-use Rattle.std.proofs.Common.{ℕ, List, [], ◌∷◌, Option, Some, None, IfSome, sym, subst, ◌∙◌}
-use Rattle.std.proofs.lemmas.Bool.{or_left}
+use Rattle.std.proofs.{Common.{ℕ, List, [], ◌∷◌, Option, Some, None, IfSome, sym, subst, ◌∙◌}, lemmas.Bool.{or_left}}
 use Rattle.std.specs.List.{Contains}
 use Rattle.fb_tree.proofs.Text.Tests.{or_false}
-use Rattle.fb_iface.proofs.Library.SeenLemmas.{same, same_is, same_self}
-use Rattle.fb_iface.specs.Library.View.{Sources}
-use Rattle.fb_iface.specs.Library.Rests.{PartRests}
-use Rattle.fb_iface.specs.Library.Seen.{has_name}
-use Rattle.fb_iface.proofs.Library.WalkLemmas.{Contains-has, has-Contains}
+use Rattle.fb_iface.proofs.{Library.SeenLemmas.{same, same_is, same_self}, Library.WalkLemmas.{Contains-has, has-Contains}}
+use Rattle.fb_iface.specs.{Library.View.{Sources}, Library.Rests.{PartRests}, Library.Seen.{has_name}}
 use Rattle.fb_wiring.specs.Reaches.{PartRestsOnRecursive, SomePartRests, SomePartRestsOnRecursive}
 
 pub some_weaker : {X : Type 0} (o : Option X) (P Q : X → Type 0) → ((x : X) → P x → Q x) → IfSome o P → IfSome o Q

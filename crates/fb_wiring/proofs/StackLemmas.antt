@@ -1,16 +1,10 @@
 -- The steps that are left: what a search keeps of them.
-use Rattle.std.proofs.Common.{◌≡◌, ℕ, Bool, true, false, ◌||◌, List, [], ◌∷◌, ◌++◌, refl, sym, ap, subst, ◌∙◌}
-use Rattle.std.proofs.lemmas.Bool.{or_left, or_right}
+use Rattle.std.proofs.{Common.{◌≡◌, ℕ, Bool, true, false, ◌||◌, List, [], ◌∷◌, ◌++◌, refl, sym, ap, subst, ◌∙◌}, lemmas.Bool.{or_left, or_right}}
 use Rattle.std.specs.List.{Contains}
 use Rattle.fb_tree.proofs.Text.Tests.{or_cases, or_assoc, or_false}
-use Rattle.fb_iface.proofs.Library.SeenLemmas.{same, same_is, same_self}
-use Rattle.fb_iface.specs.Library.View.{Sources, parts_at}
-use Rattle.fb_iface.specs.Library.Seen.{has_name}
-use Rattle.fb_iface.proofs.Library.WalkLemmas.{Contains-has, has-Contains, has-push}
-use Rattle.fb_wiring.specs.Reaches.{Reaches, directly, onward}
-use Rattle.fb_wiring.specs.Steps.{enters}
-use Rattle.fb_wiring.specs.declared.search.Step.{Step}
-use Rattle.fb_wiring.specs.declared.search.Step.TheVariants.{Enter, Leave}
+use Rattle.fb_iface.proofs.{Library.SeenLemmas.{same, same_is, same_self}, Library.WalkLemmas.{Contains-has, has-Contains, has-push}}
+use Rattle.fb_iface.specs.{Library.View.{Sources, parts_at}, Library.Seen.{has_name}}
+use Rattle.fb_wiring.specs.{Reaches.{Reaches, directly, onward}, Steps.{enters}, declared.search.Step.{Step}, declared.search.Step.TheVariants.{Enter, Leave}}
 use Rattle.fb_wiring.proofs.NameLemmas.{or_none, or_none_left, or_none_right, or_under, same_swap}
 
 -- ---- reaching

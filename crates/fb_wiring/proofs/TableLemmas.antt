@@ -1,18 +1,13 @@
 -- One more name of a table.
 use Rattle.std.proofs.Common.{ℕ, ◌≡◌, ◌<◌, ◌+◌, Bool, true, false, is_some, List, [], ◌∷◌, ◌++◌, Option, Some, None, ◌⊎◌, inl, inr, refl, sym, ◌∙◌, ap, subst, take, get_or, length, add-one}
-use Rattle.std.specs.Prelude.{Contains}
-use Rattle.std.specs.BTreeMap.{is_at}
-use Rattle.std.proofs.lemmas.List.Elements.{Contains-push_cases}
-use Rattle.std.proofs.Math.Seq.{take-suc}
+use Rattle.std.proofs.{lemmas.List.Elements.{Contains-push_cases}, Math.Seq.{take-suc}}
+use Rattle.std.specs.{Prelude.{Contains}, BTreeMap.{is_at}}
 use Rattle.fb_tree.specs.Text.Order.{name_cmp}
 use Rattle.fb_iface.specs.Library.View.{Sources}
-use Rattle.fb_network.specs.declared.network.Port.{Port}
-use Rattle.fb_network.specs.Plain.{PlainNetwork}
-use Rattle.fb_network.specs.Network.{View}
+use Rattle.fb_network.specs.{declared.network.Port.{Port}, Plain.{PlainNetwork}, Network.{View}}
 use Rattle.fb_network.proofs.Equals.{same_bytes}
 use Rattle.fb_tree.proofs.Text.Members.{contains_nothing}
-use Rattle.fb_wiring.specs.ByName.{declared}
-use Rattle.fb_wiring.specs.Tables.{Grows, Has, HasAdapter, HasAdapters, HasType, IsTable, IsTrue}
+use Rattle.fb_wiring.specs.{ByName.{declared}, Tables.{Grows, Has, HasAdapter, HasAdapters, HasType, IsTable, IsTrue}}
 
 pub nothing_true : (sources : Sources) (table : View) → ((name : List ℕ) → table name ≡ None) → IsTrue sources table
 nothing_true sources table none name network e = let n = none name in absurd (let no : ⊥ = cc in no)

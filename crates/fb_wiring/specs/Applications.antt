@@ -1,8 +1,7 @@
 -- The applications of systems in plain.
 use Rattle.std.specs.Prelude.{List, [], map}
 use Rattle.fb_tree.specs.Tree.{ApplicationTree, DeclTree, block_type, adapter_type, subapplication_type, system_configuration, structure_type}
-use Rattle.fb_wiring.specs.Networks.{plain_network}
-use Rattle.fb_wiring.specs.declared.systems.Application.{Application}
+use Rattle.fb_wiring.specs.{Networks.{plain_network}, declared.systems.Application.{Application}}
 
 abbrev pub plain_application : ApplicationTree → Application
 plain_application a = record { name = a.name.name; network = plain_network [] a.network }

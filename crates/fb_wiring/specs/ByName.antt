@@ -1,12 +1,9 @@
 -- Networks, applications and kinds by name.
 use Rattle.std.specs.Prelude.{ℕ, List, Option, option_map}
-use Rattle.fb_tree.specs.Mentions.{unit_kind_of}
-use Rattle.fb_tree.specs.declared.kinds.UnitKind.{UnitKind}
+use Rattle.fb_tree.specs.{Mentions.{unit_kind_of}, declared.kinds.UnitKind.{UnitKind}}
 use Rattle.fb_iface.specs.Library.View.{Sources, tree_at}
 use Rattle.fb_network.specs.Plain.{PlainNetwork}
-use Rattle.fb_wiring.specs.Applications.{applications_of}
-use Rattle.fb_wiring.specs.Networks.{network_of}
-use Rattle.fb_wiring.specs.declared.systems.Application.{Application}
+use Rattle.fb_wiring.specs.{Applications.{applications_of}, Networks.{network_of}, declared.systems.Application.{Application}}
 
 -- the network of a unit that is present and not broken
 abbrev pub declared : Sources → List ℕ → Option PlainNetwork

@@ -1,16 +1,10 @@
 -- Counts of instances, by the names of types.
-use Rattle.std.specs.Prelude.{ℕ, ◌≡◌, ◌+◌, List, ◌++◌, Option, None, Some, Contains, min, unwrap_or}
-use Rattle.std.specs.List.{filter_map}
+use Rattle.std.specs.{Prelude.{ℕ, ◌≡◌, ◌+◌, List, ◌++◌, Option, None, Some, Contains, min, unwrap_or}, List.{filter_map}}
 use Rattle.fb_tree.specs.Tree.{DeclTree, InstanceTree}
-use Rattle.fb_network.specs.declared.count.TheConstants.{INSTANCE_LIMIT}
-use Rattle.fb_network.specs.declared.network.InstanceKind.{InstanceKind}
-use Rattle.fb_network.specs.declared.network.InstanceKind.TheVariants.{Block, Subapplication}
-use Rattle.fb_network.specs.declared.network.Instance.{Instance}
-use Rattle.fb_network.specs.Plain.{PlainNetwork}
-use Rattle.fb_network.specs.Network.{View}
-use Rattle.fb_network.specs.Count.{IsCount}
-use Rattle.fb_wiring.specs.Networks.{plain_instance}
-use Rattle.fb_wiring.specs.Units.{own_instances}
+use Rattle.fb_network.specs.{declared.count.TheConstants.{INSTANCE_LIMIT}, declared.network.InstanceKind.{InstanceKind}}
+use Rattle.fb_network.specs.{declared.network.InstanceKind.TheVariants.{Block, Subapplication}, declared.network.Instance.{Instance}, Plain.{PlainNetwork}}
+use Rattle.fb_network.specs.{Network.{View}, Count.{IsCount}}
+use Rattle.fb_wiring.specs.{Networks.{plain_instance}, Units.{own_instances}}
 
 abbrev pub count_of_kind : InstanceKind → (List ℕ → Option ℕ) → List ℕ → ℕ
 count_of_kind Block counts type = 0

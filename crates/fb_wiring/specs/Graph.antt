@@ -1,13 +1,8 @@
 -- Graphs of names.
-use Rattle.std.specs.Prelude.{◌≡◌, ℕ, true, false, ◌||◌, List, [], Contains, filter}
-use Rattle.std.specs.Option.{option_map_or}
-use Rattle.std.specs.BTreeMap.{BTreeMap, get}
-use Rattle.std.specs.BTreeSet.{BTreeSet}
-use Rattle.std.specs.declared.vec.Vec.{Vec}
-use Rattle.std.specs.declared.alloc.Global.{Global}
+use Rattle.std.specs.{Prelude.{◌≡◌, ℕ, true, false, ◌||◌, List, [], Contains, filter}, Option.{option_map_or}, BTreeMap.{BTreeMap, get}, BTreeSet.{BTreeSet}}
+use Rattle.std.specs.{declared.vec.Vec.{Vec}, declared.alloc.Global.{Global}}
 use Rattle.fb_tree.specs.Text.Order.{name_cmp}
-use Rattle.fb_iface.specs.Library.Seen.{has_name}
-use Rattle.fb_iface.specs.Library.View.{Sources, parts_at}
+use Rattle.fb_iface.specs.{Library.Seen.{has_name}, Library.View.{Sources, parts_at}}
 
 abbrev pub Edges : Type 0
 Edges = BTreeMap (List ℕ) (Vec (List ℕ) Global)

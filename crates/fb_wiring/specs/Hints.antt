@@ -1,7 +1,5 @@
 -- Nets that are kept from before.
-use Rattle.std.specs.Prelude.{ℕ, Bool, true, false, not, ◌||◌, List, Option, Some, None}
-use Rattle.std.specs.BTreeMap.{is_at}
-use Rattle.std.specs.FinMap.{retain_keys}
+use Rattle.std.specs.{Prelude.{ℕ, Bool, true, false, not, ◌||◌, List, Option, Some, None}, BTreeMap.{is_at}, FinMap.{retain_keys}}
 use Rattle.fb_tree.specs.Text.Order.{name_cmp}
 use Rattle.fb_iface.specs.Library.View.{Sources}
 use Rattle.fb_network.specs.PlainFlat.{PlainFlat}

@@ -1,6 +1,5 @@
 -- Units with instances that count.
-use Rattle.std.specs.Prelude.{ℕ, Bool, List}
-use Rattle.std.specs.FinMap.{retain_keys}
+use Rattle.std.specs.{Prelude.{ℕ, Bool, List}, FinMap.{retain_keys}}
 use Rattle.fb_iface.specs.Library.View.{Sources, tree_at}
 use Rattle.fb_wiring.specs.Units.{has_net_in}
 

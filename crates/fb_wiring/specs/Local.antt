@@ -1,13 +1,8 @@
 -- What networks, applications and kinds depend on.
-use Rattle.std.specs.Prelude.{◌≡◌, ℕ, List, Option, Some, option_map}
-use Rattle.std.specs.FinMap.{get}
-use Rattle.fb_tree.specs.Mentions.{unit_kind_of}
-use Rattle.fb_tree.specs.Tree.{DeclTree}
-use Rattle.fb_tree.specs.declared.kinds.UnitKind.TheVariants.{Block}
+use Rattle.std.specs.{Prelude.{◌≡◌, ℕ, List, Option, Some, option_map}, FinMap.{get}}
+use Rattle.fb_tree.specs.{Mentions.{unit_kind_of}, Tree.{DeclTree}, declared.kinds.UnitKind.TheVariants.{Block}}
 use Rattle.fb_iface.specs.Library.View.{Sources, parts_in, values_in}
-use Rattle.fb_wiring.specs.Applications.{applications_of}
-use Rattle.fb_wiring.specs.ByName.{applications_at, declared, kind_at}
-use Rattle.fb_wiring.specs.Networks.{network_of}
+use Rattle.fb_wiring.specs.{Applications.{applications_of}, ByName.{applications_at, declared, kind_at}, Networks.{network_of}}
 
 -- what is said under a name is the same in both
 pub record SameAt (a b : Sources) (name : List ℕ) : Type 0 where

@@ -1,10 +1,7 @@
 -- What recursion depends on, and what an order rules out.
 use Rattle.std.specs.Prelude.{ℕ, List, Contains, ◌↔◌}
-use Rattle.fb_iface.specs.Library.View.{Sources}
-use Rattle.fb_iface.specs.Library.Rests.{Rests}
-use Rattle.fb_iface.specs.Library.Local.{AgreeFar}
-use Rattle.fb_wiring.specs.Reaches.{IsRecursive}
-use Rattle.fb_wiring.specs.Order.{IsOrdered}
+use Rattle.fb_iface.specs.{Library.View.{Sources}, Library.Rests.{Rests}, Library.Local.{AgreeFar}}
+use Rattle.fb_wiring.specs.{Reaches.{IsRecursive}, Order.{IsOrdered}}
 
 -- which of the names that a unit rests on reach themselves depends on the texts that it rests on alone
 abbrev pub RecursionIsLocal : Type 0

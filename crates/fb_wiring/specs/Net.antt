@@ -1,8 +1,7 @@
 -- Nets in plain.
 use Rattle.std.specs.Prelude.{ℕ, List}
 use Rattle.fb_network.specs.PlainFlat.{PlainFlat}
-use Rattle.fb_wiring.specs.declared.nets.Net.{Net}
-use Rattle.fb_wiring.specs.declared.nets.Net.TheVariants.{Blocked, Recursive, TooLarge, Flat}
+use Rattle.fb_wiring.specs.{declared.nets.Net.{Net}, declared.nets.Net.TheVariants.{Blocked, Recursive, TooLarge, Flat}}
 
 -- a net in plain
 pub data PlainNet : Type 0 where

@@ -1,20 +1,13 @@
 -- The networks of declarations in plain.
-use Rattle.std.specs.Prelude.{ℕ, List, [], map, Option, Some, None}
-use Rattle.std.specs.List.{filter_map}
+use Rattle.std.specs.{Prelude.{ℕ, List, [], map, Option, Some, None}, List.{filter_map}}
 use Rattle.fb_tree.specs.Text.declared.name.NameUse.{NameUse}
 use Rattle.fb_tree.specs.Tree.{DeclTree, InstanceTree, NetworkTree, TypeTree, block_type, adapter_type, subapplication_type, system_configuration, structure_type}
-use Rattle.fb_tree.specs.declared.network.Connection.{Connection as ConnectionTree}
-use Rattle.fb_tree.specs.declared.network.End.{End as EndTree}
-use Rattle.fb_tree.specs.declared.network.Role.{Role}
+use Rattle.fb_tree.specs.{declared.network.Connection.{Connection as ConnectionTree}, declared.network.End.{End as EndTree}, declared.network.Role.{Role}}
 use Rattle.fb_tree.specs.declared.network.Role.TheVariants as roles
 use Rattle.fb_iface.specs.Ports.{meanings_in_type}
-use Rattle.fb_network.specs.Plain.{PlainNetwork}
-use Rattle.fb_network.specs.declared.network.Connection.{Connection}
-use Rattle.fb_network.specs.declared.network.End.{End}
-use Rattle.fb_network.specs.declared.network.End.TheVariants.{Own, Of}
-use Rattle.fb_network.specs.declared.network.Instance.{Instance}
-use Rattle.fb_network.specs.declared.network.InstanceKind.TheVariants.{Block, Subapplication}
-use Rattle.fb_network.specs.declared.network.Port.{Port}
+use Rattle.fb_network.specs.{Plain.{PlainNetwork}, declared.network.Connection.{Connection}, declared.network.End.{End}}
+use Rattle.fb_network.specs.{declared.network.End.TheVariants.{Own, Of}, declared.network.Instance.{Instance}}
+use Rattle.fb_network.specs.{declared.network.InstanceKind.TheVariants.{Block, Subapplication}, declared.network.Port.{Port}}
 use Rattle.fb_wiring.specs.Ports.{plain_ports}
 
 -- blocks and subapplications; plugs and sockets are ports

@@ -1,10 +1,7 @@
 -- The ports of a type in plain.
 use Rattle.std.specs.Prelude.{ℕ, List, ◌++◌, map, Option, Some, None}
-use Rattle.fb_tree.specs.Text.declared.name.NameUse.{NameUse}
-use Rattle.fb_tree.specs.declared.interface.Side.{Side}
-use Rattle.fb_tree.specs.declared.interface.Side.TheVariants.{Input, Output}
-use Rattle.fb_tree.specs.declared.interface.TypeUse.{TypeUse}
-use Rattle.fb_tree.specs.declared.network.Role.TheVariants.{Plug, Socket}
+use Rattle.fb_tree.specs.{Text.declared.name.NameUse.{NameUse}, declared.interface.Side.{Side}, declared.interface.Side.TheVariants.{Input, Output}}
+use Rattle.fb_tree.specs.{declared.interface.TypeUse.{TypeUse}, declared.network.Role.TheVariants.{Plug, Socket}}
 use Rattle.fb_tree.specs.declared.network.Sort.TheVariants.{Event, Data, Adapter}
 use Rattle.fb_iface.specs.Ports.{Meanings, data_on, events_on, instances_as}
 use Rattle.fb_network.specs.declared.network.Port.{Port}

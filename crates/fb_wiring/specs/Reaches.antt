@@ -1,7 +1,6 @@
 -- What a type reaches by one or more parts: types of instances, plugs and sockets. Types of values make no recursion.
 use Rattle.std.specs.Prelude.{ℕ, List, [], ◌∷◌, Contains}
-use Rattle.fb_iface.specs.Library.View.{Sources, parts_at}
-use Rattle.fb_iface.specs.Library.Rests.{Rests, PartRests}
+use Rattle.fb_iface.specs.{Library.View.{Sources, parts_at}, Library.Rests.{Rests, PartRests}}
 
 -- v is a part of u, or some part of u reaches v
 pub data Reaches (sources : Sources) : List ℕ → List ℕ → Type 0 where

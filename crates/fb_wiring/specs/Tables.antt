@@ -1,28 +1,14 @@
 -- Networks, counts and flat networks of the names of an order.
-use Rattle.std.specs.Prelude.{ℕ, ◌≡◌, ◌≢◌, ◌≤◌, ◌+◌, Bool, true, false, not, ◌&&◌, List, Option, Some, None, Contains, length, min}
-use Rattle.std.specs.Option.{option_or}
+use Rattle.std.specs.{Prelude.{ℕ, ◌≡◌, ◌≢◌, ◌≤◌, ◌+◌, Bool, true, false, not, ◌&&◌, List, Option, Some, None, Contains, length, min}, Option.{option_or}}
 use Rattle.std.specs.BTreeMap.{is_at}
-use Rattle.fb_tree.specs.Text.Order.{name_cmp}
-use Rattle.fb_tree.specs.Tree.{DeclTree, block_type, adapter_type, subapplication_type, system_configuration, structure_type}
+use Rattle.fb_tree.specs.{Text.Order.{name_cmp}, Tree.{DeclTree, block_type, adapter_type, subapplication_type, system_configuration, structure_type}}
 use Rattle.fb_tree.specs.declared.kinds.UnitKind.TheVariants as kinds
 use Rattle.fb_iface.specs.Library.View.{Sources, tree_at}
-use Rattle.fb_network.specs.declared.count.TheConstants.{INSTANCE_LIMIT}
-use Rattle.fb_network.specs.declared.network.Port.{Port}
-use Rattle.fb_network.specs.Plain.{PlainNetwork}
-use Rattle.fb_network.specs.PlainFlat.{PlainFlat}
-use Rattle.fb_network.specs.Network.{View}
-use Rattle.fb_network.specs.Instances.{Held, AreInstances}
-use Rattle.fb_network.specs.Clean.{IsCleanThroughout}
-use Rattle.fb_wiring.specs.Counts.{IsCounted}
-use Rattle.fb_network.specs.Part.{IsFlatInWhole, SameAdapters}
-use Rattle.fb_network.specs.Ready.{Nets, IsFinished, AreFinished}
-use Rattle.fb_network.specs.SystemFlat.{IsSystemFlat}
-use Rattle.fb_network.specs.declared.application.FlatApplication.{FlatApplication}
-use Rattle.fb_wiring.specs.ByName.{declared, kind_at}
-use Rattle.fb_wiring.specs.declared.systems.Application.{Application}
-use Rattle.fb_wiring.specs.Hints.{flat_of_hint, is_whole_hint}
-use Rattle.fb_wiring.specs.Net.{PlainNet}
-use Rattle.fb_wiring.specs.Units.{AreFlatApplications, Holds, IsFlatApplication}
+use Rattle.fb_network.specs.{declared.count.TheConstants.{INSTANCE_LIMIT}, declared.network.Port.{Port}, Plain.{PlainNetwork}, PlainFlat.{PlainFlat}}
+use Rattle.fb_network.specs.{Network.{View}, Instances.{Held, AreInstances}, Clean.{IsCleanThroughout}, Part.{IsFlatInWhole, SameAdapters}}
+use Rattle.fb_network.specs.{Ready.{Nets, IsFinished, AreFinished}, SystemFlat.{IsSystemFlat}, declared.application.FlatApplication.{FlatApplication}}
+use Rattle.fb_wiring.specs.{Counts.{IsCounted}, ByName.{declared, kind_at}, declared.systems.Application.{Application}, Hints.{flat_of_hint, is_whole_hint}}
+use Rattle.fb_wiring.specs.{Net.{PlainNet}, Units.{AreFlatApplications, Holds, IsFlatApplication}}
 
 -- ---- networks
 

@@ -3,18 +3,10 @@ use Rattle.std.specs.Prelude.{ℕ, ◌≡◌, ◌≤◌, ◌<◌, ◌⊎◌, Boo
 use Rattle.fb_tree.specs.Tree.{DeclTree, block_type, adapter_type, subapplication_type, system_configuration, structure_type}
 use Rattle.fb_tree.specs.declared.kinds.UnitKind.TheVariants.{Subapplication, System}
 use Rattle.fb_iface.specs.Library.View.{Sources, tree_at}
-use Rattle.fb_network.specs.declared.count.TheConstants.{INSTANCE_LIMIT}
-use Rattle.fb_network.specs.declared.network.Instance.{Instance}
-use Rattle.fb_network.specs.Plain.{PlainNetwork}
-use Rattle.fb_network.specs.PlainFlat.{PlainFlat}
-use Rattle.fb_network.specs.Network.{View}
-use Rattle.fb_network.specs.Instances.{Held, AreInstances}
-use Rattle.fb_network.specs.FlatNet.{IsFlat}
-use Rattle.fb_network.specs.SystemFlat.{IsSystemFlat}
+use Rattle.fb_network.specs.{declared.count.TheConstants.{INSTANCE_LIMIT}, declared.network.Instance.{Instance}, Plain.{PlainNetwork}, PlainFlat.{PlainFlat}}
+use Rattle.fb_network.specs.{Network.{View}, Instances.{Held, AreInstances}, FlatNet.{IsFlat}, SystemFlat.{IsSystemFlat}}
 use Rattle.fb_network.specs.declared.application.FlatApplication.{FlatApplication}
-use Rattle.fb_wiring.specs.Applications.{applications_of}
-use Rattle.fb_wiring.specs.ByName.{applications_at, declared, kind_at}
-use Rattle.fb_wiring.specs.Networks.{network_of}
+use Rattle.fb_wiring.specs.{Applications.{applications_of}, ByName.{applications_at, declared, kind_at}, Networks.{network_of}}
 use Rattle.fb_wiring.specs.declared.systems.Application.{Application}
 
 -- subapplications and systems have flat networks

@@ -1,8 +1,6 @@
 //! Whether a text says to others what another one says.
 ghost use Rattle.std.specs.Prelude.{◌≡◌, true, Some, IfOk};
-ghost use Rattle.fb_tree.specs.Mentions.{unit_kind_of};
-ghost use Rattle.fb_tree.specs.Tree.{decl_tree};
-ghost use Rattle.fb_tree.specs.declared.kinds.UnitKind.TheVariants.{Block};
+ghost use Rattle.fb_tree.specs.{Mentions.{unit_kind_of}, Tree.{decl_tree}, declared.kinds.UnitKind.TheVariants.{Block}};
 ghost use Rattle.fb_iface.specs.Library.View.{tree_of};
 ghost use Rattle.fb_wiring.specs.Local.{AreAlikeBlocks, SaysSameToNetworks};
 

@@ -1,6 +1,5 @@
 //! The flat networks of applications.
-ghost use Rattle.std.specs.Prelude.{IfOk};
-ghost use Rattle.std.specs.BTreeMap.{get};
+ghost use Rattle.std.specs.{Prelude.{IfOk}, BTreeMap.{get}};
 ghost use Rattle.fb_tree.specs.Text.Order.{name_cmp};
 ghost use Rattle.fb_wiring.specs.Tables.{AreComposedApplications, AreComposedTogether, IsComposedApplication};
 

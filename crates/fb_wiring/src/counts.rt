@@ -1,14 +1,10 @@
 //! How many instances units hold, counted by their declarations.
-ghost use Rattle.std.specs.Prelude.{◌≡◌, ◌+◌, true, false, min, unwrap_or, OnOk, Some, map};
-ghost use Rattle.std.specs.BTreeMap.{get};
+ghost use Rattle.std.specs.{Prelude.{◌≡◌, ◌+◌, true, false, min, unwrap_or, OnOk, Some, map}, BTreeMap.{get}};
 ghost use Rattle.fb_iface.specs.Library.View.{tree_at};
 ghost use Rattle.fb_network.specs.declared.count.TheConstants as limits;
-ghost use Rattle.fb_tree.specs.Text.Order.{name_cmp};
-ghost use Rattle.fb_tree.specs.Tree.{DeclTree, application_tree, decl_tree, instance_tree};
-ghost use Rattle.fb_wiring.specs.Applications.{plain_application};
-ghost use Rattle.fb_wiring.specs.Counts.{CountsAll, CountsOn, HasCount, counted_with, plain_instances};
-ghost use Rattle.fb_wiring.specs.Networks.{plain_instance};
-ghost use Rattle.fb_wiring.specs.Tables.{SameOthers, is_subapplication_in, is_subapplication_tree};
+ghost use Rattle.fb_tree.specs.{Text.Order.{name_cmp}, Tree.{DeclTree, application_tree, decl_tree, instance_tree}};
+ghost use Rattle.fb_wiring.specs.{Applications.{plain_application}, Counts.{CountsAll, CountsOn, HasCount, counted_with, plain_instances}};
+ghost use Rattle.fb_wiring.specs.{Networks.{plain_instance}, Tables.{SameOthers, is_subapplication_in, is_subapplication_tree}};
 ghost use Rattle.fb_wiring.specs.Units.{instances_in, own_instances};
 
 use crate::kinds::is_of_subapplication;

@@ -1,7 +1,6 @@
 //! The names of a graph that reach themselves.
 //! They are found as strongly connected components, in n log n steps. The proof holds for any order of the names.
-ghost use Rattle.std.specs.Prelude.{◌≡◌, ℕ, List, [], true, false, ◌||◌, if◌then◌else◌, filter, Contains, ◌↔◌, IfOk, OnOk};
-ghost use Rattle.std.specs.Ordering.{eq_by_cmp};
+ghost use Rattle.std.specs.{Prelude.{◌≡◌, ℕ, List, [], true, false, ◌||◌, if◌then◌else◌, filter, Contains, ◌↔◌, IfOk, OnOk}, Ordering.{eq_by_cmp}};
 ghost use Rattle.fb_tree.specs.Text.Order.{name_cmp};
 ghost use Rattle.fb_iface.specs.Library.Seen.{has_name, Opens};
 ghost use Rattle.fb_wiring.specs.Graph.{Follows, IsReverse, IsDecided, AreDecided, edges_at, edges_within};

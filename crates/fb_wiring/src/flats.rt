@@ -1,6 +1,5 @@
 //! The flat networks of types, composed by a table and by those of inner types.
-ghost use Rattle.std.specs.Prelude.{◌≡◌, true, is_some, IfOk, OnOk};
-ghost use Rattle.std.specs.BTreeMap.{get};
+ghost use Rattle.std.specs.{Prelude.{◌≡◌, true, is_some, IfOk, OnOk}, BTreeMap.{get}};
 ghost use Rattle.fb_tree.specs.Text.Order.{name_cmp};
 ghost use Rattle.fb_wiring.specs.Tables.{IsAdded, IsComposed, SameOthers, is_missing, known_flats};
 

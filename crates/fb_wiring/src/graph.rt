@@ -1,6 +1,5 @@
 //! The parts of names, as a graph.
-ghost use Rattle.std.specs.Prelude.{◌≡◌, ℕ, List, [], ◌∷◌, ◌++◌, ◌||◌, ◌&&◌, if◌then◌else◌, IfOk, OnOk};
-ghost use Rattle.std.specs.Ordering.{eq_by_cmp};
+ghost use Rattle.std.specs.{Prelude.{◌≡◌, ℕ, List, [], ◌∷◌, ◌++◌, ◌||◌, ◌&&◌, if◌then◌else◌, IfOk, OnOk}, Ordering.{eq_by_cmp}};
 ghost use Rattle.fb_tree.specs.Text.Order.{name_cmp};
 ghost use Rattle.fb_iface.specs.Library.Seen.{has_name};
 ghost use Rattle.fb_wiring.specs.Graph.{IsGraph, edges_at};

@@ -1,11 +1,8 @@
 //! Nets that are kept, and units that are known to be without faults.
-ghost use Rattle.std.specs.Prelude.{◌≡◌, ℕ, Bool, false, List, Option, None, option_map, option_copied};
-ghost use Rattle.std.specs.BTreeMap.{get};
+ghost use Rattle.std.specs.{Prelude.{◌≡◌, ℕ, Bool, false, List, Option, None, option_map, option_copied}, BTreeMap.{get}};
 ghost use Rattle.fb_tree.specs.Text.Order.{name_cmp};
 ghost use Rattle.fb_network.specs.Ready as ready;
-ghost use Rattle.fb_wiring.specs.Hints.{flat_of_hint, is_whole_hint};
-ghost use Rattle.fb_wiring.specs.Net.{PlainNet, plain_net};
-ghost use Rattle.fb_wiring.specs.Tables.{known_flats};
+ghost use Rattle.fb_wiring.specs.{Hints.{flat_of_hint, is_whole_hint}, Net.{PlainNet, plain_net}, Tables.{known_flats}};
 
 use crate::nets::Net;
 use fb_network::{Flat, Nets};

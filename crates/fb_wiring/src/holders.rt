@@ -1,6 +1,5 @@
 //! Units with instances that count.
-ghost use Rattle.std.specs.Prelude.{◌≡◌, IfSome};
-ghost use Rattle.std.specs.Option.{option_map};
+ghost use Rattle.std.specs.{Prelude.{◌≡◌, IfSome}, Option.{option_map}};
 ghost use Rattle.std.specs.FinMap as map;
 ghost use Rattle.fb_wiring.specs.Holders.{holders_of};
 

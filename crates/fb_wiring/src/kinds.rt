@@ -2,8 +2,7 @@
 ghost use Rattle.std.specs.Prelude.{◌≡◌, ◌↔◌, IsTrue};
 ghost use Rattle.fb_iface.specs.Library.View.{tree_at};
 ghost use Rattle.fb_tree.specs.Tree.{decl_tree};
-ghost use Rattle.fb_wiring.specs.Tables.{is_subapplication_in, is_subapplication_tree, is_system_tree};
-ghost use Rattle.fb_wiring.specs.Units.{HasNet, has_net_in, has_net_tree};
+ghost use Rattle.fb_wiring.specs.{Tables.{is_subapplication_in, is_subapplication_tree, is_system_tree}, Units.{HasNet, has_net_in, has_net_tree}};
 
 use fb_iface::library::{View, tree_by_name};
 use fb_tree::Decl;

@@ -1,6 +1,5 @@
 //! The types that reach themselves.
-ghost use Rattle.std.specs.Prelude.{◌≡◌, ℕ, List, filter, Contains, ◌↔◌, IfOk};
-ghost use Rattle.std.specs.List.Sorted.{IsStrictlySortedBy};
+ghost use Rattle.std.specs.{Prelude.{◌≡◌, ℕ, List, filter, Contains, ◌↔◌, IfOk}, List.Sorted.{IsStrictlySortedBy}};
 ghost use Rattle.fb_tree.specs.Text.Order.{name_cmp};
 ghost use Rattle.fb_iface.specs.Library.Seen.{has_name};
 ghost use Rattle.fb_wiring.specs.Reaches.{IsRecursive, RecursivePart};

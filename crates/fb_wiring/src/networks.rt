@@ -1,6 +1,5 @@
 //! The networks of units in plain (IEC 61499-1, 5.4: subapplication types).
-ghost use Rattle.std.specs.Prelude.{◌≡◌, IfOk, map};
-ghost use Rattle.std.specs.List.{filter_map};
+ghost use Rattle.std.specs.{Prelude.{◌≡◌, IfOk, map}, List.{filter_map}};
 ghost use Rattle.fb_tree.specs.Tree.{decl_tree, instance_tree, network_tree};
 ghost use Rattle.fb_wiring.specs.Networks.{network_of, plain_connection, plain_end, plain_instance, plain_network};
 

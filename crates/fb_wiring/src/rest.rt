@@ -1,6 +1,5 @@
 //! What is left to look at where nets are kept.
-ghost use Rattle.std.specs.Prelude.{◌≡◌, IfSome};
-ghost use Rattle.std.specs.Option.{option_map};
+ghost use Rattle.std.specs.{Prelude.{◌≡◌, IfSome}, Option.{option_map}};
 ghost use Rattle.std.specs.FinMap as map;
 ghost use Rattle.fb_wiring.specs.Hints.{is_left, left_of};
 

@@ -1,9 +1,7 @@
 //! The search that lists inner types first.
 ghost use Rattle.std.specs.Prelude.{◌≡◌, ℕ, List, [], ◌∷◌, ◌++◌, Contains, ◌↔◌, IsNone, IfSome, IfOk, OnOk};
 ghost use Rattle.fb_iface.specs.Library.Rests.{PartRests};
-ghost use Rattle.fb_wiring.specs.Order.{IsOrdered};
-ghost use Rattle.fb_wiring.specs.Reaches.{PartRestsOnRecursive, SomePartRests, SomePartRestsOnRecursive};
-ghost use Rattle.fb_wiring.specs.Steps.{enters};
+ghost use Rattle.fb_wiring.specs.{Order.{IsOrdered}, Reaches.{PartRestsOnRecursive, SomePartRests, SomePartRestsOnRecursive}, Steps.{enters}};
 
 use fb_iface::library::{View, part_mentions};
 use fb_tree::text::Name;

@@ -1,6 +1,5 @@
 //! Networks of types.
-ghost use Rattle.std.specs.Prelude.{IfOk, OnOk};
-ghost use Rattle.std.specs.BTreeMap.{get};
+ghost use Rattle.std.specs.{Prelude.{IfOk, OnOk}, BTreeMap.{get}};
 ghost use Rattle.fb_tree.specs.Text.Order.{name_cmp};
 ghost use Rattle.fb_wiring.specs.Tables.{Grows, Has, HasAdapter, HasAdapters, HasType, IsTable, IsTrue};
 

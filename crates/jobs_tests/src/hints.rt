@@ -1,12 +1,8 @@
 //! Jobs to which the caller passes a net of its choice. What their contract does not admit is found before they are made.
 ghost use Rattle.std.specs.Prelude.{◌≡◌, true, IfOk};
-ghost use Rattle.fb_library.specs.Texts.{sources_of};
-ghost use Rattle.fb_library.specs.View.{tree_at};
+ghost use Rattle.fb_library.specs.{Texts.{sources_of}, View.{tree_at}};
 ghost use Rattle.fb_flatten.specs.Nets.{has_net_in};
-ghost use Rattle.fb_jobs.specs.Hints.{IsHint, is_other_subapplication};
-ghost use Rattle.fb_jobs.specs.Keys.{has_key, needs};
-ghost use Rattle.fb_jobs.specs.Kinds.{needs_all};
-ghost use Rattle.fb_jobs.specs.Reads.{is_among};
+ghost use Rattle.fb_jobs.specs.{Hints.{IsHint, is_other_subapplication}, Keys.{has_key, needs}, Kinds.{needs_all}, Reads.{is_among}};
 
 use crate::setup::{NESTED, library_of};
 use crate::told::{job_told, run_told};

@@ -1,6 +1,5 @@
 -- The net that is kept of one unit, and none of others.
-use Rattle.std.specs.Prelude.{ℕ, List, Option, Some, None, if◌then◌else◌}
-use Rattle.std.specs.BTreeMap.{is_at}
+use Rattle.std.specs.{Prelude.{ℕ, List, Option, Some, None, if◌then◌else◌}, BTreeMap.{is_at}}
 use Rattle.fb_tree.specs.Text.Order.{name_cmp}
 use Rattle.fb_flatten.specs.Net.{PlainNet}
 

@@ -1,8 +1,7 @@
 //! Nets beside the kept net of one unit, of which each allocation is refused in turn.
 ghost use Rattle.std.specs.Prelude.{◌≡◌, Some};
 ghost use Rattle.fb_library.specs.Texts.{sources_of};
-ghost use Rattle.fb_flatten.specs.Net.{plain_net};
-ghost use Rattle.fb_flatten.specs.Nets.{net_at};
+ghost use Rattle.fb_flatten.specs.{Net.{plain_net}, Nets.{net_at}};
 
 use crate::kept::{BORDERS, Kept, PLUGGED, kept_of, net_beside};
 use crate::told::{library_of, net_told};

@@ -1,9 +1,7 @@
 //! The nets of units where the net of one unit is kept.
 ghost use Rattle.std.specs.Prelude.{◌≡◌, true, Some, IfOk};
-ghost use Rattle.fb_library.specs.Texts.{sources_of};
-ghost use Rattle.fb_library.specs.View.{tree_at};
-ghost use Rattle.fb_flatten.specs.Net.{plain_net};
-ghost use Rattle.fb_flatten.specs.Nets.{has_net_in, net_at};
+ghost use Rattle.fb_library.specs.{Texts.{sources_of}, View.{tree_at}};
+ghost use Rattle.fb_flatten.specs.{Net.{plain_net}, Nets.{has_net_in, net_at}};
 ghost use Rattle.network_tests.specs.Kept.{hint_of};
 
 use crate::nets::{ADAPTERS, B, CYCLE, FAULTY, TWO_APPLICATIONS, TWO_TARGETS, VALUES, chain};

@@ -3,8 +3,7 @@
 //! prefix is looked up, the longest first. Definitions allow any homes.
 ghost use Rattle.std.specs.Prelude.{◌≡◌, ◌++◌, IfOk, IsTrue, option_copied, string_bytes};
 ghost use Rattle.fb_network.specs.Prefixes.{nearest};
-ghost use Rattle.fb_placing.specs.Points.{IsInside};
-ghost use Rattle.fb_placing.specs.HomeTable.{IsKnown, home_by_path};
+ghost use Rattle.fb_placing.specs.{Points.{IsInside}, HomeTable.{IsKnown, home_by_path}};
 
 use crate::homes::table::{HomeTable, home_by_path, nearest_home};
 use crate::paths::split::split_last;

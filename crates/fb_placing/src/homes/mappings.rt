@@ -1,6 +1,5 @@
 //! Mappings by their paths.
-ghost use Rattle.std.specs.Prelude.{◌≡◌, ◌∷◌, map, IfOk, string_bytes};
-ghost use Rattle.std.specs.HashMap.{get_by_text};
+ghost use Rattle.std.specs.{Prelude.{◌≡◌, ◌∷◌, map, IfOk, string_bytes}, HashMap.{get_by_text}};
 ghost use Rattle.fb_tree.specs.Tree.{mapping_tree};
 ghost use Rattle.fb_network.specs.Printed.{printed};
 ghost use Rattle.fb_placing.specs.Mappings.{mapping_home, mapping_path, names_used, resource_at};

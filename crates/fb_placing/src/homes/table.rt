@@ -1,12 +1,8 @@
 //! Homes by the paths of blocks, none of which is copied.
 //! `nearest_home` reads borrowed texts, and `nearest` of `fb_network` owned ones: a trait for both would be longer than their nine statements.
-ghost use Rattle.std.specs.Prelude.{◌≡◌, ℕ, List, IfOk, IsTrue, OnOk, Some, None, if◌then◌else◌, option_copied};
-ghost use Rattle.std.specs.Option.{option_or};
-ghost use Rattle.std.specs.Str.{bytes_eq};
-ghost use Rattle.fb_placing.specs.Cuts.{home_at};
+ghost use Rattle.std.specs.{Prelude.{◌≡◌, ℕ, List, IfOk, IsTrue, OnOk, Some, None, if◌then◌else◌, option_copied}, Option.{option_or}, Str.{bytes_eq}};
+ghost use Rattle.fb_placing.specs.{Cuts.{home_at}, Points.{AreApart}, HomeTable.{home_by_path}};
 ghost use Rattle.fb_network.specs.Prefixes.{nearest};
-ghost use Rattle.fb_placing.specs.Points.{AreApart};
-ghost use Rattle.fb_placing.specs.HomeTable.{home_by_path};
 
 use crate::homes::Home;
 use crate::paths::split::split_last;

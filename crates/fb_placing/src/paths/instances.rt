@@ -1,11 +1,8 @@
 //! Instances by their names, so that each is found without a walk over those before it.
-ghost use Rattle.std.specs.Prelude.{◌≡◌, map, IfOk, Some};
-ghost use Rattle.std.specs.HashMap.{get_by_text};
+ghost use Rattle.std.specs.{Prelude.{◌≡◌, map, IfOk, Some}, HashMap.{get_by_text}};
 ghost use Rattle.fb_tree.specs.Tree.{application_tree, decl_tree, instance_tree};
 ghost use Rattle.fb_library.specs.View.{tree_at};
-ghost use Rattle.fb_placing.specs.Resolved.{inner_instances, instance_called};
-ghost use Rattle.fb_placing.specs.Systems.{applications_in};
-ghost use Rattle.fb_placing.specs.Tables.{AreApplications, instance_at};
+ghost use Rattle.fb_placing.specs.{Resolved.{inner_instances, instance_called}, Systems.{applications_in}, Tables.{AreApplications, instance_at}};
 
 use crate::first_entry::insert_first;
 use fb_library::{View, tree_by_name};

@@ -1,11 +1,9 @@
 //! What is at the paths of a system.
 ghost use Rattle.std.specs.Prelude.{◌≡◌, [], ◌∷◌, map, IfOk, Some, option_map};
-ghost use Rattle.fb_library.specs.View.{text_or_empty};
+ghost use Rattle.fb_library.specs.View.{text_or_empty, tree_at};
 ghost use Rattle.fb_placing.specs.Resolver.{resolved, resolver_of};
 ghost use Rattle.fb_placing.specs.Resolved.{leads_nowhere, is_placed, path_names, plain_resolved, resolved_beyond, resolved_in, resolved_inside};
-ghost use Rattle.fb_placing.specs.Systems.{applications_in};
-ghost use Rattle.fb_placing.specs.Tables.{instance_at};
-ghost use Rattle.fb_library.specs.View.{tree_at};
+ghost use Rattle.fb_placing.specs.{Systems.{applications_in}, Tables.{instance_at}};
 
 use crate::paths::instances::{
     Applications, Instances, Units, applications_in, instances_by_name, instances_of,
@@ -40,9 +38,7 @@ pub(crate) struct Resolver<'a, V: View> {
 }
 
 impl<'a, V: View> Model for Resolver<'a, V> {
-    ghost use Rattle.std.specs.Prelude.{string_bytes};
-    ghost use Rattle.std.specs.BTreeMap.{get};
-    ghost use Rattle.std.specs.HashMap.{get_by_text};
+    ghost use Rattle.std.specs.{Prelude.{string_bytes}, BTreeMap.{get}, HashMap.{get_by_text}};
     ghost use Rattle.fb_tree.specs.Text.Order.{name_cmp};
     ghost use Rattle.fb_placing.specs.Resolver.{IsResolver, ResolverView, resolver_code, resolver_of};
 

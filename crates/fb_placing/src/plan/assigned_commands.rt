@@ -1,14 +1,8 @@
 //! The commands of a system by numbers, each with the resource that it is for.
-ghost use Rattle.std.specs.Prelude.{◌≡◌, [], ◌∷◌, ◌++◌, IfOk, OnOk, List, ℕ, map, option_copied};
-ghost use Rattle.std.specs.List.{cons_option};
-ghost use Rattle.fb_network.specs.Numbered.{link_numbered};
-ghost use Rattle.fb_network.specs.PlainFlat.{PlainFlat};
-ghost use Rattle.fb_placing.specs.Created.{created_command};
-ghost use Rattle.fb_placing.specs.Cuts.{cuts_of};
-ghost use Rattle.fb_placing.specs.CommandIndexes.{plain_command};
-ghost use Rattle.fb_placing.specs.PlacedCommands.{create_commands};
-ghost use Rattle.fb_placing.specs.SystemCommands.{connection_commands, without_place, connection_on, start_command};
-ghost use Rattle.fb_placing.specs.HomeTable.{home_by_path};
+ghost use Rattle.std.specs.{Prelude.{◌≡◌, [], ◌∷◌, ◌++◌, IfOk, OnOk, List, ℕ, map, option_copied}, List.{cons_option}};
+ghost use Rattle.fb_network.specs.{Numbered.{link_numbered}, PlainFlat.{PlainFlat}};
+ghost use Rattle.fb_placing.specs.{Created.{created_command}, Cuts.{cuts_of}, CommandIndexes.{plain_command}, PlacedCommands.{create_commands}};
+ghost use Rattle.fb_placing.specs.{SystemCommands.{connection_commands, without_place, connection_on, start_command}, HomeTable.{home_by_path}};
 
 use crate::homes::cuts::same_home;
 use crate::homes::end_finder::EndFinder;

@@ -1,15 +1,10 @@
 //! The commands for each resource of a system, and the links that are left.
 ghost use Rattle.std.specs.Prelude.{◌≡◌, ◌++◌, IfOk, List, OnOk, map, ℕ};
 ghost use Rattle.fb_library.specs.View.{tree_at};
-ghost use Rattle.fb_network.specs.Numbered.{link_numbered};
-ghost use Rattle.fb_network.specs.PlainFlat.{PlainFlat};
-ghost use Rattle.fb_placing.specs.Commands.{commands_in};
-ghost use Rattle.fb_placing.specs.Cuts.{cuts_of, home_at};
-ghost use Rattle.fb_placing.specs.CommandIndexes.{plain_command, plain_resource};
-ghost use Rattle.fb_placing.specs.PlacedCommands.{create_commands};
-ghost use Rattle.fb_placing.specs.ByResource.{AreListed, indexes_at};
-ghost use Rattle.fb_placing.specs.SystemCommands.{connection_commands, without_place, start_command};
-ghost use Rattle.fb_placing.specs.Resources.{resource_plan, resource_plans};
+ghost use Rattle.fb_network.specs.{Numbered.{link_numbered}, PlainFlat.{PlainFlat}};
+ghost use Rattle.fb_placing.specs.{Commands.{commands_in}, Cuts.{cuts_of, home_at}, CommandIndexes.{plain_command, plain_resource}};
+ghost use Rattle.fb_placing.specs.{PlacedCommands.{create_commands}, ByResource.{AreListed, indexes_at}};
+ghost use Rattle.fb_placing.specs.{SystemCommands.{connection_commands, without_place, start_command}, Resources.{resource_plan, resource_plans}};
 ghost use Rattle.fb_placing.specs.HomeTable.{home_by_path};
 
 use crate::homes::Home;

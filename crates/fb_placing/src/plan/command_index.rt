@@ -1,9 +1,7 @@
 //! Commands by the numbers of what they are about.
 ghost use Rattle.std.specs.Prelude.{◌≡◌, IfOk, map, slice_get};
-ghost use Rattle.fb_network.specs.Laid.{text_or_nothing};
-ghost use Rattle.fb_network.specs.Numbered.{link_numbered};
-ghost use Rattle.fb_placing.specs.CommandIndexes.{command_text, command_texts_of, plain_resource};
-ghost use Rattle.fb_placing.specs.TextParts.{joined};
+ghost use Rattle.fb_network.specs.{Laid.{text_or_nothing}, Numbered.{link_numbered}};
+ghost use Rattle.fb_placing.specs.{CommandIndexes.{command_text, command_texts_of, plain_resource}, TextParts.{joined}};
 
 use crate::plan::command::Command;
 use crate::plan::resources::ResourcePlan;

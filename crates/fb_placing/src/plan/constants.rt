@@ -1,8 +1,6 @@
 //! Constants as they are written.
-ghost use Rattle.std.specs.Prelude.{◌≡◌, All, IfOk, string_bytes};
-ghost use Rattle.std.specs.List.{flat_map};
-ghost use Rattle.fb_tree.specs.Text.Tokens.{LiesIn};
-ghost use Rattle.fb_tree.specs.Tree.{constant_tree};
+ghost use Rattle.std.specs.{Prelude.{◌≡◌, All, IfOk, string_bytes}, List.{flat_map}};
+ghost use Rattle.fb_tree.specs.{Text.Tokens.{LiesIn}, Tree.{constant_tree}};
 ghost use Rattle.fb_library.specs.Parts.{part};
 ghost use Rattle.fb_placing.specs.ConstantTexts.{token_text, without_gaps, written};
 

@@ -1,13 +1,8 @@
 //! The blocks that are made, in the order of their paths.
-ghost use Rattle.std.specs.Prelude.{◌≡◌, [], ◌++◌, IfOk, OnOk, List, ℕ, map, option_copied};
-ghost use Rattle.std.specs.List.{cons_option, filter_map};
-ghost use Rattle.std.specs.Ordering.{ordering_then};
+ghost use Rattle.std.specs.{Prelude.{◌≡◌, [], ◌++◌, IfOk, OnOk, List, ℕ, map, option_copied}, List.{cons_option, filter_map}, Ordering.{ordering_then}};
 ghost use Rattle.fb_tree.specs.Text.Order.{in_order, name_cmp};
-ghost use Rattle.fb_network.specs.Numbered.{block_numbered};
-ghost use Rattle.fb_network.specs.Once.{IsOnce};
-ghost use Rattle.fb_placing.specs.Created.{created_command};
-ghost use Rattle.fb_placing.specs.PlacedCommands.{create_command, create_commands, command_cmp};
-ghost use Rattle.fb_placing.specs.HomeTable.{home_by_path};
+ghost use Rattle.fb_network.specs.{Numbered.{block_numbered}, Once.{IsOnce}};
+ghost use Rattle.fb_placing.specs.{Created.{created_command}, PlacedCommands.{create_command, create_commands, command_cmp}, HomeTable.{home_by_path}};
 
 use crate::homes::table::{HomeTable, home_by_path};
 use crate::numbers::number;

@@ -3,8 +3,7 @@ ghost use Rattle.std.specs.Prelude.{◌≡◌, ◌++◌, map, IfOk, OnOk};
 ghost use Rattle.fb_tree.specs.Tree.{device_tree, resource_tree};
 ghost use Rattle.fb_library.specs.View.{tree_at};
 ghost use Rattle.fb_network.specs.Places.{dotted};
-ghost use Rattle.fb_placing.specs.Systems.{devices_in};
-ghost use Rattle.fb_placing.specs.Resources.{resources_of};
+ghost use Rattle.fb_placing.specs.{Systems.{devices_in}, Resources.{resources_of}};
 
 use crate::plan::command::Command;
 use fb_library::{View, tree_by_name};

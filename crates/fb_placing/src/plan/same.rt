@@ -1,8 +1,7 @@
 //! Whether two plans have the same content. It takes no memory.
 ghost use Rattle.std.specs.Prelude.{◌≡◌, ◌↔◌, IsTrue, map};
 ghost use Rattle.fb_tree.specs.Text.Order.{name_cmp};
-ghost use Rattle.fb_network.specs.LinkOrder.{link_cmp};
-ghost use Rattle.fb_network.specs.Numbered.{link_numbered};
+ghost use Rattle.fb_network.specs.{LinkOrder.{link_cmp}, Numbered.{link_numbered}};
 ghost use Rattle.fb_placing.specs.CommandIndexes.{command_text, command_texts_of, plain_resource};
 
 use crate::plan::command::Command;

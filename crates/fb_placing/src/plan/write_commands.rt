@@ -1,13 +1,9 @@
 //! Commands in the order of the places that they are about.
-ghost use Rattle.std.specs.Prelude.{◌≡◌, ◌++◌, IfOk, OnOk, map, Some, refl};
-ghost use Rattle.std.specs.List.{flat_map};
-ghost use Rattle.std.specs.Ordering.{eq_by_cmp, as_partial_cmp};
+ghost use Rattle.std.specs.{Prelude.{◌≡◌, ◌++◌, IfOk, OnOk, map, Some, refl}, List.{flat_map}, Ordering.{eq_by_cmp, as_partial_cmp}};
 ghost use Rattle.std.specs.Cmp.{eq_by_cmp_equiv, partial_equiv_from_equiv, partial_order_from_total};
-ghost use Rattle.fb_tree.specs.Text.Order.{in_order, name_cmp};
-ghost use Rattle.fb_tree.specs.Tree.{parameter_tree};
+ghost use Rattle.fb_tree.specs.{Text.Order.{in_order, name_cmp}, Tree.{parameter_tree}};
 ghost use Rattle.fb_library.specs.View.{tree_at};
-ghost use Rattle.fb_placing.specs.Resolved.{plain_resolved};
-ghost use Rattle.fb_placing.specs.Systems.{applications_in};
+ghost use Rattle.fb_placing.specs.{Resolved.{plain_resolved}, Systems.{applications_in}};
 ghost use Rattle.fb_placing.specs.PlacedCommands.{home_commands, command_cmp, command_cmp_total, commands_at, write_command, write_commands};
 
 use crate::homes::Home;

@@ -1,7 +1,6 @@
 -- A refusal is the machine's, and what is found is that of the texts after good changes.
 use Rattle.std.proofs.Common.{◌<◌, ◌≤◌, List, length, refl, arith}
-use Rattle.fb_entries.specs.Library.Texts.{Edit}
-use Rattle.fb_entries.specs.Library.Changes.{edits_of}
+use Rattle.fb_entries.specs.{Library.Texts.{Edit}, Library.Changes.{edits_of}}
 use Rattle.fb_bench.proofs.Committing.{refused_at, refused_stays, too_many_at, done_at, changes_once, others_stay}
 use Rattle.fb_bench.proofs.commit.outcome_of.Goals as goal
 

@@ -1,8 +1,6 @@
 -- What is found with the list of the units before is the first that an earlier change has.
-use Rattle.std.proofs.Common.{◌≡◌, [], map, Some, None, sym, ◌∙◌, arith}
-use Rattle.std.proofs.lemmas.Grind.{common_steps}
-use Rattle.fb_entries.specs.Library.Texts.{unit_of}
-use Rattle.fb_entries.specs.Library.Changes.{edits_of}
+use Rattle.std.proofs.{Common.{◌≡◌, [], map, Some, None, sym, ◌∙◌, arith}, lemmas.Grind.{common_steps}}
+use Rattle.fb_entries.specs.{Library.Texts.{unit_of}, Library.Changes.{edits_of}}
 use Rattle.fb_entries.proofs.Again.{repeated_after, again}
 use Rattle.fb_bench.proofs.commit.repeated.Goals as goal
 

@@ -1,8 +1,6 @@
 -- By the variants of the net.
-use Rattle.std.proofs.Common.{List, Some, ℕ, sym, ◌∙◌, ap}
-use Rattle.std.proofs.lemmas.Result.{IfOk-weaker}
-use Rattle.fb_mapping.specs.Flatten.Net.{blocked, recursive, plain_net}
-use Rattle.fb_mapping.specs.Flatten.Wiring.declared.nets.Net.{Net}
+use Rattle.std.proofs.{Common.{List, Some, ℕ, sym, ◌∙◌, ap}, lemmas.Result.{IfOk-weaker}}
+use Rattle.fb_mapping.specs.{Flatten.Net.{blocked, recursive, plain_net}, Flatten.Wiring.declared.nets.Net.{Net}}
 use Rattle.fb_deploy.specs.Deploy.{PlainDeploy, planned_by, stopped}
 use Rattle.fb_deploy.proofs.ComputedPlans.{plan_by}
 use Rattle.fb_deploy.proofs.planning.plan_by_net.Goals as goal

@@ -1,7 +1,6 @@
 -- The plan of the homes that were found is the plan.
 use Rattle.std.proofs.Common.{sym, ◌∙◌, ap}
-use Rattle.fb_mapping.specs.Library.View.{tree_at}
-use Rattle.fb_mapping.specs.Placing.Homes.{plain_homes}
+use Rattle.fb_mapping.specs.{Library.View.{tree_at}, Placing.Homes.{plain_homes}}
 use Rattle.fb_deploy.specs.Deploy.{planned, tree_plan, with_homes}
 use Rattle.fb_deploy.proofs.planning.plan_flat.Goals as goal
 

@@ -1,8 +1,7 @@
 -- The entry that is written through is the one at the key.
 use Rattle.std.proofs.Common.{◌≡◌, rules, refl, sym, false, None}
 use Rattle.fb_jobs.specs.KeyOrder.{same_key}
-use Rattle.fb_entries.specs.declared.entry.Entry.{Entry}
-use Rattle.fb_entries.specs.Marking.{waiting}
+use Rattle.fb_entries.specs.{declared.entry.Entry.{Entry}, Marking.{waiting}}
 use Rattle.fb_entries.proofs.Writes.{written, unwritten}
 use Rattle.fb_entries.proofs.entry.renew.Goals as goal
 

@@ -1,8 +1,7 @@
 -- The entry that is written through is the one at the key.
 use Rattle.std.proofs.Common.{◌≡◌, rules, refl, sym}
 use Rattle.fb_jobs.specs.KeyOrder.{same_key}
-use Rattle.fb_entries.specs.declared.entry.Entry.{Entry}
-use Rattle.fb_entries.specs.Marking.{with_found}
+use Rattle.fb_entries.specs.{declared.entry.Entry.{Entry}, Marking.{with_found}}
 use Rattle.fb_entries.proofs.Writes.{written, unwritten}
 use Rattle.fb_entries.proofs.entry.store_precomputed.Goals as goal
 

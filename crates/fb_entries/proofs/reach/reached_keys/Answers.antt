@@ -1,6 +1,5 @@
 -- The keys of what the index finds.
-use Rattle.std.proofs.Common.{◌∙◌}
-use Rattle.std.proofs.lemmas.Result.{IfOk-weaker}
+use Rattle.std.proofs.{Common.{◌∙◌}, lemmas.Result.{IfOk-weaker}}
 use Rattle.fb_jobs.specs.Kinds.{keys_near_and_far}
 use Rattle.fb_entries.proofs.Reached.{keys_are}
 use Rattle.fb_entries.proofs.reach.reached_keys.Goals as goal

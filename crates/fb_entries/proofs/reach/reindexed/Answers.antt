@@ -1,6 +1,5 @@
 -- One more unit is indexed as after the commit.
-use Rattle.std.proofs.Common.{◌≡◌, ◌+◌, ◌++◌, ◌∷◌, [], None, ap, sym, subst, ◌∙◌, arith, take, drop}
-use Rattle.std.proofs.lemmas.Grind.{common_steps}
+use Rattle.std.proofs.{Common.{◌≡◌, ◌+◌, ◌++◌, ◌∷◌, [], None, ap, sym, subst, ◌∙◌, arith, take, drop}, lemmas.Grind.{common_steps}}
 use Rattle.fb_tree.specs.Mentions.{mentioned}
 use Rattle.fb_entries.proofs.Again.{repeated_after, again}
 use Rattle.fb_entries.proofs.Indexing.{IsReindexed, reindexed_none, reindexed_more, known_here, indexed_after, not_again, none_again}

@@ -1,6 +1,5 @@
 use Rattle.std.proofs.Common.{◌≡◌, take, drop, None}
-use Rattle.fb_entries.proofs.Again.{repeated_after}
-use Rattle.fb_entries.proofs.Indexing.{IsReindexed}
+use Rattle.fb_entries.proofs.{Again.{repeated_after}, Indexing.{IsReindexed}}
 use Rattle.fb_entries.proofs.reach.reindexed.Given as goal
 
 abbrev pub invariant-loop-unit : goal.invariant-loop-unit

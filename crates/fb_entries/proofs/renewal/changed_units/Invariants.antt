@@ -1,6 +1,5 @@
 use Rattle.std.proofs.Common.{◌≡◌, take, map}
-use Rattle.fb_index.specs.Library.Texts.{unit_of}
-use Rattle.fb_index.specs.Library.Changes.{edits_of}
+use Rattle.fb_index.specs.{Library.Texts.{unit_of}, Library.Changes.{edits_of}}
 use Rattle.fb_entries.proofs.renewal.changed_units.Given as goal
 
 abbrev pub invariant-loop-change : goal.invariant-loop-change

@@ -1,6 +1,5 @@
 -- One more key in the set, and where there was no memory for it.
-use Rattle.std.proofs.Common.{◌≡◌, ◌+◌, ◌++◌, ◌∷◌, [], take, true, sym, ◌∙◌, arith}
-use Rattle.std.proofs.lemmas.Grind.{common_steps}
+use Rattle.std.proofs.{Common.{◌≡◌, ◌+◌, ◌++◌, ◌∷◌, [], take, true, sym, ◌∙◌, arith}, lemmas.Grind.{common_steps}}
 use Rattle.std.specs.BTreeSet as set
 use Rattle.fb_jobs.specs.KeyOrder.{key_cmp, same_key}
 use Rattle.fb_entries.specs.Marking.{is_of}

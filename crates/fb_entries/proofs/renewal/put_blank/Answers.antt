@@ -1,9 +1,7 @@
 -- One more blank entry, and where there was no memory for it.
-use Rattle.std.proofs.Common.{◌≡◌, ◌+◌, ◌++◌, ◌∷◌, [], take, Some, sym, ap, ◌∙◌, arith, rules}
-use Rattle.std.proofs.lemmas.Grind.{common_steps}
-use Rattle.std.specs.Map.{lookup}
+use Rattle.std.proofs.{Common.{◌≡◌, ◌+◌, ◌++◌, ◌∷◌, [], take, Some, sym, ap, ◌∙◌, arith, rules}, lemmas.Grind.{common_steps}}
+use Rattle.std.specs.{Map.{lookup}, BTreeMap.{is_at}}
 use Rattle.std.specs.BTreeMap as tree
-use Rattle.std.specs.BTreeMap.{is_at}
 use Rattle.fb_jobs.specs.KeyOrder.{key_cmp, same_key}
 use Rattle.fb_entries.specs.Marking.{is_of, blank}
 use Rattle.fb_entries.proofs.KeySteps.{of_now, of_prefix, others_more, entry_more}

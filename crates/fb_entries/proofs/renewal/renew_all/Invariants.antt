@@ -1,7 +1,6 @@
 use Rattle.std.proofs.Common.{◌≡◌, take}
 use Rattle.std.specs.BTreeMap as tree
-use Rattle.fb_jobs.specs.declared.key.Key.{Key}
-use Rattle.fb_jobs.specs.KeyOrder.{key_cmp}
+use Rattle.fb_jobs.specs.{declared.key.Key.{Key}, KeyOrder.{key_cmp}}
 use Rattle.fb_entries.specs.Marking.{is_of, waiting_if}
 use Rattle.fb_entries.proofs.renewal.renew_all.Given as goal
 

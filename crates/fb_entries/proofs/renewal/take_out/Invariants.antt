@@ -1,7 +1,6 @@
 use Rattle.std.proofs.Common.{◌≡◌, take, None, cond}
 use Rattle.std.specs.BTreeMap as tree
-use Rattle.fb_jobs.specs.declared.key.Key.{Key}
-use Rattle.fb_jobs.specs.KeyOrder.{key_cmp}
+use Rattle.fb_jobs.specs.{declared.key.Key.{Key}, KeyOrder.{key_cmp}}
 use Rattle.fb_entries.specs.Marking.{is_of}
 use Rattle.fb_entries.proofs.renewal.take_out.Given as goal
 

@@ -1,25 +1,13 @@
 -- The names that block, then those that reach themselves, then an order of all.
-use Rattle.std.proofs.Common.{◌≡◌, true, false, List, [], ℕ, sym, ◌∙◌, ap, subst, is_some}
-use Rattle.std.proofs.lemmas.List.Elements.{All-nil, All-same}
-use Rattle.std.specs.Prelude.{Contains, ◌↔◌, ◌⊎◌, filter, Some, None}
-use Rattle.std.specs.FinMap.{get}
-use Rattle.fb_wiring.specs.Library.Seen.{has_name}
-use Rattle.std.specs.List.Sorted.{IsStrictlySortedBy}
-use Rattle.fb_wiring.specs.Text.Order.{name_cmp}
-use Rattle.fb_wiring.specs.Reaches.{IsRecursive, PartRestsOnRecursive, SomePartRestsOnRecursive}
+use Rattle.std.proofs.{Common.{◌≡◌, true, false, List, [], ℕ, sym, ◌∙◌, ap, subst, is_some}, lemmas.List.Elements.{All-nil, All-same}}
+use Rattle.std.specs.{Prelude.{Contains, ◌↔◌, ◌⊎◌, filter, Some, None}, FinMap.{get}, List.Sorted.{IsStrictlySortedBy}}
+use Rattle.fb_wiring.specs.{Library.Seen.{has_name}, Text.Order.{name_cmp}, Reaches.{IsRecursive, PartRestsOnRecursive, SomePartRestsOnRecursive}}
 use Rattle.fb_wiring.specs.declared.nets.Net.{Net}
 use Rattle.fb_wiring.proofs.FoundUnits.{if_ok}
-use Rattle.fb_flatten.specs.Blocking.{AreThose, IsBlocking, is_blocking, is_some_name}
-use Rattle.fb_flatten.specs.Suspects.{AreFinite, is_part_beyond}
-use Rattle.fb_flatten.specs.Hints.{left_of}
-use Rattle.fb_flatten.specs.Inner.{IsInnerNet}
-use Rattle.fb_flatten.specs.Net.{plain_net}
-use Rattle.fb_flatten.specs.Nets.{net_at}
-use Rattle.fb_flatten.specs.Tables.{IsUnitOrder}
-use Rattle.fb_flatten.proofs.ComputedNets.{has_by_text, net_at_is}
-use Rattle.fb_flatten.proofs.NetLemmas.{none_of_not, recursive_those, some_not_none, some_recursive}
-use Rattle.fb_flatten.proofs.RestLemmas.{recursive_within, sound_of_finite, unit_order}
-use Rattle.fb_flatten.proofs.SuspectLemmas.{blocking_found, present_of_net}
+use Rattle.fb_flatten.specs.{Blocking.{AreThose, IsBlocking, is_blocking, is_some_name}, Suspects.{AreFinite, is_part_beyond}, Hints.{left_of}}
+use Rattle.fb_flatten.specs.{Inner.{IsInnerNet}, Net.{plain_net}, Nets.{net_at}, Tables.{IsUnitOrder}}
+use Rattle.fb_flatten.proofs.{ComputedNets.{has_by_text, net_at_is}, NetLemmas.{none_of_not, recursive_those, some_not_none, some_recursive}}
+use Rattle.fb_flatten.proofs.{RestLemmas.{recursive_within, sound_of_finite, unit_order}, SuspectLemmas.{blocking_found, present_of_net}}
 use Rattle.fb_flatten.proofs.computing.compute.Goals as goal
 
 pub returns-then-has_some : goal.returns-then-has_some

@@ -1,19 +1,10 @@
 -- None of what the unit rests on reaches itself, so that there is an order.
-use Rattle.std.proofs.Common.{◌≡◌, ℕ, true, false, List, Option, Some, None, is_some, refl, subst, sym}
-use Rattle.std.proofs.lemmas.Result.{IfOk-weaker}
+use Rattle.std.proofs.{Common.{◌≡◌, ℕ, true, false, List, Option, Some, None, is_some, refl, subst, sym}, lemmas.Result.{IfOk-weaker}}
 use Rattle.std.specs.Prelude.{Contains}
-use Rattle.fb_wiring.specs.Holders.{holders_of, is_holder}
-use Rattle.fb_wiring.specs.Library.Rests.{PartRests, on_itself, through_part}
-use Rattle.fb_wiring.specs.Library.View.{Sources}
-use Rattle.fb_wiring.specs.Order.{IsOrdered}
+use Rattle.fb_wiring.specs.{Holders.{holders_of, is_holder}, Library.Rests.{PartRests, on_itself, through_part}, Library.View.{Sources}, Order.{IsOrdered}}
 use Rattle.fb_wiring.specs.Reaches.{Reaches}
-use Rattle.fb_wiring.proofs.LeftLemmas.{get_holder}
-use Rattle.fb_wiring.proofs.Library.Locality.{parts_rest}
-use Rattle.fb_wiring.proofs.Text.Members.{contains_nothing}
-use Rattle.fb_flatten.proofs.ComputedNets.{has_by_text}
-use Rattle.fb_flatten.proofs.CountLemmas.{holder_part}
-use Rattle.fb_flatten.proofs.KeptLemmas.{reaches_within, rests_within}
-use Rattle.fb_flatten.proofs.SoundLemmas.{sound_below}
+use Rattle.fb_wiring.proofs.{LeftLemmas.{get_holder}, Library.Locality.{parts_rest}, Text.Members.{contains_nothing}}
+use Rattle.fb_flatten.proofs.{ComputedNets.{has_by_text}, CountLemmas.{holder_part}, KeptLemmas.{reaches_within, rests_within}, SoundLemmas.{sound_below}}
 use Rattle.fb_flatten.proofs.counts.counts_below.Goals as goal
 
 some_of : {X : Type 0} (o : Option X) → (is_some o ≡ false → ⊥) → is_some o ≡ true

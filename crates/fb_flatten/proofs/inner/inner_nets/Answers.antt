@@ -1,16 +1,9 @@
 -- What is taken of the map was found there.
-use Rattle.std.proofs.Common.{All, refl, subst, sym}
-use Rattle.std.proofs.lemmas.List.Elements.{All-push}
-use Rattle.std.proofs.lemmas.Map.Iter.{btree_map_turn}
-use Rattle.std.specs.BTreeMap.{get}
-use Rattle.std.specs.Cmp.Lexicographic.{nat_list_cmp_total}
-use Rattle.fb_wiring.specs.Network.PlainFlat.{PlainFlat}
-use Rattle.fb_wiring.specs.Text.Order.{name_cmp}
-use Rattle.fb_wiring.specs.declared.nets.Net.TheVariants.{Flat}
-use Rattle.fb_flatten.specs.Inner.{IsCountedFlat}
-use Rattle.fb_flatten.specs.declared.inner.Inner.{Inner}
+use Rattle.std.proofs.{Common.{All, refl, subst, sym, List, ℕ}, lemmas.List.Elements.{All-push}, lemmas.Map.Iter.{btree_map_turn}}
+use Rattle.std.specs.{BTreeMap.{get}, Cmp.Lexicographic.{nat_list_cmp_total}}
+use Rattle.fb_wiring.specs.{Network.PlainFlat.{PlainFlat}, Text.Order.{name_cmp}, declared.nets.Net.TheVariants.{Flat}}
+use Rattle.fb_flatten.specs.{Inner.{IsCountedFlat}, declared.inner.Inner.{Inner}}
 use Rattle.fb_flatten.proofs.inner.inner_nets.Goals as goal
-use Rattle.std.proofs.Common.{List, ℕ}
 
 pub loop-unit-preserved-in-Continue-1 : goal.loop-unit-preserved-in-Continue-1
 loop-unit-preserved-in-Continue-1 c =

@@ -1,7 +1,6 @@
 -- None of the names passed so far is absent.
 use Rattle.std.proofs.Common.{◌≡◌, ℕ, List, false, take, is_none}
-use Rattle.std.specs.FinMap.{get}
-use Rattle.std.specs.List.{list_any}
+use Rattle.std.specs.{FinMap.{get}, List.{list_any}}
 use Rattle.fb_flatten.proofs.suspects.has_absent.Given as goal
 
 abbrev pub invariant-loop-name : goal.invariant-loop-name

@@ -1,10 +1,7 @@
 -- One more part.
-use Rattle.std.proofs.Common.{◌≡◌, ◌+◌, ◌||◌, ℕ, List, ◌∷◌, [], ◌++◌, arith, take, sym, ap, ◌∙◌}
-use Rattle.std.proofs.lemmas.Grind.{common_steps}
-use Rattle.fb_wiring.proofs.Text.Tests.{or_assoc, or_false}
-use Rattle.fb_wiring.proofs.Library.SeenLemmas.{same}
+use Rattle.std.proofs.{Common.{◌≡◌, ◌+◌, ◌||◌, ℕ, List, ◌∷◌, [], ◌++◌, arith, take, sym, ap, ◌∙◌}, lemmas.Grind.{common_steps}}
+use Rattle.fb_wiring.proofs.{Text.Tests.{or_assoc, or_false}, Library.SeenLemmas.{same}, Library.WalkLemmas.{has-push, has-updates}}
 use Rattle.fb_wiring.specs.Library.Seen.{has_name}
-use Rattle.fb_wiring.proofs.Library.WalkLemmas.{has-push, has-updates}
 use Rattle.fb_flatten.proofs.suspects.insert_all.Goals as goal
 
 pub loop-name-init : goal.loop-name-init

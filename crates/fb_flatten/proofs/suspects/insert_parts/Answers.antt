@@ -1,8 +1,7 @@
 -- What is known to be whole has no part beyond.
 use Rattle.std.proofs.Common.{◌≡◌, ◌||◌, List, [], ℕ, if◌then◌else◌, sym, ap, subst, ◌∙◌}
 use Rattle.fb_wiring.proofs.Text.Tests.{or_false}
-use Rattle.fb_wiring.specs.Library.Seen.{has_name}
-use Rattle.fb_wiring.specs.Library.View.{parts_at}
+use Rattle.fb_wiring.specs.{Library.Seen.{has_name}, Library.View.{parts_at}}
 use Rattle.fb_flatten.proofs.suspects.insert_parts.Goals as goal
 
 pub returns-then-is_known_whole : goal.returns-then-is_known_whole

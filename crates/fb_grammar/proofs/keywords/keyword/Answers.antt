@@ -1,5 +1,4 @@
-use Rattle.std.proofs.Common.{arith, sym}
-use Rattle.std.proofs.lemmas.Bool.Decides.{nat_tests}
+use Rattle.std.proofs.{Common.{arith, sym}, lemmas.Bool.Decides.{nat_tests}}
 use Rattle.fb_grammar.proofs.Lookups.{no_keyword}
 use Rattle.fb_grammar.proofs.keywords.keyword.Goals as goal
 

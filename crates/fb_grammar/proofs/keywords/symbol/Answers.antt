@@ -1,5 +1,4 @@
-use Rattle.std.proofs.Common.{arith, sym, ◌∙◌}
-use Rattle.std.proofs.lemmas.Bool.Decides.{nat_tests}
+use Rattle.std.proofs.{Common.{arith, sym, ◌∙◌}, lemmas.Bool.Decides.{nat_tests}}
 use Rattle.fb_grammar.proofs.Lookups.{no_symbol, symbol_of_one, symbol_of_two}
 use Rattle.fb_grammar.proofs.keywords.symbol.Goals as goal
 

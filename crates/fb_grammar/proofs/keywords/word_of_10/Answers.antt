@@ -1,5 +1,4 @@
-use Rattle.std.proofs.Common.{arith}
-use Rattle.std.proofs.lemmas.Bool.Decides.{nat_tests}
+use Rattle.std.proofs.{Common.{arith}, lemmas.Bool.Decides.{nat_tests}}
 use Rattle.fb_grammar.specs.ByLength.{words_between}
 use Rattle.fb_grammar.proofs.Lookups.{by_initial, no_initial}
 use Rattle.fb_grammar.proofs.keywords.word_of_10.Goals as goal

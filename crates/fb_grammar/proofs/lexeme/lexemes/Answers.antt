@@ -1,8 +1,6 @@
-use Rattle.std.proofs.Common.{sym, ap, subst, ◌∙◌, take, length, map}
+use Rattle.std.proofs.{Common.{sym, ap, subst, ◌∙◌, take, length, map}, lemmas.List.Elements.{All-take}, lemmas.List.{take_all}}
 use Rattle.std.specs.Prelude.{All}
-use Rattle.std.proofs.lemmas.List.Elements.{All-take}
 use Rattle.fb_tree.specs.Text.Tokens.{LiesIn, SpansRise, spans_of}
-use Rattle.std.proofs.lemmas.List.{take_all}
 use Rattle.fb_grammar.specs.Lexemes.{lexeme_of}
 use Rattle.fb_grammar.proofs.Lexing.{lexemes-rise, lexemes-within}
 use Rattle.fb_grammar.proofs.lexeme.lexemes.Goals as goal

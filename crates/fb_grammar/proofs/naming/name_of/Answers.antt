@@ -1,6 +1,5 @@
 use Rattle.std.proofs.Common.{rules, ◌≡◌, true}
-use Rattle.fb_grammar.specs.Reading.{is_next}
-use Rattle.fb_grammar.specs.Upcoming.{front}
+use Rattle.fb_grammar.specs.{Reading.{is_next}, Upcoming.{front}}
 use Rattle.fb_grammar.proofs.Pulling.{is_name, name_token, next_among}
 use Rattle.fb_grammar.proofs.naming.name_of.Goals as goal
 

@@ -1,6 +1,5 @@
 use Rattle.std.proofs.Common.{rules, ◌≡◌, true, false, length, map}
-use Rattle.fb_grammar.specs.Reading.{is_next, read_each}
-use Rattle.fb_grammar.specs.Repetition.{with_prefix}
+use Rattle.fb_grammar.specs.{Reading.{is_next, read_each}, Repetition.{with_prefix}}
 use Rattle.fb_grammar.proofs.Repeating.{each_more, each_done}
 use Rattle.fb_grammar.proofs.repetition.append_each.Goals as goal
 

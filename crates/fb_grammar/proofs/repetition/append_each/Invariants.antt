@@ -1,6 +1,5 @@
 use Rattle.std.proofs.Common.{length, map}
-use Rattle.fb_grammar.specs.Reading.{read_each}
-use Rattle.fb_grammar.specs.Repetition.{with_prefix}
+use Rattle.fb_grammar.specs.{Reading.{read_each}, Repetition.{with_prefix}}
 use Rattle.fb_grammar.proofs.Repeating.{IsSoFar}
 use Rattle.fb_grammar.proofs.repetition.append_each.Given as goal
 

@@ -1,8 +1,6 @@
 use Rattle.std.proofs.Common.{◌≡◌, ◌+◌, ◌-◌, ◌<◌, ◌≤◌, get_or, length, drop, take, sym, subst, ◌∙◌, arith, Some}
 use Rattle.fb_tree.specs.Text.Bytes.{is_blank}
-use Rattle.fb_grammar.specs.Pulled.{IsNext}
-use Rattle.fb_grammar.specs.Upcoming.{lone_symbol}
-use Rattle.fb_grammar.specs.declared.kind.Kind.TheVariants.{NeverClosed, End}
+use Rattle.fb_grammar.specs.{Pulled.{IsNext}, Upcoming.{lone_symbol}, declared.kind.Kind.TheVariants.{NeverClosed, End}}
 use Rattle.fb_grammar.proofs.PullLemmas.{next-end, next-found, next-symbol, next-unclosed, passed-blank, passed-gap}
 use Rattle.fb_grammar.proofs.upcoming.next_front.Goals as goal
 

@@ -1,5 +1,4 @@
-use Rattle.fb_grammar.proofs.Ending.{unended_pulled}
-use Rattle.fb_grammar.proofs.Pulls.{pulled-within}
+use Rattle.fb_grammar.proofs.{Ending.{unended_pulled}, Pulls.{pulled-within}}
 use Rattle.fb_grammar.proofs.upcoming.tokens_are_pulled.Goals as goal
 
 pub returns : goal.returns

@@ -1,9 +1,8 @@
-use Rattle.std.proofs.Common.{arith, sym}
-use Rattle.std.proofs.lemmas.List.Sums.{prefix_len-le-length}
+use Rattle.std.proofs.{Common.{arith, sym}, lemmas.List.Sums.{prefix_len-le-length}}
 use Rattle.fb_tree.specs.Text.Bytes.{is_word_byte}
 use Rattle.fb_grammar.proofs.PullLemmas.{no_hash, nothing_follows}
-use Rattle.fb_grammar.proofs.upcoming.typed_run.Goals as goal
 use Rattle.fb_grammar.proofs.upcoming.typed_run.Goals.{else-word-bytes-via-then-word-bytes+else-bytes-word-eq35, else-word-bytes-via-else-word-bytes}
+use Rattle.fb_grammar.proofs.upcoming.typed_run.Goals as goal
 
 pub returns-else-word-bytes-clause-value : goal.returns-else-word-bytes-clause-value
 returns-else-word-bytes-clause-value c =

@@ -1,6 +1,5 @@
 -- The law of each entry, and of refusals.
-use Rattle.fb_history.proofs.AfterCalls.{begins_empty, entry_is, refused_stays}
-use Rattle.fb_history.proofs.Restarts.{goes_on}
+use Rattle.fb_history.proofs.{AfterCalls.{begins_empty, entry_is, refused_stays}, Restarts.{goes_on}}
 use Rattle.fb_history.proofs.laws.entries_follow_the_texts.Goals as goal
 
 pub returns-clause-entries : goal.returns-clause-entries

@@ -1,6 +1,5 @@
 use Rattle.std.proofs.Common.{List, None, sym, ◌∙◌, subst}
-use Rattle.fb_locked.specs.Closing.{AgreesWith, IsLeast}
-use Rattle.fb_locked.specs.Seats.{ReceiptView}
+use Rattle.fb_locked.specs.{Closing.{AgreesWith, IsLeast}, Seats.{ReceiptView}}
 use Rattle.fb_host.specs.Short.{is_short}
 use Rattle.fb_host.proofs.Shorts.{all_there, nobody}
 use Rattle.fb_host.proofs.close.close.Goals as goal

@@ -1,8 +1,5 @@
-use Rattle.std.proofs.Common.{◌≡◌, ◌∙◌, ap, map, rules}
-use Rattle.std.proofs.lemmas.Map.Iter.{iter_end}
-use Rattle.std.specs.BTreeMap.{keys}
-use Rattle.std.specs.Map.{keys_of}
-use Rattle.std.specs.Map.Iter.{deref}
+use Rattle.std.proofs.{Common.{◌≡◌, ◌∙◌, ap, map, rules}, lemmas.Map.Iter.{iter_end}}
+use Rattle.std.specs.{BTreeMap.{keys}, Map.{keys_of}, Map.Iter.{deref}}
 use Rattle.fb_locked.proofs.Closings.{least_more, least_same}
 use Rattle.fb_host.proofs.Shorts.{short_all, short_more}
 use Rattle.fb_host.proofs.close.first_short.Goals as goal

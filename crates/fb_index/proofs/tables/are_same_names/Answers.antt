@@ -1,7 +1,5 @@
 -- Equal slices have the same names.
-use Rattle.std.proofs.Common.{refl}
-use Rattle.std.proofs.lemmas.Slice.Eq.{slice_eq-Decides}
-use Rattle.std.proofs.lemmas.Bool.Decides.{Decides-eqb}
+use Rattle.std.proofs.{Common.{refl}, lemmas.Slice.Eq.{slice_eq-Decides}, lemmas.Bool.Decides.{Decides-eqb}}
 use Rattle.fb_index.proofs.tables.are_same_names.Goals as goal
 
 pub returns : goal.returns

@@ -1,11 +1,7 @@
 -- One more read.
-use Rattle.std.proofs.Common.{◌≡◌, ◌+◌, ◌++◌, ◌∷◌, [], List, take, arith, ap, sym, subst, ◌∙◌}
-use Rattle.std.proofs.lemmas.Grind.{common_steps}
+use Rattle.std.proofs.{Common.{◌≡◌, ◌+◌, ◌++◌, ◌∷◌, [], List, take, arith, ap, sym, subst, ◌∙◌}, lemmas.Grind.{common_steps}}
 use Rattle.std.proofs.lemmas.List.{map-append, take_all}
-use Rattle.fb_jobs.specs.declared.read.Read.{Read}
-use Rattle.fb_jobs.specs.Cached.{AreBlocking}
-use Rattle.fb_jobs.specs.Reads.{Seen}
-use Rattle.fb_jobs.specs.Values.{all_seen, seen_of}
+use Rattle.fb_jobs.specs.{declared.read.Read.{Read}, Cached.{AreBlocking}, Reads.{Seen}, Values.{all_seen, seen_of}}
 use Rattle.fb_jobs.proofs.CachedLemmas.{blocking_more}
 use Rattle.fb_jobs.proofs.cached.blocking_names.Goals as goal
 

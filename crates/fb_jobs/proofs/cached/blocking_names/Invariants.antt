@@ -1,6 +1,5 @@
 use Rattle.std.proofs.Common.{take}
-use Rattle.fb_jobs.specs.Cached.{AreBlocking}
-use Rattle.fb_jobs.specs.Values.{all_seen}
+use Rattle.fb_jobs.specs.{Cached.{AreBlocking}, Values.{all_seen}}
 use Rattle.fb_jobs.proofs.cached.blocking_names.Given as goal
 
 abbrev pub invariant-loop-read : goal.invariant-loop-read

@@ -1,13 +1,8 @@
 -- One more read.
-use Rattle.std.proofs.Common.{◌≡◌, ◌+◌, ◌++◌, ◌∷◌, [], List, take, arith, ap, sym, subst, ◌∙◌}
-use Rattle.std.proofs.lemmas.Grind.{common_steps}
-use Rattle.std.proofs.lemmas.List.{map-append, take_all}
-use Rattle.std.proofs.lemmas.Slice.Zip.{all_zipped_more}
+use Rattle.std.proofs.{Common.{◌≡◌, ◌+◌, ◌++◌, ◌∷◌, [], List, take, arith, ap, sym, subst, ◌∙◌}, lemmas.Grind.{common_steps}}
+use Rattle.std.proofs.{lemmas.List.{map-append, take_all}, lemmas.Slice.Zip.{all_zipped_more}}
 use Rattle.std.specs.List.{AllZip}
-use Rattle.fb_jobs.specs.declared.read.Read.{Read}
-use Rattle.fb_jobs.specs.Cached.{IsFlag}
-use Rattle.fb_jobs.specs.Reads.{Seen}
-use Rattle.fb_jobs.specs.Values.{all_seen, seen_of}
+use Rattle.fb_jobs.specs.{declared.read.Read.{Read}, Cached.{IsFlag}, Reads.{Seen}, Values.{all_seen, seen_of}}
 use Rattle.fb_jobs.proofs.cached.faultless_of.Goals as goal
 
 pub loop-read-preserved : goal.loop-read-preserved

@@ -1,7 +1,6 @@
 use Rattle.std.proofs.Common.{take}
 use Rattle.std.specs.List.{AllZip}
-use Rattle.fb_jobs.specs.Cached.{IsFlag}
-use Rattle.fb_jobs.specs.Values.{all_seen}
+use Rattle.fb_jobs.specs.{Cached.{IsFlag}, Values.{all_seen}}
 use Rattle.fb_jobs.proofs.cached.faultless_of.Given as goal
 
 abbrev pub invariant-loop-read : goal.invariant-loop-read

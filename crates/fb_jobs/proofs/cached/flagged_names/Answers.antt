@@ -1,14 +1,10 @@
 -- The name of a read that is flagged is put among them.
-use Rattle.std.proofs.Common.{◌≡◌, ℕ, List, true, sym, ap, subst, ◌∙◌, arith, rules}
-use Rattle.std.proofs.lemmas.List.{get_or-map, length-map}
+use Rattle.std.proofs.{Common.{◌≡◌, ℕ, List, true, sym, ap, subst, ◌∙◌, arith, rules}, lemmas.List.{get_or-map, length-map}}
 use Rattle.std.specs.BTreeSet as set
 use Rattle.fb_text.specs.Order.{name_cmp}
-use Rattle.fb_jobs.specs.Cached.{is_flagged}
-use Rattle.fb_jobs.specs.Reads.{Seen}
-use Rattle.fb_jobs.specs.Values.{all_seen, seen_of}
-use Rattle.fb_jobs.proofs.CachedLemmas.{flagged_there, puts_name, puts_none}
+use Rattle.fb_jobs.specs.{Cached.{is_flagged}, Reads.{Seen}, Values.{all_seen, seen_of}}
+use Rattle.fb_jobs.proofs.{CachedLemmas.{flagged_there, puts_name, puts_none}, cached.flagged_names.Goals.{then-flag_at+in_ok-insert, else-flag_at}}
 use Rattle.fb_jobs.proofs.cached.flagged_names.Goals as goal
-use Rattle.fb_jobs.proofs.cached.flagged_names.Goals.{then-flag_at+in_ok-insert, else-flag_at}
 
 pub loop-place-init : goal.loop-place-init
 loop-place-init c = puts_none (is_flagged (all_seen c.args.reads.now) c.args.flags.now) c.new-names.result c.new-names.ensures.empty

@@ -1,8 +1,7 @@
 use Rattle.std.proofs.Common.{◌≡◌, ℕ, List, true}
 use Rattle.std.specs.BTreeSet as set
 use Rattle.fb_text.specs.Order.{name_cmp}
-use Rattle.fb_jobs.specs.Cached.{is_flagged}
-use Rattle.fb_jobs.specs.Values.{all_seen}
+use Rattle.fb_jobs.specs.{Cached.{is_flagged}, Values.{all_seen}}
 use Rattle.fb_jobs.proofs.cached.flagged_names.Given as goal
 
 abbrev pub invariant-loop-place : goal.invariant-loop-place

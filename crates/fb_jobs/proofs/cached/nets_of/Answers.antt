@@ -1,9 +1,6 @@
 -- One more hint.
-use Rattle.std.proofs.Common.{◌≡◌, ◌+◌, ◌++◌, ◌∷◌, [], List, take, arith, subst}
-use Rattle.std.proofs.lemmas.Grind.{common_steps}
-use Rattle.std.proofs.lemmas.List.{take_all}
-use Rattle.fb_jobs.specs.declared.hints.Hint.{Hint}
-use Rattle.fb_jobs.specs.Cached.{AreNetsOf}
+use Rattle.std.proofs.{Common.{◌≡◌, ◌+◌, ◌++◌, ◌∷◌, [], List, take, arith, subst}, lemmas.Grind.{common_steps}, lemmas.List.{take_all}}
+use Rattle.fb_jobs.specs.{declared.hints.Hint.{Hint}, Cached.{AreNetsOf}}
 use Rattle.fb_jobs.proofs.CachedLemmas.{no_nets, one_more_net}
 use Rattle.fb_jobs.proofs.cached.nets_of.Goals as goal
 

@@ -1,14 +1,9 @@
 -- One net more.
-use Rattle.std.proofs.Common.{sym, ap, subst, ◌∙◌, length, All}
-use Rattle.std.specs.Prelude.{Contains}
-use Rattle.std.proofs.lemmas.Iterator.Adapters.{YieldsList-from_vec}
-use Rattle.std.proofs.lemmas.Iterator.Consumers.{YieldsList-turn}
+use Rattle.std.proofs.{Common.{sym, ap, subst, ◌∙◌, length, All}, lemmas.Iterator.Adapters.{YieldsList-from_vec}, lemmas.Iterator.Consumers.{YieldsList-turn}}
 use Rattle.std.proofs.lemmas.List.Elements.{All-contains, All-push, Contains-get_or}
-use Rattle.fb_deploy.specs.Flatten.Inner.{IsInnerNet}
-use Rattle.fb_deploy.specs.Flatten.declared.inner.Inner.{Inner}
-use Rattle.fb_jobs.specs.Keys.{net_finding}
-use Rattle.fb_jobs.specs.Values.{finding_of}
-use Rattle.fb_jobs.specs.Work.{IsFoundIn}
+use Rattle.std.specs.Prelude.{Contains}
+use Rattle.fb_deploy.specs.{Flatten.Inner.{IsInnerNet}, Flatten.declared.inner.Inner.{Inner}}
+use Rattle.fb_jobs.specs.{Keys.{net_finding}, Values.{finding_of}, Work.{IsFoundIn}}
 use Rattle.fb_jobs.proofs.computed.found_nets.Goals as goal
 
 pub loop-it-preserved : goal.loop-it-preserved

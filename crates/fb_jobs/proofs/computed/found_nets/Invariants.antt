@@ -1,6 +1,5 @@
 use Rattle.std.proofs.Common.{ℕ, List, All}
-use Rattle.fb_deploy.specs.Flatten.Inner.{IsInnerNet}
-use Rattle.fb_deploy.specs.Library.View.{Sources}
+use Rattle.fb_deploy.specs.{Flatten.Inner.{IsInnerNet}, Library.View.{Sources}}
 use Rattle.fb_jobs.specs.Work.{IsFoundIn}
 use Rattle.fb_jobs.proofs.computed.found_nets.Given as goal
 

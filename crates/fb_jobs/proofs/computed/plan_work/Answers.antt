@@ -1,7 +1,6 @@
 -- The net that is known is the system's.
 use Rattle.std.proofs.Common.{sym, ap, ◌∙◌}
-use Rattle.std.specs.Prelude.{option_copied}
-use Rattle.std.specs.Option.{option_map}
+use Rattle.std.specs.{Prelude.{option_copied}, Option.{option_map}}
 use Rattle.fb_deploy.specs.Flatten.Net.{plain_net}
 use Rattle.fb_jobs.proofs.CachedLemmas.{own_right}
 use Rattle.fb_jobs.proofs.computed.plan_work.Goals as goal

@@ -1,16 +1,11 @@
 -- A net that is kept of another subapplication is one more.
 use Rattle.std.proofs.Common.{Bool, not, ◌&&◌, is_some, Some, refl, sym, ap, ◌∙◌}
 use Rattle.std.specs.Prelude.{option_copied, option_map}
-use Rattle.fb_deploy.specs.Flatten.Tables.{is_subapplication_in}
-use Rattle.fb_deploy.specs.Library.Texts.{sources_of}
-use Rattle.fb_deploy.specs.Library.View.{tree_at}
-use Rattle.fb_jobs.specs.declared.hints.Hint.{Hint}
-use Rattle.fb_jobs.specs.declared.value.Value.{Value}
-use Rattle.fb_jobs.specs.Hints.{net_key}
-use Rattle.fb_jobs.specs.Values.{finding_of, seen_of}
+use Rattle.fb_deploy.specs.{Flatten.Tables.{is_subapplication_in}, Library.Texts.{sources_of}, Library.View.{tree_at}}
+use Rattle.fb_jobs.specs.{declared.hints.Hint.{Hint}, declared.value.Value.{Value}, Hints.{net_key}, Values.{finding_of, seen_of}}
 use Rattle.fb_jobs.proofs.HintLemmas.{adds_none, adds_one, tree_read}
-use Rattle.fb_jobs.proofs.hints.add_hint.Goals as goal
 use Rattle.fb_jobs.proofs.hints.add_hint.Goals.{then-same_name-via-then-same_name, then-same_name-via-else-same_name+then-not-is_subapplication}
+use Rattle.fb_jobs.proofs.hints.add_hint.Goals as goal
 
 pub returns-then-same_name : goal.returns-then-same_name
 returns-then-same_name g c texts of =

@@ -1,10 +1,6 @@
 -- One more read.
-use Rattle.std.proofs.Common.{◌≡◌, ◌+◌, ◌++◌, ◌∷◌, [], List, take, arith, subst}
-use Rattle.std.proofs.lemmas.Grind.{common_steps}
-use Rattle.std.proofs.lemmas.List.{take_all}
-use Rattle.fb_jobs.specs.declared.read.Read.{Read}
-use Rattle.fb_jobs.specs.Hints.{AreChosen}
-use Rattle.fb_jobs.specs.Values.{all_seen}
+use Rattle.std.proofs.{Common.{◌≡◌, ◌+◌, ◌++◌, ◌∷◌, [], List, take, arith, subst}, lemmas.Grind.{common_steps}, lemmas.List.{take_all}}
+use Rattle.fb_jobs.specs.{declared.read.Read.{Read}, Hints.{AreChosen}, Values.{all_seen}}
 use Rattle.fb_jobs.proofs.HintLemmas.{nothing_chosen, of_at, one_more_read}
 use Rattle.fb_jobs.proofs.hints.hints_among.Goals as goal
 

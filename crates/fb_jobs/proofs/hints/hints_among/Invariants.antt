@@ -1,8 +1,6 @@
 use Rattle.std.proofs.Common.{take, All}
 use Rattle.fb_deploy.specs.Library.Texts.{Texts}
-use Rattle.fb_jobs.specs.Hints.{AreChosen}
-use Rattle.fb_jobs.specs.Reads.{IsOf}
-use Rattle.fb_jobs.specs.Values.{all_seen}
+use Rattle.fb_jobs.specs.{Hints.{AreChosen}, Reads.{IsOf}, Values.{all_seen}}
 use Rattle.fb_jobs.proofs.hints.hints_among.Given as goal
 
 abbrev pub invariant-loop-read : goal.invariant-loop-read

@@ -1,5 +1,4 @@
-use Rattle.fb_jobs.proofs.Currents.{reads_rise}
-use Rattle.fb_jobs.proofs.SameNeeds.{needs_rise}
+use Rattle.fb_jobs.proofs.{Currents.{reads_rise}, SameNeeds.{needs_rise}}
 use Rattle.fb_jobs.proofs.laws.needs_in_order.Goals as goal
 
 pub returns : goal.returns

@@ -1,12 +1,8 @@
 -- A unit has a net or a plan by its own text.
 use Rattle.std.proofs.Common.{ℕ, List, Option, ap, sym, ◌∙◌}
 use Rattle.std.specs.Option.{option_and_then}
-use Rattle.fb_deploy.specs.Library.Texts.{text_at}
-use Rattle.fb_deploy.specs.Library.View.{tree_of}
-use Rattle.fb_jobs.specs.Keys.{has_key, has_kind_at}
-use Rattle.fb_jobs.specs.declared.key.Kind.{Kind}
-use Rattle.fb_deploy.specs.Flatten.Nets.{has_net_in}
-use Rattle.fb_deploy.specs.Plans.{has_plan_in}
+use Rattle.fb_deploy.specs.{Library.Texts.{text_at}, Library.View.{tree_of}, Flatten.Nets.{has_net_in}, Plans.{has_plan_in}}
+use Rattle.fb_jobs.specs.{Keys.{has_key, has_kind_at}, declared.key.Kind.{Kind}}
 use Rattle.fb_jobs.proofs.Sources.{get_source}
 use Rattle.fb_jobs.proofs.read.has_key.Goals as goal
 

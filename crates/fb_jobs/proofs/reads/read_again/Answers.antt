@@ -1,15 +1,9 @@
 -- One more read.
-use Rattle.std.proofs.Common.{◌≡◌, ◌+◌, ◌++◌, [], ◌∷◌, List, take, arith, ap, sym, subst, ◌∙◌, All}
-use Rattle.std.proofs.lemmas.Grind.{common_steps}
-use Rattle.std.proofs.lemmas.List.{map-append}
-use Rattle.std.proofs.lemmas.List.Elements.{All-push}
-use Rattle.std.proofs.lemmas.Slice.Zip.{all_zipped_more}
+use Rattle.std.proofs.{Common.{◌≡◌, ◌+◌, ◌++◌, [], ◌∷◌, List, take, arith, ap, sym, subst, ◌∙◌, All}, lemmas.Grind.{common_steps}, lemmas.List.{map-append}}
+use Rattle.std.proofs.{lemmas.List.Elements.{All-push}, lemmas.Slice.Zip.{all_zipped_more}}
 use Rattle.std.specs.List.{AllZip}
 use Rattle.fb_deploy.specs.Library.Texts.{held}
-use Rattle.fb_jobs.specs.Reuse.{MentionsTheSame}
-use Rattle.fb_jobs.specs.Reads.{Seen, read_names, reads_under}
-use Rattle.fb_jobs.specs.Values.{seen_of, all_seen, IsOwn}
-use Rattle.fb_jobs.specs.declared.read.Read.{Read}
+use Rattle.fb_jobs.specs.{Reuse.{MentionsTheSame}, Reads.{Seen, read_names, reads_under}, Values.{seen_of, all_seen, IsOwn}, declared.read.Read.{Read}}
 use Rattle.fb_jobs.proofs.HintLemmas.{names_more}
 use Rattle.fb_jobs.proofs.reads.read_again.Goals as goal
 

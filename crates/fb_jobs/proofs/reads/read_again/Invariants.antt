@@ -1,6 +1,5 @@
 use Rattle.std.proofs.Common.{take}
-use Rattle.fb_jobs.specs.Again.{AreReadAgain}
-use Rattle.fb_jobs.specs.Values.{all_seen}
+use Rattle.fb_jobs.specs.{Again.{AreReadAgain}, Values.{all_seen}}
 use Rattle.fb_jobs.proofs.reads.read_again.Given as goal
 
 abbrev pub invariant-loop-it : goal.invariant-loop-it

@@ -1,10 +1,7 @@
-use Rattle.std.proofs.Common.{◌≡◌, ◌+◌, ◌++◌, [], ◌∷◌, take, arith, ap, sym, subst, ◌∙◌, All}
-use Rattle.std.proofs.lemmas.Grind.{common_steps}
-use Rattle.std.proofs.lemmas.List.{map-append}
+use Rattle.std.proofs.{Common.{◌≡◌, ◌+◌, ◌++◌, [], ◌∷◌, take, arith, ap, sym, subst, ◌∙◌, All}, lemmas.Grind.{common_steps}, lemmas.List.{map-append}}
 use Rattle.std.proofs.lemmas.List.Elements.{All-push}
 use Rattle.fb_deploy.specs.Library.Texts.{held}
-use Rattle.fb_jobs.specs.Reads.{reads_under}
-use Rattle.fb_jobs.specs.Values.{seen_of, all_seen, IsOwn}
+use Rattle.fb_jobs.specs.{Reads.{reads_under}, Values.{seen_of, all_seen, IsOwn}}
 use Rattle.fb_jobs.proofs.reads.reads_anew.Goals as goal
 
 pub loop-name-preserved : goal.loop-name-preserved

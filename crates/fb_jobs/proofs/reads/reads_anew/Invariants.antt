@@ -1,6 +1,5 @@
 use Rattle.std.proofs.Common.{◌≡◌, take, All}
-use Rattle.fb_jobs.specs.Reads.{reads_under}
-use Rattle.fb_jobs.specs.Values.{all_seen, IsOwn}
+use Rattle.fb_jobs.specs.{Reads.{reads_under}, Values.{all_seen, IsOwn}}
 use Rattle.fb_jobs.proofs.reads.reads_anew.Given as goal
 
 abbrev pub invariant-loop-name : goal.invariant-loop-name

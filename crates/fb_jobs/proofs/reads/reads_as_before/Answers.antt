@@ -1,17 +1,10 @@
 -- The names that mention what they mentioned are those that the key needs.
-use Rattle.std.proofs.Common.{◌≡◌, Bool, true, false, not, List, refl, sym, ap, subst, ◌∙◌, Option, Some, None, IfSome, Vec}
-use Rattle.std.proofs.lemmas.Result.{IfOk-weaker}
-use Rattle.std.specs.declared.alloc.Global.{Global}
-use Rattle.std.specs.List.{AllZip}
+use Rattle.std.proofs.{Common.{◌≡◌, Bool, true, false, not, List, refl, sym, ap, subst, ◌∙◌, Option, Some, None, IfSome, Vec}, lemmas.Result.{IfOk-weaker}}
+use Rattle.std.specs.{declared.alloc.Global.{Global}, List.{AllZip}}
 use Rattle.fb_deploy.specs.Library.Texts.{Texts}
-use Rattle.fb_jobs.specs.declared.key.Key.{Key}
-use Rattle.fb_jobs.specs.declared.read.Read.{Read}
-use Rattle.fb_jobs.specs.Again.{AreReadAgain, AreReads}
-use Rattle.fb_jobs.specs.Reuse.{MentionsTheSame}
-use Rattle.fb_jobs.specs.Reads.{IsRight, Seen, reads_under}
-use Rattle.fb_jobs.specs.Values.{all_seen}
-use Rattle.fb_jobs.proofs.Again.{needs_again}
-use Rattle.fb_jobs.proofs.Alike.{one_key}
+use Rattle.fb_jobs.specs.{declared.key.Key.{Key}, declared.read.Read.{Read}, Again.{AreReadAgain, AreReads}, Reuse.{MentionsTheSame}}
+use Rattle.fb_jobs.specs.{Reads.{IsRight, Seen, reads_under}, Values.{all_seen}}
+use Rattle.fb_jobs.proofs.{Again.{needs_again}, Alike.{one_key}}
 use Rattle.fb_jobs.proofs.reads.reads_as_before.Goals as goal
 
 told : (b : Bool) → not b ≡ false → b ≡ true

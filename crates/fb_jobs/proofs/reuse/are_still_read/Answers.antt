@@ -1,12 +1,8 @@
 -- One place more.
 use Rattle.std.proofs.Common.{◌≡◌, ◌+◌, ◌<◌, length, List, ◌∷◌, ◌++◌, [], take, true, sym, ap, subst, ◌∙◌, arith}
-use Rattle.std.proofs.lemmas.List.{get_or-map, length-map, take_more}
-use Rattle.std.proofs.lemmas.List.Elements.{all_zip_more}
+use Rattle.std.proofs.{lemmas.List.{get_or-map, length-map, take_more}, lemmas.List.Elements.{all_zip_more}}
 use Rattle.std.specs.List.{AllZip}
-use Rattle.fb_jobs.specs.Cached.{is_flagged}
-use Rattle.fb_jobs.specs.Reuse.{IsStillRead}
-use Rattle.fb_jobs.specs.Reads.{Seen}
-use Rattle.fb_jobs.specs.Values.{all_seen, seen_of}
+use Rattle.fb_jobs.specs.{Cached.{is_flagged}, Reuse.{IsStillRead}, Reads.{Seen}, Values.{all_seen, seen_of}}
 use Rattle.fb_jobs.proofs.CachedLemmas.{flagged_there}
 use Rattle.fb_jobs.proofs.reuse.are_still_read.Goals as goal
 

@@ -1,7 +1,5 @@
 use Rattle.std.proofs.Common.{take}
-use Rattle.fb_jobs.specs.Cached.{is_flagged}
-use Rattle.fb_jobs.specs.Reuse.{AreStillRead}
-use Rattle.fb_jobs.specs.Values.{all_seen}
+use Rattle.fb_jobs.specs.{Cached.{is_flagged}, Reuse.{AreStillRead}, Values.{all_seen}}
 use Rattle.fb_jobs.proofs.reuse.are_still_read.Given as goal
 
 abbrev pub invariant-loop-place : goal.invariant-loop-place

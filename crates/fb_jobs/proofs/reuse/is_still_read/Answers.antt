@@ -1,11 +1,8 @@
 -- What is read under the same name is there in both, or in none.
-use Rattle.std.proofs.Common.{Option, Some, None, sym, subst, ◌∙◌}
-use Rattle.std.proofs.lemmas.Result.{IfOk-weaker}
-use Rattle.std.specs.declared.alloc.Global.{Global}
-use Rattle.std.specs.declared.sync.Arc.{Arc}
+use Rattle.std.proofs.{Common.{Option, Some, None, sym, subst, ◌∙◌}, lemmas.Result.{IfOk-weaker}}
+use Rattle.std.specs.{declared.alloc.Global.{Global}, declared.sync.Arc.{Arc}}
 use Rattle.fb_deploy.specs.Parse.Source.{Written}
-use Rattle.fb_jobs.specs.Reuse.{IsStillFound, IsStillText}
-use Rattle.fb_jobs.specs.Values.{found_in}
+use Rattle.fb_jobs.specs.{Reuse.{IsStillFound, IsStillText}, Values.{found_in}}
 use Rattle.fb_jobs.proofs.SameNeeds.{same_at}
 use Rattle.fb_jobs.proofs.reuse.is_still_read.Goals as goal
 

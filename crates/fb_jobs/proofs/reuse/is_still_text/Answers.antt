@@ -1,6 +1,5 @@
 -- The text of another unit says the same.
-use Rattle.std.proofs.Common.{◌≡◌, List, ℕ, inr, true≢false, sym, ap, ◌∙◌}
-use Rattle.std.proofs.lemmas.Result.{IfOk-weaker}
+use Rattle.std.proofs.{Common.{◌≡◌, List, ℕ, inr, true≢false, sym, ap, ◌∙◌}, lemmas.Result.{IfOk-weaker}}
 use Rattle.std.specs.BTreeMap.{is_at}
 use Rattle.fb_text.specs.Order.{name_cmp}
 use Rattle.fb_jobs.proofs.SameNeeds.{at_itself}

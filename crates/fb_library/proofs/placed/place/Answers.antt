@@ -1,12 +1,9 @@
 -- The closure gives a place's name, and the places stand in the order of their names.
-use Rattle.std.proofs.Common.{rules, List, ℕ, subst, sym}
+use Rattle.std.proofs.{Common.{rules, List, ℕ, subst, sym}, lemmas.List.Sorted.{answers_always}}
 use Rattle.std.specs.List.Sorted.{IsStrictlySortedBy}
-use Rattle.std.proofs.lemmas.List.Sorted.{answers_always}
 use Rattle.fb_parse.specs.Text.Order.{name_cmp}
-use Rattle.fb_library.specs.Entries.{names_in}
-use Rattle.fb_library.specs.declared.placed.Placed.{Placed}
-use Rattle.fb_library.proofs.EntryLemmas.{places_named}
-use Rattle.fb_library.proofs.Searches.{Searched, searched}
+use Rattle.fb_library.specs.{Entries.{names_in}, declared.placed.Placed.{Placed}}
+use Rattle.fb_library.proofs.{EntryLemmas.{places_named}, Searches.{Searched, searched}}
 use Rattle.fb_library.proofs.placed.place.Goals as goal
 
 ends : (g : _) (c : goal.After-binary_search_by_key g) → Searched (names_in c.args.places.now) c.args.name.now c.binary_search_by_key.result

@@ -1,9 +1,8 @@
-use Rattle.std.proofs.Common.{◌≡◌, ◌+◌, ◌∷◌, [], ◌++◌, true, false, arith, take}
-use Rattle.std.proofs.lemmas.Grind.{common_steps}
+use Rattle.std.proofs.{Common.{◌≡◌, ◌+◌, ◌∷◌, [], ◌++◌, true, false, arith, take}, lemmas.Grind.{common_steps}}
 use Rattle.fb_library.specs.Seen.{has_name}
 use Rattle.fb_library.proofs.SeenLemmas.{Opens-none, Opens-new, Opens-old, has-updates, not_true, not_false}
-use Rattle.fb_library.proofs.seen.open_new.Goals as goal
 use Rattle.fb_library.proofs.seen.open_new.Goals.{then-branch+in_ok-push, else-branch}
+use Rattle.fb_library.proofs.seen.open_new.Goals as goal
 
 pub loop-name-init : goal.loop-name-init
 loop-name-init c = Opens-none _ _

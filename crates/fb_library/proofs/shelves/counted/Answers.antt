@@ -1,6 +1,5 @@
 -- One shelf more has so many entries more.
-use Rattle.std.proofs.Common.{rules, ◌≡◌, ◌+◌, length, take, ap, ◌∙◌, arith}
-use Rattle.std.proofs.lemmas.List.{length-append}
+use Rattle.std.proofs.{Common.{rules, ◌≡◌, ◌+◌, length, take, ap, ◌∙◌, arith}, lemmas.List.{length-append}}
 use Rattle.fb_library.specs.Entries.{shelf_of, entries_on}
 use Rattle.fb_library.proofs.Tables.{entries_more}
 use Rattle.fb_library.proofs.shelves.counted.Goals as goal

@@ -1,13 +1,10 @@
 -- The two halves together are the shelf that they were.
 use Rattle.std.proofs.Common.{◌≡◌, ◌+◌, ◌-◌, ◌<◌, ◌++◌, suc, [], length, take, drop, get_or, set, refl, ap, ◌∙◌, arith, slice_get, Some}
 use Rattle.std.proofs.lemmas.List.{length-append}
-use Rattle.fb_library.specs.Entries.{shelf_of, shelves_of}
-use Rattle.fb_library.specs.Shelves.{names_of}
-use Rattle.fb_library.proofs.Halves.{joined_lower, joined_upper, joined_last, last_counts}
-use Rattle.fb_library.proofs.Kept.{split_wider}
-use Rattle.fb_library.proofs.Wider.{IsWider}
-use Rattle.fb_library.proofs.shelves.halve.Goals as goal
+use Rattle.fb_library.specs.{Entries.{shelf_of, shelves_of}, Shelves.{names_of}}
+use Rattle.fb_library.proofs.{Halves.{joined_lower, joined_upper, joined_last, last_counts}, Kept.{split_wider}, Wider.{IsWider}}
 use Rattle.fb_library.proofs.shelves.halve.Goals.{After-drop-index_mut}
+use Rattle.fb_library.proofs.shelves.halve.Goals as goal
 
 halves : (g : _) (c : After-drop-index_mut g) → IsWider (shelves_of g.E.Entries.entries c.args.shelves.now.items) (shelves_of g.E.Entries.entries (set c.insert.new.self.items (c.args.at + 1) (record { last = c.index_mut.result.now.last; entries = c.in_ok-high.high })))
 halves g c =

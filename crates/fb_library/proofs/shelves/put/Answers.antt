@@ -2,12 +2,9 @@
 use Rattle.std.proofs.Common.{rules, ◌≡◌, ◌+◌, ◌-◌, refl, sym, ap, ◌∙◌, length, arith}
 use Rattle.std.specs.BTreeMap.{insert_entry}
 use Rattle.fb_parse.specs.Text.Order.{name_cmp}
-use Rattle.fb_library.specs.Entries.{shelf_of}
-use Rattle.fb_library.specs.declared.shelves.Shelf.{Shelf}
-use Rattle.fb_library.proofs.Counts.{length_shelf, length_changed}
-use Rattle.fb_library.proofs.Kept.{shelf_put, entries_put}
+use Rattle.fb_library.specs.{Entries.{shelf_of}, declared.shelves.Shelf.{Shelf}}
+use Rattle.fb_library.proofs.{Counts.{length_shelf, length_changed}, Kept.{shelf_put, entries_put}, shelves.put.Goals.{After-drop-index_mut}}
 use Rattle.fb_library.proofs.shelves.put.Goals as goal
-use Rattle.fb_library.proofs.shelves.put.Goals.{After-drop-index_mut}
 
 abbrev now : (g : _) (c : After-drop-index_mut g) → Shelf g.row.E.Denot
 now g c = record { last = c.index_mut.result.now.last; entries = c.in_ok-entries-2.entries }

@@ -1,14 +1,10 @@
 -- One shelf lets the name go.
 use Rattle.std.proofs.Common.{◌≡◌, ◌<◌, List, length, refl, ap, ◌∙◌, subst, arith}
-use Rattle.std.specs.Map.{remove_entry}
-use Rattle.std.specs.BTreeMap.{is_at}
+use Rattle.std.specs.{Map.{remove_entry}, BTreeMap.{is_at}}
 use Rattle.fb_parse.specs.Text.Order.{name_cmp}
-use Rattle.fb_library.specs.Entries.{lasts_on, shelf_of}
-use Rattle.fb_library.specs.Shelves.{IsShelfFor}
-use Rattle.fb_library.specs.declared.shelves.Shelf.{Shelf}
-use Rattle.fb_library.proofs.Kept.{at_reached, shelf_removed, entries_removed}
+use Rattle.fb_library.specs.{Entries.{lasts_on, shelf_of}, Shelves.{IsShelfFor}, declared.shelves.Shelf.{Shelf}}
+use Rattle.fb_library.proofs.{Kept.{at_reached, shelf_removed, entries_removed}, shelves.remove.Goals.{After-shelf_for-at, After-drop-index_mut}}
 use Rattle.fb_library.proofs.shelves.remove.Goals as goal
-use Rattle.fb_library.proofs.shelves.remove.Goals.{After-shelf_for-at, After-drop-index_mut}
 
 is_for : (g : _) (c : After-shelf_for-at g) → IsShelfFor (lasts_on g.E.Entries.entries c.args.shelves.now.items) c.args.name.now c.shelf_for-at.result
 is_for g c = subst (λ (ss : List (Shelf g.row.E.Denot)). IsShelfFor (lasts_on g.E.Entries.entries ss) c.args.name.now c.shelf_for-at.result) c.as_slice.ensures.value c.shelf_for-at.ensures

@@ -1,6 +1,5 @@
 -- The closure gives a shelf's last name, and these rise.
-use Rattle.std.proofs.Common.{rules}
-use Rattle.std.proofs.lemmas.List.Sorted.{answers_always}
+use Rattle.std.proofs.{Common.{rules}, lemmas.List.Sorted.{answers_always}}
 use Rattle.fb_library.specs.Entries.{shelf_of}
 use Rattle.fb_library.proofs.Kept.{shelf_found, shelf_missed}
 use Rattle.fb_library.proofs.shelves.shelf_for.Goals as goal

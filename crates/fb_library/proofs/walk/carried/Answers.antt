@@ -1,14 +1,8 @@
-use Rattle.std.proofs.Common.{◌≡◌, ◌+◌, [], ◌∷◌, ◌++◌, take, subst, ◌∙◌, arith}
-use Rattle.std.proofs.lemmas.Grind.{common_steps}
-use Rattle.std.proofs.lemmas.Result.{IfOk-weaker}
-use Rattle.std.specs.List.{flat_map}
+use Rattle.std.proofs.{Common.{◌≡◌, ◌+◌, [], ◌∷◌, ◌++◌, take, subst, ◌∙◌, arith}, lemmas.Grind.{common_steps}, lemmas.Result.{IfOk-weaker}}
 use Rattle.std.proofs.lemmas.List.{nil_from_length}
-use Rattle.fb_library.specs.Near.{carried_on}
-use Rattle.fb_library.specs.Seen.{Opens}
-use Rattle.fb_library.specs.View.{values_at, values_in}
-use Rattle.fb_library.specs.Near.{in_all_trees}
-use Rattle.fb_library.proofs.CarriedLemmas.{carried_within, carried_at_end}
-use Rattle.fb_library.proofs.WalkLemmas.{IsWalk, IsWalk-begin, IsWalk-step, opens_falls, opens_more}
+use Rattle.std.specs.List.{flat_map}
+use Rattle.fb_library.specs.{Near.{carried_on, in_all_trees}, Seen.{Opens}, View.{values_at, values_in}}
+use Rattle.fb_library.proofs.{CarriedLemmas.{carried_within, carried_at_end}, WalkLemmas.{IsWalk, IsWalk-begin, IsWalk-step, opens_falls, opens_more}}
 use Rattle.fb_library.proofs.walk.carried.Goals as goal
 
 pub loop-unit-preserved : goal.loop-unit-preserved

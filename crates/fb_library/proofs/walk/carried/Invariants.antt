@@ -1,8 +1,6 @@
 use Rattle.std.proofs.Common.{◌+◌, [], length, take}
 use Rattle.std.specs.List.{flat_map}
-use Rattle.fb_library.specs.Near.{carried_on, in_all_trees}
-use Rattle.fb_library.specs.Seen.{Opens, unseen}
-use Rattle.fb_library.specs.View.{values_at, values_in}
+use Rattle.fb_library.specs.{Near.{carried_on, in_all_trees}, Seen.{Opens, unseen}, View.{values_at, values_in}}
 use Rattle.fb_library.proofs.WalkLemmas.{IsWalk}
 use Rattle.fb_library.proofs.walk.carried.Given as goal
 

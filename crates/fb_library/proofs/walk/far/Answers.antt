@@ -1,9 +1,5 @@
-use Rattle.std.proofs.Common.{◌≡◌, ◌∷◌, [], ◌++◌, refl, ap, sym, subst, ◌∙◌, arith}
-use Rattle.std.proofs.lemmas.Result.{IfOk-weaker}
-use Rattle.std.proofs.lemmas.List.{nil_from_length}
-use Rattle.fb_library.specs.Near.{in_all_trees}
-use Rattle.fb_library.specs.Seen.{has_name}
-use Rattle.fb_library.specs.View.{mentions_at, mentions_in}
+use Rattle.std.proofs.{Common.{◌≡◌, ◌∷◌, [], ◌++◌, refl, ap, sym, subst, ◌∙◌, arith}, lemmas.Result.{IfOk-weaker}, lemmas.List.{nil_from_length}}
+use Rattle.fb_library.specs.{Near.{in_all_trees}, Seen.{has_name}, View.{mentions_at, mentions_in}}
 use Rattle.fb_library.proofs.FarLemmas.{seen_rests, rests_seen}
 use Rattle.fb_library.proofs.WalkLemmas.{IsWalk, IsWalk-one, IsWalk-step, begun, one_pushed, opens_falls, mentioned_somewhere, Contains-has, has-Contains}
 use Rattle.fb_library.proofs.walk.far.Goals as goal

@@ -1,7 +1,5 @@
 use Rattle.std.proofs.Common.{◌+◌, [], ◌∷◌, length}
-use Rattle.fb_library.specs.Near.{in_all_trees}
-use Rattle.fb_library.specs.Seen.{unseen}
-use Rattle.fb_library.specs.View.{mentions_at, mentions_in}
+use Rattle.fb_library.specs.{Near.{in_all_trees}, Seen.{unseen}, View.{mentions_at, mentions_in}}
 use Rattle.fb_library.proofs.WalkLemmas.{IsWalk}
 use Rattle.fb_library.proofs.walk.far.Given as goal
 

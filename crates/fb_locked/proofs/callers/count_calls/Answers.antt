@@ -1,8 +1,5 @@
-use Rattle.std.proofs.Common.{◌≡◌, ◌∙◌, ap, map, nat_cmp, rules}
-use Rattle.std.proofs.lemmas.Map.Iter.{iter_end}
-use Rattle.std.specs.BTreeMap.{get, keys}
-use Rattle.std.specs.Map.{keys_of}
-use Rattle.std.specs.Map.Iter.{deref}
+use Rattle.std.proofs.{Common.{◌≡◌, ◌∙◌, ap, map, nat_cmp, rules}, lemmas.Map.Iter.{iter_end}}
+use Rattle.std.specs.{BTreeMap.{get, keys}, Map.{keys_of}, Map.Iter.{deref}}
 use Rattle.fb_locked.proofs.EachCaller.{counted_all, counted_more}
 use Rattle.fb_locked.proofs.callers.count_calls.Goals as goal
 

@@ -1,10 +1,6 @@
-use Rattle.std.proofs.Common.{◌≡◌, ◌∙◌, ap, map, rules}
-use Rattle.std.proofs.lemmas.Map.Iter.{iter_end}
-use Rattle.std.specs.BTreeMap.{keys}
-use Rattle.std.specs.Map.{keys_of}
-use Rattle.std.specs.Map.Iter.{deref}
-use Rattle.fb_locked.proofs.Closings.{least_more, least_same}
-use Rattle.fb_locked.proofs.EachCaller.{beyond_all, beyond_more}
+use Rattle.std.proofs.{Common.{◌≡◌, ◌∙◌, ap, map, rules}, lemmas.Map.Iter.{iter_end}}
+use Rattle.std.specs.{BTreeMap.{keys}, Map.{keys_of}, Map.Iter.{deref}}
+use Rattle.fb_locked.proofs.{Closings.{least_more, least_same}, EachCaller.{beyond_all, beyond_more}}
 use Rattle.fb_locked.proofs.callers.left_out.Goals as goal
 
 pub loop-caller-preserved : goal.loop-caller-preserved

@@ -1,6 +1,5 @@
 use Rattle.std.proofs.Common.{◌&&◌, not}
-use Rattle.fb_locked.specs.Book.{is_first}
-use Rattle.fb_locked.specs.Closing.{has_seat, IsLeast}
+use Rattle.fb_locked.specs.{Book.{is_first}, Closing.{has_seat, IsLeast}}
 use Rattle.fb_locked.proofs.callers.missing_first.Given as goal
 
 abbrev pub invariant-loop-index : goal.invariant-loop-index

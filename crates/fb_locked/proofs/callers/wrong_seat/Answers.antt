@@ -1,7 +1,5 @@
-use Rattle.std.proofs.Common.{◌≡◌, ap, ◌∙◌, arith, length, take, List, ℕ, subst}
-use Rattle.std.proofs.Math.Seq.{take-length}
-use Rattle.fb_locked.specs.Seats.{SeatView}
-use Rattle.fb_locked.specs.Closing.{IsLeast, has_wrong_seat}
+use Rattle.std.proofs.{Common.{◌≡◌, ap, ◌∙◌, arith, length, take, List, ℕ, subst}, Math.Seq.{take-length}}
+use Rattle.fb_locked.specs.{Seats.{SeatView}, Closing.{IsLeast, has_wrong_seat}}
 use Rattle.fb_locked.proofs.Closings.{least_more, wrong_more}
 use Rattle.fb_locked.proofs.callers.wrong_seat.Goals as goal
 

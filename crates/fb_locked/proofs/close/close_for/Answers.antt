@@ -1,6 +1,5 @@
 use Rattle.std.proofs.Common.{subst, List}
-use Rattle.fb_locked.specs.Seats.{SeatView}
-use Rattle.fb_locked.specs.Closing.{IsFirstFault}
+use Rattle.fb_locked.specs.{Seats.{SeatView}, Closing.{IsFirstFault}}
 use Rattle.fb_locked.proofs.close.close_for.Goals as goal
 
 pub returns-in-Err-clause-fault : goal.returns-in-Err-clause-fault

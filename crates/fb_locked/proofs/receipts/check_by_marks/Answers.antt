@@ -1,6 +1,5 @@
 use Rattle.std.proofs.Common.{◌≡◌, ◌≤◌, ◌<◌, ◌-◌, ◌+◌, ℕ, length, take, get_or, false, true, cond, ap, refl, sym, ◌∙◌, arith, length-set, subst}
-use Rattle.std.proofs.lemmas.Grind.{common_steps}
-use Rattle.std.proofs.lemmas.Option.{slice_get_read}
+use Rattle.std.proofs.{lemmas.Grind.{common_steps}, lemmas.Option.{slice_get_read}}
 use Rattle.fb_locked.specs.Closing.{IsReceiptRight, times}
 use Rattle.fb_locked.proofs.Closings.{placed, right_more, marks_more}
 use Rattle.fb_locked.proofs.receipts.check_by_marks.Goals as goal

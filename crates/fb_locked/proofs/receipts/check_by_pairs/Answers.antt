@@ -1,5 +1,4 @@
-use Rattle.std.proofs.Common.{◌≡◌, ◌≤◌, ◌∙◌, ℕ, take, refl, sym, subst, arith}
-use Rattle.std.proofs.lemmas.Option.{slice_get_read}
+use Rattle.std.proofs.{Common.{◌≡◌, ◌≤◌, ◌∙◌, ℕ, take, refl, sym, subst, arith}, lemmas.Option.{slice_get_read}}
 use Rattle.fb_locked.specs.Closing.{IsReceiptRight, times}
 use Rattle.fb_locked.proofs.Closings.{right_more, none_times, some_times}
 use Rattle.fb_locked.proofs.receipts.check_by_pairs.Goals as goal

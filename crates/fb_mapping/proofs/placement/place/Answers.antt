@@ -1,6 +1,5 @@
 -- The placement of the flat network that was found.
-use Rattle.std.proofs.Common.{ap, subst}
-use Rattle.std.proofs.lemmas.Result.{IfOk-weaker}
+use Rattle.std.proofs.{Common.{ap, subst}, lemmas.Result.{IfOk-weaker}}
 use Rattle.fb_flatten.specs.Net.{IsNet, flat_net, plain_net}
 use Rattle.fb_mapping.proofs.placement.place.Goals as goal
 

@@ -1,9 +1,7 @@
 use Rattle.std.proofs.Common.{◌∷◌, codes}
 use Rattle.json.specs.Token.{key}
 use Rattle.serde_json.specs.Data.{array}
-use Rattle.fb_messages.specs.NetReplies.{link_items}
-use Rattle.fb_messages.specs.DeployReplies.{resource_items}
-use Rattle.fb_messages.specs.Tokens.{tokens_of}
+use Rattle.fb_messages.specs.{NetReplies.{link_items}, DeployReplies.{resource_items}, Tokens.{tokens_of}}
 use Rattle.fb_messages.proofs.Members.{two_members}
 use Rattle.fb_messages.proofs.deploy_reply.write_plan.Goals as goal
 

@@ -1,9 +1,7 @@
 -- One entry more is written.
 use Rattle.std.proofs.Common.{◌++◌, ◌∙◌}
 use Rattle.std.specs.Prelude.{string_bytes}
-use Rattle.fb_messages.specs.DeployReplies.{two}
-use Rattle.fb_messages.specs.NetReplies.{block_item}
-use Rattle.fb_messages.specs.Tokens.{tokens_of}
+use Rattle.fb_messages.specs.{DeployReplies.{two}, NetReplies.{block_item}, Tokens.{tokens_of}}
 use Rattle.fb_messages.proofs.Entries.{entry_more}
 use Rattle.fb_messages.proofs.net_reply.write_blocks.Goals as goal
 

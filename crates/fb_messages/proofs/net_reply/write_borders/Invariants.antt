@@ -1,8 +1,7 @@
 -- With the borders that are left, and the bracket, it will be the list.
 use Rattle.std.proofs.Common.{◌≡◌, ◌++◌}
 use Rattle.serde_json.specs.Data.{array}
-use Rattle.fb_messages.specs.NetReplies.{border_item, border_items}
-use Rattle.fb_messages.specs.Tokens.{tokens_of}
+use Rattle.fb_messages.specs.{NetReplies.{border_item, border_items}, Tokens.{tokens_of}}
 use Rattle.fb_messages.proofs.Entries.{tokens_left}
 use Rattle.fb_messages.proofs.net_reply.write_borders.Given as goal
 

@@ -1,8 +1,7 @@
 -- One entry more is written.
 use Rattle.std.proofs.Common.{◌++◌, ◌∙◌}
 use Rattle.std.specs.Prelude.{string_bytes}
-use Rattle.fb_messages.specs.NetReplies.{link_item, three}
-use Rattle.fb_messages.specs.Tokens.{tokens_of}
+use Rattle.fb_messages.specs.{NetReplies.{link_item, three}, Tokens.{tokens_of}}
 use Rattle.fb_messages.proofs.Entries.{entry_more}
 use Rattle.fb_messages.proofs.net_reply.write_links.Goals as goal
 

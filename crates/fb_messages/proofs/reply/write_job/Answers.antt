@@ -1,8 +1,7 @@
 use Rattle.std.proofs.Common.{◌∷◌, codes}
 use Rattle.json.specs.Token.{key}
 use Rattle.serde_json.specs.Data.{string}
-use Rattle.fb_messages.specs.Replies.{count}
-use Rattle.fb_messages.specs.Tokens.{tokens_of}
+use Rattle.fb_messages.specs.{Replies.{count}, Tokens.{tokens_of}}
 use Rattle.fb_messages.proofs.Members.{three_members}
 use Rattle.fb_messages.proofs.reply.write_job.Goals as goal
 

@@ -1,5 +1,4 @@
-use Rattle.std.proofs.Common.{[], ◌∷◌, ◌∙◌, Some, ap, map, sym}
-use Rattle.std.proofs.lemmas.List.{map-append}
+use Rattle.std.proofs.{Common.{[], ◌∷◌, ◌∙◌, Some, ap, map, sym}, lemmas.List.{map-append}}
 use Rattle.fb_messages.specs.RequestView.{change_view}
 use Rattle.fb_messages.proofs.Changes.{one_more_change, one_no_change}
 use Rattle.fb_messages.proofs.request.changes_of.Goals as goal

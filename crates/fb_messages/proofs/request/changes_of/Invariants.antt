@@ -1,7 +1,6 @@
 use Rattle.std.proofs.Common.{◌≡◌, Some, map, take}
 use Rattle.serde_json.specs.View.{items_of, view}
-use Rattle.fb_messages.specs.Requests.{changes_of}
-use Rattle.fb_messages.specs.RequestView.{change_view}
+use Rattle.fb_messages.specs.{Requests.{changes_of}, RequestView.{change_view}}
 use Rattle.fb_messages.proofs.request.changes_of.Given as goal
 
 abbrev pub invariant-loop-value : goal.invariant-loop-value

@@ -1,8 +1,6 @@
 use Rattle.std.proofs.Common.{◌≡◌, ◌++◌, drop, map}
 use Rattle.json.specs.Tree.{items_tokens}
-use Rattle.serde_json.specs.Data.{array}
-use Rattle.serde_json.specs.View.{items_of}
-use Rattle.serde_json.specs.Written.{items_outline}
+use Rattle.serde_json.specs.{Data.{array}, View.{items_of}, Written.{items_outline}}
 use Rattle.fb_messages.specs.Tokens.{tokens_of}
 use Rattle.fb_messages.proofs.to_json.write_list.Given as goal
 

@@ -1,15 +1,9 @@
 -- The adapter of a port of an instance is that of the instance's type.
 use Rattle.std.proofs.Common.{◌∙◌, ap, sym, Some, None, refl}
-use Rattle.std.specs.Prelude.{option_and_then}
-use Rattle.std.specs.Option.{option_copied}
-use Rattle.std.specs.BTreeMap.{get}
+use Rattle.std.specs.{Prelude.{option_and_then}, Option.{option_copied}, BTreeMap.{get}}
 use Rattle.fb_tree.specs.Text.Order.{name_cmp}
-use Rattle.fb_network.specs.declared.network.End.{End}
-use Rattle.fb_network.specs.declared.network.Instance.{Instance}
-use Rattle.fb_network.specs.Network.{instance_named, place_of}
-use Rattle.fb_network.specs.Clean.{adapter_at}
-use Rattle.fb_network.proofs.AdapterLemmas.{adapter_inside}
-use Rattle.fb_network.proofs.Connections.{standing_type}
+use Rattle.fb_network.specs.{declared.network.End.{End}, declared.network.Instance.{Instance}, Network.{instance_named, place_of}, Clean.{adapter_at}}
+use Rattle.fb_network.proofs.{AdapterLemmas.{adapter_inside}, Connections.{standing_type}}
 use Rattle.fb_network.proofs.adapters.find_adapter.Goals as goal
 
 pub returns-in-Some : goal.returns-in-Some

@@ -1,11 +1,8 @@
 -- The borders of one connection more.
-use Rattle.std.proofs.Common.{◌+◌, List, length, ap, subst, ◌∙◌}
-use Rattle.std.proofs.lemmas.List.{take_all}
+use Rattle.std.proofs.{Common.{◌+◌, List, length, ap, subst, ◌∙◌}, lemmas.List.{take_all}}
 use Rattle.std.specs.BTreeMap.{get}
 use Rattle.fb_tree.specs.Text.Order.{name_cmp}
-use Rattle.fb_network.specs.declared.network.Connection.{Connection}
-use Rattle.fb_network.specs.declared.network.Instance.{Instance}
-use Rattle.fb_network.specs.declared.place.Place.{Place}
+use Rattle.fb_network.specs.{declared.network.Connection.{Connection}, declared.network.Instance.{Instance}, declared.place.Place.{Place}}
 use Rattle.fb_network.specs.Standing.{AreEdgesOf, own_place}
 use Rattle.fb_network.proofs.Connections.{edges_more, edges_none}
 use Rattle.fb_network.proofs.borders.borders_of_network.Goals as goal

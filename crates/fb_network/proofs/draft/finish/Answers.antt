@@ -1,11 +1,7 @@
 -- What is left is in range, and in order.
 use Rattle.std.proofs.Common.{refl, subst, List, length}
-use Rattle.fb_network.specs.PlainPrefix.{PlainPrefix}
-use Rattle.fb_network.specs.LinkOrder.{border_cmp, link_cmp}
-use Rattle.fb_network.specs.Laid.{IsEdgeBelow, IsJoinBelow, border_at, link_at}
-use Rattle.fb_network.specs.Once.{IsOnce}
-use Rattle.fb_network.proofs.Drafts.{once_ordered}
-use Rattle.fb_network.proofs.SortedOnce.{all_left}
+use Rattle.fb_network.specs.{PlainPrefix.{PlainPrefix}, LinkOrder.{border_cmp, link_cmp}, Laid.{IsEdgeBelow, IsJoinBelow, border_at, link_at}, Once.{IsOnce}}
+use Rattle.fb_network.proofs.{Drafts.{once_ordered}, SortedOnce.{all_left}}
 use Rattle.fb_network.proofs.draft.finish.Goals as goal
 
 pub invariant_of-result : goal.invariant_of-result

@@ -1,12 +1,7 @@
 -- The entries of the inner network stand moved, behind those that there were.
-use Rattle.std.proofs.Common.{◌≡◌, ◌++◌, List, length, map, ap, ◌∙◌}
-use Rattle.std.proofs.lemmas.Result.{IfOk-weaker}
-use Rattle.fb_network.specs.PlainPrefix.{PlainPrefix}
-use Rattle.fb_network.specs.Laid.{edge_moved, prefix_within, join_moved, leaf_moved}
-use Rattle.fb_network.specs.declared.flat.Tables.{Tables}
-use Rattle.fb_network.specs.declared.entries.Leaf.{Leaf}
-use Rattle.fb_network.specs.declared.entries.Join.{Join}
-use Rattle.fb_network.specs.declared.entries.Edge.{Edge}
+use Rattle.std.proofs.{Common.{◌≡◌, ◌++◌, List, length, map, ap, ◌∙◌}, lemmas.Result.{IfOk-weaker}}
+use Rattle.fb_network.specs.{PlainPrefix.{PlainPrefix}, Laid.{edge_moved, prefix_within, join_moved, leaf_moved}, declared.flat.Tables.{Tables}}
+use Rattle.fb_network.specs.{declared.entries.Leaf.{Leaf}, declared.entries.Join.{Join}, declared.entries.Edge.{Edge}}
 use Rattle.fb_network.proofs.Drafts.{taken_in}
 use Rattle.fb_network.proofs.draft.take_in.Goals as goal
 

@@ -1,12 +1,9 @@
 -- The draft holds what is composed, and what is finished of it is the flat network.
-use Rattle.std.proofs.Common.{List, subst, sym}
+use Rattle.std.proofs.{Common.{List, subst, sym}, lemmas.Result.{IfOk-weaker}}
 use Rattle.std.specs.BTreeMap.{get}
-use Rattle.std.proofs.lemmas.Result.{IfOk-weaker}
 use Rattle.fb_tree.specs.Text.Order.{name_cmp}
-use Rattle.fb_network.specs.declared.network.Instance.{Instance}
-use Rattle.fb_network.specs.Standing.{AreNamed, HoldsInstances}
-use Rattle.fb_network.proofs.Connections.{are_named, own_grown}
-use Rattle.fb_network.proofs.FlatLemmas.{flat_in_whole, holds_all, laid_of}
+use Rattle.fb_network.specs.{declared.network.Instance.{Instance}, Standing.{AreNamed, HoldsInstances}}
+use Rattle.fb_network.proofs.{Connections.{are_named, own_grown}, FlatLemmas.{flat_in_whole, holds_all, laid_of}}
 use Rattle.fb_network.proofs.flat_network.compose_by_part.Goals as goal
 
 pub take_instances-requires-clause-named : goal.take_instances-requires-clause-named

@@ -1,7 +1,6 @@
 -- A block is one leaf more, and what a subapplication instance holds is taken in.
-use Rattle.std.proofs.Common.{refl, sym, ◌∙◌, ap}
+use Rattle.std.proofs.{Common.{refl, sym, ◌∙◌, ap}, lemmas.Result.{IfOk-weaker}}
 use Rattle.std.specs.Option.{option_copied}
-use Rattle.std.proofs.lemmas.Result.{IfOk-weaker}
 use Rattle.fb_network.proofs.Standings.{takes_block, takes_inner, takes_unknown}
 use Rattle.fb_network.proofs.instances.take_instance.Goals as goal
 

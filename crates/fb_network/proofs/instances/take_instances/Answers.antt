@@ -1,12 +1,9 @@
 -- Each instance is taken in and put into the table.
-use Rattle.std.proofs.Common.{ℕ, List, refl, sym, subst, take}
-use Rattle.std.proofs.lemmas.List.{take_all}
+use Rattle.std.proofs.{Common.{ℕ, List, refl, sym, subst, take}, lemmas.List.{take_all}}
 use Rattle.std.specs.BTreeMap.{get}
 use Rattle.fb_tree.specs.Text.Order.{name_cmp}
-use Rattle.fb_network.specs.declared.network.Instance.{Instance}
-use Rattle.fb_network.specs.Standing.{HoldsInstances, Says}
-use Rattle.fb_network.proofs.EmptyMaps.{nothing_at}
-use Rattle.fb_network.proofs.Standings.{holds_more, holds_nothing, next_taken, says_grown}
+use Rattle.fb_network.specs.{declared.network.Instance.{Instance}, Standing.{HoldsInstances, Says}}
+use Rattle.fb_network.proofs.{EmptyMaps.{nothing_at}, Standings.{holds_more, holds_nothing, next_taken, says_grown}}
 use Rattle.fb_network.proofs.instances.take_instances.Goals as goal
 
 pub loop-place-init : goal.loop-place-init

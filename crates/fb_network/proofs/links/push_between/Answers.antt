@@ -1,14 +1,9 @@
 -- The links are those of the connection's sort.
 use Rattle.std.proofs.Common.{List, Option, ap, map, sym, subst, ◌∙◌}
-use Rattle.std.specs.Result.{OnOk}
-use Rattle.std.specs.Option.{option_copied}
+use Rattle.std.specs.{Result.{OnOk}, Option.{option_copied}}
 use Rattle.fb_tree.specs.declared.network.Sort.TheVariants.{Adapter}
-use Rattle.fb_network.specs.declared.network.Port.{Port}
-use Rattle.fb_network.specs.declared.flat.Link.{Link}
-use Rattle.fb_network.specs.Plain.{PlainNetwork}
-use Rattle.fb_network.specs.Composed.{adapter_links, links_of_sort}
-use Rattle.fb_network.specs.Laid.{path_at}
-use Rattle.fb_network.specs.Standing.{AddsLinks}
+use Rattle.fb_network.specs.{declared.network.Port.{Port}, declared.flat.Link.{Link}, Plain.{PlainNetwork}, Composed.{adapter_links, links_of_sort}}
+use Rattle.fb_network.specs.{Laid.{path_at}, Standing.{AddsLinks}}
 use Rattle.fb_network.proofs.Connections.{adds_none}
 use Rattle.fb_network.proofs.links.push_between.Goals as goal
 

@@ -1,7 +1,6 @@
 -- The places behind the ends are in range, and the links between them are those of the connection.
-use Rattle.std.proofs.Common.{◌∙◌}
+use Rattle.std.proofs.{Common.{◌∙◌}, lemmas.Result.{on_ok_weaker}}
 use Rattle.std.specs.BTreeMap.{get}
-use Rattle.std.proofs.lemmas.Result.{on_ok_weaker}
 use Rattle.fb_tree.specs.Text.Order.{name_cmp}
 use Rattle.fb_network.proofs.Connections.{adds_connection, behind_below, behind_reach, table_instances}
 use Rattle.fb_network.proofs.links.push_connection_links.Goals as goal

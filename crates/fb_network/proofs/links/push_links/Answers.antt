@@ -1,14 +1,10 @@
 -- The links of one connection more.
-use Rattle.std.proofs.Common.{◌+◌, List, length, ap, subst, ◌∙◌}
-use Rattle.std.proofs.lemmas.List.{take_all}
+use Rattle.std.proofs.{Common.{◌+◌, List, length, ap, subst, ◌∙◌}, lemmas.List.{take_all}}
 use Rattle.std.specs.BTreeMap.{get}
 use Rattle.fb_tree.specs.Text.Order.{name_cmp}
-use Rattle.fb_network.specs.declared.network.Connection.{Connection}
-use Rattle.fb_network.specs.declared.network.Instance.{Instance}
-use Rattle.fb_network.specs.declared.place.Place.{Place}
+use Rattle.fb_network.specs.{declared.network.Connection.{Connection}, declared.network.Instance.{Instance}, declared.place.Place.{Place}}
 use Rattle.fb_network.specs.Standing.{AddsConnections, own_place}
-use Rattle.fb_network.proofs.Connections.{connects_more, connects_none, own_grown, says_destination, says_source}
-use Rattle.fb_network.proofs.Standings.{table_grown}
+use Rattle.fb_network.proofs.{Connections.{connects_more, connects_none, own_grown, says_destination, says_source}, Standings.{table_grown}}
 use Rattle.fb_network.proofs.links.push_links.Goals as goal
 
 pub loop-place-init : goal.loop-place-init

@@ -1,11 +1,7 @@
 -- The prefixes of the plugs and then those of the sockets are added, and the links between them.
-use Rattle.std.proofs.Common.{refl, ap, ◌∙◌, ◌≡◌, ◌++◌, Vec, map}
-use Rattle.std.proofs.lemmas.Result.{on_ok_weaker}
-use Rattle.fb_network.specs.Laid.{path_at}
-use Rattle.fb_network.specs.Reading.{ArePlaces}
-use Rattle.fb_network.specs.Behind.{adapter_joins}
-use Rattle.fb_network.proofs.Connections.{adds_members}
-use Rattle.fb_network.proofs.Readings.{places_grown}
+use Rattle.std.proofs.{Common.{refl, ap, ◌∙◌, ◌≡◌, ◌++◌, Vec, map}, lemmas.Result.{on_ok_weaker}}
+use Rattle.fb_network.specs.{Laid.{path_at}, Reading.{ArePlaces}, Behind.{adapter_joins}}
+use Rattle.fb_network.proofs.{Connections.{adds_members}, Readings.{places_grown}}
 use Rattle.fb_network.proofs.links.push_members.Goals as goal
 
 pub push_member_prefixes-requires : goal.push_member_prefixes-requires

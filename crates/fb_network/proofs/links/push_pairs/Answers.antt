@@ -1,6 +1,5 @@
 -- The pairs are links more.
-use Rattle.std.proofs.Common.{refl}
-use Rattle.std.proofs.lemmas.Result.{on_ok_weaker}
+use Rattle.std.proofs.{Common.{refl}, lemmas.Result.{on_ok_weaker}}
 use Rattle.fb_network.proofs.Connections.{adds_pairs}
 use Rattle.fb_network.proofs.links.push_pairs.Goals as goal
 

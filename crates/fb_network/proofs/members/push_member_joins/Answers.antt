@@ -1,7 +1,6 @@
 -- The links of one port more.
 use Rattle.std.proofs.Common.{◌++◌, ◌∷◌, [], List, ℕ, ap, ◌∙◌, append_assoc, take}
-use Rattle.fb_network.specs.declared.entries.Join.{Join}
-use Rattle.fb_network.specs.Behind.{member_join, member_joins}
+use Rattle.fb_network.specs.{declared.entries.Join.{Join}, Behind.{member_join, member_joins}}
 use Rattle.fb_network.proofs.PortMembers.{member_joins_next}
 use Rattle.fb_network.proofs.members.push_member_joins.Goals as goal
 

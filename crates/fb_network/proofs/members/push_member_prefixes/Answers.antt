@@ -1,10 +1,6 @@
 -- Each prefix stands behind those that there were.
-use Rattle.std.proofs.Common.{ℕ, ◌≡◌, List, sym, subst, ap, length, get_or, ◌∙◌, ◌++◌, ◌∷◌, []}
-use Rattle.std.proofs.lemmas.List.{get_or_default}
-use Rattle.fb_network.specs.declared.place.Place.{Place}
-use Rattle.fb_network.specs.PlainPrefix.{PlainPrefix}
-use Rattle.fb_network.specs.Behind.{prefix_behind}
-use Rattle.fb_network.specs.Laid.{path_at}
+use Rattle.std.proofs.{Common.{ℕ, ◌≡◌, List, sym, subst, ap, length, get_or, ◌∙◌, ◌++◌, ◌∷◌, []}, lemmas.List.{get_or_default}}
+use Rattle.fb_network.specs.{declared.place.Place.{Place}, PlainPrefix.{PlainPrefix}, Behind.{prefix_behind}, Laid.{path_at}}
 use Rattle.fb_network.proofs.PortMembers.{AddsMembers, adds_member, adds_nothing}
 use Rattle.fb_network.proofs.members.push_member_prefixes.Goals as goal
 

@@ -1,12 +1,8 @@
 -- The closures compare what the entries say.
-use Rattle.std.proofs.Common.{◌≡◌, rules}
+use Rattle.std.proofs.{Common.{◌≡◌, rules}, lemmas.Fn.{always_returns_same, dedup_same}, lemmas.List.Sorted.{ranks_by}}
 use Rattle.std.specs.Ordering.{eq_by_cmp, is_lt}
-use Rattle.std.proofs.lemmas.Fn.{always_returns_same, dedup_same}
-use Rattle.std.proofs.lemmas.List.Sorted.{ranks_by}
-use Rattle.fb_network.specs.Laid.{link_at}
-use Rattle.fb_network.specs.LinkOrder.{link_cmp, link_cmp_total}
-use Rattle.fb_network.proofs.Equals.{exact_link}
-use Rattle.fb_network.proofs.SortedOnce.{sorted_once}
+use Rattle.fb_network.specs.{Laid.{link_at}, LinkOrder.{link_cmp, link_cmp_total}}
+use Rattle.fb_network.proofs.{Equals.{exact_link}, SortedOnce.{sorted_once}}
 use Rattle.fb_network.proofs.order.sort_joins.Goals as goal
 
 pub returns : goal.returns

@@ -1,6 +1,5 @@
 use Rattle.std.proofs.Common.{◌≡◌, ◌++◌, take}
-use Rattle.fb_network.specs.declared.network.End.TheVariants.{Own}
-use Rattle.fb_network.specs.Behind.{edges_of_end}
+use Rattle.fb_network.specs.{declared.network.End.TheVariants.{Own}, Behind.{edges_of_end}}
 use Rattle.fb_network.proofs.pairs.push_port_edges.Given as goal
 
 abbrev pub invariant-loop-place : goal.invariant-loop-place

@@ -1,6 +1,5 @@
 -- The sort only moves elements, and what `dedup` leaves of a sorted list is strictly sorted.
-use Rattle.std.proofs.lemmas.List.Filters.{dedup_is}
-use Rattle.std.proofs.lemmas.List.Kept.{Contains-dedup, Contains-from_dedup, IsStrictlySortedBy-dedup}
+use Rattle.std.proofs.{lemmas.List.Filters.{dedup_is}, lemmas.List.Kept.{Contains-dedup, Contains-from_dedup, IsStrictlySortedBy-dedup}}
 use Rattle.std.proofs.lemmas.List.Sorted.{Contains-permutation, IsPermutation-sym}
 use Rattle.fb_network.proofs.sorted.sort_once.Goals as goal
 

@@ -1,7 +1,5 @@
 -- What the applications hold, put in order, is the flat network of the system.
-use Rattle.std.proofs.Common.{subst, take, List}
-use Rattle.std.proofs.lemmas.List.{take_all}
-use Rattle.std.proofs.lemmas.Result.{IfOk-weaker}
+use Rattle.std.proofs.{Common.{subst, take, List}, lemmas.List.{take_all}, lemmas.Result.{IfOk-weaker}}
 use Rattle.fb_network.specs.declared.application.FlatApplication.{FlatApplication}
 use Rattle.fb_network.proofs.SystemLemmas.{HoldsApplications, applications_laid, applications_more, applications_none, system_is}
 use Rattle.fb_network.proofs.system.join.Goals as goal

@@ -1,7 +1,6 @@
 -- A text that stands for something keeps it, and another one is added.
-use Rattle.std.proofs.Common.{◌≡◌, ℕ, List, false, is_some, string_bytes, sym, ◌∙◌, ap}
+use Rattle.std.proofs.{Common.{◌≡◌, ℕ, List, false, is_some, string_bytes, sym, ◌∙◌, ap}, lemmas.Map.Text.{hash_map_updates_text}}
 use Rattle.std.specs.HashMap.{get_by_text}
-use Rattle.std.proofs.lemmas.Map.Text.{hash_map_updates_text}
 use Rattle.fb_placing.proofs.TableLemmas.{added_first}
 use Rattle.fb_placing.proofs.first_entry.insert_first.Goals as goal
 

@@ -1,15 +1,10 @@
 -- One block further.
-use Rattle.std.proofs.Common.{◌<◌, [], ◌++◌, Option, length, sym, ◌∙◌, ap, append-nil, arith}
-use Rattle.std.specs.HashMap.{get_by_text}
-use Rattle.std.specs.List.{cons_option}
-use Rattle.std.proofs.lemmas.List.{take_all}
+use Rattle.std.proofs.{Common.{◌<◌, [], ◌++◌, Option, length, sym, ◌∙◌, ap, append-nil, arith}, lemmas.List.{take_all}}
+use Rattle.std.specs.{HashMap.{get_by_text}, List.{cons_option}}
 use Rattle.fb_network.specs.Numbered.{block_numbered}
-use Rattle.fb_placing.specs.Homes.{block_home, block_homes}
-use Rattle.fb_placing.specs.declared.homes.Home.{Home}
-use Rattle.fb_placing.proofs.CreateLemmas.{block_there}
-use Rattle.fb_placing.proofs.ListLemmas.{filter_map_step}
+use Rattle.fb_placing.specs.{Homes.{block_home, block_homes}, declared.homes.Home.{Home}}
+use Rattle.fb_placing.proofs.{CreateLemmas.{block_there}, ListLemmas.{filter_map_step}, homes.block_homes.Goals.{in-Some+in_ok-push, in_default}}
 use Rattle.fb_placing.proofs.homes.block_homes.Goals as goal
-use Rattle.fb_placing.proofs.homes.block_homes.Goals.{in-Some+in_ok-push, in_default}
 
 pub loop-block-preserved : goal.loop-block-preserved
 loop-block-preserved c =

@@ -2,9 +2,7 @@
 use Rattle.std.proofs.Common.{◌≡◌, List, ℕ, Option, ap, ◌∙◌, rules}
 use Rattle.std.specs.HashMap.{get_by_text}
 use Rattle.fb_library.specs.View.{tree_at}
-use Rattle.fb_placing.specs.Homes.{block_homes, homeless}
-use Rattle.fb_placing.specs.Mappings.{resource_at}
-use Rattle.fb_placing.specs.Systems.{mappings_in}
+use Rattle.fb_placing.specs.{Homes.{block_homes, homeless}, Mappings.{resource_at}, Systems.{mappings_in}}
 use Rattle.fb_placing.proofs.HousedLemmas.{none_found, some_found}
 use Rattle.fb_placing.proofs.homes.homes_of.Goals as goal
 

@@ -2,9 +2,7 @@
 use Rattle.std.proofs.Common.{◌≡◌, take, map}
 use Rattle.fb_tree.specs.Tree.{mapping_tree}
 use Rattle.fb_library.specs.View.{tree_at}
-use Rattle.fb_placing.specs.Homes.{unmatched}
-use Rattle.fb_placing.specs.Resolver.{resolver_of}
-use Rattle.fb_placing.specs.Systems.{applications_in}
+use Rattle.fb_placing.specs.{Homes.{unmatched}, Resolver.{resolver_of}, Systems.{applications_in}}
 use Rattle.fb_placing.proofs.homes.unmatched.Given as goal
 
 abbrev pub invariant-loop-mapping : goal.invariant-loop-mapping

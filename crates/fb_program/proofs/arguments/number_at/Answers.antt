@@ -1,7 +1,6 @@
 use Rattle.std.proofs.Common.{◌≡◌, ℕ, ◌∙◌, List, None, Option, Some, ap, option_map, refl, sym}
 use Rattle.std.specs.Str.Parse.{ExplainsUnsignedError, HasUnsignedDigitsIfOk, ParsesUnsigned, digits_value, without_leading_plus}
-use Rattle.clap.specs.Words.{ReadsOne, Text, found_of, one_text, rows_of}
-use Rattle.clap.specs.declared.parser.matches.Found.{Found}
+use Rattle.clap.specs.{Words.{ReadsOne, Text, found_of, one_text, rows_of}, declared.parser.matches.Found.{Found}}
 use Rattle.clap.proofs.WalkLemmas.{one_text-rows}
 use Rattle.fb_program.specs.Words.{number_of}
 use Rattle.fb_program.proofs.arguments.number_at.Goals as goal

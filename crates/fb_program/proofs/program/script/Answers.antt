@@ -1,6 +1,5 @@
 use Rattle.std.proofs.Common.{◌≡◌, ◌∙◌, None, arith, refl, sym}
-use Rattle.fb_wire.specs.RunErrors.{error_of}
-use Rattle.fb_wire.specs.declared.end.RunEnd.{RunEnd}
+use Rattle.fb_wire.specs.{RunErrors.{error_of}, declared.end.RunEnd.{RunEnd}}
 use Rattle.fb_wire.specs.declared.end.RunEnd.TheVariants as end
 use Rattle.fb_program.proofs.program.script.Goals as goal
 

@@ -1,7 +1,5 @@
-use Rattle.fb_grammar.specs.Upcoming.{front}
-use Rattle.fb_grammar.proofs.Forms.{among_right}
-use Rattle.fb_grammar.proofs.ReadKinds.{kind_read}
-use Rattle.fb_grammar.specs.Literals.{number_kinds}
+use Rattle.fb_grammar.specs.{Upcoming.{front}, Literals.{number_kinds}}
+use Rattle.fb_grammar.proofs.{Forms.{among_right}, ReadKinds.{kind_read}}
 use Rattle.fb_sections.specs.Constants.{other_literal_kinds}
 use Rattle.fb_sections.proofs.constants.simple.Goals as goal
 

@@ -1,6 +1,5 @@
 use Rattle.std.proofs.Common.{List, subst}
-use Rattle.fb_shared.specs.Locked.Closing.{AgreesWith}
-use Rattle.fb_shared.specs.Locked.Seats.{ReceiptView}
+use Rattle.fb_shared.specs.{Locked.Closing.{AgreesWith}, Locked.Seats.{ReceiptView}}
 use Rattle.fb_serve.proofs.Counts.{all_shown}
 use Rattle.fb_serve.proofs.server.close.Goals as goal
 

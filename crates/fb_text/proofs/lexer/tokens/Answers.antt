@@ -1,9 +1,7 @@
-use Rattle.std.proofs.Common.{sym, ap, subst, ◌∙◌, Ok, not, true≢false, refl}
-use Rattle.std.proofs.lemmas.Bool.{cond-true}
+use Rattle.std.proofs.{Common.{sym, ap, subst, ◌∙◌, Ok, not, true≢false, refl}, lemmas.Bool.{cond-true}}
 use Rattle.std.specs.Prelude.{IsOk}
-use Rattle.fb_text.proofs.Reading.{all-scanned, nothing-scanned, open-comment, past-gap, past-token}
+use Rattle.fb_text.proofs.{Reading.{all-scanned, nothing-scanned, open-comment, past-gap, past-token}, lexer.tokens.Goals.{then-not-refused, else-not-refused}}
 use Rattle.fb_text.proofs.lexer.tokens.Goals as goal
-use Rattle.fb_text.proofs.lexer.tokens.Goals.{then-not-refused, else-not-refused}
 
 pub loop-place-init : goal.loop-place-init
 loop-place-init c = nothing-scanned c.args.text.now c.new-tokens.result.items c.new-quotes.result c.utf8.text c.new-tokens.ensures.items c.new-quotes.ensures

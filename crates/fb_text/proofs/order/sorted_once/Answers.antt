@@ -1,6 +1,4 @@
-use Rattle.std.proofs.Common.{arith, take}
-use Rattle.std.proofs.lemmas.List.{take_more}
-use Rattle.std.proofs.lemmas.Grind.{common_steps}
+use Rattle.std.proofs.{Common.{arith, take}, lemmas.List.{take_more}, lemmas.Grind.{common_steps}}
 use Rattle.fb_text.proofs.OrderLemmas.{in_order-push}
 use Rattle.fb_text.proofs.order.sorted_once.Goals as goal
 

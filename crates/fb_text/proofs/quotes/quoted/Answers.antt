@@ -1,7 +1,5 @@
 use Rattle.std.proofs.Common.{◌+◌, ◌<◌, drop, get_or, sym, ap, subst, ◌∙◌, arith}
-use Rattle.fb_text.specs.Bytes.{is_quote, first}
-use Rattle.fb_text.specs.Scan.{AreOpen, extended, line_rest, reach_of, string_len}
-use Rattle.fb_text.specs.declared.token.TokenKind.TheVariants.{String}
+use Rattle.fb_text.specs.{Bytes.{is_quote, first}, Scan.{AreOpen, extended, line_rest, reach_of, string_len}, declared.token.TokenKind.TheVariants.{String}}
 use Rattle.fb_text.specs.declared.scan.Piece.TheVariants.{Found}
 use Rattle.fb_text.proofs.OpenLines.{AreOpen-extended, first-at, known-open, open-line, open-piece, string-piece}
 use Rattle.fb_text.proofs.quotes.quoted.Goals as goal

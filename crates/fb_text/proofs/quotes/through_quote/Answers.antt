@@ -1,10 +1,10 @@
 use Rattle.std.proofs.Common.{◌≡◌, ◌+◌, not, ◌&&◌, eqb, false, arith, ap, ◌∙◌, sym, get_or, drop, suc, Some, eq-eqb}
+use Rattle.std.proofs.lemmas.Bool.{cond-true, cond-false, and_from, and_left, and_right, not_from_true, not_from_false, ne_eqb}
 use Rattle.std.specs.Prelude.{option_map}
 use Rattle.fb_text.specs.Scan.{through_quote}
-use Rattle.std.proofs.lemmas.Bool.{cond-true, cond-false, and_from, and_left, and_right, not_from_true, not_from_false, ne_eqb}
 use Rattle.fb_text.proofs.ScanLemmas.{through_quote-at, through_quote-end, nowhere, right_here, further_on}
-use Rattle.fb_text.proofs.quotes.through_quote.Goals as goal
 use Rattle.fb_text.proofs.quotes.through_quote.Goals.{else-not-escaped-via-then-not-escaped+else-b-quote, else-not-escaped-via-else-not-escaped, then-not-escaped-2, else-not-escaped-2}
+use Rattle.fb_text.proofs.quotes.through_quote.Goals as goal
 
 pub returns-then-is_line_end-clause-value : goal.returns-then-is_line_end-clause-value
 returns-then-is_line_end-clause-value c =

@@ -1,8 +1,6 @@
 use Rattle.std.proofs.Common.{◌+◌, arith, ap, sym, ◌∙◌}
-use Rattle.fb_text.specs.declared.token.TokenKind.TheVariants.{Word, Number, Typed, Symbol, Other}
-use Rattle.fb_text.specs.declared.scan.Piece.TheVariants.{Found}
-use Rattle.fb_text.proofs.LongestToken.{token-word, token-typed, token-number, token-symbol, token-other}
-use Rattle.fb_text.proofs.Pieces.{no-quote}
+use Rattle.fb_text.specs.{declared.token.TokenKind.TheVariants.{Word, Number, Typed, Symbol, Other}, declared.scan.Piece.TheVariants.{Found}}
+use Rattle.fb_text.proofs.{LongestToken.{token-word, token-typed, token-number, token-symbol, token-other}, Pieces.{no-quote}}
 use Rattle.fb_text.proofs.scan.token.Goals as goal
 
 pub returns-then-typed-eq0 : goal.returns-then-typed-eq0

@@ -1,8 +1,6 @@
-use Rattle.std.proofs.Common.{◌≡◌, take}
-use Rattle.std.proofs.lemmas.List.{take-map}
-use Rattle.fb_bench.specs.Calls.{Exchanges}
+use Rattle.std.proofs.{Common.{◌≡◌, take}, lemmas.List.{take-map}}
+use Rattle.fb_bench.specs.{Calls.{Exchanges}, Records.{listed}}
 use Rattle.fb_library.specs.Changes.{edit_of, edits_of}
-use Rattle.fb_bench.specs.Records.{listed}
 use Rattle.fb_wire.proofs.Conversations.{reaches_itself}
 use Rattle.fb_wire.proofs.answer.answer_commit.Goals as goal
 

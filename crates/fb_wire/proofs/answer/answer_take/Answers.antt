@@ -1,6 +1,4 @@
-use Rattle.std.proofs.Common.{◌≡◌, arith, false, length, nat_le}
-use Rattle.std.proofs.lemmas.Bool.Decides.{nat_tests}
-use Rattle.std.proofs.lemmas.Grind.{common_steps}
+use Rattle.std.proofs.{Common.{◌≡◌, arith, false, length, nat_le}, lemmas.Bool.Decides.{nat_tests}, lemmas.Grind.{common_steps}}
 use Rattle.fb_wire.proofs.Conversations.{take_served}
 use Rattle.fb_wire.proofs.answer.answer_take.Goals as goal
 

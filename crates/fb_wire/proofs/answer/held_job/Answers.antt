@@ -1,5 +1,4 @@
-use Rattle.std.proofs.Common.{◌-◌, ◌∙◌, arith, refl, sym}
-use Rattle.std.proofs.lemmas.Option.{slice_get_read}
+use Rattle.std.proofs.{Common.{◌-◌, ◌∙◌, arith, refl, sym}, lemmas.Option.{slice_get_read}}
 use Rattle.fb_wire.proofs.HeldJobs.{job_at-by}
 use Rattle.fb_wire.proofs.answer.held_job.Goals as goal
 

@@ -1,5 +1,4 @@
-use Rattle.std.proofs.Common.{Ok}
-use Rattle.std.proofs.lemmas.Result.{err_from_is_err_and}
+use Rattle.std.proofs.{Common.{Ok}, lemmas.Result.{err_from_is_err_and}}
 use Rattle.fb_wire.proofs.Conversations.{refused_memory, refused_take}
 use Rattle.fb_wire.proofs.answer.job_or_round.Goals as goal
 

@@ -1,5 +1,4 @@
-use Rattle.std.proofs.Common.{Err, Ok}
-use Rattle.std.proofs.lemmas.Result.{err_from_is_err_and}
+use Rattle.std.proofs.{Common.{Err, Ok}, lemmas.Result.{err_from_is_err_and}}
 use Rattle.fb_wire.proofs.Conversations.{refused_delivery}
 use Rattle.fb_wire.proofs.answer.round_by.Goals as goal
 

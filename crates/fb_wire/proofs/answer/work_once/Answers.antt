@@ -1,5 +1,4 @@
-use Rattle.fb_bench.specs.History.Machine.{ToTake}
-use Rattle.fb_bench.specs.Calls.{take_reply}
+use Rattle.fb_bench.specs.{History.Machine.{ToTake}, Calls.{take_reply}}
 use Rattle.fb_wire.specs.Conversations.{after_take}
 use Rattle.fb_wire.proofs.Conversations.{by_answer, by_any, round_served}
 use Rattle.fb_wire.proofs.answer.work_once.Goals as goal

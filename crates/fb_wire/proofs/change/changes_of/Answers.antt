@@ -1,14 +1,8 @@
-use Rattle.std.proofs.Common.{◌≡◌, ◌<◌, ℕ, [], ◌∷◌, ◌∙◌, Err, List, Ok, ap, get_or, length, map, sym, take}
-use Rattle.std.proofs.lemmas.List.{map-append}
-use Rattle.fb_library.specs.Texts.{Edit}
-use Rattle.fb_library.specs.Changes.{edit_of, edits_of}
-use Rattle.fb_wire.specs.declared.change.ChangeFault.{ChangeFault}
+use Rattle.std.proofs.{Common.{◌≡◌, ◌<◌, ℕ, [], ◌∷◌, ◌∙◌, Err, List, Ok, ap, get_or, length, map, sym, take}, lemmas.List.{map-append}}
+use Rattle.fb_library.specs.{Texts.{Edit}, Changes.{edit_of, edits_of}}
+use Rattle.fb_wire.specs.{declared.change.ChangeFault.{ChangeFault}, Progress.{ChangeMade, ChangesMade}, Conversations.{edit_in, edits_in}}
 use Rattle.fb_wire.specs.declared.change.ChangeFault.TheVariants as fault
-use Rattle.fb_messages.specs.declared.request.AskedChange.{AskedChange}
-use Rattle.fb_messages.specs.ReplyView.{refusal_text}
-use Rattle.fb_messages.specs.RequestView.{change_view}
-use Rattle.fb_wire.specs.Progress.{ChangeMade, ChangesMade}
-use Rattle.fb_wire.specs.Conversations.{edit_in, edits_in}
+use Rattle.fb_messages.specs.{declared.request.AskedChange.{AskedChange}, ReplyView.{refusal_text}, RequestView.{change_view}}
 use Rattle.fb_wire.proofs.Changes.{one_more_edit, one_refused}
 use Rattle.fb_wire.proofs.change.changes_of.Goals as goal
 

@@ -1,8 +1,7 @@
-use Rattle.std.proofs.lemmas.Bool.{false≢true}
+use Rattle.std.proofs.{lemmas.Bool.{false≢true}, lemmas.Result.{err_from_is_err_and}}
 use Rattle.fb_bench.specs.Calls.{Exchanges}
 use Rattle.fb_messages.proofs.RequestReads.{request_of-read, request_of-unread}
 use Rattle.fb_wire.proofs.Conversations.{reaches_itself}
-use Rattle.std.proofs.lemmas.Result.{err_from_is_err_and}
 use Rattle.fb_wire.proofs.line.answer_line.Goals as goal
 
 pub returns-in_ok-request-in-Ok : goal.returns-in_ok-request-in-Ok

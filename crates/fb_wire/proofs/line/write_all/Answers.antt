@@ -1,5 +1,4 @@
-use Rattle.std.proofs.Common.{arith}
-use Rattle.std.proofs.lemmas.Grind.{common_steps}
+use Rattle.std.proofs.{Common.{arith}, lemmas.Grind.{common_steps}}
 use Rattle.fb_wire.proofs.Pieces.{written_on}
 use Rattle.fb_wire.proofs.line.write_all.Goals as goal
 

@@ -1,11 +1,8 @@
-use Rattle.std.proofs.Common.{◌≡◌, ◌<◌, ◌-◌, ◌+◌, [], ◌∷◌, ◌++◌, Err, Ok, arith, drop, length, take}
-use Rattle.std.proofs.Math.Seq.{take-length}
-use Rattle.std.proofs.lemmas.List.{take-append-drop}
+use Rattle.std.proofs.{Common.{◌≡◌, ◌<◌, ◌-◌, ◌+◌, [], ◌∷◌, ◌++◌, Err, Ok, arith, drop, length, take}, Math.Seq.{take-length}, lemmas.List.{take-append-drop}}
 use Rattle.std.proofs.lemmas.Grind.{common_steps}
 use Rattle.fb_bench.specs.Calls.{Exchanges}
 use Rattle.fb_wire.specs.declared.end.RunEnd.TheVariants as end
-use Rattle.fb_wire.proofs.Ends.{not_failed}
-use Rattle.fb_wire.proofs.Takings.{part_extends, pieces_come, stops_sooner, taken_all, taken_on}
+use Rattle.fb_wire.proofs.{Ends.{not_failed}, Takings.{part_extends, pieces_come, stops_sooner, taken_all, taken_on}}
 use Rattle.fb_wire.proofs.piece.take_piece.Goals as goal
 
 pub returns-then-len-rest-clause-taken : goal.returns-then-len-rest-clause-taken

@@ -1,6 +1,5 @@
 use Rattle.fb_bench.specs.Calls.{Exchanges}
-use Rattle.fb_wire.proofs.Ends.{inside_at_end}
-use Rattle.fb_wire.proofs.Takings.{last_cut, last_ends}
+use Rattle.fb_wire.proofs.{Ends.{inside_at_end}, Takings.{last_cut, last_ends}}
 use Rattle.fb_wire.proofs.run.end_conversation.Goals as goal
 
 pub returns-in-Ok-clause-taken : goal.returns-in-Ok-clause-taken

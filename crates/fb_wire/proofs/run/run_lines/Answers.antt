@@ -1,11 +1,9 @@
 use Rattle.std.proofs.Common.{◌≡◌, ℕ, ◌≤◌, ◌+◌, ◌++◌, [], ◌∙◌, Err, List, Ok, ap, append-nil, append_assoc, arith, length, length-append, rules, subst, sym}
 use Rattle.std.proofs.KnownBytes.{Consumes-nil, Consumes-trans}
 use Rattle.fb_bench.specs.Calls.{Exchanges}
-use Rattle.fb_wire.specs.declared.end.RunEnd.{RunEnd}
+use Rattle.fb_wire.specs.{declared.end.RunEnd.{RunEnd}, Turns.{StopsRead}}
 use Rattle.fb_wire.specs.declared.end.RunEnd.TheVariants as end
-use Rattle.fb_wire.specs.Turns.{StopsRead}
-use Rattle.fb_wire.proofs.Ends.{not_failed}
-use Rattle.fb_wire.proofs.Takings.{begins, pieces_come, run_breaks, run_stops}
+use Rattle.fb_wire.proofs.{Ends.{not_failed}, Takings.{begins, pieces_come, run_breaks, run_stops}}
 use Rattle.fb_wire.proofs.run.run_lines.Goals as goal
 
 -- what is given grows

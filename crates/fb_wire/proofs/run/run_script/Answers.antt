@@ -1,7 +1,6 @@
 -- The conversation of a workbench alone is that of its desk.
 use Rattle.std.proofs.Common.{rules}
-use Rattle.fb_wire.proofs.Conversations.{Runs-solo}
-use Rattle.fb_wire.proofs.Scripts.{says_by}
+use Rattle.fb_wire.proofs.{Conversations.{Runs-solo}, Scripts.{says_by}}
 use Rattle.fb_wire.proofs.run.run_script.Goals as goal
 
 pub returns : goal.returns

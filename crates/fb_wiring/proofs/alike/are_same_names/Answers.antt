@@ -1,6 +1,5 @@
 -- One item more is the same.
-use Rattle.std.proofs.Common.{sym, ◌∙◌, arith}
-use Rattle.std.proofs.lemmas.List.{get_or_default, take_more_same}
+use Rattle.std.proofs.{Common.{sym, ◌∙◌, arith}, lemmas.List.{get_or_default, take_more_same}}
 use Rattle.fb_network.proofs.Equals.{same_bytes}
 use Rattle.fb_wiring.proofs.alike.are_same_names.Goals as goal
 

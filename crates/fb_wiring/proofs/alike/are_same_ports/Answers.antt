@@ -1,6 +1,5 @@
 -- One item more is the same.
-use Rattle.std.proofs.Common.{sym, ◌∙◌, arith}
-use Rattle.std.proofs.lemmas.List.{get_or_default, take_more_same}
+use Rattle.std.proofs.{Common.{sym, ◌∙◌, arith}, lemmas.List.{get_or_default, take_more_same}}
 use Rattle.fb_wiring.proofs.alike.are_same_ports.Goals as goal
 
 pub loop-place-preserved : goal.loop-place-preserved

@@ -1,7 +1,6 @@
 -- Ports that are told to be the same have the same of each.
 use Rattle.std.proofs.Common.{◌≡◌, true, refl, sym, ◌∙◌}
-use Rattle.fb_tree.specs.declared.interface.Side.{Side}
-use Rattle.fb_tree.specs.declared.interface.Side.TheVariants.{Input, Output}
+use Rattle.fb_tree.specs.{declared.interface.Side.{Side}, declared.interface.Side.TheVariants.{Input, Output}}
 use Rattle.fb_iface.specs.Ports.{same_side}
 use Rattle.fb_network.proofs.Equals.{same_bytes, same_sorts}
 use Rattle.fb_wiring.proofs.alike.is_same_port.Goals as goal

@@ -1,8 +1,6 @@
 -- What is composed of the applications, joined.
-use Rattle.std.proofs.Common.{List, subst}
-use Rattle.std.proofs.lemmas.Result.{IfOk-weaker}
-use Rattle.fb_network.specs.SystemFlat.{IsSystemFlat}
-use Rattle.fb_network.specs.declared.application.FlatApplication.{FlatApplication}
+use Rattle.std.proofs.{Common.{List, subst}, lemmas.Result.{IfOk-weaker}}
+use Rattle.fb_network.specs.{SystemFlat.{IsSystemFlat}, declared.application.FlatApplication.{FlatApplication}}
 use Rattle.fb_wiring.proofs.composed.flat_of_applications.Goals as goal
 
 pub returns : goal.returns

@@ -1,9 +1,7 @@
 -- One application further.
-use Rattle.std.proofs.Common.{List, [], ◌∷◌, ◌++◌, sym, subst, take}
-use Rattle.std.proofs.lemmas.List.{take_all}
+use Rattle.std.proofs.{Common.{List, [], ◌∷◌, ◌++◌, sym, subst, take}, lemmas.List.{take_all}}
 use Rattle.fb_network.specs.declared.application.FlatApplication.{FlatApplication}
-use Rattle.fb_wiring.specs.declared.systems.Application.{Application}
-use Rattle.fb_wiring.specs.Units.{AreFlatApplications, NoApplication}
+use Rattle.fb_wiring.specs.{declared.systems.Application.{Application}, Units.{AreFlatApplications, NoApplication}}
 use Rattle.fb_wiring.proofs.FoundUnits.{applications_further, flats-push}
 use Rattle.fb_wiring.proofs.composed.flats_of_applications.Goals as goal
 

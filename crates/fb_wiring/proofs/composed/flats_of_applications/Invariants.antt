@@ -3,8 +3,7 @@ use Rattle.std.proofs.Common.{take}
 use Rattle.std.specs.BTreeMap.{get}
 use Rattle.fb_tree.specs.Text.Order.{name_cmp}
 use Rattle.fb_network.specs.Network.{View}
-use Rattle.fb_wiring.specs.Tables.{AreComposable}
-use Rattle.fb_wiring.specs.Units.{AreFlatApplications}
+use Rattle.fb_wiring.specs.{Tables.{AreComposable}, Units.{AreFlatApplications}}
 use Rattle.fb_wiring.proofs.composed.flats_of_applications.Given as goal
 
 abbrev pub invariant-loop-application : goal.invariant-loop-application

@@ -1,14 +1,9 @@
 -- One application further.
-use Rattle.std.proofs.Common.{List, map, subst, take}
-use Rattle.std.proofs.lemmas.List.{take_all}
+use Rattle.std.proofs.{Common.{List, map, subst, take}, lemmas.List.{take_all}}
 use Rattle.std.specs.BTreeMap.{get}
-use Rattle.fb_tree.specs.Text.Order.{name_cmp}
-use Rattle.fb_tree.specs.Tree.{application_tree, instance_tree}
-use Rattle.fb_tree.specs.declared.network.Instance.{Instance}
+use Rattle.fb_tree.specs.{Text.Order.{name_cmp}, Tree.{application_tree, instance_tree}, declared.network.Instance.{Instance}}
 use Rattle.fb_tree.specs.declared.system.Application.{Application as ApplicationUse}
-use Rattle.fb_wiring.specs.Applications.{plain_application}
-use Rattle.fb_wiring.specs.Counts.{CountsAll, CountsOn, plain_instances}
-use Rattle.fb_wiring.specs.Units.{instances_in}
+use Rattle.fb_wiring.specs.{Applications.{plain_application}, Counts.{CountsAll, CountsOn, plain_instances}, Units.{instances_in}}
 use Rattle.fb_wiring.specs.declared.systems.Application.{Application}
 use Rattle.fb_wiring.proofs.Counting.{application_further, count_nothing, mapped_further}
 use Rattle.fb_wiring.proofs.counts.count_applications.Goals as goal

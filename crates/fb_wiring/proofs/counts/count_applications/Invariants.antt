@@ -1,11 +1,8 @@
 -- The applications passed so far are counted.
 use Rattle.std.proofs.Common.{map, take}
 use Rattle.std.specs.BTreeMap.{get}
-use Rattle.fb_tree.specs.Text.Order.{name_cmp}
-use Rattle.fb_tree.specs.Tree.{application_tree}
-use Rattle.fb_wiring.specs.Applications.{plain_application}
-use Rattle.fb_wiring.specs.Counts.{CountsAll}
-use Rattle.fb_wiring.specs.Units.{instances_in}
+use Rattle.fb_tree.specs.{Text.Order.{name_cmp}, Tree.{application_tree}}
+use Rattle.fb_wiring.specs.{Applications.{plain_application}, Counts.{CountsAll}, Units.{instances_in}}
 use Rattle.fb_wiring.proofs.counts.count_applications.Given as goal
 
 abbrev pub invariant-loop-application : goal.invariant-loop-application

@@ -1,10 +1,7 @@
 -- One instance further.
-use Rattle.std.proofs.Common.{List, map, subst, take}
-use Rattle.std.proofs.lemmas.List.{take_all}
+use Rattle.std.proofs.{Common.{List, map, subst, take}, lemmas.List.{take_all}}
 use Rattle.std.specs.BTreeMap.{get}
-use Rattle.fb_tree.specs.Text.Order.{name_cmp}
-use Rattle.fb_tree.specs.Tree.{InstanceTree, instance_tree}
-use Rattle.fb_tree.specs.declared.network.Instance.{Instance}
+use Rattle.fb_tree.specs.{Text.Order.{name_cmp}, Tree.{InstanceTree, instance_tree}, declared.network.Instance.{Instance}}
 use Rattle.fb_wiring.specs.Counts.{CountsOn, plain_instances}
 use Rattle.fb_wiring.proofs.Counting.{instance_further, mapped_further}
 use Rattle.fb_wiring.proofs.counts.count_instances.Goals as goal

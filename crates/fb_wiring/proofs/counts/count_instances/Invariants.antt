@@ -1,8 +1,7 @@
 -- The instances passed so far are counted.
 use Rattle.std.proofs.Common.{map, take}
 use Rattle.std.specs.BTreeMap.{get}
-use Rattle.fb_tree.specs.Text.Order.{name_cmp}
-use Rattle.fb_tree.specs.Tree.{instance_tree}
+use Rattle.fb_tree.specs.{Text.Order.{name_cmp}, Tree.{instance_tree}}
 use Rattle.fb_wiring.specs.Counts.{CountsOn, plain_instances}
 use Rattle.fb_wiring.proofs.counts.count_instances.Given as goal
 

@@ -1,17 +1,11 @@
 -- By the kind of the unit.
 use Rattle.std.proofs.Common.{◌≡◌, List, Option, map, subst, sym, ℕ, ◌⊎◌, inl, inr}
 use Rattle.std.specs.BTreeMap.{get}
-use Rattle.fb_tree.specs.Text.Order.{name_cmp}
-use Rattle.fb_tree.specs.Tree.{application_tree, decl_tree, instance_tree}
-use Rattle.fb_tree.specs.declared.declaration.Decl.{Decl}
-use Rattle.fb_tree.specs.declared.declaration.Decl.TheVariants.{Adapter, Block, Structure}
-use Rattle.fb_tree.specs.declared.declaration.TypeDeclaration.{TypeDeclaration}
-use Rattle.fb_tree.specs.declared.network.Instance.{Instance}
+use Rattle.fb_tree.specs.{Text.Order.{name_cmp}, Tree.{application_tree, decl_tree, instance_tree}, declared.declaration.Decl.{Decl}}
+use Rattle.fb_tree.specs.{declared.declaration.Decl.TheVariants.{Adapter, Block, Structure}, declared.declaration.TypeDeclaration.{TypeDeclaration}}
+use Rattle.fb_tree.specs.{declared.network.Instance.{Instance}, declared.system.Application.{Application}}
 use Rattle.fb_tree.specs.declared.structure.Structure as structures
-use Rattle.fb_tree.specs.declared.system.Application.{Application}
-use Rattle.fb_wiring.specs.Applications.{plain_application}
-use Rattle.fb_wiring.specs.Counts.{CountsAll, CountsOn, plain_instances}
-use Rattle.fb_wiring.specs.Units.{instances_in, own_instances}
+use Rattle.fb_wiring.specs.{Applications.{plain_application}, Counts.{CountsAll, CountsOn, plain_instances}, Units.{instances_in, own_instances}}
 use Rattle.fb_wiring.specs.declared.systems.Application as plain
 use Rattle.fb_wiring.proofs.Counting.{count_nothing, from_nothing, mapped_twice}
 use Rattle.fb_wiring.proofs.counts.count_of_unit.Goals as goal

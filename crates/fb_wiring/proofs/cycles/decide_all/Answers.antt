@@ -1,10 +1,9 @@
-use Rattle.std.proofs.Common.{◌≡◌, ◌+◌, ℕ, List, ◌∷◌, [], ◌++◌, arith, take, sym, subst, ◌∙◌}
-use Rattle.std.proofs.lemmas.Grind.{common_steps}
+use Rattle.std.proofs.{Common.{◌≡◌, ◌+◌, ℕ, List, ◌∷◌, [], ◌++◌, arith, take, sym, subst, ◌∙◌}, lemmas.Grind.{common_steps}}
 use Rattle.std.specs.List.{Contains}
 use Rattle.fb_wiring.specs.Graph.{edges_at, Follows}
 use Rattle.fb_wiring.proofs.DecidedLemmas.{IsDecided-step, AreDecided-step, AreDecided-skip}
-use Rattle.fb_wiring.proofs.cycles.decide_all.Goals as goal
 use Rattle.fb_wiring.proofs.cycles.decide_all.Goals.{then-contains+in_ok-round+in_ok-settle, else-contains}
+use Rattle.fb_wiring.proofs.cycles.decide_all.Goals as goal
 
 pub loop-name-preserved : goal.loop-name-preserved
 loop-name-preserved c =

@@ -1,10 +1,9 @@
-use Rattle.std.proofs.Common.{◌≡◌, ◌+◌, ◌∷◌, [], ◌++◌, true, false, arith, take, filter, sym, ap, ◌∙◌}
-use Rattle.std.proofs.lemmas.Grind.{common_steps}
+use Rattle.std.proofs.{Common.{◌≡◌, ◌+◌, ◌∷◌, [], ◌++◌, true, false, arith, take, filter, sym, ap, ◌∙◌}, lemmas.Grind.{common_steps}}
 use Rattle.fb_iface.specs.Library.Seen.{has_name}
 use Rattle.fb_iface.proofs.Library.WalkLemmas.{Opens-none, Opens-new, Opens-old, has-updates, not_true, not_false}
 use Rattle.fb_wiring.proofs.FilterLemmas.{filter_more, filter_less}
-use Rattle.fb_wiring.proofs.cycles.open_new.Goals as goal
 use Rattle.fb_wiring.proofs.cycles.open_new.Goals.{then-contains+in_ok-insert+then-branch+in_ok-push, else-contains, else-contains-via-then-contains+in_ok-insert+else-branch, else-contains-via-else-contains}
+use Rattle.fb_wiring.proofs.cycles.open_new.Goals as goal
 
 pub loop-name-init : goal.loop-name-init
 loop-name-init c = Opens-none _ _

@@ -1,11 +1,8 @@
-use Rattle.std.proofs.Common.{◌≡◌, ◌+◌, ◌||◌, cond, ℕ, List, ◌∷◌, [], ◌++◌, false, arith, take, sym, ap, ◌∙◌}
-use Rattle.std.proofs.lemmas.Grind.{common_steps}
+use Rattle.std.proofs.{Common.{◌≡◌, ◌+◌, ◌||◌, cond, ℕ, List, ◌∷◌, [], ◌++◌, false, arith, take, sym, ap, ◌∙◌}, lemmas.Grind.{common_steps}}
 use Rattle.fb_tree.proofs.Text.Tests.{or_assoc, or_false}
-use Rattle.fb_iface.proofs.Library.SeenLemmas.{same}
+use Rattle.fb_iface.proofs.{Library.SeenLemmas.{same}, Library.WalkLemmas.{has-push, has-updates}}
 use Rattle.fb_iface.specs.Library.Seen.{has_name}
-use Rattle.fb_iface.proofs.Library.WalkLemmas.{has-push, has-updates}
-use Rattle.fb_wiring.proofs.NameLemmas.{same_swap}
-use Rattle.fb_wiring.proofs.DecidedLemmas.{gone_twice}
+use Rattle.fb_wiring.proofs.{NameLemmas.{same_swap}, DecidedLemmas.{gone_twice}}
 use Rattle.fb_wiring.proofs.cycles.settle.Goals as goal
 
 pub loop-other-init : goal.loop-other-init

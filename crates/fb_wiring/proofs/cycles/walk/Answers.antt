@@ -1,10 +1,8 @@
-use Rattle.std.proofs.Common.{◌≡◌, List, ℕ, ◌∷◌, [], ◌++◌, sym, subst, arith}
-use Rattle.std.proofs.lemmas.List.{nil_from_length}
+use Rattle.std.proofs.{Common.{◌≡◌, List, ℕ, ◌∷◌, [], ◌++◌, sym, subst, arith}, lemmas.List.{nil_from_length}}
 use Rattle.fb_iface.specs.Library.Seen.{Opens, has_name}
 use Rattle.fb_iface.proofs.Library.WalkLemmas.{one_pushed}
 use Rattle.fb_wiring.specs.Graph.{edges_within}
-use Rattle.fb_wiring.proofs.FilterLemmas.{of_filter}
-use Rattle.fb_wiring.proofs.GraphLemmas.{edges-none, edges-some}
+use Rattle.fb_wiring.proofs.{FilterLemmas.{of_filter}, GraphLemmas.{edges-none, edges-some}}
 use Rattle.fb_wiring.proofs.ReachLemmas.{IsWalk, IsWalk-begin, IsWalk-step, IsWalk-end, walk_at_end, walk_falls}
 use Rattle.fb_wiring.proofs.cycles.walk.Goals as goal
 

@@ -1,6 +1,5 @@
 -- What is composed is that of the network in the table.
-use Rattle.std.proofs.Common.{ap, sym, ◌∙◌}
-use Rattle.std.proofs.lemmas.Result.{IfOk-weaker}
+use Rattle.std.proofs.{Common.{ap, sym, ◌∙◌}, lemmas.Result.{IfOk-weaker}}
 use Rattle.std.specs.Option.{option_copied}
 use Rattle.fb_wiring.proofs.flats.flat_of_type.Goals as goal
 

@@ -1,5 +1,4 @@
-use Rattle.std.proofs.Common.{arith}
-use Rattle.std.proofs.lemmas.Grind.{common_steps}
+use Rattle.std.proofs.{Common.{arith}, lemmas.Grind.{common_steps}}
 use Rattle.fb_wiring.proofs.ExploreLemmas.{edge_added}
 use Rattle.fb_wiring.proofs.graph.add_edge.Goals as goal
 

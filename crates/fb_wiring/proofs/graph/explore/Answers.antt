@@ -1,6 +1,5 @@
 use Rattle.std.proofs.Common.{◌≡◌, List, ℕ, ◌<◌, cond, sym, ap, subst, ◌∙◌}
-use Rattle.fb_iface.proofs.Library.SeenLemmas.{same}
-use Rattle.fb_iface.proofs.Library.WalkLemmas.{has-updates, not_true, not_false}
+use Rattle.fb_iface.proofs.{Library.SeenLemmas.{same}, Library.WalkLemmas.{has-updates, not_true, not_false}}
 use Rattle.fb_wiring.specs.Graph.{edges_at}
 use Rattle.fb_wiring.proofs.NameLemmas.{on_false}
 use Rattle.fb_wiring.proofs.ExploreLemmas.{IsExplored, IsExplored-begin, IsExplored-leave, IsExplored-skip, IsExplored-enter, explored_falls}

@@ -1,5 +1,4 @@
-use Rattle.fb_wiring.proofs.ExploreLemmas.{IsExplored}
-use Rattle.fb_wiring.proofs.SearchLemmas.{fuel}
+use Rattle.fb_wiring.proofs.{ExploreLemmas.{IsExplored}, SearchLemmas.{fuel}}
 use Rattle.fb_wiring.proofs.graph.explore.Given as goal
 
 abbrev pub invariant-loop-step : goal.invariant-loop-step

@@ -1,5 +1,4 @@
-use Rattle.std.proofs.Common.{ℕ, List, sym, subst, ◌∙◌}
-use Rattle.std.proofs.lemmas.Bool.{false≢true}
+use Rattle.std.proofs.{Common.{ℕ, List, sym, subst, ◌∙◌}, lemmas.Bool.{false≢true}}
 use Rattle.fb_wiring.specs.Reaches.{RecursivePart}
 use Rattle.fb_wiring.proofs.PartLemmas.{part_of_none}
 use Rattle.fb_wiring.proofs.loops.recursive_part.Goals as goal

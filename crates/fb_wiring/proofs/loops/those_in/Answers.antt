@@ -1,9 +1,7 @@
-use Rattle.std.proofs.Common.{◌≡◌, ◌+◌, ◌∷◌, [], ◌++◌, arith, take, filter, sym, ap, ◌∙◌}
-use Rattle.std.proofs.lemmas.Grind.{common_steps}
+use Rattle.std.proofs.{Common.{◌≡◌, ◌+◌, ◌∷◌, [], ◌++◌, arith, take, filter, sym, ap, ◌∙◌}, lemmas.Grind.{common_steps}}
 use Rattle.fb_iface.specs.Library.Seen.{has_name}
-use Rattle.fb_wiring.proofs.FilterLemmas.{filter_more, filter_less}
+use Rattle.fb_wiring.proofs.{FilterLemmas.{filter_more, filter_less}, loops.those_in.Goals.{then-contains+in_ok-push, else-contains}}
 use Rattle.fb_wiring.proofs.loops.those_in.Goals as goal
-use Rattle.fb_wiring.proofs.loops.those_in.Goals.{then-contains+in_ok-push, else-contains}
 
 pub loop-name-preserved : goal.loop-name-preserved
 loop-name-preserved c =

@@ -1,9 +1,7 @@
-use Rattle.std.proofs.Common.{◌≡◌, ℕ, ◌+◌, ◌<◌, List, [], ◌∷◌, ◌++◌, get_or, length, take, Option, sym, ap, ◌∙◌, append-nil, arith}
-use Rattle.std.specs.List.{cons_option, filter_map}
-use Rattle.std.proofs.lemmas.List.{take_more}
+use Rattle.std.proofs.{Common.{◌≡◌, ℕ, ◌+◌, ◌<◌, List, [], ◌∷◌, ◌++◌, get_or, length, take, Option, sym, ap, ◌∙◌, append-nil, arith}, lemmas.List.{take_more}}
 use Rattle.std.proofs.lemmas.List.Elements.{filter_map-append}
-use Rattle.fb_tree.specs.Tree.{instance_tree}
-use Rattle.fb_tree.specs.declared.network.Instance.{Instance}
+use Rattle.std.specs.List.{cons_option, filter_map}
+use Rattle.fb_tree.specs.{Tree.{instance_tree}, declared.network.Instance.{Instance}}
 use Rattle.fb_wiring.specs.Networks.{plain_instance}
 use Rattle.fb_wiring.proofs.networks.instances_of.Goals as goal
 use Rattle.fb_wiring.proofs.networks.instances_of.Goals.{in-Some+in_ok-push, in_default}

@@ -1,11 +1,7 @@
 use Rattle.std.proofs.Common.{◌≡◌, List, [], ◌∷◌, Option, map, refl, sym, ap, ◌∙◌}
 use Rattle.std.specs.List.{cons_option, filter_map}
-use Rattle.fb_tree.specs.Tree.{instance_tree}
-use Rattle.fb_tree.specs.declared.network.Instance.{Instance as InstanceUse}
-use Rattle.fb_network.specs.Plain.{PlainNetwork}
-use Rattle.fb_network.specs.declared.network.Connection.{Connection}
-use Rattle.fb_network.specs.declared.network.Instance.{Instance}
-use Rattle.fb_network.specs.declared.network.Port.{Port}
+use Rattle.fb_tree.specs.{Tree.{instance_tree}, declared.network.Instance.{Instance as InstanceUse}}
+use Rattle.fb_network.specs.{Plain.{PlainNetwork}, declared.network.Connection.{Connection}, declared.network.Instance.{Instance}, declared.network.Port.{Port}}
 use Rattle.fb_wiring.specs.Networks.{plain_connection, plain_instance}
 use Rattle.fb_wiring.proofs.networks.network_with.Goals as goal
 

@@ -1,6 +1,4 @@
-use Rattle.std.proofs.Common.{◌≡◌, ℕ, List, [], refl, sym, subst, ◌∙◌, arith}
-use Rattle.std.proofs.lemmas.Bool.{false≢true}
-use Rattle.std.proofs.lemmas.List.{nil_from_length}
+use Rattle.std.proofs.{Common.{◌≡◌, ℕ, List, [], refl, sym, subst, ◌∙◌, arith}, lemmas.Bool.{false≢true}, lemmas.List.{nil_from_length}}
 use Rattle.fb_iface.proofs.Library.WalkLemmas.{has-updates, not_true, not_false}
 use Rattle.fb_wiring.specs.declared.search.Step.{Step}
 use Rattle.fb_wiring.proofs.SearchLemmas.{IsSearch, IsSearch-begin, fuel_pop, skipped, left_last, found_loop, entered_next, entered_falls, whole_at_end, none_at_end}

@@ -1,5 +1,4 @@
-use Rattle.std.proofs.Common.{◌≡◌, ◌+◌, ◌∷◌, [], ◌++◌, arith, take}
-use Rattle.std.proofs.lemmas.Grind.{common_steps}
+use Rattle.std.proofs.{Common.{◌≡◌, ◌+◌, ◌∷◌, [], ◌++◌, arith, take}, lemmas.Grind.{common_steps}}
 use Rattle.fb_wiring.proofs.SearchLemmas.{enters_more}
 use Rattle.fb_wiring.proofs.search.enter_all.Goals as goal
 

@@ -1,7 +1,5 @@
-use Rattle.std.proofs.Common.{◌∙◌, ap, map, sym}
-use Rattle.std.proofs.lemmas.Result.{IfOk-weaker}
-use Rattle.fb_tree.specs.Tree.{application_tree, decl_tree}
-use Rattle.fb_tree.specs.declared.system.Application.{Application}
+use Rattle.std.proofs.{Common.{◌∙◌, ap, map, sym}, lemmas.Result.{IfOk-weaker}}
+use Rattle.fb_tree.specs.{Tree.{application_tree, decl_tree}, declared.system.Application.{Application}}
 use Rattle.fb_iface.proofs.TreeLemmas.{same_items}
 use Rattle.fb_wiring.specs.Applications.{applications_of, plain_application}
 use Rattle.fb_wiring.proofs.systems.applications.Goals as goal

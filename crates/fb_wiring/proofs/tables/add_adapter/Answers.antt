@@ -1,11 +1,9 @@
 -- What is there stays; where the unit has a tree, its network is added; where it has none, there is none to have.
 use Rattle.std.proofs.Common.{◌≡◌, Some, None, sym, ap, ◌∙◌}
-use Rattle.std.specs.Prelude.{option_map}
-use Rattle.std.specs.BTreeMap.{get}
+use Rattle.std.specs.{Prelude.{option_map}, BTreeMap.{get}}
 use Rattle.fb_tree.specs.Text.Order.{name_cmp}
 use Rattle.fb_network.specs.Plain.{PlainNetwork}
-use Rattle.fb_wiring.specs.ByName.{declared}
-use Rattle.fb_wiring.specs.Networks.{network_of}
+use Rattle.fb_wiring.specs.{ByName.{declared}, Networks.{network_of}}
 use Rattle.fb_wiring.proofs.TableLemmas.{grows_none, has_none, has_there, put_grows, put_has}
 use Rattle.fb_wiring.proofs.tables.add_adapter.Goals as goal
 

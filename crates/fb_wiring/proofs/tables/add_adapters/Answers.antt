@@ -1,6 +1,5 @@
 -- One port further.
-use Rattle.std.proofs.Common.{List, subst, take}
-use Rattle.std.proofs.lemmas.List.{take_all}
+use Rattle.std.proofs.{Common.{List, subst, take}, lemmas.List.{take_all}}
 use Rattle.std.specs.BTreeMap.{get}
 use Rattle.fb_tree.specs.Text.Order.{name_cmp}
 use Rattle.fb_network.specs.declared.network.Port.{Port}

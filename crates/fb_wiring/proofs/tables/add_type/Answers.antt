@@ -1,13 +1,9 @@
 -- Where the unit has a tree, its network and the adapters of its ports are added.
 use Rattle.std.proofs.Common.{◌≡◌, List, Some, None, sym, ap, subst, ◌∙◌}
-use Rattle.std.specs.Prelude.{option_map}
-use Rattle.std.specs.BTreeMap.{get}
+use Rattle.std.specs.{Prelude.{option_map}, BTreeMap.{get}}
 use Rattle.fb_tree.specs.Text.Order.{name_cmp}
-use Rattle.fb_network.specs.declared.network.Port.{Port}
-use Rattle.fb_network.specs.Plain.{PlainNetwork}
-use Rattle.fb_wiring.specs.ByName.{declared}
-use Rattle.fb_wiring.specs.Networks.{network_of}
-use Rattle.fb_wiring.specs.Tables.{HasAdapters}
+use Rattle.fb_network.specs.{declared.network.Port.{Port}, Plain.{PlainNetwork}}
+use Rattle.fb_wiring.specs.{ByName.{declared}, Networks.{network_of}, Tables.{HasAdapters}}
 use Rattle.fb_wiring.proofs.TableLemmas.{adapters_kept, grows_both, grows_none, put_grows, put_has, type_is, type_none}
 use Rattle.fb_wiring.proofs.tables.add_type.Goals as goal
 

@@ -2,11 +2,8 @@
 use Rattle.std.proofs.Common.{◌≡◌, ℕ, Bool, true, false, cond, List, Some, None, refl, subst, ◌∙◌}
 use Rattle.std.specs.BTreeMap.{is_at}
 use Rattle.fb_tree.specs.Text.Order.{name_cmp}
-use Rattle.fb_library.specs.View.{Sources}
-use Rattle.fb_library.specs.Texts.{sources_of}
-use Rattle.fb_flatten.specs.Net.{PlainNet, plain_net}
-use Rattle.fb_flatten.specs.Nets.{net_at}
-use Rattle.fb_flatten.specs.Hints.{AreRightHints}
+use Rattle.fb_library.specs.{View.{Sources}, Texts.{sources_of}}
+use Rattle.fb_flatten.specs.{Net.{PlainNet, plain_net}, Nets.{net_at}, Hints.{AreRightHints}}
 use Rattle.fb_network.proofs.Equals.{same_bytes}
 use Rattle.network_tests.specs.Kept.{hint_of}
 use Rattle.network_tests.proofs.kept.net_beside.Goals as goal

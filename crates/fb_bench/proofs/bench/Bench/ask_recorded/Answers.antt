@@ -1,9 +1,7 @@
 -- The question is recorded with the machine's answer, and nothing else changes.
 use Rattle.std.proofs.Common.{◌≡◌, sym, ap, subst, ◌∙◌, arith}
-use Rattle.fb_history.specs.Machine.{ToAsk, OfAsk, reply, shown}
-use Rattle.fb_history.specs.BenchView.{BenchView, logged, record_after, state_of}
-use Rattle.fb_bench.specs.Records.{reply_of}
-use Rattle.fb_bench.specs.Kept.{Agrees}
+use Rattle.fb_history.specs.{Machine.{ToAsk, OfAsk, reply, shown}, BenchView.{BenchView, logged, record_after, state_of}}
+use Rattle.fb_bench.specs.{Records.{reply_of}, Kept.{Agrees}}
 use Rattle.fb_bench.proofs.Keeping.{kept_pushed}
 use Rattle.fb_history.proofs.Steps.{bench_pushed, share_pushed, reply_ask, after_ask}
 use Rattle.fb_bench.proofs.bench.Bench.ask_recorded.Goals as goal

@@ -1,10 +1,8 @@
 -- The history begins from the present state.
 use Rattle.std.proofs.Common.{◌≡◌, ◌∙◌, sym, ap, subst}
-use Rattle.fb_history.specs.Checkpoints.{checkpointed}
-use Rattle.fb_history.specs.BenchView.{BenchView}
+use Rattle.fb_history.specs.{Checkpoints.{checkpointed}, BenchView.{BenchView}}
 use Rattle.fb_bench.specs.Kept.{IsConsistent}
-use Rattle.fb_bench.proofs.Checkpointing.{kept_checkpointed, restarted_is}
-use Rattle.fb_bench.proofs.KeysKept.{out_listed, pending_listed}
+use Rattle.fb_bench.proofs.{Checkpointing.{kept_checkpointed, restarted_is}, KeysKept.{out_listed, pending_listed}}
 use Rattle.fb_bench.proofs.bench.Bench.begin_anew.Goals as goal
 
 pub invariant_of-self-2 : goal.invariant_of-self-2

@@ -1,11 +1,9 @@
 -- A key that has a value is no longer out.
 use Rattle.std.proofs.Common.{◌≡◌, true, false, sym, ap, subst, ◌∙◌, arith}
-use Rattle.fb_history.specs.Machine.{State, ToGiveBack, OfGiveBack}
-use Rattle.fb_history.specs.declared.answers.GivenBack.TheVariants.{Returned}
+use Rattle.fb_history.specs.{Machine.{State, ToGiveBack, OfGiveBack}, declared.answers.GivenBack.TheVariants.{Returned}}
 use Rattle.fb_history.specs.BenchView.{BenchView, logged, record_after, state_of}
 use Rattle.fb_bench.specs.Kept.{Agrees}
-use Rattle.fb_bench.proofs.Marks.{agrees_return_kept}
-use Rattle.fb_bench.proofs.Keeping.{kept_pushed}
+use Rattle.fb_bench.proofs.{Marks.{agrees_return_kept}, Keeping.{kept_pushed}}
 use Rattle.fb_history.proofs.Steps.{bench_pushed, share_pushed, out_returned, after_returned}
 use Rattle.fb_bench.proofs.bench.Bench.clear_out.Goals as goal
 

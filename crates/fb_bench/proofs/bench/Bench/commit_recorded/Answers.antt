@@ -1,18 +1,11 @@
 -- A commit is recorded with the machine's answer; where it is done, what is kept is that of the new texts.
 use Rattle.std.proofs.Common.{◌≡◌, ℕ, ◌<◌, ◌+◌, List, map, length, refl, sym, ap, subst, ◌∙◌, arith, rules}
-use Rattle.fb_entries.specs.Library.Texts.{Edit, unit_of}
-use Rattle.fb_entries.specs.Library.Changes.{edits_of}
-use Rattle.fb_history.specs.declared.answers.Committed.TheVariants.{Done}
-use Rattle.fb_history.specs.Machine.{State, ToCommit, commit_answer, reply}
+use Rattle.fb_entries.specs.{Library.Texts.{Edit, unit_of}, Library.Changes.{edits_of}, Indexed.{IsIndexOf}}
+use Rattle.fb_history.specs.{declared.answers.Committed.TheVariants.{Done}, Machine.{State, ToCommit, commit_answer, reply}}
 use Rattle.fb_history.specs.BenchView.{BenchView, logged, record_after, state_of, recorded, record_of}
-use Rattle.fb_bench.specs.Records.{listed, reply_of}
-use Rattle.fb_bench.specs.Kept.{Agrees, IsConsistent}
-use Rattle.fb_bench.specs.Outcomes.{answer_at}
-use Rattle.fb_entries.specs.Indexed.{IsIndexOf}
-use Rattle.fb_bench.proofs.Keeping.{kept_pushed}
+use Rattle.fb_bench.specs.{Records.{listed, reply_of}, Kept.{Agrees, IsConsistent}, Outcomes.{answer_at}}
+use Rattle.fb_bench.proofs.{Keeping.{kept_pushed}, Committing.{answer_kept, commits_is, committed_is, agrees_renewed}, Renewals.{agrees_back}}
 use Rattle.fb_history.proofs.Steps.{bench_pushed, share_pushed}
-use Rattle.fb_bench.proofs.Committing.{answer_kept, commits_is, committed_is, agrees_renewed}
-use Rattle.fb_bench.proofs.Renewals.{agrees_back}
 use Rattle.fb_bench.proofs.bench.Bench.commit_recorded.Goals as goal
 
 pub overflow_add-number : goal.overflow_add-number

@@ -1,13 +1,10 @@
 -- A result that is accepted was read from texts that are still there. One that is not is recorded, and nothing else changes.
 use Rattle.std.proofs.Common.{◌≡◌, sym, ap, subst, refl, ◌∙◌, arith, rules}
-use Rattle.fb_entries.specs.Jobs.Reads.{PlainJob}
-use Rattle.fb_entries.specs.Jobs.Values.{all_seen}
-use Rattle.fb_history.specs.declared.answers.Delivered.TheVariants.{Accepted}
-use Rattle.fb_history.specs.Machine.{State, ToDeliver, deliver_answer}
+use Rattle.fb_entries.specs.{Jobs.Reads.{PlainJob}, Jobs.Values.{all_seen}}
+use Rattle.fb_history.specs.{declared.answers.Delivered.TheVariants.{Accepted}, Machine.{State, ToDeliver, deliver_answer}}
 use Rattle.fb_history.specs.BenchView.{BenchView, state_of, logged, record_after}
 use Rattle.fb_bench.specs.Kept.{Agrees}
-use Rattle.fb_bench.proofs.Marks.{accepted_fresh, deliver_stays}
-use Rattle.fb_bench.proofs.Keeping.{kept_pushed}
+use Rattle.fb_bench.proofs.{Marks.{accepted_fresh, deliver_stays}, Keeping.{kept_pushed}}
 use Rattle.fb_history.proofs.Steps.{bench_pushed, share_pushed, delivers_is, delivered_is}
 use Rattle.fb_bench.proofs.bench.Bench.deliver_recorded.Goals as goal
 

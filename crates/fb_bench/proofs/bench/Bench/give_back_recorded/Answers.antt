@@ -1,7 +1,6 @@
 -- A key that is not out stays as it is.
 use Rattle.std.proofs.Common.{◌≡◌, false, sym, ap, subst, ◌∙◌, arith, rules}
-use Rattle.fb_history.specs.Machine.{State, ToGiveBack, OfGiveBack}
-use Rattle.fb_history.specs.declared.answers.GivenBack.TheVariants.{NothingOut}
+use Rattle.fb_history.specs.{Machine.{State, ToGiveBack, OfGiveBack}, declared.answers.GivenBack.TheVariants.{NothingOut}}
 use Rattle.fb_history.specs.BenchView.{BenchView, logged, record_after, state_of}
 use Rattle.fb_bench.specs.Kept.{Agrees}
 use Rattle.fb_bench.proofs.Keeping.{kept_pushed}

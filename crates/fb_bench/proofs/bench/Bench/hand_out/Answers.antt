@@ -1,13 +1,9 @@
 -- The key is marked as handed out, and is not among the ready ones.
 use Rattle.std.proofs.Common.{◌≡◌, sym, ap, subst, ◌∙◌, arith, Some}
-use Rattle.fb_history.specs.Machine.{State, ToTake, reply, next}
-use Rattle.fb_bench.specs.Records.{reply_of}
-use Rattle.fb_history.specs.BenchView.{BenchView, state_of}
-use Rattle.fb_bench.specs.Kept.{Agrees}
-use Rattle.fb_history.proofs.Least.{next_passes}
-use Rattle.fb_bench.proofs.Marks.{agrees_take}
-use Rattle.fb_bench.proofs.Keeping.{kept_pushed}
-use Rattle.fb_history.proofs.Steps.{bench_pushed, share_pushed, stays_some}
+use Rattle.fb_history.specs.{Machine.{State, ToTake, reply, next}, BenchView.{BenchView, state_of}}
+use Rattle.fb_bench.specs.{Records.{reply_of}, Kept.{Agrees}}
+use Rattle.fb_history.proofs.{Least.{next_passes}, Steps.{bench_pushed, share_pushed, stays_some}}
+use Rattle.fb_bench.proofs.{Marks.{agrees_take}, Keeping.{kept_pushed}}
 use Rattle.fb_bench.proofs.bench.Bench.hand_out.Goals as goal
 
 pub invariant_of-self-2 : goal.invariant_of-self-2

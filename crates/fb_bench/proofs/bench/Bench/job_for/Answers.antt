@@ -1,11 +1,9 @@
 -- A key that is next is one of the library, whose kept values are those of its texts; the job is the machine's order.
 use Rattle.std.proofs.Common.{◌≡◌, true, sym, ap, subst, refl, ◌∙◌, Some}
 use Rattle.fb_entries.specs.Jobs.Keys.{has_key}
-use Rattle.fb_history.specs.Machine.{State, ToTake, reply, next}
-use Rattle.fb_history.specs.BenchView.{BenchView, state_of}
-use Rattle.fb_history.proofs.Least.{next_passes}
+use Rattle.fb_history.specs.{Machine.{State, ToTake, reply, next}, BenchView.{BenchView, state_of}}
+use Rattle.fb_history.proofs.{Least.{next_passes}, Steps.{take_some}}
 use Rattle.fb_bench.proofs.Marks.{ready_has, all_found, all_kept}
-use Rattle.fb_history.proofs.Steps.{take_some}
 use Rattle.fb_bench.proofs.bench.Bench.job_for.Goals as goal
 
 pub for_kept-requires-clause-has : goal.for_kept-requires-clause-has

@@ -2,8 +2,7 @@
 use Rattle.std.proofs.Common.{subst, ap, ◌∙◌, slice_get}
 use Rattle.std.specs.List.Sorted.{IsStrictlySortedBy}
 use Rattle.fb_entries.specs.Jobs.KeyOrder.{key_cmp}
-use Rattle.fb_history.specs.Machine.{keys_of}
-use Rattle.fb_history.specs.BenchView.{BenchView, state_of}
+use Rattle.fb_history.specs.{Machine.{keys_of}, BenchView.{BenchView, state_of}}
 use Rattle.fb_history.proofs.Sorted.{keys_rise}
 use Rattle.fb_bench.proofs.KeysKept.{keys_are}
 use Rattle.fb_bench.proofs.bench.Bench.key_at.Goals as goal

@@ -1,8 +1,6 @@
 -- There is an entry for each key of the texts, and for no other.
-use Rattle.std.proofs.Common.{length, sym, ap, ◌∙◌}
-use Rattle.std.proofs.lemmas.Map.Entries.{length-keys_of}
-use Rattle.fb_history.specs.Machine.{keys_of}
-use Rattle.fb_history.specs.BenchView.{BenchView, state_of}
+use Rattle.std.proofs.{Common.{length, sym, ap, ◌∙◌}, lemmas.Map.Entries.{length-keys_of}}
+use Rattle.fb_history.specs.{Machine.{keys_of}, BenchView.{BenchView, state_of}}
 use Rattle.fb_bench.proofs.KeysKept.{keys_are}
 use Rattle.fb_bench.proofs.bench.Bench.key_count.Goals as goal
 

@@ -1,11 +1,9 @@
 -- A key that is given back is ready again if it waits for a result.
 use Rattle.std.proofs.Common.{◌≡◌, true, sym, ap, subst, ◌∙◌, arith}
-use Rattle.fb_history.specs.Machine.{State, ToGiveBack, OfGiveBack}
-use Rattle.fb_history.specs.declared.answers.GivenBack.TheVariants.{Returned}
+use Rattle.fb_history.specs.{Machine.{State, ToGiveBack, OfGiveBack}, declared.answers.GivenBack.TheVariants.{Returned}}
 use Rattle.fb_history.specs.BenchView.{BenchView, logged, record_after, state_of}
 use Rattle.fb_bench.specs.Kept.{Agrees, IsConsistent}
-use Rattle.fb_bench.proofs.Marks.{agrees_return, agrees_same, agrees_unready}
-use Rattle.fb_bench.proofs.Keeping.{kept_pushed}
+use Rattle.fb_bench.proofs.{Marks.{agrees_return, agrees_same, agrees_unready}, Keeping.{kept_pushed}}
 use Rattle.fb_history.proofs.Steps.{bench_pushed, share_pushed, out_returned, after_returned}
 use Rattle.fb_bench.proofs.bench.Bench.make_ready.Goals as goal
 

@@ -1,7 +1,6 @@
 -- The first key that can be taken is the least key that is ready.
 use Rattle.std.proofs.Common.{ap, ◌∙◌}
-use Rattle.fb_history.specs.Machine.{next}
-use Rattle.fb_history.specs.BenchView.{state_of}
+use Rattle.fb_history.specs.{Machine.{next}, BenchView.{state_of}}
 use Rattle.fb_bench.proofs.Marks.{first_is_next}
 use Rattle.fb_bench.proofs.bench.Bench.next.Goals as goal
 

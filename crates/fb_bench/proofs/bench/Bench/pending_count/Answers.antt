@@ -1,7 +1,6 @@
 -- A key waits exactly where its entry has no value.
 use Rattle.std.proofs.Common.{◌∙◌, ap, count_by}
-use Rattle.fb_history.specs.Machine.{keys_of}
-use Rattle.fb_history.specs.BenchView.{BenchView, state_of}
+use Rattle.fb_history.specs.{Machine.{keys_of}, BenchView.{BenchView, state_of}}
 use Rattle.fb_bench.proofs.KeysKept.{pending_are}
 use Rattle.fb_bench.proofs.bench.Bench.pending_count.Goals as goal
 

@@ -1,16 +1,10 @@
 -- The value that is kept is that of the present texts.
 use Rattle.std.proofs.Common.{◌≡◌, sym, ap, subst, refl, ◌∙◌, arith, rules}
-use Rattle.fb_entries.specs.Jobs.Keys.{scratch}
-use Rattle.fb_entries.specs.Jobs.Reads.{PlainJob}
-use Rattle.fb_entries.specs.Jobs.Values.{finding_of}
-use Rattle.fb_history.specs.declared.answers.Delivered.TheVariants.{Accepted}
-use Rattle.fb_history.specs.Machine.{State, ToDeliver, OfDeliver, deliver_answer}
+use Rattle.fb_entries.specs.{Jobs.Keys.{scratch}, Jobs.Reads.{PlainJob}, Jobs.Values.{finding_of}}
+use Rattle.fb_history.specs.{declared.answers.Delivered.TheVariants.{Accepted}, Machine.{State, ToDeliver, OfDeliver, deliver_answer}}
 use Rattle.fb_history.specs.BenchView.{BenchView, state_of, logged, record_after}
-use Rattle.fb_bench.specs.Kept.{Agrees}
-use Rattle.fb_bench.proofs.Marks.{agrees_deliver}
-use Rattle.fb_bench.specs.Founds.{HasNetsOf}
-use Rattle.fb_bench.proofs.Founds.{founds_right}
-use Rattle.fb_bench.proofs.Keeping.{kept_pushed}
+use Rattle.fb_bench.specs.{Kept.{Agrees}, Founds.{HasNetsOf}}
+use Rattle.fb_bench.proofs.{Marks.{agrees_deliver}, Founds.{founds_right}, Keeping.{kept_pushed}}
 use Rattle.fb_history.proofs.Steps.{bench_pushed, share_pushed, delivers_is, delivered_is}
 use Rattle.fb_bench.proofs.bench.Bench.take_in.Goals as goal
 

@@ -1,7 +1,6 @@
 -- Where nothing is next, that is recorded, and nothing else changes.
 use Rattle.std.proofs.Common.{◌≡◌, sym, ap, subst, ◌∙◌, arith, rules, None}
-use Rattle.fb_history.specs.Machine.{ToTake, next}
-use Rattle.fb_history.specs.BenchView.{BenchView, state_of}
+use Rattle.fb_history.specs.{Machine.{ToTake, next}, BenchView.{BenchView, state_of}}
 use Rattle.fb_bench.specs.Kept.{Agrees}
 use Rattle.fb_bench.proofs.Keeping.{kept_pushed}
 use Rattle.fb_history.proofs.Steps.{bench_pushed, share_pushed, take_none, stays_none}

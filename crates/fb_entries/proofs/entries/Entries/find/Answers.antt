@@ -1,9 +1,7 @@
 -- What is found, list by list.
 use Rattle.std.proofs.Common.{filter, not, is_none, ap, subst, ◌∙◌}
 use Rattle.fb_jobs.specs.Keys.{has_key}
-use Rattle.fb_entries.specs.Keyed.{Keyed, can_take, entry_at}
-use Rattle.fb_entries.specs.Renew.{IsRenewal}
-use Rattle.fb_entries.specs.declared.renewal.Renewal.{Renewal}
+use Rattle.fb_entries.specs.{Keyed.{Keyed, can_take, entry_at}, Renew.{IsRenewal}, declared.renewal.Renewal.{Renewal}}
 use Rattle.fb_entries.proofs.Findings.{found}
 use Rattle.fb_entries.proofs.entries.Entries.find.Goals as goal
 

@@ -1,9 +1,7 @@
 -- The changed units are those of the changes.
 use Rattle.std.proofs.Common.{◌≡◌, map, ap, sym, subst, ◌∙◌}
-use Rattle.fb_index.specs.Library.Texts.{unit_of}
-use Rattle.fb_index.specs.Library.Changes.{edits_of}
-use Rattle.fb_jobs.specs.Reads.{is_among}
-use Rattle.fb_jobs.specs.Reach.{first_repeated}
+use Rattle.fb_index.specs.{Library.Texts.{unit_of}, Library.Changes.{edits_of}}
+use Rattle.fb_jobs.specs.{Reads.{is_among}, Reach.{first_repeated}}
 use Rattle.fb_entries.specs.Renew.{IsRenewal}
 use Rattle.fb_entries.proofs.entries.Entries.found.Goals as goal
 

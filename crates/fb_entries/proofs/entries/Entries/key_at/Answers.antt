@@ -1,7 +1,6 @@
 -- The key after as many.
-use Rattle.std.proofs.Common.{ap, slice_get, ◌∙◌}
+use Rattle.std.proofs.{Common.{ap, slice_get, ◌∙◌}, lemmas.Iterator.Consumers.{nth_from_yields_List, YieldsList-from_rest}}
 use Rattle.std.specs.BTreeMap as tree
-use Rattle.std.proofs.lemmas.Iterator.Consumers.{nth_from_yields_List, YieldsList-from_rest}
 use Rattle.std.specs.Map.{keys_of}
 use Rattle.fb_entries.specs.Keyed.{Keyed}
 use Rattle.fb_entries.proofs.entries.Entries.key_at.Goals as goal

@@ -1,11 +1,10 @@
 -- As many as pass the test.
 use Rattle.std.proofs.Common.{ap, count_by, ◌∙◌, rules}
-use Rattle.std.specs.BTreeMap as tree
 use Rattle.std.proofs.lemmas.Iterator.Consumers.{count_from_yields_List, YieldsList-at, YieldsList-from_filter, YieldsList-from_rest}
 use Rattle.std.proofs.lemmas.List.Sums.{length-filter}
+use Rattle.std.specs.BTreeMap as tree
 use Rattle.std.specs.Map.{values_of}
-use Rattle.fb_entries.specs.Keyed.{Keyed}
-use Rattle.fb_entries.specs.Marking.{is_unkept}
+use Rattle.fb_entries.specs.{Keyed.{Keyed}, Marking.{is_unkept}}
 use Rattle.fb_entries.proofs.entries.Entries.pending_count.Goals as goal
 
 pub returns-clause-count : goal.returns-clause-count

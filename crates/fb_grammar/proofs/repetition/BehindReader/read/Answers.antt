@@ -1,7 +1,6 @@
 use Rattle.std.proofs.Common.{length, refl}
 use Rattle.fb_grammar.specs.Words.{key}
-use Rattle.fb_grammar.proofs.Loops.{shorter}
-use Rattle.fb_grammar.proofs.Repeating.{takes_more}
+use Rattle.fb_grammar.proofs.{Loops.{shorter}, Repeating.{takes_more}}
 use Rattle.fb_grammar.proofs.repetition.BehindReader.read.Goals as goal
 
 pub returns-clause-takes : goal.returns-clause-takes

@@ -1,5 +1,4 @@
-use Rattle.std.proofs.Common.{sym}
-use Rattle.std.proofs.lemmas.Str.{IsCharBoundary-start}
+use Rattle.std.proofs.{Common.{sym}, lemmas.Str.{IsCharBoundary-start}}
 use Rattle.fb_grammar.specs.Upcoming.{tokens_to_end}
 use Rattle.fb_grammar.proofs.upcoming.Tokens.of.Goals as goal
 

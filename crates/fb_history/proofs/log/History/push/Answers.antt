@@ -1,12 +1,8 @@
 -- One more record, on the page of its caller.
-use Rattle.std.proofs.Common.{◌≡◌, ◌∙◌, ◌+◌, ◌++◌, ◌∷◌, [], ap, sym, arith}
-use Rattle.std.proofs.lemmas.Grind.{common_steps}
-use Rattle.std.specs.BTreeMap.{insert_entry}
-use Rattle.std.specs.Ordering.{nat_cmp}
-use Rattle.fb_history.specs.Records.{records_in}
-use Rattle.fb_history.specs.BenchView.{Record, all_turns, on_page, pages_after, turns_of}
-use Rattle.fb_history.proofs.Numbers.{shares_pushed, turns_shared}
-use Rattle.fb_history.proofs.Pages.{on_all, pages_pushed}
+use Rattle.std.proofs.{Common.{◌≡◌, ◌∙◌, ◌+◌, ◌++◌, ◌∷◌, [], ap, sym, arith}, lemmas.Grind.{common_steps}}
+use Rattle.std.specs.{BTreeMap.{insert_entry}, Ordering.{nat_cmp}}
+use Rattle.fb_history.specs.{Records.{records_in}, BenchView.{Record, all_turns, on_page, pages_after, turns_of}}
+use Rattle.fb_history.proofs.{Numbers.{shares_pushed, turns_shared}, Pages.{on_all, pages_pushed}}
 use Rattle.fb_history.proofs.log.History.push.Goals as goal
 
 pub invariant_of-self-in-Ok : goal.invariant_of-self-in-Ok

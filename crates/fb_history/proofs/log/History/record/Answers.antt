@@ -1,8 +1,6 @@
 -- The record of a number stands one place before it, counted from the start.
-use Rattle.std.proofs.Common.{◌<◌, ◌-◌, ap, ◌∙◌, arith, Some}
-use Rattle.std.proofs.lemmas.Bool.Decides.{nat_tests}
-use Rattle.fb_history.specs.BenchView.{record_at}
-use Rattle.fb_history.specs.Records.{records_in}
+use Rattle.std.proofs.{Common.{◌<◌, ◌-◌, ap, ◌∙◌, arith, Some}, lemmas.Bool.Decides.{nat_tests}}
+use Rattle.fb_history.specs.{BenchView.{record_at}, Records.{records_in}}
 use Rattle.fb_history.proofs.Numbers.{record_here, record_past}
 use Rattle.fb_history.proofs.log.History.record.Goals as goal
 

@@ -1,10 +1,7 @@
 -- The pages are copied, and all else is moved.
 use Rattle.std.proofs.Common.{◌≡◌, [], ◌∙◌, ap, sym, subst, arith, rules}
-use Rattle.fb_history.specs.Checkpoints.{restarted}
-use Rattle.fb_history.specs.Records.{records_in}
-use Rattle.fb_history.specs.BenchView.{BenchView, last_number, on_page, pages_after}
-use Rattle.fb_history.proofs.Numbers.{TurnsFrom, turns_none}
-use Rattle.fb_history.proofs.Pages.{copied, within_all}
+use Rattle.fb_history.specs.{Checkpoints.{restarted}, Records.{records_in}, BenchView.{BenchView, last_number, on_page, pages_after}}
+use Rattle.fb_history.proofs.{Numbers.{TurnsFrom, turns_none}, Pages.{copied, within_all}}
 use Rattle.fb_history.proofs.log.History.restart.Goals as goal
 
 pub invariant_of-self : goal.invariant_of-self

@@ -1,7 +1,6 @@
 -- The kept number is the caller's of all time.
 use Rattle.std.proofs.Common.{◌∙◌, ap, unwrap_or}
-use Rattle.fb_history.specs.Records.{records_in}
-use Rattle.fb_history.specs.BenchView.{all_turns, on_page}
+use Rattle.fb_history.specs.{Records.{records_in}, BenchView.{all_turns, on_page}}
 use Rattle.fb_history.proofs.Pages.{on_all}
 use Rattle.fb_history.proofs.log.History.turns_of.Goals as goal
 

@@ -1,6 +1,4 @@
-use Rattle.std.proofs.Common.{◌≡◌, ◌+◌, ◌++◌, [], ◌∷◌, take, arith, ap, sym, ◌∙◌}
-use Rattle.std.proofs.lemmas.Grind.{common_steps}
-use Rattle.std.proofs.lemmas.List.{map-append}
+use Rattle.std.proofs.{Common.{◌≡◌, ◌+◌, ◌++◌, [], ◌∷◌, take, arith, ap, sym, ◌∙◌}, lemmas.Grind.{common_steps}, lemmas.List.{map-append}}
 use Rattle.fb_jobs.specs.Library.Changes.{edit_of, edits_of}
 use Rattle.fb_history.specs.Records.{text_edit, text_edits}
 use Rattle.fb_history.proofs.record.TextChange.all_of.Goals as goal

@@ -1,9 +1,7 @@
 -- Each unit that is found is indexed.
-use Rattle.std.proofs.Common.{◌≡◌, ◌↔◌, true, ℕ, List, IfOk, subst}
-use Rattle.std.proofs.lemmas.Result.{IfOk-weaker}
+use Rattle.std.proofs.{Common.{◌≡◌, ◌↔◌, true, ℕ, List, IfOk, subst}, lemmas.Result.{IfOk-weaker}}
 use Rattle.fb_library.specs.Seen.{has_name}
-use Rattle.fb_index.specs.Indexed.{Indexed}
-use Rattle.fb_index.specs.Near.{AreUnits, ReachesSome}
+use Rattle.fb_index.specs.{Indexed.{Indexed}, Near.{AreUnits, ReachesSome}}
 use Rattle.fb_index.proofs.Units.{far_indexed}
 use Rattle.fb_index.proofs.index.Index.far_of.Goals as goal
 

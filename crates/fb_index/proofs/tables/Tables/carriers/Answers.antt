@@ -1,14 +1,10 @@
 -- The walk from users to users, which ends where nothing is pending.
-use Rattle.std.proofs.Common.{◌≡◌, ◌+◌, [], ◌∷◌, ◌++◌, take, ap, subst, ◌∙◌, arith}
-use Rattle.std.proofs.lemmas.Grind.{common_steps}
-use Rattle.std.proofs.lemmas.Result.{IfOk-weaker}
-use Rattle.std.specs.List.{flat_map}
+use Rattle.std.proofs.{Common.{◌≡◌, ◌+◌, [], ◌∷◌, ◌++◌, take, ap, subst, ◌∙◌, arith}, lemmas.Grind.{common_steps}, lemmas.Result.{IfOk-weaker}}
 use Rattle.std.proofs.lemmas.List.{nil_from_length}
+use Rattle.std.specs.List.{flat_map}
 use Rattle.fb_library.specs.Seen.{Opens}
 use Rattle.fb_library.proofs.WalkLemmas.{IsWalk, IsWalk-begin, IsWalk-step, opens_falls, opens_more}
-use Rattle.fb_index.specs.Indexed.{Indexed}
-use Rattle.fb_index.specs.Near.{carrying_on}
-use Rattle.fb_index.specs.Users.{users_of}
+use Rattle.fb_index.specs.{Indexed.{Indexed}, Near.{carrying_on}, Users.{users_of}}
 use Rattle.fb_index.proofs.Walks.{all_users, carriers_within, carriers_at_end}
 use Rattle.fb_index.proofs.tables.Tables.carriers.Goals as goal
 

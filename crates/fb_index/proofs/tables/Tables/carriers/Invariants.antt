@@ -2,8 +2,7 @@ use Rattle.std.proofs.Common.{◌+◌, [], length, take}
 use Rattle.std.specs.List.{flat_map}
 use Rattle.fb_library.specs.Seen.{Opens, unseen}
 use Rattle.fb_library.proofs.WalkLemmas.{IsWalk}
-use Rattle.fb_index.specs.Near.{carrying_on}
-use Rattle.fb_index.specs.Users.{users_of}
+use Rattle.fb_index.specs.{Near.{carrying_on}, Users.{users_of}}
 use Rattle.fb_index.proofs.Walks.{all_users}
 use Rattle.fb_index.proofs.tables.Tables.carriers.Given as goal
 

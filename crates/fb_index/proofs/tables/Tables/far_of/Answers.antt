@@ -1,17 +1,12 @@
 -- The walk from users to users, which ends where nothing is pending.
-use Rattle.std.proofs.Common.{◌≡◌, ◌+◌, [], ◌∷◌, ◌++◌, filter, take, ap, sym, subst, ◌∙◌, arith}
-use Rattle.std.proofs.lemmas.Grind.{common_steps}
-use Rattle.std.proofs.lemmas.Result.{IfOk-weaker}
-use Rattle.std.specs.List.{flat_map}
-use Rattle.std.specs.List.Sorted.{IsStrictlySortedBy}
+use Rattle.std.proofs.{Common.{◌≡◌, ◌+◌, [], ◌∷◌, ◌++◌, filter, take, ap, sym, subst, ◌∙◌, arith}, lemmas.Grind.{common_steps}, lemmas.Result.{IfOk-weaker}}
 use Rattle.std.proofs.lemmas.List.{nil_from_length}
+use Rattle.std.specs.{List.{flat_map}, List.Sorted.{IsStrictlySortedBy}}
 use Rattle.fb_text.specs.Order.{name_cmp, names_in_order}
 use Rattle.fb_text.proofs.OrderLemmas.{in_order-sorted}
 use Rattle.fb_library.specs.Seen.{Opens}
-use Rattle.fb_library.proofs.Names.{name_total}
-use Rattle.fb_library.proofs.WalkLemmas.{IsWalk, IsWalk-begin, IsWalk-step, opens_falls, opens_more}
-use Rattle.fb_index.specs.Indexed.{is_indexed}
-use Rattle.fb_index.specs.Near.{mentioning}
+use Rattle.fb_library.proofs.{Names.{name_total}, WalkLemmas.{IsWalk, IsWalk-begin, IsWalk-step, opens_falls, opens_more}}
+use Rattle.fb_index.specs.{Indexed.{is_indexed}, Near.{mentioning}}
 use Rattle.fb_index.proofs.Walks.{all_users, mentioning_within, far_at_end, in_order_are}
 use Rattle.fb_index.proofs.tables.Tables.far_of.Goals as goal
 

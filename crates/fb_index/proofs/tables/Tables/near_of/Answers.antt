@@ -1,13 +1,10 @@
 -- To order names changes none.
-use Rattle.std.proofs.Common.{◌≡◌, ◌++◌, filter, ap, sym, subst, ◌∙◌}
-use Rattle.std.proofs.lemmas.Result.{IfOk-weaker}
-use Rattle.std.specs.List.{flat_map}
-use Rattle.std.specs.List.Sorted.{IsStrictlySortedBy}
+use Rattle.std.proofs.{Common.{◌≡◌, ◌++◌, filter, ap, sym, subst, ◌∙◌}, lemmas.Result.{IfOk-weaker}}
+use Rattle.std.specs.{List.{flat_map}, List.Sorted.{IsStrictlySortedBy}}
 use Rattle.fb_text.specs.Order.{name_cmp, names_in_order}
 use Rattle.fb_text.proofs.OrderLemmas.{in_order-sorted}
 use Rattle.fb_library.proofs.Names.{name_total}
-use Rattle.fb_index.specs.Indexed.{is_indexed}
-use Rattle.fb_index.specs.Users.{users_of}
+use Rattle.fb_index.specs.{Indexed.{is_indexed}, Users.{users_of}}
 use Rattle.fb_index.proofs.Walks.{near_are, in_order_are}
 use Rattle.fb_index.proofs.tables.Tables.near_of.Goals as goal
 

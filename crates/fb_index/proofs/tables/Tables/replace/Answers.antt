@@ -3,8 +3,7 @@ use Rattle.std.proofs.Common.{◌≡◌, ap, subst, ◌∙◌}
 use Rattle.std.specs.BTreeMap.{insert_entry}
 use Rattle.fb_text.specs.Order.{name_cmp}
 use Rattle.fb_tree.specs.Mentions.{mentioned}
-use Rattle.fb_index.specs.Indexed.{Indexed}
-use Rattle.fb_index.specs.Users.{NowUses}
+use Rattle.fb_index.specs.{Indexed.{Indexed}, Users.{NowUses}}
 use Rattle.fb_index.proofs.Lookups.{unit_replaced}
 use Rattle.fb_index.proofs.tables.Tables.replace.Goals as goal
 

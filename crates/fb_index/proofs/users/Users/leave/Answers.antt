@@ -1,6 +1,5 @@
 -- The others are left under the name.
-use Rattle.std.proofs.Common.{◌&&◌, not, ap, ◌∙◌}
-use Rattle.std.proofs.lemmas.Result.{IfOk-weaker}
+use Rattle.std.proofs.{Common.{◌&&◌, not, ap, ◌∙◌}, lemmas.Result.{IfOk-weaker}}
 use Rattle.std.specs.BTreeMap.{is_at}
 use Rattle.fb_text.specs.Order.{name_cmp}
 use Rattle.fb_library.specs.Seen.{has_name}

@@ -1,16 +1,13 @@
 -- One more name, which is known or not.
-use Rattle.std.proofs.Common.{◌≡◌, ◌+◌, ◌++◌, ◌∷◌, [], true, false, ◌||◌, ◌&&◌, not, ap, sym, ◌∙◌, arith, take}
-use Rattle.std.proofs.lemmas.Grind.{common_steps}
+use Rattle.std.proofs.{Common.{◌≡◌, ◌+◌, ◌++◌, ◌∷◌, [], true, false, ◌||◌, ◌&&◌, not, ap, sym, ◌∙◌, arith, take}, lemmas.Grind.{common_steps}}
 use Rattle.std.specs.BTreeMap.{is_at}
 use Rattle.std.specs.BTreeSet as set
 use Rattle.fb_text.specs.Order.{name_cmp}
 use Rattle.fb_library.specs.Seen.{has_name}
 use Rattle.fb_library.proofs.SeenLemmas.{has-push, same_is}
 use Rattle.fb_index.specs.Users.{uses}
-use Rattle.fb_index.proofs.Bits.{one_more, one_known}
-use Rattle.fb_index.proofs.Lookups.{flips}
+use Rattle.fb_index.proofs.{Bits.{one_more, one_known}, Lookups.{flips}, users.Users.put_in.Goals.{then-not-contains+in_ok-join, else-not-contains}}
 use Rattle.fb_index.proofs.users.Users.put_in.Goals as goal
-use Rattle.fb_index.proofs.users.Users.put_in.Goals.{then-not-contains+in_ok-join, else-not-contains}
 
 pub loop-name-preserved : goal.loop-name-preserved
 loop-name-preserved c = λ other at.

@@ -1,7 +1,5 @@
 -- The rows stay in order, and the name has these units.
-use Rattle.std.proofs.Common.{length, eqb-true, if◌then◌else◌, sym, ap, ◌∙◌}
-use Rattle.std.proofs.lemmas.List.{nil_from_length}
-use Rattle.std.proofs.lemmas.Result.{IfOk-weaker}
+use Rattle.std.proofs.{Common.{length, eqb-true, if◌then◌else◌, sym, ap, ◌∙◌}, lemmas.List.{nil_from_length}, lemmas.Result.{IfOk-weaker}}
 use Rattle.std.specs.BTreeMap.{insert_entry, is_at}
 use Rattle.fb_text.specs.Order.{name_cmp}
 use Rattle.fb_index.specs.Users.{UsersByName, users_of}

@@ -1,19 +1,9 @@
 -- What is kept holds in the reads.
 use Rattle.std.proofs.Common.{◌≡◌, ◌⊎◌, true, List, [], All, Vec, Some, sym, ap, subst, ◌∙◌, rules}
-use Rattle.std.specs.declared.alloc.Global.{Global}
-use Rattle.std.specs.declared.sync.Arc.{Arc}
-use Rattle.std.specs.List.{AllZip}
-use Rattle.fb_jobs.specs.declared.value.Value.{Value}
-use Rattle.fb_jobs.specs.Kinds.{needs_all}
-use Rattle.fb_jobs.specs.Keys.{needs}
-use Rattle.fb_jobs.specs.Cached.{IsBlockedNet, IsFlag, IsCached}
-use Rattle.fb_jobs.specs.Hints.{AreChosen}
-use Rattle.fb_jobs.specs.Reads.{IsOf, Seen}
-use Rattle.fb_jobs.specs.declared.hints.Hint.{Hint}
-use Rattle.fb_jobs.specs.declared.cached.Cached.{Cached}
-use Rattle.fb_jobs.proofs.Currents.{of_under}
-use Rattle.fb_jobs.proofs.HintLemmas.{no_hints}
-use Rattle.fb_jobs.proofs.CachedLemmas.{hints_alone, kept_known, own_known}
+use Rattle.std.specs.{declared.alloc.Global.{Global}, declared.sync.Arc.{Arc}, List.{AllZip}}
+use Rattle.fb_jobs.specs.{declared.value.Value.{Value}, Kinds.{needs_all}, Keys.{needs}, Cached.{IsBlockedNet, IsFlag, IsCached}, Hints.{AreChosen}}
+use Rattle.fb_jobs.specs.{Reads.{IsOf, Seen}, declared.hints.Hint.{Hint}, declared.cached.Cached.{Cached}}
+use Rattle.fb_jobs.proofs.{Currents.{of_under}, HintLemmas.{no_hints}, CachedLemmas.{hints_alone, kept_known, own_known}}
 use Rattle.fb_jobs.proofs.cached.Cached.of_kept.Goals as goal
 
 pub returns : goal.returns

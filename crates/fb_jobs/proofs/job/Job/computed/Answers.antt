@@ -4,18 +4,10 @@ use Rattle.std.specs.BTreeMap as tree
 use Rattle.std.specs.BTreeSet as set
 use Rattle.std.specs.FinMap.{get}
 use Rattle.fb_text.specs.Order.{name_cmp}
-use Rattle.fb_deploy.specs.Flatten.Hints.{AreFaultless, AreRightHints}
-use Rattle.fb_deploy.specs.Library.Texts.{sources_of}
-use Rattle.fb_jobs.specs.declared.key.Key.{Key}
-use Rattle.fb_jobs.specs.declared.hints.Hint.{Hint}
-use Rattle.fb_jobs.specs.declared.read.Read.{Read}
-use Rattle.fb_jobs.specs.Keys.{has_kind_at}
-use Rattle.fb_jobs.specs.Cached.{hint_in, is_flagged}
-use Rattle.fb_jobs.specs.Work.{IsOwnIn, IsWork}
-use Rattle.fb_jobs.specs.Reads.{PlainJob, read_texts}
-use Rattle.fb_jobs.specs.Values.{all_seen}
-use Rattle.fb_jobs.proofs.CachedLemmas.{faultless_in, flags_unless, hints_unless, nets_right, own_in}
-use Rattle.fb_jobs.proofs.SameNeeds.{kind_there}
+use Rattle.fb_deploy.specs.{Flatten.Hints.{AreFaultless, AreRightHints}, Library.Texts.{sources_of}}
+use Rattle.fb_jobs.specs.{declared.key.Key.{Key}, declared.hints.Hint.{Hint}, declared.read.Read.{Read}, Keys.{has_kind_at}, Cached.{hint_in, is_flagged}}
+use Rattle.fb_jobs.specs.{Work.{IsOwnIn, IsWork}, Reads.{PlainJob, read_texts}, Values.{all_seen}}
+use Rattle.fb_jobs.proofs.{CachedLemmas.{faultless_in, flags_unless, hints_unless, nets_right, own_in}, SameNeeds.{kind_there}}
 use Rattle.fb_jobs.proofs.job.Job.computed.Goals as goal
 
 pub work_of-requires-clause-has : goal.work_of-requires-clause-has

@@ -1,15 +1,10 @@
 -- What stands at the place was read under the name, and nothing where there is a gap.
 use Rattle.std.proofs.Common.{◌≡◌, ℕ, List, Some, get_or, sym, ap, subst, ◌∙◌}
 use Rattle.std.specs.Option.{option_map}
-use Rattle.fb_deploy.specs.Library.Texts.{text_at, text_in}
-use Rattle.fb_deploy.specs.Library.Place.{IsAt, IsGapFor}
-use Rattle.fb_jobs.specs.declared.key.Key.{Key}
-use Rattle.fb_jobs.specs.declared.read.Read.{Read}
-use Rattle.fb_jobs.specs.Reads.{PlainJob, IsRight, read_names, read_texts}
-use Rattle.fb_jobs.specs.Values.{all_seen, found_in}
+use Rattle.fb_deploy.specs.{Library.Texts.{text_at, text_in}, Library.Place.{IsAt, IsGapFor}}
+use Rattle.fb_jobs.specs.{declared.key.Key.{Key}, declared.read.Read.{Read}, Reads.{PlainJob, IsRight, read_names, read_texts}, Values.{all_seen, found_in}}
 use Rattle.fb_jobs.specs.Finished.{plain_job}
-use Rattle.fb_jobs.proofs.Currents.{reads_rise}
-use Rattle.fb_jobs.proofs.Searches.{own_there, text_there, none_in_gap}
+use Rattle.fb_jobs.proofs.{Currents.{reads_rise}, Searches.{own_there, text_there, none_in_gap}}
 use Rattle.fb_jobs.proofs.job.Job.find.Goals as goal
 
 found : (key : Key) (reads : List Read) (order : PlainJob) (name : List ℕ) (at : ℕ) (read : Read) → plain_job key reads ≡ order → IsRight (plain_job key reads) → IsAt (read_names order.reads) name at → read ≡ get_or reads at read → text_at (read_texts order.reads) name ≡ option_map text_in (found_in read.revision read.source)

@@ -1,11 +1,8 @@
 -- What the key needs of the library it needs of the reads too.
 use Rattle.std.proofs.Common.{sym, ap, subst, Vec}
 use Rattle.std.specs.declared.alloc.Global.{Global}
-use Rattle.fb_jobs.specs.declared.hints.Hint.{Hint}
-use Rattle.fb_jobs.specs.Cached.{IsCached}
-use Rattle.fb_jobs.specs.Reads.{IsRight}
-use Rattle.fb_jobs.proofs.CachedLemmas.{hints_alone}
-use Rattle.fb_jobs.proofs.Currents.{right_for}
+use Rattle.fb_jobs.specs.{declared.hints.Hint.{Hint}, Cached.{IsCached}, Reads.{IsRight}}
+use Rattle.fb_jobs.proofs.{CachedLemmas.{hints_alone}, Currents.{right_for}}
 use Rattle.fb_jobs.proofs.job.Job.make.Goals as goal
 
 pub of_reads-requires-clause-right : goal.of_reads-requires-clause-right

@@ -1,16 +1,11 @@
 -- The closure gives a read's name, and the reads stand in the order of their names.
-use Rattle.std.proofs.Common.{◌≡◌, rules, IfOk, IfErr, List, ap, subst, sym, ◌∙◌}
+use Rattle.std.proofs.{Common.{◌≡◌, rules, IfOk, IfErr, List, ap, subst, sym, ◌∙◌}, lemmas.List.Sorted.{answers_always}}
 use Rattle.std.specs.List.Sorted.{IsStrictlySortedBy}
-use Rattle.std.proofs.lemmas.List.Sorted.{answers_always}
 use Rattle.fb_text.specs.Order.{name_cmp}
 use Rattle.fb_deploy.specs.Library.Place.{IsAt, IsGapFor}
-use Rattle.fb_jobs.specs.Reads.{PlainJob, read_names}
-use Rattle.fb_jobs.specs.Values.{all_seen}
-use Rattle.fb_jobs.specs.declared.read.Read.{Read}
-use Rattle.fb_jobs.specs.Finished.{plain_job}
-use Rattle.fb_jobs.proofs.Currents.{reads_rise}
+use Rattle.fb_jobs.specs.{Reads.{PlainJob, read_names}, Values.{all_seen}, declared.read.Read.{Read}, Finished.{plain_job}}
+use Rattle.fb_jobs.proofs.{Currents.{reads_rise}, Searches.{searched}}
 use Rattle.fb_deploy.proofs.Library.Searches.{Searched}
-use Rattle.fb_jobs.proofs.Searches.{searched}
 use Rattle.fb_jobs.proofs.job.Job.place.Goals as goal
 
 same : (c : goal.After-binary_search_by_key) → c.deref-2.result.now ≡ c.self.inside.reads.value.items

@@ -1,14 +1,8 @@
 -- What is read leaves the value as it was, so it is that of the reads.
 use Rattle.std.proofs.Common.{◌≡◌, Bool, true, false, not, List, refl, sym, ap, subst, ◌∙◌}
-use Rattle.fb_jobs.specs.declared.key.Key.{Key}
-use Rattle.fb_jobs.specs.declared.read.Read.{Read}
-use Rattle.fb_jobs.specs.Keys.{scratch}
-use Rattle.fb_jobs.specs.Cached.{is_flagged}
-use Rattle.fb_jobs.specs.Reuse.{AreStillRead, is_whole_value}
-use Rattle.fb_jobs.specs.Reads.{IsRight, PlainJob, Seen, read_texts}
-use Rattle.fb_jobs.specs.Values.{all_seen}
-use Rattle.fb_jobs.proofs.Alike.{one_key}
-use Rattle.fb_jobs.proofs.ReuseLemmas.{reusable_value}
+use Rattle.fb_jobs.specs.{declared.key.Key.{Key}, declared.read.Read.{Read}, Keys.{scratch}, Cached.{is_flagged}, Reuse.{AreStillRead, is_whole_value}}
+use Rattle.fb_jobs.specs.{Reads.{IsRight, PlainJob, Seen, read_texts}, Values.{all_seen}}
+use Rattle.fb_jobs.proofs.{Alike.{one_key}, ReuseLemmas.{reusable_value}}
 use Rattle.fb_jobs.proofs.job.Job.reusable.Goals as goal
 
 told : (b : Bool) → not b ≡ false → b ≡ true

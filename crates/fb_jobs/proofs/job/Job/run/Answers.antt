@@ -1,14 +1,9 @@
 -- The job is right in its reads, so the value from them is that of the key.
 use Rattle.std.proofs.Common.{ap, sym, subst, refl, ◌∙◌, All}
 use Rattle.fb_deploy.specs.Library.Texts.{sources_of}
-use Rattle.fb_jobs.specs.Keys.{scratch}
-use Rattle.fb_jobs.specs.Kinds.{needs_all}
-use Rattle.fb_jobs.specs.Work.{IsWork, IsFoundFor}
-use Rattle.fb_jobs.specs.Reads.{PlainJob, IsRight, read_texts}
-use Rattle.fb_jobs.specs.Finished.{plain_job}
+use Rattle.fb_jobs.specs.{Keys.{scratch}, Kinds.{needs_all}, Work.{IsWork, IsFoundFor}, Reads.{PlainJob, IsRight, read_texts}, Finished.{plain_job}}
 use Rattle.fb_jobs.specs.Values.{all_seen, IsOwn}
-use Rattle.fb_jobs.proofs.SameNeeds.{scratch_is}
-use Rattle.fb_jobs.proofs.WorkLemmas.{founds_for}
+use Rattle.fb_jobs.proofs.{SameNeeds.{scratch_is}, WorkLemmas.{founds_for}}
 use Rattle.fb_jobs.proofs.job.Job.run.Goals as goal
 
 pub of_reads-requires : goal.of_reads-requires

@@ -1,15 +1,8 @@
 -- The value that is left is that of the reads, and nothing is found on the way.
-use Rattle.std.proofs.Common.{◌≡◌, List, IfSome, Option, Bor, All, sym, ap, subst, ◌∙◌}
-use Rattle.std.proofs.lemmas.List.Elements.{All-nil}
-use Rattle.std.specs.declared.alloc.Global.{Global}
-use Rattle.std.specs.declared.sync.Arc.{Arc}
+use Rattle.std.proofs.{Common.{◌≡◌, List, IfSome, Option, Bor, All, sym, ap, subst, ◌∙◌}, lemmas.List.Elements.{All-nil}}
+use Rattle.std.specs.{declared.alloc.Global.{Global}, declared.sync.Arc.{Arc}}
 use Rattle.fb_deploy.specs.Library.Texts.{sources_of}
-use Rattle.fb_jobs.specs.declared.hints.Hint.{Hint}
-use Rattle.fb_jobs.specs.declared.value.Value.{Value}
-use Rattle.fb_jobs.specs.Keys.{scratch}
-use Rattle.fb_jobs.specs.Reads.{read_texts}
-use Rattle.fb_jobs.specs.Values.{finding_of}
-use Rattle.fb_jobs.specs.Work.{IsFoundIn}
+use Rattle.fb_jobs.specs.{declared.hints.Hint.{Hint}, declared.value.Value.{Value}, Keys.{scratch}, Reads.{read_texts}, Values.{finding_of}, Work.{IsFoundIn}}
 use Rattle.fb_jobs.proofs.SameNeeds.{scratch_is}
 use Rattle.fb_jobs.proofs.job.Job.worked.Goals as goal
 

@@ -1,8 +1,6 @@
 -- The reads are shared, and so is the value.
 use Rattle.std.proofs.Common.{sym, ap, subst, ◌∙◌}
-use Rattle.fb_jobs.specs.Keys.{scratch}
-use Rattle.fb_jobs.specs.Reads.{IsRight, Seen, read_texts}
-use Rattle.fb_jobs.specs.Values.{all_seen, finding_of}
+use Rattle.fb_jobs.specs.{Keys.{scratch}, Reads.{IsRight, Seen, read_texts}, Values.{all_seen, finding_of}}
 use Rattle.std.specs.Prelude.{List}
 use Rattle.fb_jobs.proofs.result.Finished.derivation.Goals as goal
 

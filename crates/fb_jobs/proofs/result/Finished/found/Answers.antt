@@ -1,8 +1,6 @@
 -- They are what the reads give.
 use Rattle.std.proofs.Common.{sym, subst, All}
-use Rattle.fb_jobs.specs.Reads.{PlainJob, read_texts}
-use Rattle.fb_jobs.specs.Values.{all_seen}
-use Rattle.fb_jobs.specs.Work.{IsFoundFor}
+use Rattle.fb_jobs.specs.{Reads.{PlainJob, read_texts}, Values.{all_seen}, Work.{IsFoundFor}}
 use Rattle.fb_jobs.proofs.result.Finished.found.Goals as goal
 
 pub returns : goal.returns

@@ -1,6 +1,5 @@
 -- The same was read where the texts are the same and the names without one.
-use Rattle.std.proofs.Common.{◌≡◌, map, sym, ap, ◌∙◌}
-use Rattle.std.proofs.lemmas.Bool.{false≢true}
+use Rattle.std.proofs.{Common.{◌≡◌, map, sym, ap, ◌∙◌}, lemmas.Bool.{false≢true}}
 use Rattle.fb_jobs.specs.Texts.{text_of, seen_in}
 use Rattle.fb_jobs.proofs.TextLemmas.{same_texts, same_names}
 use Rattle.fb_jobs.proofs.texts.TextReads.is_same.Goals as goal

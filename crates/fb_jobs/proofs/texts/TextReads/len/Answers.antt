@@ -1,6 +1,5 @@
 -- There is a place for each read.
-use Rattle.std.proofs.Common.{◌≡◌, length, map, arith, sym, ap, ◌∙◌}
-use Rattle.std.proofs.lemmas.List.{length-map}
+use Rattle.std.proofs.{Common.{◌≡◌, length, map, arith, sym, ap, ◌∙◌}, lemmas.List.{length-map}}
 use Rattle.fb_jobs.specs.Texts.{text_of}
 use Rattle.fb_jobs.proofs.TextLemmas.{seen_count}
 use Rattle.fb_jobs.proofs.texts.TextReads.len.Goals as goal

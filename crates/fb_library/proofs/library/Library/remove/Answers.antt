@@ -1,7 +1,6 @@
 -- The unit is gone from the table, and from the texts too.
 use Rattle.std.proofs.Common.{ap, ◌∙◌}
-use Rattle.std.specs.Map.{remove_entry}
-use Rattle.std.specs.BTreeMap.{is_at}
+use Rattle.std.specs.{Map.{remove_entry}, BTreeMap.{is_at}}
 use Rattle.fb_parse.specs.Text.Order.{name_cmp}
 use Rattle.fb_library.specs.Filed.{texts_of, AreOwn}
 use Rattle.fb_library.proofs.Units.{kept, shown, own_removed, texts_removed}

@@ -1,13 +1,9 @@
 -- What stands at the place is found under the name, and nothing is found where there is a gap.
 use Rattle.std.proofs.Common.{List, sym, ap, subst, ◌∙◌}
-use Rattle.std.specs.List.Sorted.{IsStrictlySortedBy}
-use Rattle.std.specs.Map.{lookup}
-use Rattle.std.specs.BTreeMap.{is_at}
+use Rattle.std.specs.{List.Sorted.{IsStrictlySortedBy}, Map.{lookup}, BTreeMap.{is_at}}
 use Rattle.fb_parse.specs.Text.Order.{name_cmp}
-use Rattle.fb_library.specs.Entries.{entries_of, names_in}
-use Rattle.fb_library.specs.declared.placed.Placed.{Placed}
-use Rattle.fb_library.proofs.EntryLemmas.{value_there}
-use Rattle.fb_library.proofs.Places.{lookup_apart, apart_in_gap}
+use Rattle.fb_library.specs.{Entries.{entries_of, names_in}, declared.placed.Placed.{Placed}}
+use Rattle.fb_library.proofs.{EntryLemmas.{value_there}, Places.{lookup_apart, apart_in_gap}}
 use Rattle.fb_library.proofs.placed.PlacesEntries.get.Goals as goal
 
 pub place-requires : goal.place-requires

@@ -1,11 +1,8 @@
 -- Half of the places are in order too, and both halves together are all.
-use Rattle.std.proofs.Common.{◌/◌, ◌++◌, List, length, take, ap, subst, sym, ◌∙◌}
+use Rattle.std.proofs.{Common.{◌/◌, ◌++◌, List, length, take, ap, subst, sym, ◌∙◌}, lemmas.List.{take_rest, take-map, drop-map, take-append-drop}}
 use Rattle.std.specs.List.Sorted.{IsStrictlySortedBy}
-use Rattle.std.proofs.lemmas.List.{take_rest, take-map, drop-map, take-append-drop}
 use Rattle.fb_parse.specs.Text.Order.{name_cmp}
-use Rattle.fb_library.specs.Entries.{entry_of, entries_of, names_in}
-use Rattle.fb_library.specs.Shelves.{names_of}
-use Rattle.fb_library.specs.declared.placed.Placed.{Placed}
+use Rattle.fb_library.specs.{Entries.{entry_of, entries_of, names_in}, Shelves.{names_of}, declared.placed.Placed.{Placed}}
 use Rattle.fb_library.proofs.Wider.{sorted_low, sorted_high}
 use Rattle.fb_library.proofs.placed.PlacesEntries.halves.Goals as goal
 

@@ -1,10 +1,7 @@
 -- The name of the place at the index.
-use Rattle.std.proofs.Common.{List, length, slice_get, refl, ap, sym, ◌∙◌}
+use Rattle.std.proofs.{Common.{List, length, slice_get, refl, ap, sym, ◌∙◌}, lemmas.Option.{slice_get_read, slice_get_past}}
 use Rattle.std.specs.Option.{option_map}
-use Rattle.std.proofs.lemmas.Option.{slice_get_read, slice_get_past}
-use Rattle.fb_library.specs.Entries.{names_in}
-use Rattle.fb_library.specs.Shelves.{names_of}
-use Rattle.fb_library.specs.declared.placed.Placed.{Placed}
+use Rattle.fb_library.specs.{Entries.{names_in}, Shelves.{names_of}, declared.placed.Placed.{Placed}}
 use Rattle.fb_library.proofs.EntryLemmas.{name_there}
 use Rattle.fb_library.proofs.placed.PlacesEntries.name_at.Goals as goal
 

@@ -2,8 +2,7 @@
 use Rattle.std.proofs.Common.{List, subst, sym}
 use Rattle.std.specs.List.Sorted.{IsStrictlySortedBy}
 use Rattle.fb_parse.specs.Text.Order.{name_cmp}
-use Rattle.fb_library.specs.Entries.{names_in}
-use Rattle.fb_library.specs.declared.placed.Placed.{Placed}
+use Rattle.fb_library.specs.{Entries.{names_in}, declared.placed.Placed.{Placed}}
 use Rattle.fb_library.proofs.Places.{none_sorted}
 use Rattle.fb_library.proofs.placed.PlacesEntries.new.Goals as goal
 

@@ -1,11 +1,8 @@
 -- A value that is put stands under its name, and is put in the entries too.
 use Rattle.std.proofs.Common.{List, ap, subst, sym, ◌∙◌}
-use Rattle.std.specs.List.Sorted.{IsStrictlySortedBy}
-use Rattle.std.specs.BTreeMap.{insert_entry}
+use Rattle.std.specs.{List.Sorted.{IsStrictlySortedBy}, BTreeMap.{insert_entry}}
 use Rattle.fb_parse.specs.Text.Order.{name_cmp}
-use Rattle.fb_library.specs.Place.{IsAt, IsGapFor}
-use Rattle.fb_library.specs.Entries.{entries_of, names_in}
-use Rattle.fb_library.specs.declared.placed.Placed.{Placed}
+use Rattle.fb_library.specs.{Place.{IsAt, IsGapFor}, Entries.{entries_of, names_in}, declared.placed.Placed.{Placed}}
 use Rattle.fb_library.proofs.EntryLemmas.{entries_set, entries_insert, sorted_set, sorted_insert}
 use Rattle.fb_library.proofs.placed.PlacesEntries.put.Goals as goal
 

@@ -1,14 +1,9 @@
 -- The name is gone from its place, and from the entries too.
 use Rattle.std.proofs.Common.{List, ap, subst, sym, ◌∙◌}
-use Rattle.std.specs.List.Sorted.{IsStrictlySortedBy}
-use Rattle.std.specs.Map.{remove_entry}
-use Rattle.std.specs.BTreeMap.{is_at}
+use Rattle.std.specs.{List.Sorted.{IsStrictlySortedBy}, Map.{remove_entry}, BTreeMap.{is_at}}
 use Rattle.fb_parse.specs.Text.Order.{name_cmp}
-use Rattle.fb_library.specs.Place.{IsAt, IsGapFor}
-use Rattle.fb_library.specs.Entries.{entries_of, names_in}
-use Rattle.fb_library.specs.declared.placed.Placed.{Placed}
-use Rattle.fb_library.proofs.EntryLemmas.{entries_remove, sorted_remove}
-use Rattle.fb_library.proofs.Places.{remove_apart, apart_in_gap}
+use Rattle.fb_library.specs.{Place.{IsAt, IsGapFor}, Entries.{entries_of, names_in}, declared.placed.Placed.{Placed}}
+use Rattle.fb_library.proofs.{EntryLemmas.{entries_remove, sorted_remove}, Places.{remove_apart, apart_in_gap}}
 use Rattle.fb_library.proofs.placed.PlacesEntries.remove.Goals as goal
 
 pub invariant_of-self : goal.invariant_of-self

@@ -1,11 +1,8 @@
 -- The name is found on its shelf, or nowhere.
 use Rattle.std.proofs.Common.{List, sym, ap, subst, ◌∙◌}
-use Rattle.std.specs.Map.{lookup}
-use Rattle.std.specs.BTreeMap.{is_at}
+use Rattle.std.specs.{Map.{lookup}, BTreeMap.{is_at}}
 use Rattle.fb_parse.specs.Text.Order.{name_cmp}
-use Rattle.fb_library.specs.Entries.{shelf_of, shelves_of, entries_on}
-use Rattle.fb_library.specs.Shelves.{AreShelves}
-use Rattle.fb_library.specs.declared.shelves.Shelf.{Shelf}
+use Rattle.fb_library.specs.{Entries.{shelf_of, shelves_of, entries_on}, Shelves.{AreShelves}, declared.shelves.Shelf.{Shelf}}
 use Rattle.fb_library.proofs.Tables.{found_on, none_on}
 use Rattle.fb_library.proofs.shelves.ShelvesEntries.get.Goals as goal
 

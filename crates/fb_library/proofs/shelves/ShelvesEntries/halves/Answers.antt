@@ -1,9 +1,6 @@
 -- A half of shelves in order is in order, and both together are all.
-use Rattle.std.proofs.Common.{◌/◌, ◌++◌, List, length, take, ap, subst, sym, ◌∙◌}
-use Rattle.std.proofs.lemmas.List.{take_rest, take-map, drop-map}
-use Rattle.fb_library.specs.Entries.{shelf_of, shelves_of, entries_on}
-use Rattle.fb_library.specs.Shelves.{all_on, AreShelves}
-use Rattle.fb_library.specs.declared.shelves.Shelf.{Shelf}
+use Rattle.std.proofs.{Common.{◌/◌, ◌++◌, List, length, take, ap, subst, sym, ◌∙◌}, lemmas.List.{take_rest, take-map, drop-map}}
+use Rattle.fb_library.specs.{Entries.{shelf_of, shelves_of, entries_on}, Shelves.{all_on, AreShelves}, declared.shelves.Shelf.{Shelf}}
 use Rattle.fb_library.proofs.Halves.{all_halves, lower_half, upper_half}
 use Rattle.fb_library.proofs.shelves.ShelvesEntries.halves.Goals as goal
 

@@ -1,7 +1,6 @@
 -- A name is on the shelf that the index reaches.
 use Rattle.std.proofs.Common.{◌≡◌, ℕ, ◌+◌, ◌-◌, List, length, drop, slice_get, ap, sym, ◌∙◌, arith}
-use Rattle.fb_library.specs.Entries.{shelf_of, entries_on}
-use Rattle.fb_library.specs.Shelves.{names_of}
+use Rattle.fb_library.specs.{Entries.{shelf_of, entries_on}, Shelves.{names_of}}
 use Rattle.fb_library.proofs.Tables.{name_first, name_later, entries_left}
 use Rattle.fb_library.proofs.shelves.ShelvesEntries.name_at.Goals as goal
 

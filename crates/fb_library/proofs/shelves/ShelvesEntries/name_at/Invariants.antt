@@ -1,6 +1,5 @@
 use Rattle.std.proofs.Common.{◌≡◌, drop, slice_get}
-use Rattle.fb_library.specs.Entries.{entries_on}
-use Rattle.fb_library.specs.Shelves.{names_of}
+use Rattle.fb_library.specs.{Entries.{entries_on}, Shelves.{names_of}}
 use Rattle.fb_library.proofs.shelves.ShelvesEntries.name_at.Given as goal
 
 -- what is left to go is on the shelves that are left

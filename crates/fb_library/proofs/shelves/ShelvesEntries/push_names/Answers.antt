@@ -1,9 +1,6 @@
 -- One shelf more has its names behind those before.
-use Rattle.std.proofs.Common.{List, ◌++◌, take, ap, sym, ◌∙◌, append_assoc}
-use Rattle.std.proofs.lemmas.List.{take_all}
-use Rattle.fb_library.specs.Entries.{shelf_of, entries_on}
-use Rattle.fb_library.specs.Shelves.{names_of}
-use Rattle.fb_library.specs.declared.shelves.Shelf.{Shelf}
+use Rattle.std.proofs.{Common.{List, ◌++◌, take, ap, sym, ◌∙◌, append_assoc}, lemmas.List.{take_all}}
+use Rattle.fb_library.specs.{Entries.{shelf_of, entries_on}, Shelves.{names_of}, declared.shelves.Shelf.{Shelf}}
 use Rattle.fb_library.proofs.Tables.{names_append, entries_more}
 use Rattle.fb_library.proofs.shelves.ShelvesEntries.push_names.Goals as goal
 

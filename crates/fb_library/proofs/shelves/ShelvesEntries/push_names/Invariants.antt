@@ -1,6 +1,5 @@
 use Rattle.std.proofs.Common.{◌≡◌, ◌++◌, take}
-use Rattle.fb_library.specs.Entries.{entries_on}
-use Rattle.fb_library.specs.Shelves.{names_of}
+use Rattle.fb_library.specs.{Entries.{entries_on}, Shelves.{names_of}}
 use Rattle.fb_library.proofs.shelves.ShelvesEntries.push_names.Given as goal
 
 abbrev pub invariant-loop-shelf : goal.invariant-loop-shelf

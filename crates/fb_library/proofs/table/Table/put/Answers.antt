@@ -1,10 +1,8 @@
 -- The names stay in order.
-use Rattle.std.specs.List.Sorted.{IsStrictlySortedBy}
-use Rattle.std.specs.BTreeMap.{insert_entry}
+use Rattle.std.specs.{List.Sorted.{IsStrictlySortedBy}, BTreeMap.{insert_entry}}
 use Rattle.fb_parse.specs.Text.Order.{name_cmp}
 use Rattle.fb_library.specs.Shelves.{names_of}
-use Rattle.fb_library.proofs.Places.{sorted_put}
-use Rattle.fb_library.proofs.Units.{kept}
+use Rattle.fb_library.proofs.{Places.{sorted_put}, Units.{kept}}
 use Rattle.fb_library.proofs.table.Table.put.Goals as goal
 
 pub invariant_of-self : goal.invariant_of-self

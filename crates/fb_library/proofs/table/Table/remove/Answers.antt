@@ -1,11 +1,8 @@
 -- The names stay in order.
-use Rattle.std.specs.List.Sorted.{IsStrictlySortedBy}
-use Rattle.std.specs.Map.{remove_entry}
-use Rattle.std.specs.BTreeMap.{is_at}
+use Rattle.std.specs.{List.Sorted.{IsStrictlySortedBy}, Map.{remove_entry}, BTreeMap.{is_at}}
 use Rattle.fb_parse.specs.Text.Order.{name_cmp}
 use Rattle.fb_library.specs.Shelves.{names_of}
-use Rattle.fb_library.proofs.Places.{sorted_removed}
-use Rattle.fb_library.proofs.Units.{kept}
+use Rattle.fb_library.proofs.{Places.{sorted_removed}, Units.{kept}}
 use Rattle.fb_library.proofs.table.Table.remove.Goals as goal
 
 pub invariant_of-self : goal.invariant_of-self

@@ -1,7 +1,5 @@
 use Rattle.std.proofs.Common.{◌≡◌, true, is_some, None, sym, ap, subst, ◌∙◌, arith}
-use Rattle.fb_bench.specs.History.Machine.{ToTake, next, reply}
-use Rattle.fb_bench.specs.Requests.{job_of}
-use Rattle.fb_bench.specs.History.BenchView.{BenchView, state_of}
+use Rattle.fb_bench.specs.{History.Machine.{ToTake, next, reply}, Requests.{job_of}, History.BenchView.{BenchView, state_of}}
 use Rattle.fb_locked.specs.Seats.{LockedView}
 use Rattle.fb_locked.proofs.Takes.{job_waits}
 use Rattle.fb_locked.proofs.locked.Locked.look.Goals as goal

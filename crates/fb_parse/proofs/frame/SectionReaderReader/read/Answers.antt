@@ -1,6 +1,5 @@
 use Rattle.fb_structured_text.proofs.Forms.Loops.{gives_shorter}
-use Rattle.fb_parse.specs.declared.frame.Frame.TheVariants.{Block, Adapter, Subapplication, Application}
-use Rattle.fb_parse.specs.Contents.{contents_tree}
+use Rattle.fb_parse.specs.{declared.frame.Frame.TheVariants.{Block, Adapter, Subapplication, Application}, Contents.{contents_tree}}
 use Rattle.fb_parse.specs.Grammar.{adapter_section, application_section, block_section, subapplication_section}
 use Rattle.fb_parse.proofs.Predictive.{section_filled}
 use Rattle.fb_parse.proofs.frame.SectionReaderReader.read.Goals as goal

@@ -1,6 +1,5 @@
 use Rattle.fb_structured_text.proofs.Forms.Loops.{gives_shorter}
-use Rattle.fb_parse.specs.Grammar.{system_section}
-use Rattle.fb_parse.specs.SystemContents.{system_contents_tree}
+use Rattle.fb_parse.specs.{Grammar.{system_section}, SystemContents.{system_contents_tree}}
 use Rattle.fb_parse.proofs.Predictive.{system_section_filled}
 use Rattle.fb_parse.proofs.system.SystemReaderReader.read.Goals as goal
 

@@ -1,8 +1,6 @@
 -- The parts of the path are those of the block, and a point behind them.
-use Rattle.std.proofs.Common.{◌≡◌, ◌++◌, ◌<◌, Bool, true, false, not, length, refl, sym, ◌∙◌, arith}
-use Rattle.std.proofs.lemmas.List.{take-append-drop}
-use Rattle.fb_placing.proofs.ApartLemmas.{inside_parts}
-use Rattle.fb_placing.proofs.TableLemmas.{same_text}
+use Rattle.std.proofs.{Common.{◌≡◌, ◌++◌, ◌<◌, Bool, true, false, not, length, refl, sym, ◌∙◌, arith}, lemmas.List.{take-append-drop}}
+use Rattle.fb_placing.proofs.{ApartLemmas.{inside_parts}, TableLemmas.{same_text}}
 use Rattle.fb_placing.proofs.homes.end_finder.stands_in.Goals as goal
 
 not_other : (b : Bool) → not b ≡ false → b ≡ true

@@ -1,8 +1,7 @@
 -- A point stands before each name but the first.
 use Rattle.std.proofs.Common.{◌≡◌, ℕ, List, [], ◌∷◌, ◌++◌, string_bytes, ◌∙◌, ap, append_assoc, arith}
-use Rattle.fb_placing.proofs.NameLemmas.{joined_first, joined_next}
+use Rattle.fb_placing.proofs.{NameLemmas.{joined_first, joined_next}, homes.mappings.joined.Goals.{then-i-gt0+in_ok-push, else-i-gt0}}
 use Rattle.fb_placing.proofs.homes.mappings.joined.Goals as goal
-use Rattle.fb_placing.proofs.homes.mappings.joined.Goals.{then-i-gt0+in_ok-push, else-i-gt0}
 
 pub loop-i-preserved : goal.loop-i-preserved
 loop-i-preserved c =

@@ -1,13 +1,8 @@
 -- Each mapping that is passed is added, if its path has none yet.
-use Rattle.std.proofs.Common.{◌≡◌, ℕ, List, cond, Some, None, string_bytes, ◌∙◌, ap, sym}
-use Rattle.std.specs.HashMap.{get_by_text}
-use Rattle.std.specs.Option.{option_or}
-use Rattle.std.specs.Str.{bytes_eq}
-use Rattle.std.proofs.lemmas.List.{take_all}
-use Rattle.fb_tree.specs.Tree.{mapping_tree}
-use Rattle.fb_tree.specs.declared.system.Mapping.{Mapping}
-use Rattle.fb_placing.specs.FirstEntry.{first_at}
-use Rattle.fb_placing.specs.Mappings.{mapping_home, mapping_path}
+use Rattle.std.proofs.{Common.{◌≡◌, ℕ, List, cond, Some, None, string_bytes, ◌∙◌, ap, sym}, lemmas.List.{take_all}}
+use Rattle.std.specs.{HashMap.{get_by_text}, Option.{option_or}, Str.{bytes_eq}}
+use Rattle.fb_tree.specs.{Tree.{mapping_tree}, declared.system.Mapping.{Mapping}}
+use Rattle.fb_placing.specs.{FirstEntry.{first_at}, Mappings.{mapping_home, mapping_path}}
 use Rattle.fb_placing.proofs.FirstEntryLemmas.{first_at-map, table_step}
 use Rattle.fb_placing.proofs.homes.mappings.mapping_table.Goals as goal
 

@@ -2,8 +2,7 @@
 use Rattle.std.proofs.Common.{◌≡◌, ℕ, List, take}
 use Rattle.std.specs.HashMap.{get_by_text}
 use Rattle.fb_tree.specs.Tree.{mapping_tree}
-use Rattle.fb_placing.specs.FirstEntry.{first_at}
-use Rattle.fb_placing.specs.Mappings.{mapping_home, mapping_path}
+use Rattle.fb_placing.specs.{FirstEntry.{first_at}, Mappings.{mapping_home, mapping_path}}
 use Rattle.fb_placing.proofs.homes.mappings.mapping_table.Given as goal
 
 abbrev pub invariant-loop-mapping : goal.invariant-loop-mapping

@@ -1,6 +1,5 @@
 -- Two strictly sorted lists with the same members are one.
-use Rattle.std.specs.Cmp.Lexicographic.{nat_list_cmp_total}
-use Rattle.std.specs.FinMap.{slice_cmp-IsAntisymmetric, nat_cmp-IsAntisymmetric}
+use Rattle.std.specs.{Cmp.Lexicographic.{nat_list_cmp_total}, FinMap.{slice_cmp-IsAntisymmetric, nat_cmp-IsAntisymmetric}}
 use Rattle.fb_tree.specs.Text.Order.{name_cmp}
 use Rattle.fb_tree.proofs.Text.OrderLemmas.{in_order-members, in_order-sorted}
 use Rattle.fb_network.proofs.SameSorted.{same_sorted}

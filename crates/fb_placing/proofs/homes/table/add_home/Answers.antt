@@ -1,12 +1,7 @@
 -- A path that stands for something keeps it, and another one is added.
-use Rattle.std.proofs.Common.{◌≡◌, false, ℕ, List, is_some, sym, ◌∙◌, ap}
-use Rattle.std.specs.Prelude.{option_map}
-use Rattle.std.specs.Borrow.{Bor}
-use Rattle.std.specs.HashMap.{get_by}
-use Rattle.std.specs.Str.{bytes_eq}
-use Rattle.std.proofs.lemmas.Map.Text.{hash_map_updates_str}
-use Rattle.fb_placing.proofs.InstanceLemmas.{form_added}
-use Rattle.fb_placing.proofs.TableLemmas.{added_first}
+use Rattle.std.proofs.{Common.{◌≡◌, false, ℕ, List, is_some, sym, ◌∙◌, ap}, lemmas.Map.Text.{hash_map_updates_str}}
+use Rattle.std.specs.{Prelude.{option_map}, Borrow.{Bor}, HashMap.{get_by}, Str.{bytes_eq}}
+use Rattle.fb_placing.proofs.{InstanceLemmas.{form_added}, TableLemmas.{added_first}}
 use Rattle.fb_placing.proofs.homes.table.add_home.Goals as goal
 
 pub returns-in_ok-insert : goal.returns-in_ok-insert

@@ -1,16 +1,13 @@
 -- One home more is clear.
-use Rattle.std.proofs.Common.{◌≡◌, ℕ, List, None, Bool, true, false, not, refl, sym, ◌∙◌, ap, subst, rules}
+use Rattle.std.proofs.{Common.{◌≡◌, ℕ, List, None, Bool, true, false, not, refl, sym, ◌∙◌, ap, subst, rules}, lemmas.List.{take_all}}
 use denote.Shadow.{shadow}
 use denote.Text.{Utf8}
 use Rattle.std.specs.Borrow.{Bor}
-use Rattle.std.proofs.lemmas.List.{take_all}
 use Rattle.fb_network.specs.Prefixes.{nearest}
-use Rattle.fb_placing.specs.Points.{HasNoPoint}
-use Rattle.fb_placing.specs.HomeTable.{home_by_path}
-use Rattle.fb_placing.proofs.ApartLemmas.{AreClear, all_clear, clear_name, clear_parted, one_clear}
-use Rattle.fb_placing.proofs.TableLemmas.{same_text}
-use Rattle.fb_placing.proofs.homes.table.are_apart.Goals as goal
+use Rattle.fb_placing.specs.{Points.{HasNoPoint}, HomeTable.{home_by_path}}
+use Rattle.fb_placing.proofs.{ApartLemmas.{AreClear, all_clear, clear_name, clear_parted, one_clear}, TableLemmas.{same_text}}
 use Rattle.fb_placing.proofs.homes.table.are_apart.Goals.{in-Some+then-ne+else-is_some-2, in-Some+else-ne, in_default}
+use Rattle.fb_placing.proofs.homes.table.are_apart.Goals as goal
 
 not_other : (b : Bool) → not b ≡ false → b ≡ true
 not_other true e = refl

@@ -1,9 +1,7 @@
 -- Each home that is passed is added, if its path has none yet.
 use Rattle.std.proofs.Common.{cond, Some, None, ◌∙◌}
-use Rattle.std.specs.Option.{option_or}
-use Rattle.std.specs.Str.{bytes_eq}
-use Rattle.fb_placing.specs.HomeTable.{home_by_path}
-use Rattle.fb_placing.specs.declared.homes.Home.{Home}
+use Rattle.std.specs.{Option.{option_or}, Str.{bytes_eq}}
+use Rattle.fb_placing.specs.{HomeTable.{home_by_path}, declared.homes.Home.{Home}}
 use Rattle.fb_placing.proofs.FirstEntryLemmas.{table_step}
 use Rattle.fb_placing.proofs.homes.table.homes_by_path.Goals as goal
 

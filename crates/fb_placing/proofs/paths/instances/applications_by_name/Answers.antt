@@ -1,18 +1,10 @@
 -- Each application that is passed is added, if its name has none yet.
-use Rattle.std.proofs.Common.{◌≡◌, ℕ, List, Option, cond, Some, None, string_bytes, ◌∙◌, ap, sym, map}
-use Rattle.std.specs.HashMap.{get_by_text}
-use Rattle.std.specs.Option.{option_or}
-use Rattle.std.specs.Prelude.{option_map}
-use Rattle.std.specs.Str.{bytes_eq}
-use Rattle.std.proofs.lemmas.List.{take_all}
-use Rattle.fb_tree.specs.Tree.{ApplicationTree, InstanceTree, application_tree, instance_tree}
-use Rattle.fb_tree.specs.declared.system.Application.{Application}
+use Rattle.std.proofs.{Common.{◌≡◌, ℕ, List, Option, cond, Some, None, string_bytes, ◌∙◌, ap, sym, map}, lemmas.List.{take_all}}
+use Rattle.std.specs.{HashMap.{get_by_text}, Option.{option_or}, Prelude.{option_map}, Str.{bytes_eq}}
+use Rattle.fb_tree.specs.{Tree.{ApplicationTree, InstanceTree, application_tree, instance_tree}, declared.system.Application.{Application}}
 use Rattle.fb_tree.specs.declared.network.Instance.{Instance}
-use Rattle.fb_placing.specs.FirstEntry.{first_at}
-use Rattle.fb_placing.specs.Resolved.{instance_called}
-use Rattle.fb_placing.specs.Tables.{instance_at}
-use Rattle.fb_placing.proofs.FirstEntryLemmas.{first_at-map, table_step}
-use Rattle.fb_placing.proofs.InstanceLemmas.{called_in, form_added}
+use Rattle.fb_placing.specs.{FirstEntry.{first_at}, Resolved.{instance_called}, Tables.{instance_at}}
+use Rattle.fb_placing.proofs.{FirstEntryLemmas.{first_at-map, table_step}, InstanceLemmas.{called_in, form_added}}
 use Rattle.fb_placing.proofs.paths.instances.applications_by_name.Goals as goal
 
 abbrev name : Application → List ℕ

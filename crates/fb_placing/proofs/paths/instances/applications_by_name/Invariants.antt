@@ -1,9 +1,7 @@
 -- The table has the applications passed so far.
 use Rattle.std.proofs.Common.{◌≡◌, ℕ, List, take}
-use Rattle.std.specs.Prelude.{option_map}
-use Rattle.std.specs.HashMap.{get_by_text}
-use Rattle.fb_placing.specs.FirstEntry.{first_at}
-use Rattle.fb_placing.specs.Tables.{instance_at}
+use Rattle.std.specs.{Prelude.{option_map}, HashMap.{get_by_text}}
+use Rattle.fb_placing.specs.{FirstEntry.{first_at}, Tables.{instance_at}}
 use Rattle.fb_placing.proofs.InstanceLemmas.{called_in}
 use Rattle.fb_placing.proofs.paths.instances.applications_by_name.Given as goal
 

@@ -1,17 +1,9 @@
 -- Each instance that is passed is added, if its name has none yet.
-use Rattle.std.proofs.Common.{◌≡◌, ℕ, List, cond, Some, None, string_bytes, ◌∙◌, ap, sym}
-use Rattle.std.specs.HashMap.{get_by_text}
-use Rattle.std.specs.Option.{option_or}
-use Rattle.std.specs.Prelude.{option_map}
-use Rattle.std.specs.Borrow.{Bor}
-use Rattle.std.specs.Str.{bytes_eq}
-use Rattle.std.proofs.lemmas.List.{take_all}
-use Rattle.fb_tree.specs.Tree.{InstanceTree, instance_tree}
-use Rattle.fb_tree.specs.declared.network.Instance.{Instance}
-use Rattle.fb_placing.specs.FirstEntry.{first_at}
-use Rattle.fb_placing.specs.Tables.{instance_at}
-use Rattle.fb_placing.proofs.FirstEntryLemmas.{first_at-map, table_step}
-use Rattle.fb_placing.proofs.InstanceLemmas.{form_added}
+use Rattle.std.proofs.{Common.{◌≡◌, ℕ, List, cond, Some, None, string_bytes, ◌∙◌, ap, sym}, lemmas.List.{take_all}}
+use Rattle.std.specs.{HashMap.{get_by_text}, Option.{option_or}, Prelude.{option_map}, Borrow.{Bor}, Str.{bytes_eq}}
+use Rattle.fb_tree.specs.{Tree.{InstanceTree, instance_tree}, declared.network.Instance.{Instance}}
+use Rattle.fb_placing.specs.{FirstEntry.{first_at}, Tables.{instance_at}}
+use Rattle.fb_placing.proofs.{FirstEntryLemmas.{first_at-map, table_step}, InstanceLemmas.{form_added}}
 use Rattle.fb_placing.proofs.paths.instances.instances_by_name.Goals as goal
 
 abbrev name : Instance → List ℕ

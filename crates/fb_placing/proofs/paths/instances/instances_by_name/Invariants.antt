@@ -1,8 +1,7 @@
 -- The table has the instances passed so far.
 use Rattle.std.proofs.Common.{◌≡◌, ℕ, List, take}
 use Rattle.fb_tree.specs.Tree.{instance_tree}
-use Rattle.fb_placing.specs.FirstEntry.{first_at}
-use Rattle.fb_placing.specs.Tables.{instance_at}
+use Rattle.fb_placing.specs.{FirstEntry.{first_at}, Tables.{instance_at}}
 use Rattle.fb_placing.proofs.paths.instances.instances_by_name.Given as goal
 
 abbrev pub invariant-loop-instance : goal.invariant-loop-instance

@@ -1,13 +1,12 @@
 -- Each point ends a name, and the last name ends with the path.
 use Rattle.std.proofs.Common.{◌≡◌, ℕ, ◌<◌, ◌≤◌, ◌+◌, ◌-◌, List, [], ◌∷◌, ◌++◌, map, drop, take, get_or, length, sym, ◌∙◌, ap, subst, arith, append-nil}
-use Rattle.std.specs.Borrow.{Bor}
-use Rattle.std.specs.Str.{IsCharBoundary, IsUtf8}
 use Rattle.std.proofs.lemmas.Str.{IsCharBoundary-start, IsCharBoundary-after_ascii}
+use Rattle.std.specs.{Borrow.{Bor}, Str.{IsCharBoundary, IsUtf8}}
 use native.Mathlib.Decide.{dec_lt}
 use Rattle.fb_placing.specs.Resolved.{path_names}
 use Rattle.fb_placing.proofs.PathNameLemmas.{NoPoint, name_cut, name_last, names_more}
-use Rattle.fb_placing.proofs.paths.names.path_names.Goals as goal
 use Rattle.fb_placing.proofs.paths.names.path_names.Goals.{then-as_bytes-i-eq46+in_ok-push, else-as_bytes-i-eq46}
+use Rattle.fb_placing.proofs.paths.names.path_names.Goals as goal
 
 -- what holds behind the bytes before a place, where the last name begins at another
 record Passed (path : List ℕ) (items : List (Bor (List ℕ))) (start i : ℕ) : Type 0 where

@@ -1,6 +1,5 @@
 -- Behind a point begins a character.
-use Rattle.std.proofs.Common.{◌≡◌, ℕ, List, ◌-◌, get_or, sym, ◌∙◌, ap, arith}
-use Rattle.std.proofs.lemmas.Str.{IsCharBoundary-after_ascii}
+use Rattle.std.proofs.{Common.{◌≡◌, ℕ, List, ◌-◌, get_or, sym, ◌∙◌, ap, arith}, lemmas.Str.{IsCharBoundary-after_ascii}}
 use Rattle.fb_placing.proofs.paths.split.split_last.Goals as goal
 
 pub range_from-requires : goal.range_from-requires

@@ -1,9 +1,7 @@
 -- The commands of the blocks passed so far.
 use Rattle.std.proofs.Common.{ℕ, ◌≡◌, ◌++◌, List, map, take}
 use Rattle.fb_network.specs.PlainFlat.{PlainFlat}
-use Rattle.fb_placing.specs.Created.{created_command}
-use Rattle.fb_placing.specs.CommandIndexes.{plain_command}
-use Rattle.fb_placing.specs.SystemCommands.{without_place}
+use Rattle.fb_placing.specs.{Created.{created_command}, CommandIndexes.{plain_command}, SystemCommands.{without_place}}
 use Rattle.fb_placing.proofs.plan.assigned_commands.push_created.Given as goal
 
 abbrev pub invariant-loop-it : goal.invariant-loop-it

@@ -1,11 +1,7 @@
 -- The blocks are those that have homes, in order.
-use Rattle.std.proofs.Common.{List, ◌++◌, map, ap, ◌∙◌}
-use Rattle.fb_placing.specs.Created.{created_command}
-use Rattle.fb_placing.specs.CommandIndexes.{plain_command}
-use Rattle.fb_placing.specs.SystemCommands.{without_place}
-use Rattle.fb_placing.specs.declared.plan.create_commands.Created.{Created}
-use Rattle.fb_placing.specs.declared.plan.write_commands.PlacedCommand.{PlacedCommand}
-use Rattle.std.proofs.lemmas.Result.{on_ok_weaker}
+use Rattle.std.proofs.{Common.{List, ◌++◌, map, ap, ◌∙◌}, lemmas.Result.{on_ok_weaker}}
+use Rattle.fb_placing.specs.{Created.{created_command}, CommandIndexes.{plain_command}, SystemCommands.{without_place}}
+use Rattle.fb_placing.specs.{declared.plan.create_commands.Created.{Created}, declared.plan.write_commands.PlacedCommand.{PlacedCommand}}
 use Rattle.fb_placing.proofs.plan.assigned_commands.push_creates.Goals as goal
 
 pub returns : goal.returns

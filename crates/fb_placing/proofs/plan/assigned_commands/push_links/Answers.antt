@@ -1,14 +1,9 @@
 -- One link further.
-use Rattle.std.proofs.Common.{◌<◌, [], ◌∷◌, ◌++◌, length, map, ap, ◌∙◌, arith}
-use Rattle.fb_placing.specs.HomeTable.{home_by_path}
-use Rattle.std.proofs.lemmas.List.Elements.{filter-append, filter_map-append}
+use Rattle.std.proofs.{Common.{◌<◌, [], ◌∷◌, ◌++◌, length, map, ap, ◌∙◌, arith}, lemmas.List.Elements.{filter-append, filter_map-append}}
+use Rattle.fb_placing.specs.{HomeTable.{home_by_path}, Cuts.{cuts_of, is_cut}, CommandIndexes.{plain_command}}
+use Rattle.fb_placing.specs.{SystemCommands.{connection_command, connection_commands}, declared.homes.table.HomeTable.{HomeTable}}
 use Rattle.fb_network.specs.Numbered.{link_numbered}
-use Rattle.fb_placing.specs.Cuts.{cuts_of, is_cut}
-use Rattle.fb_placing.specs.CommandIndexes.{plain_command}
-use Rattle.fb_placing.specs.SystemCommands.{connection_command, connection_commands}
-use Rattle.fb_placing.proofs.CreateLemmas.{link_there}
-use Rattle.fb_placing.proofs.StepLemmas.{step_added}
-use Rattle.fb_placing.specs.declared.homes.table.HomeTable.{HomeTable}
+use Rattle.fb_placing.proofs.{CreateLemmas.{link_there}, StepLemmas.{step_added}}
 use Rattle.fb_placing.proofs.plan.assigned_commands.push_links.Goals as goal
 
 pub loop-link-preserved : goal.loop-link-preserved

@@ -1,10 +1,7 @@
 -- The links passed so far are cut, or have their commands.
 use Rattle.std.proofs.Common.{ℕ, ◌≡◌, ◌++◌, List, map, take}
-use Rattle.fb_placing.specs.HomeTable.{home_by_path}
+use Rattle.fb_placing.specs.{HomeTable.{home_by_path}, Cuts.{cuts_of}, CommandIndexes.{plain_command}, SystemCommands.{connection_commands}}
 use Rattle.fb_network.specs.Numbered.{link_numbered}
-use Rattle.fb_placing.specs.Cuts.{cuts_of}
-use Rattle.fb_placing.specs.CommandIndexes.{plain_command}
-use Rattle.fb_placing.specs.SystemCommands.{connection_commands}
 use Rattle.fb_placing.proofs.plan.assigned_commands.push_links.Given as goal
 
 abbrev pub invariant-loop-link : goal.invariant-loop-link

@@ -1,8 +1,7 @@
 -- The commands of the resources passed so far.
 use Rattle.std.proofs.Common.{ℕ, ◌≡◌, ◌++◌, List, map, take}
 use Rattle.fb_network.specs.PlainFlat.{PlainFlat}
-use Rattle.fb_placing.specs.CommandIndexes.{plain_command}
-use Rattle.fb_placing.specs.SystemCommands.{start_command}
+use Rattle.fb_placing.specs.{CommandIndexes.{plain_command}, SystemCommands.{start_command}}
 use Rattle.fb_placing.proofs.plan.assigned_commands.push_starts.Given as goal
 
 abbrev pub invariant-loop-resource : goal.invariant-loop-resource

@@ -1,14 +1,10 @@
 -- One line further.
-use Rattle.std.proofs.Common.{ℕ, ◌≡◌, ◌++◌, ◌∷◌, List, [], map, take, sym, ap, ◌∙◌, append_assoc}
+use Rattle.std.proofs.{Common.{ℕ, ◌≡◌, ◌++◌, ◌∷◌, List, [], map, take, sym, ap, ◌∙◌, append_assoc}, lemmas.List.{take_all}}
 use Rattle.std.specs.Prelude.{slice_get}
-use Rattle.std.proofs.lemmas.List.{take_all}
 use Rattle.fb_network.specs.Laid.{text_or_nothing}
-use Rattle.fb_placing.specs.CommandIndexes.{plain_command}
-use Rattle.fb_placing.specs.ResourceCommand.{ResourceCommand}
-use Rattle.fb_placing.specs.SystemCommands.{without_place}
+use Rattle.fb_placing.specs.{CommandIndexes.{plain_command}, ResourceCommand.{ResourceCommand}, SystemCommands.{without_place}}
 use Rattle.fb_placing.specs.declared.plan.write_commands.PlacedCommand.{PlacedCommand}
-use Rattle.fb_placing.proofs.IndexLemmas.{write_there}
-use Rattle.fb_placing.proofs.ListLemmas.{map-push, one_more}
+use Rattle.fb_placing.proofs.{IndexLemmas.{write_there}, ListLemmas.{map-push, one_more}}
 use Rattle.fb_placing.proofs.plan.assigned_commands.push_writes.Goals as goal
 
 pub loop-i-preserved : goal.loop-i-preserved

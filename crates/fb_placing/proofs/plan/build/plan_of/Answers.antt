@@ -1,15 +1,10 @@
 -- The commands are those of the homes, and what they are about is the flat network that is shared.
 use Rattle.std.proofs.Common.{◌≡◌, ◌++◌, map, sym, ap, ◌∙◌}
-use Rattle.fb_placing.specs.HomeTable.{home_by_path}
-use Rattle.fb_library.specs.View.{tree_at}
-use Rattle.fb_placing.specs.Cuts.{home_at}
-use Rattle.fb_placing.specs.CommandIndexes.{plain_resource}
-use Rattle.fb_placing.specs.PlacedCommands.{create_commands, write_commands}
-use Rattle.fb_placing.specs.SystemCommands.{connection_commands, without_place, start_command}
-use Rattle.fb_placing.specs.PlainPlan.{PlainPlan}
-use Rattle.fb_placing.specs.Resources.{resource_plans, resources_of}
-use Rattle.fb_placing.specs.Systems.{applications_in, devices_in}
+use Rattle.fb_placing.specs.{HomeTable.{home_by_path}, Cuts.{home_at}, CommandIndexes.{plain_resource}, PlacedCommands.{create_commands, write_commands}}
+use Rattle.fb_placing.specs.{SystemCommands.{connection_commands, without_place, start_command}, PlainPlan.{PlainPlan}}
+use Rattle.fb_placing.specs.{Resources.{resource_plans, resources_of}, Systems.{applications_in, devices_in}}
 use Rattle.fb_placing.specs.declared.plan.write_commands.PlacedCommand.{PlacedCommand}
+use Rattle.fb_library.specs.View.{tree_at}
 use Rattle.fb_placing.proofs.plan.build.plan_of.Goals as goal
 
 pub returns-clause-resources : goal.returns-clause-resources

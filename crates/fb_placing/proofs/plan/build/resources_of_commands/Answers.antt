@@ -1,7 +1,6 @@
 -- One resource further.
 use Rattle.std.proofs.Common.{◌++◌, ◌∷◌, [], map, take, sym, ap, ◌∙◌}
-use Rattle.fb_placing.specs.CommandIndexes.{plain_command, plain_resource}
-use Rattle.fb_placing.specs.Resources.{resource_plan, resource_plans}
+use Rattle.fb_placing.specs.{CommandIndexes.{plain_command, plain_resource}, Resources.{resource_plan, resource_plans}}
 use Rattle.fb_placing.proofs.ListLemmas.{map-push, one_more}
 use Rattle.fb_placing.proofs.plan.build.resources_of_commands.Goals as goal
 

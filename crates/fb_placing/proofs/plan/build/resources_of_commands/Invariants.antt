@@ -1,8 +1,7 @@
 -- The resources passed so far.
 use Rattle.std.proofs.Common.{ℕ, ◌≡◌, List, map, take}
 use Rattle.fb_network.specs.PlainFlat.{PlainFlat}
-use Rattle.fb_placing.specs.CommandIndexes.{plain_command, plain_resource}
-use Rattle.fb_placing.specs.Resources.{resource_plans}
+use Rattle.fb_placing.specs.{CommandIndexes.{plain_command, plain_resource}, Resources.{resource_plans}}
 use Rattle.fb_placing.proofs.plan.build.resources_of_commands.Given as goal
 
 abbrev pub invariant-loop-name : goal.invariant-loop-name

@@ -1,8 +1,6 @@
 -- The four kinds of commands, one behind the other.
 use Rattle.std.proofs.Common.{map, ap}
-use Rattle.fb_placing.specs.HomeTable.{home_by_path}
-use Rattle.fb_placing.specs.CommandIndexes.{plain_command}
-use Rattle.fb_placing.specs.PlacedCommands.{create_commands}
+use Rattle.fb_placing.specs.{HomeTable.{home_by_path}, CommandIndexes.{plain_command}, PlacedCommands.{create_commands}}
 use Rattle.fb_placing.specs.SystemCommands.{connection_commands, without_place, start_command}
 use Rattle.fb_placing.proofs.IndexLemmas.{four_behind}
 use Rattle.fb_placing.proofs.plan.build.system_commands.Goals as goal

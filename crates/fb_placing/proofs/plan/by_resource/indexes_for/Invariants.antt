@@ -1,7 +1,6 @@
 -- The commands passed so far that are for the resource.
 use Rattle.std.proofs.Common.{◌≡◌, map, take}
-use Rattle.std.specs.Prelude.{filter}
-use Rattle.std.specs.Str.{bytes_eq}
+use Rattle.std.specs.{Prelude.{filter}, Str.{bytes_eq}}
 use Rattle.fb_placing.proofs.plan.by_resource.indexes_for.Given as goal
 
 abbrev pub invariant-loop-command : goal.invariant-loop-command

@@ -1,9 +1,6 @@
 -- The list at the first place of the name.
-use Rattle.std.proofs.Common.{◌≡◌, Some, length, refl, sym, ◌∙◌, ap}
+use Rattle.std.proofs.{Common.{◌≡◌, Some, length, refl, sym, ◌∙◌, ap}, lemmas.Bool.{ltb-true}, lemmas.Option.{slice_get_read}, lemmas.Result.{IfOk-weaker}}
 use Rattle.std.specs.Prelude.{option_map, slice_get}
-use Rattle.std.proofs.lemmas.Bool.{ltb-true}
-use Rattle.std.proofs.lemmas.Option.{slice_get_read}
-use Rattle.std.proofs.lemmas.Result.{IfOk-weaker}
 use Rattle.fb_placing.specs.ByResource.{indexes_of}
 use Rattle.fb_placing.proofs.plan.by_resource.indexes_from.Goals as goal
 

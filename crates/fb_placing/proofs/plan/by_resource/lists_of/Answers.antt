@@ -1,12 +1,9 @@
 -- One command further.
-use Rattle.std.proofs.Common.{◌≡◌, ◌+◌, ◌++◌, ◌∷◌, [], Vec, Global, length, take, sym, ◌∙◌, ap, subst}
-use Rattle.std.proofs.lemmas.List.{take_all, with_items_is}
-use Rattle.fb_placing.specs.ByResource.{AreListed, IsFirst, indexes_at, indexes_more}
-use Rattle.fb_placing.specs.declared.plan.command_index.CommandIndex.{CommandIndex}
-use Rattle.fb_placing.proofs.ListLemmas.{one_more}
-use Rattle.fb_placing.proofs.ListedLemmas.{found_first, listed_more, listed_same}
-use Rattle.fb_placing.proofs.plan.by_resource.lists_of.Goals as goal
+use Rattle.std.proofs.{Common.{◌≡◌, ◌+◌, ◌++◌, ◌∷◌, [], Vec, Global, length, take, sym, ◌∙◌, ap, subst}, lemmas.List.{take_all, with_items_is}}
+use Rattle.fb_placing.specs.{ByResource.{AreListed, IsFirst, indexes_at, indexes_more}, declared.plan.command_index.CommandIndex.{CommandIndex}}
+use Rattle.fb_placing.proofs.{ListLemmas.{one_more}, ListedLemmas.{found_first, listed_more, listed_same}}
 use Rattle.fb_placing.proofs.plan.by_resource.lists_of.Goals.{in-Some+in_ok-push_index, in_default}
+use Rattle.fb_placing.proofs.plan.by_resource.lists_of.Goals as goal
 
 pub loop-command-preserved : goal.loop-command-preserved
 loop-command-preserved c =

@@ -1,8 +1,6 @@
 -- The name stands where one was found before.
-use Rattle.std.proofs.Common.{◌≡◌, length, refl, sym, ◌∙◌, ap, Some, List, ℕ}
+use Rattle.std.proofs.{Common.{◌≡◌, length, refl, sym, ◌∙◌, ap, Some, List, ℕ}, lemmas.Bool.{ltb-true}, lemmas.Option.{slice_get_read}}
 use Rattle.std.specs.Prelude.{slice_get}
-use Rattle.std.proofs.lemmas.Bool.{ltb-true}
-use Rattle.std.proofs.lemmas.Option.{slice_get_read}
 use Rattle.fb_placing.proofs.TableLemmas.{same_text}
 use Rattle.fb_placing.proofs.plan.by_resource.place_near.Goals as goal
 

@@ -1,9 +1,7 @@
 -- Place by place.
-use Rattle.std.proofs.Common.{◌≡◌, length, refl, sym, ◌∙◌, ap, Some, List, ℕ, arith}
+use Rattle.std.proofs.{Common.{◌≡◌, length, refl, sym, ◌∙◌, ap, Some, List, ℕ, arith}, lemmas.Option.{slice_get_read, slice_get_within}}
 use Rattle.std.specs.Str.{bytes_eq}
-use Rattle.std.proofs.lemmas.Option.{slice_get_read, slice_get_within}
-use Rattle.fb_placing.proofs.ListedLemmas.{passed_place}
-use Rattle.fb_placing.proofs.TableLemmas.{same_text}
+use Rattle.fb_placing.proofs.{ListedLemmas.{passed_place}, TableLemmas.{same_text}}
 use Rattle.fb_placing.proofs.plan.by_resource.place_of.Goals as goal
 
 pub returns-then-eq-clause-found : goal.returns-then-eq-clause-found

@@ -1,7 +1,6 @@
 -- One resource further.
 use Rattle.std.proofs.Common.{◌≡◌, ◌++◌, ◌∷◌, [], map, take, sym, ap, ◌∙◌}
-use Rattle.fb_placing.specs.CommandIndexes.{plain_resource}
-use Rattle.fb_placing.specs.PlainResource.{PlainResource}
+use Rattle.fb_placing.specs.{CommandIndexes.{plain_resource}, PlainResource.{PlainResource}}
 use Rattle.fb_placing.proofs.ListLemmas.{map-push, one_more}
 use Rattle.fb_placing.proofs.plan.command_index.plain_resources.Goals as goal
 

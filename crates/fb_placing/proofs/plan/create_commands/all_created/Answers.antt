@@ -1,13 +1,9 @@
 -- One block further.
-use Rattle.std.proofs.Common.{◌<◌, length, map, refl, ap, ◌∙◌, arith}
-use Rattle.fb_placing.specs.HomeTable.{home_by_path}
+use Rattle.std.proofs.{Common.{◌<◌, length, map, refl, ap, ◌∙◌, arith}, lemmas.List.{take_all}}
+use Rattle.fb_placing.specs.{HomeTable.{home_by_path}, Created.{created_command}, PlacedCommands.{create_command}}
 use Rattle.std.specs.List.{filter_map}
-use Rattle.std.proofs.lemmas.List.{take_all}
 use Rattle.fb_network.specs.Numbered.{block_numbered}
-use Rattle.fb_placing.specs.Created.{created_command}
-use Rattle.fb_placing.specs.PlacedCommands.{create_command}
-use Rattle.fb_placing.proofs.CreateLemmas.{block_there}
-use Rattle.fb_placing.proofs.ListLemmas.{filter_map_step}
+use Rattle.fb_placing.proofs.{CreateLemmas.{block_there}, ListLemmas.{filter_map_step}}
 use Rattle.fb_placing.proofs.plan.create_commands.all_created.Goals as goal
 
 pub loop-block-preserved : goal.loop-block-preserved

@@ -1,8 +1,7 @@
 -- What is left of the blocks are the commands in order.
 use Rattle.std.proofs.Common.{◌∙◌, ap}
 use Rattle.fb_tree.specs.Text.Order.{in_order}
-use Rattle.fb_placing.specs.Created.{created_command}
-use Rattle.fb_placing.specs.PlacedCommands.{command_cmp}
+use Rattle.fb_placing.specs.{Created.{created_command}, PlacedCommands.{command_cmp}}
 use Rattle.fb_placing.proofs.CreateLemmas.{commands_in_order}
 use Rattle.fb_placing.proofs.plan.create_commands.created_in_order.Goals as goal
 

@@ -1,11 +1,8 @@
 -- The closures compare what the blocks say.
-use Rattle.std.proofs.Common.{◌≡◌, rules}
+use Rattle.std.proofs.{Common.{◌≡◌, rules}, lemmas.Fn.{always_returns_same, dedup_same}, lemmas.List.Sorted.{ranks_by}}
 use Rattle.std.specs.Ordering.{eq_by_cmp, is_lt}
-use Rattle.std.proofs.lemmas.Fn.{always_returns_same, dedup_same}
-use Rattle.std.proofs.lemmas.List.Sorted.{ranks_by}
 use Rattle.fb_network.proofs.SortedOnce.{sorted_once}
-use Rattle.fb_placing.specs.Created.{created_command}
-use Rattle.fb_placing.specs.PlacedCommands.{command_cmp, command_cmp_total}
+use Rattle.fb_placing.specs.{Created.{created_command}, PlacedCommands.{command_cmp, command_cmp_total}}
 use Rattle.fb_placing.proofs.PlacedLemmas.{exact_command}
 use Rattle.fb_placing.proofs.plan.create_commands.sort_created.Goals as goal
 

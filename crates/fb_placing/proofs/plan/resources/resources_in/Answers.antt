@@ -1,6 +1,5 @@
 use Rattle.std.proofs.Common.{ℕ, List, ◌++◌, ◌∙◌, ap, map}
-use Rattle.fb_tree.specs.Tree.{device_tree, resource_tree}
-use Rattle.fb_tree.specs.declared.system.Resource.{Resource}
+use Rattle.fb_tree.specs.{Tree.{device_tree, resource_tree}, declared.system.Resource.{Resource}}
 use Rattle.fb_network.specs.Places.{dotted}
 use Rattle.fb_placing.specs.Resources.{device_resources}
 use Rattle.fb_placing.proofs.StepLemmas.{resources_step}

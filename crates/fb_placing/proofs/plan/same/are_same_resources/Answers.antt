@@ -1,6 +1,5 @@
 -- One resource further.
-use Rattle.std.proofs.Common.{◌≡◌, false, true, sym, ◌∙◌, rules}
-use Rattle.std.proofs.lemmas.Bool.{false≢true}
+use Rattle.std.proofs.{Common.{◌≡◌, false, true, sym, ◌∙◌, rules}, lemmas.Bool.{false≢true}}
 use Rattle.fb_placing.proofs.SameLists.{same_more, same_never}
 use Rattle.fb_placing.specs.CommandIndexes.{plain_resource}
 use Rattle.fb_placing.proofs.plan.same.are_same_resources.Goals as goal

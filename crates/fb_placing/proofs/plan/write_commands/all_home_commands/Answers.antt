@@ -1,11 +1,8 @@
 -- The commands of one home more.
-use Rattle.std.proofs.Common.{List, [], ◌++◌, sym, ◌∙◌, ap, append-nil}
+use Rattle.std.proofs.{Common.{List, [], ◌++◌, sym, ◌∙◌, ap, append-nil}, lemmas.Grind.{flat_map-append}}
 use Rattle.std.specs.List.{flat_map}
-use Rattle.std.proofs.lemmas.Grind.{flat_map-append}
 use Rattle.fb_library.specs.View.{tree_at}
-use Rattle.fb_placing.specs.PlacedCommands.{home_commands}
-use Rattle.fb_placing.specs.Resolver.{ResolverView}
-use Rattle.fb_placing.specs.Systems.{applications_in}
+use Rattle.fb_placing.specs.{PlacedCommands.{home_commands}, Resolver.{ResolverView}, Systems.{applications_in}}
 use Rattle.fb_placing.specs.declared.plan.write_commands.PlacedCommand.{PlacedCommand}
 use Rattle.fb_placing.proofs.StepLemmas.{step_added}
 use Rattle.fb_placing.proofs.plan.write_commands.all_home_commands.Goals as goal

@@ -2,9 +2,7 @@
 use Rattle.std.proofs.Common.{◌≡◌, take}
 use Rattle.std.specs.List.{flat_map}
 use Rattle.fb_library.specs.View.{tree_at}
-use Rattle.fb_placing.specs.PlacedCommands.{home_commands}
-use Rattle.fb_placing.specs.Resolver.{resolver_of}
-use Rattle.fb_placing.specs.Systems.{applications_in}
+use Rattle.fb_placing.specs.{PlacedCommands.{home_commands}, Resolver.{resolver_of}, Systems.{applications_in}}
 use Rattle.fb_placing.proofs.plan.write_commands.all_home_commands.Given as goal
 
 abbrev pub invariant-loop-home : goal.invariant-loop-home

@@ -1,5 +1,4 @@
-use Rattle.std.proofs.Common.{◌+◌, take, drop, ◌∙◌, ◌++◌, sym, ap, arith}
-use Rattle.std.proofs.Math.Seq.{take-add}
+use Rattle.std.proofs.{Common.{◌+◌, take, drop, ◌∙◌, ◌++◌, sym, ap, arith}, Math.Seq.{take-add}}
 use Rattle.fb_streams.proofs.Pieces.{drop-by, copied_is}
 use Rattle.fb_streams.proofs.memory_feed.MemoryFeedFeed.read.Goals as goal
 

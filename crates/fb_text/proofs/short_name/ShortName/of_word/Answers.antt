@@ -1,9 +1,7 @@
-use Rattle.std.proofs.Common.{◌≡◌, arith, sym, ap, ◌∙◌, length, take, drop, replicate, ◌-◌}
+use Rattle.std.proofs.{Common.{◌≡◌, arith, sym, ap, ◌∙◌, length, take, drop, replicate, ◌-◌}, lemmas.List.{length-set, take_all}}
 use Rattle.std.specs.Str.{str_to_ascii_uppercase}
-use Rattle.std.proofs.lemmas.List.{length-set, take_all}
-use Rattle.fb_text.proofs.NameLemmas.{prefix_more, rest_more, IsName-upper}
+use Rattle.fb_text.proofs.{NameLemmas.{prefix_more, rest_more, IsName-upper}, short_name.ShortName.of_word.Goals.{After-loop-i}}
 use Rattle.fb_text.proofs.short_name.ShortName.of_word.Goals as goal
-use Rattle.fb_text.proofs.short_name.ShortName.of_word.Goals.{After-loop-i}
 
 pub loop-i-preserved : goal.loop-i-preserved
 loop-i-preserved c =

@@ -2,9 +2,7 @@
 use Rattle.std.proofs.Common.{[], ◌∷◌, Some, None, ◌∙◌, ap}
 use Rattle.std.specs.Prelude.{option_map}
 use Rattle.fb_library.specs.View.{tree_at}
-use Rattle.fb_placing.specs.Resolver.{ResolverView, resolved}
-use Rattle.fb_placing.specs.Systems.{applications_in}
-use Rattle.fb_placing.specs.Tables.{instance_at}
+use Rattle.fb_placing.specs.{Resolver.{ResolverView, resolved}, Systems.{applications_in}, Tables.{instance_at}}
 use Rattle.fb_placing.proofs.ResolvedLemmas.{begin_at}
 use Rattle.fb_placing.proofs.paths.resolver.Resolver.begin.Goals as goal
 

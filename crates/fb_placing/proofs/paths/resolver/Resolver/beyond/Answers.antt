@@ -1,8 +1,7 @@
 -- Nothing stands under the next name.
 use Rattle.std.proofs.Common.{◌≡◌, List, ℕ, Some, None, drop, map, sym, ◌∙◌, ap, subst}
 use Rattle.std.specs.Prelude.{option_map}
-use Rattle.fb_placing.specs.Resolver.{ResolverView}
-use Rattle.fb_placing.specs.Resolved.{plain_resolved, resolved_beyond}
+use Rattle.fb_placing.specs.{Resolver.{ResolverView}, Resolved.{plain_resolved, resolved_beyond}}
 use Rattle.fb_placing.proofs.ResolvedLemmas.{beyond_stops}
 use Rattle.fb_placing.proofs.paths.resolver.Resolver.beyond.Goals as goal
 

@@ -1,11 +1,8 @@
 -- The first name is that of an instance of the application.
 use Rattle.std.proofs.Common.{ℕ, ◌≡◌, List, ◌∷◌, Option, Some, map, sym, ◌∙◌, ap, subst}
-use Rattle.std.specs.Prelude.{IfOk, option_map}
-use Rattle.std.specs.Borrow.{Bor}
+use Rattle.std.specs.{Prelude.{IfOk, option_map}, Borrow.{Bor}}
 use Rattle.fb_library.specs.View.{tree_at}
-use Rattle.fb_placing.specs.Resolver.{resolved}
-use Rattle.fb_placing.specs.Resolved.{PlainResolved, plain_resolved, resolved_beyond}
-use Rattle.fb_placing.specs.Systems.{applications_in}
+use Rattle.fb_placing.specs.{Resolver.{resolved}, Resolved.{PlainResolved, plain_resolved, resolved_beyond}, Systems.{applications_in}}
 use Rattle.fb_placing.proofs.ResolvedLemmas.{at_begins, beyond_nothing}
 use Rattle.fb_placing.proofs.paths.resolver.Resolver.from.Goals as goal
 

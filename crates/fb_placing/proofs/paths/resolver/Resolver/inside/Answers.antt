@@ -1,10 +1,7 @@
 -- The instances of the unit stand in its table, or are put there.
 use Rattle.std.proofs.Common.{ℕ, ◌≡◌, List, Option, sym, ◌∙◌, ap}
-use Rattle.std.specs.Prelude.{option_map}
-use Rattle.std.specs.BTreeMap.{get, is_at}
-use Rattle.std.specs.Map.{lookup}
-use Rattle.fb_tree.specs.Text.Order.{name_cmp}
-use Rattle.fb_tree.specs.Tree.{InstanceTree}
+use Rattle.std.specs.{Prelude.{option_map}, BTreeMap.{get, is_at}, Map.{lookup}}
+use Rattle.fb_tree.specs.{Text.Order.{name_cmp}, Tree.{InstanceTree}}
 use Rattle.fb_library.specs.View.{Sources, tree_at}
 use Rattle.fb_placing.specs.Resolver.{ResolverView}
 use Rattle.fb_placing.specs.Resolved.{PlainResolved, inner_instances, instance_called, plain_resolved, resolved_among, resolved_in, resolved_inside}

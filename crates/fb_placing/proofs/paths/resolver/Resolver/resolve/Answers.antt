@@ -1,13 +1,9 @@
 -- The name is looked for in the instance that stands in front of it.
-use Rattle.std.proofs.Common.{◌≡◌, ℕ, List, Some, sym, ◌∙◌, ap}
+use Rattle.std.proofs.{Common.{◌≡◌, ℕ, List, Some, sym, ◌∙◌, ap}, lemmas.Result.{IfOk-weaker}}
 use Rattle.std.specs.Prelude.{option_map}
-use Rattle.std.proofs.lemmas.Result.{IfOk-weaker}
 use Rattle.fb_library.specs.View.{tree_at}
-use Rattle.fb_placing.specs.Resolver.{ResolverView, resolved}
-use Rattle.fb_placing.specs.Resolved.{path_names, plain_resolved, resolved_inside}
-use Rattle.fb_placing.specs.Systems.{applications_in}
-use Rattle.fb_placing.proofs.SplitLemmas.{names_parted}
-use Rattle.fb_placing.proofs.ResolvedLemmas.{at_more}
+use Rattle.fb_placing.specs.{Resolver.{ResolverView, resolved}, Resolved.{path_names, plain_resolved, resolved_inside}, Systems.{applications_in}}
+use Rattle.fb_placing.proofs.{SplitLemmas.{names_parted}, ResolvedLemmas.{at_more}}
 use Rattle.fb_placing.proofs.paths.resolver.Resolver.resolve.Goals as goal
 
 pub returns-in-Ok-Some-clause-found : goal.returns-in-Ok-Some-clause-found
