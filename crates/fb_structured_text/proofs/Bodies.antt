@@ -27,20 +27,20 @@ among-both : (a b : List Kind) (k : Kind) → is_among (a ++ b) k ≡ (is_among 
 among-both [] b k = refl
 among-both (x ∷ a) b k = ap (λ (z : Bool). same_kind x k || z) (among-both a b k) ∙ or_assoc (same_kind x k) (is_among a k) (is_among b k)
 
-next-both : (a b : List Kind) (ts : List Lexeme) → is_next (a ++ b) ts ≡ (is_next a ts || is_next b ts)
-next-both a b [] = refl
-next-both a b (t ∷ ts) = among-both a b t.kind
+pub next_both : (a b : List Kind) (ts : List Lexeme) → is_next (a ++ b) ts ≡ (is_next a ts || is_next b ts)
+next_both a b [] = refl
+next_both a b (t ∷ ts) = among-both a b t.kind
 
 next-statement : (n : ℕ) (ts : List Lexeme) → is_next (first (statement n)) ts ≡ is_next (statement_firsts n) ts
 next-statement n ts = ap (λ (k : List Kind). is_next k ts) (closed-statement n).first
 
 pub begins_simple : (n : ℕ) (ts : List Lexeme) → is_next simple_firsts ts ≡ true → is_next (first (statement n)) ts ≡ true
 begins_simple zero ts h = next-statement zero ts ∙ h
-begins_simple (suc n) ts h = next-statement (suc n) ts ∙ next-both simple_firsts nested_firsts ts ∙ ap (λ (z : Bool). z || is_next nested_firsts ts) h
+begins_simple (suc n) ts h = next-statement (suc n) ts ∙ next_both simple_firsts nested_firsts ts ∙ ap (λ (z : Bool). z || is_next nested_firsts ts) h
 
 pub begins_nested : (n : ℕ) (ts : List Lexeme) → 0 < n → is_next simple_firsts ts ≡ false → is_next (first (statement n)) ts ≡ is_next nested_firsts ts
 begins_nested zero ts above h = absurd (omega arith)
-begins_nested (suc n) ts above h = next-statement (suc n) ts ∙ next-both simple_firsts nested_firsts ts ∙ ap (λ (z : Bool). z || is_next nested_firsts ts) h
+begins_nested (suc n) ts above h = next-statement (suc n) ts ∙ next_both simple_firsts nested_firsts ts ∙ ap (λ (z : Bool). z || is_next nested_firsts ts) h
 
 pub begins_none : (n : ℕ) (ts : List Lexeme) → n ≡ 0 → is_next simple_firsts ts ≡ false → is_next (first (statement n)) ts ≡ false
 begins_none zero ts none h = next-statement zero ts ∙ h
@@ -176,11 +176,11 @@ cases_more inner prefix new ts v mid total next e pushed so_far =
     ∙ ap (λ (r : Outcome (List (List Statement))). with_prefix prefix (flat r)) (sym (many_more (case inner) ts v mid (begins-case inner).filled (next-case inner ts true next) e))
     ∙ so_far
 
-pub cases_fails : (inner : Form Statement) (prefix : List Statement) (ts : List Lexeme) (stop : Stop) (total : Outcome (List Statement)) → is_next (first labels) ts ≡ true → Fails stop (read (case inner) ts)
-    → with_prefix prefix (flat (read (many (case inner)) ts)) ≡ total → Fails stop total
-cases_fails inner prefix ts Memory total next e so_far = tt
-cases_fails inner prefix ts (Broken rest) total next e so_far =
-    sym so_far ∙ ap (λ (r : Outcome (List (List Statement))). with_prefix prefix (flat r)) (many_fails (case inner) ts rest.now (next-case inner ts true next) e)
+pub cases_fails : (inner : Form Statement) (prefix : List Statement) (ts : List Lexeme) (stop : Stop) (rest : List Lexeme) (total : Outcome (List Statement)) → is_next (first labels) ts ≡ true → Fails stop rest (read (case inner) ts)
+    → with_prefix prefix (flat (read (many (case inner)) ts)) ≡ total → Fails stop rest total
+cases_fails inner prefix ts Memory rest total next e so_far = tt
+cases_fails inner prefix ts Broken rest total next e so_far =
+    sym so_far ∙ ap (λ (r : Outcome (List (List Statement))). with_prefix prefix (flat r)) (many_fails (case inner) ts rest (next-case inner ts true next) e)
 
 pub cases_done : (inner : Form Statement) (prefix : List Statement) (ts : List Lexeme) (total : Outcome (List Statement)) → is_next (first labels) ts ≡ false
     → with_prefix prefix (flat (read (many (case inner)) ts)) ≡ total → total ≡ Ok (prefix, ts)
@@ -210,10 +210,10 @@ pub labels_more : (ts mid : List Lexeme) (total : Outcome (Unit {0})) → is_nex
 labels_more ts mid total next e so_far =
     sym (gone_again tt (read (many (further label)) mid)) ∙ ap gone (sym (many_more (further label) ts tt mid refl next e)) ∙ so_far
 
-pub labels_fails : (ts : List Lexeme) (stop : Stop) (total : Outcome (Unit {0})) → is_next (first (further label)) ts ≡ true → Fails stop (read (further label) ts)
-    → gone (read (many (further label)) ts) ≡ total → Fails stop total
-labels_fails ts Memory total next e so_far = tt
-labels_fails ts (Broken rest) total next e so_far = sym so_far ∙ ap gone (many_fails (further label) ts rest.now next e)
+pub labels_fails : (ts : List Lexeme) (stop : Stop) (rest : List Lexeme) (total : Outcome (Unit {0})) → is_next (first (further label)) ts ≡ true → Fails stop rest (read (further label) ts)
+    → gone (read (many (further label)) ts) ≡ total → Fails stop rest total
+labels_fails ts Memory rest total next e so_far = tt
+labels_fails ts Broken rest total next e so_far = sym so_far ∙ ap gone (many_fails (further label) ts rest next e)
 
 pub labels_done : (ts : List Lexeme) (total : Outcome (Unit {0})) → is_next (first (further label)) ts ≡ false → gone (read (many (further label)) ts) ≡ total → total ≡ Ok (tt, ts)
 labels_done ts total next so_far = sym so_far ∙ ap gone (many_none (further label) ts next)

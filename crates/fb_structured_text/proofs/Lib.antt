@@ -1,4 +1,5 @@
 pub mod Rows
+pub mod Variables
 pub mod ExpressionLevels
 pub mod StatementLevels
 pub mod Bodies

@@ -2,6 +2,7 @@
 ghost use Rattle.fb_grammar.specs.Form.{as_value, many, option};
 ghost use Rattle.fb_grammar.specs.Gives.{Gives, GivesEach};
 ghost use Rattle.fb_grammar.specs.Reading.{read};
+ghost use Rattle.fb_grammar.specs.Repetition.{with_prefix};
 ghost use Rattle.fb_grammar.specs.Words.{further};
 ghost use Rattle.fb_structured_text.specs.Expression.{
   deep_part,
@@ -23,9 +24,9 @@ ghost use Rattle.fb_structured_text.specs.Expression.{
   unary,
   variable_tree,
 };
-ghost use Rattle.fb_structured_text.specs.Part.{part_tree};
+ghost use Rattle.fb_structured_text.specs.Part.{closed_at, part_tree};
 ghost use Rattle.fb_tree.specs.Expression.{expression_tree, operand_tree};
-ghost use Rattle.std.specs.Prelude.{◌≡◌, ◌≤◌, ◌<◌, map};
+ghost use Rattle.std.specs.Prelude.{◌≤◌, ◌<◌, ◌∷◌, [], map};
 
 use crate::operators::{SIGNS, is_literal, literal, next_strength, operator, operators, sign};
 use crate::references::{Part, Variable, alone, flat_reference, joined};
@@ -107,7 +108,7 @@ fn deep_part(alloc: Global, below: u8, tokens: &mut Tokens<'_>) -> Result<Part, 
     part_behind(alloc, below, name, tokens)
 }
 
-/// A name that was read, perhaps with subscripts that have so many levels below them.
+/// A name that was read, perhaps with subscripts that may nest `below` levels.
 #[cycle(expression)]
 fn part_behind(
     alloc: Global,
@@ -174,8 +175,8 @@ fn deep_reference(alloc: Global, below: u8, tokens: &mut Tokens<'_>) -> Result<V
 #[cycle(expression)]
 #[tactic(auto, unfolding(crate::specs::Expression::subscripts))]
 fn subscripts(alloc: Global, below: u8, tokens: &mut Tokens<'_>) -> Result<(Vec<Expr>, Place), Stop>
-    ensures { Gives (λ s. (map expression_tree s.0.items, s.1.now)) result tokens.new
-        (read (subscripts (expression below)) tokens.old) }
+    ensures { Gives (λ s. (map expression_tree s.0.items, s.1)) result tokens.new
+        (read (as_value closed_at (subscripts (expression below))) tokens.old) }
 {
     key(tokens, Kind::OpenBracket)?;
     let subscripts = expressions(alloc, below, tokens)?;
@@ -218,11 +219,7 @@ fn unary(alloc: Global, left: u8, tokens: &mut Tokens<'_>) -> Result<Expr, Stop>
     if !is_next(tokens, &SIGNS) {
         return primary(alloc, left, tokens);
     }
-    // Not by `?`, which takes no copied place beside a reference.
-    let sign = match sign(tokens) {
-        Ok(found) => found,
-        Err(stop) => return Err(stop),
-    };
+    let sign = sign(tokens)?;
     let value = primary(alloc, left, tokens)?;
     Ok(Expr::Unary(sign, Box::new(alloc, value)?))
 }
@@ -249,7 +246,7 @@ fn row(alloc: Global, strength: u8, left: u8, tokens: &mut Tokens<'_>) -> Result
     Ok(value)
 }
 
-/// An operator of a strength with its operand, and those behind them.
+/// An operator of a strength with its operand, and those after them.
 #[cycle(expression)]
 fn further_operands(
     alloc: Global,
@@ -260,7 +257,8 @@ fn further_operands(
     tokens: &mut Tokens<'_>,
 ) -> Result<Vec<(BinaryUse, Expr)>, Stop>
     requires { strength < 8 }
-    ensures { GivesEach operand_tree result tokens.new (read (many (operand_at strength left)) tokens.old) }
+    ensures { GivesEach operand_tree result tokens.new
+        (with_prefix ((operator, expression_tree operand) ∷ []) (read (many (operand_at strength left)) tokens.old)) }
 {
     let mut operands = Vec::with_capacity(alloc, 2)?;
     operands.push((operator, operand))?;
@@ -282,10 +280,7 @@ fn next_operand(
     requires { strength < 8 }
     ensures { Gives operand_tree result tokens.new (read (operand_at strength left) tokens.old) }
 {
-    let operator = match operator(tokens, strength) {
-        Ok(found) => found,
-        Err(stop) => return Err(stop),
-    };
+    let operator = operator(tokens, strength)?;
     let value = row(alloc, strength + 1, left, tokens)?;
     Ok((operator, value))
 }
@@ -298,8 +293,8 @@ pub fn expression_at(alloc: Global, left: u8, tokens: &mut Tokens<'_>) -> Result
     row(alloc, 0, left, tokens)
 }
 
-/// An expression at the outermost level, and the tokens behind it. On a fault the tokens from the
-/// first one that does not go on.
+/// An expression at the outermost level. The tokens that are left are those after it; on a fault
+/// those from the first one that does not go on.
 pub fn expression(alloc: Global, tokens: &mut Tokens<'_>) -> Result<Expr, Stop>
     ensures { Gives expression_tree result tokens.new (read (expression levels) tokens.old) }
 {

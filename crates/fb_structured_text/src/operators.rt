@@ -56,7 +56,7 @@ fn strength_of(kind: Kind) -> u8
     }
 }
 
-/// The strength of the operator that comes next, 8 where none comes.
+/// The strength of the operator that comes next, 8 if none comes.
 pub fn next_strength(tokens: &Tokens<'_>) -> u8
     ensures { result ≡ next_strength tokens.now }
 {

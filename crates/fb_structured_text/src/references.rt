@@ -1,7 +1,6 @@
 //! References: names with points between them, each perhaps followed by subscripts.
 ghost use Rattle.fb_grammar.specs.Form.{many};
 ghost use Rattle.fb_grammar.specs.Gives.{Gives, GivesEach};
-ghost use Rattle.fb_grammar.specs.Lexemes.{name_use};
 ghost use Rattle.fb_grammar.specs.Reading.{read};
 ghost use Rattle.fb_structured_text.specs.Expression.{PartTree, flat_part, flat_reference, further_part, part_of, reference_in, reference_value, variable_tree};
 ghost use Rattle.fb_tree.specs.Expression.{expression_tree};
@@ -103,7 +102,7 @@ impl Reader for FlatReader {
     }
 }
 
-/// The names behind the first one, each behind a point.
+/// The names after the first one, each after a point.
 fn flat_members(alloc: Global, tokens: &mut Tokens<'_>) -> Result<Vec<Part>, Stop>
     ensures { GivesEach part_tree result tokens.new (read (many (further_part flat_part)) tokens.old) }
 {

@@ -2,6 +2,7 @@
 ghost use Rattle.fb_grammar.specs.Form.{many, option};
 ghost use Rattle.fb_grammar.specs.Gives.{Gives, GivesEach};
 ghost use Rattle.fb_grammar.specs.Reading.{first, is_next, read};
+ghost use Rattle.fb_grammar.specs.Upcoming.{are_tokens, front};
 ghost use Rattle.fb_structured_text.specs.Expression.{expression, levels, reference};
 ghost use Rattle.fb_structured_text.specs.Statement.{
   simple_firsts,
@@ -27,29 +28,30 @@ ghost use Rattle.fb_structured_text.specs.Statement.{
 ghost use Rattle.fb_grammar.specs.declared.kind.Kind.TheVariants.{By};
 ghost use Rattle.fb_tree.specs.Expression.{expression_tree};
 ghost use Rattle.fb_tree.specs.Statement.{arm_tree, statement_tree};
-ghost use Rattle.std.specs.Prelude.{◌≡◌, ◌<◌, option_map};
+ghost use Rattle.std.specs.Prelude.{◌≡◌, ◌<◌, ◌∷◌, [], option_map};
 
 use crate::expression_reader::{LEVELS, expression_at, reference};
 use crate::labels::{begins_label, labels};
 use crate::references::Variable;
 use fb_grammar::{Kind, Stop, Tokens, is_next, key, name};
-use fb_tree::text::Place;
 use fb_tree::{Counting, Expr, Stmt};
 use std::alloc::Global;
 
 /// A word followed by `;`.
 #[tactic(auto, unfolding(crate::specs::Statement::ended))]
-fn ended(tokens: &mut Tokens<'_>, word: Kind) -> Result<Place, Stop>
-    ensures { Gives (λ place. place) result tokens.new (read (as_value place_of (ended word)) tokens.old) }
+fn ended(tokens: &mut Tokens<'_>, word: Kind) -> Result<(), Stop>
+    requires { are_tokens (word ∷ []) }
+    ensures { Gives (λ _. front tokens.old) result tokens.new (read (ended word) tokens.old) }
 {
-    let first = key(tokens, word)?;
+    key(tokens, word)?;
     key(tokens, Kind::Semicolon)?;
-    Ok(first)
+    Ok(())
 }
 
 /// A word followed by an expression.
 #[tactic(auto, unfolding(crate::specs::Statement::announced))]
 fn announced(alloc: Global, word: Kind, left: u8, tokens: &mut Tokens<'_>) -> Result<Expr, Stop>
+    requires { are_tokens (word ∷ []) }
     ensures { Gives expression_tree result tokens.new (read (announced word (expression left)) tokens.old) }
 {
     key(tokens, word)?;
@@ -92,7 +94,7 @@ fn simple_statement(alloc: Global, left: u8, tokens: &mut Tokens<'_>) -> Result<
     }
 }
 
-/// Whether a statement comes next, with so many levels below it.
+/// Whether a statement that may nest `left` levels comes next.
 fn begins_statement(left: u8, tokens: &Tokens<'_>) -> bool
     ensures { result ≡ is_next (first (statement left)) tokens.now }
 {
@@ -179,6 +181,8 @@ fn enclosed(
     end: Kind,
     tokens: &mut Tokens<'_>,
 ) -> Result<Vec<Stmt>, Stop>
+    requires word { are_tokens (word ∷ []) }
+    requires end { are_tokens (end ∷ []) }
     ensures { GivesEach statement_tree result tokens.new
         (read (enclosed word (statement below) end) tokens.old) }
 {
@@ -210,7 +214,8 @@ fn arm(
     left: u8,
     tokens: &mut Tokens<'_>,
 ) -> Result<(Expr, Vec<Stmt>), Stop>
-    requires { 0 < left }
+    requires above { 0 < left }
+    requires word { are_tokens (word ∷ []) }
     ensures { Gives arm_tree result tokens.new (read (at_level (arm word) left) tokens.old) }
 {
     let condition = announced(alloc, word, left, tokens)?;
@@ -288,7 +293,7 @@ fn case_statement(alloc: Global, left: u8, tokens: &mut Tokens<'_>) -> Result<St
     Ok(Stmt::Case(selector, cases, otherwise))
 }
 
-/// `BY` and an expression, where they are written.
+/// `BY` and an expression, if they are written.
 #[tactic(auto, unfolding(crate::specs::Statement::announced))]
 fn step(alloc: Global, left: u8, tokens: &mut Tokens<'_>) -> Result<Option<Expr>, Stop>
     ensures { Gives (option_map expression_tree) result tokens.new
@@ -345,8 +350,8 @@ fn repeat_statement(alloc: Global, left: u8, tokens: &mut Tokens<'_>) -> Result<
     Ok(Stmt::Repeat(body, condition))
 }
 
-/// The statements at the outermost level, and the tokens behind them. On a fault the tokens from
-/// the first one that does not go on.
+/// The statements at the outermost level. The tokens that are left are those after them; on a
+/// fault those from the first one that does not go on.
 pub fn statements(alloc: Global, tokens: &mut Tokens<'_>) -> Result<Vec<Stmt>, Stop>
     ensures { GivesEach statement_tree result tokens.new (read (many (statement levels)) tokens.old) }
 {

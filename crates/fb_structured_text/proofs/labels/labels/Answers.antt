@@ -6,8 +6,9 @@ use Rattle.fb_grammar.specs.Reading.{read}
 use Rattle.fb_structured_text.proofs.Bodies.{labels_more}
 use Rattle.fb_structured_text.proofs.labels.labels.Goals as goal
 
-pub loop-rest-smaller : goal.loop-rest-smaller
-loop-rest-smaller c = shorter (further label) c.loop-rest.rest.now tt c.in_ok-rest-2.rest.now refl c.in_ok-rest-2.ensures
+pub loop-tokens-smaller : goal.loop-tokens-smaller
+loop-tokens-smaller c = shorter (further label) c.loop-tokens.tokens tt c.further_label.new.tokens refl c.in_ok-further_label.ensures
 
-pub loop-rest-preserved : goal.loop-rest-preserved
-loop-rest-preserved c = labels_more c.loop-rest.rest.now c.in_ok-rest-2.rest.now (read labels c.args.tokens.now) (sym c.is_next.ensures ∙ c.loop-rest-test.true) c.in_ok-rest-2.ensures c.loop-rest.invariant
+pub loop-tokens-preserved : goal.loop-tokens-preserved
+loop-tokens-preserved c =
+    labels_more c.loop-tokens.tokens c.further_label.new.tokens (read labels c.args.tokens.now) (sym c.is_next.ensures ∙ c.loop-tokens-test.true) c.in_ok-further_label.ensures c.loop-tokens.invariant

@@ -6,8 +6,8 @@ use Rattle.fb_structured_text.specs.Statement.{label, labels}
 use Rattle.fb_structured_text.proofs.Bodies.{gone}
 use Rattle.fb_structured_text.proofs.labels.labels.Given as goal
 
-abbrev pub invariant-loop-rest : goal.invariant-loop-rest
-invariant-loop-rest l = gone (read (many (further label)) l.rest) ≡ read labels l.tokens
+abbrev pub invariant-loop-tokens : goal.invariant-loop-tokens
+invariant-loop-tokens l = gone (read (many (further label)) l.tokens) ≡ read labels l.fn.tokens
 
-abbrev pub decreases-loop-rest : goal.decreases-loop-rest
-decreases-loop-rest l = length l.rest
+abbrev pub decreases-loop-tokens : goal.decreases-loop-tokens
+decreases-loop-tokens l = length l.tokens

@@ -53,24 +53,24 @@ abbrev pub decreases-enclosed : goal.decreases-enclosed
 decreases-enclosed l = l.below * 32 + 21
 
 abbrev pub invariant-statements_at-loop-alloc : goal.invariant-statements_at-loop-alloc
-invariant-statements_at-loop-alloc l = with_prefix (map statement_tree l.statements.items) (read (many (statement l.left)) l.rest) ≡ read (many (statement l.left)) l.tokens
+invariant-statements_at-loop-alloc l = with_prefix (map statement_tree l.statements.items) (read (many (statement l.left)) l.tokens) ≡ read (many (statement l.left)) l.fn.tokens
 
 abbrev pub decreases-statements_at-loop-alloc : goal.decreases-statements_at-loop-alloc
-decreases-statements_at-loop-alloc l = length l.rest
+decreases-statements_at-loop-alloc l = length l.tokens
 
 abbrev pub invariant-arms-loop-alloc : goal.invariant-arms-loop-alloc
 invariant-arms-loop-alloc l =
     let e = expression l.left in
     let inner = statement (l.left - 1) in
-    with_prefix (map arm_tree l.arms.items) (read (many (arm Elsif e inner)) l.rest) ≡ read (arms e inner) l.tokens
+    with_prefix (map arm_tree l.arms.items) (read (many (arm Elsif e inner)) l.tokens) ≡ read (arms e inner) l.fn.tokens
 
 abbrev pub decreases-arms-loop-alloc : goal.decreases-arms-loop-alloc
-decreases-arms-loop-alloc l = length l.rest
+decreases-arms-loop-alloc l = length l.tokens
 
 abbrev pub invariant-cases-loop-alloc : goal.invariant-cases-loop-alloc
 invariant-cases-loop-alloc l =
     let inner = statement l.below in
-    with_prefix (map statement_tree l.statements.items) (flat (read (many (case inner)) l.rest)) ≡ read (cases inner) l.tokens
+    with_prefix (map statement_tree l.statements.items) (flat (read (many (case inner)) l.tokens)) ≡ read (cases inner) l.fn.tokens
 
 abbrev pub decreases-cases-loop-alloc : goal.decreases-cases-loop-alloc
-decreases-cases-loop-alloc l = length l.rest
+decreases-cases-loop-alloc l = length l.tokens
