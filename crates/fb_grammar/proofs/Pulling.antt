@@ -1,13 +1,12 @@
 -- The next of the tokens that are pulled, and what reading one token gives.
-use Rattle.std.proofs.Common.{◌≡◌, ◌<◌, ◌≢◌, inl, inr, ℕ, suc, Bool, true, false, cond, nat_eq, ◌||◌, List, [], ◌∷◌, length, drop, All, Ok, Err, refl, sym, ap, ◌∙◌, subst, arith}
+use Rattle.std.proofs.Common.{◌≡◌, ◌<◌, ◌≢◌, inl, inr, suc, true, false, List, [], ◌∷◌, length, drop, All, Ok, Err, refl, ◌∙◌, arith}
 use Rattle.std.proofs.lemmas.Bool.Decides.{nat_tests}
-use borrow.Author.Tests.{eqb-true}
 use Rattle.fb_grammar.specs.declared.kind.Kind.{Kind}
 use Rattle.fb_grammar.specs.declared.kind.Kind.TheVariants.{End, NeverClosed}
 use Rattle.fb_grammar.specs.declared.lexeme.Lexeme.{Lexeme}
 use Rattle.fb_grammar.specs.Kind.{code_of, is_among, name_kinds, same_kind}
 use Rattle.fb_grammar.specs.Reading.{is_next, read_one}
-use Rattle.fb_grammar.specs.Upcoming.{are_over, are_tokens, front}
+use Rattle.fb_grammar.specs.Upcoming.{front}
 use Rattle.fb_grammar.proofs.Forms.{among_same, or_cases}
 
 -- the first of some tokens

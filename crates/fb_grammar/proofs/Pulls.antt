@@ -5,7 +5,7 @@ use Rattle.std.specs.Str.{IsCharBoundary}
 use Rattle.std.proofs.lemmas.List.{drop-drop}
 use Rattle.std.proofs.lemmas.List.Elements.{All-cons, All-nil}
 use Rattle.std.proofs.lemmas.Str.{IsCharBoundary-end, IsCharBoundary-from_rest, IsCharBoundary-start, IsUtf8-drop}
-use Rattle.fb_tree.specs.Text.Tokens.{FitsIn, IsPrefix, LiesIn, piece_at}
+use Rattle.fb_tree.specs.Text.Tokens.{FitsIn, LiesIn, piece_at}
 use Rattle.fb_tree.specs.Text.declared.scan.Piece.{Piece}
 use Rattle.fb_tree.specs.Text.declared.scan.Piece.TheVariants.{Gap, Unclosed, Found}
 use Rattle.fb_tree.specs.Text.Reads.{token_of}

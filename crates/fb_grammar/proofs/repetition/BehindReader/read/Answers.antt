@@ -1,4 +1,4 @@
-use Rattle.std.proofs.Common.{◌∷◌, [], length, refl}
+use Rattle.std.proofs.Common.{length, refl}
 use Rattle.fb_grammar.specs.Words.{key}
 use Rattle.fb_grammar.proofs.Loops.{shorter}
 use Rattle.fb_grammar.proofs.Repeating.{takes_more}
