@@ -18,8 +18,8 @@ use Rattle.fb_grammar.specs.declared.kind.Kind.{Kind}
 use Rattle.fb_grammar.specs.declared.kind.Kind.TheVariants.{End, Name, NameIn, NameOn, NameSt, NeverClosed, Number, One, Other, RealNumber, Zero}
 use Rattle.fb_grammar.specs.Kind.{is_among, name_kinds}
 use Rattle.fb_grammar.specs.Lexemes.{kind_of, kind_or, lexeme_of, literal_kind, name_kind, name_or, number_kind, symbol_kind, type_name, typed_kind, word_kind}
-use Rattle.fb_grammar.specs.{ReservedWords.{keyword, reserved_words, symbol, symbols}, Pulled.{IsFront, IsNext, IsSpelling, pulled_at}}
 use Rattle.fb_grammar.specs.Upcoming.{are_over, closing_at, front, is_lone, lone_symbol, pulled_before, pulled_from}
+use Rattle.fb_grammar.specs.{ReservedWords.{keyword, reserved_words, symbol, symbols}, Pulled.{IsFront, IsNext, IsSpelling, pulled_at}}
 use Rattle.fb_grammar.proofs.NameWords.{names}
 
 -- the bytes inside a piece are passed over

@@ -1,7 +1,7 @@
 -- The places of what is pulled of a text.
 use Rattle.std.proofs.Common.{◌≡◌, ℕ, zero, suc, ◌+◌, ◌-◌, ◌<◌, ◌≤◌, List, [], ◌∷◌, ◌++◌, length, drop, refl, sym, ap, subst, ◌∙◌, arith, add-zero, length-drop, IsUtf8}
-use Rattle.std.proofs.{lemmas.List.{drop-drop}, lemmas.List.Elements.{All-cons, All-nil}}
 use Rattle.std.proofs.lemmas.Str.{IsCharBoundary-end, IsCharBoundary-from_rest, IsCharBoundary-start, IsUtf8-drop}
+use Rattle.std.proofs.{lemmas.List.{drop-drop}, lemmas.List.Elements.{All-cons, All-nil}}
 use Rattle.std.specs.{Prelude.{All}, Str.{IsCharBoundary}}
 use Rattle.fb_tree.specs.{Text.Tokens.{FitsIn, LiesIn, piece_at}, Text.declared.scan.Piece.{Piece}, Text.declared.scan.Piece.TheVariants.{Gap, Unclosed, Found}}
 use Rattle.fb_tree.specs.Text.Reads.{token_of}

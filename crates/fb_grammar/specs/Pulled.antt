@@ -1,15 +1,8 @@
 -- The token that was pulled last, and the list of all that is pulled from it on.
-use Rattle.std.specs.Prelude.{◌≡◌, ℕ, ◌<◌, ◌≤◌, true, false, List, [], length, drop, slice_range}
-use Rattle.std.specs.Str.{IsCharBoundary, str_to_ascii_uppercase}
-use Rattle.fb_tree.specs.Text.Scan.{AreOpen}
-use Rattle.fb_tree.specs.Text.Words.{is_word}
-use Rattle.fb_tree.specs.Text.declared.quotes.OpenQuotes.{OpenQuotes}
-use Rattle.fb_tree.specs.Text.declared.token.Span.{Span}
-use Rattle.fb_grammar.specs.declared.kind.Kind.{Kind}
-use Rattle.fb_grammar.specs.declared.lexeme.Lexeme.{Lexeme}
-use Rattle.fb_grammar.specs.declared.upcoming.Tokens.TheInside.{Inside}
-use Rattle.fb_grammar.specs.Kind.{is_among, name_kinds}
-use Rattle.fb_grammar.specs.Upcoming.{are_over, front, pulled_from}
+use Rattle.std.specs.{Prelude.{◌≡◌, ℕ, ◌<◌, ◌≤◌, true, false, List, [], length, drop, slice_range}, Str.{IsCharBoundary, str_to_ascii_uppercase}}
+use Rattle.fb_tree.specs.{Text.Scan.{AreOpen}, Text.Words.{is_word}, Text.declared.quotes.OpenQuotes.{OpenQuotes}, Text.declared.token.Span.{Span}}
+use Rattle.fb_grammar.specs.{declared.kind.Kind.{Kind}, declared.lexeme.Lexeme.{Lexeme}, declared.upcoming.Tokens.TheInside.{Inside}}
+use Rattle.fb_grammar.specs.{Kind.{is_among, name_kinds}, Upcoming.{are_over, front, pulled_from}}
 
 -- what is pulled of a text from a place on
 abbrev pub pulled_at : List ℕ → ℕ → List Lexeme

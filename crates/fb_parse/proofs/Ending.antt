@@ -8,11 +8,11 @@ use Rattle.fb_structured_text.specs.Statement.{int, label, labels, ended, assign
 use Rattle.fb_structured_text.proofs.Forms.Ending.{closings, is_without}
 use Rattle.fb_tree.specs.{Expression.{Expression}, Statement.{Statement}}
 use Rattle.fb_sections.specs.Constants.{number, range, ranges, length_of_string, plain_type, array_type, type_use, simple, constant_list, constant}
-use Rattle.fb_sections.specs.{Sections.{optional_name}, Interface.{with_names, event, events, initial, variables, data_variables, internal_variables, fields}}
 use Rattle.fb_sections.specs.Network.{parameter, listed_parameters, parameters, optional_parameters, instance, plugs, sockets, blocks, inner_subapplication, subapplications, end, connection, connections}
 use Rattle.fb_sections.specs.Chart.{sent_event, action, actions, state, states}
 use Rattle.fb_sections.specs.SystemParts.{path, mapping, mappings, optional_semicolon, header, resource, device}
 use Rattle.fb_sections.specs.Skipped.{all_kinds, others, skipped, service}
+use Rattle.fb_sections.specs.{Sections.{optional_name}, Interface.{with_names, event, events, initial, variables, data_variables, internal_variables, fields}}
 use Rattle.fb_parse.specs.Chart.{bracketed, joined_test, optional_test, event_condition, condition, transition, transitions, optional_colon, structured_text, other_language, algorithm_body, algorithm}
 use Rattle.fb_parse.specs.Grammar.{data_section, service_section, interface_section, network_section, chart_section, block_section, adapter_section, application_section, subapplication_section, block, adapter, subapplication, application, system_section, system, structure, unit}
 

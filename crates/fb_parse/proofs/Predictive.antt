@@ -10,8 +10,8 @@ use Rattle.fb_structured_text.proofs.{ExpressionLevels.{expression_afters, shape
 use Rattle.fb_sections.specs.{Skipped.{all_kinds, others, skipped}, Network.{end}, Sections.{optional_name}, SystemParts.{optional_semicolon}}
 use Rattle.fb_sections.proofs.Predictive.{closed_events, closed_data_variables, closed_internal_variables, closed_fields, closed_plugs, closed_sockets, closed_blocks, closed_subapplications, closed_connections, closed_states, closed_service, closed_mappings, closed_device}
 use Rattle.fb_parse.specs.Chart.{bracketed, joined_test, optional_test, event_condition, condition, transition, transitions, optional_colon, structured_text, other_language, algorithm_body, algorithm}
-use Rattle.fb_parse.specs.{declared.frame.Frame.{Frame}, Frames.{section_of}}
 use Rattle.fb_parse.specs.Grammar.{data_section, service_section, interface_section, network_section, chart_section, block_section, adapter_section, application_section, subapplication_section, block, adapter, subapplication, application, system_section, system, structure, unit}
+use Rattle.fb_parse.specs.{declared.frame.Frame.{Frame}, Frames.{section_of}}
 use Rattle.fb_parse.specs.declared.frame.Frame.TheVariants as frame
 
 -- Transitions and algorithms

@@ -2,8 +2,8 @@
 use Rattle.std.specs.Prelude.{List, [], ◌∷◌, map, Option, Some, None}
 use Rattle.fb_tree.specs.Text.declared.name.NameUse.{NameUse}
 use Rattle.fb_structured_text.specs.Forms.declared.kind.Kind.TheVariants.{One, OpenBracket, CloseBracket, Ampersand, And, To, Assign, Semicolon, Colon, EcTransitions, EndTransitions, Algorithm, EndAlgorithm, Name, NameIn, NameOn, NameSt}
-use Rattle.fb_structured_text.specs.{Forms.Lexemes.{name_use}, Forms.Form.{Form, one, both, either, option, many, as_value}}
 use Rattle.fb_structured_text.specs.Forms.Words.{key, before, behind, passed}
+use Rattle.fb_structured_text.specs.{Forms.Lexemes.{name_use}, Forms.Form.{Form, one, both, either, option, many, as_value}}
 unfoldable pub use Rattle.fb_structured_text.specs.Forms.Words.{name}
 use Rattle.fb_tree.specs.{Expression.{Expression}, Statement.{Statement, statement_tree}}
 use Rattle.fb_tree.specs.{Tree.{ConditionTree, always, on_event, guarded, guard, TransitionTree, AlgorithmTree}, declared.network.End.{End}}

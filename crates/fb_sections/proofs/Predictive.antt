@@ -5,11 +5,11 @@ use Rattle.fb_grammar.specs.declared.kind.Kind.TheVariants.{EventInput, EventOut
 use Rattle.fb_grammar.specs.Words.{name, names}
 use Rattle.fb_grammar.proofs.Shapes.{Closed, Shape}
 use Rattle.fb_sections.specs.Constants.{number, range, ranges, length_of_string, plain_type, array_type, type_use, simple, constant_list, constant}
-use Rattle.fb_sections.specs.{Sections.{optional_name}, Interface.{with_names, event, events, initial, variables, data_variables, internal_variables, fields}}
 use Rattle.fb_sections.specs.Network.{parameter, listed_parameters, parameters, optional_parameters, instance, plugs, sockets, blocks, inner_subapplication, subapplications, end, connection, connections}
 use Rattle.fb_sections.specs.Chart.{sent_event, action, actions, state, states}
 use Rattle.fb_sections.specs.SystemParts.{path, mapping, mappings, optional_semicolon, header, resource, device}
 use Rattle.fb_sections.specs.Skipped.{all_kinds, others, skipped, service}
+use Rattle.fb_sections.specs.{Sections.{optional_name}, Interface.{with_names, event, events, initial, variables, data_variables, internal_variables, fields}}
 
 pub closed_events : Closed events (EventInput ∷ EventOutput ∷ [])
 unfolding events event optional_name with_names names name

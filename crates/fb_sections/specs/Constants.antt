@@ -6,8 +6,8 @@ use Rattle.fb_tree.specs.{declared.constant.Simple.{Simple}, declared.interface.
 use Rattle.fb_tree.specs.declared.interface.TypeUse.{TypeUse}
 use Rattle.fb_grammar.specs.declared.kind.Kind.{Kind}
 use Rattle.fb_grammar.specs.declared.kind.Kind.TheVariants.{Array, Of, Range, OpenBracket, CloseBracket, Plus, Minus, TypedTruth, TypedInteger, TypedBits, TypedFree, TypedOther, Text, True, False}
-use Rattle.fb_grammar.specs.{declared.lexeme.Lexeme.{Lexeme}, Form.{Form, one, both, either, option, as_value}, Words.{key, behind, passed, list, name}}
 use Rattle.fb_grammar.specs.Literals.{number_kinds, literal_form, literal_use, across}
+use Rattle.fb_grammar.specs.{declared.lexeme.Lexeme.{Lexeme}, Form.{Form, one, both, either, option, as_value}, Words.{key, behind, passed, list, name}}
 use Rattle.fb_tree.specs.declared.constant.Simple.TheVariants as simple_value
 
 -- with a sign `0` and `1` are numbers as others are

@@ -3,20 +3,12 @@ use Rattle.std.proofs.Common.{◌≡◌, ℕ, zero, suc, ◌-◌, ◌<◌, Bool,
 use Rattle.std.proofs.lemmas.List.{append-nil}
 use Rattle.std.specs.List.{flat_map}
 use Rattle.fb_tree.proofs.Text.Tests.{or_assoc}
-use Rattle.fb_grammar.specs.declared.kind.Kind.{Kind}
-use Rattle.fb_grammar.specs.declared.kind.Kind.TheVariants.{If, Case, For, While}
-use Rattle.fb_grammar.specs.declared.lexeme.Lexeme.{Lexeme}
-use Rattle.fb_grammar.specs.Kind.{is_among, same_kind}
-use Rattle.fb_grammar.specs.declared.stop.Stop.{Stop}
-use Rattle.fb_grammar.specs.declared.stop.Stop.TheVariants.{Memory, Broken}
-use Rattle.fb_grammar.specs.Form.{Form, both, either, many, as_value}
-use Rattle.fb_grammar.specs.Gives.{Fails}
-use Rattle.fb_grammar.specs.Words.{further, cons}
-use Rattle.fb_grammar.specs.Reading.{Outcome, ◌>>=◌, is_next, first, read}
+use Rattle.fb_grammar.specs.{declared.kind.Kind.{Kind}, declared.kind.Kind.TheVariants.{If, Case, For, While}, declared.lexeme.Lexeme.{Lexeme}}
+use Rattle.fb_grammar.specs.{Kind.{is_among, same_kind}, declared.stop.Stop.{Stop}, declared.stop.Stop.TheVariants.{Memory, Broken}}
+use Rattle.fb_grammar.specs.{Form.{Form, both, either, many, as_value}, Gives.{Fails}, Words.{further, cons}, Reading.{Outcome, ◌>>=◌, is_next, first, read}}
 use Rattle.fb_grammar.specs.Repetition.{with_prefix}
 use Rattle.fb_grammar.proofs.Loops.{many_more, many_fails, many_none, Begins}
-use Rattle.fb_tree.specs.Expression.{Expression}
-use Rattle.fb_tree.specs.Statement.{Statement}
+use Rattle.fb_tree.specs.{Expression.{Expression}, Statement.{Statement}}
 use Rattle.fb_structured_text.specs.Expression.{expression}
 use Rattle.fb_structured_text.specs.Statement.{statement, simple_firsts, simple_statement, nested_statement, if_statement, arms, arm, announced, case_statement, case, cases, for_statement, while_statement, repeat_statement, labels, label, int}
 use Rattle.fb_structured_text.proofs.StatementLevels.{closed-simple, closed-statement, nested_firsts, statement_firsts}

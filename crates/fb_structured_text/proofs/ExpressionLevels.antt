@@ -1,15 +1,10 @@
 -- One token tells how to go on in an expression, at each level.
 use Rattle.std.proofs.Common.{◌≡◌, ℕ, zero, suc, true, inl, inr, List, [], ◌∷◌, ◌++◌, refl}
 use Rattle.fb_grammar.specs.declared.kind.Kind.{Kind}
-use Rattle.fb_grammar.specs.declared.kind.Kind.TheVariants.{Comma, Point, OpenBracket, CloseBracket, OpenParenthesis, CloseParenthesis}
-use Rattle.fb_grammar.specs.Kind.{name_kinds}
-use Rattle.fb_grammar.specs.Form.{Form}
-use Rattle.fb_grammar.specs.Reading.{after, are_apart}
-use Rattle.fb_grammar.specs.Words.{name}
-use Rattle.fb_grammar.proofs.Forms.{among_left, among_right}
-use Rattle.fb_grammar.proofs.Shapes.{Shape, IsWithin, among_append, apart_within}
+use Rattle.fb_grammar.specs.{declared.kind.Kind.TheVariants.{Comma, Point, OpenBracket, CloseBracket, OpenParenthesis, CloseParenthesis}, Kind.{name_kinds}}
+use Rattle.fb_grammar.specs.{Form.{Form}, Reading.{after, are_apart}, Words.{name}, Literals.{literal_kinds}}
+use Rattle.fb_grammar.proofs.{Forms.{among_left, among_right}, Shapes.{Shape, IsWithin, among_append, apart_within}}
 use Rattle.fb_tree.specs.Expression.{Expression}
-use Rattle.fb_grammar.specs.Literals.{literal_kinds}
 use Rattle.fb_structured_text.specs.Operators.{signs, strengths}
 use Rattle.fb_structured_text.specs.Expression.{expression, rows, unary, flat_primary, deep_primary, literal, PartTree, flat_part, deep_part, parts, flat_reference, deep_reference, reference, parenthesized, expressions, subscripts, row, operand}
 

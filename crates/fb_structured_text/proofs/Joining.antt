@@ -1,13 +1,9 @@
 -- The parts of a reference joined, one after the other.
-use Rattle.std.proofs.Common.{◌≡◌, ℕ, List, [], ◌∷◌, ◌++◌, length, map, refl, sym, ap, ◌∙◌, append_assoc}
-use Rattle.std.proofs.lemmas.Grind.{flat_map-append}
+use Rattle.std.proofs.{Common.{◌≡◌, ℕ, List, [], ◌∷◌, ◌++◌, length, map, refl, sym, ap, ◌∙◌, append_assoc}, lemmas.Grind.{flat_map-append}}
 use Rattle.std.proofs.lemmas.List.{append-nil, length-map, map-append, map-id}
-use Rattle.fb_tree.specs.declared.expression.Expr.{Expr}
-use Rattle.fb_tree.specs.declared.reference.Member.{Member}
+use Rattle.fb_tree.specs.{declared.expression.Expr.{Expr}, declared.reference.Member.{Member}}
 use Rattle.fb_tree.specs.Expression.{Expression, ReferenceTree, expression_tree, expressions_of}
-use Rattle.fb_structured_text.specs.declared.references.Part.{Part}
-use Rattle.fb_structured_text.specs.Expression.{PartTree, last_end, member_in, reference_in, subscripts_in}
-use Rattle.fb_structured_text.specs.Part.{part_tree}
+use Rattle.fb_structured_text.specs.{declared.references.Part.{Part}, Expression.{PartTree, last_end, member_in, reference_in, subscripts_in}, Part.{part_tree}}
 
 -- the first part and those that were seen are joined
 pub record IsJoined (first : Part) (seen : List Part) (members : List Member) (subscripts : List Expr) (end : ℕ) : Type 0 where

@@ -1,24 +1,13 @@
 -- Reading rows of operands.
 use Rattle.std.proofs.Common.{◌≡◌, ℕ, zero, suc, ◌+◌, ◌-◌, ◌<◌, ◌≤◌, Bool, true, false, true≢false, cond, nat_eq, List, [], ◌∷◌, length, drop, length-append, Ok, Err, refl, sym, ap, subst, ◌∙◌, add-one, arith, eq-eqb}
-use Rattle.std.proofs.Math.Seq.{drop-cons}
+use Rattle.std.proofs.{Math.Seq.{drop-cons}, lemmas.Bool.Decides.{nat_tests}}
 use borrow.Author.Tests.{eqb-true}
-use Rattle.fb_grammar.specs.declared.kind.Kind.{Kind}
-use Rattle.fb_grammar.specs.declared.kind.Kind.TheVariants.{Or, Point, End, NeverClosed}
-use Rattle.fb_grammar.specs.declared.lexeme.Lexeme.{Lexeme}
-use Rattle.fb_grammar.specs.declared.stop.Stop.{Stop}
-use Rattle.fb_grammar.specs.declared.stop.Stop.TheVariants.{Memory, Broken}
-use Rattle.fb_grammar.specs.Form.{Form, one, both, many, as_value, Spells, Prefix}
-use Rattle.fb_grammar.specs.Gives.{Fails}
-use Rattle.std.proofs.lemmas.Bool.Decides.{nat_tests}
-use Rattle.fb_grammar.specs.Kind.{is_among, name_kinds}
-use Rattle.fb_grammar.specs.Words.{name}
-use Rattle.fb_grammar.specs.Reading.{Outcome, ◌>>=◌, is_nullable, is_next, first, read_each, read}
-use Rattle.fb_grammar.specs.Repetition.{with_prefix}
-use Rattle.fb_grammar.specs.Upcoming.{are_tokens}
-use Rattle.fb_grammar.proofs.Forms.{Right, right_read}
-use Rattle.fb_grammar.proofs.Loops.{many_more, many_fails, many_none, shorter, Begins}
-use Rattle.fb_tree.specs.declared.expression.BinaryUse.{BinaryUse}
-use Rattle.fb_tree.specs.Expression.{Expression, row_expression, operands_of}
+use Rattle.fb_grammar.specs.{declared.kind.Kind.{Kind}, declared.kind.Kind.TheVariants.{Or, Point, End, NeverClosed}, declared.lexeme.Lexeme.{Lexeme}}
+use Rattle.fb_grammar.specs.{declared.stop.Stop.{Stop}, declared.stop.Stop.TheVariants.{Memory, Broken}, Form.{Form, one, both, many, as_value, Spells, Prefix}}
+use Rattle.fb_grammar.specs.{Gives.{Fails}, Kind.{is_among, name_kinds}, Words.{name}, Reading.{Outcome, ◌>>=◌, is_nullable, is_next, first, read_each, read}}
+use Rattle.fb_grammar.specs.{Repetition.{with_prefix}, Upcoming.{are_tokens}}
+use Rattle.fb_grammar.proofs.{Forms.{Right, right_read}, Loops.{many_more, many_fails, many_none, shorter, Begins}}
+use Rattle.fb_tree.specs.{declared.expression.BinaryUse.{BinaryUse}, Expression.{Expression, row_expression, operands_of}}
 use Rattle.fb_structured_text.specs.Operators.{binary_use, next_strength, operators, strength_of, strengths}
 use Rattle.fb_structured_text.specs.Expression.{PartTree, expression, rows, unary, primary, row, operand, row_of, further_part, literal, reference_value, deep_reference, deep_primary, deep_part, parenthesized}
 

@@ -2,13 +2,9 @@
 use Rattle.std.proofs.Common.{◌≡◌, ℕ, zero, suc, true, List, [], ◌∷◌, ◌++◌, refl}
 use Rattle.fb_grammar.specs.declared.kind.Kind.{Kind}
 use Rattle.fb_grammar.specs.declared.kind.Kind.TheVariants.{Assign, Semicolon, Then, Of, To, By, Do, EndRepeat, If, Case, For, While, Repeat}
-use Rattle.fb_grammar.specs.Kind.{name_kinds}
-use Rattle.fb_grammar.specs.Form.{Form, many}
-use Rattle.fb_grammar.specs.Reading.{is_predictive, after}
-use Rattle.fb_grammar.specs.Words.{name}
+use Rattle.fb_grammar.specs.{Kind.{name_kinds}, Form.{Form, many}, Reading.{is_predictive, after}, Words.{name}}
 use Rattle.fb_grammar.proofs.Shapes.{Shape, Closed, apart_within, closed_either}
-use Rattle.fb_tree.specs.Expression.{Expression}
-use Rattle.fb_tree.specs.Statement.{Statement}
+use Rattle.fb_tree.specs.{Expression.{Expression}, Statement.{Statement}}
 use Rattle.fb_structured_text.specs.Expression.{expression, reference}
 use Rattle.fb_structured_text.specs.Statement.{statement, simple_firsts, simple_statement, assignment_statement, ended, nested_statement, if_statement, arms, arm, announced, enclosed, case_statement, cases, case, for_statement, while_statement, repeat_statement, otherwise, labels, label, int}
 use Rattle.fb_structured_text.proofs.ExpressionLevels.{base_afters, expression_afters, expression_firsts, shape-expression, shape-reference}

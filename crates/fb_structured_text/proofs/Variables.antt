@@ -1,19 +1,11 @@
 -- Variables: names alone, and references.
 use Rattle.std.proofs.Common.{◌≡◌, ℕ, Bool, true, false, ◌||◌, List, [], ◌∷◌, Ok, Err, Option, Some, None, refl, sym, ap, ◌∙◌}
-use Rattle.fb_tree.specs.Text.declared.name.NameUse.{NameUse}
-use Rattle.fb_tree.specs.Text.declared.token.Span.{Span}
-use Rattle.fb_grammar.specs.declared.kind.Kind.{Kind}
-use Rattle.fb_grammar.specs.declared.kind.Kind.TheVariants.{Point, OpenBracket}
-use Rattle.fb_grammar.specs.declared.lexeme.Lexeme.{Lexeme}
-use Rattle.fb_grammar.specs.declared.stop.Stop.{Stop}
-use Rattle.fb_grammar.specs.declared.stop.Stop.TheVariants.{Memory, Broken}
-use Rattle.fb_grammar.specs.Form.{Form, many, option, as_value}
-use Rattle.fb_grammar.specs.Gives.{Fails}
-use Rattle.fb_grammar.specs.Reading.{Outcome, ◌>>=◌, is_next, first, read}
-use Rattle.fb_grammar.specs.Words.{name}
-use Rattle.fb_grammar.proofs.Forms.{ok_one}
-use Rattle.fb_grammar.proofs.Loops.{many_none}
+use Rattle.fb_tree.specs.{Text.declared.name.NameUse.{NameUse}, Text.declared.token.Span.{Span}}
 use Rattle.fb_tree.specs.Expression.{Expression, Expressions, ReferenceTree, alone_tree, no_expressions}
+use Rattle.fb_grammar.specs.{declared.kind.Kind.{Kind}, declared.kind.Kind.TheVariants.{Point, OpenBracket}, declared.lexeme.Lexeme.{Lexeme}}
+use Rattle.fb_grammar.specs.{declared.stop.Stop.{Stop}, declared.stop.Stop.TheVariants.{Memory, Broken}, Form.{Form, many, option, as_value}, Gives.{Fails}}
+use Rattle.fb_grammar.specs.{Reading.{Outcome, ◌>>=◌, is_next, first, read}, Words.{name}}
+use Rattle.fb_grammar.proofs.{Forms.{ok_one}, Loops.{many_none}}
 use Rattle.fb_structured_text.specs.Expression.{PartTree, deep_part, deep_reference, flat_part, flat_reference, further_part, part_of, reference_in, subscripts}
 use Rattle.fb_structured_text.specs.Part.{closed_at}
 use Rattle.fb_structured_text.proofs.Bodies.{next_both}

@@ -1,17 +1,11 @@
 -- The forms of expressions at each level.
-use Rattle.std.specs.Prelude.{ℕ, zero, suc, ◌+◌, List, [], ◌∷◌, ◌++◌, drop, length, map, Option, Some, None}
-use Rattle.std.specs.List.{flat_map}
-use Rattle.fb_tree.specs.Text.declared.name.NameUse.{NameUse}
-use Rattle.fb_grammar.specs.declared.kind.Kind.{Kind}
-use Rattle.fb_grammar.specs.declared.kind.Kind.TheVariants.{Point, OpenBracket, CloseBracket, OpenParenthesis, CloseParenthesis}
-use Rattle.fb_grammar.specs.declared.lexeme.Lexeme.{Lexeme}
-use Rattle.fb_grammar.specs.Form.{Form, one, both, either, option, many, as_value}
-use Rattle.fb_grammar.specs.Literals.{across, literal_kinds, literal_use}
-use Rattle.fb_grammar.specs.Words.{key, behind, list, name}
-use Rattle.fb_tree.specs.declared.expression.BinaryUse.{BinaryUse}
-use Rattle.fb_tree.specs.declared.reference.Member.{Member}
+use Rattle.std.specs.{Prelude.{ℕ, zero, suc, ◌+◌, List, [], ◌∷◌, ◌++◌, drop, length, map, Option, Some, None}, List.{flat_map}}
+use Rattle.fb_tree.specs.{Text.declared.name.NameUse.{NameUse}, declared.expression.BinaryUse.{BinaryUse}, declared.reference.Member.{Member}}
 use Rattle.fb_tree.specs.declared.expression.UnaryUse.{UnaryUse}
 use Rattle.fb_tree.specs.Expression.{ReferenceTree, alone_tree, reference_tree, no_expressions, Expression, expression_tree, literal_expression, reference_expression, unary_expression, row_expression, parentheses, Expressions, expressions_of, operands_of}
+use Rattle.fb_grammar.specs.{declared.kind.Kind.{Kind}, declared.kind.Kind.TheVariants.{Point, OpenBracket, CloseBracket, OpenParenthesis, CloseParenthesis}}
+use Rattle.fb_grammar.specs.{declared.lexeme.Lexeme.{Lexeme}, Form.{Form, one, both, either, option, many, as_value}}
+use Rattle.fb_grammar.specs.{Literals.{across, literal_kinds, literal_use}, Words.{key, behind, list, name}}
 use Rattle.fb_structured_text.specs.declared.references.Variable.{Variable}
 use Rattle.fb_structured_text.specs.declared.references.Variable.TheVariants.{Name as IsName, Reference as IsReference}
 use Rattle.fb_structured_text.specs.Operators.{signs, strengths, operators, unary_use, binary_use}

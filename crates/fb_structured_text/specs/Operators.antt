@@ -3,12 +3,10 @@ use Rattle.std.specs.Prelude.{ℕ, List, [], ◌∷◌, slice_index_or}
 use Rattle.fb_grammar.specs.declared.kind.Kind.{Kind}
 use Rattle.fb_grammar.specs.declared.kind.Kind.TheVariants.{Or, Xor, Ampersand, And, Equal, NotEqual, Less, Greater, LessEqual, GreaterEqual, Plus, Minus, Times, Divide, Mod, Power, Not}
 use Rattle.fb_grammar.specs.declared.lexeme.Lexeme.{Lexeme}
-use Rattle.fb_tree.specs.declared.expression.BinaryOperator.{BinaryOperator}
+use Rattle.fb_tree.specs.{declared.expression.BinaryOperator.{BinaryOperator}, declared.expression.BinaryUse.{BinaryUse}}
+use Rattle.fb_tree.specs.{declared.expression.UnaryOperator.{UnaryOperator}, declared.expression.UnaryUse.{UnaryUse}}
 use Rattle.fb_tree.specs.declared.expression.BinaryOperator.TheVariants as between
-use Rattle.fb_tree.specs.declared.expression.BinaryUse.{BinaryUse}
-use Rattle.fb_tree.specs.declared.expression.UnaryOperator.{UnaryOperator}
 use Rattle.fb_tree.specs.declared.expression.UnaryOperator.TheVariants as before
-use Rattle.fb_tree.specs.declared.expression.UnaryUse.{UnaryUse}
 
 -- the operators before an operand
 abbrev pub signs : List Kind

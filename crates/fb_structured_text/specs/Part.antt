@@ -1,10 +1,8 @@
 -- Names of references as the reader keeps them.
 use Rattle.std.specs.Prelude.{List, map}
-use Rattle.fb_tree.specs.Text.declared.token.Span.{Span}
+use Rattle.fb_tree.specs.{Text.declared.token.Span.{Span}, Expression.{Expression, expression_tree}}
 use Rattle.fb_grammar.specs.declared.lexeme.Lexeme.{Lexeme}
-use Rattle.fb_tree.specs.Expression.{Expression, expression_tree}
-use Rattle.fb_structured_text.specs.Expression.{PartTree}
-use Rattle.fb_structured_text.specs.declared.references.Part.{Part}
+use Rattle.fb_structured_text.specs.{Expression.{PartTree}, declared.references.Part.{Part}}
 
 -- a name with its subscripts, without where these lie in memory
 abbrev pub part_tree : Part → PartTree

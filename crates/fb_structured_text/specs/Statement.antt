@@ -1,13 +1,9 @@
 -- The forms of statements at each level.
-use Rattle.std.specs.Prelude.{ℕ, zero, suc, ◌-◌, List, [], ◌∷◌}
-use Rattle.std.specs.List.{flat_map}
+use Rattle.std.specs.{Prelude.{ℕ, zero, suc, ◌-◌, List, [], ◌∷◌}, List.{flat_map}}
 use Rattle.fb_grammar.specs.declared.kind.Kind.{Kind}
 use Rattle.fb_grammar.specs.declared.kind.Kind.TheVariants.{Assign, Semicolon, Colon, Range, Plus, Minus, Exit, Return, If, Then, Elsif, Else, EndIf, Case, Of, EndCase, For, To, By, Do, EndFor, While, EndWhile, Repeat, Until, EndRepeat}
-use Rattle.fb_grammar.specs.declared.lexeme.Lexeme.{Lexeme}
-use Rattle.fb_grammar.specs.Kind.{name_kinds}
-use Rattle.fb_grammar.specs.Form.{Form, one, both, either, option, many, as_value}
-use Rattle.fb_grammar.specs.Literals.{number_kinds, typed_kinds}
-use Rattle.fb_grammar.specs.Words.{key, before, behind, passed, optional_list, list, cons, name}
+use Rattle.fb_grammar.specs.{declared.lexeme.Lexeme.{Lexeme}, Kind.{name_kinds}, Form.{Form, one, both, either, option, many, as_value}}
+use Rattle.fb_grammar.specs.{Literals.{number_kinds, typed_kinds}, Words.{key, before, behind, passed, optional_list, list, cons, name}}
 use Rattle.fb_tree.specs.Expression.{Expression}
 use Rattle.fb_tree.specs.Statement.{Statement, empty, assignment, exit, return, choice, selection, count, while_loop, repeat_loop, statements_of, arms_of}
 use Rattle.fb_structured_text.specs.Expression.{expression, reference}

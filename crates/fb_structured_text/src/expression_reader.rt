@@ -1,9 +1,5 @@
 //! Reading expressions.
-ghost use Rattle.fb_grammar.specs.Form.{as_value, many, option};
-ghost use Rattle.fb_grammar.specs.Gives.{Gives, GivesEach};
-ghost use Rattle.fb_grammar.specs.Reading.{read};
-ghost use Rattle.fb_grammar.specs.Repetition.{with_prefix};
-ghost use Rattle.fb_grammar.specs.Words.{further};
+ghost use Rattle.fb_grammar.specs.{Form.{as_value, many, option}, Gives.{Gives, GivesEach}, Reading.{read}, Repetition.{with_prefix}, Words.{further}};
 ghost use Rattle.fb_structured_text.specs.Expression.{
   deep_part,
   deep_primary,

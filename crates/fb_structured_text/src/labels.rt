@@ -1,7 +1,5 @@
 //! Labels of `CASE`, which are read and not kept.
-ghost use Rattle.fb_grammar.specs.Gives.{Passes};
-ghost use Rattle.fb_grammar.specs.Reading.{first, is_next, read};
-ghost use Rattle.fb_grammar.specs.Words.{further};
+ghost use Rattle.fb_grammar.specs.{Gives.{Passes}, Reading.{first, is_next, read}, Words.{further}};
 ghost use Rattle.fb_structured_text.specs.Statement.{int, label, labels};
 ghost use Rattle.std.specs.Prelude.{◌≡◌};
 

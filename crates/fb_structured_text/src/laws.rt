@@ -1,10 +1,7 @@
 //! Each text spells one expression, one statement and one list of statements at most.
-ghost use Rattle.fb_grammar.specs.Form.{Spells, many};
-ghost use Rattle.fb_grammar.specs.declared.lexeme.Lexeme.{Lexeme};
-ghost use Rattle.fb_structured_text.specs.Expression.{expression};
-ghost use Rattle.fb_structured_text.specs.Statement.{statement};
-ghost use Rattle.fb_tree.specs.Expression.{Expression};
-ghost use Rattle.fb_tree.specs.Statement.{Statement};
+ghost use Rattle.fb_grammar.specs.{Form.{Spells, many}, declared.lexeme.Lexeme.{Lexeme}};
+ghost use Rattle.fb_structured_text.specs.{Expression.{expression}, Statement.{statement}};
+ghost use Rattle.fb_tree.specs.{Expression.{Expression}, Statement.{Statement}};
 ghost use Rattle.std.specs.Prelude.{◌≡◌, ℕ, List};
 
 /// At each level tokens spell one expression at most.

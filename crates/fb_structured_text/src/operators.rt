@@ -1,8 +1,5 @@
 //! Operators and literals, by their tokens.
-ghost use Rattle.fb_grammar.specs.Form.{as_value, one};
-ghost use Rattle.fb_grammar.specs.Gives.{Gives};
-ghost use Rattle.fb_grammar.specs.Kind.{is_among};
-ghost use Rattle.fb_grammar.specs.Reading.{first, is_next, read};
+ghost use Rattle.fb_grammar.specs.{Form.{as_value, one}, Gives.{Gives}, Kind.{is_among}, Reading.{first, is_next, read}};
 ghost use Rattle.fb_structured_text.specs.Expression.{literal};
 ghost use Rattle.fb_structured_text.specs.Operators.{binary_operator, binary_use, next_strength, operators, signs, strength_of, unary_operator, unary_use};
 ghost use Rattle.fb_tree.specs.Expression.{expression_tree};

@@ -1,10 +1,8 @@
 //! References: names with points between them, each perhaps followed by subscripts.
-ghost use Rattle.fb_grammar.specs.Form.{many};
-ghost use Rattle.fb_grammar.specs.Gives.{Gives, GivesEach};
-ghost use Rattle.fb_grammar.specs.Reading.{read};
+ghost use Rattle.fb_grammar.specs.{Form.{many}, Gives.{Gives, GivesEach}, Reading.{read}};
 ghost use Rattle.fb_structured_text.specs.Expression.{PartTree, flat_part, flat_reference, further_part, part_of, reference_in, reference_value, variable_tree};
-ghost use Rattle.fb_tree.specs.Expression.{expression_tree};
 ghost use Rattle.fb_structured_text.specs.Part.{part_tree};
+ghost use Rattle.fb_tree.specs.Expression.{expression_tree};
 ghost use Rattle.std.specs.Prelude.{◌≡◌, IfOk, None, map};
 
 use fb_grammar::{Kind, Reader, Stop, Tokens, is_next, key, name, several};

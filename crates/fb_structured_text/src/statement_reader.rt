@@ -1,8 +1,5 @@
 //! Reading statements.
-ghost use Rattle.fb_grammar.specs.Form.{many, option};
-ghost use Rattle.fb_grammar.specs.Gives.{Gives, GivesEach};
-ghost use Rattle.fb_grammar.specs.Reading.{first, is_next, read};
-ghost use Rattle.fb_grammar.specs.Upcoming.{are_tokens, front};
+ghost use Rattle.fb_grammar.specs.{Form.{many, option}, Gives.{Gives, GivesEach}, Reading.{first, is_next, read}, Upcoming.{are_tokens, front}};
 ghost use Rattle.fb_structured_text.specs.Expression.{expression, levels, reference};
 ghost use Rattle.fb_structured_text.specs.Statement.{
   simple_firsts,
@@ -26,8 +23,7 @@ ghost use Rattle.fb_structured_text.specs.Statement.{
   while_statement,
 };
 ghost use Rattle.fb_grammar.specs.declared.kind.Kind.TheVariants.{By};
-ghost use Rattle.fb_tree.specs.Expression.{expression_tree};
-ghost use Rattle.fb_tree.specs.Statement.{arm_tree, statement_tree};
+ghost use Rattle.fb_tree.specs.{Expression.{expression_tree}, Statement.{arm_tree, statement_tree}};
 ghost use Rattle.std.specs.Prelude.{◌≡◌, ◌<◌, ◌∷◌, [], option_map};
 
 use crate::expression_reader::{LEVELS, expression_at, reference};

@@ -1,17 +1,17 @@
 -- What stands at the front of a text ends between two characters.
 use Rattle.std.proofs.Common.{◌≡◌, ◌≢◌, ℕ, zero, suc, ◌+◌, ◌-◌, ◌/◌, ◌<◌, ◌≤◌, Bool, true, false, not, cond, ◌&&◌, ◌||◌, ltb, List, [], ◌∷◌, ◌++◌, length, get_or, take, drop, sym, refl, ap, subst, ◌∙◌, arith, length-drop, length-take-le, Option, Some, None, ⊎_elim, lit<}
-use Rattle.std.proofs.{Math.Utf8.{encode, encodes, scalar, scalars}, lemmas.Bool.Decides.{nat_tests}}
-use Rattle.std.proofs.{lemmas.Bool.{cond-true, cond-false, cond_both, and_parts, eqb-true, ltb-true, cases_lt}, lemmas.List.{get_or-drop, get_or-take}}
 use Rattle.std.proofs.lemmas.List.Sums.{prefix_len-le-length, prefix_len_stops}
 use Rattle.std.proofs.lemmas.Str.{IsCharBoundary-after_ascii, IsCharBoundary-before_ascii, IsCharBoundary-end, IsCharBoundary-at_seam}
+use Rattle.std.proofs.{Math.Utf8.{encode, encodes, scalar, scalars}, lemmas.Bool.Decides.{nat_tests}}
+use Rattle.std.proofs.{lemmas.Bool.{cond-true, cond-false, cond_both, and_parts, eqb-true, ltb-true, cases_lt}, lemmas.List.{get_or-drop, get_or-take}}
 use Rattle.std.specs.{Prelude.{◌==◌, codes, nat_eq, nat_lt, option_map, unwrap_or, IfSome}, List.{prefix_len, list_all, starts_with}, Char.{is_ascii_digit}}
 use Rattle.std.specs.Str.{IsAscii, IsUtf8, IsCharBoundary, continuation_len}
 use Rattle.fb_text.specs.Bytes.{is_blank, is_word_start, is_word_byte, is_number_byte, is_sign, is_exponent_mark, is_line_end, is_quote, hash, point, escape, first}
 use Rattle.fb_text.specs.Words.{is_word}
 use Rattle.fb_text.specs.Forms.{are_some, sign_len, after_sign, is_exponent, is_fraction, is_number_tail, is_number, is_value_byte, are_value_bytes, is_value, is_typed_tail, is_typed, is_date, is_real, leading_word, after_word, is_string, is_string_rest, is_symbol, is_symbol_byte, is_symbol_pair, form_of, HasForm}
 use Rattle.fb_text.specs.Tokens.{of_kind, longest, token_or_char, token_at, char_len, before_close, comment_at, piece_at, IsPrefix, FitsIn, IsLongest}
-use Rattle.fb_text.specs.{declared.token.TokenKind.{TokenKind}, declared.scan.Piece.{Piece}, declared.scan.Piece.TheVariants.{Gap, Unclosed, Found}}
 use Rattle.fb_text.specs.declared.token.TokenKind.TheVariants.{Other}
+use Rattle.fb_text.specs.{declared.token.TokenKind.{TokenKind}, declared.scan.Piece.{Piece}, declared.scan.Piece.TheVariants.{Gap, Unclosed, Found}}
 use Rattle.fb_text.proofs.{NameLemmas.{is_word_byte-ascii, is_word-ascii}, Longest.{by_test}, LongestForms.{prefix_len-pos}}
 use Rattle.fb_text.proofs.LongestToken.{any-byte, any-second}
 

@@ -4,8 +4,8 @@ use Rattle.std.proofs.{lemmas.Bool.Decides.{nat_tests}, lemmas.Bool.{cond-true, 
 use Rattle.std.specs.{Prelude.{◌==◌, option_map}, List.{prefix_len}, Char.{is_ascii_digit}}
 use Rattle.fb_text.specs.Bytes.{is_blank, is_line_end, is_quote, is_word_start, escape, first}
 use Rattle.fb_text.specs.Scan.{AreOpen, NoString, no_quotes, extended, line_rest, reach_of, string_len, symbol_len, through_len, through_quote}
-use Rattle.fb_text.specs.{Tokens.{char_len, piece_at, token_at}, declared.token.TokenKind.TheVariants.{String, Other}, declared.scan.Piece.TheVariants.{Found}}
 use Rattle.fb_text.specs.declared.quotes.OpenQuotes.{OpenQuotes}
+use Rattle.fb_text.specs.{Tokens.{char_len, piece_at, token_at}, declared.token.TokenKind.TheVariants.{String, Other}, declared.scan.Piece.TheVariants.{Found}}
 use Rattle.fb_text.proofs.{Longest.{by_test}, Pieces.{token-piece}, LongestForms.{first-take, Takes-symbol}}
 use Rattle.fb_text.proofs.LongestToken.{string-no-symbol, token-string, token-other}
 

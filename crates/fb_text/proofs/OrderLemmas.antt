@@ -1,7 +1,7 @@
 -- Two lists with the same items are the same in order.
 use Rattle.std.proofs.Common.{◌↔◌, nat_eq, ◌≡◌, ℕ, Bool, true, false, cond, ◌||◌, List, [], ◌∷◌, ◌++◌, map, is_some, Some, None, refl, sym, true≢false, ap, ◌∙◌}
-use Rattle.std.proofs.{lemmas.Cmp.{eq_by_cmp_equiv}, lemmas.List.{nil_from_length}, lemmas.List.Elements.{All-from_recursion, recursion_from_All}}
 use Rattle.std.proofs.lemmas.Map.Views.{All-insert_key, Contains-from_any, list_any-from_Contains}
+use Rattle.std.proofs.{lemmas.Cmp.{eq_by_cmp_equiv}, lemmas.List.{nil_from_length}, lemmas.List.Elements.{All-from_recursion, recursion_from_All}}
 use Rattle.std.specs.{declared.cmp.Ordering.{Ordering}, declared.cmp.Ordering.TheVariants.{Less, Equal, Greater}, List.{list_any, AllByRecursion, Contains}}
 use Rattle.std.specs.{Ordering.{eq_by_cmp, is_eq, match_ordering, ordering_reverse, ordering_then}, List.Sorted.{IsStrictlySortedBy}, BTreeMap.{is_at}}
 use Rattle.std.specs.{Cmp.Lexicographic.{pointwise, texts_ties}, Cmp.{IsTotalOrder}}

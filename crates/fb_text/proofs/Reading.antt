@@ -3,9 +3,9 @@ use Rattle.std.proofs.Common.{◌≡◌, Bool, false, ℕ, zero, suc, ◌+◌, �
 use Rattle.std.proofs.{lemmas.List.{drop-drop, drop_all}, lemmas.List.Elements.{All-nil, All-push}, lemmas.Str.{IsCharBoundary-start, IsCharBoundary-from_rest}}
 use Rattle.std.specs.{Prelude.{All}, Str.{IsCharBoundary}}
 use Rattle.fb_text.specs.Tokens.{piece_before, with_token, piece_at, tokens_from, tokens_of, IsPrefix, LiesIn, IsSpelled, SpansRise, spans_of}
+use Rattle.fb_text.specs.declared.scan.Piece.TheVariants.{Gap, Unclosed, Found}
 use Rattle.fb_text.specs.{Forms.{HasForm}, Scan.{AreOpen, no_quotes}, declared.quotes.OpenQuotes.{OpenQuotes}, declared.token.Span.{Span}}
 use Rattle.fb_text.specs.{declared.token.Token.{Token}, declared.token.TokenKind.{TokenKind}, declared.scan.Piece.{Piece}}
-use Rattle.fb_text.specs.declared.scan.Piece.TheVariants.{Gap, Unclosed, Found}
 use Rattle.fb_text.proofs.{OpenLines.{AreOpen-later, AreOpen-none}, Boundaries.{piece-spelled}}
 
 -- tokens before those that a reading has

@@ -2,8 +2,8 @@
 use Rattle.std.specs.{Prelude.{ℕ, Bool, true, false, not, List, [], map, filter}, List.{flat_map}}
 use Rattle.fb_text.specs.{Elementary.{is_elementary}, Order.{names_in_order}}
 use Rattle.fb_tree.specs.Tree.{DeclTree, block_type, adapter_type, subapplication_type, system_configuration, structure_type, InstanceTree, VariablesTree}
-use Rattle.fb_tree.specs.{declared.kinds.UnitKind.{UnitKind}, declared.kinds.UnitKind.TheVariants.{Block, Adapter, Subapplication, System, Structure}}
 use Rattle.fb_tree.specs.declared.mentioned.Mentions.{Mentions}
+use Rattle.fb_tree.specs.{declared.kinds.UnitKind.{UnitKind}, declared.kinds.UnitKind.TheVariants.{Block, Adapter, Subapplication, System, Structure}}
 
 abbrev pub unit_kind_of : DeclTree → UnitKind
 unit_kind_of (block_type d) = Block

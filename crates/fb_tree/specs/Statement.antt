@@ -2,9 +2,9 @@
 use Rattle.std.specs.{Prelude.{List, [], ◌∷◌, Vec, map, Option, option_map, box_value}, declared.alloc.Global.{Global}}
 use Rattle.fb_text.specs.{declared.token.Span.{Span}, declared.name.NameUse.{NameUse}}
 use Rattle.fb_tree.specs.Expression.{ReferenceTree, alone_tree, reference_tree, Expression, Expressions, expressions_of, no_expressions, expression_tree}
-use Rattle.fb_tree.specs.{declared.expression.Expr.{Expr}, declared.statement.Stmt.{Stmt}}
 use Rattle.fb_tree.specs.declared.statement.Stmt.TheOpen.{Stmt-F, Empty, Set, Assign, Exit, Return, If, Case, For, While, Repeat}
 use Rattle.fb_tree.specs.declared.statement.Stmt.TheFolds.{fold-Stmt}
+use Rattle.fb_tree.specs.{declared.expression.Expr.{Expr}, declared.statement.Stmt.{Stmt}}
 
 mutual
   pub data Statement : Type 0 where

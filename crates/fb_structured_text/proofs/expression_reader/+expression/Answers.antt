@@ -1,26 +1,18 @@
 use Rattle.std.proofs.Common.{◌≡◌, ◌≤◌, ◌<◌, ℕ, ◌+◌, ◌∷◌, [], true, false, Ok, List, length, map, rules, ap, sym, refl, subst, ◌∙◌, arith}
 use Rattle.std.proofs.lemmas.Result.{err_from_is_err_and}
-use Rattle.fb_grammar.specs.declared.kind.Kind.{Kind}
-use Rattle.fb_grammar.specs.declared.lexeme.Lexeme.{Lexeme}
-use Rattle.fb_grammar.specs.declared.kind.Kind.TheVariants.{Comma, Point, OpenBracket}
-use Rattle.fb_tree.specs.declared.expression.BinaryUse.{BinaryUse}
-use Rattle.fb_tree.specs.declared.expression.Expr.{Expr}
-use Rattle.fb_tree.specs.declared.expression.Expr.TheOpen.{Pair as PairF, Row as RowF}
-use denote.Hole.Carrier.{roll}
-use Rattle.fb_tree.specs.declared.expression.Expr.TheViews.{roll-Expr}
+use Rattle.fb_grammar.specs.{declared.kind.Kind.{Kind}, declared.lexeme.Lexeme.{Lexeme}, declared.kind.Kind.TheVariants.{Comma, Point, OpenBracket}}
+use Rattle.fb_grammar.specs.{Form.{many}, Reading.{is_next, read}, Repetition.{with_prefix}, Words.{further}}
+use Rattle.fb_tree.specs.{declared.expression.BinaryUse.{BinaryUse}, declared.expression.Expr.{Expr}}
+use Rattle.fb_tree.specs.{declared.expression.Expr.TheOpen.{Pair as PairF, Row as RowF}, declared.expression.Expr.TheViews.{roll-Expr}}
 use Rattle.fb_tree.specs.declared.expression.Expr.TheFolds.{fold-roll-Expr}
 use Rattle.fb_tree.specs.Expression.{Expression, Expressions, ReferenceTree, row_expression, operand_tree, operands_of, expression_step, expression_tree}
-use Rattle.fb_structured_text.specs.Expression.{PartTree, deep_part, expression, expressions, further_part, operand, primary, row_at, unary}
-use Rattle.fb_structured_text.specs.Part.{part_tree}
+use denote.Hole.Carrier.{roll}
+use Rattle.fb_structured_text.specs.{Expression.{PartTree, deep_part, expression, expressions, further_part, operand, primary, row_at, unary}, Part.{part_tree}}
 use Rattle.fb_structured_text.specs.Operators.{next_strength, operators}
 use Rattle.fb_structured_text.proofs.Rows.{IsBuilt, begins-operand, begins-further_part, built_first, built_fails, built_pair, built_row, built_row_fails, operands_shorter, rows_first_fails, expression_is, primary_reference, primary_parentheses}
 use Rattle.fb_structured_text.proofs.Variables.{behind_first, deep_alone, deep_name_fails, no_subscripts, part_fails, parts_fail, read_deep, read_part, subscripts_fail, subscripts_read, ended_at}
-use Rattle.fb_grammar.specs.Form.{many}
-use Rattle.fb_grammar.specs.Reading.{is_next, read}
-use Rattle.fb_grammar.specs.Repetition.{with_prefix}
-use Rattle.fb_grammar.specs.Words.{further}
-use Rattle.fb_grammar.proofs.Loops.{shorter, push_more, push_fails, push_done}
 use Rattle.fb_structured_text.proofs.expression_reader.+expression.Goals.{row-then-next_strength-level+in_ok-operands+in_ok-new, row-else-next_strength-level+in_ok-new-2}
+use Rattle.fb_grammar.proofs.Loops.{shorter, push_more, push_fails, push_done}
 use Rattle.fb_structured_text.proofs.expression_reader.+expression.Goals as goal
 
 pub deep_primary-returns-then-is_next : goal.deep_primary-returns-then-is_next

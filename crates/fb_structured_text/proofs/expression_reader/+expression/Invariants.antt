@@ -1,11 +1,7 @@
 use Rattle.std.proofs.Common.{◌≡◌, ◌+◌, ◌-◌, ◌*◌, ◌∷◌, [], length, map}
 use Rattle.fb_tree.specs.Expression.{expression_tree, operand_tree}
-use Rattle.fb_structured_text.specs.Expression.{deep_part, expression, expressions, further_part, operand_at, primary, unary}
-use Rattle.fb_structured_text.specs.Part.{part_tree}
-use Rattle.fb_grammar.specs.Form.{many}
-use Rattle.fb_grammar.specs.Reading.{read}
-use Rattle.fb_grammar.specs.Words.{further}
-use Rattle.fb_grammar.specs.Repetition.{with_prefix}
+use Rattle.fb_structured_text.specs.{Expression.{deep_part, expression, expressions, further_part, operand_at, primary, unary}, Part.{part_tree}}
+use Rattle.fb_grammar.specs.{Form.{many}, Reading.{read}, Words.{further}, Repetition.{with_prefix}}
 use Rattle.fb_structured_text.proofs.Rows.{IsBuilt}
 use Rattle.fb_structured_text.proofs.expression_reader.+expression.Given as goal
 

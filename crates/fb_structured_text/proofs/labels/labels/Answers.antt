@@ -1,8 +1,7 @@
 use Rattle.std.proofs.Common.{refl, sym, ◌∙◌}
-use Rattle.fb_grammar.specs.Words.{further}
+use Rattle.fb_grammar.specs.{Words.{further}, Reading.{read}}
 use Rattle.fb_grammar.proofs.Loops.{shorter}
 use Rattle.fb_structured_text.specs.Statement.{label, labels}
-use Rattle.fb_grammar.specs.Reading.{read}
 use Rattle.fb_structured_text.proofs.Bodies.{labels_more}
 use Rattle.fb_structured_text.proofs.labels.labels.Goals as goal
 

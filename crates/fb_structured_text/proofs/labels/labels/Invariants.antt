@@ -1,7 +1,5 @@
 use Rattle.std.proofs.Common.{◌≡◌, length}
-use Rattle.fb_grammar.specs.Form.{many}
-use Rattle.fb_grammar.specs.Reading.{read}
-use Rattle.fb_grammar.specs.Words.{further}
+use Rattle.fb_grammar.specs.{Form.{many}, Reading.{read}, Words.{further}}
 use Rattle.fb_structured_text.specs.Statement.{label, labels}
 use Rattle.fb_structured_text.proofs.Bodies.{gone}
 use Rattle.fb_structured_text.proofs.labels.labels.Given as goal

@@ -1,6 +1,5 @@
 use Rattle.fb_grammar.proofs.ReadKinds.{kind_read}
-use Rattle.fb_grammar.specs.Literals.{literal_kinds}
-use Rattle.fb_grammar.specs.Upcoming.{front}
+use Rattle.fb_grammar.specs.{Literals.{literal_kinds}, Upcoming.{front}}
 use Rattle.fb_structured_text.proofs.operators.literal.Goals as goal
 
 pub literal_use-requires : goal.literal_use-requires

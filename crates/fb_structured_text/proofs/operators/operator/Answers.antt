@@ -1,8 +1,6 @@
 use Rattle.std.proofs.Common.{◌≡◌, true, List, subst}
 use Rattle.fb_grammar.proofs.ReadKinds.{kind_read}
-use Rattle.fb_grammar.specs.declared.kind.Kind.{Kind}
-use Rattle.fb_grammar.specs.Kind.{is_among}
-use Rattle.fb_grammar.specs.Upcoming.{front}
+use Rattle.fb_grammar.specs.{declared.kind.Kind.{Kind}, Kind.{is_among}, Upcoming.{front}}
 use Rattle.fb_structured_text.specs.Operators.{operators}
 use Rattle.fb_structured_text.proofs.Rows.{operators_are_tokens, strength_told}
 use Rattle.fb_structured_text.proofs.operators.operator.Goals as goal

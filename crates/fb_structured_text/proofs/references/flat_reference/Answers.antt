@@ -1,10 +1,7 @@
-use Rattle.std.proofs.Common.{◌≡◌, ◌∷◌, [], false, None, Ok, map, rules, ap, sym, ◌∙◌}
-use Rattle.std.proofs.lemmas.Result.{err_from_is_err_and}
-use Rattle.fb_grammar.specs.declared.kind.Kind.TheVariants.{Point}
-use Rattle.fb_grammar.specs.Reading.{is_next}
+use Rattle.std.proofs.{Common.{◌≡◌, ◌∷◌, [], false, None, Ok, map, rules, ap, sym, ◌∙◌}, lemmas.Result.{err_from_is_err_and}}
+use Rattle.fb_grammar.specs.{declared.kind.Kind.TheVariants.{Point}, Reading.{is_next}}
 use Rattle.fb_tree.specs.Expression.{Expressions, ReferenceTree}
-use Rattle.fb_structured_text.specs.Expression.{PartTree, part_of, reference_in}
-use Rattle.fb_structured_text.specs.Part.{part_tree}
+use Rattle.fb_structured_text.specs.{Expression.{PartTree, part_of, reference_in}, Part.{part_tree}}
 use Rattle.fb_structured_text.proofs.Variables.{behind_first, flat_alone, flat_name_fails, flat_parts_fail, read_flat}
 use Rattle.fb_structured_text.proofs.references.flat_reference.Goals as goal
 

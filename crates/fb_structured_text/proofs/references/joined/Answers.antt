@@ -1,6 +1,4 @@
-use Rattle.std.proofs.Common.{ap, ◌∙◌}
-use Rattle.std.proofs.lemmas.Iterator.Adapters.{YieldsList-from_vec}
-use Rattle.std.proofs.lemmas.Iterator.Consumers.{YieldsList-end}
+use Rattle.std.proofs.{Common.{ap, ◌∙◌}, lemmas.Iterator.Adapters.{YieldsList-from_vec}, lemmas.Iterator.Consumers.{YieldsList-end}}
 use Rattle.fb_tree.specs.Expression.{reference_tree}
 use Rattle.fb_structured_text.proofs.Joining.{joined_none, joined_more, joined_all}
 use Rattle.fb_structured_text.proofs.references.joined.Goals as goal

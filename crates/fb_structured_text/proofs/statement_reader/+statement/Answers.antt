@@ -1,19 +1,13 @@
-use Rattle.std.proofs.Common.{◌≡◌, ◌-◌, ◌∷◌, [], true≢false, eq-eqb, map, ap, sym, refl, ◌∙◌, arith}
-use Rattle.std.proofs.lemmas.List.{map-append}
-use Rattle.std.proofs.lemmas.Simd.{map-map}
+use Rattle.std.proofs.{Common.{◌≡◌, ◌-◌, ◌∷◌, [], true≢false, eq-eqb, map, ap, sym, refl, ◌∙◌, arith}, lemmas.List.{map-append}, lemmas.Simd.{map-map}}
 use Rattle.std.proofs.lemmas.Result.{err_from_is_err_and}
-use Rattle.fb_grammar.specs.declared.kind.Kind.TheVariants.{Elsif}
-use Rattle.fb_grammar.specs.Form.{many}
-use Rattle.fb_grammar.specs.Reading.{first, read}
+use Rattle.fb_grammar.specs.{declared.kind.Kind.TheVariants.{Elsif}, Form.{many}, Reading.{first, read}}
 use Rattle.fb_grammar.proofs.Loops.{shorter, push_more, push_fails, push_done}
 use Rattle.fb_tree.specs.declared.statement.Stmt as Stmt
-use Rattle.fb_tree.specs.declared.statement.Stmt.TheOpen.{If as IfF}
-use Rattle.fb_tree.specs.declared.statement.Stmt.TheViews.{roll-Stmt}
+use Rattle.fb_tree.specs.{declared.statement.Stmt.TheOpen.{If as IfF}, declared.statement.Stmt.TheViews.{roll-Stmt}}
 use Rattle.fb_tree.specs.declared.statement.Stmt.TheFolds.{fold-roll-Stmt}
-use denote.Hole.Carrier.{roll}
 use Rattle.fb_tree.specs.Statement.{Statement, arm_tree, choice, arms_of, statements_of, statement_step, statement_tree}
-use Rattle.fb_structured_text.specs.Expression.{expression}
-use Rattle.fb_structured_text.specs.Statement.{arm, arms, case, cases, if_statement, nested_statement, simple_statement, statement}
+use denote.Hole.Carrier.{roll}
+use Rattle.fb_structured_text.specs.{Expression.{expression}, Statement.{arm, arms, case, cases, if_statement, nested_statement, simple_statement, statement}}
 use Rattle.fb_structured_text.proofs.Bodies.{begins-statement, begins-arm, begins-case, cases_more, cases_fails, cases_done, statement_zero, statement_simple, statement_nested, nested_if, nested_case, nested_for, nested_while, nested_repeat}
 use Rattle.fb_structured_text.proofs.statement_reader.+statement.Goals.{statement-then-left-eq0, statement-else-left-eq0}
 use Rattle.fb_structured_text.proofs.statement_reader.+statement.Goals as goal

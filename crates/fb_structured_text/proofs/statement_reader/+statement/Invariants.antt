@@ -1,11 +1,7 @@
 use Rattle.std.proofs.Common.{◌≡◌, ◌+◌, ◌-◌, ◌*◌, length, map}
-use Rattle.fb_grammar.specs.declared.kind.Kind.TheVariants.{Elsif}
-use Rattle.fb_grammar.specs.Form.{many}
-use Rattle.fb_grammar.specs.Reading.{read}
-use Rattle.fb_grammar.specs.Repetition.{with_prefix}
+use Rattle.fb_grammar.specs.{declared.kind.Kind.TheVariants.{Elsif}, Form.{many}, Reading.{read}, Repetition.{with_prefix}}
 use Rattle.fb_tree.specs.Statement.{arm_tree, statement_tree}
-use Rattle.fb_structured_text.specs.Expression.{expression}
-use Rattle.fb_structured_text.specs.Statement.{arm, arms, case, cases, statement}
+use Rattle.fb_structured_text.specs.{Expression.{expression}, Statement.{arm, arms, case, cases, statement}}
 use Rattle.fb_structured_text.proofs.Bodies.{flat}
 use Rattle.fb_structured_text.proofs.statement_reader.+statement.Given as goal
 

@@ -1,9 +1,7 @@
 use Rattle.std.proofs.Common.{refl, rules}
-use Rattle.fb_grammar.specs.Gives.{Gives}
-use Rattle.fb_grammar.specs.Reading.{read}
+use Rattle.fb_grammar.specs.{Gives.{Gives}, Reading.{read}}
 use Rattle.fb_grammar.proofs.Loops.{gives_shorter}
-use Rattle.fb_structured_text.specs.Expression.{flat_part, further_part}
-use Rattle.fb_structured_text.specs.Part.{part_tree}
+use Rattle.fb_structured_text.specs.{Expression.{flat_part, further_part}, Part.{part_tree}}
 use Rattle.fb_structured_text.proofs.references.FlatReaderReader.read.Goals as goal
 
 pub returns-clause-takes : goal.returns-clause-takes
