@@ -1,8 +1,8 @@
 //! Algorithms of actions.
-ghost use Rattle.std.specs.Prelude.{◌≡◌, ◌++◌, ℕ, List, map, IfOk, OnOk};
+ghost use Rattle.std.specs.Prelude.{◌≡◌, ◌++◌, ℕ, List, map, nat_eq, IfOk, OnOk};
 ghost use Rattle.std.specs.List.{flat_map};
-ghost use Rattle.std.specs.BTreeSet.{contains};
-ghost use Rattle.fb_tree.specs.Text.Order.{name_cmp};
+ghost use Rattle.std.specs.HashSet.{contains};
+ghost use Rattle.std.specs.Cmp.Lexicographic.{pointwise};
 ghost use Rattle.fb_tree.specs.Tree.{chart_tree, state_tree};
 ghost use Rattle.fb_iface.specs.Names.{has_name};
 ghost use Rattle.fb_ecc.specs.Algorithms.{algorithm_fault, algorithm_faults, run_faults};
@@ -11,7 +11,7 @@ use fb_iface::{Code, Fault};
 use fb_tree::text::Name;
 use fb_tree::{Action, Algorithm, Chart, State};
 use std::alloc::{AllocError, Global};
-use std::collections::BTreeSet;
+use std::collections::HashSet;
 
 /// Reports the algorithms of actions that are not declared.
 pub fn report_algorithms(
@@ -27,14 +27,11 @@ pub fn report_algorithms(
 }
 
 /// The names of the algorithms.
-fn declared_algorithms(
-    alloc: Global,
-    algorithms: &[Algorithm],
-) -> Result<BTreeSet<Name>, AllocError>
+fn declared_algorithms(alloc: Global, algorithms: &[Algorithm]) -> Result<HashSet<Name>, AllocError>
     ensures { IfOk result (λ declared. (name : List ℕ) →
-        contains name_cmp declared name ≡ has_name (map (λ a. a.name) algorithms.now) name) }
+        contains (pointwise nat_eq) declared name ≡ has_name (map (λ a. a.name) algorithms.now) name) }
 {
-    let mut declared = BTreeSet::new(alloc);
+    let mut declared = HashSet::with_capacity(alloc, algorithms.len())?;
     for algorithm in algorithms {
         declared.insert(algorithm.name.name.name())?;
     }
@@ -43,13 +40,13 @@ fn declared_algorithms(
 
 /// Reports those of each state.
 fn report_run(
-    declared: &BTreeSet<Name>,
+    declared: &HashSet<Name>,
     states: &[State],
     found: &mut Vec<Fault>,
 ) -> Result<(), AllocError>
     ensures { OnOk result (found.new.items ≡ found.old.items
         ++ flat_map
-        (λ s. flat_map (run_faults (contains name_cmp declared.now))
+        (λ s. flat_map (run_faults (contains (pointwise nat_eq) declared.now))
         (state_tree s).actions) states.now) }
 {
     for state in states {
@@ -60,12 +57,12 @@ fn report_run(
 
 /// Reports those of each action.
 fn report_run_by(
-    declared: &BTreeSet<Name>,
+    declared: &HashSet<Name>,
     actions: &[Action],
     found: &mut Vec<Fault>,
 ) -> Result<(), AllocError>
     ensures { OnOk result (found.new.items
-        ≡ found.old.items ++ flat_map (run_faults (contains name_cmp declared.now)) actions.now) }
+        ≡ found.old.items ++ flat_map (run_faults (contains (pointwise nat_eq) declared.now)) actions.now) }
 {
     for action in actions {
         report_action(declared, action, found)?;
@@ -75,12 +72,12 @@ fn report_run_by(
 
 /// Reports the algorithm of an action.
 fn report_action(
-    declared: &BTreeSet<Name>,
+    declared: &HashSet<Name>,
     action: &Action,
     found: &mut Vec<Fault>,
 ) -> Result<(), AllocError>
     ensures { OnOk result (found.new.items
-        ≡ found.old.items ++ run_faults (contains name_cmp declared.now) action.now) }
+        ≡ found.old.items ++ run_faults (contains (pointwise nat_eq) declared.now) action.now) }
 {
     if let Some(name) = &action.algorithm {
         if !declared.contains(&name.name.name()) {

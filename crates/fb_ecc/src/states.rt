@@ -1,8 +1,8 @@
 //! States of transitions.
-ghost use Rattle.std.specs.Prelude.{◌≡◌, ◌++◌, ℕ, List, map, IfOk, OnOk};
+ghost use Rattle.std.specs.Prelude.{◌≡◌, ◌++◌, ℕ, List, map, nat_eq, IfOk, OnOk};
 ghost use Rattle.std.specs.List.{flat_map};
-ghost use Rattle.std.specs.BTreeSet.{contains};
-ghost use Rattle.fb_tree.specs.Text.Order.{name_cmp};
+ghost use Rattle.std.specs.HashSet.{contains};
+ghost use Rattle.std.specs.Cmp.Lexicographic.{pointwise};
 ghost use Rattle.fb_tree.specs.Tree.{chart_tree, transition_tree};
 ghost use Rattle.fb_iface.specs.Names.{has_name};
 ghost use Rattle.fb_ecc.specs.States.{transition_faults, state_fault, state_faults};
@@ -11,7 +11,7 @@ use fb_iface::{Code, Fault};
 use fb_tree::text::{Name, NameUse};
 use fb_tree::{Chart, State, Transition};
 use std::alloc::{AllocError, Global};
-use std::collections::BTreeSet;
+use std::collections::HashSet;
 
 /// Reports the states of transitions that are not listed.
 pub fn report_states(alloc: Global, chart: &Chart, found: &mut Vec<Fault>) -> Result<(), AllocError>
@@ -23,11 +23,11 @@ pub fn report_states(alloc: Global, chart: &Chart, found: &mut Vec<Fault>) -> Re
 }
 
 /// The names of the states.
-fn listed_states(alloc: Global, states: &[State]) -> Result<BTreeSet<Name>, AllocError>
+fn listed_states(alloc: Global, states: &[State]) -> Result<HashSet<Name>, AllocError>
     ensures { IfOk result (λ listed. (name : List ℕ) →
-        contains name_cmp listed name ≡ has_name (map (λ s. s.name) states.now) name) }
+        contains (pointwise nat_eq) listed name ≡ has_name (map (λ s. s.name) states.now) name) }
 {
-    let mut listed = BTreeSet::new(alloc);
+    let mut listed = HashSet::with_capacity(alloc, states.len())?;
     for state in states {
         listed.insert(state.name.name.name())?;
     }
@@ -36,13 +36,13 @@ fn listed_states(alloc: Global, states: &[State]) -> Result<BTreeSet<Name>, Allo
 
 /// Reports those of each transition.
 fn report_ends(
-    listed: &BTreeSet<Name>,
+    listed: &HashSet<Name>,
     transitions: &[Transition],
     found: &mut Vec<Fault>,
 ) -> Result<(), AllocError>
     ensures { OnOk result (found.new.items ≡ found.old.items
         ++ flat_map
-        (λ t. transition_faults (contains name_cmp listed.now)
+        (λ t. transition_faults (contains (pointwise nat_eq) listed.now)
         (transition_tree t)) transitions.now) }
 {
     for transition in transitions {
@@ -54,12 +54,12 @@ fn report_ends(
 
 /// Reports a state that is not listed.
 fn report_state(
-    listed: &BTreeSet<Name>,
+    listed: &HashSet<Name>,
     name: &NameUse,
     found: &mut Vec<Fault>,
 ) -> Result<(), AllocError>
     ensures { OnOk result
-        (found.new.items ≡ found.old.items ++ state_fault (contains name_cmp listed.now) name.now) }
+        (found.new.items ≡ found.old.items ++ state_fault (contains (pointwise nat_eq) listed.now) name.now) }
 {
     if !listed.contains(&name.name.name()) {
         found.push(Fault::at(Code::StateUnknown, name))?;

@@ -1,4 +1,5 @@
 pub mod CodeLemmas
+pub mod CountLemmas
 pub mod EarlierLemmas
 pub mod DuplicateLemmas
 pub mod FaultLemmas

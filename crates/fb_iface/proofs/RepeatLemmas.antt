@@ -1,10 +1,10 @@
 -- One more name in a name space.
-use Rattle.std.proofs.Common.{◌≡◌, ℕ, ◌+◌, ◌<◌, Bool, true, false, cond, ◌||◌, List, [], ◌∷◌, ◌++◌, length, get_or, take, refl, sym, ap, ◌∙◌, append-nil}
-use Rattle.std.specs.BTreeMap.{is_at}
-use Rattle.std.specs.BTreeSet.{BTreeSet, contains, Updates}
+use Rattle.std.proofs.Common.{◌≡◌, ℕ, ◌+◌, ◌<◌, Bool, true, false, cond, ◌||◌, List, [], ◌∷◌, ◌++◌, length, get_or, take, refl, sym, ap, ◌∙◌, append-nil, nat_eq, arith}
+use Rattle.std.specs.Cmp.Lexicographic.{pointwise}
+use Rattle.std.specs.HashSet.{HashSet, contains, Updates}
 use Rattle.std.proofs.Math.Bool.{or-false, or_assoc}
 use Rattle.std.proofs.lemmas.List.{map-append}
-use Rattle.fb_tree.specs.Text.Order.{name_cmp}
+use Rattle.fb_tree.proofs.Text.OrderLemmas.{same_name}
 use Rattle.fb_tree.specs.Text.declared.name.NameUse.{NameUse}
 use Rattle.fb_iface.specs.declared.code.Code.{Code}
 use Rattle.fb_iface.specs.Fault.{fault_at, faults_at}
@@ -22,11 +22,11 @@ true_or false true = refl
 true_or false false = refl
 
 -- a set that holds the names so far holds them with one more
-pub noted-push : (xs : List NameUse) (x : NameUse) (old new : BTreeSet (List ℕ)) → ((q : List ℕ) → contains name_cmp old q ≡ has_name xs q) → Updates name_cmp old new x.name true → (q : List ℕ) → contains name_cmp new q ≡ has_name (xs ++ x ∷ []) q
+pub noted-push : {S : Type 0} (xs : List NameUse) (x : NameUse) (old new : HashSet (List ℕ) S) → ((q : List ℕ) → contains (pointwise nat_eq) old q ≡ has_name xs q) → Updates (pointwise nat_eq) old new x.name true → (q : List ℕ) → contains (pointwise nat_eq) new q ≡ has_name (xs ++ x ∷ []) q
 noted-push xs x old new noted updates q =
     updates.0 q
-    ∙ (λ i. cond (is_at (name_cmp x.name) q) true (noted q i))
-    ∙ true_or (is_at (name_cmp x.name) q) (has_name xs q)
+    ∙ (λ i. cond (same_name x.name q i) true (noted q i))
+    ∙ true_or (is_same x.name q) (has_name xs q)
     ∙ sym (has_name-push xs x q)
 
 -- second and later declarations among the first n of the names
@@ -45,3 +45,9 @@ reported-again code names n x within here e =
 pub reported-first : (code : Code) (names : List NameUse) (n : ℕ) (x : NameUse) → n < length names → x ≡ get_or names n x → has_name (take n names) x.name ≡ false → faults_at code (repeated_among (n + 1) names) ≡ faults_at code (repeated_among n names)
 reported-first code names n x within here e =
     ap (faults_at code) (passing-more (is_repeated names) names n x false within here e ∙ append-nil (repeated_among n names))
+
+-- fewer than two names do not repeat
+pub none_repeated : (names : List NameUse) → length names < 2 → repeated names ≡ []
+none_repeated [] few = refl
+none_repeated (x ∷ []) few = refl
+none_repeated (x ∷ y ∷ names) few = absurd (omega arith)

@@ -7,7 +7,7 @@ use Rattle.std.specs.Cmp.Lexicographic.{pointwise, nat_list_eq_equiv, same_text}
 use Rattle.std.specs.Map.{lookup}
 use Rattle.fb_tree.proofs.Text.OrderLemmas.{same_name}
 use Rattle.fb_iface.proofs.PlaceLemmas.{passing, passing-all, passing-more}
-use Rattle.fb_iface.specs.Names.{first_ones, is_same, stands_for}
+use Rattle.fb_iface.specs.Names.{first_ones, is_same, stands_for, with_first, with_firsts}
 
 pub is_it : (x q : List ℕ) → is_same x q ≡ true → q ≡ x
 is_it x q e = sym (same_text x q (sym (same_name x q ∙ e)))
@@ -113,3 +113,48 @@ module _ {D : Type 0} where
   -- also among the first n alone
   pub found_among : (entries all : List (List ℕ × D)) (n : ℕ) (name : List ℕ) → entries ≡ first_among n all → n ≤ length all → lookup (pointwise nat_eq name) entries ≡ stands_for (take n all) name
   found_among entries all n name firsts within = found_by_name entries name ∙ ap (λ l. stands_for l name) firsts ∙ stands_among all n name within
+
+  -- first declarations, one after another
+  pub with_firsts-push : (firsts xs : List (List ℕ × D)) (x : List ℕ × D) → with_firsts firsts (xs ++ x ∷ []) ≡ with_first (with_firsts firsts xs) x
+  with_firsts-push firsts [] x = refl
+  with_firsts-push firsts (y ∷ xs) x = with_firsts-push (with_first firsts y) xs x
+
+  pub with_firsts-append : (firsts xs ys : List (List ℕ × D)) → with_firsts firsts (xs ++ ys) ≡ with_firsts (with_firsts firsts xs) ys
+  with_firsts-append firsts [] ys = refl
+  with_firsts-append firsts (x ∷ xs) ys = with_firsts-append (with_first firsts x) xs ys
+
+  first_next : (all : List (List ℕ × D)) (n : ℕ) (x : List ℕ × D) → n < length all → x ≡ get_or all n x → first_among (n + 1) all ≡ with_first (first_among n all) x
+  first_next all n x within here = by (is_some (stands_for (take n all) x.0)) refl
+    where
+      same : is_some (stands_for (first_among n all) x.0) ≡ is_some (stands_for (take n all) x.0)
+      same = let below : n ≤ length all = omega arith in ap is_some (stands_among all n x.0 below)
+
+      by : (b : Bool) → is_some (stands_for (take n all) x.0) ≡ b → first_among (n + 1) all ≡ with_first (first_among n all) x
+      by true there =
+          first-more all n x false within here there
+          ∙ append-nil (first_among n all)
+          ∙ ap (λ c. cond c (first_among n all) (first_among n all ++ x ∷ [])) (sym (same ∙ there))
+      by false absent =
+          first-more all n x true within here absent
+          ∙ ap (λ c. cond c (first_among n all) (first_among n all ++ x ∷ [])) (sym (same ∙ absent))
+
+  firsts_among : (all : List (List ℕ × D)) (n : ℕ) → n ≤ length all → with_firsts [] (take n all) ≡ first_among n all
+  firsts_among all zero within = refl
+  firsts_among [] (suc n) within = absurd (omega arith)
+  firsts_among (y ∷ ys) (suc n) within =
+      let all = y ∷ ys in
+      let before : n < length all = omega arith in
+      let next : suc n ≡ n + 1 = omega arith in
+      let x = get_or all n y in
+      ap (with_firsts []) (take-suc all n y before)
+      ∙ with_firsts-push [] (take n all) x
+      ∙ ap (λ l. with_first l x) (firsts_among all n (omega arith))
+      ∙ sym (first_next all n x before (get_or_default all n y x before))
+      ∙ ap (λ m. first_among m all) (sym next)
+
+  -- all of them in turn are the first declarations
+  pub firsts_all : (all : List (List ℕ × D)) → with_firsts [] all ≡ first_ones all
+  firsts_all all =
+      ap (with_firsts []) (sym (take_all (length all) all (omega arith)))
+      ∙ firsts_among all (length all) (omega arith)
+      ∙ first_all all

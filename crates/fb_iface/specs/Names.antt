@@ -1,5 +1,5 @@
 -- What a name stands for in a name space, where it may be declared more than once.
-use Rattle.std.specs.Prelude.{ℕ, Bool, List, take, map, filter, Option, is_none}
+use Rattle.std.specs.Prelude.{ℕ, Bool, List, [], ◌∷◌, ◌++◌, take, map, filter, Option, is_none, is_some, if◌then◌else◌}
 use Rattle.std.specs.List.{list_any, enumerate_from}
 use Rattle.std.specs.Map.{lookup}
 use Rattle.std.specs.BTreeMap.{is_at}
@@ -37,3 +37,12 @@ repeated names = passing_there (λ before n. has_name before n.name) names
 -- the first declaration of each name, in the order of the text: where the name means nothing before its place
 abbrev pub first_ones : {D : Type 0} → List (List ℕ × D) → List (List ℕ × D)
 first_ones declarations = passing_there (λ before d. is_none (stands_for before d.0)) declarations
+
+-- first declarations, with one more where its name is new
+abbrev pub with_first : {D : Type 0} → List (List ℕ × D) → List ℕ × D → List (List ℕ × D)
+with_first firsts d = if is_some (stands_for firsts d.0) then firsts else firsts ++ d ∷ []
+
+-- the same with each of these in turn
+abbrev pub with_firsts : {D : Type 0} → List (List ℕ × D) → List (List ℕ × D) → List (List ℕ × D)
+with_firsts firsts [] = firsts
+with_firsts firsts (d ∷ ds) = with_firsts (with_first firsts d) ds

@@ -49,7 +49,7 @@ pub fn report_declarations<V: View>(
         ++ declaration_faults (V.sources view.now) unit.now (Some (decl_tree decl.now))) }
 {
     report_name(decl, unit, found)?;
-    report_duplicates(alloc, decl, found)?;
+    report_duplicates(alloc, own, decl, found)?;
     report_mixed(decl, found)?;
     report_types(view, decl, found)?;
     report_withs(own, decl, found)?;

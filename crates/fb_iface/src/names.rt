@@ -1,8 +1,8 @@
 //! Declarations by name, where a name may be declared more than once.
-ghost use Rattle.std.specs.Prelude.{◌≡◌, ℕ, IfOk, List, nat_eq};
+ghost use Rattle.std.specs.Prelude.{◌≡◌, ℕ, IfOk, OnOk, List, nat_eq};
 ghost use Rattle.std.specs.Cmp.Lexicographic.{pointwise};
 ghost use Rattle.indexmap.specs.IndexMap.{get};
-ghost use Rattle.fb_iface.specs.Names.{first_ones, stands_for};
+ghost use Rattle.fb_iface.specs.Names.{first_ones, stands_for, with_first};
 
 use fb_tree::text::Name;
 use indexmap::IndexMap;
@@ -18,12 +18,24 @@ pub fn first_declared<D: Copy>(
         → get (pointwise nat_eq) table name ≡ stands_for declarations.now name) }
     ensures entries { IfOk result (λ table. table.entries ≡ first_ones declarations.now) }
 {
-    let mut table = IndexMap::new(alloc);
+    let mut table = IndexMap::with_capacity(alloc, declarations.len())?;
     for declaration in declarations {
         let (name, declared) = *declaration;
-        if !table.contains_key(&name) {
-            table.insert(name, declared)?;
-        }
+        declare(name, declared, &mut table)?;
     }
     Ok(table)
+}
+
+/// Declares a name, unless it is declared already.
+pub(crate) fn declare<D: Copy>(
+    name: Name,
+    declared: D,
+    table: &mut IndexMap<Name, D>,
+) -> Result<(), AllocError>
+    ensures { OnOk result (table.new.entries ≡ with_first table.old.entries (name, declared)) }
+{
+    if !table.contains_key(&name) {
+        table.insert(name, declared)?;
+    }
+    Ok(())
 }

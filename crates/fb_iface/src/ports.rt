@@ -1,15 +1,15 @@
 //! The ports of a unit (IEC 61499-1, 5.2: interfaces of function block types; 5.5: adapters).
-ghost use Rattle.std.specs.Prelude.{◌≡◌, ◌++◌, IfOk, OnOk, map};
+ghost use Rattle.std.specs.Prelude.{◌≡◌, IfOk, OnOk, map};
 ghost use Rattle.std.specs.List.{flat_map};
 ghost use Rattle.fb_tree.specs.Tree.{interface_tree, network_tree, variables_tree};
+ghost use Rattle.fb_iface.specs.Names.{first_ones, with_firsts};
 ghost use Rattle.fb_iface.specs.Ports.{events_in, instances_in, same_role, same_side, variables_together};
 ghost use Rattle.fb_iface.specs.Sides.{is_data_on};
 
-use crate::names::first_declared;
+use crate::names::declare;
 use fb_tree::text::{Name, WideUse};
 use fb_tree::{
-    Event, Instance, Interface, Network, Role, Section, Side, TypeDeclaration, Variables,
-    WideTypeUse,
+    Event, Interface, Network, Role, Section, Side, TypeDeclaration, Variables, WideTypeUse,
 };
 use indexmap::IndexMap;
 use std::alloc::{AllocError, Global};
@@ -84,13 +84,10 @@ impl Ports {
     pub fn of_type(alloc: Global, declared: &TypeDeclaration) -> Result<Ports, AllocError>
         ensures { IfOk result (λ ports. ports ≡ meanings_in_type (type_tree declared.now)) }
     {
-        let events = declared_events(alloc, &declared.interface)?;
-        let variables = declared_variables(alloc, declared.interface.variables.as_slice())?;
-        let instances = declared_instances(alloc, &declared.network)?;
         Ok(Ports {
-            events: first_declared(alloc, events.as_slice())?,
-            variables: first_declared(alloc, variables.as_slice())?,
-            instances: first_declared(alloc, instances.as_slice())?,
+            events: event_table(alloc, &declared.interface)?,
+            variables: variable_table(alloc, declared.interface.variables.as_slice())?,
+            instances: instance_table(alloc, &declared.network)?,
         })
     }
 
@@ -98,11 +95,10 @@ impl Ports {
     pub fn of_network(alloc: Global, network: &Network) -> Result<Ports, AllocError>
         ensures { IfOk result (λ ports. ports ≡ meanings_in_network (network_tree network.now)) }
     {
-        let instances = declared_instances(alloc, network)?;
         Ok(Ports {
             events: IndexMap::new(alloc),
             variables: IndexMap::new(alloc),
-            instances: first_declared(alloc, instances.as_slice())?,
+            instances: instance_table(alloc, network)?,
         })
     }
 
@@ -185,71 +181,89 @@ pub fn is_beside(side: Side, section: Section) -> bool
     }
 }
 
-/// The events of an interface, in the order of the text.
-fn declared_events(
+/// The events of an interface by their names.
+fn event_table(
     alloc: Global,
     interface: &Interface,
-) -> Result<Vec<(Name, DeclaredEvent)>, AllocError>
-    ensures { IfOk result (λ declared. declared.items ≡ events_in (interface_tree interface.now)) }
+) -> Result<IndexMap<Name, DeclaredEvent>, AllocError>
+    ensures { IfOk result
+        (λ table. table.entries ≡ first_ones (events_in (interface_tree interface.now))) }
 {
-    let mut declared = Vec::new(alloc);
+    let mut table = IndexMap::with_capacity(alloc, interface.events.len())?;
     for event in &interface.events {
-        let meaning = DeclaredEvent {
-            side: event.side,
-            type_name: event.type_name.as_ref().map(WideUse::of),
-        };
-        declared.push((event.name.name.name(), meaning))?;
+        declare(event.name.name.name(), declared_event(event), &mut table)?;
     }
-    Ok(declared)
+    Ok(table)
 }
 
-/// Variables or fields, in the order of the text.
-pub(crate) fn declared_variables(
+/// What the name of an event means.
+fn declared_event(event: &Event) -> DeclaredEvent
+    ensures { result ≡ record { side = event.now.side; type_name = event.now.type_name } }
+{
+    DeclaredEvent {
+        side: event.side,
+        type_name: event.type_name.as_ref().map(WideUse::of),
+    }
+}
+
+/// Variables or fields by their names.
+pub(crate) fn variable_table(
     alloc: Global,
     groups: &[Variables],
-) -> Result<Vec<(Name, DeclaredVariable)>, AllocError>
-    ensures { IfOk result (λ declared. declared.items
-        ≡ flat_map variables_together (map variables_tree groups.now)) }
+) -> Result<IndexMap<Name, DeclaredVariable>, AllocError>
+    ensures { IfOk result (λ table. table.entries
+        ≡ first_ones (flat_map variables_together (map variables_tree groups.now))) }
 {
-    let mut declared = Vec::new(alloc);
+    let mut table = IndexMap::with_capacity(alloc, count_of(groups))?;
     for group in groups {
-        declare_together(group, &mut declared)?;
+        declare_together(group, &mut table)?;
     }
-    Ok(declared)
+    Ok(table)
 }
 
-/// Adds the variables that are declared together.
+/// How many variables there are.
+fn count_of(groups: &[Variables]) -> usize {
+    let mut count: usize = 0;
+    for group in groups {
+        count = count.saturating_add(group.names.len());
+    }
+    count
+}
+
+/// Declares the variables that are declared together.
 fn declare_together(
     group: &Variables,
-    declared: &mut Vec<(Name, DeclaredVariable)>,
+    table: &mut IndexMap<Name, DeclaredVariable>,
 ) -> Result<(), AllocError>
-    ensures { OnOk result
-        (declared.new.items ≡ declared.old.items ++ variables_together (variables_tree group.now)) }
+    ensures { OnOk result (table.new.entries
+        ≡ with_firsts table.old.entries (variables_together (variables_tree group.now))) }
 {
+    let type_use = WideTypeUse::of(&group.type_use);
     for name in &group.names {
         let meaning = DeclaredVariable {
             section: group.section,
-            type_use: WideTypeUse::of(&group.type_use),
+            type_use,
         };
-        declared.push((name.name.name(), meaning))?;
+        declare(name.name.name(), meaning, table)?;
     }
     Ok(())
 }
 
-/// The instances of a network, in the order of the text.
-fn declared_instances(
+/// The instances of a network by their names.
+fn instance_table(
     alloc: Global,
     network: &Network,
-) -> Result<Vec<(Name, DeclaredInstance)>, AllocError>
-    ensures { IfOk result (λ declared. declared.items ≡ instances_in (network_tree network.now)) }
+) -> Result<IndexMap<Name, DeclaredInstance>, AllocError>
+    ensures { IfOk result
+        (λ table. table.entries ≡ first_ones (instances_in (network_tree network.now))) }
 {
-    let mut declared = Vec::new(alloc);
+    let mut table = IndexMap::with_capacity(alloc, network.instances.len())?;
     for instance in &network.instances {
         let meaning = DeclaredInstance {
             role: instance.role,
             type_name: WideUse::of(&instance.type_name),
         };
-        declared.push((instance.name.name.name(), meaning))?;
+        declare(instance.name.name.name(), meaning, &mut table)?;
     }
-    Ok(declared)
+    Ok(table)
 }

@@ -1,33 +1,38 @@
 //! Names that are declared again in their name space.
-ghost use Rattle.std.specs.Prelude.{◌≡◌, ◌++◌, map, IfOk, OnOk};
+ghost use Rattle.std.specs.Prelude.{◌≡◌, ◌<◌, ◌↔◌, ◌++◌, length, map, IfOk, IsTrue, OnOk};
 ghost use Rattle.std.specs.List.{flat_map};
 ghost use Rattle.fb_tree.specs.Tree.{chart_tree, decl_tree, device_tree, instance_tree, interface_tree, network_tree, structure_tree, system_tree, type_tree};
 ghost use Rattle.fb_iface.specs.Declarations.{duplicate_faults, space_duplicates};
+ghost use Rattle.fb_iface.specs.Names.{first_ones};
+ghost use Rattle.fb_iface.specs.Ports.{events_in, instances_in, meanings_in, meanings_in_type, variables_in};
 ghost use Rattle.fb_iface.specs.Spaces.{chart_spaces, interface_spaces, network_spaces, parameter_names, resource_names, structure_spaces, system_spaces, type_spaces};
 
 use crate::code::Code;
 use crate::fault::Fault;
 use crate::named::Named;
+use crate::ports::Ports;
 use fb_tree::text::{NameUse, WideUse};
 use fb_tree::{
     Application, Chart, Decl, Device, Instance, Interface, Network, Role, Structure, System,
     TypeDeclaration, Variables,
 };
 use std::alloc::{AllocError, Global};
-use std::collections::BTreeSet;
+use std::collections::HashSet;
 
-/// Reports second and later declarations in each name space of a unit.
+/// Reports second and later declarations in each name space of a unit with these ports.
 pub fn report_duplicates(
     alloc: Global,
+    own: &Ports,
     decl: &Decl,
     found: &mut Vec<Fault>,
 ) -> Result<(), AllocError>
+    requires { own.now ≡ meanings_in (decl_tree decl.now) }
     ensures { OnOk result
         (found.new.items ≡ found.old.items ++ duplicate_faults (decl_tree decl.now)) }
 {
     match decl {
         Decl::Block(declared) | Decl::Adapter(declared) | Decl::Subapplication(declared) => {
-            report_in_type(alloc, declared, found)
+            report_in_type(alloc, own, declared, found)
         }
         Decl::System(system) => report_in_system(alloc, system, found),
         Decl::Structure(structure) => report_in_structure(alloc, structure, found),
@@ -36,29 +41,86 @@ pub fn report_duplicates(
 
 fn report_in_type(
     alloc: Global,
+    own: &Ports,
     declared: &TypeDeclaration,
     found: &mut Vec<Fault>,
 ) -> Result<(), AllocError>
+    requires { own.now ≡ meanings_in_type (type_tree declared.now) }
     ensures { OnOk result (found.new.items
         ≡ found.old.items ++ flat_map space_duplicates (type_spaces (type_tree declared.now))) }
 {
-    report_in_interface(alloc, &declared.interface, found)?;
+    report_in_interface(alloc, own, &declared.interface, found)?;
     report_in_chart(alloc, &declared.chart, found)?;
-    report_in_network(alloc, &declared.network, found)
+    report_in_own_network(alloc, own, &declared.network, found)
 }
 
 fn report_in_interface(
     alloc: Global,
+    own: &Ports,
     interface: &Interface,
     found: &mut Vec<Fault>,
 ) -> Result<(), AllocError>
+    requires events { own.now.events ≡ first_ones (events_in (interface_tree interface.now)) }
+    requires variables { own.now.variables ≡ first_ones (variables_in (interface_tree interface.now)) }
     ensures { OnOk result (found.new.items
         ≡ found.old.items
         ++ flat_map space_duplicates (interface_spaces (interface_tree interface.now))) }
 {
-    report_repeated(alloc, interface.events.as_slice(), found)?;
-    let variables = variable_names(alloc, interface.variables.as_slice())?;
-    report_repeated(alloc, variables.as_slice(), found)
+    report_events(alloc, own.events().len(), interface, found)?;
+    report_variables(alloc, own.variables().len(), interface, found)
+}
+
+/// Reports those among the events, where so many have different names.
+fn report_events(
+    alloc: Global,
+    different: usize,
+    interface: &Interface,
+    found: &mut Vec<Fault>,
+) -> Result<(), AllocError>
+    requires { different ≡ length (first_ones (events_in (interface_tree interface.now))) }
+    ensures { OnOk result (found.new.items
+        ≡ found.old.items ++ space_duplicates (map (λ e. e.name) interface.now.events.items)) }
+{
+    if different < interface.events.len() {
+        report_repeated(alloc, interface.events.as_slice(), found)
+    } else {
+        Ok(())
+    }
+}
+
+/// Reports those among the variables, where so many have different names.
+fn report_variables(
+    alloc: Global,
+    different: usize,
+    interface: &Interface,
+    found: &mut Vec<Fault>,
+) -> Result<(), AllocError>
+    requires { different ≡ length (first_ones (variables_in (interface_tree interface.now))) }
+    ensures { OnOk result (found.new.items
+        ≡ found.old.items
+        ++ space_duplicates (flat_map (λ v. v.names.items) interface.now.variables.items)) }
+{
+    let groups = interface.variables.as_slice();
+    if are_more(groups, different) {
+        let variables = variable_names(alloc, groups)?;
+        report_repeated(alloc, variables.as_slice(), found)
+    } else {
+        Ok(())
+    }
+}
+
+/// Whether there are more variables than this.
+fn are_more(groups: &[Variables], count: usize) -> bool
+    ensures { IsTrue result ↔ (count < length (flat_map (λ v. v.names.items) groups.now)) }
+{
+    let mut left = count;
+    for group in groups {
+        if left < group.names.len() {
+            return true;
+        }
+        left -= group.names.len();
+    }
+    false
 }
 
 /// Reports those among the fields of a structure.
@@ -113,6 +175,37 @@ fn report_in_network(
         ++ flat_map space_duplicates (network_spaces (network_tree network.now))) }
 {
     report_repeated(alloc, network.instances.as_slice(), found)?;
+    report_in_instances(alloc, network, found)
+}
+
+/// The same of the network of a type with these ports.
+fn report_in_own_network(
+    alloc: Global,
+    own: &Ports,
+    network: &Network,
+    found: &mut Vec<Fault>,
+) -> Result<(), AllocError>
+    requires { own.now.instances ≡ first_ones (instances_in (network_tree network.now)) }
+    ensures { OnOk result (found.new.items
+        ≡ found.old.items
+        ++ flat_map space_duplicates (network_spaces (network_tree network.now))) }
+{
+    if own.instances().len() < network.instances.len() {
+        report_in_network(alloc, network, found)
+    } else {
+        report_in_instances(alloc, network, found)
+    }
+}
+
+/// Reports those among the parameters of each instance.
+fn report_in_instances(
+    alloc: Global,
+    network: &Network,
+    found: &mut Vec<Fault>,
+) -> Result<(), AllocError>
+    ensures { OnOk result (found.new.items ≡ found.old.items
+        ++ flat_map (λ i. space_duplicates (parameter_names (instance_tree i))) network.now.instances.items) }
+{
     for instance in &network.instances {
         report_in_instance(alloc, instance, found)?;
     }
@@ -188,7 +281,10 @@ fn report_repeated<T: Named>(
     ensures { OnOk result
         (found.new.items ≡ found.old.items ++ space_duplicates (map T.name_of declarations.now)) }
 {
-    let mut seen = BTreeSet::new(alloc);
+    if declarations.len() < 2 {
+        return Ok(());
+    }
+    let mut seen = HashSet::with_capacity(alloc, declarations.len())?;
     for declaration in declarations {
         let name = declaration.name();
         if !seen.insert(*name.name())? {

@@ -9,8 +9,7 @@ ghost use Rattle.fb_iface.specs.Fields.{fields_among, fields_in, fields_near, fi
 ghost use Rattle.fb_iface.specs.KeptFields.{fields_shown, kept_fields, structures_in};
 ghost use Rattle.fb_iface.specs.Names.{first_ones};
 
-use crate::names::first_declared;
-use crate::ports::{DeclaredVariable, declared_variables};
+use crate::ports::{DeclaredVariable, variable_table};
 use fb_library::{View, carried, part_mentions, tree_by_name};
 use fb_tree::text::Name;
 use fb_tree::{Decl, Structure};
@@ -49,8 +48,7 @@ impl FieldTable {
         ensures { IfOk result
             (λ fields. fields ≡ first_ones (fields_in (structure_tree structure.now))) }
     {
-        let fields = declared_variables(alloc, structure.fields.as_slice())?;
-        let by_name = first_declared(alloc, fields.as_slice())?;
+        let by_name = variable_table(alloc, structure.fields.as_slice())?;
         Ok(FieldTable { by_name })
     }
 

@@ -1,7 +1,9 @@
 //! What the ends of connections name (IEC 61499-1, 5.3: composite types; 5.4: subapplication types; 5.5: adapters).
 ghost use Rattle.std.specs.Prelude.{◌≡◌};
 ghost use Rattle.std.specs.Option.{option_and_then, option_copied, option_map};
+ghost use Rattle.fb_iface.specs.Kept.{scope_in};
 ghost use Rattle.fb_iface.specs.Names.{stands_for};
+ghost use Rattle.fb_iface.specs.Scope.{instance_ports};
 ghost use Rattle.fb_netcheck.specs.Settings.{place_in};
 ghost use Rattle.fb_netcheck.specs.Ends.{adapter_port, data_port, end_span, event_port, holder_of, is_right, last_name, port_in, right_side, target, target_in, target_of, target_of_instance};
 
@@ -98,29 +100,30 @@ pub fn target_at(here: &Setting, sort: Sort, end: &End) -> Target
     match &end.port {
         None => found(Holder::Own, port_by_name(sort, own, &name)),
         Some(port) => {
-            let ports = here.scope.ports_of(&name);
-            let port = port.name.name();
-            target_at_instance(here.kind, sort, own.instance(&name), ports, &port)
+            let instance = own.instance(&name);
+            target_at_instance(here, sort, instance, &port.name.name())
         }
     }
 }
 
-/// A port of an instance, plug or socket, by the ports of its type.
+/// A port of an instance, plug or socket.
 fn target_at_instance(
-    kind: UnitKind,
+    here: &Setting,
     sort: Sort,
     instance: Option<&DeclaredInstance>,
-    ports: Option<&Ports>,
     name: &Name,
 ) -> Target
-    ensures { result ≡ target_of_instance kind sort (option_copied instance.entry)
-        (option_map (λ p. p.now) ports.entry) name.now }
+    ensures { result ≡ target_of_instance here.now.kind sort (option_copied instance.entry)
+        (option_and_then (instance_ports (scope_in here.now.scope)) (option_copied instance.entry)) name.now }
 {
     match instance {
         None => Target::Unknown,
-        Some(instance) => match held_by(kind, sort, instance.role) {
+        Some(instance) => match held_by(here.kind, sort, instance.role) {
             None => Target::Unknown,
-            Some(holder) => target_at_type(holder, sort, ports, name),
+            Some(holder) => {
+                let ports = here.scope.instance_ports(instance);
+                target_at_type(holder, sort, ports, name)
+            }
         },
     }
 }

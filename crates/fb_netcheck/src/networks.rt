@@ -10,7 +10,6 @@ use crate::connections::report_connections;
 use crate::parameters::report_parameters;
 use crate::repeats::{report_second_adapters, report_second_sources};
 use crate::setting::Setting;
-use crate::types::report_types;
 use fb_iface::library::{View, tree_by_name};
 use fb_iface::{Fault, Scope, sorted_faults};
 use fb_tree::text::Name;
@@ -127,8 +126,7 @@ pub fn report_network<V: View>(
         ++ network_faults (V.sources view.now) (place_in here.now) (network_tree network.now)) }
 {
     let connections = network.connections.as_slice();
-    report_connections(here, connections, found)?;
-    report_types(alloc, view, here, connections, found)?;
+    report_connections(alloc, view, here, connections, found)?;
     report_second_sources(alloc, connections, found)?;
     report_second_adapters(alloc, connections, found)?;
     report_parameters(&here.scope, network.instances.as_slice(), found)

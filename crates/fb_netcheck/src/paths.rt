@@ -5,7 +5,7 @@ ghost use Rattle.fb_netcheck.specs.Paths.{PathUse, repeated_faults};
 use fb_iface::{Code, Fault};
 use fb_tree::text::{Name, Span};
 use std::alloc::{AllocError, Global};
-use std::collections::BTreeSet;
+use std::collections::HashSet;
 
 /// What has a path, names with points between, with its place.
 pub trait Placed {
@@ -30,7 +30,10 @@ pub fn report_repeated<T: Placed>(
     ensures { OnOk result
         (found.new.items ≡ found.old.items ++ repeated_faults code (map T.path_of items.now)) }
 {
-    let mut seen = BTreeSet::new(alloc);
+    if items.len() < 2 {
+        return Ok(());
+    }
+    let mut seen = HashSet::with_capacity(alloc, items.len())?;
     for item in items {
         let path = item.path(alloc)?;
         if !seen.insert(path)? {

@@ -63,7 +63,7 @@ fn path_by_names(
 ) -> Result<Vec<Name>, AllocError>
     ensures { IfOk result (λ path. path.items ≡ path_named name port) }
 {
-    let mut path = Vec::new(alloc);
+    let mut path = Vec::with_capacity(alloc, 2)?;
     path.push(*name.name())?;
     if let Some(port) = port {
         path.push(*port.name())?;

@@ -1,10 +1,10 @@
-use Rattle.std.proofs.Common.{◌≡◌, ◌++◌, take}
-use Rattle.std.specs.BTreeSet.{contains}
+use Rattle.std.proofs.Common.{◌≡◌, ◌++◌, take, nat_eq}
+use Rattle.std.specs.HashSet.{contains}
 use Rattle.std.specs.List.{flat_map}
-use Rattle.fb_tree.specs.Text.Order.{name_cmp}
+use Rattle.std.specs.Cmp.Lexicographic.{pointwise}
 use Rattle.fb_ecc.specs.Algorithms.{run_faults}
 use Rattle.fb_ecc.proofs.algorithms.report_run_by.Given as goal
 
 abbrev pub invariant-loop-action : goal.invariant-loop-action
 invariant-loop-action l =
-    l.found.items ≡ l.initial.found.items ++ flat_map (run_faults (contains name_cmp l.declared)) (take l.action-index l.actions)
+    l.found.items ≡ l.initial.found.items ++ flat_map (run_faults (contains (pointwise nat_eq) l.declared)) (take l.action-index l.actions)

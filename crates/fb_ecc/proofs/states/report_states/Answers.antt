@@ -1,8 +1,8 @@
-use Rattle.std.proofs.Common.{◌≡◌, ◌++◌, ◌∙◌, ℕ, List, map, ap}
-use Rattle.std.specs.BTreeSet.{contains}
+use Rattle.std.proofs.Common.{◌≡◌, ◌++◌, ◌∙◌, ℕ, List, map, ap, nat_eq}
+use Rattle.std.specs.HashSet.{contains}
 use Rattle.std.specs.List.{flat_map}
 use Rattle.std.proofs.lemmas.Result.{on_ok_weaker}
-use Rattle.fb_tree.specs.Text.Order.{name_cmp}
+use Rattle.std.specs.Cmp.Lexicographic.{pointwise}
 use Rattle.fb_tree.specs.Tree.{transition_tree}
 use Rattle.fb_iface.specs.Names.{has_name}
 use Rattle.fb_ecc.specs.States.{transition_faults}
@@ -13,7 +13,7 @@ pub returns : goal.returns
 returns c =
     let chart = c.args.chart.now in
     let old = c.args.found.now.items in
-    let listed = contains name_cmp c.in_ok-listed.listed in
+    let listed = contains (pointwise nat_eq) c.in_ok-listed.listed in
     let known : (name : List ℕ) → listed name ≡ has_name (map (λ s. s.name) chart.states.items) name = λ name. c.in_ok-listed.ensures name ∙ ap (λ l. has_name (map (λ s. s.name) l) name) c.as_slice.ensures.value in
     on_ok_weaker c.report_ends.result
     (λ e. e

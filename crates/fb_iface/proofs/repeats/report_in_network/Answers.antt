@@ -1,5 +1,5 @@
-use Rattle.std.proofs.Common.{◌≡◌, ◌++◌, ◌∙◌, ap, map, arith}
-use Rattle.std.proofs.lemmas.Grind.{common_steps}
+use Rattle.std.proofs.Common.{◌≡◌, ◌++◌, ◌∙◌, ap, map}
+use Rattle.std.proofs.lemmas.Result.{on_ok_weaker}
 use Rattle.std.specs.List.{flat_map}
 use Rattle.fb_tree.specs.Tree.{instance_tree}
 use Rattle.fb_iface.specs.Declarations.{space_duplicates}
@@ -12,5 +12,6 @@ returns c =
     let network = c.args.network.now in
     let old = c.args.found.now.items in
     let first : c.report_repeated.new.found.items ≡ old ++ space_duplicates (map (λ i. i.name) network.instances.items) = c.in_ok-report_repeated.ensures ∙ ap (λ l. old ++ space_duplicates (map (λ i. i.name) l)) c.as_slice.ensures.value in
-    let all : c.loop-instance.found.items ≡ c.report_repeated.new.found.items ++ flat_map (λ i. space_duplicates (parameter_names (instance_tree i))) network.instances.items = grind (arith, common_steps) in
-    all ∙ ap (λ l. l ++ flat_map (λ i. space_duplicates (parameter_names (instance_tree i))) network.instances.items) first ∙ network_joined old network
+    on_ok_weaker c.report_in_instances.result
+    (λ e. e ∙ ap (λ l. l ++ flat_map (λ i. space_duplicates (parameter_names (instance_tree i))) network.instances.items) first ∙ network_joined old network)
+    c.report_in_instances.ensures

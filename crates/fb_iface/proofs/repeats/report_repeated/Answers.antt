@@ -1,12 +1,12 @@
-use Rattle.std.proofs.Common.{◌≡◌, ◌+◌, ◌<◌, not, true, false, ap, subst, sym, ◌∙◌, arith, get_or, length, map, take, ◌∷◌, [], ◌++◌}
+use Rattle.std.proofs.Common.{◌≡◌, ◌+◌, ◌<◌, not, true, false, ap, subst, sym, ◌∙◌, arith, get_or, length, map, take, ◌∷◌, [], ◌++◌, append-nil, nat_eq}
 use Rattle.std.proofs.lemmas.Grind.{common_steps}
 use Rattle.std.proofs.lemmas.List.{get_or-map, length-map, take_more}
-use Rattle.std.specs.BTreeSet.{contains, Updates}
-use Rattle.fb_tree.specs.Text.Order.{name_cmp}
+use Rattle.std.specs.Cmp.Lexicographic.{pointwise}
+use Rattle.std.specs.HashSet.{contains, Updates}
 use Rattle.fb_iface.specs.Fault.{faults_at}
 use Rattle.fb_iface.specs.Names.{has_name}
 use Rattle.fb_iface.specs.declared.code.Code.TheVariants.{Duplicate}
-use Rattle.fb_iface.proofs.RepeatLemmas.{noted-push, repeated_all, repeated_among, reported-again, reported-first}
+use Rattle.fb_iface.proofs.RepeatLemmas.{none_repeated, noted-push, repeated_all, repeated_among, reported-again, reported-first}
 use Rattle.fb_iface.proofs.repeats.report_repeated.Goals as goal
 use Rattle.fb_iface.proofs.repeats.report_repeated.Goals.{then-not-branch+in_ok-push, else-not-branch}
 
@@ -21,7 +21,7 @@ loop-declaration-preserved g c =
     let named : x ≡ name_of c.declaration-item.result = c.name-name.ensures in
     let here : x ≡ get_or names i x = named ∙ ap name_of c.declaration-item.is ∙ sym (get_or-map name_of c.args.declarations.now i c.declaration-item.result x inside) in
     let more : take (i + 1) names ≡ take i names ++ x ∷ [] = take_more names i x within ∙ ap (λ y. take i names ++ y ∷ []) (sym here) in
-    let known : c.in_ok-insert.field-0 ≡ not (has_name (take i names) x.name) = c.in_ok-insert.ensures.added ∙ ap (λ n. not (contains name_cmp c.loop-declaration.seen n)) c.name.ensures ∙ ap not (c.loop-declaration.invariant.noted x.name) in
+    let known : c.in_ok-insert.field-0 ≡ not (has_name (take i names) x.name) = c.in_ok-insert.ensures.added ∙ ap (λ n. not (contains (pointwise nat_eq) c.loop-declaration.seen n)) c.name.ensures ∙ ap not (c.loop-declaration.invariant.noted x.name) in
     record {
       reported = elim c.if-not-branch.branch [
         | then-not-branch+in_ok-push w ↦
@@ -33,7 +33,7 @@ loop-declaration-preserved g c =
             let told = reported-first Duplicate names i x within here first in
             cc (told, c.loop-declaration.invariant.reported, w.found-is)
       ];
-      noted = λ q. noted-push (take i names) x c.loop-declaration.seen c.insert.new.self c.loop-declaration.invariant.noted (subst (λ n. Updates name_cmp c.loop-declaration.seen c.insert.new.self n true) c.name.ensures c.in_ok-insert.ensures.updates) q ∙ ap (λ l. has_name l q) (sym more);
+      noted = λ q. noted-push (take i names) x c.loop-declaration.seen c.insert.new.self c.loop-declaration.invariant.noted (subst (λ n. Updates (pointwise nat_eq) c.loop-declaration.seen c.insert.new.self n true) c.name.ensures c.in_ok-insert.ensures.updates) q ∙ ap (λ l. has_name l q) (sym more);
     }
 
 pub returns : goal.returns
@@ -42,3 +42,9 @@ returns g c =
     let all : c.loop-declaration.declaration-index ≡ length names = omega (arith, length-map c.args.declarations.now g.T.Named.name_of) in
     c.loop-declaration.invariant.reported
     ∙ ap (λ l. c.args.found.now.items ++ faults_at Duplicate l) (ap (λ n. repeated_among n names) all ∙ repeated_all names)
+
+pub returns-then-declarations-lt2 : goal.returns-then-declarations-lt2
+returns-then-declarations-lt2 g c =
+    let names = map g.T.Named.name_of c.args.declarations.now in
+    let few : length names < 2 = omega (arith, length-map c.args.declarations.now g.T.Named.name_of, c.if-declarations-lt2.true) in
+    sym (append-nil c.args.found.now.items) ∙ ap (λ l. c.args.found.now.items ++ faults_at Duplicate l) (sym (none_repeated names few))

@@ -1,6 +1,6 @@
-use Rattle.std.proofs.Common.{◌≡◌, ℕ, List, ◌++◌, map, take}
-use Rattle.std.specs.BTreeSet.{contains}
-use Rattle.fb_tree.specs.Text.Order.{name_cmp}
+use Rattle.std.proofs.Common.{◌≡◌, ℕ, List, ◌++◌, map, nat_eq, take}
+use Rattle.std.specs.Cmp.Lexicographic.{pointwise}
+use Rattle.std.specs.HashSet.{contains}
 use Rattle.fb_iface.specs.Fault.{faults_at}
 use Rattle.fb_iface.specs.Names.{has_name}
 use Rattle.fb_iface.specs.declared.code.Code.TheVariants.{Duplicate}
@@ -10,5 +10,5 @@ use Rattle.fb_iface.proofs.repeats.report_repeated.Given as goal
 abbrev pub invariant-loop-declaration : goal.invariant-loop-declaration
 invariant-loop-declaration g l = record {
   reported : l.found.items ≡ l.initial.found.items ++ faults_at Duplicate (repeated_among l.declaration-index (map g.T.Named.name_of l.declarations));
-  noted : (q : List ℕ) → contains name_cmp l.seen q ≡ has_name (take l.declaration-index (map g.T.Named.name_of l.declarations)) q;
+  noted : (q : List ℕ) → contains (pointwise nat_eq) l.seen q ≡ has_name (take l.declaration-index (map g.T.Named.name_of l.declarations)) q;
 }

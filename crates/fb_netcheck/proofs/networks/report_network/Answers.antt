@@ -22,8 +22,7 @@ returns g c =
     let sides : List Fault = flat_map (connection_faults here) connections in
     let types : List Fault = flat_map (joined_types (g.V.View.sources c.args.view.now) here) connections in
     let slice : c.as_slice-connections.result.now ≡ connections = c.as_slice-connections.ensures.value in
-    let first : c.report_connections.new.found.items ≡ old ++ sides = c.in_ok-report_connections.ensures ∙ (λ i. old ++ flat_map (connection_faults here) (slice i)) in
-    let second : c.report_types.new.found.items ≡ (old ++ sides) ++ types = c.in_ok-report_types.ensures ∙ (λ i. first i ++ flat_map (joined_types (g.V.View.sources c.args.view.now) here) (slice i)) in
+    let second : c.report_connections.new.found.items ≡ (old ++ sides) ++ types = c.in_ok-report_connections.ensures ∙ (λ i. (old ++ flat_map (connection_faults here) (slice i)) ++ flat_map (joined_types (g.V.View.sources c.args.view.now) here) (slice i)) in
     let third : c.report_second_sources.new.found.items ≡ ((old ++ sides) ++ types) ++ second_sources connections = c.in_ok-report_second_sources.ensures ∙ (λ i. second i ++ second_sources (slice i)) in
     let fourth : c.report_second_adapters.new.found.items ≡ (((old ++ sides) ++ types) ++ second_sources connections) ++ second_adapters connections = c.in_ok-report_second_adapters.ensures ∙ (λ i. third i ++ second_adapters (slice i)) in
     on_ok_weaker c.report_parameters.result

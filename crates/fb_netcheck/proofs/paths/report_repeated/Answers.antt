@@ -1,8 +1,8 @@
-use Rattle.std.proofs.Common.{◌≡◌, ◌+◌, ◌<◌, not, true, false, ap, sym, ◌∙◌, arith, get_or, length, map, take, ◌∷◌, [], ◌++◌}
+use Rattle.std.proofs.Common.{◌≡◌, ◌+◌, ◌<◌, not, true, false, ap, sym, ◌∙◌, arith, get_or, length, map, take, ◌∷◌, [], ◌++◌, append-nil}
 use Rattle.std.proofs.lemmas.Grind.{common_steps}
 use Rattle.std.proofs.lemmas.List.{get_or-map, length-map, take_more}
 use Rattle.fb_netcheck.specs.Paths.{fault_at_path, has_path}
-use Rattle.fb_netcheck.proofs.RepeatLemmas.{noted-push, repeated_all, repeated_among, reported-again, reported-first}
+use Rattle.fb_netcheck.proofs.RepeatLemmas.{none_repeated, noted-push, repeated_all, repeated_among, reported-again, reported-first}
 use Rattle.fb_netcheck.proofs.paths.report_repeated.Goals as goal
 use Rattle.fb_netcheck.proofs.paths.report_repeated.Goals.{then-not-branch+in_ok-push, else-not-branch}
 
@@ -38,3 +38,9 @@ returns g c =
     let all : c.loop-item.item-index ≡ length paths = omega (arith, length-map c.args.items.now g.T.Placed.path_of) in
     c.loop-item.invariant.reported
     ∙ ap (λ l. c.args.found.now.items ++ map (fault_at_path c.args.code) l) (ap (λ n. repeated_among n paths) all ∙ repeated_all paths)
+
+pub returns-then-items-lt2 : goal.returns-then-items-lt2
+returns-then-items-lt2 g c =
+    let paths = map g.T.Placed.path_of c.args.items.now in
+    let few : length paths < 2 = omega (arith, length-map c.args.items.now g.T.Placed.path_of, c.if-items-lt2.true) in
+    sym (append-nil c.args.found.now.items) ∙ ap (λ l. c.args.found.now.items ++ map (fault_at_path c.args.code) l) (sym (none_repeated paths few))

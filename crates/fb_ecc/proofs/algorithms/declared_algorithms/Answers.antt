@@ -1,0 +1,21 @@
+use Rattle.std.proofs.Common.{◌≡◌, ◌+◌, ◌<◌, ◌∷◌, [], ◌++◌, ◌∙◌, true, ap, sym, subst, length, map, take, nat_eq, arith}
+use Rattle.std.proofs.lemmas.Grind.{common_steps}
+use Rattle.std.proofs.lemmas.List.{map-append}
+use Rattle.std.specs.Cmp.Lexicographic.{pointwise}
+use Rattle.std.specs.HashSet.{Updates}
+use Rattle.fb_tree.specs.declared.chart.Algorithm.{Algorithm}
+use Rattle.fb_iface.specs.Names.{has_name}
+use Rattle.fb_iface.proofs.RepeatLemmas.{noted-push}
+use Rattle.fb_ecc.proofs.algorithms.declared_algorithms.Goals as goal
+
+pub loop-algorithm-preserved : goal.loop-algorithm-preserved
+loop-algorithm-preserved c =
+    let items = c.args.algorithms.now in
+    let n = c.loop-algorithm.algorithm-index in
+    let x = c.algorithm-item.result in
+    let old = c.loop-algorithm.declared in
+    let new = c.insert.new.self in
+    let within : n < length items = omega arith in
+    let more : take (n + 1) items ≡ take n items ++ x ∷ [] = grind (arith, common_steps) in
+    λ q. noted-push (map (λ (a : Algorithm). a.name) (take n items)) x.name old new c.loop-algorithm.invariant (subst (λ m. Updates (pointwise nat_eq) old new m true) c.name.ensures c.in_ok-insert.ensures.updates) q
+    ∙ ap (λ l. has_name l q) (sym (ap (map (λ (a : Algorithm). a.name)) more ∙ map-append (λ (a : Algorithm). a.name) (take n items) (x ∷ [])))
