@@ -135,7 +135,7 @@ pub lexeme-not_last : (text : List ℕ) (token : Token) → is_last (lexeme_of t
 unfolding lexeme_of
 lexeme-not_last text token = let bytes = slice_range text token.span.start token.span.end in not-true (is_last (kind_of token.kind bytes)) (kind-token token.kind bytes)
 
--- what is pulled where nothing is left
+-- what is pulled if nothing is left
 end-pulled : (text : List ℕ) (place : ℕ) → length text ≤ place → pulled_at text place ≡ closing_at End (length text) (length text) ∷ []
 unfolding pulled_from
 end-pulled text place done = ap (pulled_from text 0 place) (drop_all place text done)
@@ -155,7 +155,7 @@ module _ (text : List ℕ) (place : ℕ) (left : place < length text) where
   found-pulled kind n some e =
       found-step text place (drop place text) kind n some-left some e ∙ ap (λ bs. lexeme_of text (token_of kind place n) ∷ pulled_from text 0 (place + n) bs) (drop-drop n place text)
 
--- The first of what is pulled, where it is a token, and what follows it.
+-- The first of what is pulled, if it is a token, and what follows it.
 module _ (text : List ℕ) (place : ℕ) (utf8 : IsUtf8 text) (starts : IsCharBoundary text place) (left : place < length text) where
   fits : (piece : Piece) → piece_at (drop place text) ≡ piece → FitsIn (drop place text) piece
   fits piece e = subst (FitsIn (drop place text)) e (piece-fits (drop place text) (IsUtf8-drop text place utf8 starts) (some-left text place left))

@@ -1,4 +1,4 @@
--- How a token that was pulled stands to the one list of tokens.
+-- The token that was pulled last, and the list of all that is pulled from it on.
 use Rattle.std.specs.Prelude.{◌≡◌, ℕ, ◌<◌, ◌≤◌, true, false, List, [], length, drop, slice_range}
 use Rattle.std.specs.Str.{IsCharBoundary, str_to_ascii_uppercase}
 use Rattle.fb_tree.specs.Text.Scan.{AreOpen}
@@ -40,7 +40,7 @@ pub record IsNext (text : List ℕ) (from : ℕ) (found : Kind) (span : Span) (q
   pub front : IsFront text found span
   pub are_open : AreOpen text span.end quotes
 
--- what is pulled from where the next token stands
+-- what is pulled from the next token on
 abbrev pub pulled : Inside → List Lexeme
 pulled a = pulled_at a.text.now a.next.place.start
 

@@ -20,7 +20,7 @@ is_lone b = list_any (λ s. s == b) (codes ";,)[]=+&")
 abbrev pub lone_symbol : ℕ → Option Kind
 lone_symbol b = if is_lone b then symbol (b ∷ []) else None
 
--- what stands behind all tokens, from a place up to the end of the text
+-- what is behind all tokens, from a place up to the end of the text
 abbrev pub closing_at : Kind → ℕ → ℕ → Lexeme
 closing_at kind start end = record { kind = kind; span = record { start = start; end = end }; name = codes "_" }
 
@@ -45,7 +45,7 @@ abbrev pub front : List Lexeme → Lexeme
 front [] = closing_at End 0 0
 front (token ∷ tokens) = token
 
--- kinds of tokens alone, and not of what stands behind all tokens
+-- kinds of tokens alone, and not of what is behind all tokens
 abbrev pub are_tokens : List Kind → Type 0
 are_tokens kinds = (is_among kinds End ≡ false) × (is_among kinds NeverClosed ≡ false)
 
@@ -62,7 +62,7 @@ abbrev pub with_lexeme : Lexeme → Result (List Lexeme) Span → Result (List L
 with_lexeme token (Ok tokens) = Ok (token ∷ tokens)
 with_lexeme token (Err bad) = Err bad
 
--- The tokens without what stands behind them, or the comment that is never closed. Of all that is pulled of a text this is `lexemes_of` of the text.
+-- The tokens without what is behind them, or the comment that is never closed. Of all that is pulled of a text this is `lexemes_of` of the text.
 abbrev pub unended : List Lexeme → Result (List Lexeme) Span
 unended [] = Ok []
 unended (token ∷ tokens) =

@@ -59,7 +59,7 @@ impl<'t> Tokens<'t> {
         self.next.kind
     }
 
-    /// Where the next token stands.
+    /// The place of the next token.
     pub fn place(&self) -> Place
         ensures { result ≡ (front self.now).span }
     {

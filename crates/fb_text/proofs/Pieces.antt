@@ -14,7 +14,7 @@ use Rattle.fb_text.specs.declared.scan.Piece.TheVariants.{Found, Gap}
 use Rattle.fb_text.proofs.Boundaries.{begins}
 use Rattle.fb_text.proofs.LongestToken.{any-byte, any-pair, token-symbol, token-typed, token-word}
 
--- where neither a blank nor a comment can begin a token does
+-- if neither a blank nor a comment can begin, a token does
 pub token-piece : (bs : List ℕ) → is_blank (first bs) ≡ false → first bs ≢ 40 → first bs ≢ 47 → piece_at bs ≡ token_at bs
 unfolding piece_at
 token-piece bs blank no_open no_slash =
@@ -82,7 +82,7 @@ symbol-quote : (b : ℕ) → is_symbol_byte b ≡ true → is_quote b ≡ false
 unfolding is_symbol_byte is_quote
 symbol-quote b h = not-true (is_quote b) (any-byte (λ s. not (is_quote s)) (codes ";:,.()[]=<>+-*/&") b h refl)
 
--- where no quote stands no string begins
+-- without a quote no string begins
 pub no-quote : (bs : List ℕ) → is_quote (first bs) ≡ false → string_len bs ≡ 0
 unfolding string_len
 no-quote [] h = refl
