@@ -5,11 +5,7 @@ use Rattle.fb_grammar.specs.{declared.kind.Kind.{Kind}, declared.kind.Kind.TheVa
 use Rattle.fb_grammar.specs.{Kind.{code_of, is_among, name_kinds, same_kind}, Reading.{is_next, read_one}, Upcoming.{front}}
 use Rattle.fb_grammar.proofs.Forms.{among_same, or_cases}
 
--- the first of some tokens
-pub next_front : (kinds : List Kind) (ts : List Lexeme) → 0 < length ts → is_next kinds ts ≡ is_among kinds (front ts).kind
-next_front kinds [] some = absurd (omega arith)
-next_front kinds (t ∷ ts) some = refl
-
+-- the first of the tokens
 pub next_among : (kinds : List Kind) (ts : List Lexeme) → is_next kinds ts ≡ true → is_among kinds (front ts).kind ≡ true
 next_among kinds [] h = cc h
 next_among kinds (t ∷ ts) h = h

@@ -1,9 +1,13 @@
 -- Reading values one after the other, as a loop does.
 use Rattle.std.proofs.Common.{◌≡◌, ℕ, zero, suc, ◌≤◌, ◌<◌, true, false, List, [], ◌∷◌, ◌++◌, length, map, Result, Ok, Err, IfOk, refl, sym, ap, ◌∙◌, append_assoc, arith}
 use Rattle.std.proofs.lemmas.List.{append-nil, map_push, map-id}
+<<<<<<< HEAD
 use Rattle.fb_grammar.specs.{declared.kind.Kind.{Kind}, declared.lexeme.Lexeme.{Lexeme}, declared.stop.Stop.{Stop}}
 use Rattle.fb_grammar.specs.{declared.stop.Stop.TheVariants.{Memory, Broken}, Reading.{Outcome, ◌>>=◌, is_next, read_each}, Repetition.{with_prefix}}
 use Rattle.fb_grammar.specs.Gives.{Fails}
+=======
+use Rattle.fb_grammar.specs.{declared.kind.Kind.{Kind}, declared.lexeme.Lexeme.{Lexeme}, Reading.{Outcome, ◌>>=◌, is_next, read_each}, Repetition.{with_prefix}}
+>>>>>>> 4d527cc66e11cefccf2853b4b2b3b28665e80d59
 
 -- values that are seen as they are
 pub as_they_are : {A : Type 0} (xs : List A) → map (λ x. x) xs ≡ xs
@@ -14,9 +18,6 @@ pub record IsSoFar {A : Type 0} (reads : List Lexeme → Outcome A) (kinds : Lis
   pub turns : ℕ
   pub enough : length ts ≤ turns
   pub gives : with_prefix prefix (read_each reads kinds turns ts) ≡ whole
-
-pub so_far_none : {A : Type 0} (reads : List Lexeme → Outcome A) (kinds : List Kind) (prefix : List A) (ts : List Lexeme) → IsSoFar reads kinds prefix ts (with_prefix prefix (read_each reads kinds (length ts) ts))
-so_far_none reads kinds prefix ts = record { turns = length ts; enough = omega arith; gives = refl }
 
 pub regroup : {A : Type 0} (prefix : List A) (v : A) (r : Outcome (List A)) → with_prefix prefix (r >>= λ b. Ok (v ∷ b.0, b.1)) ≡ with_prefix (prefix ++ v ∷ []) r
 regroup prefix v (Ok b) = ap (λ z. Ok (z, b.1)) (sym (append_assoc prefix (v ∷ []) b.0))
@@ -42,17 +43,6 @@ pub each_more : {X A : Type 0} (view : X → A) (reads : List Lexeme → Outcome
 each_more view reads kinds items new v ts mid whole next e shorter pushed so_far =
     let viewed : map view new ≡ map view items ++ view v ∷ [] = ap (map view) pushed ∙ map_push view items v in
     rw viewed (one_more reads kinds (map view items) (view v) so_far.turns ts mid whole next e shorter so_far.enough so_far.gives)
-
-err_step : {A : Type 0} (reads : List Lexeme → Outcome A) (kinds : List Kind) (n : ℕ) (ts rest : List Lexeme) → is_next kinds ts ≡ true → length ts ≤ n → reads ts ≡ Err rest → read_each reads kinds n ts ≡ Err rest
-err_step reads kinds n [] rest next enough e = cc next
-err_step reads kinds zero (t ∷ ts) rest next enough e = absurd (omega arith)
-err_step reads kinds (suc n) (t ∷ ts) rest next enough e = rw (next, e) refl
-
--- reading a value fails
-pub each_fails : {A : Type 0} (reads : List Lexeme → Outcome A) (kinds : List Kind) (prefix : List A) (ts rest : List Lexeme) (stop : Stop) (whole : Outcome (List A))
-    → is_next kinds ts ≡ true → Fails stop rest (reads ts) → IsSoFar reads kinds prefix ts whole → Fails stop rest whole
-each_fails reads kinds prefix ts rest Memory whole next e so_far = tt
-each_fails reads kinds prefix ts rest Broken whole next e so_far = sym so_far.gives ∙ ap (with_prefix prefix) (err_step reads kinds so_far.turns ts rest next so_far.enough e)
 
 none_step : {A : Type 0} (reads : List Lexeme → Outcome A) (kinds : List Kind) (n : ℕ) (ts : List Lexeme) → is_next kinds ts ≡ false → read_each reads kinds n ts ≡ Ok ([], ts)
 none_step reads kinds zero ts next = refl
