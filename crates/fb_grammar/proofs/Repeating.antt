@@ -1,13 +1,7 @@
 -- Reading values one after the other, as a loop does.
 use Rattle.std.proofs.Common.{◌≡◌, ℕ, zero, suc, ◌≤◌, ◌<◌, true, false, List, [], ◌∷◌, ◌++◌, length, map, Result, Ok, Err, IfOk, refl, sym, ap, ◌∙◌, append_assoc, arith}
 use Rattle.std.proofs.lemmas.List.{append-nil, map_push, map-id}
-<<<<<<< HEAD
-use Rattle.fb_grammar.specs.{declared.kind.Kind.{Kind}, declared.lexeme.Lexeme.{Lexeme}, declared.stop.Stop.{Stop}}
-use Rattle.fb_grammar.specs.{declared.stop.Stop.TheVariants.{Memory, Broken}, Reading.{Outcome, ◌>>=◌, is_next, read_each}, Repetition.{with_prefix}}
-use Rattle.fb_grammar.specs.Gives.{Fails}
-=======
 use Rattle.fb_grammar.specs.{declared.kind.Kind.{Kind}, declared.lexeme.Lexeme.{Lexeme}, Reading.{Outcome, ◌>>=◌, is_next, read_each}, Repetition.{with_prefix}}
->>>>>>> 4d527cc66e11cefccf2853b4b2b3b28665e80d59
 
 -- values that are seen as they are
 pub as_they_are : {A : Type 0} (xs : List A) → map (λ x. x) xs ≡ xs
