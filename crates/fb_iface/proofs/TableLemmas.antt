@@ -5,6 +5,7 @@ use Rattle.std.proofs.lemmas.List.{get_or_default, take_all}
 use Rattle.std.specs.Option.{option_or}
 use Rattle.std.specs.Cmp.Lexicographic.{pointwise, nat_list_eq_equiv, same_text}
 use Rattle.std.specs.Map.{lookup}
+use Rattle.indexmap.specs.IndexMap.{insert_entry}
 use Rattle.fb_tree.proofs.Text.OrderLemmas.{same_name}
 use Rattle.fb_iface.proofs.PlaceLemmas.{passing, passing-all, passing-more}
 use Rattle.fb_iface.specs.Names.{first_ones, is_same, stands_for, with_first, with_firsts}
@@ -158,3 +159,17 @@ module _ {D : Type 0} where
       ap (with_firsts []) (sym (take_all (length all) all (omega arith)))
       ∙ firsts_among all (length all) (omega arith)
       ∙ first_all all
+
+  -- a name whose meaning is put back means what it meant
+  pub put_back : (eq : List ℕ → List ℕ → Bool) (entries : List (List ℕ × D)) (name : List ℕ) (old new : D) → lookup (eq name) entries ≡ Some old → insert_entry eq (insert_entry eq entries name new) name old ≡ entries
+  put_back eq [] name old new there = absurd (let no : ⊥ = cc in no)
+  put_back eq (e ∷ entries) name old new there = by (eq name e.0) refl there (put_back eq entries name old new)
+    where
+      by : (b : Bool) → eq name e.0 ≡ b → cond b (Some e.1) (lookup (eq name) entries) ≡ Some old → (lookup (eq name) entries ≡ Some old → insert_entry eq (insert_entry eq entries name new) name old ≡ entries) → insert_entry eq (cond b ((e.0, new) ∷ entries) (e ∷ insert_entry eq entries name new)) name old ≡ e ∷ entries
+      by true s h more =
+          let same : e.1 ≡ old = cc in
+          ap (λ b. cond b ((e.0, old) ∷ entries) ((e.0, new) ∷ insert_entry eq entries name old)) s
+          ∙ ap (λ v. (e.0, v) ∷ entries) (sym same)
+      by false s h more =
+          ap (λ b. cond b ((e.0, old) ∷ insert_entry eq entries name new) (e ∷ insert_entry eq (insert_entry eq entries name new) name old)) s
+          ∙ ap (λ l. e ∷ l) (more h)

@@ -26,7 +26,7 @@ pub fn first_declared<D: Copy>(
     Ok(table)
 }
 
-/// Declares a name, unless it is declared already.
+/// Declares a name, unless it is declared already: then it keeps its first meaning.
 pub(crate) fn declare<D: Copy>(
     name: Name,
     declared: D,
@@ -34,8 +34,8 @@ pub(crate) fn declare<D: Copy>(
 ) -> Result<(), AllocError>
     ensures { OnOk result (table.new.entries ≡ with_first table.old.entries (name, declared)) }
 {
-    if !table.contains_key(&name) {
-        table.insert(name, declared)?;
+    if let Some(first) = table.insert(name, declared)? {
+        table.insert(name, first)?;
     }
     Ok(())
 }
