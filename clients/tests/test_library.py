@@ -1,7 +1,9 @@
 """The library: places, batches, answers, sessions and what can go wrong with them."""
 import json
+import re
 import time
 import unittest
+from typing import Any
 
 from support import GREETING, InFolder, answering, free_port, hosting, serving, workbench
 
@@ -185,6 +187,33 @@ class SessionTest(unittest.TestCase):
         self.assertRaises(NoSuchUnit, self.session.commit, [Remove("A", 0)])
         self.assertRaises(RequestTooLong, self.session.commit, [Put("A", 0, "x" * LINE_LIMIT)])
         self.assertEqual(self.session.commit([Put("A", 0, A)]), 1)
+
+    def test_what_is_wrong_with_a_request(self):
+        ask: dict[str, Any] = {"op": "ask", "kind": "faults"}
+        put: dict[str, Any] = {"put": "A", "base": 0, "text": ""}
+        checkpoint: dict[str, Any] = {"op": "checkpoint", "units": 1}
+        cases: list[tuple[dict[str, Any], str]] = [
+            ({}, "`op` has to be one of commit, ask, work, take, deliver, give_back, checkpoint"),
+            ({"op": ["take"]}, "`op` has to be one of commit,"),
+            (ask, "`unit` has to be a text"),
+            ({**ask, "kind": "plan", "unit": "A"}, "`kind` has to be faults, net or deploy"),
+            ({"op": "give_back", "unit": "A"}, "`kind` has to be faults, net or deploy"),
+            ({"op": "work", "turns": 1_001}, "`turns` has to be a whole number from 1 to 1,000"),
+            ({"op": "work", "turns": True}, "`turns` has to be a whole number"),
+            ({"op": "deliver", "job": 1.0}, "`job` has to be a whole number from 0 to 18,446,744,073,709,551,615"),
+            ({**checkpoint, "history": 10_000_001}, "`history` has to be a whole number from 1 to 10,000,000"),
+            ({**checkpoint, "history": 1, "units": 0}, "`units` has to be a whole number from 1 to 16,384"),
+            ({"op": "commit", "changes": [7]}, "`changes` has to be a list of objects"),
+            ({"op": "commit", "changes": [put, {**put, "remove": None}]}, "change 2: it needs one of `put` and `remove`"),
+            ({"op": "commit", "changes": [put, {}]}, "change 2: it needs one of `put` and `remove`"),
+            ({"op": "commit", "changes": [{**put, "base": -1}]}, "change 1: `base` has to be a whole number"),
+            ({"op": "commit", "changes": [{"remove": None, "base": 0}]}, "change 1: `remove` has to be a text"),
+        ]
+        for request, wrong in cases:
+            with self.assertRaisesRegex(Refused, f"^the workbench refused the request: {re.escape(wrong)}") as caught:
+                self.session.request(request)
+            self.assertEqual(caught.exception.refusal, "BadRequest")
+        self.assertEqual(self.session.request({"op": "commit", "changes": [{**put, "more": 7}]}), {"commit": 1})
 
     def test_full_history(self):
         with Session.script(workbench(), history=1) as session:

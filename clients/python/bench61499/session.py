@@ -134,7 +134,9 @@ _REFUSALS = {
 _REFUSAL_TYPES: dict[str, type[Refused]] = {it.__name__: it for it in (StaleBase, NoSuchKey, NoSuchUnit, NoSeat, HistoryFull)}
 
 
-def _refusal(reply: dict[str, Any]) -> Refused:
+def _refusal(reply: dict[str, Any], request: dict[str, Any] | None) -> Refused:
+    if reply["refused"] == "BadRequest" and request is not None and (wrong := _wrong_in(request)):
+        return Refused(reply, f"the workbench refused the request: {wrong}")
     return _REFUSAL_TYPES.get(str(reply["refused"]), Refused)(reply)
 
 
@@ -324,6 +326,54 @@ def _read_job(reply: dict[str, Any]) -> Job | None:
 
 
 _READERS: dict[str, Callable[[dict[str, Any]], Any]] = {"faults": _read_faults, "net": _read_net, "deploy": _read_deploy}
+
+
+@dataclass(frozen=True)
+class _Form:
+    """What a member of a request has to be, in words, and whether a value is."""
+
+    words: str
+    fits: Callable[[Any], bool]
+
+
+def _whole(least: int, most: int) -> _Form:
+    return _Form(f"a whole number from {least:,} to {most:,}", lambda it: type(it) is int and least <= it <= most)
+
+
+_TEXT = _Form("a text", lambda it: isinstance(it, str))
+_LIST = _Form("a list of objects", lambda it: isinstance(it, list) and all(isinstance(its, dict) for its in it))
+_KEY = {"kind": _Form("faults, net or deploy", lambda it: isinstance(it, str) and it in _READERS), "unit": _TEXT}
+_BASE = {"base": _whole(0, 2**64 - 1)}
+_MEMBERS: dict[str, dict[str, _Form]] = {
+    "commit": {"changes": _LIST},
+    "ask": _KEY,
+    "work": {"turns": _whole(1, 1_000)},
+    "take": {},
+    "deliver": {"job": _whole(0, 2**64 - 1)},
+    "give_back": _KEY,
+    "checkpoint": {"units": _whole(1, UNITS_LIMIT), "history": _whole(1, HISTORY_LIMIT)},
+}
+_CHANGES = {"put": {"put": _TEXT, **_BASE, "text": _TEXT}, "remove": {"remove": _TEXT, **_BASE}}
+
+
+def _wrong_in(request: dict[str, Any]) -> str:
+    """What is wrong with a request that is no request of the protocol; empty if nothing is found."""
+    forms = _MEMBERS.get(request["op"]) if isinstance(request.get("op"), str) else None
+    if forms is None:
+        return f"`op` has to be one of {', '.join(_MEMBERS)}"
+    if wrong := _wrong_member(request, forms):
+        return wrong
+    for number, change in enumerate(request["changes"] if "changes" in forms else (), 1):
+        sorts = [it for it in _CHANGES if it in change]
+        wrong = _wrong_member(change, _CHANGES[sorts[0]]) if len(sorts) == 1 else "it needs one of `put` and `remove`"
+        if wrong:
+            return f"change {number}: {wrong}"
+    return ""
+
+
+def _wrong_member(sent: dict[str, Any], forms: dict[str, _Form]) -> str:
+    """The first member that is missing or has another form."""
+    return next((f"`{name}` has to be {form.words}" for name, form in forms.items() if name not in sent or not form.fits(sent[name])), "")
 
 
 def batches(changes: Iterable[SomeChange]) -> Iterator[list[SomeChange]]:
@@ -531,15 +581,15 @@ class Session:
         if len(line) > LINE_LIMIT:
             raise RequestTooLong(len(line))
         self._channel.send(line + b"\n")
-        return self._reply(read)
+        return self._reply(read, request)
 
-    def _reply(self, read: Callable[[dict[str, Any]], Value]) -> Value:
+    def _reply(self, read: Callable[[dict[str, Any]], Value], request: dict[str, Any] | None = None) -> Value:
         answer = self._channel.receive()
         try:
             reply = json.loads(answer)
             if "refused" not in reply:
                 return read(reply)
-            refusal = _refusal(reply)
+            refusal = _refusal(reply, request)
         except (ValueError, TypeError, KeyError, AttributeError) as error:
             raise BadReply(answer) from error
         raise refusal
