@@ -31,7 +31,7 @@ pub fn literal_form(kind: Kind) -> LiteralForm
     }
 }
 
-/// The literal where it stands.
+/// The literal and its place.
 pub fn literal_use(token: &Taken) -> Literal
     requires { is_among literal_kinds token.now.kind ≡ true }
     ensures { result ≡ literal_at token.now.kind token.now.span }
