@@ -1,11 +1,12 @@
 //! What references mean (IEC 61499-1, 5.2.2: algorithms; 5.5: adapters).
-ghost use Rattle.std.specs.Prelude.{◌≡◌, [], ◌∷◌, ◌++◌, OnOk};
+ghost use Rattle.std.specs.Prelude.{◌≡◌, [], ◌∷◌, ◌++◌, IfOk, OnOk};
 ghost use Rattle.std.specs.Option.{option_copied};
 ghost use Rattle.fb_tree.specs.Expression.{reference_tree};
 ghost use Rattle.fb_iface.specs.KeptFields.{fields_shown, structures_in};
 ghost use Rattle.fb_iface.specs.Names.{stands_for};
 ghost use Rattle.fb_iface.specs.Kept.{scope_in};
 ghost use Rattle.fb_expr.specs.Names.{names_in};
+ghost use Rattle.fb_expr.specs.Spans.{names_span};
 ghost use Rattle.fb_expr.specs.References.{
   class_of_element,
   class_of_referent,
@@ -28,11 +29,12 @@ ghost use Rattle.fb_expr.specs.References.{
 };
 
 use crate::names::Names;
+use crate::spans::span_of_names;
 use fb_iface::{
     Behind, Class, Code, DeclaredVariable, Fault, Ports, Scope, Structures, class_by_name,
     class_of_wide,
 };
-use fb_tree::text::{Name, Span};
+use fb_tree::text::{Name, Place, Span};
 use fb_tree::{Member, Reference, Role, Section, TypeForm, WideTypeUse};
 use std::alloc::AllocError;
 
@@ -50,8 +52,56 @@ pub enum Referent {
     NoMember(Span),
 }
 
+/// The class of what a reference means. One that means nothing is reported.
+pub fn judge_names(
+    names: Names<'_>,
+    reference: &Reference,
+    found: &mut Vec<Fault>,
+) -> Result<Class, AllocError>
+    ensures class { IfOk result (λ class. class
+        ≡ class_of_referent (referent_of (names_in names.entry) (reference_tree reference.now))) }
+    ensures faults { OnOk result (found.new.items ≡ found.old.items
+        ++ reference_faults (referent_of (names_in names.entry) (reference_tree reference.now))
+        (names_span (reference_tree reference.now))) }
+{
+    match reference.members().first() {
+        Some(_) => {
+            let referent = referred(names, reference);
+            report_reference(&referent, span_of_names(reference), found)?;
+            Ok(referent.class())
+        }
+        None => {
+            let subscripted = reference.subscripts > 0;
+            let place = reference.name_span();
+            judge_variable(names.scope, &reference.name(), subscripted, place, found)
+        }
+    }
+}
+
+/// The class of a variable of the unit, without or with subscripts. A name that means none is reported.
+pub fn judge_variable(
+    scope: &Scope,
+    name: &Name,
+    subscripted: bool,
+    place: Place,
+    found: &mut Vec<Fault>,
+) -> Result<Class, AllocError>
+    ensures class { IfOk result (λ class. class
+        ≡ class_of_referent (variable_named (scope_in scope.now) name.now subscripted)) }
+    ensures faults { OnOk result (found.new.items ≡ found.old.items
+        ++ reference_faults (variable_named (scope_in scope.now) name.now subscripted) place) }
+{
+    match scope.own().variable(name) {
+        Some(variable) => Ok(class_of_use(&variable.type_use, subscripted)),
+        None => {
+            report_name(Code::VariableUnknown, place.span(), found)?;
+            Ok(Class::Free)
+        }
+    }
+}
+
 /// What a reference means.
-pub fn referred(names: Names<'_>, reference: &Reference) -> Referent
+fn referred(names: Names<'_>, reference: &Reference) -> Referent
     ensures { result ≡ referent_of (names_in names.entry) (reference_tree reference.now) }
 {
     let name = reference.name();
@@ -213,7 +263,7 @@ fn field_referent(field: Option<&DeclaredVariable>, member: &Member) -> Referent
 
 impl Referent {
     /// Its class. What is unknown or not checked meets every rule.
-    pub fn class(&self) -> Class
+    fn class(&self) -> Class
         ensures { result ≡ class_of_referent self.now }
     {
         match self {
@@ -246,7 +296,7 @@ fn element_class(used: &WideTypeUse) -> Class
 
 /// Reports a name that is no variable, or a further one that is no field. `span` is that of the
 /// names that mean a variable.
-pub fn report_reference(
+fn report_reference(
     referent: &Referent,
     span: Span,
     found: &mut Vec<Fault>,
@@ -262,7 +312,7 @@ pub fn report_reference(
 }
 
 /// Reports a name that does not mean what it should.
-pub fn report_name(code: Code, span: Span, found: &mut Vec<Fault>) -> Result<(), AllocError>
+fn report_name(code: Code, span: Span, found: &mut Vec<Fault>) -> Result<(), AllocError>
     ensures { OnOk result
         (found.new.items ≡ found.old.items ++ (record { code = code; span = span } ∷ [])) }
 {
