@@ -10,10 +10,10 @@ ghost use Rattle.fb_expr.specs.Statements.{faults_at_place};
 
 use crate::classes::{broken, changed, operated};
 use crate::names::Names;
-use crate::references::{referred, report_name, report_reference};
+use crate::references::{judge_names, judge_variable};
 use crate::rules::{ClassPlace, report_class};
-use crate::spans::{span_of, span_of_names};
-use fb_iface::{Class, Code, Fault, class_by_form, class_of_wide};
+use crate::spans::span_of;
+use fb_iface::{Class, Fault, class_by_form};
 use fb_tree::text::NameUse;
 use fb_tree::{BinaryUse, Expr, Reference, UnaryUse};
 use std::alloc::AllocError;
@@ -62,13 +62,7 @@ pub fn judge_name(
         (found.new.items ≡ found.old.items ++ faults_in (names_in names.entry)
         (reference_expression (alone_tree used.now) no_expressions)) }
 {
-    match names.scope.own().variable(&used.name.name()) {
-        Some(variable) => Ok(class_of_wide(&variable.type_use)),
-        None => {
-            report_name(Code::VariableUnknown, used.span.span(), found)?;
-            Ok(Class::Free)
-        }
-    }
+    judge_variable(names.scope, &used.name.name(), false, used.span, found)
 }
 
 /// The class of a variable with its subscripts.
@@ -87,10 +81,9 @@ pub fn judge_reference(
         (reference_expression (reference_tree reference.now)
         (expressions_of (map expression_tree subscripts.now)))) }
 {
-    let referent = referred(names, reference);
-    report_reference(&referent, span_of_names(reference), found)?;
+    let class = judge_names(names, reference, found)?;
     judge_subscripts(names, subscripts, found)?;
-    Ok(referent.class())
+    Ok(class)
 }
 
 /// Reports the faults in subscripts, and those that are no whole numbers.

@@ -1,11 +1,13 @@
 //! What references mean (IEC 61499-1, 5.2.2: algorithms; 5.5: adapters).
-ghost use Rattle.std.specs.Prelude.{◌≡◌, [], ◌∷◌, ◌++◌, OnOk};
+ghost use Rattle.std.specs.Prelude.{◌≡◌, [], ◌∷◌, ◌++◌, IfOk, IfSome, OnOk, Some, is_some};
 ghost use Rattle.std.specs.Option.{option_copied};
 ghost use Rattle.fb_tree.specs.Expression.{reference_tree};
 ghost use Rattle.fb_iface.specs.KeptFields.{fields_shown, structures_in};
 ghost use Rattle.fb_iface.specs.Names.{stands_for};
 ghost use Rattle.fb_iface.specs.Kept.{scope_in};
+ghost use Rattle.fb_iface.specs.Scope.{instance_ports};
 ghost use Rattle.fb_expr.specs.Names.{names_in};
+ghost use Rattle.fb_expr.specs.Spans.{names_span};
 ghost use Rattle.fb_expr.specs.References.{
   class_of_element,
   class_of_referent,
@@ -17,8 +19,9 @@ ghost use Rattle.fb_expr.specs.References.{
   is_adapter,
   is_at_adapter,
   is_data,
+  is_some_count,
   member_among,
-  port_named,
+  port_referent,
   reference_faults,
   referent_of,
   step,
@@ -28,11 +31,12 @@ ghost use Rattle.fb_expr.specs.References.{
 };
 
 use crate::names::Names;
+use crate::spans::span_of_names;
 use fb_iface::{
-    Behind, Class, Code, DeclaredVariable, Fault, Ports, Scope, Structures, class_by_name,
-    class_of_wide,
+    Behind, Class, Code, DeclaredInstance, DeclaredVariable, Fault, Ports, Scope, Structures,
+    class_by_name, class_of_wide,
 };
-use fb_tree::text::{Name, Span};
+use fb_tree::text::{Name, Place, Span};
 use fb_tree::{Member, Reference, Role, Section, TypeForm, WideTypeUse};
 use std::alloc::AllocError;
 
@@ -50,23 +54,81 @@ pub enum Referent {
     NoMember(Span),
 }
 
+/// The class of what a reference means. One that means nothing is reported.
+pub fn judge_names(
+    names: Names<'_>,
+    reference: &Reference,
+    found: &mut Vec<Fault>,
+) -> Result<Class, AllocError>
+    ensures class { IfOk result (λ class. class
+        ≡ class_of_referent (referent_of (names_in names.entry) (reference_tree reference.now))) }
+    ensures faults { OnOk result (found.new.items ≡ found.old.items
+        ++ reference_faults (referent_of (names_in names.entry) (reference_tree reference.now))
+        (names_span (reference_tree reference.now))) }
+{
+    match reference.members().first() {
+        Some(_) => {
+            let referent = referred(names, reference);
+            report_reference(&referent, span_of_names(reference), found)?;
+            Ok(referent.class())
+        }
+        None => {
+            let subscripted = reference.subscripts > 0;
+            let place = reference.name_span();
+            judge_variable(names.scope, &reference.name(), subscripted, place, found)
+        }
+    }
+}
+
+/// The class of a variable of the unit, without or with subscripts. A name that means none is reported.
+pub fn judge_variable(
+    scope: &Scope,
+    name: &Name,
+    subscripted: bool,
+    place: Place,
+    found: &mut Vec<Fault>,
+) -> Result<Class, AllocError>
+    ensures class { IfOk result (λ class. class
+        ≡ class_of_referent (variable_named (scope_in scope.now) name.now subscripted)) }
+    ensures faults { OnOk result (found.new.items ≡ found.old.items
+        ++ reference_faults (variable_named (scope_in scope.now) name.now subscripted) place) }
+{
+    match scope.own().variable(name) {
+        Some(variable) => Ok(class_of_use(&variable.type_use, subscripted)),
+        None => {
+            report_name(Code::VariableUnknown, place.span(), found)?;
+            Ok(Class::Free)
+        }
+    }
+}
+
 /// What a reference means.
-pub fn referred(names: Names<'_>, reference: &Reference) -> Referent
+fn referred(names: Names<'_>, reference: &Reference) -> Referent
     ensures { result ≡ referent_of (names_in names.entry) (reference_tree reference.now) }
 {
     let name = reference.name();
     let subscripted = reference.subscripts > 0;
     let members = reference.members();
     match members.first() {
-        Some(second) if !subscripted && names_adapter(names.scope.own(), &name) => {
-            let port = referred_port(names.scope, &name, second);
-            referred_behind(names, port, &members[1..])
-        }
-        _ => {
-            let variable = referred_variable(names.scope, &name, subscripted);
-            referred_behind(names, variable, members)
-        }
+        Some(second) if !subscripted => match adapter_named(names.scope.own(), &name) {
+            Some(adapter) => {
+                let port = referred_port(names.scope, adapter, second);
+                referred_behind(names, port, &members[1..])
+            }
+            None => referred_from(names, &name, subscripted, members),
+        },
+        _ => referred_from(names, &name, subscripted, members),
     }
+}
+
+/// What is referred to by further names after a variable of the unit.
+fn referred_from(names: Names<'_>, name: &Name, subscripted: bool, members: &[Member]) -> Referent
+    ensures { result
+        ≡ walk (names_in names.entry)
+        (variable_named (names_in names.entry).scope name.now subscripted) members.now }
+{
+    let variable = referred_variable(names.scope, name, subscripted);
+    referred_behind(names, variable, members)
 }
 
 /// What a name means alone: a variable of the unit.
@@ -79,13 +141,15 @@ fn referred_variable(scope: &Scope, name: &Name, subscripted: bool) -> Referent
     }
 }
 
-/// Whether a name means a plug or a socket.
-fn names_adapter(own: &Ports, name: &Name) -> bool
-    ensures { result ≡ is_at_adapter (stands_for own.now.instances name.now) }
+/// The plug or the socket that a name means.
+fn adapter_named<'a>(own: &'a Ports, name: &Name) -> Option<&'a DeclaredInstance>
+    ensures found { is_some result ≡ is_at_adapter (stands_for own.now.instances name.now) }
+    ensures named { IfSome result
+        (λ adapter. stands_for own.now.instances name.now ≡ Some adapter.now) }
 {
     match own.instance(name) {
-        Some(instance) => is_for_adapters(instance.role),
-        None => false,
+        Some(instance) if is_for_adapters(instance.role) => Some(instance),
+        _ => None,
     }
 }
 
@@ -99,10 +163,12 @@ fn is_for_adapters(role: Role) -> bool
 }
 
 /// What a name means after that of a plug or a socket.
-fn referred_port(scope: &Scope, name: &Name, member: &Member) -> Referent
-    ensures { result ≡ port_named (scope_in scope.now) name.now member.now }
+fn referred_port(scope: &Scope, adapter: &DeclaredInstance, member: &Member) -> Referent
+    ensures { result
+        ≡ port_referent (instance_ports (scope_in scope.now) adapter.now) member.now.name.name
+        (is_some_count member.now.subscripts) }
 {
-    match scope.ports_of(name) {
+    match scope.instance_ports(adapter) {
         Some(ports) => referred_data(ports, &member.name.name.name(), member.subscripts > 0),
         None => Referent::Unjudged,
     }
@@ -213,7 +279,7 @@ fn field_referent(field: Option<&DeclaredVariable>, member: &Member) -> Referent
 
 impl Referent {
     /// Its class. What is unknown or not checked meets every rule.
-    pub fn class(&self) -> Class
+    fn class(&self) -> Class
         ensures { result ≡ class_of_referent self.now }
     {
         match self {
@@ -246,7 +312,7 @@ fn element_class(used: &WideTypeUse) -> Class
 
 /// Reports a name that is no variable, or a further one that is no field. `span` is that of the
 /// names that mean a variable.
-pub fn report_reference(
+fn report_reference(
     referent: &Referent,
     span: Span,
     found: &mut Vec<Fault>,
@@ -262,7 +328,7 @@ pub fn report_reference(
 }
 
 /// Reports a name that does not mean what it should.
-pub fn report_name(code: Code, span: Span, found: &mut Vec<Fault>) -> Result<(), AllocError>
+fn report_name(code: Code, span: Span, found: &mut Vec<Fault>) -> Result<(), AllocError>
     ensures { OnOk result
         (found.new.items ≡ found.old.items ++ (record { code = code; span = span } ∷ [])) }
 {
