@@ -6,7 +6,7 @@ use Rattle.fb_grammar.specs.{declared.kind.Kind.{Kind}, declared.kind.Kind.TheVa
 use Rattle.fb_grammar.specs.{declared.stop.Stop.{Stop}, declared.stop.Stop.TheVariants.{Memory, Broken}, Form.{Form, one, both, many, as_value, Spells, Prefix}}
 use Rattle.fb_grammar.specs.{Gives.{Fails}, Kind.{is_among, name_kinds}, Words.{name}, Reading.{Outcome, ◌>>=◌, is_nullable, is_next, first, read_each, read}}
 use Rattle.fb_grammar.specs.{Repetition.{with_prefix}, Upcoming.{are_tokens}}
-use Rattle.fb_grammar.proofs.{Forms.{Right, right_read}, Loops.{many_more, many_fails, many_none, shorter, Begins}}
+use Rattle.fb_grammar.proofs.{Forms.{Right, ok_one, right_read}, Loops.{many_more, many_fails, many_none, shorter, Begins}}
 use Rattle.fb_tree.specs.{declared.expression.BinaryUse.{BinaryUse}, Expression.{Expression, row_expression, operands_of}}
 use Rattle.fb_structured_text.specs.Operators.{binary_use, next_strength, operators, strength_of, strengths}
 use Rattle.fb_structured_text.specs.Expression.{PartTree, expression, rows, unary, primary, row, operand, row_of, further_part, literal, reference_value, deep_reference, deep_primary, deep_part, parenthesized}
@@ -34,14 +34,14 @@ next-operand : (kinds : List Kind) (x : Form Expression) (ts : List Lexeme) (t :
 next-operand kinds x ts t h = ap (λ (k : List Kind). is_next k ts) (begins-operand kinds x).first ∙ h
 
 -- no operator comes
-pub row_one : (kinds : List Kind) (x : Form Expression) (ts : List Lexeme) (e : Expression) (mid : List Lexeme) → read x ts ≡ Ok (e, mid) → is_next kinds mid ≡ false → read (row kinds x) ts ≡ Ok (e, mid)
+row_one : (kinds : List Kind) (x : Form Expression) (ts : List Lexeme) (e : Expression) (mid : List Lexeme) → read x ts ≡ Ok (e, mid) → is_next kinds mid ≡ false → read (row kinds x) ts ≡ Ok (e, mid)
 row_one kinds x ts e mid h next = read-row kinds x ts e mid h ∙ ap (finish e) (many_none (operand kinds x) mid (next-operand kinds x mid false next))
 
 nil_cons : {A : Type 0} (v : A) (vs : List A) → [] ≡ v ∷ vs → ⊥
 nil_cons v vs h = cc
 
 list_part : {A : Type 0} (r : Outcome (List A)) (a b : List A × List Lexeme) → r ≡ Ok a → r ≡ Ok b → a.0 ≡ b.0
-list_part {A} r a b e f = let same : a ≡ b = cc in ap (λ (z : List A × List Lexeme). z.0) same
+list_part {A} r a b e f = ap (λ (z : List A × List Lexeme). z.0) (ok_one r a b e f)
 
 not_none_here : {A : Type 0} (v : A) (r : Outcome (List A)) (rest : List Lexeme) → (r >>= λ vs. Ok (v ∷ vs.0, vs.1)) ≡ Ok ([], rest) → ⊥
 not_none_here {A} v (Ok vs) rest h =
@@ -62,20 +62,20 @@ row-of-some e [] some = absurd (some refl)
 row-of-some e (o ∷ os) some = refl
 
 -- operators and operands come
-pub row_done : (kinds : List Kind) (x : Form Expression) (ts : List Lexeme) (e : Expression) (mid : List Lexeme) (os : List (BinaryUse × Expression)) (rest : List Lexeme)
+row_done : (kinds : List Kind) (x : Form Expression) (ts : List Lexeme) (e : Expression) (mid : List Lexeme) (os : List (BinaryUse × Expression)) (rest : List Lexeme)
     → read x ts ≡ Ok (e, mid) → is_next kinds mid ≡ true → read (many (operand kinds x)) mid ≡ Ok (os, rest)
     → read (row kinds x) ts ≡ Ok (row_expression e (operands_of os), rest)
 row_done kinds x ts e mid os rest h next more =
     let some : os ≡ [] → ⊥ = λ none. several_read (operand kinds x) mid rest (next-operand kinds x mid true next) (more ∙ ap (λ (z : List (BinaryUse × Expression)). Ok (z, rest)) none) in
     read-row kinds x ts e mid h ∙ ap (finish e) more ∙ ap (λ (z : Expression). Ok (z, rest)) (row-of-some e os some)
 
-pub row_fails : (kinds : List Kind) (x : Form Expression) (ts : List Lexeme) (e : Expression) (mid : List Lexeme) (stop : Stop) (rest : List Lexeme)
+row_fails : (kinds : List Kind) (x : Form Expression) (ts : List Lexeme) (e : Expression) (mid : List Lexeme) (stop : Stop) (rest : List Lexeme)
     → read x ts ≡ Ok (e, mid) → Fails stop rest (read (many (operand kinds x)) mid) → Fails stop rest (read (row kinds x) ts)
 row_fails kinds x ts e mid Memory rest h fails = tt
 row_fails kinds x ts e mid Broken rest h fails = read-row kinds x ts e mid h ∙ ap (finish e) fails
 
 -- a row fails where its first operand does
-pub row_first_fails : (kinds : List Kind) (x : Form Expression) (ts : List Lexeme) (stop : Stop) (rest : List Lexeme) → Fails stop rest (read x ts) → Fails stop rest (read (row kinds x) ts)
+row_first_fails : (kinds : List Kind) (x : Form Expression) (ts : List Lexeme) (stop : Stop) (rest : List Lexeme) → Fails stop rest (read x ts) → Fails stop rest (read (row kinds x) ts)
 unfolding row
 row_first_fails kinds x ts Memory rest h = tt
 row_first_fails kinds x ts Broken rest h = rw h refl
@@ -85,7 +85,7 @@ unfolding rows
 rows_cons kinds stronger x = refl
 
 -- the operators of a strength stand between rows of the stronger ones
-pub rows_step : (s : ℕ) (x : Form Expression) → s < 8 → rows (drop s strengths) x ≡ row (operators s) (rows (drop (s + 1) strengths) x)
+rows_step : (s : ℕ) (x : Form Expression) → s < 8 → rows (drop s strengths) x ≡ row (operators s) (rows (drop (s + 1) strengths) x)
 rows_step s x h =
     let parts : drop s strengths ≡ operators s ∷ drop (s + 1) strengths = rw add-one (drop-cons strengths s [] h) in
     ap (λ (k : List (List Kind)). rows k x) parts ∙ rows_cons (operators s) (drop (s + 1) strengths) x
@@ -189,13 +189,13 @@ levels_passed (suc k) s n x ts e mid is high h none =
     level_passed s x ts e mid within (levels_passed k (s + 1) n x ts e mid (omega arith) high h (λ less. omega (arith, none less))) other
 
 -- operators of a level and their operands come
-pub level_read : (l : ℕ) (x : Form Expression) (ts : List Lexeme) (e : Expression) (mid : List Lexeme) (os : List (BinaryUse × Expression)) (rest : List Lexeme) → l < 8 → IsReadFrom (l + 1) x ts e mid → next_strength mid ≡ l
+level_read : (l : ℕ) (x : Form Expression) (ts : List Lexeme) (e : Expression) (mid : List Lexeme) (os : List (BinaryUse × Expression)) (rest : List Lexeme) → l < 8 → IsReadFrom (l + 1) x ts e mid → next_strength mid ≡ l
     → read (many (operand (operators l) (rows (drop (l + 1) strengths) x))) mid ≡ Ok (os, rest) → IsReadFrom l x ts (row_expression e (operands_of os)) rest
 level_read l x ts e mid os rest within h same more =
     let next : is_next (operators l) mid ≡ true = next_told l mid within ∙ eq-eqb (next_strength mid) l same in
     rw (rows_step l x within) (row_done (operators l) (rows (drop (l + 1) strengths) x) ts e mid os rest h next more)
 
-pub level_fails : (s l : ℕ) (x : Form Expression) (ts : List Lexeme) (e : Expression) (mid : List Lexeme) (stop : Stop) (rest : List Lexeme) → s ≤ l → l < 8 → IsReadFrom (l + 1) x ts e mid
+level_fails : (s l : ℕ) (x : Form Expression) (ts : List Lexeme) (e : Expression) (mid : List Lexeme) (stop : Stop) (rest : List Lexeme) → s ≤ l → l < 8 → IsReadFrom (l + 1) x ts e mid
     → Fails stop rest (read (many (operand (operators l) (rows (drop (l + 1) strengths) x))) mid) → Fails stop rest (read (rows (drop s strengths) x) ts)
 level_fails s l x ts e mid stop rest low within h fails =
     let here : Fails stop rest (read (rows (drop l strengths) x) ts) =
@@ -203,13 +203,13 @@ level_fails s l x ts e mid stop rest low within h fails =
     rows_fail (l - s) s l x ts stop rest (omega arith) (omega arith) here
 
 -- An operator of a level comes with its operand.
-pub operand_first : (l : ℕ) (x : Form Expression) (mid : List Lexeme) (o : BinaryUse × Expression) (behind : List Lexeme) → l < 8 → next_strength mid ≡ l → read (operand (operators l) x) mid ≡ Ok (o, behind)
+operand_first : (l : ℕ) (x : Form Expression) (mid : List Lexeme) (o : BinaryUse × Expression) (behind : List Lexeme) → l < 8 → next_strength mid ≡ l → read (operand (operators l) x) mid ≡ Ok (o, behind)
     → read (many (operand (operators l) x)) mid ≡ with_prefix (o ∷ []) (read (many (operand (operators l) x)) behind)
 operand_first l x mid o behind within same h =
     let next : is_next (operators l) mid ≡ true = next_told l mid within ∙ eq-eqb (next_strength mid) l same in
     many_more (operand (operators l) x) mid o behind (begins-operand (operators l) x).filled (next-operand (operators l) x mid true next) h
 
-pub operand_fails : (l : ℕ) (x : Form Expression) (mid : List Lexeme) (stop : Stop) (rest : List Lexeme) → l < 8 → next_strength mid ≡ l → Fails stop rest (read (operand (operators l) x) mid)
+operand_fails : (l : ℕ) (x : Form Expression) (mid : List Lexeme) (stop : Stop) (rest : List Lexeme) → l < 8 → next_strength mid ≡ l → Fails stop rest (read (operand (operators l) x) mid)
     → Fails stop rest (read (many (operand (operators l) x)) mid)
 operand_fails l x mid Memory rest within same h = tt
 operand_fails l x mid Broken rest within same h =
@@ -217,7 +217,7 @@ operand_fails l x mid Broken rest within same h =
     many_fails (operand (operators l) x) mid rest (next-operand (operators l) x mid true next) h
 
 -- It is the only one.
-pub operand_alone : (l : ℕ) (x : Form Expression) (mid : List Lexeme) (o : BinaryUse × Expression) (behind : List Lexeme) → l < 8 → next_strength mid ≡ l → read (operand (operators l) x) mid ≡ Ok (o, behind) → (next_strength behind ≡ l → ⊥)
+operand_alone : (l : ℕ) (x : Form Expression) (mid : List Lexeme) (o : BinaryUse × Expression) (behind : List Lexeme) → l < 8 → next_strength mid ≡ l → read (operand (operators l) x) mid ≡ Ok (o, behind) → (next_strength behind ≡ l → ⊥)
     → read (many (operand (operators l) x)) mid ≡ Ok (o ∷ [], behind)
 operand_alone l x mid o behind within same h other =
     let over : is_next (operators l) behind ≡ false = next_told l behind within ∙ grind (arith, nat_tests, other) in
@@ -237,11 +237,8 @@ ok_bind : {A B : Type 0} (r : Outcome A) (f : A × List Lexeme → Outcome B) (b
 ok_bind (Ok a) f b rest h = record { value = a.0; mid = a.1; read = refl; then = h }
 ok_bind (Err d) f b rest h = cc h
 
-same_rest : {A : Type 0} (r : Outcome A) (a b : A × List Lexeme) → r ≡ Ok a → r ≡ Ok b → a.1 ≡ b.1
-same_rest {A} r a b e f = let same : a ≡ b = cc in ap (λ (z : A × List Lexeme). z.1) same
-
 ok_rest : {A : Type 0} (v w : A) (ts rest : List Lexeme) (r : Outcome A) → r ≡ Ok (v, ts) → r ≡ Ok (w, rest) → ts ≡ rest
-ok_rest v w ts rest r e f = same_rest r (v, ts) (w, rest) e f
+ok_rest {A} v w ts rest r e f = ap (λ (z : A × List Lexeme). z.1) (ok_one r (v, ts) (w, rest) e f)
 
 -- what holds behind several values, and none comes any more
 record Left {A : Type 0} (P : List Lexeme → Type 0) (x : Form A) (rest : List Lexeme) : Type 0 where
