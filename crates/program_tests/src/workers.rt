@@ -1,6 +1,6 @@
-//! A worker of which each allocation is refused in turn. It begins again, so that of two jobs one is left at most.
-use fb_serve::{CallerState, Session, keep_working, run_session};
-use fb_shared::{Receipt, Seat, Shared};
+//! A worker of which each allocation is refused in turn: it begins again, so that of two jobs one is left at most. And one whose history is full.
+use fb_serve::{CallerState, Held, Session, keep_working, run_session};
+use fb_shared::{Receipt, Seat, Shared, WorkEnd};
 use fb_wire::bench::Limits;
 use fb_wire::{IntoWrite, MemoryFeed};
 use refusing::{Refusals, refuse, report, was_refused};
@@ -108,5 +108,40 @@ fn each_refused<R: Wait + Clock>(rt: &R, alloc: Global) -> Result<Refusals, Fail
 fn each_allocation_of_a_worker(rt: HostRuntime) -> Result<(), Fail> {
     let found = each_refused(&rt, rt.alloc())?;
     report(&rt, "keep_working", " of two jobs", found)?;
+    Ok(())
+}
+
+/// A history that is full once the worker has taken its second job, and the number of that call.
+const ROOM: u64 = 4;
+
+// How a worker ends with no room for its second result, and what it leaves.
+fn work_without_room<R: Wait + Clock>(
+    rt: &R,
+    alloc: Global,
+) -> Result<(WorkEnd, CallerState), Fail> {
+    let limits = Limits::new(4, ROOM).ok_or("limits")?;
+    let (shared, mut seats) = Shared::new(alloc, limits, 2)?;
+    let mut state = CallerState::new(alloc, seats.pop().ok_or("no seat")?);
+    let first = seats.pop().ok_or("no seat")?;
+    let mut receipts = Vec::new(alloc);
+    let (_first, _) = talk(rt, alloc, &shared, first, &mut receipts, COMMIT)?;
+    let end = keep_working(rt, alloc, &shared, &mut state, KEYS);
+    Ok((end, state))
+}
+
+// The number of the take of the one key that is held, or 0 if there are others or none.
+fn since_of(held: &[Held]) -> u64 {
+    match held {
+        [it] => it.since,
+        _ => 0,
+    }
+}
+
+// The key of its second job can't be given back either, so it stays held. That of its first is settled.
+#[test]
+fn a_key_that_is_not_given_back_stays_held(rt: HostRuntime) -> Result<(), Fail> {
+    let (end, state) = work_without_room(&rt, rt.alloc())?;
+    assert_eq!(rt; end, WorkEnd::HistoryFull);
+    assert_eq!(rt; (state.receipts.len(), since_of(&state.held)), (3, ROOM));
     Ok(())
 }

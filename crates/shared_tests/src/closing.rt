@@ -1,6 +1,7 @@
 //! Seats and receipts with which a workbench does not close.
 use crate::play::{Counts, Played, counts_in, played_locked, played_shared};
 use crate::setup::{faults_of, new_locked, new_shared, pair, puts};
+use fb_shared::bench::Limits;
 use fb_shared::{CloseError, NotClosed, Plain, Receipt, Seat, Shared, WorkEnd, work_on};
 use std::alloc::Global;
 use std::sync::Wait;
@@ -118,6 +119,31 @@ fn a_silent_seat_that_is_missing(rt: HostRuntime) -> Result<(), Fail> {
     let worked = work_after_change(&rt, rt.alloc());
     let missing = CloseError::SeatMissing(2);
     assert_eq!(rt; worked, Some((missing, WorkEnd::TurnsOver, 2)));
+    Ok(())
+}
+
+// asks so often, and gives the calls that the seat then has
+fn ask_often<R: Wait>(rt: &R, shared: &Shared, seat: &mut Seat, times: u32) -> Option<u64> {
+    let key = faults_of("A")?;
+    for _ in 0..times {
+        shared.ask(rt, seat, key).ok()?;
+    }
+    Some(seat.turns())
+}
+
+// the same with a history of two calls that begins again, after a close with no seat, which is refused
+fn ask_after_refusal<R: Wait>(rt: &R, alloc: Global) -> Option<(CloseError, Option<u64>)> {
+    let (shared, mut seats) = Shared::rolling(alloc, Limits::new(4, 2)?, 1).ok()?;
+    let mut seat = seats.pop()?;
+    let NotClosed { fault, owner, .. } = shared.close(alloc, seats, &[]).err()?;
+    Some((fault, ask_often(rt, &owner, &mut seat, 5)))
+}
+
+// A history that begins again when it is full does so after a refused close too.
+#[test]
+fn a_refused_close_of_a_history_that_begins_again(rt: HostRuntime) -> Result<(), Fail> {
+    let asked = ask_after_refusal(&rt, rt.alloc());
+    assert_eq!(rt; asked, Some((CloseError::SeatMissing(1), Some(5))));
     Ok(())
 }
 
