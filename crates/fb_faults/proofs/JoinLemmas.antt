@@ -2,9 +2,6 @@
 use Rattle.std.proofs.Common.{◌≡◌, List, [], ◌++◌, append-nil, append_assoc}
 
 module _ {A : Type 0} where
-  pub three_joined : (old e c n : List A) → ((old ++ e) ++ c) ++ n ≡ old ++ ((e ++ c) ++ n)
-  three_joined old e c n = simp append_assoc
-
   pub block_joined : (old d e c n : List A) → (old ++ d) ++ ((e ++ c) ++ n) ≡ old ++ ((((d ++ e) ++ c) ++ n) ++ [])
   block_joined old d e c n = simp (append_assoc, append-nil)
 

@@ -5,7 +5,7 @@ use Rattle.std.specs.FinMap.{get}
 use Rattle.std.specs.List.Sorted.{IsStrictlySortedBy}
 use Rattle.fb_tree.specs.Text.declared.token.Span.{Span}
 use Rattle.fb_netcheck.specs.Parse.Body.{BodyTree, Whole, BrokenAt, body_of}
-use Rattle.fb_tree.specs.Tree.{DeclTree, TypeTree}
+use Rattle.fb_tree.specs.Tree.{ChartTree, DeclTree, TypeTree}
 use Rattle.fb_tree.specs.declared.kinds.UnitKind.TheVariants.{Block}
 use Rattle.fb_netcheck.specs.Library.Local.{Agree}
 use Rattle.fb_netcheck.specs.Library.Near.{near_of}
@@ -58,6 +58,10 @@ reported_in sources unit body = all_reported sources unit (body_faults body) (tr
 -- what the names of expressions stand for, where the network of the unit stands here
 abbrev pub names_here : Sources → NetworkPlace → Names
 names_here sources here = record { scope = here.scope; fields = fields_near sources here.unit }
+
+-- what the checks of expressions and charts report of a chart, where the network of its type stands here
+abbrev pub chart_here : Sources → NetworkPlace → ChartTree → List Fault
+chart_here sources here chart = expression_faults (names_here sources here) chart ++ chart_faults here.scope chart
 
 -- what the checks of expressions, charts and networks report of a type, where its network stands here
 abbrev pub faults_here : Sources → NetworkPlace → TypeTree → List Fault

@@ -1,12 +1,12 @@
 //! All faults of a unit.
 ghost use Rattle.std.specs.Prelude.{◌≡◌, ◌++◌, IfOk, OnOk};
-ghost use Rattle.fb_tree.specs.Tree.{decl_tree, type_tree};
+ghost use Rattle.fb_tree.specs.Tree.{chart_tree, decl_tree, type_tree};
 ghost use Rattle.fb_tree.specs.declared.kinds.UnitKind.TheVariants as kinds;
 ghost use Rattle.fb_netcheck.specs.Parse.Body.{Whole, body_tree};
 ghost use Rattle.fb_netcheck.specs.Iface.Ports.{meanings_in_type};
 ghost use Rattle.fb_netcheck.specs.Networks.{type_network, type_place};
 ghost use Rattle.fb_netcheck.specs.Settings.{place_in};
-ghost use Rattle.fb_faults.specs.Faults.{block_faults, faults_here, faults_of, reported_in};
+ghost use Rattle.fb_faults.specs.Faults.{block_faults, chart_here, faults_here, faults_of, reported_in};
 
 use crate::mappings::report_mappings;
 use fb_ecc::report_charts;
@@ -18,7 +18,7 @@ use fb_netcheck::library::View;
 use fb_netcheck::parse::Body;
 use fb_netcheck::{Setting, report_network, report_networks};
 use fb_tree::text::Name;
-use fb_tree::{Decl, TypeDeclaration, UnitKind};
+use fb_tree::{Chart, Decl, TypeDeclaration, UnitKind};
 use std::alloc::{AllocError, Global};
 
 /// All faults of a unit, in the order of their places and then of their codes, each once.
@@ -128,14 +128,32 @@ fn report_here<V: View>(
     ensures { OnOk result (found.new.items ≡ found.old.items
         ++ faults_here (V.sources view.now) (place_in here.now) (type_tree declared.now)) }
 {
+    report_chart(alloc, view, here, &declared.chart, found)?;
+    report_network(alloc, view, here, &declared.network, found)
+}
+
+/// Reports the faults of a chart. Without one, what values carry isn't read.
+fn report_chart<V: View>(
+    alloc: Global,
+    view: &V,
+    here: &Setting,
+    chart: &Chart,
+    found: &mut Vec<Fault>,
+) -> Result<(), AllocError>
+    ensures { OnOk result (found.new.items
+        ≡ found.old.items
+        ++ chart_here (V.sources view.now) (place_in here.now) (chart_tree chart.now)) }
+{
+    if chart.states.is_empty() && chart.transitions.is_empty() && chart.algorithms.is_empty() {
+        return Ok(());
+    }
     let structures = Structures::near(alloc, view, &here.unit)?;
     let names = Names {
         scope: &here.scope,
         structures: &structures,
     };
-    report_expressions(names, &declared.chart, found)?;
-    report_charts(alloc, &here.scope, &declared.chart, found)?;
-    report_network(alloc, view, here, &declared.network, found)
+    report_expressions(names, chart, found)?;
+    report_charts(alloc, &here.scope, chart, found)
 }
 
 /// Reports the faults of the network of a subapplication with these ports.
