@@ -6,9 +6,9 @@ use Rattle.fb_entries.specs.{Keyed.{Keyed}, Library.Texts.{Texts, Held, held, te
 use Rattle.fb_entries.specs.{Jobs.declared.key.Key.{Key}, declared.renewal.Renewal.{Renewal}, Renew.{IsCarriedOut, IsRenewal, HasRoom}}
 use Rattle.fb_history.specs.declared.answers.Committed.{Committed}
 use Rattle.fb_history.specs.declared.answers.Committed.TheVariants.{Done, NoChange, TooManyChanges, SameUnitTwice, StaleBase, NoSuchUnit, TooManyUnits}
+use Rattle.fb_history.specs.Machine.{after_give_back, give_back_answer, State, Call, ToCommit, ToTake, ToDeliver, ToGiveBack, ToAsk, OfCommit, reply, after, commit_answer, after_commit, after_take, after_deliver, deliver_answer, next, after_done, refusal, or_else, or_some, repeated_refusal, first_repeated, first_misfit, misfit, misfit_at}
 use Rattle.fb_history.specs.{declared.answers.Delivered.{Delivered}, declared.answers.Delivered.TheVariants.{Accepted, NoSuchKey, NotPending, Stale}}
 use Rattle.fb_history.specs.{declared.answers.GivenBack.{GivenBack}, declared.answers.GivenBack.TheVariants.{Returned, NothingOut}}
-use Rattle.fb_history.specs.Machine.{after_give_back, give_back_answer, State, Call, ToCommit, ToTake, ToDeliver, ToGiveBack, ToAsk, OfCommit, reply, after, commit_answer, after_commit, after_take, after_deliver, deliver_answer, next, after_done, refusal, or_else, or_some, repeated_refusal, first_repeated, first_misfit, misfit, misfit_at}
 use Rattle.fb_history.specs.{BenchView.{BenchView, opened, replay, calls_of, state_of}, Laws.{AgreeApartFrom}}
 use Rattle.fb_bench.specs.{Kept.{Agrees}, Outcomes.{answer_at}}
 use Rattle.fb_history.proofs.Steps.{reply_commit, after_commit_is}

@@ -1,8 +1,8 @@
 -- The keys that have entries are those of the texts, in order, and as many of the entries have no value as keys wait.
 use Rattle.std.proofs.Common.{◌≡◌, ℕ, ◌+◌, Bool, true, false, List, [], ◌∷◌, All, filter, get_or, map, refl, sym, ap, subst, ◌∙◌, Option, Some, None, is_some, cond, count_by}
+use Rattle.std.proofs.lemmas.Option.{slice_get-get_or}
 use Rattle.std.proofs.{lemmas.List.Elements.{All-head, All-tail}, lemmas.List.Sums.{sum_by-cons}, lemmas.Map.Entries.{lookup_from_place}}
 use Rattle.std.proofs.{lemmas.Map.Keys.{IsDistinct-from_sorted}, lemmas.Cmp.{eq_by_cmp_equiv}, lemmas.Map.Made.{is_some-lookup}}
-use Rattle.std.proofs.lemmas.Option.{slice_get-get_or}
 use Rattle.std.specs.{BTreeMap.{is_at}, BTreeSet.{insert_key}, List.Sorted.{IsStrictlySortedBy}, Map.{keys_of as keys_in, values_of}, Ordering.{match_ordering}}
 use Rattle.fb_text.specs.Order.{in_order}
 use Rattle.fb_text.proofs.OrderLemmas.{in_order-same}

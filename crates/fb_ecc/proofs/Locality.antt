@@ -1,15 +1,10 @@
 -- The faults of a unit's chart depend on the texts of the unit and of its parts alone.
 use Rattle.std.proofs.Common.{◌≡◌, ℕ, List, Option, Some, None, refl, ap, ◌∙◌}
-use Rattle.std.specs.FinMap.{get}
-use Rattle.std.specs.List.{Contains}
-use Rattle.std.specs.Option.{option_and_then}
-use Rattle.fb_tree.specs.Mentions.{types_in}
-use Rattle.fb_tree.specs.Tree.{DeclTree, block_type, adapter_type, subapplication_type, system_configuration, structure_type}
+use Rattle.std.specs.{FinMap.{get}, List.{Contains}, Option.{option_and_then}}
+use Rattle.fb_tree.specs.{Mentions.{types_in}, Tree.{DeclTree, block_type, adapter_type, subapplication_type, system_configuration, structure_type}}
 use Rattle.fb_iface.specs.Library.View.{Sources, parts_in, tree_at, tree_of}
-use Rattle.fb_iface.proofs.Library.Locality.{near_part, near_unit}
-use Rattle.fb_iface.proofs.ScopeLocal.{in_order_has, scope_local}
-use Rattle.fb_ecc.specs.Charts.{chart_faults, chart_faults_in}
-use Rattle.fb_ecc.specs.Local.{EccIsLocal}
+use Rattle.fb_iface.proofs.{Library.Locality.{near_part, near_unit}, ScopeLocal.{in_order_has, scope_local}}
+use Rattle.fb_ecc.specs.{Charts.{chart_faults, chart_faults_in}, Local.{EccIsLocal}}
 
 chart_local : (a b : Sources) (tree : Option DeclTree) → ((name : List ℕ) → Contains (parts_in tree) name → get a name ≡ get b name) → chart_faults_in a tree ≡ chart_faults_in b tree
 chart_local a b None agree = refl

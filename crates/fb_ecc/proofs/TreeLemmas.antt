@@ -1,14 +1,10 @@
 -- The faults of a chart are those of its mirror without memory.
-use Rattle.std.proofs.Common.{◌≡◌, ℕ, Bool, List, ◌++◌, ◌∙◌, map, sym, ap}
+use Rattle.std.proofs.{Common.{◌≡◌, ℕ, Bool, List, ◌++◌, ◌∙◌, map, sym, ap}, lemmas.List.Folds.{flat_map-map}}
 use Rattle.std.specs.List.{flat_map}
-use Rattle.std.proofs.lemmas.List.Folds.{flat_map-map}
-use Rattle.fb_tree.specs.Tree.{algorithm_tree, chart_tree, state_tree, transition_tree}
-use Rattle.fb_tree.specs.declared.chart.Chart.{Chart}
-use Rattle.fb_iface.specs.Names.{has_name}
-use Rattle.fb_iface.specs.Scope.{Scope}
+use Rattle.fb_tree.specs.{Tree.{algorithm_tree, chart_tree, state_tree, transition_tree}, declared.chart.Chart.{Chart}}
+use Rattle.fb_iface.specs.{Names.{has_name}, Scope.{Scope}}
 use Rattle.fb_iface.proofs.TreeLemmas.{same_items}
-use Rattle.fb_ecc.specs.Algorithms.{algorithm_faults, run_faults}
-use Rattle.fb_ecc.specs.Events.{event_faults, sent_faults, trigger_faults}
+use Rattle.fb_ecc.specs.{Algorithms.{algorithm_faults, run_faults}, Events.{event_faults, sent_faults, trigger_faults}}
 use Rattle.fb_ecc.specs.States.{transition_faults, state_faults}
 
 pub states_joined : (chart : Chart) (listed : List ℕ → Bool) → ((name : List ℕ) → listed name ≡ has_name (map (λ s. s.name) chart.states.items) name) → flat_map (λ t. transition_faults listed (transition_tree t)) chart.transitions.items ≡ state_faults (chart_tree chart)

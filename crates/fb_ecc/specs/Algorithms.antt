@@ -1,14 +1,7 @@
 -- Algorithms of actions (IEC 61499-1, 5.2.1: execution control charts).
-use Rattle.std.specs.Prelude.{ℕ, Bool, List, [], ◌∷◌, map, if◌then◌else◌}
-use Rattle.std.specs.List.{flat_map}
-use Rattle.std.specs.Option.{option_map_or}
-use Rattle.fb_tree.specs.Text.declared.name.NameUse.{NameUse}
-use Rattle.fb_tree.specs.Tree.{ChartTree}
-use Rattle.fb_tree.specs.declared.chart.Action.{Action}
-use Rattle.fb_iface.specs.declared.code.Code.TheVariants.{AlgorithmUnknown}
-use Rattle.fb_iface.specs.declared.fault.Fault.{Fault}
-use Rattle.fb_iface.specs.Fault.{fault_at}
-use Rattle.fb_iface.specs.Names.{has_name}
+use Rattle.std.specs.{Prelude.{ℕ, Bool, List, [], ◌∷◌, map, if◌then◌else◌}, List.{flat_map}, Option.{option_map_or}}
+use Rattle.fb_tree.specs.{Text.declared.name.NameUse.{NameUse}, Tree.{ChartTree}, declared.chart.Action.{Action}}
+use Rattle.fb_iface.specs.{declared.code.Code.TheVariants.{AlgorithmUnknown}, declared.fault.Fault.{Fault}, Fault.{fault_at}, Names.{has_name}}
 
 -- the names of the algorithms
 abbrev pub algorithm_names : ChartTree → List NameUse

@@ -1,12 +1,8 @@
 -- The faults of execution control charts.
 use Rattle.std.specs.Prelude.{ℕ, List, [], ◌++◌, Option, Some, None}
 use Rattle.fb_tree.specs.Tree.{ChartTree, DeclTree, block_type, adapter_type, subapplication_type, system_configuration, structure_type}
-use Rattle.fb_iface.specs.Library.View.{Sources, tree_at}
-use Rattle.fb_iface.specs.declared.fault.Fault.{Fault}
-use Rattle.fb_iface.specs.Scope.{Scope, scope_of_type}
-use Rattle.fb_ecc.specs.Algorithms.{algorithm_faults}
-use Rattle.fb_ecc.specs.Events.{event_faults}
-use Rattle.fb_ecc.specs.States.{state_faults}
+use Rattle.fb_iface.specs.{Library.View.{Sources, tree_at}, declared.fault.Fault.{Fault}, Scope.{Scope, scope_of_type}}
+use Rattle.fb_ecc.specs.{Algorithms.{algorithm_faults}, Events.{event_faults}, States.{state_faults}}
 
 abbrev pub chart_faults : Scope → ChartTree → List Fault
 chart_faults scope chart = state_faults chart ++ event_faults scope chart ++ algorithm_faults chart

@@ -1,25 +1,13 @@
 -- Events of transitions and of actions (IEC 61499-1, 5.2.1: execution control charts; 5.5: adapters).
-use Rattle.std.specs.Prelude.{ℕ, List, [], ◌∷◌, ◌++◌, Option, Some, None, if◌then◌else◌}
-use Rattle.std.specs.List.{flat_map}
-use Rattle.std.specs.Option.{option_map_or}
-use Rattle.fb_tree.specs.Text.declared.token.Span.{Span}
-use Rattle.fb_tree.specs.Text.declared.name.NameUse.{NameUse}
-use Rattle.fb_tree.specs.Tree.{ChartTree, ConditionTree, TransitionTree, always, on_event, guarded, guard}
-use Rattle.fb_tree.specs.declared.chart.Action.{Action}
-use Rattle.fb_tree.specs.declared.interface.Side.{Side}
+use Rattle.std.specs.{Prelude.{ℕ, List, [], ◌∷◌, ◌++◌, Option, Some, None, if◌then◌else◌}, List.{flat_map}, Option.{option_map_or}}
+use Rattle.fb_tree.specs.{Text.declared.token.Span.{Span}, Text.declared.name.NameUse.{NameUse}}
+use Rattle.fb_tree.specs.{Tree.{ChartTree, ConditionTree, TransitionTree, always, on_event, guarded, guard}, declared.chart.Action.{Action}}
+use Rattle.fb_tree.specs.{declared.interface.Side.{Side}, declared.network.End.{End}, declared.network.Role.{Role}}
 use Rattle.fb_tree.specs.declared.interface.Side.TheVariants as sides
-use Rattle.fb_tree.specs.declared.network.End.{End}
-use Rattle.fb_tree.specs.declared.network.Role.{Role}
 use Rattle.fb_tree.specs.declared.network.Role.TheVariants as roles
-use Rattle.fb_iface.specs.declared.code.Code.TheVariants.{EventUnknown}
-use Rattle.fb_iface.specs.declared.fault.Fault.{Fault}
-use Rattle.fb_iface.specs.declared.ports.DeclaredEvent.{DeclaredEvent}
-use Rattle.fb_iface.specs.declared.ports.DeclaredInstance.{DeclaredInstance}
-use Rattle.fb_iface.specs.Names.{stands_for}
-use Rattle.fb_iface.specs.Ports.{Meanings, same_side}
-use Rattle.fb_iface.specs.Scope.{Scope, instance_ports}
-use Rattle.fb_ecc.specs.declared.events.EventTarget.{EventTarget}
-use Rattle.fb_ecc.specs.declared.events.EventTarget.TheVariants.{Found, Unknown, NotJudged}
+use Rattle.fb_iface.specs.{declared.code.Code.TheVariants.{EventUnknown}, declared.fault.Fault.{Fault}, declared.ports.DeclaredEvent.{DeclaredEvent}}
+use Rattle.fb_iface.specs.{declared.ports.DeclaredInstance.{DeclaredInstance}, Names.{stands_for}, Ports.{Meanings, same_side}, Scope.{Scope, instance_ports}}
+use Rattle.fb_ecc.specs.{declared.events.EventTarget.{EventTarget}, declared.events.EventTarget.TheVariants.{Found, Unknown, NotJudged}}
 
 abbrev pub opposite : Side → Side
 opposite sides.Input = sides.Output

@@ -1,12 +1,7 @@
 -- States of transitions (IEC 61499-1, 5.2.1: execution control charts).
-use Rattle.std.specs.Prelude.{ℕ, Bool, List, [], ◌∷◌, ◌++◌, map, if◌then◌else◌}
-use Rattle.std.specs.List.{flat_map}
-use Rattle.fb_tree.specs.Text.declared.name.NameUse.{NameUse}
-use Rattle.fb_tree.specs.Tree.{ChartTree, TransitionTree}
-use Rattle.fb_iface.specs.declared.code.Code.TheVariants.{StateUnknown}
-use Rattle.fb_iface.specs.declared.fault.Fault.{Fault}
-use Rattle.fb_iface.specs.Fault.{fault_at}
-use Rattle.fb_iface.specs.Names.{has_name}
+use Rattle.std.specs.{Prelude.{ℕ, Bool, List, [], ◌∷◌, ◌++◌, map, if◌then◌else◌}, List.{flat_map}}
+use Rattle.fb_tree.specs.{Text.declared.name.NameUse.{NameUse}, Tree.{ChartTree, TransitionTree}}
+use Rattle.fb_iface.specs.{declared.code.Code.TheVariants.{StateUnknown}, declared.fault.Fault.{Fault}, Fault.{fault_at}, Names.{has_name}}
 
 -- the names of the states
 abbrev pub state_names : ChartTree → List NameUse

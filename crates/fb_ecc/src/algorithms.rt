@@ -1,8 +1,5 @@
 //! Algorithms of actions.
-ghost use Rattle.std.specs.Prelude.{◌≡◌, ◌++◌, ℕ, List, map, nat_eq, IfOk, OnOk};
-ghost use Rattle.std.specs.List.{flat_map};
-ghost use Rattle.std.specs.HashSet.{contains};
-ghost use Rattle.std.specs.Cmp.Lexicographic.{pointwise};
+ghost use Rattle.std.specs.{Prelude.{◌≡◌, ◌++◌, ℕ, List, map, nat_eq, IfOk, OnOk}, List.{flat_map}, HashSet.{contains}, Cmp.Lexicographic.{pointwise}};
 ghost use Rattle.fb_tree.specs.Tree.{chart_tree, state_tree};
 ghost use Rattle.fb_iface.specs.Names.{has_name};
 ghost use Rattle.fb_ecc.specs.Algorithms.{algorithm_fault, algorithm_faults, run_faults};

@@ -1,7 +1,5 @@
 //! Events of transitions and of actions.
-ghost use Rattle.std.specs.Prelude.{◌≡◌, ◌++◌, OnOk};
-ghost use Rattle.std.specs.List.{flat_map};
-ghost use Rattle.std.specs.Option.{option_copied, option_map};
+ghost use Rattle.std.specs.{Prelude.{◌≡◌, ◌++◌, OnOk}, List.{flat_map}, Option.{option_copied, option_map}};
 ghost use Rattle.fb_tree.specs.Tree.{chart_tree, condition_tree, state_tree, transition_tree};
 ghost use Rattle.fb_tree.specs.declared.interface.Side.TheVariants as sides;
 ghost use Rattle.fb_iface.specs.Kept.{scope_in};

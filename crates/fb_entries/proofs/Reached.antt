@@ -6,9 +6,9 @@ use Rattle.fb_text.proofs.Tests.{or_cases}
 use Rattle.fb_text.specs.Order.{name_cmp}
 use Rattle.fb_index.specs.{Users.{uses}, Indexed.{Indexed, is_indexed}}
 use Rattle.fb_index.specs.Near.{Carries, directly, onward, IsNear, own, part, carried, carried_by_part, mentions, Reaches, itself, mention, through, OneOf, NearSome, ReachesSome}
-use Rattle.fb_index.specs.{Library.Texts.{Texts, sources_of, text_at}, Library.View.{Sources, mentions_at, parts_at, values_at}}
 use Rattle.fb_index.specs.Library.Near.{near_of, Carries as CarriesIn, directly as by_value, onward as by_structure, IsNear as IsNearIn, own as is_unit, part as is_part, carried as is_carried, carried_by_part as is_carried_by_part}
 use Rattle.fb_index.specs.Library.Rests.{Rests, itself as on_itself, through as on}
+use Rattle.fb_index.specs.{Library.Texts.{Texts, sources_of, text_at}, Library.View.{Sources, mentions_at, parts_at, values_at}}
 use Rattle.fb_index.proofs.Library.SeenLemmas.{or_left, or_right, same_is, same_self, has-append, Contains-has, has-Contains}
 use Rattle.fb_index.proofs.Library.CarriedLemmas.{near_is_all}
 use Rattle.fb_jobs.proofs.{Flatten.FarNames.{far_is_all}, KindLemmas.{in_near_and_far, needs_by, no_kind}}

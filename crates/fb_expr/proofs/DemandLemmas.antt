@@ -1,31 +1,21 @@
 -- The faults of a block type are those of its demands that are not met.
 use Rattle.std.proofs.Common.{◌≡◌, Bool, true, false, true≢false, not, ◌||◌, ◌⊎◌, inl, inr, List, [], ◌∷◌, ◌++◌, Option, Some, None, refl, sym, ap, subst, ◌∙◌, append-nil, append_assoc, arith, if◌then◌else◌}
-use Rattle.std.specs.List.{Contains, flat_map}
-use Rattle.std.specs.Option.{option_map_or}
 use Rattle.std.proofs.lemmas.Grind.{flat_map-append}
 use Rattle.std.proofs.lemmas.List.Elements.{Contains-append_cases, Contains-append_left, Contains-append_right, Contains-push_cases}
-use Rattle.fb_tree.specs.Text.declared.name.NameUse.{NameUse}
-use Rattle.fb_tree.specs.Text.declared.token.Span.{Span}
+use Rattle.std.specs.{List.{Contains, flat_map}, Option.{option_map_or}}
+use Rattle.fb_tree.specs.{Text.declared.name.NameUse.{NameUse}, Text.declared.token.Span.{Span}}
 use Rattle.fb_tree.specs.Expression.{ReferenceTree, alone_tree, Expression, literal_expression, reference_expression, unary_expression, row_expression, parentheses, Expressions, no_expressions, expression_then, Operands, no_operands, operand_then}
 use Rattle.fb_tree.specs.Statement.{Statement, empty, assignment, exit, return, choice, selection, count, while_loop, repeat_loop, Statements, no_statements, statement_then, Arms, no_arms, arm_then, statements_of}
-use Rattle.fb_tree.specs.Tree.{AlgorithmTree, ChartTree, ConditionTree, always, on_event, guarded, guard, TransitionTree}
-use Rattle.fb_tree.specs.declared.reference.Member.{Member}
-use Rattle.fb_iface.specs.Names.{stands_for}
-use Rattle.fb_iface.specs.declared.classes.Class.{Class as ValueClass}
-use Rattle.fb_iface.specs.declared.code.Code.TheVariants.{MemberUnknown, VariableUnknown}
+use Rattle.fb_tree.specs.{Tree.{AlgorithmTree, ChartTree, ConditionTree, always, on_event, guarded, guard, TransitionTree}, declared.reference.Member.{Member}}
+use Rattle.fb_iface.specs.{Names.{stands_for}, declared.classes.Class.{Class as ValueClass}, declared.code.Code.TheVariants.{MemberUnknown, VariableUnknown}}
 use Rattle.fb_iface.specs.declared.fault.Fault.{Fault}
-use Rattle.fb_expr.specs.Charts.{algorithm_faults, expression_faults, faults_in_unit, guard_faults, transition_faults}
-use Rattle.fb_expr.specs.Classes.{pair_class}
+use Rattle.fb_expr.specs.{Charts.{algorithm_faults, expression_faults, faults_in_unit, guard_faults, transition_faults}, Classes.{pair_class}}
 use Rattle.fb_expr.specs.Demands.{Demand, names_field, names_variable, suits_operand, suits_operands, suits_place, assigns, is_field, is_known, is_met, fault_of, referent_through, field_demands, reference_demands, demands_in, row_demands, subscript_demands, demands_at, counter_demands, range_demands, assignment_demands, statement_demands, statements_demands, arms_demands, guard_demands, transition_demands, algorithm_demands, chart_demands, IsUnmet, FaultsAreUnmet}
-use Rattle.fb_expr.specs.Expressions.{class_in, faults_in, row_faults, subscript_faults}
-use Rattle.fb_expr.specs.Names.{Names, names_of_type}
-use Rattle.fb_expr.specs.References.{is_some_count, reference_faults, referent_of}
-use Rattle.fb_expr.specs.Spans.{names_span}
+use Rattle.fb_expr.specs.{Expressions.{class_in, faults_in, row_faults, subscript_faults}, Names.{Names, names_of_type}}
+use Rattle.fb_expr.specs.{References.{is_some_count, reference_faults, referent_of}, Spans.{names_span}}
 use Rattle.fb_expr.specs.Statements.{arms_faults, assignment_faults, counter_faults, faults_at_place, range_faults, statement_faults, statements_faults}
-use Rattle.fb_expr.specs.declared.references.Referent.{Referent}
-use Rattle.fb_expr.specs.declared.references.Referent.TheVariants.{Variable, Unjudged, Unknown, NoMember}
-use Rattle.fb_expr.specs.declared.rules.ClassPlace.{ClassPlace}
-use Rattle.fb_expr.specs.declared.rules.ClassPlace.TheVariants.{Condition, Count, Counter, Selector}
+use Rattle.fb_expr.specs.{declared.references.Referent.{Referent}, declared.references.Referent.TheVariants.{Variable, Unjudged, Unknown, NoMember}}
+use Rattle.fb_expr.specs.{declared.rules.ClassPlace.{ClassPlace}, declared.rules.ClassPlace.TheVariants.{Condition, Count, Counter, Selector}}
 use Rattle.fb_expr.proofs.MemberLemmas.{Next, goes_on, fails, failed, next, own_field, stays}
 
 -- a name that is no field

@@ -1,15 +1,9 @@
 -- The faults of expressions depend on the texts of what is near the unit alone.
 use Rattle.std.proofs.Common.{◌≡◌, ℕ, List, Option, Some, None, refl, ap, ◌∙◌}
-use Rattle.std.specs.FinMap.{get}
-use Rattle.std.specs.List.{Contains}
-use Rattle.std.specs.Option.{option_and_then}
-use Rattle.fb_tree.specs.Mentions.{types_in}
-use Rattle.fb_tree.specs.Tree.{DeclTree, block_type, adapter_type, subapplication_type, system_configuration, structure_type}
-use Rattle.fb_iface.specs.Fields.{fields_near}
-use Rattle.fb_iface.specs.Library.View.{Sources, parts_in, tree_at, tree_of}
-use Rattle.fb_iface.proofs.FieldsLocal.{fields_local}
-use Rattle.fb_iface.proofs.Library.Locality.{near_part, near_unit}
-use Rattle.fb_iface.proofs.ScopeLocal.{in_order_has, scope_local}
+use Rattle.std.specs.{FinMap.{get}, List.{Contains}, Option.{option_and_then}}
+use Rattle.fb_tree.specs.{Mentions.{types_in}, Tree.{DeclTree, block_type, adapter_type, subapplication_type, system_configuration, structure_type}}
+use Rattle.fb_iface.specs.{Fields.{fields_near}, Library.View.{Sources, parts_in, tree_at, tree_of}}
+use Rattle.fb_iface.proofs.{FieldsLocal.{fields_local}, Library.Locality.{near_part, near_unit}, ScopeLocal.{in_order_has, scope_local}}
 use Rattle.fb_expr.specs.Charts.{ExprFaultsAreLocal, expression_faults, faults_in_unit}
 
 declared_local : (a b : Sources) (unit : List ℕ) (tree : Option DeclTree) → ((name : List ℕ) → Contains (parts_in tree) name → get a name ≡ get b name) → fields_near a unit ≡ fields_near b unit → faults_in_unit a unit tree ≡ faults_in_unit b unit tree

@@ -1,18 +1,11 @@
 -- What references stand for with more and more further names, and which of their names is no field.
 use Rattle.std.proofs.Common.{◌≡◌, ℕ, Bool, true, false, true≢false, cond, List, [], ◌∷◌, ◌++◌, Option, Some, None, refl, sym, ap, subst, ◌∙◌}
-use Rattle.fb_tree.specs.Text.declared.token.Span.{Span}
-use Rattle.fb_tree.specs.Expression.{ReferenceTree}
-use Rattle.fb_tree.specs.declared.reference.Member.{Member}
-use Rattle.fb_iface.specs.Fields.{Fields, NotJudged, NoFields, HasFields}
-use Rattle.fb_iface.specs.Names.{stands_for}
-use Rattle.fb_iface.specs.Ports.{Meanings}
-use Rattle.fb_iface.specs.Scope.{ports_of}
+use Rattle.fb_tree.specs.{Text.declared.token.Span.{Span}, Expression.{ReferenceTree}, declared.reference.Member.{Member}}
+use Rattle.fb_iface.specs.{Fields.{Fields, NotJudged, NoFields, HasFields}, Names.{stands_for}, Ports.{Meanings}, Scope.{ports_of}}
 use Rattle.fb_iface.specs.declared.ports.DeclaredVariable.{DeclaredVariable}
-use Rattle.fb_expr.specs.Demands.{is_field, referent_through}
-use Rattle.fb_expr.specs.Names.{Names}
+use Rattle.fb_expr.specs.{Demands.{is_field, referent_through}, Names.{Names}}
 use Rattle.fb_expr.specs.References.{data_referent, field_referent, fields_behind, is_before_port, is_data, is_some_count, member_among, own_referent, port_named, port_referent, step, variable_named, walk}
-use Rattle.fb_expr.specs.declared.references.Referent.{Referent}
-use Rattle.fb_expr.specs.declared.references.Referent.TheVariants.{Variable, Unjudged, Unknown, NoMember}
+use Rattle.fb_expr.specs.{declared.references.Referent.{Referent}, declared.references.Referent.TheVariants.{Variable, Unjudged, Unknown, NoMember}}
 
 -- whether these end at a name that is no field, and the one before did
 pub data Next (before through : Referent) (m : Member) : Type 0 where

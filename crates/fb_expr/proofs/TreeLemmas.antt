@@ -1,21 +1,15 @@
 -- One level of an expression or a statement, in its mirror.
-use Rattle.std.proofs.Common.{◌≡◌, Box, Vec, map, option_map, ap, ◌∙◌}
-use Rattle.std.proofs.lemmas.Simd.{map-map}
+use Rattle.std.proofs.{Common.{◌≡◌, Box, Vec, map, option_map, ap, ◌∙◌}, lemmas.Simd.{map-map}}
 use Rattle.std.specs.declared.alloc.Global.{Global}
 use Rattle.fb_tree.specs.Expression.{Expression, expression_step, expression_tree, operand_tree, operands_of, row_expression}
 use Rattle.fb_tree.specs.Statement.{Statement, arm_tree, arms_of, choice, count, repeat_loop, selection, statement_step, statement_tree, statements_of, while_loop}
-use Rattle.fb_tree.specs.declared.expression.BinaryUse.{BinaryUse}
-use Rattle.fb_tree.specs.declared.expression.Expr.{Expr}
-use Rattle.fb_tree.specs.declared.expression.Expr as Expr
-use Rattle.fb_tree.specs.declared.expression.Expr.TheFolds.{fold-roll-Expr}
-use Rattle.fb_tree.specs.declared.expression.Expr.TheOpen.{Row as RowF}
-use Rattle.fb_tree.specs.declared.expression.Expr.TheViews.{roll-Expr}
-use Rattle.fb_tree.specs.declared.statement.Counting.{Counting}
-use Rattle.fb_tree.specs.declared.statement.Stmt.{Stmt}
-use Rattle.fb_tree.specs.declared.statement.Stmt as Stmt
-use Rattle.fb_tree.specs.declared.statement.Stmt.TheFolds.{fold-roll-Stmt}
+use Rattle.fb_tree.specs.{declared.expression.BinaryUse.{BinaryUse}, declared.expression.Expr.{Expr}, declared.expression.Expr.TheFolds.{fold-roll-Expr}}
+use Rattle.fb_tree.specs.{declared.expression.Expr.TheOpen.{Row as RowF}, declared.expression.Expr.TheViews.{roll-Expr}, declared.statement.Counting.{Counting}}
+use Rattle.fb_tree.specs.{declared.statement.Stmt.{Stmt}, declared.statement.Stmt.TheFolds.{fold-roll-Stmt}}
 use Rattle.fb_tree.specs.declared.statement.Stmt.TheOpen.{Case as CaseF, For as ForF, If as IfF, Repeat as RepeatF, While as WhileF}
 use Rattle.fb_tree.specs.declared.statement.Stmt.TheViews.{roll-Stmt}
+use Rattle.fb_tree.specs.declared.expression.Expr as Expr
+use Rattle.fb_tree.specs.declared.statement.Stmt as Stmt
 use denote.Hole.Carrier.{roll}
 
 pub tree-Row : (first : Box Expr Global) (operands : Vec (BinaryUse × Expr) Global) → expression_tree (Expr.Row first operands) ≡ row_expression (expression_tree first.value) (operands_of (map operand_tree operands.items))

@@ -1,15 +1,9 @@
 -- The faults of the expressions and statements of a unit (IEC 61499-1, 5.2.1 and 5.2.2: execution control charts and algorithms).
-use Rattle.std.specs.Prelude.{◌≡◌, ℕ, List, [], ◌++◌, Option, Some, None}
-use Rattle.std.specs.List.{flat_map}
+use Rattle.std.specs.{Prelude.{◌≡◌, ℕ, List, [], ◌++◌, Option, Some, None}, List.{flat_map}}
 use Rattle.fb_tree.specs.Statement.{statements_of}
 use Rattle.fb_tree.specs.Tree.{AlgorithmTree, ChartTree, ConditionTree, always, on_event, guarded, guard, DeclTree, TransitionTree, block_type, adapter_type, subapplication_type, system_configuration, structure_type}
-use Rattle.fb_iface.specs.Library.Local.{Agree}
-use Rattle.fb_iface.specs.Library.Near.{near_of}
-use Rattle.fb_iface.specs.Library.View.{Sources, tree_at}
-use Rattle.fb_iface.specs.declared.fault.Fault.{Fault}
-use Rattle.fb_expr.specs.Names.{Names, names_of_type}
-use Rattle.fb_expr.specs.declared.rules.ClassPlace.TheVariants.{Condition}
-use Rattle.fb_expr.specs.Statements.{faults_at_place, statements_faults}
+use Rattle.fb_iface.specs.{Library.Local.{Agree}, Library.Near.{near_of}, Library.View.{Sources, tree_at}, declared.fault.Fault.{Fault}}
+use Rattle.fb_expr.specs.{Names.{Names, names_of_type}, declared.rules.ClassPlace.TheVariants.{Condition}, Statements.{faults_at_place, statements_faults}}
 
 -- the guard of a transition, if it has one
 abbrev pub guard_faults : Names → ConditionTree → List Fault

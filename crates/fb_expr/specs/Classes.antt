@@ -1,12 +1,9 @@
 -- How classes join, and what operators make of them.
-use Rattle.std.specs.Prelude.{Option, Some, None, unwrap_or}
-use Rattle.std.specs.Option.{option_and_then}
+use Rattle.std.specs.{Prelude.{Option, Some, None, unwrap_or}, Option.{option_and_then}}
 use Rattle.fb_tree.specs.declared.expression.BinaryOperator.{BinaryOperator}
 use Rattle.fb_tree.specs.declared.expression.BinaryOperator.TheVariants.{Or, Xor, And, Equal, NotEqual, Less, Greater, LessOrEqual, GreaterOrEqual, Add, Subtract, Multiply, Divide, Modulo, Power}
-use Rattle.fb_tree.specs.declared.expression.UnaryOperator.{UnaryOperator}
-use Rattle.fb_tree.specs.declared.expression.UnaryOperator.TheVariants.{Plus, Minus, Not}
-use Rattle.fb_iface.specs.declared.classes.Class.{Class}
-use Rattle.fb_iface.specs.declared.classes.Class.TheVariants.{B, I, W, O, Free, Num, Any}
+use Rattle.fb_tree.specs.{declared.expression.UnaryOperator.{UnaryOperator}, declared.expression.UnaryOperator.TheVariants.{Plus, Minus, Not}}
+use Rattle.fb_iface.specs.{declared.classes.Class.{Class}, declared.classes.Class.TheVariants.{B, I, W, O, Free, Num, Any}}
 
 -- the join of two classes, where they have one
 abbrev pub join : Class → Class → Option Class

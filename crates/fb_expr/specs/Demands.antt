@@ -1,30 +1,16 @@
 -- What the expressions and statements of a unit demand: the rules by which they are judged, each with the place of its fault.
-use Rattle.std.specs.Prelude.{◌≡◌, ℕ, Bool, true, false, not, ◌||◌, List, [], ◌∷◌, ◌++◌, Option, Some, is_some, ◌↔◌}
-use Rattle.std.specs.List.{Contains, flat_map}
+use Rattle.std.specs.{Prelude.{◌≡◌, ℕ, Bool, true, false, not, ◌||◌, List, [], ◌∷◌, ◌++◌, Option, Some, is_some, ◌↔◌}, List.{Contains, flat_map}}
 use Rattle.std.specs.Option.{option_map_or}
-use Rattle.fb_tree.specs.Text.declared.name.NameUse.{NameUse}
-use Rattle.fb_tree.specs.Text.declared.token.Span.{Span}
+use Rattle.fb_tree.specs.{Text.declared.name.NameUse.{NameUse}, Text.declared.token.Span.{Span}}
 use Rattle.fb_tree.specs.Expression.{ReferenceTree, alone_tree, Expression, literal_expression, reference_expression, unary_expression, row_expression, parentheses, Expressions, no_expressions, expression_then, Operands, no_operands, operand_then}
 use Rattle.fb_tree.specs.Statement.{Statement, empty, assignment, exit, return, choice, selection, count, while_loop, repeat_loop, Statements, no_statements, statement_then, Arms, no_arms, arm_then, statements_of}
 use Rattle.fb_tree.specs.Tree.{AlgorithmTree, ChartTree, ConditionTree, always, on_event, guarded, guard, TransitionTree, TypeTree, block_type}
-use Rattle.fb_tree.specs.declared.expression.BinaryUse.{BinaryUse}
-use Rattle.fb_tree.specs.declared.expression.UnaryUse.{UnaryUse}
-use Rattle.fb_tree.specs.declared.reference.Member.{Member}
-use Rattle.fb_iface.specs.Library.View.{Sources, tree_at}
-use Rattle.fb_iface.specs.declared.classes.Class.{Class as ValueClass}
-use Rattle.fb_iface.specs.declared.code.Code.{Code}
-use Rattle.fb_iface.specs.declared.code.Code.TheVariants.{Class, MemberUnknown, VariableUnknown}
-use Rattle.fb_iface.specs.declared.fault.Fault.{Fault}
-use Rattle.fb_expr.specs.Charts.{expr_faults_of}
-use Rattle.fb_expr.specs.Classes.{change, combined, join, pair_class}
-use Rattle.fb_expr.specs.Expressions.{class_in}
-use Rattle.fb_expr.specs.Names.{Names, names_of_type}
-use Rattle.fb_expr.specs.References.{referent_from, referent_of}
-use Rattle.fb_expr.specs.Rules.{allows}
-use Rattle.fb_expr.specs.Spans.{names_span, span_of}
-use Rattle.fb_expr.specs.declared.references.Referent.{Referent}
-use Rattle.fb_expr.specs.declared.references.Referent.TheVariants.{Variable, Unjudged, Unknown, NoMember}
-use Rattle.fb_expr.specs.declared.rules.ClassPlace.{ClassPlace}
+use Rattle.fb_tree.specs.{declared.expression.BinaryUse.{BinaryUse}, declared.expression.UnaryUse.{UnaryUse}, declared.reference.Member.{Member}}
+use Rattle.fb_iface.specs.{Library.View.{Sources, tree_at}, declared.classes.Class.{Class as ValueClass}, declared.code.Code.{Code}}
+use Rattle.fb_iface.specs.{declared.code.Code.TheVariants.{Class, MemberUnknown, VariableUnknown}, declared.fault.Fault.{Fault}}
+use Rattle.fb_expr.specs.{Charts.{expr_faults_of}, Classes.{change, combined, join, pair_class}, Expressions.{class_in}, Names.{Names, names_of_type}}
+use Rattle.fb_expr.specs.{References.{referent_from, referent_of}, Rules.{allows}, Spans.{names_span, span_of}, declared.references.Referent.{Referent}}
+use Rattle.fb_expr.specs.{declared.references.Referent.TheVariants.{Variable, Unjudged, Unknown, NoMember}, declared.rules.ClassPlace.{ClassPlace}}
 use Rattle.fb_expr.specs.declared.rules.ClassPlace.TheVariants.{Condition, Count, Counter, Selector}
 
 pub data Demand : Type 0 where

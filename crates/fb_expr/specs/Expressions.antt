@@ -1,14 +1,9 @@
 -- The class of each expression, and the faults in it.
 use Rattle.std.specs.Prelude.{List, [], ◌++◌, is_some}
 use Rattle.fb_tree.specs.Expression.{Expression, literal_expression, reference_expression, unary_expression, row_expression, parentheses, Expressions, no_expressions, expression_then, Operands, no_operands, operand_then}
-use Rattle.fb_iface.specs.Class.{class_of_literal}
-use Rattle.fb_iface.specs.declared.classes.Class.{Class}
-use Rattle.fb_iface.specs.declared.fault.Fault.{Fault}
-use Rattle.fb_expr.specs.Classes.{change, combined, pair_class, unary_class}
-use Rattle.fb_expr.specs.Names.{Names}
-use Rattle.fb_expr.specs.Spans.{names_span, span_of}
-use Rattle.fb_expr.specs.References.{class_of_referent, reference_faults, referent_of}
-use Rattle.fb_expr.specs.Rules.{allows, class_faults}
+use Rattle.fb_iface.specs.{Class.{class_of_literal}, declared.classes.Class.{Class}, declared.fault.Fault.{Fault}}
+use Rattle.fb_expr.specs.{Classes.{change, combined, pair_class, unary_class}, Names.{Names}, Spans.{names_span, span_of}}
+use Rattle.fb_expr.specs.{References.{class_of_referent, reference_faults, referent_of}, Rules.{allows, class_faults}}
 use Rattle.fb_expr.specs.declared.rules.ClassPlace.TheVariants.{Count}
 
 abbrev mutual

@@ -1,28 +1,15 @@
 -- What references stand for (IEC 61499-1, 5.2.2: algorithms; 5.5: adapters).
 use Rattle.std.specs.Prelude.{ℕ, nat_lt, Bool, true, false, not, ◌&&◌, List, [], ◌∷◌, Option, Some, None, if◌then◌else◌}
-use Rattle.fb_tree.specs.Text.declared.token.Span.{Span}
-use Rattle.fb_tree.specs.declared.interface.Section.{Section}
+use Rattle.fb_tree.specs.{Text.declared.token.Span.{Span}, declared.interface.Section.{Section}, declared.interface.TypeForm.{TypeForm}}
+use Rattle.fb_tree.specs.{declared.interface.TypeUse.{TypeUse}, declared.network.Role.{Role}, declared.reference.Member.{Member}, Expression.{ReferenceTree}}
 use Rattle.fb_tree.specs.declared.interface.Section.TheVariants as sections
-use Rattle.fb_tree.specs.declared.interface.TypeForm.{TypeForm}
 use Rattle.fb_tree.specs.declared.interface.TypeForm.TheVariants as forms
-use Rattle.fb_tree.specs.declared.interface.TypeUse.{TypeUse}
-use Rattle.fb_tree.specs.declared.network.Role.{Role}
 use Rattle.fb_tree.specs.declared.network.Role.TheVariants as roles
-use Rattle.fb_tree.specs.declared.reference.Member.{Member}
-use Rattle.fb_tree.specs.Expression.{ReferenceTree}
-use Rattle.fb_iface.specs.Class.{class_of_name, class_of_type, is_free}
-use Rattle.fb_iface.specs.Fields.{Fields, NotJudged, NoFields, HasFields}
-use Rattle.fb_iface.specs.Names.{stands_for}
-use Rattle.fb_iface.specs.Ports.{Meanings}
-use Rattle.fb_iface.specs.Scope.{Scope, ports_of}
-use Rattle.fb_iface.specs.declared.classes.Class.{Class}
-use Rattle.fb_iface.specs.declared.classes.Class.TheVariants.{O, Free}
-use Rattle.fb_iface.specs.declared.code.Code.TheVariants.{MemberUnknown, VariableUnknown}
-use Rattle.fb_iface.specs.declared.fault.Fault.{Fault}
-use Rattle.fb_iface.specs.declared.ports.DeclaredInstance.{DeclaredInstance}
-use Rattle.fb_iface.specs.declared.ports.DeclaredVariable.{DeclaredVariable}
-use Rattle.fb_expr.specs.Names.{Names}
-use Rattle.fb_expr.specs.declared.references.Referent.{Referent}
+use Rattle.fb_iface.specs.{Class.{class_of_name, class_of_type, is_free}, Fields.{Fields, NotJudged, NoFields, HasFields}, Names.{stands_for}, Ports.{Meanings}}
+use Rattle.fb_iface.specs.{Scope.{Scope, ports_of}, declared.classes.Class.{Class}, declared.classes.Class.TheVariants.{O, Free}}
+use Rattle.fb_iface.specs.{declared.code.Code.TheVariants.{MemberUnknown, VariableUnknown}, declared.fault.Fault.{Fault}}
+use Rattle.fb_iface.specs.{declared.ports.DeclaredInstance.{DeclaredInstance}, declared.ports.DeclaredVariable.{DeclaredVariable}}
+use Rattle.fb_expr.specs.{Names.{Names}, declared.references.Referent.{Referent}}
 use Rattle.fb_expr.specs.declared.references.Referent.TheVariants.{Variable, Unjudged, Unknown, NoMember}
 
 -- whether subscripts are there

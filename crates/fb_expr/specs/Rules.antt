@@ -1,12 +1,9 @@
 -- The classes that each place of an algorithm asks for; one that is not judged meets every rule.
 use Rattle.std.specs.Prelude.{Bool, true, false, List, [], ◌∷◌, if◌then◌else◌}
 use Rattle.fb_tree.specs.Text.declared.token.Span.{Span}
-use Rattle.fb_iface.specs.declared.classes.Class.{Class as ValueClass}
-use Rattle.fb_iface.specs.declared.classes.Class.TheVariants.{B, I, Free, Num, Any}
-use Rattle.fb_iface.specs.declared.code.Code.TheVariants.{Class}
-use Rattle.fb_iface.specs.declared.fault.Fault.{Fault}
-use Rattle.fb_expr.specs.declared.rules.ClassPlace.{ClassPlace}
-use Rattle.fb_expr.specs.declared.rules.ClassPlace.TheVariants.{Condition, Count, Counter, Selector}
+use Rattle.fb_iface.specs.{declared.classes.Class.{Class as ValueClass}, declared.classes.Class.TheVariants.{B, I, Free, Num, Any}}
+use Rattle.fb_iface.specs.{declared.code.Code.TheVariants.{Class}, declared.fault.Fault.{Fault}}
+use Rattle.fb_expr.specs.{declared.rules.ClassPlace.{ClassPlace}, declared.rules.ClassPlace.TheVariants.{Condition, Count, Counter, Selector}}
 
 -- a condition is a truth value, a count and a subscript a whole number, and a CASE selects by anything but a truth value
 abbrev pub allows : ClassPlace → ValueClass → Bool

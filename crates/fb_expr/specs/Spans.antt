@@ -1,7 +1,6 @@
 -- Where references and expressions stand.
 use Rattle.std.specs.Prelude.{ℕ, zero, suc, List, [], ◌∷◌}
-use Rattle.fb_tree.specs.Text.declared.token.Span.{Span}
-use Rattle.fb_tree.specs.declared.reference.Member.{Member}
+use Rattle.fb_tree.specs.{Text.declared.token.Span.{Span}, declared.reference.Member.{Member}}
 use Rattle.fb_tree.specs.Expression.{ReferenceTree, Expression, literal_expression, reference_expression, unary_expression, row_expression, parentheses, Operands, no_operands, operand_then}
 
 -- from the start of one to the end of the other

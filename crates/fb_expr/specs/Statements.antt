@@ -1,19 +1,11 @@
 -- The faults of statements.
-use Rattle.std.specs.Prelude.{false, List, [], ◌++◌, Option, is_some}
-use Rattle.std.specs.Option.{option_map_or}
-use Rattle.fb_tree.specs.Text.declared.name.NameUse.{NameUse}
-use Rattle.fb_tree.specs.Text.declared.token.Span.{Span}
-use Rattle.fb_tree.specs.Expression.{Expression, reference_expression}
+use Rattle.std.specs.{Prelude.{false, List, [], ◌++◌, Option, is_some}, Option.{option_map_or}}
+use Rattle.fb_tree.specs.{Text.declared.name.NameUse.{NameUse}, Text.declared.token.Span.{Span}, Expression.{Expression, reference_expression}}
 use Rattle.fb_tree.specs.Statement.{Statement, empty, assignment, exit, return, choice, selection, count, while_loop, repeat_loop, Statements, no_statements, statement_then, Arms, no_arms, arm_then}
 use Rattle.fb_iface.specs.declared.fault.Fault.{Fault}
-use Rattle.fb_expr.specs.Classes.{join}
-use Rattle.fb_expr.specs.Expressions.{class_in, faults_in}
-use Rattle.fb_expr.specs.Names.{Names}
-use Rattle.fb_expr.specs.Spans.{span_of}
-use Rattle.fb_expr.specs.References.{class_of_referent, reference_faults, variable_named}
-use Rattle.fb_expr.specs.Rules.{allows, class_faults}
-use Rattle.fb_expr.specs.declared.rules.ClassPlace.{ClassPlace}
-use Rattle.fb_expr.specs.declared.rules.ClassPlace.TheVariants.{Condition, Count, Counter, Selector}
+use Rattle.fb_expr.specs.{Classes.{join}, Expressions.{class_in, faults_in}, Names.{Names}, Spans.{span_of}}
+use Rattle.fb_expr.specs.{References.{class_of_referent, reference_faults, variable_named}, Rules.{allows, class_faults}}
+use Rattle.fb_expr.specs.{declared.rules.ClassPlace.{ClassPlace}, declared.rules.ClassPlace.TheVariants.{Condition, Count, Counter, Selector}}
 
 -- an expression in a place that asks for certain classes
 abbrev pub faults_at_place : ClassPlace → Names → Expression → List Fault

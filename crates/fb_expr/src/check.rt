@@ -1,10 +1,8 @@
 //! The check of the expressions and statements of a unit (IEC 61499-1, 5.2.1 and 5.2.2: execution control charts and algorithms).
-ghost use Rattle.std.specs.Prelude.{◌≡◌, ◌++◌, IfOk, OnOk};
-ghost use Rattle.std.specs.List.{flat_map};
+ghost use Rattle.std.specs.{Prelude.{◌≡◌, ◌++◌, IfOk, OnOk}, List.{flat_map}};
 ghost use Rattle.fb_tree.specs.Tree.{algorithm_tree, chart_tree, condition_tree, transition_tree};
 ghost use Rattle.fb_iface.specs.Fault.{faults_in_order};
-ghost use Rattle.fb_expr.specs.Charts.{algorithm_faults, expr_faults_of, expression_faults, guard_faults, transition_faults};
-ghost use Rattle.fb_expr.specs.Names.{names_in};
+ghost use Rattle.fb_expr.specs.{Charts.{algorithm_faults, expr_faults_of, expression_faults, guard_faults, transition_faults}, Names.{names_in}};
 
 use crate::expressions::judge_at;
 use crate::names::Names;

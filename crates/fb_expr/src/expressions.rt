@@ -2,11 +2,8 @@
 ghost use Rattle.std.specs.Prelude.{◌≡◌, ◌++◌, IfOk, OnOk, is_some, map};
 ghost use Rattle.fb_tree.specs.Expression.{alone_tree, expression_tree, expressions_of, no_expressions, operands_of, reference_expression, reference_tree};
 ghost use Rattle.fb_expr.specs.Classes.{change, combined, pair_class, unary_class};
-ghost use Rattle.fb_expr.specs.Expressions.{class_in, faults_in, row_class, row_faults, subscript_faults};
-ghost use Rattle.fb_expr.specs.Names.{names_in};
-ghost use Rattle.fb_expr.specs.Rules.{allows, class_faults};
-ghost use Rattle.fb_expr.specs.Spans.{span_of};
-ghost use Rattle.fb_expr.specs.Statements.{faults_at_place};
+ghost use Rattle.fb_expr.specs.{Expressions.{class_in, faults_in, row_class, row_faults, subscript_faults}, Names.{names_in}, Rules.{allows, class_faults}};
+ghost use Rattle.fb_expr.specs.{Spans.{span_of}, Statements.{faults_at_place}};
 
 use crate::classes::{broken, changed, operated};
 use crate::names::Names;

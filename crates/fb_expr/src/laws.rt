@@ -1,6 +1,5 @@
 //! Laws of the faults of expressions.
-ghost use Rattle.fb_expr.specs.Charts.{ExprFaultsAreLocal};
-ghost use Rattle.fb_expr.specs.Demands.{FaultsAreUnmet};
+ghost use Rattle.fb_expr.specs.{Charts.{ExprFaultsAreLocal}, Demands.{FaultsAreUnmet}};
 
 /// The faults of the expressions and statements of a unit depend only on the texts of what is near it.
 pub fn expr_faults_are_local()

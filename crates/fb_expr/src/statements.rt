@@ -2,10 +2,7 @@
 ghost use Rattle.std.specs.Prelude.{◌≡◌, ◌++◌, OnOk, is_some, map, option_map};
 ghost use Rattle.fb_tree.specs.Expression.{alone_tree, expression_tree, expressions_of, no_expressions, reference_expression, reference_tree};
 ghost use Rattle.fb_tree.specs.Statement.{statement_tree, statements_of};
-ghost use Rattle.fb_expr.specs.Classes.{join};
-ghost use Rattle.fb_expr.specs.Expressions.{class_in, faults_in};
-ghost use Rattle.fb_expr.specs.Names.{names_in};
-ghost use Rattle.fb_expr.specs.Rules.{class_faults};
+ghost use Rattle.fb_expr.specs.{Classes.{join}, Expressions.{class_in, faults_in}, Names.{names_in}, Rules.{class_faults}};
 ghost use Rattle.fb_expr.specs.Statements.{assignment_faults, counter_faults, range_faults, statement_faults, statements_faults};
 
 use crate::classes::joined;

@@ -1,27 +1,18 @@
 -- The faults of a unit depend on the texts of what is near it alone.
-use Rattle.std.proofs.Common.{◌≡◌, ℕ, List, [], ◌∷◌, ◌++◌, Option, Some, None, refl, ap, ◌∙◌, subst, arith}
-use Rattle.std.specs.FinMap.{get}
-use Rattle.std.specs.List.{Contains, flat_map}
-use Rattle.std.specs.Option.{option_and_then}
-use Rattle.std.proofs.lemmas.List.{map-append}
+use Rattle.std.proofs.{Common.{◌≡◌, ℕ, List, [], ◌∷◌, ◌++◌, Option, Some, None, refl, ap, ◌∙◌, subst, arith}, lemmas.List.{map-append}}
 use Rattle.std.proofs.lemmas.List.Elements.{Contains-append_right}
+use Rattle.std.specs.{FinMap.{get}, List.{Contains, flat_map}, Option.{option_and_then}}
 use Rattle.fb_tree.specs.Mentions.{instance_types, types_in}
 use Rattle.fb_tree.specs.Tree.{ApplicationTree, DeclTree, InstanceTree, block_type, adapter_type, subapplication_type, system_configuration, structure_type}
-use Rattle.fb_netcheck.specs.Library.Near.{near_of}
-use Rattle.fb_netcheck.specs.Library.View.{Sources, parts_in, tree_at, tree_of}
-use Rattle.fb_netcheck.proofs.Library.Locality.{near_part, near_unit}
-use Rattle.fb_netcheck.proofs.Iface.FieldsLocal.{recursion_local}
-use Rattle.fb_netcheck.proofs.Iface.ScopeLocal.{in_order_has}
+use Rattle.fb_netcheck.specs.{Library.Near.{near_of}, Library.View.{Sources, parts_in, tree_at, tree_of}}
 use Rattle.fb_netcheck.specs.Iface.Declarations.{iface_faults_of, declaration_faults, duplicate_faults, literal_faults_of, mixed_faults, name_faults, with_faults_of}
-use Rattle.fb_netcheck.specs.Iface.Fault.{faults_in_order}
-use Rattle.fb_netcheck.specs.Iface.Recursion.{recursion_faults}
-use Rattle.fb_netcheck.specs.Iface.Types.{instance_faults, instances_of, type_fault, type_faults}
+use Rattle.fb_netcheck.specs.{Iface.Fault.{faults_in_order}, Iface.Recursion.{recursion_faults}}
+use Rattle.fb_netcheck.specs.{Iface.Types.{instance_faults, instances_of, type_fault, type_faults}, Library.Local.{Agree}}
+use Rattle.fb_netcheck.proofs.{Library.Locality.{near_part, near_unit}, Iface.FieldsLocal.{recursion_local}, Iface.ScopeLocal.{in_order_has}}
+use Rattle.fb_netcheck.proofs.Locality.{net_faults_local}
 use Rattle.fb_expr.proofs.Locality.{expr_faults_local}
 use Rattle.fb_ecc.proofs.Locality.{ecc_local}
-use Rattle.fb_netcheck.proofs.Locality.{net_faults_local}
-use Rattle.fb_faults.specs.Mappings.{declared_mapping_faults}
-use Rattle.fb_netcheck.specs.Library.Local.{Agree}
-use Rattle.fb_faults.specs.Faults.{FaultsAreLocal, text_faults}
+use Rattle.fb_faults.specs.{Mappings.{declared_mapping_faults}, Faults.{FaultsAreLocal, text_faults}}
 
 first_contained : {A : Type 0} (x : A) (xs : List A) → Contains (x ∷ xs) x
 first_contained x xs = (0, omega arith, refl)

@@ -1,18 +1,11 @@
 -- The resources of one more device.
 use Rattle.std.proofs.Common.{◌≡◌, ℕ, Bool, true, false, cond, ◌&&◌, ◌||◌, List, [], ◌∷◌, ◌++◌, None, Some, not, refl, sym, ap, ◌∙◌, nat_eq, is_some}
-use Rattle.std.proofs.lemmas.List.Folds.{list_any-append}
-use Rattle.std.specs.BTreeSet.{BTreeSet, contains, Updates}
-use Rattle.std.specs.Cmp.Lexicographic.{pointwise}
-use Rattle.std.specs.Option.{option_map_or}
-use Rattle.std.specs.Cmp.{tied_then}
-use Rattle.std.proofs.Math.Bool.{or-false}
-use Rattle.fb_tree.proofs.Text.Tests.{not_true, not_false}
-use Rattle.fb_tree.specs.Text.Order.{name_cmp}
-use Rattle.fb_tree.specs.Text.declared.name.NameUse.{NameUse}
-use Rattle.fb_tree.proofs.Text.OrderLemmas.{same_name}
+use Rattle.std.proofs.{lemmas.List.Folds.{list_any-append}, Math.Bool.{or-false}}
+use Rattle.std.specs.{BTreeSet.{BTreeSet, contains, Updates}, Cmp.Lexicographic.{pointwise}, Option.{option_map_or}, Cmp.{tied_then}}
+use Rattle.fb_tree.proofs.{Text.Tests.{not_true, not_false}, Text.OrderLemmas.{same_name}}
+use Rattle.fb_tree.specs.{Text.Order.{name_cmp}, Text.declared.name.NameUse.{NameUse}}
 use Rattle.fb_netcheck.specs.Iface.Names.{has_name, is_same, stands_for}
-use Rattle.fb_netcheck.proofs.Iface.RepeatLemmas.{true_or}
-use Rattle.fb_netcheck.proofs.Iface.TableLemmas.{is_it, known-new, known-old, none}
+use Rattle.fb_netcheck.proofs.{Iface.RepeatLemmas.{true_or}, Iface.TableLemmas.{is_it, known-new, known-old, none}}
 use Rattle.fb_faults.specs.Pairs.{pair_cmp}
 
 one_more : (old device names name : Bool) → ((old || (device && names)) || (device && name)) ≡ (old || (device && (names || name)))

@@ -2,8 +2,7 @@
 use Rattle.std.proofs.Common.{◌∙◌}
 use Rattle.std.specs.Option.{option_and_then}
 use Rattle.fb_tree.proofs.Text.OrderLemmas.{in_order-members, in_order-sorted}
-use Rattle.fb_netcheck.specs.Library.View.{tree_in, tree_of}
-use Rattle.fb_netcheck.specs.Iface.Fault.{fault_cmp, fault_cmp_total, faults_in_order}
+use Rattle.fb_netcheck.specs.{Library.View.{tree_in, tree_of}, Iface.Fault.{fault_cmp, fault_cmp_total, faults_in_order}}
 use Rattle.fb_netcheck.proofs.Iface.FaultLemmas.{fault_cmp-exact}
 use Rattle.fb_faults.specs.Faults.{BrokenTextsHaveOneFault, FaultsAreInOrder, FaultsAreThoseReported, all_reported, body_faults, reported_of, text_faults}
 

@@ -1,25 +1,13 @@
 -- All faults of a unit.
-use Rattle.std.specs.Prelude.{◌≡◌, ℕ, List, [], ◌∷◌, ◌++◌, Option, Some, Contains, ◌↔◌}
-use Rattle.std.specs.Option.{option_map_or}
-use Rattle.std.specs.FinMap.{get}
+use Rattle.std.specs.{Prelude.{◌≡◌, ℕ, List, [], ◌∷◌, ◌++◌, Option, Some, Contains, ◌↔◌}, Option.{option_map_or}, FinMap.{get}}
 use Rattle.std.specs.List.Sorted.{IsStrictlySortedBy}
-use Rattle.fb_tree.specs.Text.declared.token.Span.{Span}
-use Rattle.fb_netcheck.specs.Parse.Body.{BodyTree, Whole, BrokenAt, body_of}
-use Rattle.fb_tree.specs.Tree.{ChartTree, DeclTree, TypeTree}
-use Rattle.fb_tree.specs.declared.kinds.UnitKind.TheVariants.{Block}
-use Rattle.fb_netcheck.specs.Library.Local.{Agree}
-use Rattle.fb_netcheck.specs.Library.Near.{near_of}
-use Rattle.fb_netcheck.specs.Library.View.{Sources, tree_at, tree_in}
-use Rattle.fb_netcheck.specs.Iface.declared.code.Code.TheVariants.{Syntax}
-use Rattle.fb_netcheck.specs.Iface.declared.fault.Fault.{Fault}
-use Rattle.fb_netcheck.specs.Iface.Fault.{fault_cmp, faults_in_order}
-use Rattle.fb_netcheck.specs.Iface.Declarations.{declaration_faults}
-use Rattle.fb_netcheck.specs.Iface.Fields.{fields_near}
-use Rattle.fb_expr.specs.Charts.{expression_faults, faults_in_unit}
-use Rattle.fb_expr.specs.Names.{Names}
+use Rattle.fb_tree.specs.{Text.declared.token.Span.{Span}, Tree.{ChartTree, DeclTree, TypeTree}, declared.kinds.UnitKind.TheVariants.{Block}}
+use Rattle.fb_netcheck.specs.{Parse.Body.{BodyTree, Whole, BrokenAt, body_of}, Library.Local.{Agree}, Library.Near.{near_of}}
+use Rattle.fb_netcheck.specs.{Library.View.{Sources, tree_at, tree_in}, Iface.declared.code.Code.TheVariants.{Syntax}, Iface.declared.fault.Fault.{Fault}}
+use Rattle.fb_netcheck.specs.{Iface.Fault.{fault_cmp, faults_in_order}, Iface.Declarations.{declaration_faults}, Iface.Fields.{fields_near}}
+use Rattle.fb_netcheck.specs.{Settings.{NetworkPlace}, Networks.{network_faults, tree_faults, type_place}}
+use Rattle.fb_expr.specs.{Charts.{expression_faults, faults_in_unit}, Names.{Names}}
 use Rattle.fb_ecc.specs.Charts.{chart_faults, chart_faults_in}
-use Rattle.fb_netcheck.specs.Settings.{NetworkPlace}
-use Rattle.fb_netcheck.specs.Networks.{network_faults, tree_faults, type_place}
 use Rattle.fb_faults.specs.Mappings.{declared_mapping_faults}
 
 abbrev pub body_faults : BodyTree → List Fault

@@ -1,14 +1,9 @@
 -- The faults of mappings (IEC 61499-1, clause 7: system configurations).
-use Rattle.std.specs.Prelude.{ℕ, Bool, true, false, List, [], ◌∷◌, ◌++◌, map, Option, Some, None}
-use Rattle.std.specs.List.{flat_map}
-use Rattle.std.specs.Option.{option_map_or}
-use Rattle.fb_tree.specs.Text.declared.name.NameUse.{NameUse}
-use Rattle.fb_tree.specs.Text.declared.token.Span.{Span}
+use Rattle.std.specs.{Prelude.{ℕ, Bool, true, false, List, [], ◌∷◌, ◌++◌, map, Option, Some, None}, List.{flat_map}, Option.{option_map_or}}
+use Rattle.fb_tree.specs.{Text.declared.name.NameUse.{NameUse}, Text.declared.token.Span.{Span}}
 use Rattle.fb_tree.specs.Tree.{DeclTree, DeviceTree, MappingTree, SystemTree, block_type, adapter_type, subapplication_type, system_configuration, structure_type}
-use Rattle.fb_netcheck.specs.Library.View.{Sources, tree_at}
-use Rattle.fb_netcheck.specs.Iface.Names.{has_name, stands_for}
-use Rattle.fb_netcheck.specs.Iface.declared.code.Code.TheVariants.{MappedTwice, NoSuchResource}
-use Rattle.fb_netcheck.specs.Iface.declared.fault.Fault.{Fault}
+use Rattle.fb_netcheck.specs.{Library.View.{Sources, tree_at}, Iface.Names.{has_name, stands_for}}
+use Rattle.fb_netcheck.specs.{Iface.declared.code.Code.TheVariants.{MappedTwice, NoSuchResource}, Iface.declared.fault.Fault.{Fault}}
 use Rattle.fb_netcheck.specs.Paths.{path_of_names, repeated_faults}
 
 -- the names of the resources of each device

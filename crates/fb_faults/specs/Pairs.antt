@@ -1,7 +1,5 @@
 -- The order of pairs of names.
-use Rattle.std.specs.Prelude.{ℕ, List}
-use Rattle.std.specs.Ordering.{ordering_then}
-use Rattle.std.specs.declared.cmp.Ordering.{Ordering}
+use Rattle.std.specs.{Prelude.{ℕ, List}, Ordering.{ordering_then}, declared.cmp.Ordering.{Ordering}}
 use Rattle.fb_tree.specs.Text.Order.{name_cmp}
 
 -- by the first names, then by the second

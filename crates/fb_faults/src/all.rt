@@ -2,10 +2,7 @@
 ghost use Rattle.std.specs.Prelude.{◌≡◌, ◌++◌, IfOk, OnOk};
 ghost use Rattle.fb_tree.specs.Tree.{chart_tree, decl_tree, type_tree};
 ghost use Rattle.fb_tree.specs.declared.kinds.UnitKind.TheVariants as kinds;
-ghost use Rattle.fb_netcheck.specs.Parse.Body.{Whole, body_tree};
-ghost use Rattle.fb_netcheck.specs.Iface.Ports.{meanings_in_type};
-ghost use Rattle.fb_netcheck.specs.Networks.{type_network, type_place};
-ghost use Rattle.fb_netcheck.specs.Settings.{place_in};
+ghost use Rattle.fb_netcheck.specs.{Parse.Body.{Whole, body_tree}, Iface.Ports.{meanings_in_type}, Networks.{type_network, type_place}, Settings.{place_in}};
 ghost use Rattle.fb_faults.specs.Faults.{block_faults, chart_here, faults_here, faults_of, reported_in};
 
 use crate::mappings::report_mappings;

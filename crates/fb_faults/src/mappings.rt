@@ -1,11 +1,8 @@
 //! The check of mappings (IEC 61499-1, clause 7: system configurations).
-ghost use Rattle.std.specs.Prelude.{◌≡◌, ◌++◌, ◌&&◌, ◌||◌, IfOk, OnOk, List, map, ℕ};
-ghost use Rattle.std.specs.BTreeSet.{contains};
-ghost use Rattle.std.specs.List.{flat_map};
+ghost use Rattle.std.specs.{Prelude.{◌≡◌, ◌++◌, ◌&&◌, ◌||◌, IfOk, OnOk, List, map, ℕ}, BTreeSet.{contains}, List.{flat_map}};
 ghost use Rattle.fb_tree.specs.Tree.{device_tree, mapping_tree, system_tree};
 ghost use Rattle.fb_netcheck.specs.Iface.Names.{has_name, is_same};
-ghost use Rattle.fb_faults.specs.Mappings.{has_resource, home_faults, home_span, system_mapping_faults};
-ghost use Rattle.fb_faults.specs.Pairs.{pair_cmp};
+ghost use Rattle.fb_faults.specs.{Mappings.{has_resource, home_faults, home_span, system_mapping_faults}, Pairs.{pair_cmp}};
 
 use fb_netcheck::iface::{Code, Fault};
 use fb_netcheck::report_repeated;

@@ -4,15 +4,15 @@ use Rattle.std.proofs.lemmas.List.Elements.{All-contains, All-head, Contains-app
 use Rattle.std.specs.{List.{All, Contains, filter_map, find, flat_map, slice_get}, Option.{option_and_then}}
 use Rattle.fb_wiring.specs.Text.declared.name.NameUse.{NameUse}
 use Rattle.fb_wiring.specs.Tree.Tree.{ApplicationTree, DeclTree, InstanceTree, NetworkTree, SystemTree, TypeTree, block_type, adapter_type, subapplication_type, system_configuration, structure_type}
-use Rattle.fb_wiring.specs.{Tree.declared.network.Role.{Role}, Tree.declared.network.Sort.{Sort}, Library.View.{Sources, tree_at}}
 use Rattle.fb_wiring.specs.Iface.Declarations.{declaration_faults, duplicate_faults, literal_faults_of, mixed_faults, name_faults, with_faults_of}
-use Rattle.fb_wiring.specs.{Iface.Recursion.{recursion_faults}, Iface.Names.{first_ones, is_same, stands_for}}
 use Rattle.fb_wiring.specs.Iface.Ports.{events_in, instances_in, meanings_in_type, variables_in}
 use Rattle.fb_wiring.specs.Iface.Spaces.{chart_spaces, interface_spaces, network_spaces, resource_names, spaces_of}
+use Rattle.fb_wiring.specs.declared.systems.Application.{Application}
+use Rattle.fb_wiring.specs.{Tree.declared.network.Role.{Role}, Tree.declared.network.Sort.{Sort}, Library.View.{Sources, tree_at}}
+use Rattle.fb_wiring.specs.{Iface.Recursion.{recursion_faults}, Iface.Names.{first_ones, is_same, stands_for}}
 use Rattle.fb_wiring.specs.{Iface.Types.{instance_faults, instances_of, type_faults}, Iface.declared.ports.DeclaredInstance.{DeclaredInstance}}
 use Rattle.fb_wiring.specs.{Network.Plain.{PlainNetwork}, Network.declared.network.End.TheVariants.{Own}, Network.declared.network.Port.{Port}}
 use Rattle.fb_wiring.specs.{Applications.{applications_of, plain_application}, Networks.{end_named, network_of, plain_network}, Ports.{plain_ports}}
-use Rattle.fb_wiring.specs.declared.systems.Application.{Application}
 use Rattle.fb_wiring.specs.Tree.declared.kinds.UnitKind.TheVariants as kinds
 use Rattle.fb_wiring.specs.Tree.declared.network.Role.TheVariants as roles
 use Rattle.fb_wiring.specs.Tree.declared.network.Sort.TheVariants as sorts

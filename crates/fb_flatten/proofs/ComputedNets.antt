@@ -4,15 +4,15 @@ use Rattle.std.proofs.{lemmas.Bool.{false≢true}, lemmas.Bool.Decides.{nat_test
 use Rattle.std.specs.{Prelude.{Contains, ◌≢◌, ◌↔◌, nat_lt, map, filter, option_map}, List.{flat_map}, Option.{option_and_then}, FinMap.{get}}
 use Rattle.fb_wiring.specs.Text.Order.{name_cmp, in_order}
 use Rattle.fb_wiring.specs.Tree.Tree.{DeclTree, SystemTree, TypeTree, block_type, adapter_type, subapplication_type, system_configuration, structure_type}
+use Rattle.fb_wiring.specs.declared.systems.Application.{Application}
+use Rattle.fb_wiring.specs.Units.{HasNet, has_net_tree, own_instances, AreFlatApplications, NoApplication, ThenApplication, Holds, IsUnitFlat, OfSubapplication, OfSystem}
+use Rattle.fb_wiring.specs.Library.Seen.{has_name}
 use Rattle.fb_wiring.specs.{Tree.Mentions.{unit_kind_of}, Library.View.{Sources, parts_at, tree_at, tree_of}}
 use Rattle.fb_wiring.specs.{Library.Rests.{Rests, itself, PartRests, on_itself, through_part}, Library.Local.{AgreeFar}, Iface.declared.fault.Fault.{Fault}}
 use Rattle.fb_wiring.specs.{Reaches.{IsRecursive}, Network.declared.count.TheConstants.{INSTANCE_LIMIT}, Network.PlainFlat.{PlainFlat}}
 use Rattle.fb_wiring.specs.{Network.LinkOrder.{link_cmp, link_cmp_total}, Network.Network.{View}, Network.FlatNet.{IsFlat}, Network.Instances.{Held}}
 use Rattle.fb_wiring.specs.{Network.SystemFlat.{IsSystemFlat, application_links}, Network.declared.application.FlatApplication.{FlatApplication}}
 use Rattle.fb_wiring.specs.{Applications.{applications_of}, ByName.{applications_at, declared}, Networks.{network_of}}
-use Rattle.fb_wiring.specs.declared.systems.Application.{Application}
-use Rattle.fb_wiring.specs.Units.{HasNet, has_net_tree, own_instances, AreFlatApplications, NoApplication, ThenApplication, Holds, IsUnitFlat, OfSubapplication, OfSystem}
-use Rattle.fb_wiring.specs.Library.Seen.{has_name}
 use Rattle.fb_wiring.proofs.{Text.OrderLemmas.{in_order-sorted}, Library.Locality.{far_local, part_mention, parts_both, parts_rest, rests_more}}
 use Rattle.fb_wiring.proofs.Text.Members.{contains_nothing, contains_filter, passes_in_filter, contains_here, contains_later}
 use Rattle.fb_wiring.proofs.{Network.SystemLemmas.{system_links_are}, KindLemmas.{net_kind, no_net_kind}, Library.WalkLemmas.{Contains-has, has-Contains}}

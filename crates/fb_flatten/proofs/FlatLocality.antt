@@ -7,10 +7,9 @@ use Rattle.fb_wiring.specs.{Network.Sorts.{same_sort}, Network.declared.network.
 use Rattle.fb_wiring.specs.{Network.Plain.{PlainNetwork}, Network.PlainFlat.{PlainFlat}, Network.declared.flat.Link.{Link}}
 use Rattle.fb_wiring.specs.Network.declared.flat.Border.{Border}
 use Rattle.fb_wiring.specs.Network.Network.{View, Place, instance_named, IsInner, Step, Holds, Within as Inside, IsBorderPlace, OwnPort, PortWithin, IsLeafPlace, BlockPort, LeafWithin, Chain, One, More, IsLink, IsBorder}
+use Rattle.fb_wiring.specs.{Network.Flat.{PrintsLink, PrintsBorder, AreLinks, AreBorders}, Network.FlatNet.{IsFlat}}
 use Rattle.fb_wiring.specs.{Network.Clean.{port_named, type_of, adapter_name_at, adapter_at}, Network.NetLink.{IsNetLink, Direct, FromPlug, ToPlug}}
-use Rattle.fb_wiring.specs.Network.Flat.{PrintsLink, PrintsBorder, AreLinks, AreBorders}
 use Rattle.fb_wiring.specs.{Network.Instances.{Held, AreInstances, NoInstance, ThenBlock, ThenSubapplication}, Network.Count.{IsCount}}
-use Rattle.fb_wiring.specs.Network.FlatNet.{IsFlat}
 use Rattle.fb_flatten.specs.Locality.{Within, IsClosed, SameNetworks, SameFlats}
 
 here : {X : Type 0} (x : X) (xs : List X) → Contains (x ∷ xs) x

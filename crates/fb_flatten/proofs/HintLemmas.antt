@@ -3,9 +3,9 @@ use Rattle.std.proofs.{Common.{ℕ, ◌≡◌, Bool, true, false, not, arith, le
 use Rattle.std.specs.{Prelude.{◌≢◌, ◌||◌, ◌&&◌, is_none, option_map}, FinMap.{get}, Option.{option_or}}
 use Rattle.fb_wiring.specs.Tree.Mentions.{unit_kind_of}
 use Rattle.fb_wiring.specs.Tree.Tree.{DeclTree, block_type, adapter_type, subapplication_type, system_configuration, structure_type}
+use Rattle.fb_wiring.specs.Units.{IsTooLarge, IsUnitFlat, OfSubapplication, OfSystem, own_instances}
 use Rattle.fb_wiring.specs.{Library.View.{Sources, tree_at}, Network.Plain.{PlainNetwork}, Network.PlainFlat.{PlainFlat}}
 use Rattle.fb_wiring.specs.{Network.Instances.{Held, AreInstances}, ByName.{declared, kind_at}, Networks.{network_of}, Network.Ready.{Nets, IsFinished}}
-use Rattle.fb_wiring.specs.Units.{IsTooLarge, IsUnitFlat, OfSubapplication, OfSystem, own_instances}
 use Rattle.fb_wiring.specs.Tree.declared.kinds.UnitKind.TheVariants as kinds
 use Rattle.fb_faults.specs.Faults.{faults_of}
 use Rattle.fb_wiring.proofs.Network.BlockLemmas.{same_instances}

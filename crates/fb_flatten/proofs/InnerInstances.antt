@@ -6,11 +6,11 @@ use Rattle.fb_wiring.specs.{Forms.Form.{Form, Spells, both, either, many, as_val
 use Rattle.fb_wiring.specs.{Sections.Network.{blocks, connections, instance, inner_subapplication, subapplications}, Sections.Sections.{section}}
 use Rattle.fb_wiring.specs.Sections.SystemParts.{device, mappings}
 use Rattle.fb_wiring.specs.Tree.Tree.{ApplicationTree, DeclTree, DeviceTree, InstanceTree, MappingTree, SystemTree, block_type, adapter_type, subapplication_type, system_configuration, structure_type}
-use Rattle.fb_wiring.specs.{Tree.declared.network.Connection.{Connection}, Tree.declared.network.Role.{Role}}
-use Rattle.fb_wiring.specs.{Parse.Body.{BodyTree, Whole, BrokenAt, IsBodyIn, body_of}, Parse.Contents.{ContentsTree, joined, of_connections, of_instances}}
 use Rattle.fb_wiring.specs.Parse.Grammar.{application, application_of, application_section, network_section, system, system_of, system_section, unit}
 use Rattle.fb_wiring.specs.Parse.SystemContents.{SystemContentsTree, of_application, of_device, of_mappings, system_joined}
 use Rattle.fb_wiring.specs.Library.View.{Sources, tree_at, tree_in, tree_of}
+use Rattle.fb_wiring.specs.{Tree.declared.network.Connection.{Connection}, Tree.declared.network.Role.{Role}}
+use Rattle.fb_wiring.specs.{Parse.Body.{BodyTree, Whole, BrokenAt, IsBodyIn, body_of}, Parse.Contents.{ContentsTree, joined, of_connections, of_instances}}
 use Rattle.fb_wiring.specs.Forms.declared.kind.Kind.TheVariants as kinds
 use Rattle.fb_wiring.specs.Tree.declared.network.Role.TheVariants as roles
 use Rattle.fb_wiring.proofs.Parse.Bodies.{told}

@@ -5,10 +5,10 @@ use Rattle.std.specs.{Prelude.{Contains, map, filter, option_map, is_none, take}
 use Rattle.std.specs.{Cmp.Lexicographic.{nat_list_cmp_total}, FinMap.{slice_cmp-IsAntisymmetric, nat_cmp-IsAntisymmetric}}
 use Rattle.fb_wiring.specs.{Text.Order.{name_cmp}, Text.declared.name.NameUse.{NameUse}}
 use Rattle.fb_wiring.specs.Tree.Tree.{ApplicationTree, DeclTree, InstanceTree, TypeTree, block_type, adapter_type, subapplication_type, system_configuration, structure_type}
+use Rattle.fb_wiring.specs.Iface.Ports.{meanings_in_type, events_on, data_on, instances_as, instances_in as declared_instances, same_role}
 use Rattle.fb_wiring.specs.{Tree.Mentions.{instance_types, parts_of, types_in}, Tree.declared.interface.Side.{Side}}
 use Rattle.fb_wiring.specs.{Tree.declared.interface.Side.TheVariants.{Input, Output}, Tree.declared.network.Role.{Role}}
 use Rattle.fb_wiring.specs.{Library.View.{Sources, tree_at, parts_at, parts_in}, Iface.Names.{first_ones, stands_for}}
-use Rattle.fb_wiring.specs.Iface.Ports.{meanings_in_type, events_on, data_on, instances_as, instances_in as declared_instances, same_role}
 use Rattle.fb_wiring.specs.{Iface.declared.ports.DeclaredInstance.{DeclaredInstance}, Network.declared.network.Instance.{Instance}}
 use Rattle.fb_wiring.specs.{Network.declared.network.Port.{Port}, Network.Plain.{PlainNetwork}, Applications.{applications_of, plain_application}}
 use Rattle.fb_wiring.specs.{ByName.{applications_at, declared}, Networks.{instance_in_role, plain_instance, network_of, leaf}}

@@ -11,10 +11,10 @@ use Rattle.fb_wiring.specs.{Iface.Names.{first_ones, has_name, is_same, stands_f
 use Rattle.fb_wiring.specs.{Iface.Scope.{ports_of, type_ports_of, usable}, Iface.Types.{instance_faults, suits, type_fault}, Iface.declared.fault.Fault.{Fault}}
 use Rattle.fb_wiring.specs.Iface.declared.ports.DeclaredInstance.{DeclaredInstance}
 use Rattle.fb_wiring.specs.Network.Clean.{IsDeclared, IsDestination, IsSource, adapter_name_at, port_named, side_at, type_of}
+use Rattle.fb_wiring.specs.Networks.{end_named, instance_in_role, network_of, plain_connection, plain_end, plain_instance, plain_network}
 use Rattle.fb_wiring.specs.{Network.Network.{IsConnected, View, instance_named, place_of}, Network.Plain.{PlainNetwork}, Network.declared.network.End.{End}}
 use Rattle.fb_wiring.specs.{Network.declared.network.End.TheVariants.{Own, Of}, Network.declared.network.Instance.{Instance}}
 use Rattle.fb_wiring.specs.{Network.declared.network.Port.{Port}, ByName.{declared, kind_at}}
-use Rattle.fb_wiring.specs.Networks.{end_named, instance_in_role, network_of, plain_connection, plain_end, plain_instance, plain_network}
 use Rattle.fb_wiring.specs.Tree.declared.kinds.UnitKind.TheVariants as kinds
 use Rattle.fb_wiring.specs.Tree.declared.network.Role.TheVariants as roles
 use Rattle.fb_wiring.specs.Tree.declared.network.Sort.TheVariants as sorts

@@ -3,14 +3,14 @@ use Rattle.std.proofs.Common.{◌≡◌, ℕ, Bool, true, false, cond, ◌&&◌,
 use Rattle.std.proofs.lemmas.List.Folds.{find-append}
 use Rattle.std.specs.{List.{cons_option, filter, filter_map, find}, Option.{option_and_then, option_or}}
 use Rattle.fb_wiring.specs.Tree.Tree.{DeclTree, block_type, adapter_type, subapplication_type, system_configuration, structure_type}
-use Rattle.fb_wiring.specs.{Tree.declared.interface.Section.{Section}, Tree.declared.interface.Side.{Side}}
-use Rattle.fb_wiring.specs.{Tree.declared.interface.Side.TheVariants.{Input, Output}, Tree.declared.network.Role.{Role}, Tree.declared.network.Sort.{Sort}}
 use Rattle.fb_wiring.specs.Iface.Names.{is_same, stands_for}
 use Rattle.fb_wiring.specs.Iface.Ports.{Meanings, data_on, events_in, events_on, instances_as, instances_in, meanings_in, same_role, same_side, variables_in}
+use Rattle.fb_wiring.specs.Ports.{plain_adapter, plain_data, plain_event, plain_ports}
+use Rattle.fb_wiring.specs.{Tree.declared.interface.Section.{Section}, Tree.declared.interface.Side.{Side}}
+use Rattle.fb_wiring.specs.{Tree.declared.interface.Side.TheVariants.{Input, Output}, Tree.declared.network.Role.{Role}, Tree.declared.network.Sort.{Sort}}
 use Rattle.fb_wiring.specs.{Iface.Sides.{is_data_on}, Iface.declared.ports.DeclaredEvent.{DeclaredEvent}}
 use Rattle.fb_wiring.specs.{Iface.declared.ports.DeclaredInstance.{DeclaredInstance}, Iface.declared.ports.DeclaredVariable.{DeclaredVariable}}
 use Rattle.fb_wiring.specs.{Network.Clean.{port_named}, Network.Sorts.{same_sort}, Network.declared.network.Port.{Port}, Networks.{network_of}}
-use Rattle.fb_wiring.specs.Ports.{plain_adapter, plain_data, plain_event, plain_ports}
 use Rattle.fb_wiring.specs.Tree.declared.interface.Section.TheVariants as sections
 use Rattle.fb_wiring.specs.Tree.declared.network.Role.TheVariants as roles
 use Rattle.fb_wiring.specs.Tree.declared.network.Sort.TheVariants as sorts

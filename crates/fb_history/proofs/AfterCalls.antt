@@ -5,11 +5,11 @@ use Rattle.fb_jobs.specs.{Library.Texts.{Texts, Edit}, declared.key.Key.{Key}, K
 use Rattle.fb_jobs.proofs.{SameNeeds.{needs_local}, Library.Names.{exact_name}}
 use Rattle.fb_history.specs.declared.answers.Committed.{Committed}
 use Rattle.fb_history.specs.declared.answers.Committed.TheVariants.{Done, NoChange, TooManyChanges, SameUnitTwice, StaleBase, NoSuchUnit, TooManyUnits}
+use Rattle.fb_history.specs.Machine.{State, Call, ToCommit, ToTake, ToDeliver, ToGiveBack, ToAsk, Finds, Waits, Unknown, shown, reply, after, reaches, commit_answer, after_commit, deliver_answer, after_deliver, give_back_answer, after_give_back}
+use Rattle.fb_history.specs.Laws.{is_refusal, refuses_commit, refuses_result, refuses_return, entry_after, AgreeApartFrom}
 use Rattle.fb_history.specs.{declared.answers.Delivered.{Delivered}, declared.answers.Delivered.TheVariants.{Accepted, NoSuchKey, NotPending, Stale}}
 use Rattle.fb_history.specs.{declared.answers.GivenBack.{GivenBack}, declared.answers.GivenBack.TheVariants.{Returned, NothingOut}}
-use Rattle.fb_history.specs.Machine.{State, Call, ToCommit, ToTake, ToDeliver, ToGiveBack, ToAsk, Finds, Waits, Unknown, shown, reply, after, reaches, commit_answer, after_commit, deliver_answer, after_deliver, give_back_answer, after_give_back}
 use Rattle.fb_history.specs.{BenchView.{Origin, IsOrigin, opened, replay, empty_origin}, Due.{due_from}}
-use Rattle.fb_history.specs.Laws.{is_refusal, refuses_commit, refuses_result, refuses_return, entry_after, AgreeApartFrom}
 use Rattle.fb_history.proofs.Dues.{waits_after, waits_at_origin}
 use Rattle.fb_text.specs.Order.{name_cmp}
 use Rattle.fb_text.proofs.OrderLemmas.{is_equal}

@@ -3,11 +3,11 @@ use Rattle.std.proofs.Common.{◌≡◌, ℕ, Bool, true, false, ◌||◌, ◌&&
 use Rattle.fb_jobs.specs.{Library.Texts.{Edit, unit_of, all_edited}, declared.key.Key.{Key}, Keys.{has_key}, KeyOrder.{same_key}, Reads.{stale}}
 use Rattle.fb_history.specs.declared.answers.Committed.{Committed}
 use Rattle.fb_history.specs.declared.answers.Committed.TheVariants.{Done, NoChange, TooManyChanges, SameUnitTwice, StaleBase, NoSuchUnit, TooManyUnits}
-use Rattle.fb_history.specs.{declared.answers.Delivered.TheVariants.{NotPending}, declared.answers.GivenBack.{GivenBack}}
 use Rattle.fb_history.specs.declared.answers.GivenBack.TheVariants.{Returned, NothingOut}
 use Rattle.fb_history.specs.Machine.{State, Call, ToCommit, ToTake, ToDeliver, ToGiveBack, ToAsk, commit_answer, after_commit, after_deliver, unless_stale, after_take, next, reaches, after, give_back_answer, after_give_back}
 use Rattle.fb_history.specs.BenchView.{BenchView, Origin, IsOrigin, opened, replay, calls_of, state_of}
 use Rattle.fb_history.specs.Due.{marks, marks_done, settles, settled, due, is_due}
+use Rattle.fb_history.specs.{declared.answers.Delivered.TheVariants.{NotPending}, declared.answers.GivenBack.{GivenBack}}
 use Rattle.fb_history.specs.declared.answers.Delivered.TheVariants as delivered
 use Rattle.fb_jobs.proofs.Order.{keys_equal}
 

@@ -1,7 +1,7 @@
 -- The records by number, and their turns.
 use Rattle.std.proofs.Common.{◌≡◌, ℕ, zero, suc, ◌+◌, ◌-◌, ◌<◌, ◌==◌, ◌⊎◌, inl, inr, true, List, [], ◌∷◌, ◌++◌, length, take, refl, sym, ap, ◌∙◌, subst, arith, Option, Some, None, cond, slice_get, ◌≤◌, get_or}
-use Rattle.std.proofs.{lemmas.Option.{slice_get-map, slice_get_read, slice_get_past}, lemmas.List.{map-append}, lemmas.List.Sums.{sum_by_push}}
 use Rattle.std.proofs.lemmas.Bool.Decides.{nat_tests}
+use Rattle.std.proofs.{lemmas.Option.{slice_get-map, slice_get_read, slice_get_past}, lemmas.List.{map-append}, lemmas.List.Sums.{sum_by_push}}
 use Rattle.std.specs.{Option.{option_map}, declared.sync.Arc.{Arc}, declared.alloc.Global.{Global}}
 use Rattle.fb_history.specs.{BenchView.{Record, on_page, record_at, turns_of}, Records.{records_in}}
 

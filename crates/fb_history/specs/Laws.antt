@@ -3,9 +3,9 @@ use Rattle.std.specs.Prelude.{◌≡◌, ℕ, Bool, true, false, not, List, if�
 use Rattle.fb_jobs.specs.{Library.Texts.{Texts}, declared.key.Key.{Key}, Keys.{has_key, scratch}}
 use Rattle.fb_history.specs.declared.answers.Committed.{Committed}
 use Rattle.fb_history.specs.declared.answers.Committed.TheVariants.{Done, NoChange, TooManyChanges, SameUnitTwice, StaleBase, NoSuchUnit, TooManyUnits}
+use Rattle.fb_history.specs.Machine.{State, Call, Reply, OfCommit, OfTake, OfDeliver, OfGiveBack, OfAsk, Shown, Finds, Waits, Unknown, shown, reply, after, reaches}
 use Rattle.fb_history.specs.{declared.answers.Delivered.{Delivered}, declared.answers.Delivered.TheVariants.{Accepted, NoSuchKey, NotPending, Stale}}
 use Rattle.fb_history.specs.{declared.answers.GivenBack.{GivenBack}, declared.answers.GivenBack.TheVariants.{Returned, NothingOut}}
-use Rattle.fb_history.specs.Machine.{State, Call, Reply, OfCommit, OfTake, OfDeliver, OfGiveBack, OfAsk, Shown, Finds, Waits, Unknown, shown, reply, after, reaches}
 use Rattle.fb_history.specs.{BenchView.{Origin, opened, replay}, Due.{due_from}}
 pub use Rattle.fb_jobs.specs.Reach.{AgreeApartFrom}
 

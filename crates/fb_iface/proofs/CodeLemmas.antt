@@ -1,8 +1,7 @@
 -- Each code has a number of its own.
 use Rattle.std.specs.Prelude.{◌≡◌, List, [], ◌∷◌, slice_index_or, refl}
 use Rattle.std.proofs.Common.{ap, sym, ◌∙◌}
-use Rattle.fb_iface.specs.Code.{code_number}
-use Rattle.fb_iface.specs.declared.code.Code.{Code}
+use Rattle.fb_iface.specs.{Code.{code_number}, declared.code.Code.{Code}}
 use Rattle.fb_iface.specs.declared.code.Code.TheVariants.{Syntax, NameDiffers, Duplicate, MixedKind, UnknownType, WrongKind, WithUnknown, StateUnknown, EventUnknown, AlgorithmUnknown, VariableUnknown, Class, PortUnknown, PortSide, DataType, SecondSource, SecondAdapter, PassThrough, ParameterUnknown, Literal, MappedTwice, NoSuchResource, MemberUnknown, StructRecursive}
 
 all_codes : List Code

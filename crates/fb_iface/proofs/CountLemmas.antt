@@ -1,20 +1,13 @@
 -- Where as many names are declared first as there are declarations, none is declared again.
 use Rattle.std.proofs.Common.{◌≡◌, zero, suc, ℕ, ◌+◌, ◌<◌, ◌≤◌, Bool, true, false, cond, not, ◌||◌, List, [], ◌∷◌, ◌++◌, length, get_or, map, take, refl, sym, ap, ◌∙◌, is_some, arith, length-append}
-use Rattle.std.proofs.lemmas.List.{get_or-map, get_or_default, length-map, map-append, nil_from_length, take-map}
-use Rattle.std.proofs.lemmas.Map.Made.{is_some-lookup}
+use Rattle.std.proofs.{lemmas.List.{get_or-map, get_or_default, length-map, map-append, nil_from_length, take-map}, lemmas.Map.Made.{is_some-lookup}}
 use Rattle.std.specs.List.{flat_map, list_any}
 use Rattle.fb_tree.specs.Tree.{EventTree, InstanceTree, InterfaceTree, NetworkTree, VariablesTree, event_tree, instance_tree}
-use Rattle.fb_tree.specs.declared.interface.Event.{Event}
-use Rattle.fb_tree.specs.declared.network.Instance.{Instance}
-use Rattle.fb_tree.specs.Text.declared.name.NameUse.{NameUse}
-use Rattle.fb_iface.specs.Names.{first_ones, has_name, is_repeated, is_same, repeated, stands_for}
-use Rattle.fb_iface.specs.Ports.{events_in, instances_in, variables_together}
-use Rattle.fb_iface.specs.declared.ports.DeclaredEvent.{DeclaredEvent}
-use Rattle.fb_iface.specs.declared.ports.DeclaredInstance.{DeclaredInstance}
+use Rattle.fb_tree.specs.{declared.interface.Event.{Event}, declared.network.Instance.{Instance}, Text.declared.name.NameUse.{NameUse}}
+use Rattle.fb_iface.specs.{Names.{first_ones, has_name, is_repeated, is_same, repeated, stands_for}, Ports.{events_in, instances_in, variables_together}}
+use Rattle.fb_iface.specs.{declared.ports.DeclaredEvent.{DeclaredEvent}, declared.ports.DeclaredInstance.{DeclaredInstance}}
 use Rattle.fb_iface.specs.declared.ports.DeclaredVariable.{DeclaredVariable}
-use Rattle.fb_iface.proofs.PlaceLemmas.{passing-more}
-use Rattle.fb_iface.proofs.RepeatLemmas.{repeated_all, repeated_among}
-use Rattle.fb_iface.proofs.TableLemmas.{first-more, first_all, first_among}
+use Rattle.fb_iface.proofs.{PlaceLemmas.{passing-more}, RepeatLemmas.{repeated_all, repeated_among}, TableLemmas.{first-more, first_all, first_among}}
 use Rattle.fb_iface.proofs.TreeLemmas.{same_items}
 
 any-named : (test : List ℕ → Bool) (names : List NameUse) → list_any (λ n. test n.name) names ≡ list_any test (map (λ n. n.name) names)

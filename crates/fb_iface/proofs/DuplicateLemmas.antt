@@ -1,19 +1,12 @@
 -- A name that stands in its name space before is among the faults of declarations.
-use Rattle.std.proofs.Common.{◌≡◌, ℕ, ◌+◌, List, ◌++◌, Option, Some, sym, subst, arith}
+use Rattle.std.proofs.{Common.{◌≡◌, ℕ, ◌+◌, List, ◌++◌, Option, Some, sym, subst, arith}, lemmas.List.Elements.{Contains-append_left, Contains-append_right}}
 use Rattle.std.specs.List.{Contains, enumerate_from, filter, slice_get}
-use Rattle.std.proofs.lemmas.List.Elements.{Contains-append_left, Contains-append_right}
-use Rattle.fb_tree.specs.Text.declared.name.NameUse.{NameUse}
-use Rattle.fb_tree.specs.Tree.{DeclTree}
+use Rattle.fb_tree.specs.{Text.declared.name.NameUse.{NameUse}, Tree.{DeclTree}}
 use Rattle.fb_tree.proofs.Text.Members.{contains_filter, contains_flat_map, contains_map}
 use Rattle.fb_library.specs.View.{Sources, tree_at}
-use Rattle.fb_iface.specs.declared.code.Code.TheVariants.{Duplicate}
-use Rattle.fb_iface.specs.declared.fault.Fault.{Fault}
+use Rattle.fb_iface.specs.{declared.code.Code.TheVariants.{Duplicate}, declared.fault.Fault.{Fault}}
 use Rattle.fb_iface.specs.Declarations.{declaration_faults, duplicate_faults, iface_faults_of, literal_faults_of, mixed_faults, name_faults, space_duplicates, with_faults_of}
-use Rattle.fb_iface.specs.Fault.{fault_at}
-use Rattle.fb_iface.specs.Names.{is_repeated, repeated}
-use Rattle.fb_iface.specs.Recursion.{recursion_faults}
-use Rattle.fb_iface.specs.Spaces.{spaces_of}
-use Rattle.fb_iface.specs.Types.{type_faults}
+use Rattle.fb_iface.specs.{Fault.{fault_at}, Names.{is_repeated, repeated}, Recursion.{recursion_faults}, Spaces.{spaces_of}, Types.{type_faults}}
 use Rattle.fb_iface.proofs.EarlierLemmas.{IsEarlier, at_place, has_earlier}
 
 pub duplicate_reported : (decl : DeclTree) (space : List NameUse) (later : ℕ) (again : NameUse) → Contains (spaces_of decl) space → slice_get space later ≡ Some again → IsEarlier space later again.name → Contains (duplicate_faults decl) (fault_at Duplicate again)

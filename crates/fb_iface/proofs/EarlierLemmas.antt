@@ -1,8 +1,7 @@
 -- Names at their places in a name space.
 use Rattle.std.proofs.Common.{◌≡◌, zero, suc, ℕ, ◌+◌, ◌<◌, Bool, true, false, ◌||◌, List, [], ◌∷◌, length, get_or, take, Some, refl, sym, ap, ◌∙◌, subst, true≢false, ◌⊎◌, inl, inr, arith}
+use Rattle.std.proofs.{lemmas.List.{get_or-take, length-take}, lemmas.Option.{get_or_from_slice_get, slice_get_read, slice_get_within}}
 use Rattle.std.specs.List.{Contains, enumerate_from, slice_get}
-use Rattle.std.proofs.lemmas.List.{get_or-take, length-take}
-use Rattle.std.proofs.lemmas.Option.{get_or_from_slice_get, slice_get_read, slice_get_within}
 use Rattle.fb_tree.specs.Text.declared.name.NameUse.{NameUse}
 use Rattle.fb_iface.specs.Names.{has_name, is_same}
 use Rattle.fb_tree.proofs.Text.Members.{contains_cases, contains_here, contains_later, contains_nothing}

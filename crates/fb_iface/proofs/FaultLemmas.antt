@@ -1,8 +1,7 @@
 -- Faults that compare equal are one.
 use Rattle.std.specs.FinMap.{IsAntisymmetric, nat_cmp-IsAntisymmetric}
 use Rattle.fb_tree.proofs.Text.OrderLemmas.{both_equal}
-use Rattle.fb_iface.specs.Code.{code_number}
-use Rattle.fb_iface.specs.Fault.{fault_cmp}
+use Rattle.fb_iface.specs.{Code.{code_number}, Fault.{fault_cmp}}
 use Rattle.fb_iface.proofs.CodeLemmas.{code_number-exact}
 
 pub fault_cmp-exact : IsAntisymmetric fault_cmp

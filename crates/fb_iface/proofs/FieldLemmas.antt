@@ -1,15 +1,10 @@
 -- Names that are found among those that are carried, and one more type in the table of structures.
 use Rattle.std.proofs.Common.{◌≡◌, ℕ, Bool, true, false, cond, ◌||◌, List, [], ◌∷◌, ◌++◌, Option, Some, nat_eq, refl, sym, ap, ◌∙◌}
-use Rattle.std.specs.Cmp.{eq_by_cmp_equiv}
-use Rattle.std.specs.Cmp.Lexicographic.{nat_list_cmp_total, pointwise}
-use Rattle.std.specs.List.{list_any}
+use Rattle.std.specs.{Cmp.{eq_by_cmp_equiv}, Cmp.Lexicographic.{nat_list_cmp_total, pointwise}, List.{list_any}}
 use Rattle.fb_tree.proofs.Text.OrderLemmas.{same_name}
-use Rattle.fb_library.specs.Seen.{has_name}
-use Rattle.fb_library.specs.View.{Sources, tree_at}
+use Rattle.fb_library.specs.{Seen.{has_name}, View.{Sources, tree_at}}
 use Rattle.fb_library.proofs.SeenLemmas.{has-push, same, same_is}
-use Rattle.fb_iface.specs.Fields.{NoFields, fields_among, fields_of_tree}
-use Rattle.fb_iface.specs.KeptFields.{kept_fields}
-use Rattle.fb_iface.specs.declared.structures.KeptFields.{KeptFields}
+use Rattle.fb_iface.specs.{Fields.{NoFields, fields_among, fields_of_tree}, KeptFields.{kept_fields}, declared.structures.KeptFields.{KeptFields}}
 
 -- the equality of names is that by their order
 same_here : (x q : List ℕ) → pointwise nat_eq x q ≡ same q x

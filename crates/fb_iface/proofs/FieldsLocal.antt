@@ -1,18 +1,11 @@
 -- What further names may name, and whether a structure carries itself, depends on what is near the unit alone.
 use Rattle.std.proofs.Common.{◌≡◌, ℕ, Bool, true, false, cond, List, [], ◌∷◌, ◌++◌, if◌then◌else◌, refl, sym, ap, ◌∙◌}
-use Rattle.std.specs.FinMap.{get}
-use Rattle.std.specs.Option.{option_and_then}
+use Rattle.std.specs.{FinMap.{get}, Option.{option_and_then}}
 use Rattle.fb_tree.specs.Tree.{DeclTree, block_type, adapter_type, subapplication_type, system_configuration, structure_type}
 use Rattle.fb_tree.proofs.Text.Members.{contains_single}
-use Rattle.fb_library.specs.Local.{Agree}
-use Rattle.fb_library.specs.Near.{bases_at, carried_of, near_of}
-use Rattle.fb_library.specs.Seen.{has_name}
-use Rattle.fb_library.specs.View.{Sources, tree_of, tree_at}
-use Rattle.fb_library.proofs.Locality.{carried_local, near_base, near_carried, near_own_carried, near_unit, same_parts}
-use Rattle.fb_library.proofs.SeenLemmas.{Contains-has}
-use Rattle.fb_iface.specs.Fault.{fault_at}
-use Rattle.fb_iface.specs.Fields.{NoFields, fields_among, fields_near, fields_of_tree}
-use Rattle.fb_iface.specs.Recursion.{carries_itself, recursion_faults}
+use Rattle.fb_library.specs.{Local.{Agree}, Near.{bases_at, carried_of, near_of}, Seen.{has_name}, View.{Sources, tree_of, tree_at}}
+use Rattle.fb_library.proofs.{Locality.{carried_local, near_base, near_carried, near_own_carried, near_unit, same_parts}, SeenLemmas.{Contains-has}}
+use Rattle.fb_iface.specs.{Fault.{fault_at}, Fields.{NoFields, fields_among, fields_near, fields_of_tree}, Recursion.{carries_itself, recursion_faults}}
 use Rattle.fb_iface.specs.declared.code.Code.TheVariants.{StructRecursive}
 
 module _ (a b : Sources) where

@@ -1,12 +1,9 @@
 -- Names that stand in a list.
-use Rattle.std.proofs.Common.{◌≡◌, ◌≢◌, ℕ, Bool, true, false, ◌||◌, List, [], ◌∷◌, refl, sym, ap, ◌∙◌, true≢false, ◌⊎◌, inl, inr}
-use Rattle.std.specs.Cmp.Lexicographic.{bytes_decides, same_text}
-use Rattle.std.specs.List.{Contains}
-use Rattle.std.proofs.Math.Bool.{or-true}
+use Rattle.std.proofs.{Common.{◌≡◌, ◌≢◌, ℕ, Bool, true, false, ◌||◌, List, [], ◌∷◌, refl, sym, ap, ◌∙◌, true≢false, ◌⊎◌, inl, inr}, Math.Bool.{or-true}}
+use Rattle.std.specs.{Cmp.Lexicographic.{bytes_decides, same_text}, List.{Contains}}
 use Rattle.fb_tree.specs.Text.declared.name.NameUse.{NameUse}
-use Rattle.fb_tree.proofs.Text.OrderLemmas.{same_name}
+use Rattle.fb_tree.proofs.{Text.OrderLemmas.{same_name}, Text.Members.{contains_cases, contains_here, contains_later, contains_nothing}}
 use Rattle.fb_iface.specs.Names.{has_name, is_same}
-use Rattle.fb_tree.proofs.Text.Members.{contains_cases, contains_here, contains_later, contains_nothing}
 
 pub same_exact : (a b : List ℕ) → is_same a b ≡ true → a ≡ b
 same_exact a b e = same_text a b (sym (same_name a b ∙ e))

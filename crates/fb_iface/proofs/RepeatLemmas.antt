@@ -1,15 +1,11 @@
 -- One more name in a name space.
 use Rattle.std.proofs.Common.{◌≡◌, ℕ, ◌+◌, ◌<◌, Bool, true, false, cond, ◌||◌, List, [], ◌∷◌, ◌++◌, length, get_or, take, refl, sym, ap, ◌∙◌, append-nil, nat_eq, arith}
-use Rattle.std.specs.Cmp.Lexicographic.{pointwise}
-use Rattle.std.specs.HashSet.{HashSet, contains, Updates}
-use Rattle.std.proofs.Math.Bool.{or-false, or_assoc}
-use Rattle.std.proofs.lemmas.List.{map-append}
+use Rattle.std.proofs.{Math.Bool.{or-false, or_assoc}, lemmas.List.{map-append}}
+use Rattle.std.specs.{Cmp.Lexicographic.{pointwise}, HashSet.{HashSet, contains, Updates}}
 use Rattle.fb_tree.proofs.Text.OrderLemmas.{same_name}
 use Rattle.fb_tree.specs.Text.declared.name.NameUse.{NameUse}
-use Rattle.fb_iface.specs.declared.code.Code.{Code}
-use Rattle.fb_iface.specs.Fault.{fault_at, faults_at}
+use Rattle.fb_iface.specs.{declared.code.Code.{Code}, Fault.{fault_at, faults_at}, Names.{has_name, is_repeated, is_same, repeated}}
 use Rattle.fb_iface.proofs.PlaceLemmas.{passing, passing-all, passing-more}
-use Rattle.fb_iface.specs.Names.{has_name, is_repeated, is_same, repeated}
 
 has_name-push : (xs : List NameUse) (x : NameUse) (q : List ℕ) → has_name (xs ++ x ∷ []) q ≡ (has_name xs q || is_same x.name q)
 has_name-push [] x q = or-false (is_same x.name q)

@@ -1,18 +1,12 @@
 -- One more type in the table of a scope.
 use Rattle.std.proofs.Common.{◌≡◌, ℕ, Bool, true, false, cond, ◌||◌, List, [], ◌∷◌, ◌++◌, refl, sym, ap, ◌∙◌, Option, Some, None, map, nat_eq, option_map, is_some}
 use Rattle.std.proofs.lemmas.List.Folds.{list_any-append}
-use Rattle.std.specs.Option.{option_or}
-use Rattle.std.specs.Cmp.Lexicographic.{pointwise}
+use Rattle.std.specs.{Option.{option_or}, Cmp.Lexicographic.{pointwise}}
 use Rattle.fb_tree.proofs.Text.OrderLemmas.{same_name}
-use Rattle.fb_tree.specs.Text.declared.name.NameUse.{NameUse}
-use Rattle.fb_tree.specs.Tree.{DeclTree, instance_tree}
-use Rattle.fb_tree.specs.declared.network.Instance.{Instance}
+use Rattle.fb_tree.specs.{Text.declared.name.NameUse.{NameUse}, Tree.{DeclTree, instance_tree}, declared.network.Instance.{Instance}}
 use Rattle.fb_tree.specs.declared.network.Role.{Role}
 use Rattle.fb_iface.proofs.TableLemmas.{is_it, none}
-use Rattle.fb_iface.specs.Kept.{kept_of, kept_ports, with_type}
-use Rattle.fb_iface.specs.Names.{has_name, is_same}
-use Rattle.fb_iface.specs.Scope.{usable}
-use Rattle.fb_iface.specs.declared.scope.TypePorts.{TypePorts}
+use Rattle.fb_iface.specs.{Kept.{kept_of, kept_ports, with_type}, Names.{has_name, is_same}, Scope.{usable}, declared.scope.TypePorts.{TypePorts}}
 
 or-false : (b : Bool) → b || false ≡ b
 or-false true = refl

@@ -1,20 +1,14 @@
 -- What names stand for in a network depends on the texts of the types that it mentions alone.
 use Rattle.std.proofs.Common.{◌≡◌, ℕ, Bool, true, false, cond, ◌||◌, List, [], ◌∷◌, None, map, refl, ap, sym, subst, true≢false, arith}
-use Rattle.std.specs.FinMap.{get, slice_cmp-IsAntisymmetric, nat_cmp-IsAntisymmetric}
-use Rattle.std.specs.Cmp.Lexicographic.{nat_list_cmp_total}
-use Rattle.std.specs.List.{Contains}
+use Rattle.std.proofs.{lemmas.List.Elements.{Contains-append_right}, lemmas.Simd.{map-map}}
+use Rattle.std.specs.{FinMap.{get, slice_cmp-IsAntisymmetric, nat_cmp-IsAntisymmetric}, Cmp.Lexicographic.{nat_list_cmp_total}, List.{Contains}}
 use Rattle.std.specs.Option.{option_and_then}
-use Rattle.std.proofs.lemmas.List.Elements.{Contains-append_right}
-use Rattle.std.proofs.lemmas.Simd.{map-map}
-use Rattle.fb_tree.specs.Text.Order.{name_cmp, names_in_order}
-use Rattle.fb_tree.specs.Text.declared.name.NameUse.{NameUse}
-use Rattle.fb_tree.proofs.Text.OrderLemmas.{in_order-members}
-use Rattle.fb_tree.specs.Mentions.{types_in}
+use Rattle.fb_tree.specs.{Text.Order.{name_cmp, names_in_order}, Text.declared.name.NameUse.{NameUse}, Mentions.{types_in}}
 use Rattle.fb_tree.specs.Tree.{InstanceTree, NetworkTree, TypeTree}
+use Rattle.fb_tree.proofs.Text.OrderLemmas.{in_order-members}
 use Rattle.fb_library.specs.View.{Sources, tree_at, tree_of}
 use Rattle.fb_iface.proofs.TableLemmas.{is_it}
-use Rattle.fb_iface.specs.Names.{has_name, is_same}
-use Rattle.fb_iface.specs.Ports.{meanings_in_network, meanings_in_type}
+use Rattle.fb_iface.specs.{Names.{has_name, is_same}, Ports.{meanings_in_network, meanings_in_type}}
 use Rattle.fb_iface.specs.Scope.{mentioned_type, scope_of_network, scope_of_type, usable}
 
 -- a list in order has its members

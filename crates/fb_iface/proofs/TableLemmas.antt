@@ -1,10 +1,7 @@
 -- One more declaration in a table of first declarations.
 use Rattle.std.proofs.Common.{◌≡◌, zero, suc, ℕ, Bool, true, false, cond, not, nat_eq, ◌+◌, ◌<◌, ◌≤◌, length, get_or, take, is_none, List, [], ◌∷◌, ◌++◌, append-nil, refl, sym, ap, ◌∙◌, Option, Some, None, is_some, arith}
-use Rattle.std.proofs.Math.Seq.{take-suc}
-use Rattle.std.proofs.lemmas.List.{get_or_default, take_all}
-use Rattle.std.specs.Option.{option_or}
-use Rattle.std.specs.Cmp.Lexicographic.{pointwise, nat_list_eq_equiv, same_text}
-use Rattle.std.specs.Map.{lookup}
+use Rattle.std.proofs.{Math.Seq.{take-suc}, lemmas.List.{get_or_default, take_all}}
+use Rattle.std.specs.{Option.{option_or}, Cmp.Lexicographic.{pointwise, nat_list_eq_equiv, same_text}, Map.{lookup}}
 use Rattle.indexmap.specs.IndexMap.{insert_entry}
 use Rattle.fb_tree.proofs.Text.OrderLemmas.{same_name}
 use Rattle.fb_iface.proofs.PlaceLemmas.{passing, passing-all, passing-more}

@@ -1,20 +1,13 @@
 -- The faults of a declaration are those of its mirror without memory.
-use Rattle.std.proofs.Common.{◌≡◌, List, [], ◌∷◌, ◌++◌, map, refl, sym, ap, ◌∙◌, append-nil, append_assoc}
-use Rattle.std.specs.List.{flat_map}
-use Rattle.std.proofs.lemmas.Grind.{flat_map-append}
+use Rattle.std.proofs.{Common.{◌≡◌, List, [], ◌∷◌, ◌++◌, map, refl, sym, ap, ◌∙◌, append-nil, append_assoc}, lemmas.Grind.{flat_map-append}}
 use Rattle.std.proofs.lemmas.List.Folds.{flat_map-map}
+use Rattle.std.specs.List.{flat_map}
 use Rattle.fb_tree.specs.Text.declared.name.NameUse.{NameUse}
 use Rattle.fb_tree.specs.Tree.{InstanceTree, algorithm_tree, application_tree, chart_tree, device_tree, event_tree, instance_tree, interface_tree, network_tree, parameter_tree, resource_tree, state_tree, structure_tree, system_tree, variables_tree}
-use Rattle.fb_tree.specs.declared.chart.Chart.{Chart}
-use Rattle.fb_tree.specs.declared.interface.Interface.{Interface}
-use Rattle.fb_tree.specs.declared.network.Network.{Network}
-use Rattle.fb_tree.specs.declared.network.Parameter.{Parameter}
-use Rattle.fb_tree.specs.declared.structure.Structure.{Structure}
-use Rattle.fb_tree.specs.declared.system.Application.{Application}
-use Rattle.fb_tree.specs.declared.system.Device.{Device}
-use Rattle.fb_tree.specs.declared.system.System.{System}
-use Rattle.fb_iface.specs.declared.fault.Fault.{Fault}
-use Rattle.fb_iface.specs.Declarations.{space_duplicates}
+use Rattle.fb_tree.specs.{declared.chart.Chart.{Chart}, declared.interface.Interface.{Interface}, declared.network.Network.{Network}}
+use Rattle.fb_tree.specs.{declared.network.Parameter.{Parameter}, declared.structure.Structure.{Structure}, declared.system.Application.{Application}}
+use Rattle.fb_tree.specs.{declared.system.Device.{Device}, declared.system.System.{System}}
+use Rattle.fb_iface.specs.{declared.fault.Fault.{Fault}, Declarations.{space_duplicates}}
 use Rattle.fb_iface.specs.Spaces.{chart_spaces, interface_spaces, network_spaces, parameter_names, resource_names, structure_spaces, system_spaces}
 
 -- the same of each item

@@ -1,17 +1,12 @@
 -- Classes of types and constants.
 use Rattle.std.specs.Prelude.{ℕ, Bool, true, false, List}
-use Rattle.fb_tree.specs.Text.Elementary.{type_class_of}
-use Rattle.fb_tree.specs.Text.declared.elementary.TypeClass.{TypeClass}
+use Rattle.fb_tree.specs.{Text.Elementary.{type_class_of}, Text.declared.elementary.TypeClass.{TypeClass}, declared.constant.LiteralForm.{LiteralForm}}
+use Rattle.fb_tree.specs.{declared.constant.Simple.{Simple}, declared.interface.TypeForm.{TypeForm}, declared.interface.TypeUse.{TypeUse}}
 use Rattle.fb_tree.specs.Text.declared.elementary.TypeClass.TheVariants as types
-use Rattle.fb_tree.specs.declared.constant.LiteralForm.{LiteralForm}
 use Rattle.fb_tree.specs.declared.constant.LiteralForm.TheVariants as literals
-use Rattle.fb_tree.specs.declared.constant.Simple.{Simple}
 use Rattle.fb_tree.specs.declared.constant.Simple.TheVariants as constants
-use Rattle.fb_tree.specs.declared.interface.TypeForm.{TypeForm}
 use Rattle.fb_tree.specs.declared.interface.TypeForm.TheVariants as forms
-use Rattle.fb_tree.specs.declared.interface.TypeUse.{TypeUse}
-use Rattle.fb_iface.specs.declared.classes.Class.{Class}
-use Rattle.fb_iface.specs.declared.classes.Class.TheVariants.{B, I, W, O, Free, Num, Any}
+use Rattle.fb_iface.specs.{declared.classes.Class.{Class}, declared.classes.Class.TheVariants.{B, I, W, O, Free, Num, Any}}
 
 abbrev pub named_class : TypeClass → Class
 named_class types.Truth = B

@@ -1,17 +1,10 @@
 -- The faults of what a unit declares.
-use Rattle.std.specs.Prelude.{ℕ, ◌&&◌, List, [], ◌∷◌, ◌++◌, Option, Some, None, if◌then◌else◌}
-use Rattle.std.specs.List.{flat_map}
+use Rattle.std.specs.{Prelude.{ℕ, ◌&&◌, List, [], ◌∷◌, ◌++◌, Option, Some, None, if◌then◌else◌}, List.{flat_map}}
 use Rattle.fb_tree.specs.Text.declared.name.NameUse.{NameUse}
 use Rattle.fb_tree.specs.Tree.{DeclTree, VariablesTree, block_type, adapter_type, subapplication_type, system_configuration, structure_type}
 use Rattle.fb_library.specs.View.{Sources, tree_at}
-use Rattle.fb_iface.specs.declared.code.Code.TheVariants.{NameDiffers, Duplicate, MixedKind}
-use Rattle.fb_iface.specs.declared.fault.Fault.{Fault}
-use Rattle.fb_iface.specs.Fault.{fault_at, faults_at}
-use Rattle.fb_iface.specs.Literals.{literal_faults}
-use Rattle.fb_iface.specs.Types.{type_faults}
-use Rattle.fb_iface.specs.Names.{is_same, repeated}
-use Rattle.fb_iface.specs.Recursion.{recursion_faults}
-use Rattle.fb_iface.specs.Spaces.{spaces_of}
+use Rattle.fb_iface.specs.{declared.code.Code.TheVariants.{NameDiffers, Duplicate, MixedKind}, declared.fault.Fault.{Fault}, Fault.{fault_at, faults_at}}
+use Rattle.fb_iface.specs.{Literals.{literal_faults}, Types.{type_faults}, Names.{is_same, repeated}, Recursion.{recursion_faults}, Spaces.{spaces_of}}
 use Rattle.fb_iface.specs.Withs.{with_faults}
 
 -- the name that a text declares

@@ -1,13 +1,8 @@
 -- Faults, in the order of their places and then of their codes.
-use Rattle.std.specs.Prelude.{List, map}
-use Rattle.std.specs.declared.cmp.Ordering.{Ordering}
-use Rattle.std.specs.Ordering.{nat_cmp, on, then_cmp}
+use Rattle.std.specs.{Prelude.{List, map}, declared.cmp.Ordering.{Ordering}, Ordering.{nat_cmp, on, then_cmp}}
 use Rattle.std.specs.Cmp.{IsTotalOrder, then_total, on_total, nat_cmp_total}
-use Rattle.fb_tree.specs.Text.Order.{in_order}
-use Rattle.fb_tree.specs.Text.declared.name.NameUse.{NameUse}
-use Rattle.fb_iface.specs.declared.code.Code.{Code}
-use Rattle.fb_iface.specs.declared.fault.Fault.{Fault}
-use Rattle.fb_iface.specs.Code.{code_number}
+use Rattle.fb_tree.specs.{Text.Order.{in_order}, Text.declared.name.NameUse.{NameUse}}
+use Rattle.fb_iface.specs.{declared.code.Code.{Code}, declared.fault.Fault.{Fault}, Code.{code_number}}
 
 -- a fault at a name
 abbrev pub fault_at : Code → NameUse → Fault

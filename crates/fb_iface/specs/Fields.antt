@@ -1,13 +1,8 @@
 -- What further names of a reference may name: the fields of structures.
-use Rattle.std.specs.Prelude.{ℕ, List, Option, Some, None, if◌then◌else◌}
-use Rattle.std.specs.List.{flat_map}
+use Rattle.std.specs.{Prelude.{ℕ, List, Option, Some, None, if◌then◌else◌}, List.{flat_map}}
 use Rattle.fb_tree.specs.Tree.{DeclTree, StructureTree, block_type, adapter_type, subapplication_type, system_configuration, structure_type}
-use Rattle.fb_library.specs.Near.{bases_at, carried_of}
-use Rattle.fb_library.specs.Seen.{has_name}
-use Rattle.fb_library.specs.View.{Sources, tree_at}
-use Rattle.fb_iface.specs.Names.{first_ones}
-use Rattle.fb_iface.specs.Ports.{variables_together}
-use Rattle.fb_iface.specs.declared.ports.DeclaredVariable.{DeclaredVariable}
+use Rattle.fb_library.specs.{Near.{bases_at, carried_of}, Seen.{has_name}, View.{Sources, tree_at}}
+use Rattle.fb_iface.specs.{Names.{first_ones}, Ports.{variables_together}, declared.ports.DeclaredVariable.{DeclaredVariable}}
 
 -- what a further name may name after a plain type
 pub data Fields : Type 0 where

@@ -1,14 +1,7 @@
 -- The types that a scope keeps.
-use Rattle.std.specs.Prelude.{ℕ, List, Option, Some, None, cond, nat_eq, option_map}
-use Rattle.std.specs.Option.{option_or}
-use Rattle.std.specs.Cmp.Lexicographic.{pointwise}
-use Rattle.fb_tree.specs.Tree.{DeclTree}
-use Rattle.fb_tree.specs.Mentions.{unit_kind_of}
-use Rattle.fb_tree.specs.declared.network.Role.{Role}
-use Rattle.fb_iface.specs.Ports.{Meanings, meanings_in}
-use Rattle.std.specs.HashMap.{get}
-use Rattle.fb_iface.specs.Scope.{Scope, ports_where}
-use Rattle.fb_iface.specs.declared.scope.TypePorts.{TypePorts}
+use Rattle.std.specs.{Prelude.{ℕ, List, Option, Some, None, cond, nat_eq, option_map}, Option.{option_or}, Cmp.Lexicographic.{pointwise}, HashMap.{get}}
+use Rattle.fb_tree.specs.{Tree.{DeclTree}, Mentions.{unit_kind_of}, declared.network.Role.{Role}}
+use Rattle.fb_iface.specs.{Ports.{Meanings, meanings_in}, Scope.{Scope, ports_where}, declared.scope.TypePorts.{TypePorts}}
 use Rattle.fb_iface.specs.declared.scope.Scope as kept
 
 -- what is kept of a type

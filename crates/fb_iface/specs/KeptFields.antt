@@ -1,13 +1,9 @@
 -- The types of values that are kept for references.
-use Rattle.std.specs.Prelude.{ℕ, List, Option, Some, None, nat_eq}
-use Rattle.std.specs.Cmp.Lexicographic.{pointwise}
-use Rattle.std.specs.HashMap.{get}
-use Rattle.fb_iface.specs.Fields.{Fields, NotJudged, NoFields, HasFields}
-use Rattle.fb_iface.specs.declared.structures.Behind.{Behind}
-use Rattle.fb_iface.specs.declared.structures.Behind.TheVariants as behind
-use Rattle.fb_iface.specs.declared.structures.KeptFields.{KeptFields}
-use Rattle.fb_iface.specs.declared.structures.KeptFields.TheVariants as kept
+use Rattle.std.specs.{Prelude.{ℕ, List, Option, Some, None, nat_eq}, Cmp.Lexicographic.{pointwise}, HashMap.{get}}
+use Rattle.fb_iface.specs.{Fields.{Fields, NotJudged, NoFields, HasFields}, declared.structures.Behind.{Behind}, declared.structures.KeptFields.{KeptFields}}
 use Rattle.fb_iface.specs.declared.structures.Structures.{Structures}
+use Rattle.fb_iface.specs.declared.structures.Behind.TheVariants as behind
+use Rattle.fb_iface.specs.declared.structures.KeptFields.TheVariants as kept
 
 -- what may be named behind a type of which this is kept; nothing where nothing is kept
 abbrev pub kept_fields : Option KeptFields → Fields

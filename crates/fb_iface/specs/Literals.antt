@@ -1,16 +1,9 @@
 -- Constants that don't fit their type.
-use Rattle.std.specs.Prelude.{Bool, List, [], ◌∷◌, not, map, filter, if◌then◌else◌}
-use Rattle.std.specs.List.{flat_map}
-use Rattle.std.specs.Option.{option_map_or}
-use Rattle.fb_tree.specs.Text.declared.token.Span.{Span}
-use Rattle.fb_tree.specs.Tree.{ConstantTree, one_value, value_list, value_span, VariablesTree}
-use Rattle.fb_tree.specs.declared.constant.Simple.{Simple}
-use Rattle.fb_tree.specs.declared.interface.TypeForm.{TypeForm}
+use Rattle.std.specs.{Prelude.{Bool, List, [], ◌∷◌, not, map, filter, if◌then◌else◌}, List.{flat_map}, Option.{option_map_or}}
+use Rattle.fb_tree.specs.{Text.declared.token.Span.{Span}, Tree.{ConstantTree, one_value, value_list, value_span, VariablesTree}}
+use Rattle.fb_tree.specs.{declared.constant.Simple.{Simple}, declared.interface.TypeForm.{TypeForm}, declared.interface.TypeUse.{TypeUse}}
 use Rattle.fb_tree.specs.declared.interface.TypeForm.TheVariants as forms
-use Rattle.fb_tree.specs.declared.interface.TypeUse.{TypeUse}
-use Rattle.fb_iface.specs.declared.classes.Class.{Class}
-use Rattle.fb_iface.specs.declared.code.Code.TheVariants.{Literal}
-use Rattle.fb_iface.specs.declared.fault.Fault.{Fault}
+use Rattle.fb_iface.specs.{declared.classes.Class.{Class}, declared.code.Code.TheVariants.{Literal}, declared.fault.Fault.{Fault}}
 use Rattle.fb_iface.specs.Class.{class_of_name, class_of_simple, class_of_type, is_free, takes}
 
 abbrev pub literal_fault : Span → Fault

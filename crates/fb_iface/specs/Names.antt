@@ -1,10 +1,7 @@
 -- What a name stands for in a name space, where it may be declared more than once.
-use Rattle.std.specs.Prelude.{ℕ, Bool, List, [], ◌∷◌, ◌++◌, take, map, filter, Option, is_none, is_some, if◌then◌else◌}
-use Rattle.std.specs.List.{list_any, enumerate_from}
-use Rattle.std.specs.Map.{lookup}
-use Rattle.std.specs.BTreeMap.{is_at}
-use Rattle.fb_tree.specs.Text.Order.{name_cmp}
-use Rattle.fb_tree.specs.Text.declared.name.NameUse.{NameUse}
+use Rattle.std.specs.{Prelude.{ℕ, Bool, List, [], ◌∷◌, ◌++◌, take, map, filter, Option, is_none, is_some, if◌then◌else◌}, List.{list_any, enumerate_from}}
+use Rattle.std.specs.{Map.{lookup}, BTreeMap.{is_at}}
+use Rattle.fb_tree.specs.{Text.Order.{name_cmp}, Text.declared.name.NameUse.{NameUse}}
 
 -- whether two names are the same
 abbrev pub is_same : List ℕ → List ℕ → Bool

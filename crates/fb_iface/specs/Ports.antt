@@ -1,19 +1,13 @@
 -- What the names of a unit stand for.
-use Rattle.std.specs.Prelude.{ℕ, Bool, true, false, List, [], map, filter, Option, option_map}
-use Rattle.std.specs.List.{flat_map}
+use Rattle.std.specs.{Prelude.{ℕ, Bool, true, false, List, [], map, filter, Option, option_map}, List.{flat_map}}
 use Rattle.fb_tree.specs.Text.declared.name.NameUse.{NameUse}
 use Rattle.fb_tree.specs.Tree.{DeclTree, InterfaceTree, NetworkTree, TypeTree, VariablesTree, block_type, adapter_type, subapplication_type, system_configuration, structure_type}
-use Rattle.fb_tree.specs.declared.interface.Side.{Side}
+use Rattle.fb_tree.specs.{declared.interface.Side.{Side}, declared.interface.TypeUse.{TypeUse}, declared.network.Role.{Role}}
 use Rattle.fb_tree.specs.declared.interface.Side.TheVariants as sides
-use Rattle.fb_tree.specs.declared.interface.TypeUse.{TypeUse}
-use Rattle.fb_tree.specs.declared.network.Role.{Role}
 use Rattle.fb_tree.specs.declared.network.Role.TheVariants as roles
 use Rattle.fb_library.specs.View.{tree_of}
-use Rattle.fb_iface.specs.declared.ports.DeclaredEvent.{DeclaredEvent}
-use Rattle.fb_iface.specs.declared.ports.DeclaredInstance.{DeclaredInstance}
-use Rattle.fb_iface.specs.declared.ports.DeclaredVariable.{DeclaredVariable}
-use Rattle.fb_iface.specs.Names.{first_ones}
-use Rattle.fb_iface.specs.Sides.{is_data_on}
+use Rattle.fb_iface.specs.{declared.ports.DeclaredEvent.{DeclaredEvent}, declared.ports.DeclaredInstance.{DeclaredInstance}}
+use Rattle.fb_iface.specs.{declared.ports.DeclaredVariable.{DeclaredVariable}, Names.{first_ones}, Sides.{is_data_on}}
 
 -- the events of an interface, in the order of the text
 abbrev pub events_in : InterfaceTree → List (List ℕ × DeclaredEvent)

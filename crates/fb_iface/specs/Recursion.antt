@@ -1,12 +1,8 @@
 -- Structures that carry themselves.
 use Rattle.std.specs.Prelude.{ℕ, Bool, List, [], ◌∷◌, if◌then◌else◌}
 use Rattle.fb_tree.specs.Tree.{DeclTree, block_type, adapter_type, subapplication_type, system_configuration, structure_type}
-use Rattle.fb_library.specs.Near.{carried_of}
-use Rattle.fb_library.specs.Seen.{has_name}
-use Rattle.fb_library.specs.View.{Sources}
-use Rattle.fb_iface.specs.declared.code.Code.TheVariants.{StructRecursive}
-use Rattle.fb_iface.specs.declared.fault.Fault.{Fault}
-use Rattle.fb_iface.specs.Fault.{fault_at}
+use Rattle.fb_library.specs.{Near.{carried_of}, Seen.{has_name}, View.{Sources}}
+use Rattle.fb_iface.specs.{declared.code.Code.TheVariants.{StructRecursive}, declared.fault.Fault.{Fault}, Fault.{fault_at}}
 
 abbrev pub carries_itself : Sources → List ℕ → Bool
 carries_itself sources unit = has_name (carried_of sources (unit ∷ [])) unit

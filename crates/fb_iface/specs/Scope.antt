@@ -1,14 +1,9 @@
 -- What names stand for in a network: the unit's own names, and the ports of the types of its instances.
-use Rattle.std.specs.Prelude.{ℕ, List, map, Option, Some, None, if◌then◌else◌}
-use Rattle.std.specs.Option.{option_and_then}
-use Rattle.fb_tree.specs.Tree.{DeclTree, InstanceTree, NetworkTree, TypeTree}
-use Rattle.fb_tree.specs.Mentions.{unit_kind_of}
-use Rattle.fb_tree.specs.declared.kinds.UnitKind.{UnitKind}
+use Rattle.std.specs.{Prelude.{ℕ, List, map, Option, Some, None, if◌then◌else◌}, Option.{option_and_then}}
+use Rattle.fb_tree.specs.{Tree.{DeclTree, InstanceTree, NetworkTree, TypeTree}, Mentions.{unit_kind_of}, declared.kinds.UnitKind.{UnitKind}}
 use Rattle.fb_tree.specs.declared.network.Role.{Role}
 use Rattle.fb_library.specs.View.{Sources, tree_at}
-use Rattle.fb_iface.specs.Names.{has_name, stands_for}
-use Rattle.fb_iface.specs.Ports.{Meanings, meanings_in, meanings_in_network, meanings_in_type}
-use Rattle.fb_iface.specs.Types.{suits}
+use Rattle.fb_iface.specs.{Names.{has_name, stands_for}, Ports.{Meanings, meanings_in, meanings_in_network, meanings_in_type}, Types.{suits}}
 use Rattle.fb_iface.specs.declared.ports.DeclaredInstance.{DeclaredInstance}
 
 -- the ports of a type of this kind, where the section wants it

@@ -1,8 +1,7 @@
 -- Which variables are data of a side, and which data go with which events.
 use Rattle.std.specs.Prelude.{Bool, true, false}
-use Rattle.fb_tree.specs.declared.interface.Side.{Side}
+use Rattle.fb_tree.specs.{declared.interface.Side.{Side}, declared.interface.Section.{Section}}
 use Rattle.fb_tree.specs.declared.interface.Side.TheVariants as sides
-use Rattle.fb_tree.specs.declared.interface.Section.{Section}
 use Rattle.fb_tree.specs.declared.interface.Section.TheVariants as sections
 
 -- whether the variables of a section are data of a side: data inputs, or data outputs; internal variables and fields are of none

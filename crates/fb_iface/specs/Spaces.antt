@@ -1,8 +1,6 @@
 -- The name spaces of a unit: the names that each declares, in the order of the text.
-use Rattle.std.specs.Prelude.{Bool, true, false, List, [], ◌∷◌, ◌++◌, map, if◌then◌else◌}
-use Rattle.std.specs.List.{flat_map}
-use Rattle.fb_tree.specs.Text.declared.name.NameUse.{NameUse}
-use Rattle.fb_tree.specs.declared.network.Role.{Role}
+use Rattle.std.specs.{Prelude.{Bool, true, false, List, [], ◌∷◌, ◌++◌, map, if◌then◌else◌}, List.{flat_map}}
+use Rattle.fb_tree.specs.{Text.declared.name.NameUse.{NameUse}, declared.network.Role.{Role}}
 use Rattle.fb_tree.specs.declared.network.Role.TheVariants.{Plug, Socket, Block, Subapplication}
 use Rattle.fb_tree.specs.Tree.{InterfaceTree, InstanceTree, NetworkTree, ChartTree, DeviceTree, TypeTree, SystemTree, StructureTree, DeclTree, block_type, adapter_type, subapplication_type, system_configuration, structure_type}
 

@@ -1,17 +1,12 @@
 -- The types of instances, plugs and sockets.
-use Rattle.std.specs.Prelude.{Bool, true, false, List, [], ◌∷◌, Option, Some, None, if◌then◌else◌}
-use Rattle.std.specs.List.{flat_map}
-use Rattle.fb_tree.specs.Text.declared.name.NameUse.{NameUse}
-use Rattle.fb_tree.specs.Mentions.{unit_kind_of}
+use Rattle.std.specs.{Prelude.{Bool, true, false, List, [], ◌∷◌, Option, Some, None, if◌then◌else◌}, List.{flat_map}}
+use Rattle.fb_tree.specs.{Text.declared.name.NameUse.{NameUse}, Mentions.{unit_kind_of}}
 use Rattle.fb_tree.specs.Tree.{DeclTree, InstanceTree, block_type, adapter_type, subapplication_type, system_configuration, structure_type}
-use Rattle.fb_tree.specs.declared.kinds.UnitKind.{UnitKind}
+use Rattle.fb_tree.specs.{declared.kinds.UnitKind.{UnitKind}, declared.network.Role.{Role}}
 use Rattle.fb_tree.specs.declared.kinds.UnitKind.TheVariants as kinds
-use Rattle.fb_tree.specs.declared.network.Role.{Role}
 use Rattle.fb_tree.specs.declared.network.Role.TheVariants as roles
 use Rattle.fb_library.specs.View.{Sources, tree_at}
-use Rattle.fb_iface.specs.declared.code.Code.TheVariants.{UnknownType, WrongKind}
-use Rattle.fb_iface.specs.declared.fault.Fault.{Fault}
-use Rattle.fb_iface.specs.Fault.{fault_at}
+use Rattle.fb_iface.specs.{declared.code.Code.TheVariants.{UnknownType, WrongKind}, declared.fault.Fault.{Fault}, Fault.{fault_at}}
 
 -- the instances of a unit, plugs and sockets among them
 abbrev pub instances_of : DeclTree → List InstanceTree

@@ -1,15 +1,8 @@
 -- Names behind WITH.
-use Rattle.std.specs.Prelude.{ℕ, Bool, false, not, List, filter, Option, Some, None}
-use Rattle.std.specs.List.{flat_map}
-use Rattle.fb_tree.specs.Tree.{EventTree, InterfaceTree}
-use Rattle.fb_tree.specs.declared.interface.Side.{Side}
-use Rattle.fb_iface.specs.declared.code.Code.TheVariants.{WithUnknown}
-use Rattle.fb_iface.specs.declared.ports.DeclaredVariable.{DeclaredVariable}
-use Rattle.fb_iface.specs.declared.fault.Fault.{Fault}
-use Rattle.fb_iface.specs.Ports.{variables_in}
-use Rattle.fb_iface.specs.Fault.{faults_at}
-use Rattle.fb_iface.specs.Names.{stands_for}
-use Rattle.fb_iface.specs.Sides.{goes_with}
+use Rattle.std.specs.{Prelude.{ℕ, Bool, false, not, List, filter, Option, Some, None}, List.{flat_map}}
+use Rattle.fb_tree.specs.{Tree.{EventTree, InterfaceTree}, declared.interface.Side.{Side}}
+use Rattle.fb_iface.specs.{declared.code.Code.TheVariants.{WithUnknown}, declared.ports.DeclaredVariable.{DeclaredVariable}, declared.fault.Fault.{Fault}}
+use Rattle.fb_iface.specs.{Ports.{variables_in}, Fault.{faults_at}, Names.{stands_for}, Sides.{goes_with}}
 
 -- whether what a name means goes along with an event of this side
 abbrev pub goes_along : Side → Option DeclaredVariable → Bool

@@ -1,8 +1,7 @@
 //! The check of what a unit declares.
 ghost use Rattle.std.specs.Prelude.{◌≡◌, ◌++◌, IfOk, OnOk, Some};
 ghost use Rattle.fb_tree.specs.Tree.{decl_tree};
-ghost use Rattle.fb_iface.specs.Declarations.{declaration_faults, declared_name, iface_faults_of, mixed_faults, name_faults};
-ghost use Rattle.fb_iface.specs.Fault.{faults_in_order};
+ghost use Rattle.fb_iface.specs.{Declarations.{declaration_faults, declared_name, iface_faults_of, mixed_faults, name_faults}, Fault.{faults_in_order}};
 ghost use Rattle.fb_iface.specs.Ports.{meanings_in};
 
 use crate::code::Code;

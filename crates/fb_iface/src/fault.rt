@@ -1,6 +1,5 @@
 //! Faults in their order.
-ghost use Rattle.std.specs.Prelude.{◌≡◌, IfOk, refl};
-ghost use Rattle.std.specs.Ordering.{eq_by_cmp, as_partial_cmp};
+ghost use Rattle.std.specs.{Prelude.{◌≡◌, IfOk, refl}, Ordering.{eq_by_cmp, as_partial_cmp}};
 ghost use Rattle.std.specs.Cmp.{eq_by_cmp_equiv, partial_equiv_from_equiv, partial_order_from_total};
 ghost use Rattle.fb_iface.specs.Fault.{fault_at, fault_cmp, fault_cmp_total, faults_in_order};
 

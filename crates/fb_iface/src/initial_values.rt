@@ -1,8 +1,7 @@
 //! Initial values that do not fit their type.
 ghost use Rattle.std.specs.Prelude.{◌≡◌, ◌++◌, map, OnOk};
 ghost use Rattle.fb_tree.specs.Tree.{decl_tree, variables_tree};
-ghost use Rattle.fb_iface.specs.Declarations.{literal_faults_of};
-ghost use Rattle.fb_iface.specs.Literals.{initial_faults, literal_faults};
+ghost use Rattle.fb_iface.specs.{Declarations.{literal_faults_of}, Literals.{initial_faults, literal_faults}};
 
 use crate::fault::Fault;
 use crate::literals::report_constant;

@@ -1,6 +1,5 @@
 //! The check of the types of instances, plugs and sockets.
-ghost use Rattle.std.specs.Prelude.{◌≡◌, ◌++◌, OnOk};
-ghost use Rattle.std.specs.List.{flat_map};
+ghost use Rattle.std.specs.{Prelude.{◌≡◌, ◌++◌, OnOk}, List.{flat_map}};
 ghost use Rattle.fb_tree.specs.Tree.{decl_tree, instance_tree, network_tree};
 ghost use Rattle.fb_iface.specs.Types.{instance_faults, type_faults};
 

@@ -1,9 +1,7 @@
 //! The ports of a unit (IEC 61499-1, 5.2: interfaces of function block types; 5.5: adapters).
-ghost use Rattle.std.specs.Prelude.{◌≡◌, IfOk, OnOk, map};
-ghost use Rattle.std.specs.List.{flat_map};
+ghost use Rattle.std.specs.{Prelude.{◌≡◌, IfOk, OnOk, map}, List.{flat_map}};
 ghost use Rattle.fb_tree.specs.Tree.{interface_tree, network_tree, variables_tree};
-ghost use Rattle.fb_iface.specs.Names.{first_ones, with_firsts};
-ghost use Rattle.fb_iface.specs.Ports.{events_in, instances_in, same_role, same_side, variables_together};
+ghost use Rattle.fb_iface.specs.{Names.{first_ones, with_firsts}, Ports.{events_in, instances_in, same_role, same_side, variables_together}};
 ghost use Rattle.fb_iface.specs.Sides.{is_data_on};
 
 use crate::names::declare;
@@ -63,11 +61,9 @@ impl Model for Ports {
 }
 
 impl Ports {
-    ghost use Rattle.std.specs.Prelude.{[]};
-    ghost use Rattle.std.specs.Option.{option_copied};
+    ghost use Rattle.std.specs.{Prelude.{[]}, Option.{option_copied}};
     ghost use Rattle.fb_tree.specs.Tree.{type_tree};
-    ghost use Rattle.fb_iface.specs.Names.{stands_for};
-    ghost use Rattle.fb_iface.specs.Ports.{meanings_in_network, meanings_in_type};
+    ghost use Rattle.fb_iface.specs.{Names.{stands_for}, Ports.{meanings_in_network, meanings_in_type}};
 
     /// No ports.
     pub fn new(alloc: Global) -> Ports

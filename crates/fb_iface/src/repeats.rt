@@ -1,9 +1,7 @@
 //! Names that are declared again in their name space.
-ghost use Rattle.std.specs.Prelude.{◌≡◌, ◌<◌, ◌↔◌, ◌++◌, length, map, IfOk, IsTrue, OnOk};
-ghost use Rattle.std.specs.List.{flat_map};
+ghost use Rattle.std.specs.{Prelude.{◌≡◌, ◌<◌, ◌↔◌, ◌++◌, length, map, IfOk, IsTrue, OnOk}, List.{flat_map}};
 ghost use Rattle.fb_tree.specs.Tree.{chart_tree, decl_tree, device_tree, instance_tree, interface_tree, network_tree, structure_tree, system_tree, type_tree};
-ghost use Rattle.fb_iface.specs.Declarations.{duplicate_faults, space_duplicates};
-ghost use Rattle.fb_iface.specs.Names.{first_ones};
+ghost use Rattle.fb_iface.specs.{Declarations.{duplicate_faults, space_duplicates}, Names.{first_ones}};
 ghost use Rattle.fb_iface.specs.Ports.{events_in, instances_in, meanings_in, meanings_in_type, variables_in};
 ghost use Rattle.fb_iface.specs.Spaces.{chart_spaces, interface_spaces, network_spaces, parameter_names, resource_names, structure_spaces, system_spaces, type_spaces};
 

@@ -1,12 +1,9 @@
 //! What names mean in a network: the unit's own names, and the ports of the types of its instances.
-ghost use Rattle.std.specs.Prelude.{◌≡◌, IfOk, List, map, ℕ, nat_eq, OnOk};
-ghost use Rattle.std.specs.Cmp.Lexicographic.{pointwise};
-ghost use Rattle.std.specs.Option.{option_map};
+ghost use Rattle.std.specs.{Prelude.{◌≡◌, IfOk, List, map, ℕ, nat_eq, OnOk}, Cmp.Lexicographic.{pointwise}, Option.{option_map}, HashMap.{get}};
 ghost use Rattle.fb_tree.specs.Tree.{instance_tree, network_tree, type_tree};
 ghost use Rattle.fb_library.specs.View.{tree_at};
 ghost use Rattle.fb_iface.specs.Scope.{instance_ports, mentioned_type, ports_of, scope_of_network, scope_of_type, type_ports_of};
 ghost use Rattle.fb_iface.specs.Kept.{kept_of, scope_in, with_type};
-ghost use Rattle.std.specs.HashMap.{get};
 
 use crate::instances::is_suited;
 use crate::interfaces;

@@ -1,12 +1,8 @@
 //! The structures that references of a unit may go through.
-ghost use Rattle.std.specs.Prelude.{◌≡◌, IfOk, List, ℕ, nat_eq};
-ghost use Rattle.std.specs.Cmp.Lexicographic.{pointwise};
-ghost use Rattle.std.specs.HashMap.{get};
+ghost use Rattle.std.specs.{Prelude.{◌≡◌, IfOk, List, ℕ, nat_eq}, Cmp.Lexicographic.{pointwise}, HashMap.{get}};
 ghost use Rattle.fb_tree.specs.Tree.{structure_tree};
-ghost use Rattle.fb_library.specs.Near.{bases_at};
-ghost use Rattle.fb_library.specs.View.{tree_at};
-ghost use Rattle.fb_iface.specs.Fields.{fields_among, fields_in, fields_near, fields_of_tree};
-ghost use Rattle.fb_iface.specs.KeptFields.{fields_shown, kept_fields, structures_in};
+ghost use Rattle.fb_library.specs.{Near.{bases_at}, View.{tree_at}};
+ghost use Rattle.fb_iface.specs.{Fields.{fields_among, fields_in, fields_near, fields_of_tree}, KeptFields.{fields_shown, kept_fields, structures_in}};
 ghost use Rattle.fb_iface.specs.Names.{first_ones};
 
 use crate::ports::{DeclaredVariable, variable_table};

@@ -1,9 +1,7 @@
 //! Names after `WITH` (IEC 61499-1, 5.2: the data that go along with an event).
 ghost use Rattle.std.specs.Prelude.{◌≡◌, ◌++◌, OnOk};
 ghost use Rattle.fb_tree.specs.Tree.{decl_tree, event_tree, interface_tree};
-ghost use Rattle.fb_iface.specs.Declarations.{with_faults_of};
-ghost use Rattle.fb_iface.specs.Names.{first_ones, stands_for};
-ghost use Rattle.fb_iface.specs.Ports.{meanings_in, variables_in};
+ghost use Rattle.fb_iface.specs.{Declarations.{with_faults_of}, Names.{first_ones, stands_for}, Ports.{meanings_in, variables_in}};
 ghost use Rattle.fb_iface.specs.Withs.{goes_along, event_withs, with_faults};
 
 use crate::code::Code;

@@ -18,8 +18,8 @@ use Rattle.fb_tree.specs.Tree.{DeclTree, block_type, adapter_type, subapplicatio
 use Rattle.fb_jobs.specs.{declared.hints.Hint.{Hint}, declared.key.Kind.{Kind}, declared.key.Key.{Key}, declared.value.Value.{Value}}
 use Rattle.fb_jobs.specs.{declared.value.Value.TheVariants.{Faults, Net, Deploy}, Hints.{AreChosen, AreHints, IsHint, net_key}}
 use Rattle.fb_jobs.specs.Keys.{Finding, FaultsFound, NetFound, DeployFound, NothingFound, has_key, has_kind_at, needs, needs_of, net_finding, scratch}
-use Rattle.fb_jobs.specs.{Cache.{AreKept}, Kinds.{needs_all}, declared.cached.Cached.{Cached}}
 use Rattle.fb_jobs.specs.Cached.{IsCached, AddsBlocking, AddsNet, AreBlocking, AreFaultlessAmong, AreNetsOf, AreWithoutFaults, IsBlockedNet, IsFlag, IsKeptFaultless, IsNetOfUnit, IsOwnNet, IsThere, Nets, faults_key, hint_in, is_flagged, judged, named_if, net_in, some_faults}
+use Rattle.fb_jobs.specs.{Cache.{AreKept}, Kinds.{needs_all}, declared.cached.Cached.{Cached}}
 use Rattle.fb_jobs.specs.{Reads.{Agree, Seen, is_among, read_names, read_texts, reads_for, reads_under}, Values.{finding_of}, Work.{IsOwnIn}}
 use Rattle.fb_jobs.specs.declared.key.Kind.TheVariants as kind
 use Rattle.fb_jobs.proofs.SameNeeds.{has_key_local, kind_there, scratch_local, same_at, at_itself, unit_needed}

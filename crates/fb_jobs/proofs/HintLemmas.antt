@@ -1,8 +1,8 @@
 -- What is kept is right in the reads of a job that needs all that its unit rests on.
 use Rattle.std.proofs.Common.{arith, ◌<◌, length, get_or, ◌≡◌, ◌≢◌, ℕ, Bool, true, false, cond, ◌&&◌, not, List, [], ◌∷◌, ◌++◌, refl, sym, ap, subst, ◌∙◌, Option, filter, All, Contains}
 use Rattle.std.proofs.lemmas.List.Elements.{All-get_or, All-nil, All-cons, All-push, All-contains, All-contains_itself, filter-append}
-use Rattle.std.proofs.{lemmas.List.Kept.{AllPairs-cons, IsStrictlySortedBy-filter}, lemmas.Cmp.{tied_itself}, lemmas.Bool.{and_parts}}
 use Rattle.std.proofs.lemmas.List.{append-nil, get_or-map, length-map, map-append}
+use Rattle.std.proofs.{lemmas.List.Kept.{AllPairs-cons, IsStrictlySortedBy-filter}, lemmas.Cmp.{tied_itself}, lemmas.Bool.{and_parts}}
 use Rattle.std.specs.{BTreeMap.{is_at}, List.{AllPairs, AllByRecursion}, List.Sorted.{IsStrictlySortedBy}, Option.{option_and_then, option_map}}
 use Rattle.std.specs.declared.cmp.Ordering.TheVariants.{Less}
 use Rattle.fb_text.specs.Order.{name_cmp}

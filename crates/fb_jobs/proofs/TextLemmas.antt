@@ -1,7 +1,7 @@
 -- Texts and names as what was read.
 use Rattle.std.proofs.Common.{◌≡◌, ℕ, zero, suc, ◌+◌, ◌<◌, ◌≤◌, List, [], ◌∷◌, ◌++◌, map, length, take, get_or, slice_get, Option, Some, None, is_none, cond, refl, sym, ap, ◌∙◌, arith, count_by}
-use Rattle.std.proofs.{lemmas.Option.{slice_get-map, slice_get_read, slice_get_past, get_or_from_slice_get}, lemmas.List.{map-append, length-append, take-map}}
 use Rattle.std.proofs.lemmas.List.Recursion.{is_count_by}
+use Rattle.std.proofs.{lemmas.Option.{slice_get-map, slice_get_read, slice_get_past, get_or_from_slice_get}, lemmas.List.{map-append, length-append, take-map}}
 use Rattle.std.specs.{Option.{option_map}, declared.sync.Arc.{Arc}, declared.alloc.Global.{Global}}
 use Rattle.fb_deploy.specs.{Library.Filed.{filed_text}, Library.Texts.{FiledText, Held}, Library.declared.filed.Version.{Version}}
 use Rattle.fb_jobs.specs.{Reads.{Seen}, Texts.{text_of, there, nothing, seen_in, texts_seen, missing, AreNamed, seen_under}}

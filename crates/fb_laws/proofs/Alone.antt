@@ -1,7 +1,6 @@
 -- Parts that are cut out of their text.
 use Rattle.fb_laws.proofs.Common.{◌≡◌, ℕ, ◌+◌, ◌-◌, ◌≤◌, List, [], ◌∷◌, ◌++◌, length, take, drop, map, refl, sym, ap, ap₂, ◌∙◌, subst, arith, Ok, slice_range, drop-drop, drop-take, take-take, All-weaker, tokens_of, Token, kind_of, lexeme_of, lexemes_in, lexemes_of, spelled_name, Lexeme, Part, tree_parts, part_span, BeginsAt, EndsAt, IsWritten, nearer, ReadsAlone, PartsReadAlone}
-use Rattle.fb_laws.proofs.Cutting.{Rising, LastEnds, last_rises, nearer_token, rising_inside, tokens_alone}
-use Rattle.fb_laws.proofs.Reading.{tokens_are}
+use Rattle.fb_laws.proofs.{Cutting.{Rising, LastEnds, last_rises, nearer_token, rising_inside, tokens_alone}, Reading.{tokens_are}}
 use Rattle.fb_laws.proofs.Standing.{covers_lies, part_covers, tree_stands}
 
 -- a part of a part of a text

@@ -1,14 +1,10 @@
 -- That a key is due, said by places.
 use Rattle.fb_laws.proofs.Common.{◌≡◌, ℕ, zero, suc, ◌<◌, Bool, true, false, true≢false, ◌||◌, ◌&&◌, not, ◌⊎◌, inl, inr, List, [], ◌∷◌, Some, refl, sym, ap, ◌∙◌, subst, arith, false≢true, or_left, or_right, and_from, and_parts, not-true, or_cases, none-some, same_Some, take, slice_get, false_from_ne_true, ◌≤◌}
 use Rattle.fb_jobs.specs.declared.key.Key.{Key}
-use Rattle.fb_history.specs.Limits.{Bounds}
-use Rattle.fb_history.specs.Machine.{State, Call, after}
-use Rattle.fb_history.specs.BenchView.{BenchView, IsOrigin, replay}
-use Rattle.fb_history.specs.Due.{marks, settles, settled, due, due_from}
-use Rattle.fb_history.specs.Checkpoints.{checkpointed}
+use Rattle.fb_history.specs.{Limits.{Bounds}, Machine.{State, Call, after}, BenchView.{BenchView, IsOrigin, replay}}
+use Rattle.fb_history.specs.{Due.{marks, settles, settled, due, due_from}, Checkpoints.{checkpointed}}
 use Rattle.fb_laws.specs.DueByPlaces.{IsMarkedAt, IsSettledAt, IsMarkedLast, IsLeftPending, IsDueByPlaces, DueGoesOn}
-use Rattle.fb_history.proofs.Dues.{pending_is_due}
-use Rattle.fb_history.proofs.Restarts.{goes_on, unseen}
+use Rattle.fb_history.proofs.{Dues.{pending_is_due}, Restarts.{goes_on, unseen}}
 
 -- the call at a place passes a test, where the calls before it have led
 module _ (test : State → Call → Key → Bool) where

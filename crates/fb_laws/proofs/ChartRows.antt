@@ -1,16 +1,14 @@
 -- Each code of charts, by what its list of faults has.
 use Rattle.fb_laws.proofs.Common.{◌≡◌, ◌≢◌, ℕ, Bool, true, false, List, [], ◌∷◌, Option, Some, None, map, refl, sym, ap, ◌∙◌, subst, true≢false, inl, inr, if◌then◌else◌, Contains, flat_map, slice_get, option_map_or, Contains-append_left, Contains-append_right, NameUse, Span, AlgorithmTree, ChartTree, DeclTree, StateTree, TransitionTree, TypeTree, block_type, Side, Input, Output, End, Role, Plug, Socket, Sources, tree_at, Code, AlgorithmUnknown, EventUnknown, StateUnknown, Fault, DeclaredEvent, DeclaredInstance, fault_at, has_name, stands_for, Meanings, meanings_in_type, same_side, Scope, instance_ports, scope_of_type, usable, contains_flat_map, contains_here, contains_later, contains_map, contains_nothing, contains_single, in_unless, in_written, origin_in_flat_map, origin_in_map, unless, written, chart_faults, chart_faults_in, ecc_faults_of, none_named, not_named, IsAdapter, IsNotJudged, of_unusable, append-nil, ◌++◌}
+use Rattle.fb_laws.proofs.{ItemRows.{same_sides, side_itself}, UsableTypes.{known_type, no_type, own_type, told_type, type_missing}}
+use Rattle.fb_laws.proofs.Joined.{iff, of_either, in_joined}
 use Rattle.fb_tree.specs.declared.chart.Action.{Action}
-use Rattle.fb_ecc.specs.Algorithms.{algorithm_fault, algorithm_faults, algorithm_names, run_faults}
-use Rattle.fb_ecc.specs.declared.events.EventTarget.{EventTarget}
+use Rattle.fb_ecc.specs.{Algorithms.{algorithm_fault, algorithm_faults, algorithm_names, run_faults}, declared.events.EventTarget.{EventTarget}}
 use Rattle.fb_ecc.specs.declared.events.EventTarget.TheVariants.{Found, Unknown, NotJudged}
 use Rattle.fb_ecc.specs.Events.{end_event_faults, event_among, event_behind, event_faults, event_in, event_named, event_of_adapter, event_on, opposite, sent_faults, side_through, span_from, target_faults, trigger_faults, written_fault}
-use Rattle.fb_laws.specs.Charts.{AlgorithmsAreDeclared, EventsAreKnown, HasUnknownAlgorithm, HasUnknownEvent, HasUnknownState, IsEventOf, IsNoEventOf, StandsForEvent, StatesAreListed, own_event, of_plug, of_socket}
 use Rattle.fb_ecc.specs.States.{transition_faults, state_fault, state_faults, state_names}
+use Rattle.fb_laws.specs.Charts.{AlgorithmsAreDeclared, EventsAreKnown, HasUnknownAlgorithm, HasUnknownEvent, HasUnknownState, IsEventOf, IsNoEventOf, StandsForEvent, StatesAreListed, own_event, of_plug, of_socket}
 use Rattle.fb_laws.specs.Declared.{IsBlockAt}
-use Rattle.fb_laws.proofs.ItemRows.{same_sides, side_itself}
-use Rattle.fb_laws.proofs.UsableTypes.{known_type, no_type, own_type, told_type, type_missing}
-use Rattle.fb_laws.proofs.Joined.{iff, of_either, in_joined}
 
 -- what is so where a unit has a fault of this code
 abbrev pub Has : Code → Sources → List ℕ → Span → Type 0

@@ -1,11 +1,9 @@
 -- The parts of transitions and algorithms.
 use Rattle.fb_laws.proofs.Common.{arith, ◌≡◌, true, List, [], ◌∷◌, ◌++◌, Option, Some, None, flat_map, NameUse, name, is_among, name_kinds, Kind, Name, NameIn, NameOn, NameSt, end, Expression, Statement, End, levels, statement, Part, name_part, name_parts, option_parts, end_parts, expression_parts, statement_parts, condition_parts, transition_parts, algorithm_parts, among_left, among_right}
-use Rattle.fb_deploy.specs.Parse.Chart.{bracketed, joined_test, optional_test, on_event_with, event_condition, condition, transition, transitions, structured_text, other_language, algorithm_body, algorithm}
 use Rattle.fb_laws.proofs.Tokens.{Each, each_prefix}
 use Rattle.fb_laws.proofs.Sound.{Sound, sound_nothing, sound_both, sound_as, sound_either, sound_option, sound_many, sound_behind, sound_before, sound_section, sound_mark, sound_name, sound_name_of, sound_same}
-use Rattle.fb_laws.proofs.Sections.{sound_end}
-use Rattle.fb_laws.proofs.ExpressionSpans.{sound_expression}
-use Rattle.fb_laws.proofs.Statements.{sound_statement}
+use Rattle.fb_laws.proofs.{Sections.{sound_end}, ExpressionSpans.{sound_expression}, Statements.{sound_statement}}
+use Rattle.fb_deploy.specs.Parse.Chart.{bracketed, joined_test, optional_test, on_event_with, event_condition, condition, transition, transitions, structured_text, other_language, algorithm_body, algorithm}
 
 -- Transitions
 

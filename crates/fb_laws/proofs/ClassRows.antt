@@ -1,17 +1,13 @@
 -- Rules of classes that are broken, by what the list of faults has.
 use Rattle.fb_laws.proofs.Common.{◌≡◌, ℕ, Bool, true, false, List, [], ◌∷◌, Option, Some, refl, sym, ap, ◌∙◌, subst, true≢false, is_some, Contains, NameUse, Span, Expression, reference_expression, no_expressions, Statements, count, TypeTree, block_type, TypeUse, Member, Sources, tree_at, class_of_type, stands_for, meanings_in_type, Class as ValueClass, Fault, DeclaredVariable, expr_faults_of, change, combined, join, Demand, suits_operand, suits_operands, suits_place, assigns, code_of_demand, is_met, alone_tree, class_in, Names, names_of_type, allows, ClassPlace, Condition, Count, Counter, Fits, HasClass, of_variable, of_element, of_no_array, of_no_variable, IsRunIn, StandsAt, BreaksRule, at_operator, between_operands, at_subscript, at_guard, at_counter, at_assignment, ClassesAreRight, ExpressionsHaveOneClass, HasBrokenRule, Begins, own, GoesOn, at_end, NamesType}
-use Rattle.fb_laws.specs.Classes.{Joins}
-use Rattle.fb_placing.proofs.TableLemmas.{nothing_there}
-use Rattle.fb_deploy.specs.Iface.declared.code.Code.TheVariants.{Class}
-use Rattle.fb_expr.specs.Demands.{place_of}
-use Rattle.fb_laws.specs.Expressions.{in_statement}
-use Rattle.fb_laws.specs.Variables.{of_adapter}
-use Rattle.fb_laws.proofs.ClassLemmas.{class_of, pair_in, pair_of, told_class}
-use Rattle.fb_laws.proofs.ExpressionLemmas.{IsPairOf}
-use Rattle.fb_laws.proofs.ExpressionPlaces.{stands, told_stands}
+use Rattle.fb_laws.proofs.{ClassLemmas.{class_of, pair_in, pair_of, told_class}, ExpressionLemmas.{IsPairOf}, ExpressionPlaces.{stands, told_stands}}
 use Rattle.fb_laws.proofs.RuleLemmas.{misfits, no_change, none_change, none_combined, not_combined, told_misfit, none_of, missing, told_join, joins}
 use Rattle.fb_laws.proofs.UnitDemands.{DemandOf, operator, pair, subscript, test, in_place, of_counter, of_assignment, reported, unmet}
 use Rattle.fb_laws.proofs.VariableRows.{is_class_code}
+use Rattle.fb_laws.specs.{Classes.{Joins}, Expressions.{in_statement}, Variables.{of_adapter}}
+use Rattle.fb_placing.proofs.TableLemmas.{nothing_there}
+use Rattle.fb_deploy.specs.Iface.declared.code.Code.TheVariants.{Class}
+use Rattle.fb_expr.specs.Demands.{place_of}
 
 -- a name alone has the type of the variable
 

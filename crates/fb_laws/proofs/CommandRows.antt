@@ -1,11 +1,10 @@
 -- The commands of each resource, in words of their own.
 use Rattle.fb_laws.proofs.Common.{ℕ, ◌≡◌, ◌≢◌, Bool, true, false, not, ◌||◌, cond, List, [], ◌∷◌, ◌++◌, Option, Some, None, inl, inr, refl, sym, ◌∙◌, ap, subst, map, append_assoc, ◌==◌, true≢false, filter, option_map, codes, filter_map, flat_map, bytes_eq, IsStrictlySortedBy-filter, eqb-false, not-true, or_cases, in_order-members, in_order-sorted, contains_cases, contains_filter, contains_flat_map, contains_here, contains_later, contains_map, contains_nothing, origin_in_flat_map, origin_in_map, passes_in_filter, ApplicationTree, DeclTree, ParameterTree, Sources, text_or_empty, tree_at, link_cmp, FlatBlock, Link, PlainFlat, home_at, nearest, block_home, PlainResolved, path_names, resolved_at, applications_in, devices_in, Home, create_command, create_commands, create_text, home_commands, command_cmp, command_cmp_total, commands_at, write_command, write_commands, write_text, connection_commands, without_place, link_resource, system_commands, start_command, start_text, dotted, PlainResource, commands_for, resource_plan, resource_plans, resources_of, PlacedCommand, ResourceCommand, IsPlanned, AllBegin, BeginsWith, BlocksAreMadeAtHome, CommandsAreInOrder, IsInOrder, IsWithin, LinksAreMadeAtHome, MakesBlock, MakesItsBlocks, MakesItsLinks, NoneBegins, ParametersAreSetAtHome, ResourcesHaveTheirCommands, SetsItsParameters, SetsParameter, StandsOnce, Contains}
-use Rattle.fb_placing.proofs.PlacedLemmas.{command_cmp-IsAntisymmetric}
-use Rattle.fb_placing.specs.ConstantTexts.{written}
-use Rattle.fb_laws.proofs.Joined.{given, gives_member, of_either}
-use Rattle.fb_laws.proofs.HomeLemmas.{IsHomed, bytes_same, home_listed, nearest_of, of_home, of_nearest, same_bytes}
+use Rattle.fb_laws.proofs.{Joined.{given, gives_member, of_either}, HomeLemmas.{IsHomed, bytes_same, home_listed, nearest_of, of_home, of_nearest, same_bytes}}
 use Rattle.fb_laws.proofs.PlannedLemmas.{Known, home_there, homes_in, known, links_sorted, mapped, names_in, stands}
 use Rattle.fb_laws.proofs.CommandLemmas.{commands_append, for_each, for_links, is_of, is_resource, link_command, link_on, lines_on, links_on, of_is, on_link}
+use Rattle.fb_placing.proofs.PlacedLemmas.{command_cmp-IsAntisymmetric}
+use Rattle.fb_placing.specs.ConstantTexts.{written}
 
 -- ---- what commands begin with
 

@@ -1,14 +1,12 @@
 -- Connections of ports of different types, and through a subapplication, by what the list of faults has.
 use Rattle.fb_laws.proofs.Common.{◌≡◌, ◌≢◌, ℕ, Bool, true, false, not, ◌&&◌, ◌||◌, List, ◌++◌, refl, sym, ap, ◌∙◌, subst, true≢false, bytes_decides, same_text, Contains, Contains-append_right, false_from_ne_true, and_from, and_parts, or_from, or_parts, not_true, Span, NetworkTree, TypeForm, TypeUse, UnitKind, Connection, Sources, class_of_type, is_free, first_ones, is_same, instances_in, DataType, PassThrough, Fault, contains_flat_map, contains_nothing, origin_in_flat_map, same_exact, same_itself, Own, Source, Destination, Target, connection_faults, is_right, target, NetworkPlace, connection_span, fault_of, is_own_port, pass_through_faults, flows_agree, joined_types, same_at_ends, targets_agree, IsNetworkOf, NamesRight, Site, DifferInType, IsSameType, of_names, of_sizes, of_arrays, HasOtherType, HasPassThrough, NothingPassesThrough, TypesAgree, data_types, adapter_types}
-use Rattle.fb_laws.proofs.RuleLemmas.{judged, not_free}
-use Rattle.fb_tree.specs.declared.interface.TypeForm.TheVariants as forms
-use Rattle.fb_tree.specs.declared.kinds.UnitKind.TheVariants as kinds
-use Rattle.fb_netcheck.specs.declared.ends.Flow.{Flow}
-use Rattle.fb_netcheck.specs.declared.ends.Flow.TheVariants as flows
-use Rattle.fb_netcheck.specs.Spellings.{same_by_form, same_type, same_words, words_at}
-use Rattle.fb_laws.proofs.NetworkEnds.{end_target, known_end, known_own, told_end, told_home, told_own}
+use Rattle.fb_laws.proofs.{RuleLemmas.{judged, not_free}, NetworkEnds.{end_target, known_end, known_own, told_end, told_home, told_own}}
 use Rattle.fb_laws.proofs.Joined.{iff, in_where, where_passes}
 use Rattle.fb_laws.proofs.NetworkLemmas.{at_both, at_destination, at_source, end_place, network_origin, own_instances, place_at, reported}
+use Rattle.fb_tree.specs.declared.interface.TypeForm.TheVariants as forms
+use Rattle.fb_tree.specs.declared.kinds.UnitKind.TheVariants as kinds
+use Rattle.fb_netcheck.specs.{declared.ends.Flow.{Flow}, Spellings.{same_by_form, same_type, same_words, words_at}}
+use Rattle.fb_netcheck.specs.declared.ends.Flow.TheVariants as flows
 
 -- types
 

@@ -1,7 +1,7 @@
 -- Constants that are cut out of their text.
 use Rattle.fb_laws.proofs.Common.{◌≡◌, ℕ, inl, inr, List, [], ◌∷◌, map, Option, Some, None, refl, ap, ◌∙◌, option_map, map-append, All-contains, Form, one, both, either, option, many, as_value, Spells, SpellsOption, SpellsEach, key, cons, separated, list, name, Kind, Lexeme, number_with, number, other_literal_kinds, simple, in_brackets, constant_list, constant, NameUse, constant_part, tree_parts, constant_span, nearer, nearer_span, nearer_simple, nearer_constant, ReadsAlone, ConstantsReadAlone}
-use Rattle.fb_tree.specs.declared.constant.Literal.{Literal}
 use Rattle.fb_laws.proofs.Alone.{parts_read_alone}
+use Rattle.fb_tree.specs.declared.constant.Literal.{Literal}
 
 module _ (bytes : ℕ) where
   -- tokens that are nearer to the begin spell the value that is

@@ -1,9 +1,7 @@
 -- The cut links are those between blocks with different homes; each other link is within a resource.
 use Rattle.fb_laws.proofs.Common.{ℕ, ◌≡◌, ◌≢◌, true, not, List, Option, sym, ◌∙◌, ap, subst, IsStrictlySortedBy, bytes_eq, false≢true, false_from_ne_true, IsStrictlySortedBy-filter, contains_filter, passes_in_filter, Sources, link_cmp, Link, PlainFlat, home_at, is_cut, same_home, PlainResource, IsPlanned, CutsJoinResources, JoinsResources, Contains, Some, ◌⊎◌, inl, inr, refl, StandsOn, IsMade, LinksAreCutOrMade, by_bool}
-use Rattle.fb_laws.proofs.EntryLemmas.{entry_named, home_named}
-use Rattle.fb_laws.proofs.HomeLemmas.{bytes_same, nearest_of, same_bytes, some_home}
-use Rattle.fb_laws.proofs.PlannedLemmas.{Known, home_there, homes_in, known, links_sorted, mapped, stands}
-use Rattle.fb_laws.proofs.PlanEnds.{net_prefixes}
+use Rattle.fb_laws.proofs.{EntryLemmas.{entry_named, home_named}, HomeLemmas.{bytes_same, nearest_of, same_bytes, some_home}}
+use Rattle.fb_laws.proofs.{PlannedLemmas.{Known, home_there, homes_in, known, links_sorted, mapped, stands}, PlanEnds.{net_prefixes}}
 
 module _ (sources : Sources) (system : List ℕ) (flat : PlainFlat) (cuts : List Link) (resources : List PlainResource) (p : IsPlanned sources system flat cuts resources) where
   abbrev it : Known sources system flat cuts resources

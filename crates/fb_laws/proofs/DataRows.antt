@@ -1,10 +1,10 @@
 -- The data inputs and outputs of a type.
 use Rattle.fb_laws.proofs.Common.{◌≡◌, ◌≢◌, ◌↔◌, ℕ, ◌<◌, Bool, true, List, Some, refl, sym, ap, ◌∙◌, subst, slice_get, NameUse, InterfaceTree, VariablesTree, Section, Side, TypeUse, DeclaredVariable, first_ones, stands_for, variables_in, variables_together, is_data_on, Cell, IsBefore, IsDataOn, IsFirstVariable, IsVariableIn, data_input, data_output, of_block, AreExactly, ComeAsDeclared, DataAreDeclared, HaveOwnNames, got_in_map, map_gets, arith}
+use Rattle.fb_laws.proofs.FirstLemmas.{IsFirst, IsPort, NoneBefore, among_ports, first_stands, in_turn, is_port, once, ports, stands_first}
+use Rattle.fb_laws.proofs.RowLemmas.{IsAt, at_number, before_by_numbers, in_rows, number_of, numbers_in_turn}
 use Rattle.fb_tree.specs.declared.interface.Section.TheVariants as sections
 use Rattle.fb_tree.specs.declared.interface.Side.TheVariants as sides
 use Rattle.fb_laws.specs.Declared.{StandsAt}
-use Rattle.fb_laws.proofs.FirstLemmas.{IsFirst, IsPort, NoneBefore, among_ports, first_stands, in_turn, is_port, once, ports, stands_first}
-use Rattle.fb_laws.proofs.RowLemmas.{IsAt, at_number, before_by_numbers, in_rows, number_of, numbers_in_turn}
 
 abbrev meaning_of : VariablesTree → DeclaredVariable
 meaning_of v = record { section = v.section; type_use = v.type_use }

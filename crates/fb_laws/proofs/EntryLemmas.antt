@@ -1,8 +1,6 @@
 -- The homes of blocks are resources of the system.
 use Rattle.fb_laws.proofs.Common.{ℕ, ◌≡◌, Bool, true, false, cond, List, [], ◌∷◌, ◌++◌, Option, Some, inl, refl, sym, ◌∙◌, ap, subst, map, find, option_map_or, flat_map, bytes_eq, Contains-append_left, Contains-append_right, NameUse, contains_flat_map, contains_here, contains_map, contains_nothing, origin_in_map, passes_in_find, named_among, same_exact, those_reported, DeclTree, DeviceTree, MappingTree, ResourceTree, SystemTree, system_configuration, itself, Sources, tree_at, has_name, is_same, stands_for, NoSuchResource, Fault, faults_of, declared_mapping_faults, has_resource, home_faults, home_span, mapping_faults_of, resource_faults, resources_in, second_mappings, dotted, PlainFlat, Link, HasFlat, nearest, mapping_home, mapping_path, applications_in, devices_in, mappings_in, system_commands, PlainResource, device_resources, resource_plan, resources_of, IsPlanned, HomesHaveCommands, Contains, by_bool}
-use Rattle.fb_laws.proofs.Joined.{by_option}
-use Rattle.fb_laws.proofs.HomeLemmas.{of_nearest}
-use Rattle.fb_laws.proofs.PlannedLemmas.{homes_in, known, mapped, names_in}
+use Rattle.fb_laws.proofs.{Joined.{by_option}, HomeLemmas.{of_nearest}, PlannedLemmas.{homes_in, known, mapped, names_in}}
 
 -- ---- a system with a flat network has no faults
 

@@ -1,14 +1,12 @@
 -- The networks of units whose nets are flat, and the nets of the types of their subapplication instances.
 use Rattle.fb_laws.proofs.Common.{ℕ, ◌≡◌, List, Option, Some, None, length, inl, refl, ap, subst, Contains, contains_flat_map, unit_kind_of, DeclTree, adapter_type, block_type, structure_type, subapplication_type, system_configuration, Sources, parts_at, tree_at, IsSound, flat_net, done_part, net_at_is, unit_faultless, sound_part, sound_tree, IsClean, IsCleanThroughout, IsFlat, Held, AreInstances, IsInner, PlainNetwork, Instance, applications_of, applications_at, declared, kind_at, network_of, Holds, IsWithinLimit, OfSubapplication, own_instances, Application, FlatBordersAreComposed, FlatLinksAreComposed, FlatUnitsAreClean, HasFlatNet, InnerBordersAreListed, InnerNetsAreFlat, IsOwnNetwork, option_map}
+use Rattle.fb_laws.proofs.ChainParts.{borders_composed, links_composed}
 use Rattle.fb_tree.specs.declared.kinds.UnitKind.TheVariants as kinds
 use Rattle.fb_deploy.specs.Flatten.Far.{far_of}
-use Rattle.fb_deploy.proofs.Flatten.CleanUnits.{applications_clean, networks_clean}
-use Rattle.fb_deploy.proofs.Flatten.ComputedFlats.{IsDone, clean_with}
-use Rattle.fb_deploy.proofs.Flatten.CountLemmas.{inner_small, own_kind}
-use Rattle.fb_deploy.proofs.Flatten.MentionLemmas.{own_within}
+use Rattle.fb_deploy.proofs.{Flatten.CleanUnits.{applications_clean, networks_clean}, Flatten.ComputedFlats.{IsDone, clean_with}}
+use Rattle.fb_deploy.proofs.{Flatten.CountLemmas.{inner_small, own_kind}, Flatten.MentionLemmas.{own_within}}
 use Rattle.fb_wiring.proofs.Network.Composing.{found_by_name}
 use Rattle.fb_laws.specs.Chains.{of_application, of_subapplication}
-use Rattle.fb_laws.proofs.ChainParts.{borders_composed, links_composed}
 
 -- the instances of the network of a subapplication are its own
 type_holds : (sources : Sources) (name : List ℕ) → kind_at sources name ≡ Some kinds.Subapplication → (network : PlainNetwork) (held : List Held) → declared sources name ≡ Some network → AreInstances (declared sources) network.instances held → Holds sources name held

@@ -1,7 +1,6 @@
 -- Each code of mappings, by what its list of faults has.
 use Rattle.fb_laws.proofs.Common.{◌≡◌, ℕ, true, List, ◌∷◌, ◌++◌, map, sym, ap, ◌∙◌, subst, Bool, false, Option, Some, None, ◌⊎◌, inl, inr, refl, true≢false, ◌≢◌, cond, [], length, ◌-◌, arith, Contains-append_left, Contains-append_right, Contains, flat_map, slice_get, option_map_or, NameUse, Span, DeclTree, DeviceTree, MappingTree, ResourceTree, SystemTree, system_configuration, declared_mapping_faults, has_resource, home_faults, home_span, mapping_faults_of, resource_faults, resources_in, second_mappings, system_mapping_faults, has_name, is_same, stands_for, Code, MappedTwice, NoSuchResource, Fault, Sources, tree_at, PathUse, path_of_names, contains_cases, contains_flat_map, contains_here, contains_later, contains_map, contains_nothing, contains_single, origin_in_flat_map, origin_in_map, none_named, not_named, same_exact, same_itself, HasLostMapping, HasSecondMapping, IsFirstDevice, IsLost, IsSystemAt, MappingsHaveHomes, MappingsHaveOwnPaths, no_device, no_resource, last_of, place_of_path}
-use Rattle.fb_laws.proofs.Joined.{iff, of_either, by_option}
-use Rattle.fb_laws.proofs.RepeatedPaths.{repeat_origin, repeat_reported}
+use Rattle.fb_laws.proofs.{Joined.{iff, of_either, by_option}, RepeatedPaths.{repeat_origin, repeat_reported}}
 
 -- what is so where a unit has a fault of this code
 abbrev pub Has : Code → Sources → List ℕ → Span → Type 0

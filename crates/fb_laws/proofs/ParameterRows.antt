@@ -1,11 +1,10 @@
 -- Parameters that stand for no data input, and values that don't fit, by what the list of faults has.
 use Rattle.fb_laws.proofs.Common.{◌≡◌, ◌≢◌, ℕ, Bool, true, false, List, [], ◌∷◌, Option, Some, None, refl, sym, ap, ◌∙◌, subst, true≢false, Contains, Span, InstanceTree, NetworkTree, ParameterTree, Section, Sources, fault_at, literal_fault, stands_for, Meanings, IsMisfit, Code, Literal, ParameterUnknown, Fault, DeclaredVariable, contains_here, contains_single, net_faults_of, all_parameters, parameter_faults, value_faults, NetworkPlace, IsNetworkOf, Site, IsUsable, HasMisfit, HasUnknownParameter, ParametersAreKnown, ParametersFit}
-use Rattle.fb_tree.specs.declared.interface.Section.TheVariants as sections
-use Rattle.fb_tree.specs.declared.network.Role.TheVariants as roles
 use Rattle.fb_laws.proofs.DeclarationRows.{misfit_origin, misfit_reported}
 use Rattle.fb_laws.proofs.NetworkLemmas.{ParameterOrigin, network_origin, parameter_origin, parameter_reported, place_at, reported}
-use Rattle.fb_laws.proofs.UsableTypes.{known_type, listed_type, told_type}
-use Rattle.fb_laws.proofs.Joined.{iff}
+use Rattle.fb_laws.proofs.{UsableTypes.{known_type, listed_type, told_type}, Joined.{iff}}
+use Rattle.fb_tree.specs.declared.interface.Section.TheVariants as sections
+use Rattle.fb_tree.specs.declared.network.Role.TheVariants as roles
 
 -- what is so where a unit has a fault of a parameter
 abbrev Has : Code → Sources → List ℕ → Span → Type 0

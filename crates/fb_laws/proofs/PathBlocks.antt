@@ -1,11 +1,9 @@
 -- The blocks of a system's flat network are those that stand at its paths.
 use Rattle.fb_laws.proofs.Common.{◌≡◌, ℕ, List, [], ◌∷◌, ◌++◌, Option, Some, None, ◌⊎◌, inl, inr, refl, sym, ap, ◌∙◌, subst, append_assoc, option_map, filter_map, flat_map, Contains-append_cases, Contains-append_left, Contains-append_right, contains_cases, contains_flat_map, contains_here, contains_later, contains_map, contains_nothing, origin_in_flat_map, origin_in_map, ApplicationTree, DeclTree, InstanceTree, SystemTree, subapplication_type, unit_kind_of, Role, Sources, tree_at, HasFlat, applications_of, plain_application, declared, instance_in_role, network_of, plain_instance, AreFlatApplications, IsUnitFlat, OfSubapplication, OfSystem, Application, block_within, AreInstances, Held, NoInstance, ThenBlock, ThenSubapplication, held_as, held_within, leaf_first, leaves_of, View, PlainNetwork, PlainFlat, printed, dotted, IsSystemFlat, application_blocks, FlatApplication, FlatBlock, Instance, InstanceKind, IsSystemAt, IsAtPath, in_application, inside, with_points, Contains, map, Path}
-use Rattle.fb_laws.proofs.PathHolders.{within}
+use Rattle.fb_laws.proofs.{PathHolders.{within}, Joined.{given, gives_member}, PlanEnds.{instance_held, leaf_listed, application_of, flat_of}}
+use Rattle.fb_laws.proofs.PathTexts.{same_print}
 use Rattle.fb_tree.specs.declared.network.Role.TheVariants as roles
 use Rattle.fb_wiring.specs.Network.declared.network.InstanceKind.TheVariants.{Block, Subapplication}
-use Rattle.fb_laws.proofs.Joined.{given, gives_member}
-use Rattle.fb_laws.proofs.PlanEnds.{instance_held, leaf_listed, application_of, flat_of}
-use Rattle.fb_laws.proofs.PathTexts.{same_print}
 
 -- ---- instances in plain
 

@@ -1,9 +1,6 @@
 -- The home of what stands at a path is the resource of the nearest mapping of it or above it.
 use Rattle.fb_laws.proofs.Common.{◌≡◌, ◌≢◌, ℕ, ◌<◌, Bool, true, false, cond, length, List, [], ◌∷◌, ◌++◌, Some, None, ◌⊎◌, inl, inr, refl, sym, ap, ◌∙◌, subst, append_assoc, append-nil, arith, find, option_map, bytes_eq, dec_lt, Contains-append_right, contains_cases, contains_here, contains_nothing, Span, MappingTree, SystemTree, on_itself, Sources, MappedTwice, Fault, IsSound, IsPrefix, IsNearest, mapping_home, mapping_path, resource_at, IsSystemAt, place_of_path, IsAbove, IsMappedTo, path_of, with_points, Contains, Path}
-use Rattle.fb_laws.proofs.Joined.{by_option}
-use Rattle.fb_laws.proofs.HomeLemmas.{bytes_same, found_in, same_bytes}
-use Rattle.fb_laws.proofs.MappingRows.{own_paths}
-use Rattle.fb_laws.proofs.PathHolders.{no_report}
+use Rattle.fb_laws.proofs.{Joined.{by_option}, HomeLemmas.{bytes_same, found_in, same_bytes}, MappingRows.{own_paths}, PathHolders.{no_report}}
 use Rattle.fb_laws.proofs.PathNames.{mapping_plain}
 use Rattle.fb_laws.proofs.PathTexts.{ArePlain, prefix_has_name, prefix_of, goes_on, longer_text, longer_text_by, same_names, same_print, split_paths}
 

@@ -1,7 +1,6 @@
 -- The names of paths: those of the instances of a system, and those of its mappings.
 use Rattle.fb_laws.proofs.Common.{◌≢◌, ℕ, List, [], ◌∷◌, ◌++◌, flat_map, Contains-append_left, Contains-append_right, NameUse, contains_flat_map, contains_here, contains_later, contains_map, ApplicationTree, InstanceTree, MappingTree, NetworkTree, SystemTree, TypeTree, subapplication_type, system_configuration, Sources, IsSystemAt, IsAtPath, in_application, inside, path_of, Part, application_parts, chart_parts, connection_parts, device_parts, instance_parts, interface_parts, mapping_parts, name_part, network_parts, parameter_parts, tree_parts, Contains, map}
-use Rattle.fb_laws.proofs.PlainNames.{IsPlain, name_in_unit}
-use Rattle.fb_laws.proofs.PathTexts.{ArePlain, plain_more}
+use Rattle.fb_laws.proofs.{PlainNames.{IsPlain, name_in_unit}, PathTexts.{ArePlain, plain_more}}
 
 -- ---- where names stand in trees
 

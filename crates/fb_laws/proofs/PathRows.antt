@@ -1,17 +1,11 @@
 -- What is made where, and what is misplaced, by what stands at the paths of a system and what its mappings name.
 use Rattle.fb_laws.proofs.Common.{◌≡◌, ◌≢◌, ℕ, Bool, true, false, List, [], ◌∷◌, ◌++◌, Option, Some, None, ◌⊎◌, inl, inr, refl, sym, ap, ◌∙◌, subst, map, true≢false, filter, is_none, codes, append_cancel_left, Contains-append_cases, Contains-append_left, Contains-append_right, names_in_order, contains_filter, contains_map, contains_nothing, origin_in_map, passes_in_filter, DeclTree, InstanceTree, MappingTree, SystemTree, system_configuration, Sources, tree_at, faulty, planned, planned_by, with_homes, HasFlat, IsNet, IsSound, PlainNet, flat_net, plan_at_is, PlainFlat, FlatBlock, Link, IsNearest, nearest, unmatched, block_homes, homeless, misplaced, unless_faulty, create_text, mapping_path, names_used, resource_at, PlainResource, leads_nowhere, mappings_in, Home, Misplaced, NoSuchBlock, Unmapped, PlacedCommand, is_nearest, IsSystemAt, AllBlocksAreMade, BlocksAreMadeWhereMapped, IsAbove, IsAtPath, IsMappedTo, IsMisplaced, IsOfSomething, MakesMapped, MisplacedIsTold, NothingPlannedIsMisplaced, OnlyBlocksAreMade, making, of_nothing, path_of, unmapped, with_points, IsHome, BeginsWith, MakesItsBlocks, Contains, Path, from_names, in_order_has, true_from_ne_false}
+use Rattle.fb_laws.proofs.{CommandRows.{blocks_made}, EntryLemmas.{homes_have}, HomeLemmas.{of_nearest}, PathBlocks.{BlocksStand, system_blocks}}
+use Rattle.fb_laws.proofs.{PathHomes.{home_there, mapped_to, not_mapped}, PathNames.{path_plain, path_some}, PathStanding.{of_something, somewhere}}
+use Rattle.fb_laws.proofs.{PathTexts.{same_path, same_print}, PlannedLemmas.{known}}
 use Rattle.fb_tree.specs.declared.network.Role.TheVariants as roles
 use Rattle.fb_deploy.specs.Plans.{plan_at}
 use Rattle.fb_laws.specs.Paths.{IsMade}
-use Rattle.fb_laws.proofs.CommandRows.{blocks_made}
-use Rattle.fb_laws.proofs.EntryLemmas.{homes_have}
-use Rattle.fb_laws.proofs.HomeLemmas.{of_nearest}
-use Rattle.fb_laws.proofs.PathBlocks.{BlocksStand, system_blocks}
-use Rattle.fb_laws.proofs.PathHomes.{home_there, mapped_to, not_mapped}
-use Rattle.fb_laws.proofs.PathNames.{path_plain, path_some}
-use Rattle.fb_laws.proofs.PathStanding.{of_something, somewhere}
-use Rattle.fb_laws.proofs.PathTexts.{same_path, same_print}
-use Rattle.fb_laws.proofs.PlannedLemmas.{known}
 
 -- ---- the flat network of a plan
 

@@ -1,11 +1,10 @@
 -- Where names lead to in a sound system is what stands at their path.
 use Rattle.fb_laws.proofs.Common.{◌≡◌, ℕ, Bool, true, false, not, List, [], ◌∷◌, ◌++◌, Option, Some, None, ◌⊎◌, inl, inr, refl, sym, ap, ◌∙◌, subst, append_assoc, append-nil, true≢false, is_none, option_map_or, not-false, contains_nothing, ApplicationTree, DeclTree, InstanceTree, SystemTree, subapplication_type, Role, Sources, tree_at, IsSound, PlainResolved, application_called, inner_instances, is_placed, leads_nowhere, resolved_among, resolved_at, resolved_beyond, resolved_inside, IsSystemAt, IsAtPath, IsOfSomething, in_application, inside, of_application, Contains, option_and_then, Path}
-use Rattle.fb_laws.proofs.Joined.{by_option}
+use Rattle.fb_laws.proofs.{Joined.{by_option}, HomeLemmas.{found_in}}
+use Rattle.fb_laws.proofs.PathHolders.{applications_apart, first_own, holder_of, instances_apart, is_subapplication, type_apart, type_below, within}
 use Rattle.fb_tree.specs.declared.network.Role.TheVariants as roles
 use Rattle.fb_placing.proofs.ResolvedLemmas.{beyond_nothing}
 use Rattle.fb_laws.specs.Paths.{of_block, of_subapplication}
-use Rattle.fb_laws.proofs.HomeLemmas.{found_in}
-use Rattle.fb_laws.proofs.PathHolders.{applications_apart, first_own, holder_of, instances_apart, is_subapplication, type_apart, type_below, within}
 
 -- ---- from names to what stands there
 

@@ -1,7 +1,6 @@
 -- A system has commands where nothing is misplaced.
 use Rattle.fb_laws.proofs.Common.{ℕ, ◌≡◌, Bool, true, false, List, [], ◌∷◌, ◌++◌, Option, refl, sym, ◌∙◌, ap, subst, map, filter, is_none, nat_list_cmp_total, nat_cmp-IsAntisymmetric, slice_cmp-IsAntisymmetric, false≢true, Contains-append_right, name_cmp, names_in_order, in_order-members, contains_filter, contains_here, contains_map, contains_nothing, origin_in_map, passes_in_filter, plan_at_is, MappingTree, Sources, tree_at, FlatBlock, PlainFlat, HasFlat, flat_net, cuts_of, home_at, nearest, unmatched, homeless, misplaced, unless_faulty, mapping_path, names_used, IsSystem, leads_nowhere, applications_in, mappings_in, Misplaced, NoSuchBlock, Unmapped, planned, with_homes, system_commands, resource_plans, HasCommands, IsPlacedWhole, PlacedSystemsHaveCommands, Contains}
-use Rattle.fb_laws.proofs.HomeLemmas.{nearest_of, of_nearest}
-use Rattle.fb_laws.proofs.PlannedLemmas.{homes_in, known, mapped, names_in}
+use Rattle.fb_laws.proofs.{HomeLemmas.{nearest_of, of_nearest}, PlannedLemmas.{homes_in, known, mapped, names_in}}
 
 no_members : {X : Type 0} (xs : List X) → ((x : X) → Contains xs x → ⊥) → xs ≡ []
 no_members [] h = refl

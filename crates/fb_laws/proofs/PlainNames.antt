@@ -1,8 +1,8 @@
 -- The names of trees are words: neither a point nor a blank stands in them.
 use Rattle.fb_laws.proofs.Common.{◌≡◌, ◌≢◌, ℕ, true, List, [], ◌∷◌, Some, None, Result, Ok, Err, refl, sym, ap, ◌∙◌, subst, arith, true≢false, IsOk, codes, slice_range, list_all, get, option_and_then, All-contains, is_word_start, is_word_byte, name_of, is_word, NameFault, NameUse, IsName-upper, is_word-all, name_of-ok, lexeme_of, name_or, name_use, spelled_name, DeclTree, Sources, tree_at, tree_in, tree_of, BodyTree, BrokenAt, Whole, body_of, name_part, tree_parts, IsWritten, Contains, map, and_parts}
+use Rattle.fb_laws.proofs.Standing.{name_in, of_token, spelled_word, tree_stands}
 use Rattle.std.proofs.lemmas.Bool.Decides.{nat_tests}
 use Rattle.fb_text.specs.Spelling.{IsName}
-use Rattle.fb_laws.proofs.Standing.{name_in, of_token, spelled_word, tree_stands}
 
 -- no byte is a point or a blank
 abbrev pub AllPlain : List ℕ → Type 0

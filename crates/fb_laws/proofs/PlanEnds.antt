@@ -3,8 +3,7 @@ use Rattle.fb_laws.proofs.Common.{ℕ, ◌≡◌, List, [], ◌∷◌, ◌++◌,
 use Rattle.std.specs.BTreeMap.{is_at}
 use Rattle.fb_wiring.proofs.Network.Equals.{same_bytes}
 use Rattle.fb_placing.proofs.NameLemmas.{printed-push}
-use Rattle.fb_wiring.specs.Network.declared.network.InstanceKind.TheVariants.{Block, Subapplication}
-use Rattle.fb_wiring.specs.Network.NetLink.{Direct, FromPlug, IsNetLink, ToPlug}
+use Rattle.fb_wiring.specs.{Network.declared.network.InstanceKind.TheVariants.{Block, Subapplication}, Network.NetLink.{Direct, FromPlug, IsNetLink, ToPlug}}
 
 -- ---- blocks at ports
 

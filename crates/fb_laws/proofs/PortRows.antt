@@ -1,8 +1,8 @@
 -- Ports once and in order, and internal variables.
 use Rattle.fb_laws.proofs.Common.{◌≡◌, ℕ, List, Some, sym, ap, ◌∙◌, subst, inl, inr, slice_get, cases_order, InterfaceTree, TypeTree, VariablesTree, adapter_type, block_type, subapplication_type, Section, Side, TypeUse, meanings_in_type, Cell, IsBefore, IsDataOn, IsFirstVariable, IsVariableIn, data_input, data_output, in_earlier_row, of_block, ComeAsDeclaredEach, HaveOwnNamesEach, InternalVariablesAreNoPorts, NamesStandForFirst, PortsComeAsDeclared, PortsHaveOwnNames, StandForFirst}
-use Rattle.fb_tree.specs.declared.interface.Section.TheVariants as sections
 use Rattle.fb_laws.proofs.DataRows.{data_declared, data_in_turn, data_once, variables_stand}
 use Rattle.fb_laws.proofs.ItemRows.{adapters_in_turn, adapters_once, events_in_turn, events_once, events_stand, instances_stand}
+use Rattle.fb_tree.specs.declared.interface.Section.TheVariants as sections
 
 once_each : (d : TypeTree) → HaveOwnNamesEach (meanings_in_type d)
 once_each d = record { of_events = events_once d.interface; of_data = data_once d.interface; of_adapters = adapters_once d.network }

@@ -1,10 +1,8 @@
 -- What is known of the tokens of a text.
 use Rattle.fb_laws.proofs.Common.{◌≡◌, ℕ, zero, suc, ◌+◌, ◌<◌, ◌≤◌, inl, inr, List, [], ◌∷◌, ◌++◌, length, drop, refl, subst, arith, length-drop, Result, Ok, Err, IsUtf8, All, slice_index_or, cases_lt, piece_at, tokens_of, FitsIn, IsSpelled, LiesIn, SpansRise, spans_of, Span, Token}
 use Rattle.std.proofs.lemmas.Str.{IsUtf8-drop}
-use Rattle.fb_text.specs.declared.scan.Piece.{Piece}
-use Rattle.fb_text.specs.declared.scan.Piece.TheVariants.{Gap, Unclosed, Found}
-use Rattle.fb_text.proofs.Boundaries.{piece-fits}
-use Rattle.fb_text.proofs.Reading.{HasRead, start, after-gap, after-token, unclosed, all-read}
+use Rattle.fb_text.specs.{declared.scan.Piece.{Piece}, declared.scan.Piece.TheVariants.{Gap, Unclosed, Found}}
+use Rattle.fb_text.proofs.{Boundaries.{piece-fits}, Reading.{HasRead, start, after-gap, after-token, unclosed, all-read}}
 
 -- the tokens lie in the text one behind the other, and each has the form of its kind
 pub record AreTokens (text : List ℕ) (tokens : List Token) : Type 0 where

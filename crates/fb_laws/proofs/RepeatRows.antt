@@ -1,10 +1,8 @@
 -- Ends that stand twice, by what the list of faults has.
 use Rattle.fb_laws.proofs.Common.{◌≡◌, List, [], ◌∷◌, ◌++◌, map, Option, Some, None, ◌⊎◌, inl, inr, refl, sym, ap, ◌∙◌, subst, Contains, flat_map, Contains-append_left, Contains-append_right, Contains-append_cases, NameUse, NetworkTree, Connection, End, Sort, Code, SecondAdapter, SecondSource, Fault, ComesThrough, contains_cases, contains_flat_map, contains_here, contains_later, contains_nothing, contains_single, origin_in_flat_map, Position, Source, Destination, net_faults_of, Path, fault_at_path, repeated_faults, adapter_ends, data_destination, end_path, path_named, HaveSameNames, IsEndOf, IsNetworkOf, Site, place_of, source, destination, AdaptersHaveOneEnd, DestinationsHaveOneSource, HasSecondAdapter, HasSecondSource, IsTaken, by_earlier, by_source, option_map}
+use Rattle.fb_laws.proofs.{NetworkLemmas.{end_place, fault_at_end, network_origin, reported}, RepeatedPaths.{repeat_origin, repeat_reported}}
+use Rattle.fb_laws.proofs.{SplitLemmas.{nothing_split, split_through, through_split}, Joined.{iff}}
 use Rattle.fb_tree.specs.declared.network.Sort.TheVariants as sorts
-use Rattle.fb_laws.proofs.NetworkLemmas.{end_place, fault_at_end, network_origin, reported}
-use Rattle.fb_laws.proofs.RepeatedPaths.{repeat_origin, repeat_reported}
-use Rattle.fb_laws.proofs.SplitLemmas.{nothing_split, split_through, through_split}
-use Rattle.fb_laws.proofs.Joined.{iff}
 
 -- ends of connections
 

@@ -1,10 +1,8 @@
 -- Paths that stand twice in a list.
 use Rattle.fb_laws.proofs.Common.{map-append, ◌≡◌, ℕ, ◌+◌, true, false, ◌||◌, length, List, [], ◌∷◌, ◌++◌, map, take, Some, inl, inr, refl, sym, ap, ◌∙◌, subst, true≢false, arith, nat_cmp-IsAntisymmetric, slice_cmp-IsAntisymmetric, Contains, enumerate_from, take-append_seam, Code, Fault, at_place, in_places, contains_cases, contains_filter, contains_here, contains_later, contains_map, contains_nothing, origin_in_map, passes_in_filter, Path, PathUse, fault_at_path, has_path, is_repeated, repeated, repeated_faults, same_path, filter}
-use Rattle.std.specs.Ordering.{is_eq}
-use Rattle.std.proofs.Math.Bool.{or-true}
-use Rattle.std.proofs.lemmas.Cmp.{lists_total, nat_list_cmp_total, tied_itself}
-use Rattle.std.proofs.lemmas.Map.Views.{tells_apart}
 use Rattle.fb_laws.proofs.SplitLemmas.{SplitImages, at_split, split_at, split_images}
+use Rattle.std.specs.Ordering.{is_eq}
+use Rattle.std.proofs.{Math.Bool.{or-true}, lemmas.Cmp.{lists_total, nat_list_cmp_total, tied_itself}, lemmas.Map.Views.{tells_apart}}
 
 path_exact : (a b : Path) → same_path a b ≡ true → a ≡ b
 path_exact a b e = tells_apart (slice_cmp-IsAntisymmetric (slice_cmp-IsAntisymmetric nat_cmp-IsAntisymmetric)) a b e

@@ -1,10 +1,9 @@
 -- Parts that are written in the tokens as the grammar sees them stand in the text.
 use Rattle.fb_laws.proofs.Common.{◌≡◌, ℕ, zero, suc, ◌<◌, ◌≤◌, Bool, true, false, cond, List, [], ◌∷◌, ◌++◌, length, map, refl, sym, ap, ◌∙◌, subst, arith, Result, Ok, Err, All, IsOk, nat_lt, slice_index_or, slice_range, IsCharBoundary, str_to_ascii_uppercase, map-append, Contains-append_left, All-contains, All-from_recursion, All-map, All-weaker, Contains-append_right, name_of, tokens_of, spans_of, IsSpelled, LiesIn, SpansRise, HasForm, is_word, word_len, NameFault, NameUse, Span, Token, TokenKind, name_of-ok, IsBody, IsBodyIn, body_of, Whole, name as name_form, Spells, is_among, name_kinds, lexeme_of, lexemes_in, lexemes_of, name_or, name_use, Lexeme, DeclTree, told, Part, name_part, tree_parts, PartsAreWritten, SpansCoverTokens, SpansLieInText, NamesAreWords, part_span, BeginsAt, EndsAt, IsWritten, Contains, ◌==◌}
+use Rattle.fb_laws.proofs.{Reading.{AreTokens, tokens_are, rise_at, rise_behind}, UnitSpans.{sound_unit}}
 use Rattle.fb_text.specs.declared.name.NameFault.TheVariants.{Empty, BadByte, TooLong}
 use Rattle.fb_structured_text.proofs.Forms.NameWords.{names as names_are_words}
 use Rattle.fb_laws.specs.Standing.{Covers, IsWord}
-use Rattle.fb_laws.proofs.Reading.{AreTokens, tokens_are, rise_at, rise_behind}
-use Rattle.fb_laws.proofs.UnitSpans.{sound_unit}
 
 -- Spellings
 

@@ -1,7 +1,7 @@
 -- What a statement demands, by what stands in it.
 use Rattle.fb_laws.proofs.Common.{◌≡◌, List, [], ◌∷◌, ◌++◌, Option, Some, None, ◌⊎◌, inl, inr, refl, sym, subst, Contains, option_map_or, Contains-append_cases, Contains-append_left, Contains-append_right, NameUse, Span, ReferenceTree, Expression, reference_expression, Expressions, no_expressions, Statement, assignment, choice, selection, count, while_loop, repeat_loop, Statements, no_statements, statement_then, Arms, no_arms, arm_then, contains_cases, contains_here, contains_later, contains_nothing, contains_single, Demand, names_variable, suits_place, assigns, demands_in, demands_at, alone_tree, counter_demands, range_demands, statement_demands, statements_demands, arms_demands, Names, ClassPlace, Condition, Count, Counter, Selector, IsArmOf, first_arm, later_arm, Asks, selector, from, to, by, while_condition, until_condition, HasExpression, in_place, value, this, in_arm, behind_else, in_case, behind_cases, in_for, in_while, in_repeat, IsAmong, in_first_statement, in_later_statement}
-use Rattle.fb_laws.specs.Occurrences.{arm, destination, IsWithin}
 use Rattle.fb_laws.proofs.ExpressionLemmas.{Asked, asked_in, demanded_in}
+use Rattle.fb_laws.specs.Occurrences.{arm, destination, IsWithin}
 
 -- what a statement demands itself, without the statements in it
 pub data OwnDemand (names : Names) (s : Statement) : Demand → Type 0 where

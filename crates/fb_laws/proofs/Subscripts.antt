@@ -1,7 +1,7 @@
 -- The names of a reference count its subscripts.
 use Rattle.fb_laws.proofs.Common.{◌≡◌, ℕ, zero, suc, ◌+◌, inl, inr, List, [], ◌∷◌, ◌++◌, length, map, Option, Some, None, refl, sym, ap, ◌∙◌, subst, length-append, sum_by, All-contains, Form, either, as_value, Spells, Kind, Lexeme, ReferenceTree, Expression, reference_expression, Expressions, expressions_of, BinaryUse, UnaryUse, Member, strengths, PartTree, expression, parts, flat_part, deep_part, member_in, subscripts_in, reference_in, flat_reference, deep_reference, reference_value, literal, in_parentheses, parenthesized, flat_primary, deep_primary, with_sign, unary, row_of, row, rows, expression_part, tree_parts, SubscriptsAreCounted, counted_by, number_of, IsWritten}
-use Rattle.std.proofs.lemmas.List.Sums.{sum_by-cons}
 use Rattle.fb_laws.proofs.Standing.{parts_are_written}
+use Rattle.std.proofs.lemmas.List.Sums.{sum_by-cons}
 
 number_is : (es : List Expression) → number_of (expressions_of es) ≡ length es
 number_is [] = refl

@@ -1,9 +1,7 @@
 -- Units whose text is broken, that are absent, and that are whole.
 use Rattle.fb_laws.proofs.Common.{◌≡◌, List, [], refl, sym, ap, subst, Contains, option_and_then, BodyTree, BrokenAt, IsBody, tree_of, faults_in_order, Syntax, Fault, all_reported, text_faults, contains_here, broken_alone, told, IsOfPart, AbsentUnitsHaveNoFaults, BrokenTextsAreReported, BrokenTextsAreReportedAlone, IsBroken, WholeTextsAreNotReported, broken_at}
+use Rattle.fb_laws.proofs.{CodeLemmas.{own_codes}, PartLemmas.{IsReported, is_found, no_text_code, of_part, of_text, whole_units}, Joined.{iff}}
 use Rattle.fb_deploy.proofs.Parse.Bodies.{one}
-use Rattle.fb_laws.proofs.CodeLemmas.{own_codes}
-use Rattle.fb_laws.proofs.PartLemmas.{IsReported, is_found, no_text_code, of_part, of_text, whole_units}
-use Rattle.fb_laws.proofs.Joined.{iff}
 
 pub broken_reported_alone : BrokenTextsAreReportedAlone
 broken_reported_alone sources unit span b = broken_alone sources unit b.text span b.present (sym (one b.text (BrokenAt span) b.broken))

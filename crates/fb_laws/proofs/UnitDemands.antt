@@ -1,10 +1,10 @@
 -- What the guards and the algorithms of a block type demand, and the faults of what is not met.
 use Rattle.fb_laws.proofs.Common.{◌≡◌, ℕ, false, List, [], ◌∷◌, ◌++◌, Option, Some, ◌⊎◌, inl, inr, refl, subst, Contains, flat_map, Contains-append_cases, Contains-append_left, Contains-append_right, NameUse, Span, ReferenceTree, Expression, reference_expression, unary_expression, row_expression, Expressions, no_expressions, Operands, Statement, assignment, count, Statements, statements_of, ConditionTree, guarded, guard, DeclTree, TypeTree, block_type, BinaryUse, UnaryUse, Member, Sources, tree_at, Class as ValueClass, Fault, contains_flat_map, contains_here, contains_nothing, contains_single, origin_in_flat_map, expr_faults_of, faults_in_unit, Demand, names_variable, names_field, suits_operand, suits_operands, suits_place, assigns, is_met, demands_in, demands_at, alone_tree, guard_demands, transition_demands, algorithm_demands, chart_demands, class_in, Names, names_of_type, ClassPlace, Condition, Count, Counter, IsOneOf, OccursIn, Asks, IsGuardOf, with_event, IsRunIn, IsTestedIn, IsWrittenIn, in_guard, in_statement}
+use Rattle.fb_laws.proofs.ExpressionLemmas.{IsPairOf, Asked, of_reference, of_field, of_operator, of_pair, of_subscript, asked_in, demanded_in}
+use Rattle.fb_laws.proofs.StatementLemmas.{OwnDemand, inside, placed, counter, counter_class, assigned, asked_among, demanded_in_list}
 use Rattle.fb_expr.specs.Demands.{fault_of}
 use Rattle.fb_expr.proofs.DemandLemmas.{faults_unmet}
 use Rattle.fb_laws.specs.Occurrences.{alone}
-use Rattle.fb_laws.proofs.ExpressionLemmas.{IsPairOf, Asked, of_reference, of_field, of_operator, of_pair, of_subscript, asked_in, demanded_in}
-use Rattle.fb_laws.proofs.StatementLemmas.{OwnDemand, inside, placed, counter, counter_class, assigned, asked_among, demanded_in_list}
 
 -- what a block type demands
 pub data DemandOf (names : Names) (d : TypeTree) : Demand → Type 0 where

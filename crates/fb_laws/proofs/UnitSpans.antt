@@ -1,13 +1,13 @@
 -- The parts of sections that are joined, and of units.
 use Rattle.fb_laws.proofs.Common.{List, [], ◌∷◌, ◌++◌, flat_map, NameUse, Form, many, name, Kind, blocks, connections, plugs, sockets, subapplications, InterfaceTree, NetworkTree, ChartTree, Part, name_part, name_parts, event_parts, variables_parts, interface_parts, instance_parts, connection_parts, network_parts, state_parts, transition_parts, algorithm_parts, chart_parts, declared_parts, application_parts, device_parts, mapping_parts, system_parts, structure_parts, tree_parts}
-use Rattle.fb_deploy.specs.Parse.Contents.{ContentsTree, of_events, of_variables, of_adapters, of_instances, of_connections, of_states, of_transitions, of_algorithm, interfaces_merged, networks_merged, charts_merged, merged, joined}
-use Rattle.fb_deploy.specs.Parse.Grammar.{data_section, service_section, interface_section, network_section, chart_section, block_section, adapter_section, application_section, subapplication_section, framed, type_of, block, adapter, subapplication, application_of, application, system_section, system, structure, unit}
-use Rattle.fb_deploy.specs.Parse.SystemContents.{SystemContentsTree, of_application, of_device, of_mappings, system_joined}
-use Rattle.fb_sections.specs.Interface.{internal_variables, fields}
 use Rattle.fb_laws.proofs.Tokens.{Each, each_append, each_prefix, each_rest}
 use Rattle.fb_laws.proofs.Sound.{Sound, sound_nothing, sound_both, sound_as, sound_either, sound_many, sound_behind, sound_before, sound_section, sound_name, sound_same, each_none, each_items}
 use Rattle.fb_laws.proofs.Sections.{sound_events, sound_data_variables, sound_variables, sound_instances, sound_subapplications, sound_connections, sound_states, sound_mappings, sound_device}
 use Rattle.fb_laws.proofs.ChartSpans.{sound_transitions, sound_algorithm}
+use Rattle.fb_deploy.specs.Parse.Contents.{ContentsTree, of_events, of_variables, of_adapters, of_instances, of_connections, of_states, of_transitions, of_algorithm, interfaces_merged, networks_merged, charts_merged, merged, joined}
+use Rattle.fb_deploy.specs.Parse.Grammar.{data_section, service_section, interface_section, network_section, chart_section, block_section, adapter_section, application_section, subapplication_section, framed, type_of, block, adapter, subapplication, application_of, application, system_section, system, structure, unit}
+use Rattle.fb_deploy.specs.Parse.SystemContents.{SystemContentsTree, of_application, of_device, of_mappings, system_joined}
+use Rattle.fb_sections.specs.Interface.{internal_variables, fields}
 
 -- Parts in two lists, each joined with others
 each_two : (P : Part → Type 0) (a b c d ac bd : List Part) → (Each P a → Each P c → Each P ac) → (Each P b → Each P d → Each P bd) → Each P (a ++ b) → Each P (c ++ d) → Each P (ac ++ bd)

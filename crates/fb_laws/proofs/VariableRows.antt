@@ -1,13 +1,11 @@
 -- References that begin at no variable, and further names that are no fields, by what the list of faults has.
 use Rattle.fb_laws.proofs.Common.{◌≡◌, ℕ, zero, suc, Bool, true, false, true≢false, not, ◌||◌, List, [], ◌∷◌, ◌++◌, Some, refl, sym, ap, subst, ◌∙◌, append_assoc, Span, TypeTree, block_type, ReferenceTree, TypeUse, Member, Sources, tree_at, Code, MemberUnknown, VariableUnknown, Fault, DeclaredVariable, Demand, names_field, names_variable, is_field, is_known, is_met, alone_tree, referent_through, Names, names_of_type, referent_of, step, walk, names_span, through_second, Referent, Variable, Unjudged, NoMember, HasUnknownMember, HasUnknownVariable, IsNamedIn, in_reference, behind_for, MembersAreKnown, VariablesAreKnown, alone, subscripted, with_second, Begins, GoesOn, HasField, IsOpen}
+use Rattle.fb_laws.proofs.ReferentLemmas.{Base, variable, not_judged_port, nothing, open_stays, unknown_stays, Looks, is_open, is_none, is_found, Starts, at_first, at_second, base_of, begins_known, begun, goes, is_judged, is_unknown, last_known, looks, none_begins, parts, start, told_field, told_goes, told_open, walked}
+use Rattle.fb_laws.proofs.{UnitDemands.{DemandOf, reference, field, behind_for as behind_for_demanded, reported, unmet}, Joined.{iff}}
 use Rattle.fb_deploy.specs.Iface.declared.code.Code.TheVariants.{Class}
-use Rattle.fb_expr.specs.Demands.{fault_of}
-use Rattle.fb_expr.specs.declared.references.Referent.TheVariants.{Unknown}
+use Rattle.fb_expr.specs.{Demands.{fault_of}, declared.references.Referent.TheVariants.{Unknown}}
 use Rattle.fb_expr.proofs.MemberLemmas.{walk-append}
 use Rattle.fb_laws.specs.Places.{BeginsAt}
-use Rattle.fb_laws.proofs.ReferentLemmas.{Base, variable, not_judged_port, nothing, open_stays, unknown_stays, Looks, is_open, is_none, is_found, Starts, at_first, at_second, base_of, begins_known, begun, goes, is_judged, is_unknown, last_known, looks, none_begins, parts, start, told_field, told_goes, told_open, walked}
-use Rattle.fb_laws.proofs.UnitDemands.{DemandOf, reference, field, behind_for as behind_for_demanded, reported, unmet}
-use Rattle.fb_laws.proofs.Joined.{iff}
 
 unknown_only : (t : Referent) → is_known t ≡ false → t ≡ Unknown
 unknown_only Unknown e = refl

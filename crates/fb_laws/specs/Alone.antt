@@ -1,9 +1,8 @@
 -- Parts of a tree that are cut out of the text.
 use Rattle.std.specs.Prelude.{◌≡◌, ℕ, ◌-◌, List, map, slice_range, Ok}
-use Rattle.fb_laws.specs.Common.{Span, Spells, lexemes_of, Lexeme, constant, ConstantTree, constant_span, one_value, value_list, Simple}
-use Rattle.fb_tree.specs.declared.constant.Simple.TheVariants as simple
-use Rattle.fb_laws.specs.SpanParts.{Part}
+use Rattle.fb_laws.specs.{Common.{Span, Spells, lexemes_of, Lexeme, constant, ConstantTree, constant_span, one_value, value_list, Simple}, SpanParts.{Part}}
 use Rattle.fb_laws.specs.Written.{part_span, SpellsPart}
+use Rattle.fb_tree.specs.declared.constant.Simple.TheVariants as simple
 
 -- The same, so many bytes nearer to the begin of the text
 

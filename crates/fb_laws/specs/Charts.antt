@@ -1,10 +1,8 @@
 -- Each code of charts in words of its own: where the list of faults has it.
 use Rattle.std.specs.Prelude.{◌≡◌, ◌≢◌, ℕ, List, [], ◌∷◌, Option, Some, None, Contains, ◌⊎◌}
 use Rattle.fb_laws.specs.Common.{Span, NameUse, AlgorithmTree, StateTree, TransitionTree, TypeTree, Action, Side, Input, Output, End, Plug, Socket, Sources, AlgorithmUnknown, EventUnknown, StateUnknown, DeclaredEvent, DeclaredInstance, stands_for, Meanings, meanings_in_type}
+use Rattle.fb_laws.specs.{Declared.{IsBlockAt}, UnitParts.{Charts, IsReportedWhere}, Usable.{IsAdapter, IsNotJudged, IsUsable}}
 use Rattle.fb_ecc.specs.Events.{event_in, opposite, span_from}
-use Rattle.fb_laws.specs.Declared.{IsBlockAt}
-use Rattle.fb_laws.specs.UnitParts.{Charts, IsReportedWhere}
-use Rattle.fb_laws.specs.Usable.{IsAdapter, IsNotJudged, IsUsable}
 
 -- a transition that goes from or to a state that is not listed
 pub record HasUnknownState (sources : Sources) (unit : List ℕ) (span : Span) : Type 0 where

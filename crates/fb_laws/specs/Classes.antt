@@ -1,14 +1,12 @@
 -- The rules of classes, as relations: which classes join, what operators make of classes, what places ask for, and the class of each expression.
 use Rattle.std.specs.Prelude.{◌≡◌, ◌≢◌, Bool, true, false}
 use Rattle.fb_laws.specs.Common.{ReferenceTree, Expression, literal_expression, reference_expression, unary_expression, row_expression, parentheses, Expressions, Operands, no_operands, operand_then, TypeTree, BinaryUse, UnaryUse, Span, TypeUse, class_of_literal, class_of_name, class_of_type, Sources, B, I, W, O, Free, Num, Any, ClassPlace, Condition, Count, Counter, Selector}
-use Rattle.fb_tree.specs.declared.constant.Literal.{Literal}
-use Rattle.fb_tree.specs.declared.expression.BinaryOperator.{BinaryOperator}
+use Rattle.fb_laws.specs.Variables.{NamesType}
+use Rattle.fb_tree.specs.{declared.constant.Literal.{Literal}, declared.expression.BinaryOperator.{BinaryOperator}}
 use Rattle.fb_tree.specs.declared.expression.BinaryOperator.TheVariants.{Or, Xor, And, Equal, NotEqual, Less, Greater, LessOrEqual, GreaterOrEqual, Add, Subtract, Multiply, Divide, Modulo, Power}
-use Rattle.fb_tree.specs.declared.expression.UnaryOperator.{UnaryOperator}
-use Rattle.fb_tree.specs.declared.expression.UnaryOperator.TheVariants.{Plus, Minus, Not}
+use Rattle.fb_tree.specs.{declared.expression.UnaryOperator.{UnaryOperator}, declared.expression.UnaryOperator.TheVariants.{Plus, Minus, Not}}
 use Rattle.fb_tree.specs.declared.interface.TypeForm.TheVariants as forms
 use Rattle.fb_deploy.specs.Iface.declared.classes.Class.{Class}
-use Rattle.fb_laws.specs.Variables.{NamesType}
 
 -- Two classes join to a third: equal ones to themselves, Any with another to that, Num with I, W or O to that, I with O to O, and Free with
 -- anything to Free.

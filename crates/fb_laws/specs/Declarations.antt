@@ -1,17 +1,12 @@
 -- Each code of declarations in words of its own: where the list of faults has it.
 use Rattle.std.specs.Prelude.{◌≡◌, ◌≢◌, ℕ, ◌<◌, true, false, List, Some, None, Contains, slice_get}
 use Rattle.fb_laws.specs.Common.{Span, NameUse, ConstantTree, DeclTree, EventTree, InstanceTree, StructureTree, TypeTree, VariablesTree, block_type, structure_type, one_value, value_list, value_span, Simple, TypeUse, UnitKind, Role, Sources, tree_at, type_in, Free, Duplicate, Literal, MixedKind, NameDiffers, StructRecursive, UnknownType, WithUnknown, WrongKind, DeclaredVariable, class_of_name, class_of_simple, class_of_type, declared_name, stands_for, variables_in}
+use Rattle.fb_laws.specs.{Classes.{Takes}, Declared.{AreDeclaredIn}, Spaces.{IsSpace}, UnitParts.{Declarations, IsReportedWhere}}
 use Rattle.fb_tree.specs.Mentions.{unit_kind_of}
 use Rattle.fb_tree.specs.declared.interface.TypeForm.TheVariants as forms
 use Rattle.fb_tree.specs.declared.kinds.UnitKind.TheVariants as kinds
 use Rattle.fb_tree.specs.declared.network.Role.TheVariants as roles
-use Rattle.fb_deploy.specs.Library.Near.{Carries}
-use Rattle.fb_deploy.specs.Iface.Sides.{goes_with}
-use Rattle.fb_deploy.specs.Iface.Types.{instances_of}
-use Rattle.fb_laws.specs.Classes.{Takes}
-use Rattle.fb_laws.specs.Declared.{AreDeclaredIn}
-use Rattle.fb_laws.specs.Spaces.{IsSpace}
-use Rattle.fb_laws.specs.UnitParts.{Declarations, IsReportedWhere}
+use Rattle.fb_deploy.specs.{Library.Near.{Carries}, Iface.Sides.{goes_with}, Iface.Types.{instances_of}}
 
 -- the unit is present and not broken, and this is what it declares
 abbrev pub IsDeclaredAt : Sources → List ℕ → DeclTree → Type 0

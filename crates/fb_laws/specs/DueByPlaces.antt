@@ -1,10 +1,7 @@
 -- When a key waits, said by places in the list of calls alone.
 use Rattle.std.specs.Prelude.{◌≡◌, ℕ, ◌<◌, true, ◌⊎◌, ◌↔◌, List, Some, take, slice_get}
 use Rattle.fb_jobs.specs.declared.key.Key.{Key}
-use Rattle.fb_history.specs.Limits.{Bounds}
-use Rattle.fb_history.specs.Machine.{State, Call}
-use Rattle.fb_history.specs.BenchView.{BenchView, replay}
-use Rattle.fb_history.specs.Due.{marks, settles, due_from, is_due}
+use Rattle.fb_history.specs.{Limits.{Bounds}, Machine.{State, Call}, BenchView.{BenchView, replay}, Due.{marks, settles, due_from, is_due}}
 use Rattle.fb_history.specs.Checkpoints.{checkpointed}
 
 -- the call at a place, and that it marks the key where the calls before it have led

@@ -1,13 +1,12 @@
 -- The networks of a unit, and what the ends of their connections name.
 use Rattle.std.specs.Prelude.{◌≡◌, ◌≢◌, ℕ, List, [], Option, Some, None, option_map, Contains}
 use Rattle.fb_laws.specs.Common.{NameUse, Span, ApplicationTree, NetworkTree, SystemTree, TypeTree, block_type, subapplication_type, system_configuration, Side, Input, Output, UnitKind, Connection, End, Sort, Sources, tree_at, DeclaredEvent, DeclaredInstance, DeclaredVariable, first_ones, stands_for, Meanings, instances_in, meanings_in_type, Holder, Own, OfInstance, OfPlug, OfSocket, Port, Position, Source, Destination}
+use Rattle.fb_laws.specs.{Places.{span_through}, Usable.{IsUsable}}
 use Rattle.fb_tree.specs.declared.interface.Section.TheVariants as sections
 use Rattle.fb_tree.specs.declared.kinds.UnitKind.TheVariants as kinds
 use Rattle.fb_tree.specs.declared.network.Role.TheVariants as roles
 use Rattle.fb_tree.specs.declared.network.Sort.TheVariants as sorts
 use Rattle.fb_netcheck.specs.declared.ends.Flow.TheVariants as flows
-use Rattle.fb_laws.specs.Places.{span_through}
-use Rattle.fb_laws.specs.Usable.{IsUsable}
 
 -- where a network stands: the unit, what it is, and what its own names stand for
 pub record Site : Type 0 where

@@ -1,9 +1,7 @@
 -- What a unit is made of, what it holds, and what of both keeps it from having a flat network.
-use Rattle.std.specs.Prelude.{◌≡◌, ◌≢◌, ◌↔◌, ℕ, false, List, [], Some, None, Contains}
-use Rattle.std.specs.FinMap.{get}
+use Rattle.std.specs.{Prelude.{◌≡◌, ◌≢◌, ◌↔◌, ℕ, false, List, [], Some, None, Contains}, FinMap.{get}}
 use Rattle.fb_laws.specs.Common.{is_elementary, DeclTree, InstanceTree, VariablesTree, Sources, faults_of, IsWhole, PlainNet, blocked, recursive, net_at}
-use Rattle.fb_laws.specs.Declarations.{IsDeclaredAt}
-use Rattle.fb_laws.specs.Declared.{AreDeclaredIn, IsHeldIn}
+use Rattle.fb_laws.specs.{Declarations.{IsDeclaredAt}, Declared.{AreDeclaredIn, IsHeldIn}}
 
 -- A unit is made of itself; of the type of each instance, plug and socket in what it is made of; and of the type of each variable or field in
 -- that, but for elementary ones. This grows by one declaration at its end. A name of these need not be that of a unit.

@@ -1,18 +1,15 @@
 -- Each code of networks in words of its own: where the list of faults has it.
 use Rattle.std.specs.Prelude.{◌≡◌, ◌≢◌, ℕ, List, ◌∷◌, ◌++◌, Some, Contains}
 use Rattle.fb_laws.specs.Common.{NameUse, Span, InstanceTree, NetworkTree, ParameterTree, TypeUse, Connection, End, Sources, Free, DataType, Literal, ParameterUnknown, PassThrough, PortSide, PortUnknown, SecondAdapter, SecondSource, DeclaredVariable, class_of_type, stands_for, Meanings, Holder, Own, Port, Position, Source, Destination}
+use Rattle.fb_laws.specs.{Declarations.{IsMisfit}, Ends.{HaveSameNames, IsEndOf, IsNetworkOf, IsReachedBy, IsRightSide, Names, NamesRight, Site, place_of}}
+use Rattle.fb_laws.specs.{Usable.{IsNotJudged, IsUsable}, UnitParts.{IsReportedWhere, Networks}}
 use Rattle.fb_tree.specs.declared.interface.Section.TheVariants as sections
 use Rattle.fb_tree.specs.declared.interface.TypeForm.TheVariants as forms
 use Rattle.fb_tree.specs.declared.kinds.UnitKind.TheVariants as kinds
 use Rattle.fb_tree.specs.declared.network.Role.TheVariants as roles
 use Rattle.fb_tree.specs.declared.network.Sort.TheVariants as sorts
-use Rattle.fb_laws.specs.Declarations.{IsMisfit}
-use Rattle.fb_netcheck.specs.declared.ends.Flow.{Flow}
+use Rattle.fb_netcheck.specs.{declared.ends.Flow.{Flow}, Spellings.{words_at}}
 use Rattle.fb_netcheck.specs.declared.ends.Flow.TheVariants as flows
-use Rattle.fb_netcheck.specs.Spellings.{words_at}
-use Rattle.fb_laws.specs.Ends.{HaveSameNames, IsEndOf, IsNetworkOf, IsReachedBy, IsRightSide, Names, NamesRight, Site, place_of}
-use Rattle.fb_laws.specs.Usable.{IsNotJudged, IsUsable}
-use Rattle.fb_laws.specs.UnitParts.{IsReportedWhere, Networks}
 
 -- an end that names no port of the connection's sort, and is none of an instance that connections of this sort reach and whose type is not usable
 pub record HasUnknownPort (sources : Sources) (unit : List ℕ) (span : Span) : Type 0 where

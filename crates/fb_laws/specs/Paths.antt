@@ -1,11 +1,8 @@
 -- What stands at the paths of a system, at all depths, and what its mappings say of them, as the texts declare both.
-use Rattle.std.specs.Prelude.{◌≡◌, ◌≢◌, ◌↔◌, ◌≤◌, ℕ, List, [], ◌∷◌, ◌++◌, length, map, Some, Contains, codes}
-use Rattle.std.specs.List.{flat_map}
+use Rattle.std.specs.{Prelude.{◌≡◌, ◌≢◌, ◌↔◌, ◌≤◌, ℕ, List, [], ◌∷◌, ◌++◌, length, map, Some, Contains, codes}, List.{flat_map}}
 use Rattle.fb_laws.specs.Common.{ApplicationTree, InstanceTree, MappingTree, SystemTree, TypeTree, subapplication_type, Block, Subapplication, Sources, tree_at, planned, faulty, plan_at, PlainResource, Link}
-use Rattle.fb_placing.specs.declared.homes.Misplaced.{Misplaced}
-use Rattle.fb_placing.specs.declared.homes.Misplaced.TheVariants.{NoSuchBlock, Unmapped}
-use Rattle.fb_laws.specs.Mappings.{IsSystemAt}
-use Rattle.fb_laws.specs.Plans.{BeginsWith}
+use Rattle.fb_laws.specs.{Mappings.{IsSystemAt}, Plans.{BeginsWith}}
+use Rattle.fb_placing.specs.{declared.homes.Misplaced.{Misplaced}, declared.homes.Misplaced.TheVariants.{NoSuchBlock, Unmapped}}
 
 -- ---- paths
 

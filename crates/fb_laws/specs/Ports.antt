@@ -1,8 +1,8 @@
 -- The ports of a unit in words of their own: which ports its interface lists, and in which order.
 use Rattle.std.specs.Prelude.{◌≡◌, ◌↔◌, ℕ, ◌<◌, List, [], Some, Contains, slice_get}
 use Rattle.fb_laws.specs.Common.{DeclTree, NetworkTree, StructureTree, SystemTree, TypeTree, structure_type, system_configuration, Side, TypeUse, Role, tree_of, DeclaredEvent, DeclaredInstance, DeclaredVariable, stands_for, Meanings, data_on, events_on, instances_as, meanings_in, meanings_in_network, meanings_of}
-use Rattle.fb_tree.specs.declared.interface.Section.TheVariants as sections
 use Rattle.fb_laws.specs.Declared.{IsBefore, IsDataOn, IsEventOn, IsFirstEvent, IsFirstInstance, IsFirstVariable, IsInstanceAs, IsType, IsVariableIn}
+use Rattle.fb_tree.specs.declared.interface.Section.TheVariants as sections
 
 -- the interface of a text, where this spells a unit
 abbrev pub WholeTextsHaveInterfaces : Type 0

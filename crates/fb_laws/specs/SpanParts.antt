@@ -1,6 +1,5 @@
 -- The parts of a tree that keep where they stand in the text.
-use Rattle.std.specs.Prelude.{List, [], ◌∷◌, ◌++◌, map, Option, Some, None}
-use Rattle.std.specs.List.{flat_map}
+use Rattle.std.specs.{Prelude.{List, [], ◌∷◌, ◌++◌, map, Option, Some, None}, List.{flat_map}}
 use Rattle.fb_laws.specs.Common.{NameUse, Span, Kind, ReferenceTree, Expression, literal_expression, reference_expression, unary_expression, row_expression, parentheses, Expressions, no_expressions, expression_then, Operands, no_operands, operand_then, Statement, empty, assignment, exit, return, choice, selection, count, while_loop, repeat_loop, Statements, no_statements, statement_then, Arms, no_arms, arm_then, ConstantTree, one_value, value_list, EventTree, VariablesTree, InterfaceTree, ParameterTree, InstanceTree, NetworkTree, StateTree, ConditionTree, always, on_event, guarded, guard, TransitionTree, AlgorithmTree, ChartTree, TypeTree, ApplicationTree, ResourceTree, DeviceTree, MappingTree, SystemTree, StructureTree, DeclTree, block_type, adapter_type, subapplication_type, system_configuration, structure_type, Action, Simple, BinaryUse, UnaryUse, TypeUse, Connection, End}
 use Rattle.fb_structured_text.specs.Forms.declared.kind.Kind.TheVariants.{Assign, One}
 use Rattle.fb_tree.specs.declared.constant.Simple.TheVariants as simple

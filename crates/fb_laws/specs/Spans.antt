@@ -1,11 +1,8 @@
 -- The laws of the parts of trees that keep where they stand.
-use Rattle.std.specs.Prelude.{◌≡◌, ℕ, suc, ◌+◌, ◌<◌, List, All, Contains, Ok, IsUtf8}
-use Rattle.std.specs.List.{sum_by}
+use Rattle.std.specs.{Prelude.{◌≡◌, ℕ, suc, ◌+◌, ◌<◌, List, All, Contains, Ok, IsUtf8}, List.{sum_by}}
 use Rattle.fb_text.specs.Tokens.{tokens_of, spans_of, LiesIn}
 use Rattle.fb_laws.specs.Common.{NameUse, Token, body_of, Whole, lexemes_of, Lexeme, ReferenceTree, reference_expression, Expressions, no_expressions, expression_then, ConstantTree, DeclTree}
-use Rattle.fb_laws.specs.Alone.{ReadsAlone, ConstantReadsAlone}
-use Rattle.fb_laws.specs.SpanParts.{name_part, constant_part, expression_part, tree_parts}
-use Rattle.fb_laws.specs.Standing.{Covers, IsWord}
+use Rattle.fb_laws.specs.{Alone.{ReadsAlone, ConstantReadsAlone}, SpanParts.{name_part, constant_part, expression_part, tree_parts}, Standing.{Covers, IsWord}}
 use Rattle.fb_laws.specs.Written.{part_span, IsWritten}
 
 -- Each part of the tree of a text is what the tokens from its begin to its end spell.

@@ -1,6 +1,5 @@
 -- Where spans and names stand among the tokens of a text.
-use Rattle.std.specs.Prelude.{◌≡◌, ℕ, List, ◌∷◌, ◌++◌, slice_range, Contains}
-use Rattle.std.specs.Str.{str_to_ascii_uppercase}
+use Rattle.std.specs.{Prelude.{◌≡◌, ℕ, List, ◌∷◌, ◌++◌, slice_range, Contains}, Str.{str_to_ascii_uppercase}}
 use Rattle.fb_laws.specs.Common.{NameUse, Span, Token}
 use Rattle.fb_text.specs.declared.token.TokenKind.TheVariants.{Word}
 

@@ -1,6 +1,5 @@
 -- Units whose text is broken, whole or absent.
-use Rattle.std.specs.Prelude.{◌≡◌, ◌≢◌, ℕ, List, [], ◌∷◌, Some, None, Contains, ◌↔◌}
-use Rattle.std.specs.FinMap.{get}
+use Rattle.std.specs.{Prelude.{◌≡◌, ◌≢◌, ℕ, List, [], ◌∷◌, Some, None, Contains, ◌↔◌}, FinMap.{get}}
 use Rattle.fb_laws.specs.Common.{Span, DeclTree, BrokenAt, IsBody, Sources, tree_at, Syntax, Fault, faults_of}
 
 -- the unit is present, its text spells no declaration, and this is where it is broken

@@ -1,11 +1,10 @@
 -- The parts of the check of a unit, the codes that each has, and which faults of the unit are whose.
 use Rattle.std.specs.Prelude.{◌≡◌, ◌≢◌, ℕ, List, Some, Contains, ◌↔◌, ◌⊎◌}
 use Rattle.fb_laws.specs.Common.{Span, DeclTree, Sources, tree_at, iface_faults_of, Syntax, NameDiffers, Duplicate, MixedKind, UnknownType, WrongKind, WithUnknown, StateUnknown, EventUnknown, AlgorithmUnknown, VariableUnknown, Class, PortUnknown, PortSide, DataType, SecondSource, SecondAdapter, PassThrough, ParameterUnknown, Literal, MappedTwice, NoSuchResource, MemberUnknown, StructRecursive, Fault, faults_of}
-use Rattle.fb_deploy.specs.Iface.declared.code.Code.{Code}
+use Rattle.fb_deploy.specs.{Iface.declared.code.Code.{Code}, Faults.Mappings.{mapping_faults_of}}
 use Rattle.fb_expr.specs.Charts.{expr_faults_of}
 use Rattle.fb_ecc.specs.Charts.{ecc_faults_of}
 use Rattle.fb_netcheck.specs.Networks.{net_faults_of}
-use Rattle.fb_deploy.specs.Faults.Mappings.{mapping_faults_of}
 
 -- the parts of the check of a unit whose text is not broken
 pub data Part : Type 0 where

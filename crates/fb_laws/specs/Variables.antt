@@ -1,11 +1,11 @@
 -- The variables that references begin at, and the fields that their further names lead to.
 use Rattle.std.specs.Prelude.{◌≡◌, ◌≢◌, ◌⊎◌, ℕ, Bool, true, false, List, [], ◌∷◌, Some, None}
 use Rattle.fb_laws.specs.Common.{is_elementary, ReferenceTree, StructureTree, TypeTree, adapter_type, structure_type, Section, TypeUse, Member, Sources, tree_at, class_of_name, is_free, stands_for, meanings_in_type, DeclaredInstance, DeclaredVariable}
+use Rattle.fb_laws.specs.Usable.{IsAdapter}
 use Rattle.fb_tree.specs.declared.interface.Section.TheVariants.{Input, Output}
 use Rattle.fb_tree.specs.declared.interface.TypeForm.TheVariants as forms
 use Rattle.fb_deploy.specs.Iface.Fields.{fields_in}
 use Rattle.fb_expr.specs.References.{is_some_count}
-use Rattle.fb_laws.specs.Usable.{IsAdapter}
 
 -- a section of data inputs or of data outputs
 abbrev pub IsData : Section → Type 0

@@ -1,12 +1,9 @@
 -- What the tokens within the span of a part spell.
-use Rattle.std.specs.Prelude.{◌≡◌, ℕ, ◌≤◌, List, [], ◌∷◌, ◌++◌}
-use Rattle.std.specs.List.{flat_map}
+use Rattle.std.specs.{Prelude.{◌≡◌, ℕ, ◌≤◌, List, [], ◌∷◌, ◌++◌}, List.{flat_map}}
 use Rattle.fb_laws.specs.Common.{Span, Form, one, as_value, Spells, Kind, Lexeme, constant, type_use, Expression, literal_expression, reference_expression, unary_expression, row_expression, parentheses, Operands, no_operands, operand_then, constant_span, BinaryUse, UnaryUse}
-use Rattle.fb_structured_text.specs.Forms.Literals.{across}
-use Rattle.fb_structured_text.specs.Forms.Words.{key, name}
-use Rattle.fb_structured_text.specs.Expression.{levels, expression}
-use Rattle.fb_structured_text.specs.Operators.{signs, strengths, unary_use, binary_use}
 use Rattle.fb_laws.specs.SpanParts.{Part, name_part, constant_part, type_part, expression_part, sign_part, operator_part, mark_part}
+use Rattle.fb_structured_text.specs.{Forms.Literals.{across}, Forms.Words.{key, name}, Expression.{levels, expression}}
+use Rattle.fb_structured_text.specs.Operators.{signs, strengths, unary_use, binary_use}
 
 -- Where a part stands
 

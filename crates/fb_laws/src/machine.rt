@@ -1,9 +1,7 @@
 //! Laws of the machine in other words.
 ghost use Rattle.std.specs.Prelude.{List};
 ghost use Rattle.fb_jobs.specs.declared.key.Key.{Key};
-ghost use Rattle.fb_history.specs.Limits.{Bounds};
-ghost use Rattle.fb_history.specs.Machine.{State, Call};
-ghost use Rattle.fb_history.specs.BenchView.{BenchView, IsOrigin};
+ghost use Rattle.fb_history.specs.{Limits.{Bounds}, Machine.{State, Call}, BenchView.{BenchView, IsOrigin}};
 ghost use Rattle.fb_laws.specs.DueByPlaces.{IsDueByPlaces, DueGoesOn};
 
 /// A key waits if and only if a place in the list of calls marks it and none after that marks or settles it, or if it was pending

@@ -1,29 +1,18 @@
 -- Networks without faults are clean.
 use Rattle.std.proofs.Common.{◌≡◌, ℕ, Bool, true, false, cond, ◌&&◌, not, List, [], ◌∷◌, ◌++◌, Option, Some, None, map, refl}
-use Rattle.std.specs.List.{All, flat_map}
 use Rattle.std.proofs.lemmas.List.Elements.{All-cons, All-map, All-nil}
+use Rattle.std.specs.List.{All, flat_map}
 use Rattle.fb_tree.specs.Tree.{DeclTree, NetworkTree, block_type, adapter_type, subapplication_type, system_configuration, structure_type}
-use Rattle.fb_tree.specs.declared.kinds.UnitKind.{UnitKind}
-use Rattle.fb_tree.specs.declared.kinds.UnitKind.TheVariants.{Block, Adapter, Subapplication, System, Structure}
-use Rattle.fb_tree.specs.declared.network.Connection.{Connection}
-use Rattle.fb_tree.specs.declared.network.End.{End}
-use Rattle.fb_iface.specs.Library.View.{Sources, tree_at}
-use Rattle.fb_iface.specs.Ports.{same_side}
-use Rattle.fb_iface.specs.declared.fault.Fault.{Fault}
-use Rattle.fb_netcheck.specs.declared.ends.Position.{Position}
-use Rattle.fb_netcheck.specs.declared.ends.Position.TheVariants.{Source, Destination}
-use Rattle.fb_netcheck.specs.declared.ends.Target.{Target}
+use Rattle.fb_tree.specs.{declared.kinds.UnitKind.{UnitKind}, declared.kinds.UnitKind.TheVariants.{Block, Adapter, Subapplication, System, Structure}}
+use Rattle.fb_tree.specs.{declared.network.Connection.{Connection}, declared.network.End.{End}}
+use Rattle.fb_iface.specs.{Library.View.{Sources, tree_at}, Ports.{same_side}, declared.fault.Fault.{Fault}}
+use Rattle.fb_netcheck.specs.{declared.ends.Position.{Position}, declared.ends.Position.TheVariants.{Source, Destination}, declared.ends.Target.{Target}}
 use Rattle.fb_netcheck.specs.declared.ends.Target.TheVariants.{Unknown, NotJudged, Found}
-use Rattle.fb_netcheck.specs.Clean.{IsCleanConnection, IsCleanEnd, IsCleanNetwork, FaultlessNetworksAreClean, PassesNothing}
-use Rattle.fb_netcheck.specs.Connections.{connection_faults}
-use Rattle.fb_netcheck.specs.Ends.{is_right, right_side, target}
-use Rattle.fb_netcheck.specs.Networks.{application_place, network_faults, networks_in, tree_faults}
-use Rattle.fb_netcheck.specs.Parameters.{all_parameters}
-use Rattle.fb_netcheck.specs.Paths.{repeated}
-use Rattle.fb_netcheck.specs.Repeats.{all_adapter_ends, data_destinations, end_path, second_adapters, second_sources}
-use Rattle.fb_netcheck.specs.Settings.{NetworkPlace}
-use Rattle.fb_netcheck.specs.Sides.{end_faults, is_own_port, pass_through_faults}
-use Rattle.fb_netcheck.specs.Types.{joined_types, same_at_ends, targets_agree}
+use Rattle.fb_netcheck.specs.{Clean.{IsCleanConnection, IsCleanEnd, IsCleanNetwork, FaultlessNetworksAreClean, PassesNothing}, Connections.{connection_faults}}
+use Rattle.fb_netcheck.specs.{Ends.{is_right, right_side, target}, Networks.{application_place, network_faults, networks_in, tree_faults}}
+use Rattle.fb_netcheck.specs.{Parameters.{all_parameters}, Paths.{repeated}}
+use Rattle.fb_netcheck.specs.{Repeats.{all_adapter_ends, data_destinations, end_path, second_adapters, second_sources}, Settings.{NetworkPlace}}
+use Rattle.fb_netcheck.specs.{Sides.{end_faults, is_own_port, pass_through_faults}, Types.{joined_types, same_at_ends, targets_agree}}
 
 pub left_none : {A : Type 0} (xs ys : List A) → xs ++ ys ≡ [] → xs ≡ []
 left_none [] ys e = refl

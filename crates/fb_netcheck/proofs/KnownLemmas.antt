@@ -1,14 +1,11 @@
 -- One more part of a text that is spelled out.
 use Rattle.std.proofs.Common.{◌≡◌, ℕ, Bool, true, false, cond, Vec, Option, Some, sym, ap, ◌∙◌}
-use Rattle.std.specs.BTreeMap.{is_at}
-use Rattle.std.specs.FinMap.{nat_cmp-IsAntisymmetric, slice_cmp-IsAntisymmetric}
-use Rattle.std.specs.Ordering.{nat_cmp, ordering_then}
+use Rattle.std.specs.{BTreeMap.{is_at}, FinMap.{nat_cmp-IsAntisymmetric, slice_cmp-IsAntisymmetric}, Ordering.{nat_cmp, ordering_then}}
 use Rattle.std.specs.declared.alloc.Global.{Global}
 use Rattle.fb_tree.proofs.Text.OrderLemmas.{is_equal, both_equal}
 use Rattle.fb_tree.specs.Text.Order.{name_cmp}
 use Rattle.fb_iface.specs.Library.View.{Sources}
-use Rattle.fb_netcheck.specs.Known.{AreSpellings, PartKey, part_cmp}
-use Rattle.fb_netcheck.specs.Spellings.{words_at}
+use Rattle.fb_netcheck.specs.{Known.{AreSpellings, PartKey, part_cmp}, Spellings.{words_at}}
 
 -- parts that compare equal are one
 same_part : (a b : PartKey) → is_at (part_cmp a) b ≡ true → a ≡ b

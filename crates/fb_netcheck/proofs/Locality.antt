@@ -1,33 +1,17 @@
 -- The faults of networks depend on the texts of the unit and of its parts alone.
 use Rattle.std.proofs.Common.{◌≡◌, ℕ, Bool, true, false, cond, List, [], ◌∷◌, ◌++◌, Option, Some, None, filter, map, nat_eq, refl, sym, ap, ◌∙◌, ◌+◌, subst, unwrap_or, arith}
-use Rattle.std.specs.Cmp.Lexicographic.{pointwise}
-use Rattle.std.specs.FinMap.{get}
-use Rattle.std.specs.List.{Contains, enumerate_from, flat_map}
-use Rattle.std.specs.Option.{option_and_then, option_map_or}
 use Rattle.std.proofs.lemmas.List.Elements.{Contains-append_left, Contains-append_right}
-use Rattle.fb_tree.specs.Text.declared.name.NameUse.{NameUse}
-use Rattle.fb_tree.specs.Mentions.{instance_types, types_in}
+use Rattle.std.specs.{Cmp.Lexicographic.{pointwise}, FinMap.{get}, List.{Contains, enumerate_from, flat_map}, Option.{option_and_then, option_map_or}}
+use Rattle.fb_tree.specs.{Text.declared.name.NameUse.{NameUse}, Mentions.{instance_types, types_in}}
 use Rattle.fb_tree.specs.Tree.{ApplicationTree, DeclTree, InstanceTree, NetworkTree, TypeTree, block_type, adapter_type, subapplication_type, system_configuration, structure_type}
-use Rattle.fb_tree.specs.declared.kinds.UnitKind.{UnitKind}
-use Rattle.fb_tree.specs.declared.kinds.UnitKind.TheVariants.{Block, Subapplication, System}
-use Rattle.fb_tree.specs.declared.network.Connection.{Connection}
-use Rattle.fb_tree.specs.declared.network.End.{End}
-use Rattle.fb_iface.specs.Library.View.{Sources, parts_in, tree_at, tree_of}
-use Rattle.fb_iface.proofs.Library.Locality.{near_part, near_unit}
-use Rattle.fb_iface.proofs.ScopeLocal.{in_order_has, network_scope_local, scope_local}
-use Rattle.fb_iface.specs.Names.{first_ones, is_same, stands_for}
-use Rattle.fb_iface.specs.Ports.{instances_in}
-use Rattle.fb_iface.specs.Scope.{Scope, scope_of_network, scope_of_type}
-use Rattle.fb_iface.specs.declared.ports.DeclaredInstance.{DeclaredInstance}
-use Rattle.fb_netcheck.specs.Connections.{connection_faults}
-use Rattle.fb_netcheck.specs.Ends.{target}
-use Rattle.fb_netcheck.specs.Local.{NetFaultsAreLocal}
-use Rattle.fb_netcheck.specs.Networks.{application_network, declared_faults, network_faults, tree_faults, type_network}
-use Rattle.fb_netcheck.specs.Parameters.{all_parameters}
-use Rattle.fb_netcheck.specs.Repeats.{second_adapters, second_sources}
-use Rattle.fb_netcheck.specs.Settings.{NetworkPlace}
-use Rattle.fb_iface.specs.Library.Parts.{part}
-use Rattle.fb_netcheck.specs.Spellings.{same_by_form, words}
+use Rattle.fb_tree.specs.{declared.kinds.UnitKind.{UnitKind}, declared.kinds.UnitKind.TheVariants.{Block, Subapplication, System}}
+use Rattle.fb_tree.specs.{declared.network.Connection.{Connection}, declared.network.End.{End}}
+use Rattle.fb_iface.specs.{Library.View.{Sources, parts_in, tree_at, tree_of}, Names.{first_ones, is_same, stands_for}, Ports.{instances_in}}
+use Rattle.fb_iface.specs.{Scope.{Scope, scope_of_network, scope_of_type}, declared.ports.DeclaredInstance.{DeclaredInstance}, Library.Parts.{part}}
+use Rattle.fb_iface.proofs.{Library.Locality.{near_part, near_unit}, ScopeLocal.{in_order_has, network_scope_local, scope_local}}
+use Rattle.fb_netcheck.specs.{Connections.{connection_faults}, Ends.{target}, Local.{NetFaultsAreLocal}}
+use Rattle.fb_netcheck.specs.{Networks.{application_network, declared_faults, network_faults, tree_faults, type_network}, Parameters.{all_parameters}}
+use Rattle.fb_netcheck.specs.{Repeats.{second_adapters, second_sources}, Settings.{NetworkPlace}, Spellings.{same_by_form, words}}
 use Rattle.fb_netcheck.specs.Types.{flow_faults, home, home_of, joined_types}
 
 -- each item of a list has the fact

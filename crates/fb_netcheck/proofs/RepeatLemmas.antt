@@ -1,16 +1,11 @@
 -- One more path among those that were seen.
 use Rattle.std.proofs.Common.{◌≡◌, ℕ, ◌+◌, ◌<◌, Bool, true, false, cond, ◌||◌, List, [], ◌∷◌, ◌++◌, length, get_or, map, take, refl, sym, ap, ◌∙◌, append-nil, arith, nat_eq}
-use Rattle.std.specs.Cmp.Lexicographic.{lists_ties, pointwise}
-use Rattle.std.specs.HashSet.{HashSet, contains, Updates}
-use Rattle.std.specs.Prelude.{Vec}
-use Rattle.std.specs.declared.alloc.Global.{Global}
-use Rattle.std.proofs.Math.Bool.{or-false, or_assoc}
-use Rattle.std.proofs.lemmas.List.{map-append}
+use Rattle.std.proofs.{Math.Bool.{or-false, or_assoc}, lemmas.List.{map-append}}
+use Rattle.std.specs.{Cmp.Lexicographic.{lists_ties, pointwise}, HashSet.{HashSet, contains, Updates}, Prelude.{Vec}, declared.alloc.Global.{Global}}
 use Rattle.fb_tree.proofs.Text.OrderLemmas.{same_name}
 use Rattle.fb_tree.specs.Text.Order.{name_cmp}
 use Rattle.fb_iface.specs.declared.code.Code.{Code}
-use Rattle.fb_iface.proofs.RepeatLemmas.{true_or}
-use Rattle.fb_iface.proofs.PlaceLemmas.{passing, passing-all, passing-more}
+use Rattle.fb_iface.proofs.{RepeatLemmas.{true_or}, PlaceLemmas.{passing, passing-all, passing-more}}
 use Rattle.fb_netcheck.specs.Paths.{Path, PathUse, fault_at_path, has_path, is_repeated, repeated, same_path}
 
 abbrev pub Key : Type 0

@@ -1,41 +1,23 @@
 -- Where types are usable and networks have no faults, each end is a port of the right side.
 use Rattle.std.proofs.Common.{◌≡◌, ℕ, Bool, true, false, cond, ◌||◌, List, [], ◌∷◌, ◌++◌, Option, Some, None, get_or, is_some, map, refl, sym, ap, ◌∙◌}
-use Rattle.std.specs.Cmp.Lexicographic.{nat_list_eq_equiv}
-use Rattle.std.specs.List.{All, flat_map}
-use Rattle.std.specs.Option.{option_and_then}
-use Rattle.std.proofs.lemmas.Bool.{or_right}
-use Rattle.std.proofs.lemmas.Grind.{flat_map-append}
-use Rattle.std.proofs.lemmas.List.Elements.{All-cons, All-map, All-nil}
+use Rattle.std.proofs.{lemmas.Bool.{or_right}, lemmas.Grind.{flat_map-append}, lemmas.List.Elements.{All-cons, All-map, All-nil}}
+use Rattle.std.specs.{Cmp.Lexicographic.{nat_list_eq_equiv}, List.{All, flat_map}, Option.{option_and_then}}
 use Rattle.fb_tree.proofs.Text.OrderLemmas.{same_name}
-use Rattle.fb_tree.specs.Text.declared.name.NameUse.{NameUse}
-use Rattle.fb_tree.specs.Mentions.{unit_kind_of}
+use Rattle.fb_tree.specs.{Text.declared.name.NameUse.{NameUse}, Mentions.{unit_kind_of}}
 use Rattle.fb_tree.specs.Tree.{ApplicationTree, DeclTree, InstanceTree, NetworkTree, block_type, adapter_type, subapplication_type, system_configuration, structure_type}
-use Rattle.fb_tree.specs.declared.kinds.UnitKind.{UnitKind}
-use Rattle.fb_tree.specs.declared.kinds.UnitKind.TheVariants.{Block, Subapplication}
-use Rattle.fb_tree.specs.declared.network.Role.{Role}
+use Rattle.fb_tree.specs.{declared.kinds.UnitKind.{UnitKind}, declared.kinds.UnitKind.TheVariants.{Block, Subapplication}, declared.network.Role.{Role}}
 use Rattle.fb_tree.specs.declared.network.Sort.{Sort}
 use Rattle.fb_iface.specs.Library.View.{Sources, tree_at}
 use Rattle.fb_iface.specs.Declarations.{declaration_faults, duplicate_faults, literal_faults_of, mixed_faults, name_faults, with_faults_of}
-use Rattle.fb_iface.specs.Recursion.{recursion_faults}
-use Rattle.fb_iface.specs.Names.{first_ones, has_name, is_same, stands_for}
-use Rattle.fb_iface.specs.Ports.{Meanings, instances_in, meanings_in}
-use Rattle.fb_iface.specs.Scope.{instance_ports, mentioned_type, ports_of, type_ports_of, usable}
-use Rattle.fb_iface.specs.Types.{instance_faults, suits, type_fault, type_faults}
-use Rattle.fb_iface.specs.declared.fault.Fault.{Fault}
-use Rattle.fb_iface.specs.declared.ports.DeclaredInstance.{DeclaredInstance}
-use Rattle.fb_netcheck.specs.declared.ends.Holder.{Holder}
-use Rattle.fb_netcheck.specs.declared.ends.Holder.TheVariants.{Own}
-use Rattle.fb_netcheck.specs.declared.ends.Port.{Port}
-use Rattle.fb_netcheck.specs.declared.ends.Position.{Position}
-use Rattle.fb_netcheck.specs.declared.ends.Position.TheVariants.{Source, Destination}
-use Rattle.fb_netcheck.specs.declared.ends.Target.{Target}
-use Rattle.fb_netcheck.specs.declared.ends.Target.TheVariants.{Unknown, NotJudged, Found}
-use Rattle.fb_netcheck.specs.Clean.{AreRight, ConnectionsAreRight, IsCleanEnd}
+use Rattle.fb_iface.specs.{Recursion.{recursion_faults}, Names.{first_ones, has_name, is_same, stands_for}, Ports.{Meanings, instances_in, meanings_in}}
+use Rattle.fb_iface.specs.{Scope.{instance_ports, mentioned_type, ports_of, type_ports_of, usable}, Types.{instance_faults, suits, type_fault, type_faults}}
+use Rattle.fb_iface.specs.{declared.fault.Fault.{Fault}, declared.ports.DeclaredInstance.{DeclaredInstance}}
+use Rattle.fb_netcheck.specs.{declared.ends.Holder.{Holder}, declared.ends.Holder.TheVariants.{Own}, declared.ends.Port.{Port}}
+use Rattle.fb_netcheck.specs.{declared.ends.Position.{Position}, declared.ends.Position.TheVariants.{Source, Destination}, declared.ends.Target.{Target}}
+use Rattle.fb_netcheck.specs.{declared.ends.Target.TheVariants.{Unknown, NotJudged, Found}, Clean.{AreRight, ConnectionsAreRight, IsCleanEnd}}
 use Rattle.fb_netcheck.specs.Ends.{holder_of, is_right, port_in, target_held, target_named, target_of, target_of_instance}
-use Rattle.fb_netcheck.specs.Networks.{application_network, application_place, network_faults, networks_in, tree_faults, type_place}
-use Rattle.fb_netcheck.specs.Settings.{NetworkPlace}
-use Rattle.fb_netcheck.proofs.CleanLemmas.{clean_network, left_none, none_of_each, right_none}
-use Rattle.fb_netcheck.proofs.Locality.{Each, instance_stands}
+use Rattle.fb_netcheck.specs.{Networks.{application_network, application_place, network_faults, networks_in, tree_faults, type_place}, Settings.{NetworkPlace}}
+use Rattle.fb_netcheck.proofs.{CleanLemmas.{clean_network, left_none, none_of_each, right_none}, Locality.{Each, instance_stands}}
 
 usable_some : (role : Role) (name : NameUse) (tree : Option DeclTree) → type_fault role name tree ≡ [] → is_some (usable role tree) ≡ true
 usable_some role name None e = absurd (let no : ⊥ = cc in no)

@@ -1,25 +1,12 @@
 -- What networks without faults are like.
-use Rattle.std.specs.Prelude.{◌≡◌, ℕ, Bool, true, false, ◌&&◌, List, [], map}
-use Rattle.std.specs.List.{All}
-use Rattle.fb_tree.specs.Tree.{NetworkTree}
-use Rattle.fb_tree.specs.declared.interface.TypeUse.{TypeUse}
-use Rattle.fb_tree.specs.declared.kinds.UnitKind.{UnitKind}
-use Rattle.fb_tree.specs.declared.kinds.UnitKind.TheVariants.{Subapplication}
-use Rattle.fb_tree.specs.declared.network.Connection.{Connection}
-use Rattle.fb_iface.specs.Library.View.{Sources, tree_at}
-use Rattle.fb_iface.specs.Declarations.{iface_faults_of}
-use Rattle.fb_iface.specs.Ports.{same_side}
-use Rattle.fb_netcheck.specs.declared.ends.Position.{Position}
-use Rattle.fb_netcheck.specs.declared.ends.Position.TheVariants.{Source, Destination}
-use Rattle.fb_netcheck.specs.declared.ends.Target.{Target}
-use Rattle.fb_netcheck.specs.declared.ends.Target.TheVariants.{Unknown, NotJudged, Found}
-use Rattle.fb_netcheck.specs.Ends.{is_right, right_side, target}
-use Rattle.fb_netcheck.specs.Networks.{net_faults_of, networks_in}
-use Rattle.fb_netcheck.specs.Paths.{repeated}
-use Rattle.fb_netcheck.specs.Repeats.{all_adapter_ends, data_destinations, end_path}
-use Rattle.fb_netcheck.specs.Settings.{NetworkPlace}
-use Rattle.fb_netcheck.specs.Sides.{is_own_port}
-use Rattle.fb_netcheck.specs.Types.{same_at_ends, targets_agree}
+use Rattle.std.specs.{Prelude.{◌≡◌, ℕ, Bool, true, false, ◌&&◌, List, [], map}, List.{All}}
+use Rattle.fb_tree.specs.{Tree.{NetworkTree}, declared.interface.TypeUse.{TypeUse}, declared.kinds.UnitKind.{UnitKind}}
+use Rattle.fb_tree.specs.{declared.kinds.UnitKind.TheVariants.{Subapplication}, declared.network.Connection.{Connection}}
+use Rattle.fb_iface.specs.{Library.View.{Sources, tree_at}, Declarations.{iface_faults_of}, Ports.{same_side}}
+use Rattle.fb_netcheck.specs.{declared.ends.Position.{Position}, declared.ends.Position.TheVariants.{Source, Destination}, declared.ends.Target.{Target}}
+use Rattle.fb_netcheck.specs.{declared.ends.Target.TheVariants.{Unknown, NotJudged, Found}, Ends.{is_right, right_side, target}}
+use Rattle.fb_netcheck.specs.{Networks.{net_faults_of, networks_in}, Paths.{repeated}, Repeats.{all_adapter_ends, data_destinations, end_path}}
+use Rattle.fb_netcheck.specs.{Settings.{NetworkPlace}, Sides.{is_own_port}, Types.{same_at_ends, targets_agree}}
 
 -- an end names a port of the right side, or one of a type that is not usable
 abbrev pub IsCleanEnd : Position → Target → Type 0

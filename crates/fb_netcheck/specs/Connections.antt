@@ -1,12 +1,8 @@
 -- The faults of connections.
 use Rattle.std.specs.Prelude.{List, ◌++◌}
-use Rattle.fb_tree.specs.declared.kinds.UnitKind.{UnitKind}
-use Rattle.fb_tree.specs.declared.network.Connection.{Connection}
+use Rattle.fb_tree.specs.{declared.kinds.UnitKind.{UnitKind}, declared.network.Connection.{Connection}}
 use Rattle.fb_iface.specs.declared.fault.Fault.{Fault}
-use Rattle.fb_netcheck.specs.declared.ends.Position.TheVariants.{Source, Destination}
-use Rattle.fb_netcheck.specs.declared.ends.Target.{Target}
-use Rattle.fb_netcheck.specs.Ends.{target}
-use Rattle.fb_netcheck.specs.Settings.{NetworkPlace}
+use Rattle.fb_netcheck.specs.{declared.ends.Position.TheVariants.{Source, Destination}, declared.ends.Target.{Target}, Ends.{target}, Settings.{NetworkPlace}}
 use Rattle.fb_netcheck.specs.Sides.{end_faults, pass_through_faults}
 
 -- the faults of a connection whose ends name these

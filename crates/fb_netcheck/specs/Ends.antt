@@ -1,35 +1,18 @@
 -- What the ends of connections name (IEC 61499-1, 5.3: composite types; 5.4: subapplication types; 5.5: adapters).
-use Rattle.std.specs.Prelude.{ℕ, Bool, false, List, Option, Some, None, option_map}
-use Rattle.std.specs.Option.{option_and_then}
-use Rattle.fb_tree.specs.Text.declared.token.Span.{Span}
-use Rattle.fb_tree.specs.Text.declared.name.NameUse.{NameUse}
-use Rattle.fb_tree.specs.declared.interface.Section.{Section}
+use Rattle.std.specs.{Prelude.{ℕ, Bool, false, List, Option, Some, None, option_map}, Option.{option_and_then}}
+use Rattle.fb_tree.specs.{Text.declared.token.Span.{Span}, Text.declared.name.NameUse.{NameUse}, declared.interface.Section.{Section}}
+use Rattle.fb_tree.specs.{declared.interface.Side.{Side}, declared.interface.Side.TheVariants.{Input, Output}, declared.interface.TypeUse.{TypeUse}}
+use Rattle.fb_tree.specs.{declared.kinds.UnitKind.{UnitKind}, declared.network.End.{End}, declared.network.Role.{Role}, declared.network.Sort.{Sort}}
 use Rattle.fb_tree.specs.declared.interface.Section.TheVariants as sections
-use Rattle.fb_tree.specs.declared.interface.Side.{Side}
-use Rattle.fb_tree.specs.declared.interface.Side.TheVariants.{Input, Output}
-use Rattle.fb_tree.specs.declared.interface.TypeUse.{TypeUse}
-use Rattle.fb_tree.specs.declared.kinds.UnitKind.{UnitKind}
 use Rattle.fb_tree.specs.declared.kinds.UnitKind.TheVariants as kinds
-use Rattle.fb_tree.specs.declared.network.End.{End}
-use Rattle.fb_tree.specs.declared.network.Role.{Role}
 use Rattle.fb_tree.specs.declared.network.Role.TheVariants as roles
-use Rattle.fb_tree.specs.declared.network.Sort.{Sort}
 use Rattle.fb_tree.specs.declared.network.Sort.TheVariants as sorts
-use Rattle.fb_iface.specs.declared.ports.DeclaredEvent.{DeclaredEvent}
-use Rattle.fb_iface.specs.declared.ports.DeclaredInstance.{DeclaredInstance}
-use Rattle.fb_iface.specs.declared.ports.DeclaredVariable.{DeclaredVariable}
-use Rattle.fb_iface.specs.Names.{stands_for}
-use Rattle.fb_iface.specs.Ports.{Meanings, same_side}
+use Rattle.fb_iface.specs.{declared.ports.DeclaredEvent.{DeclaredEvent}, declared.ports.DeclaredInstance.{DeclaredInstance}}
+use Rattle.fb_iface.specs.{declared.ports.DeclaredVariable.{DeclaredVariable}, Names.{stands_for}, Ports.{Meanings, same_side}, Scope.{ports_of}}
 use Rattle.fb_netcheck.specs.declared.ends.Flow.TheVariants as flows
-use Rattle.fb_netcheck.specs.declared.ends.Holder.{Holder}
-use Rattle.fb_netcheck.specs.declared.ends.Holder.TheVariants.{Own, OfInstance, OfPlug, OfSocket}
-use Rattle.fb_netcheck.specs.declared.ends.Port.{Port}
-use Rattle.fb_netcheck.specs.declared.ends.Position.{Position}
-use Rattle.fb_netcheck.specs.declared.ends.Position.TheVariants.{Source, Destination}
-use Rattle.fb_netcheck.specs.declared.ends.Target.{Target}
-use Rattle.fb_iface.specs.Scope.{ports_of}
-use Rattle.fb_netcheck.specs.Settings.{NetworkPlace}
-use Rattle.fb_netcheck.specs.declared.ends.Target.TheVariants.{Unknown, NotJudged, Found}
+use Rattle.fb_netcheck.specs.{declared.ends.Holder.{Holder}, declared.ends.Holder.TheVariants.{Own, OfInstance, OfPlug, OfSocket}, declared.ends.Port.{Port}}
+use Rattle.fb_netcheck.specs.{declared.ends.Position.{Position}, declared.ends.Position.TheVariants.{Source, Destination}, declared.ends.Target.{Target}}
+use Rattle.fb_netcheck.specs.{Settings.{NetworkPlace}, declared.ends.Target.TheVariants.{Unknown, NotJudged, Found}}
 
 -- The side of the port at an end, by whose port it is. What comes in at an own input, or through a plug, is a source inside.
 -- Among adapters a socket is an input and a plug an output.

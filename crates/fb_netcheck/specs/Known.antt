@@ -1,7 +1,5 @@
 -- Types that were spelled out.
-use Rattle.std.specs.Prelude.{◌≡◌, ℕ, List, Vec, Option, Some}
-use Rattle.std.specs.Ordering.{nat_cmp, ordering_then}
-use Rattle.std.specs.declared.alloc.Global.{Global}
+use Rattle.std.specs.{Prelude.{◌≡◌, ℕ, List, Vec, Option, Some}, Ordering.{nat_cmp, ordering_then}, declared.alloc.Global.{Global}}
 use Rattle.std.specs.declared.cmp.Ordering.{Ordering}
 use Rattle.fb_tree.specs.Text.Order.{name_cmp}
 use Rattle.fb_iface.specs.Library.View.{Sources}

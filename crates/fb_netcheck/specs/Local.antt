@@ -1,8 +1,6 @@
 -- What the faults of networks depend on.
 use Rattle.std.specs.Prelude.{◌≡◌, ℕ, List}
-use Rattle.fb_iface.specs.Library.Local.{Agree}
-use Rattle.fb_iface.specs.Library.Near.{near_of}
-use Rattle.fb_iface.specs.Library.View.{Sources}
+use Rattle.fb_iface.specs.{Library.Local.{Agree}, Library.Near.{near_of}, Library.View.{Sources}}
 use Rattle.fb_netcheck.specs.Networks.{net_faults_of}
 
 -- they depend on the texts of what is near the unit alone

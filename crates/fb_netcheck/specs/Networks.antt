@@ -1,16 +1,9 @@
 -- The faults of networks.
-use Rattle.std.specs.Prelude.{ℕ, List, [], ◌∷◌, ◌++◌, map, Option, Some, None}
-use Rattle.std.specs.List.{flat_map}
+use Rattle.std.specs.{Prelude.{ℕ, List, [], ◌∷◌, ◌++◌, map, Option, Some, None}, List.{flat_map}}
 use Rattle.fb_tree.specs.Tree.{ApplicationTree, DeclTree, NetworkTree, TypeTree, block_type, adapter_type, subapplication_type, system_configuration, structure_type}
-use Rattle.fb_tree.specs.declared.kinds.UnitKind.{UnitKind}
-use Rattle.fb_tree.specs.declared.kinds.UnitKind.TheVariants.{Block, Subapplication, System}
-use Rattle.fb_iface.specs.Library.View.{Sources, tree_at}
-use Rattle.fb_iface.specs.declared.fault.Fault.{Fault}
-use Rattle.fb_iface.specs.Scope.{scope_of_network, scope_of_type}
-use Rattle.fb_netcheck.specs.Settings.{NetworkPlace}
-use Rattle.fb_netcheck.specs.Connections.{connection_faults}
-use Rattle.fb_netcheck.specs.Parameters.{all_parameters}
-use Rattle.fb_netcheck.specs.Repeats.{second_adapters, second_sources}
+use Rattle.fb_tree.specs.{declared.kinds.UnitKind.{UnitKind}, declared.kinds.UnitKind.TheVariants.{Block, Subapplication, System}}
+use Rattle.fb_iface.specs.{Library.View.{Sources, tree_at}, declared.fault.Fault.{Fault}, Scope.{scope_of_network, scope_of_type}}
+use Rattle.fb_netcheck.specs.{Settings.{NetworkPlace}, Connections.{connection_faults}, Parameters.{all_parameters}, Repeats.{second_adapters, second_sources}}
 use Rattle.fb_netcheck.specs.Types.{joined_types}
 
 -- the faults of a network

@@ -1,20 +1,11 @@
 -- Parameters of block instances.
-use Rattle.std.specs.Prelude.{List, [], ◌∷◌, Option, Some, None}
-use Rattle.std.specs.List.{flat_map}
-use Rattle.fb_tree.specs.Tree.{InstanceTree, ParameterTree}
-use Rattle.fb_tree.specs.declared.interface.Section.{Section}
-use Rattle.fb_tree.specs.declared.interface.Section.TheVariants.{Input, Output, Internal, Field}
-use Rattle.fb_tree.specs.declared.interface.TypeUse.{TypeUse}
+use Rattle.std.specs.{Prelude.{List, [], ◌∷◌, Option, Some, None}, List.{flat_map}}
+use Rattle.fb_tree.specs.{Tree.{InstanceTree, ParameterTree}, declared.interface.Section.{Section}}
+use Rattle.fb_tree.specs.{declared.interface.Section.TheVariants.{Input, Output, Internal, Field}, declared.interface.TypeUse.{TypeUse}}
 use Rattle.fb_tree.specs.declared.network.Role.{Role}
 use Rattle.fb_tree.specs.declared.network.Role.TheVariants as roles
-use Rattle.fb_iface.specs.declared.code.Code.TheVariants.{ParameterUnknown}
-use Rattle.fb_iface.specs.declared.fault.Fault.{Fault}
-use Rattle.fb_iface.specs.declared.ports.DeclaredVariable.{DeclaredVariable}
-use Rattle.fb_iface.specs.Fault.{fault_at}
-use Rattle.fb_iface.specs.Literals.{constant_faults}
-use Rattle.fb_iface.specs.Names.{stands_for}
-use Rattle.fb_iface.specs.Ports.{Meanings}
-use Rattle.fb_iface.specs.Scope.{Scope}
+use Rattle.fb_iface.specs.{declared.code.Code.TheVariants.{ParameterUnknown}, declared.fault.Fault.{Fault}, declared.ports.DeclaredVariable.{DeclaredVariable}}
+use Rattle.fb_iface.specs.{Fault.{fault_at}, Literals.{constant_faults}, Names.{stands_for}, Ports.{Meanings}, Scope.{Scope}}
 
 -- a value fits the type of its data input
 abbrev pub value_faults : Section → TypeUse → ParameterTree → List Fault

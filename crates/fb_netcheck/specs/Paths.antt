@@ -1,15 +1,8 @@
 -- Paths that stand twice.
-use Rattle.std.specs.Prelude.{ℕ, ◌-◌, Bool, List, length, slice_get, map}
-use Rattle.std.specs.BTreeMap.{is_at}
-use Rattle.std.specs.Cmp.Lexicographic.{slice_cmp}
-use Rattle.std.specs.List.{list_any}
+use Rattle.std.specs.{Prelude.{ℕ, ◌-◌, Bool, List, length, slice_get, map}, BTreeMap.{is_at}, Cmp.Lexicographic.{slice_cmp}, List.{list_any}}
 use Rattle.std.specs.Option.{option_map_or}
-use Rattle.fb_tree.specs.Text.declared.name.NameUse.{NameUse}
-use Rattle.fb_tree.specs.Text.declared.token.Span.{Span}
-use Rattle.fb_tree.specs.Text.Order.{name_cmp}
-use Rattle.fb_iface.specs.Names.{passes_there, passing_there}
-use Rattle.fb_iface.specs.declared.code.Code.{Code}
-use Rattle.fb_iface.specs.declared.fault.Fault.{Fault}
+use Rattle.fb_tree.specs.{Text.declared.name.NameUse.{NameUse}, Text.declared.token.Span.{Span}, Text.Order.{name_cmp}}
+use Rattle.fb_iface.specs.{Names.{passes_there, passing_there}, declared.code.Code.{Code}, declared.fault.Fault.{Fault}}
 
 -- names with points between
 abbrev pub Path : Type 0

@@ -1,15 +1,10 @@
 -- Ends of connections that are ends of an earlier one.
-use Rattle.std.specs.Prelude.{List, [], ◌∷◌, map, Option, Some, None}
-use Rattle.std.specs.List.{flat_map}
-use Rattle.fb_tree.specs.Text.declared.name.NameUse.{NameUse}
-use Rattle.fb_tree.specs.declared.network.Connection.{Connection}
-use Rattle.fb_tree.specs.declared.network.End.{End}
+use Rattle.std.specs.{Prelude.{List, [], ◌∷◌, map, Option, Some, None}, List.{flat_map}}
+use Rattle.fb_tree.specs.{Text.declared.name.NameUse.{NameUse}, declared.network.Connection.{Connection}, declared.network.End.{End}}
 use Rattle.fb_tree.specs.declared.network.Sort.{Sort}
 use Rattle.fb_tree.specs.declared.network.Sort.TheVariants as sorts
-use Rattle.fb_iface.specs.declared.code.Code.TheVariants.{SecondSource, SecondAdapter}
-use Rattle.fb_iface.specs.declared.fault.Fault.{Fault}
-use Rattle.fb_netcheck.specs.Ends.{end_span}
-use Rattle.fb_netcheck.specs.Paths.{Path, PathUse, repeated_faults}
+use Rattle.fb_iface.specs.{declared.code.Code.TheVariants.{SecondSource, SecondAdapter}, declared.fault.Fault.{Fault}}
+use Rattle.fb_netcheck.specs.{Ends.{end_span}, Paths.{Path, PathUse, repeated_faults}}
 
 abbrev pub path_named : NameUse → Option NameUse → Path
 path_named name None = name.name ∷ []

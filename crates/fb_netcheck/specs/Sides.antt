@@ -1,21 +1,13 @@
 -- The faults of the ends of connections.
 use Rattle.std.specs.Prelude.{Bool, true, false, ◌&&◌, List, [], ◌∷◌, if◌then◌else◌}
-use Rattle.fb_tree.specs.Text.declared.token.Span.{Span}
-use Rattle.fb_tree.specs.declared.kinds.UnitKind.{UnitKind}
-use Rattle.fb_tree.specs.declared.kinds.UnitKind.TheVariants as kinds
-use Rattle.fb_tree.specs.declared.network.Connection.{Connection}
+use Rattle.fb_tree.specs.{Text.declared.token.Span.{Span}, declared.kinds.UnitKind.{UnitKind}, declared.network.Connection.{Connection}}
 use Rattle.fb_tree.specs.declared.network.End.{End}
-use Rattle.fb_iface.specs.Ports.{same_side}
-use Rattle.fb_iface.specs.declared.code.Code.{Code}
-use Rattle.fb_iface.specs.declared.code.Code.TheVariants.{PortUnknown, PortSide, PassThrough}
+use Rattle.fb_tree.specs.declared.kinds.UnitKind.TheVariants as kinds
+use Rattle.fb_iface.specs.{Ports.{same_side}, declared.code.Code.{Code}, declared.code.Code.TheVariants.{PortUnknown, PortSide, PassThrough}}
 use Rattle.fb_iface.specs.declared.fault.Fault.{Fault}
-use Rattle.fb_netcheck.specs.declared.ends.Holder.{Holder}
-use Rattle.fb_netcheck.specs.declared.ends.Holder.TheVariants.{Own, OfInstance, OfPlug, OfSocket}
-use Rattle.fb_netcheck.specs.declared.ends.Position.{Position}
-use Rattle.fb_netcheck.specs.declared.ends.Position.TheVariants.{Source, Destination}
-use Rattle.fb_netcheck.specs.declared.ends.Target.{Target}
-use Rattle.fb_netcheck.specs.declared.ends.Target.TheVariants.{Unknown, NotJudged, Found}
-use Rattle.fb_netcheck.specs.Ends.{end_span, right_side}
+use Rattle.fb_netcheck.specs.{declared.ends.Holder.{Holder}, declared.ends.Holder.TheVariants.{Own, OfInstance, OfPlug, OfSocket}}
+use Rattle.fb_netcheck.specs.{declared.ends.Position.{Position}, declared.ends.Position.TheVariants.{Source, Destination}, declared.ends.Target.{Target}}
+use Rattle.fb_netcheck.specs.{declared.ends.Target.TheVariants.{Unknown, NotJudged, Found}, Ends.{end_span, right_side}}
 
 -- a fault at an end
 abbrev pub fault_of : Code → End → Fault

@@ -1,17 +1,9 @@
 -- How types are spelled.
-use Rattle.std.specs.Prelude.{ℕ, Bool, false, List, [], ◌∷◌, ◌++◌, Result, Ok, Err, nat_eq, slice_range}
-use Rattle.std.specs.Cmp.Lexicographic.{pointwise}
-use Rattle.std.specs.List.{flat_map}
+use Rattle.std.specs.{Prelude.{ℕ, Bool, false, List, [], ◌∷◌, ◌++◌, Result, Ok, Err, nat_eq, slice_range}, Cmp.Lexicographic.{pointwise}, List.{flat_map}}
 use Rattle.std.specs.Str.{str_to_ascii_uppercase}
-use Rattle.fb_tree.specs.Text.Tokens.{tokens_of}
-use Rattle.fb_tree.specs.Text.declared.token.Span.{Span}
-use Rattle.fb_tree.specs.Text.declared.token.Token.{Token}
-use Rattle.fb_tree.specs.declared.interface.TypeForm.{TypeForm}
-use Rattle.fb_tree.specs.declared.interface.TypeForm.TheVariants.{Plain, Sized, Array}
-use Rattle.fb_tree.specs.declared.interface.TypeUse.{TypeUse}
-use Rattle.fb_iface.specs.Library.Parts.{part}
-use Rattle.fb_iface.specs.Library.View.{Sources, text_or_empty}
-use Rattle.fb_iface.specs.Names.{is_same}
+use Rattle.fb_tree.specs.{Text.Tokens.{tokens_of}, Text.declared.token.Span.{Span}, Text.declared.token.Token.{Token}, declared.interface.TypeForm.{TypeForm}}
+use Rattle.fb_tree.specs.{declared.interface.TypeForm.TheVariants.{Plain, Sized, Array}, declared.interface.TypeUse.{TypeUse}}
+use Rattle.fb_iface.specs.{Library.Parts.{part}, Library.View.{Sources, text_or_empty}, Names.{is_same}}
 
 -- a token in upper case, with a blank after it
 abbrev pub word : List ℕ → Token → List ℕ

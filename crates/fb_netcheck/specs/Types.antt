@@ -1,24 +1,12 @@
 -- The types of what connections join.
-use Rattle.std.specs.Prelude.{ℕ, Bool, true, ◌&&◌, ◌||◌, not, List, [], ◌∷◌, Option, Some, None, if◌then◌else◌}
-use Rattle.std.specs.Option.{option_map_or}
-use Rattle.fb_tree.specs.Text.declared.name.NameUse.{NameUse}
-use Rattle.fb_tree.specs.declared.interface.TypeUse.{TypeUse}
-use Rattle.fb_tree.specs.declared.network.Connection.{Connection}
+use Rattle.std.specs.{Prelude.{ℕ, Bool, true, ◌&&◌, ◌||◌, not, List, [], ◌∷◌, Option, Some, None, if◌then◌else◌}, Option.{option_map_or}}
+use Rattle.fb_tree.specs.{Text.declared.name.NameUse.{NameUse}, declared.interface.TypeUse.{TypeUse}, declared.network.Connection.{Connection}}
 use Rattle.fb_tree.specs.declared.network.End.{End}
-use Rattle.fb_iface.specs.Library.View.{Sources}
-use Rattle.fb_iface.specs.Class.{class_of_type, is_free}
-use Rattle.fb_iface.specs.Names.{is_same, stands_for}
-use Rattle.fb_iface.specs.declared.code.Code.TheVariants.{DataType}
+use Rattle.fb_iface.specs.{Library.View.{Sources}, Class.{class_of_type, is_free}, Names.{is_same, stands_for}, declared.code.Code.TheVariants.{DataType}}
 use Rattle.fb_iface.specs.declared.fault.Fault.{Fault}
-use Rattle.fb_netcheck.specs.declared.ends.Flow.{Flow}
-use Rattle.fb_netcheck.specs.declared.ends.Flow.TheVariants.{Data, Adapter}
-use Rattle.fb_netcheck.specs.declared.ends.Position.TheVariants.{Source, Destination}
-use Rattle.fb_netcheck.specs.declared.ends.Target.{Target}
-use Rattle.fb_netcheck.specs.declared.ends.Target.TheVariants.{Found}
-use Rattle.fb_netcheck.specs.Settings.{NetworkPlace}
-use Rattle.fb_netcheck.specs.Sides.{fault_of}
-use Rattle.fb_netcheck.specs.Ends.{is_right, target}
-use Rattle.fb_netcheck.specs.Spellings.{same_type}
+use Rattle.fb_netcheck.specs.{declared.ends.Flow.{Flow}, declared.ends.Flow.TheVariants.{Data, Adapter}}
+use Rattle.fb_netcheck.specs.{declared.ends.Position.TheVariants.{Source, Destination}, declared.ends.Target.{Target}, declared.ends.Target.TheVariants.{Found}}
+use Rattle.fb_netcheck.specs.{Settings.{NetworkPlace}, Sides.{fault_of}, Ends.{is_right, target}, Spellings.{same_type}}
 
 -- the unit in whose text the port `name` or `name.port` is declared: the own unit, or the type of the instance
 abbrev pub home_of : NetworkPlace → NameUse → Option NameUse → List ℕ

@@ -1,11 +1,6 @@
 //! Faults of connections.
-ghost use Rattle.std.specs.Prelude.{◌≡◌, ◌++◌, OnOk};
-ghost use Rattle.std.specs.BTreeMap.{get};
-ghost use Rattle.std.specs.List.{flat_map};
-ghost use Rattle.fb_netcheck.specs.Connections.{connection_faults, joined_faults};
-ghost use Rattle.fb_netcheck.specs.Known.{AreSpellings, part_cmp};
-ghost use Rattle.fb_netcheck.specs.Settings.{place_in};
-ghost use Rattle.fb_netcheck.specs.Types.{joined_types};
+ghost use Rattle.std.specs.{Prelude.{◌≡◌, ◌++◌, OnOk}, BTreeMap.{get}, List.{flat_map}};
+ghost use Rattle.fb_netcheck.specs.{Connections.{connection_faults, joined_faults}, Known.{AreSpellings, part_cmp}, Settings.{place_in}, Types.{joined_types}};
 
 use crate::ends::{Position, Target, target_at};
 use crate::setting::Setting;

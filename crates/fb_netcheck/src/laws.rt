@@ -1,6 +1,5 @@
 //! Laws of the faults of networks.
-ghost use Rattle.fb_netcheck.specs.Clean.{ConnectionsAreRight, FaultlessNetworksAreClean};
-ghost use Rattle.fb_netcheck.specs.Local.{NetFaultsAreLocal};
+ghost use Rattle.fb_netcheck.specs.{Clean.{ConnectionsAreRight, FaultlessNetworksAreClean}, Local.{NetFaultsAreLocal}};
 
 /// The faults of the networks of a unit depend only on the texts of what is near it.
 pub fn net_faults_are_local()

@@ -1,6 +1,5 @@
 //! The paths of mappings.
-ghost use Rattle.std.specs.Prelude.{◌≡◌, ◌-◌, IfOk, length, map, slice_get};
-ghost use Rattle.std.specs.Option.{option_map_or};
+ghost use Rattle.std.specs.{Prelude.{◌≡◌, ◌-◌, IfOk, length, map, slice_get}, Option.{option_map_or}};
 
 use crate::paths::Placed;
 use fb_tree::Mapping;

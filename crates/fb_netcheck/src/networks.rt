@@ -1,10 +1,8 @@
 //! The check of networks.
-ghost use Rattle.std.specs.Prelude.{◌≡◌, ◌++◌, IfOk, OnOk};
-ghost use Rattle.std.specs.List.{flat_map};
+ghost use Rattle.std.specs.{Prelude.{◌≡◌, ◌++◌, IfOk, OnOk}, List.{flat_map}};
 ghost use Rattle.fb_tree.specs.Tree.{application_tree, decl_tree, network_tree, type_tree};
 ghost use Rattle.fb_iface.specs.Fault.{faults_in_order};
-ghost use Rattle.fb_netcheck.specs.Settings.{place_in};
-ghost use Rattle.fb_netcheck.specs.Networks.{application_network, declared_faults, net_faults_of, network_faults, type_network};
+ghost use Rattle.fb_netcheck.specs.{Settings.{place_in}, Networks.{application_network, declared_faults, net_faults_of, network_faults, type_network}};
 
 use crate::connections::report_connections;
 use crate::parameters::report_parameters;

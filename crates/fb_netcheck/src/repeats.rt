@@ -1,7 +1,6 @@
 //! Ends of connections that are ends of an earlier one.
 ghost use Rattle.std.specs.Prelude.{◌≡◌, ◌++◌, IfOk, OnOk};
-ghost use Rattle.fb_netcheck.specs.Ends.{last_name};
-ghost use Rattle.fb_netcheck.specs.Repeats.{all_adapter_ends, data_destinations, path_named, second_adapters, second_sources};
+ghost use Rattle.fb_netcheck.specs.{Ends.{last_name}, Repeats.{all_adapter_ends, data_destinations, path_named, second_adapters, second_sources}};
 
 use crate::paths::{Placed, report_repeated};
 use fb_iface::{Code, Fault};

@@ -1,11 +1,7 @@
 //! How types are spelled.
-ghost use Rattle.std.specs.Prelude.{◌≡◌, [], ◌∷◌, ◌++◌, All, IfOk, OnOk};
-ghost use Rattle.std.specs.List.{flat_map};
-ghost use Rattle.std.specs.Str.{str_to_ascii_uppercase};
+ghost use Rattle.std.specs.{Prelude.{◌≡◌, [], ◌∷◌, ◌++◌, All, IfOk, OnOk}, List.{flat_map}, Str.{str_to_ascii_uppercase}, BTreeMap.{get}};
 ghost use Rattle.fb_tree.specs.Text.Tokens.{LiesIn};
-ghost use Rattle.std.specs.BTreeMap.{get};
-ghost use Rattle.fb_netcheck.specs.Known.{AreSpellings, part_cmp};
-ghost use Rattle.fb_netcheck.specs.Spellings.{same_type, same_words, word, words, words_at};
+ghost use Rattle.fb_netcheck.specs.{Known.{AreSpellings, part_cmp}, Spellings.{same_type, same_words, word, words, words_at}};
 
 use fb_iface::library::{View, part_of, text_by_name};
 use fb_tree::text::{Name, Span, Token, TokenFault, same_name, tokens};

@@ -1,9 +1,6 @@
 //! The types of what connections join.
-ghost use Rattle.std.specs.Prelude.{◌≡◌, ◌++◌, IfOk, OnOk};
-ghost use Rattle.std.specs.BTreeMap.{get};
-ghost use Rattle.fb_netcheck.specs.Known.{AreSpellings, part_cmp};
-ghost use Rattle.fb_netcheck.specs.Ends.{target};
-ghost use Rattle.fb_netcheck.specs.Settings.{place_in};
+ghost use Rattle.std.specs.{Prelude.{◌≡◌, ◌++◌, IfOk, OnOk}, BTreeMap.{get}};
+ghost use Rattle.fb_netcheck.specs.{Known.{AreSpellings, part_cmp}, Ends.{target}, Settings.{place_in}};
 ghost use Rattle.fb_netcheck.specs.Types.{flows_agree, home, joined_types, same_at_ends, targets_agree};
 
 use crate::ends::{Flow, Position, Target, is_right_target};

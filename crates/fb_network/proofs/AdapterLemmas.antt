@@ -4,8 +4,8 @@ use Rattle.std.specs.Prelude.{Option, option_and_then}
 use Rattle.fb_tree.specs.{declared.network.Sort.{Sort}, declared.network.Sort.TheVariants.{Adapter}}
 use Rattle.fb_network.specs.{declared.network.End.{End}, Plain.{PlainNetwork}}
 use Rattle.fb_network.specs.Network.{View, Place, instance_named, place_of, IsInner, Step, Holds, Within, Chain, One, More, IsLink}
-use Rattle.fb_network.specs.{Clean.{adapter_name_at, adapter_at, IsCleanThroughout}, Composed.{Instances}, Composition.{IsBehind, BlockItself, BehindBorder}}
 use Rattle.fb_network.specs.NetLink.{IsNetLink, Direct, FromPlug, ToPlug}
+use Rattle.fb_network.specs.{Clean.{adapter_name_at, adapter_at, IsCleanThroughout}, Composed.{Instances}, Composition.{IsBehind, BlockItself, BehindBorder}}
 use Rattle.fb_network.proofs.Chains.{no_step_from_nothing, no_step_to_nothing, type_of-inner, here, clean_inner}
 use Rattle.fb_network.proofs.LinkLemmas.{no_leaf_nothing, link_of_composed}
 

@@ -10,9 +10,9 @@ use Rattle.fb_network.specs.{declared.flat.Link.{Link}, declared.flat.Border.{Bo
 use Rattle.fb_network.specs.{declared.table.Standing.{Standing}, Network.{instance_named}, Places.{dotted}, PlainFlat.{PlainFlat}, PlainPrefix.{PlainPrefix}}
 use Rattle.fb_network.specs.Ready.{Nets}
 use Rattle.fb_network.specs.Composed.{behind_found, behind_instance, behind_kind, behind_of, belongs, border_places, end_borders, link_pairs, links_from, places_of}
-use Rattle.fb_network.specs.{Laid.{IsEdgeBelow, IsJoinBelow, border_at, link_at, path_at}, Reading.{AreEdges, AreJoins, ArePlaces, IsPlaceBelow, border_within}}
 use Rattle.fb_network.specs.Standing.{IsTable, Says, StandsFor, borders_of, end_text, inner_borders, inner_borders_of_kind}
 use Rattle.fb_network.specs.Behind.{border_places_at, edge_belongs, edges_of_end, join_pairs, joins_from, places_behind, places_of_found, places_of_kind, places_of_standing}
+use Rattle.fb_network.specs.{Laid.{IsEdgeBelow, IsJoinBelow, border_at, link_at, path_at}, Reading.{AreEdges, AreJoins, ArePlaces, IsPlaceBelow, border_within}}
 use Rattle.fb_network.proofs.{Equals.{same_bytes}, Readings.{reading_nothing}}
 
 found_name : (xs : List Instance) (name : List ℕ) (i : Instance) → instance_named xs name ≡ Some i → i.name ≡ name

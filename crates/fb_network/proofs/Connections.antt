@@ -8,9 +8,9 @@ use Rattle.fb_network.specs.{declared.flat.Link.{Link}, declared.flat.Border.{Bo
 use Rattle.fb_network.specs.{declared.draft.Draft.{Draft}, declared.table.Standing.{Standing}, Network.{View, instance_named, place_of}, Clean.{adapter_at}}
 use Rattle.fb_network.specs.{Plain.{PlainNetwork}, PlainPrefix.{PlainPrefix}, Ready.{Nets}}
 use Rattle.fb_network.specs.Composed.{adapter_links, behind_of, connection_borders, connection_links, end_borders, link_pairs, links_of_sort}
-use Rattle.fb_network.specs.{Laid.{IsEdgeBelow, border_at, path_at, path_in, text_or_nothing}, Reading.{AreEdges, AreJoins, ArePlaces, Grows, IsPlaceBelow}}
 use Rattle.fb_network.specs.Standing.{AddsConnections, AddsLinks, AreEdgesOf, AreNamed, HasInstances, HasOwn, IsTable, Says, StandsFor, end_text, own_place, own_texts}
 use Rattle.fb_network.specs.Behind.{AreMembers, adapter_joins, connection_edges, edges_of_end, join_pairs, places_behind}
+use Rattle.fb_network.specs.{Laid.{IsEdgeBelow, border_at, path_at, path_in, text_or_nothing}, Reading.{AreEdges, AreJoins, ArePlaces, Grows, IsPlaceBelow}}
 use Rattle.fb_network.proofs.{Behinds.{behind_reads, end_edges_read, pairs_read}, Drafts.{added}, PortMembers.{adapter_reads, members_grown}}
 use Rattle.fb_network.proofs.Readings.{get_left, get_right, joins_grown, places_grown, reading_both, reading_nothing}
 use Rattle.fb_network.proofs.Standings.{flat_map_push, grows_none, grows_twice, next_taken, table_grown}

@@ -1,7 +1,7 @@
 -- Prefixes behind plugs and sockets, and the links of an adapter's ports between them.
 use Rattle.std.proofs.Common.{ℕ, ◌≡◌, ◌<◌, ◌+◌, suc, List, [], ◌∷◌, ◌++◌, Option, Some, length, map, take, get_or, refl, sym, ap, subst, ◌∙◌, arith, append_assoc, length-append}
-use Rattle.std.proofs.{lemmas.List.{length-take-le, map-append}, lemmas.Option.{slice_get_within}}
 use Rattle.std.proofs.lemmas.List.Elements.{All-append, All-cons, All-get_or, All-nil}
+use Rattle.std.proofs.{lemmas.List.{length-take-le, map-append}, lemmas.Option.{slice_get_within}}
 use Rattle.std.specs.{Prelude.{slice_get}, List.{All}}
 use Rattle.fb_tree.specs.{declared.interface.Side.{Side}, declared.interface.Side.TheVariants.{Input, Output}}
 use Rattle.fb_network.specs.{declared.network.Port.{Port}, declared.place.Place.{Place}, declared.entries.Join.{Join}, Places.{dotted}}

@@ -1,7 +1,7 @@
 -- Entries keep what they say where prefixes are added, and say it inside an instance where they are moved.
 use Rattle.std.proofs.Common.{ℕ, ◌≡◌, ◌<◌, ◌≤◌, ◌+◌, suc, zero, List, [], ◌∷◌, ◌++◌, Option, Some, None, length, map, refl, sym, ap, subst, ◌∙◌, arith, append_assoc, length-append, append-nil}
-use Rattle.std.proofs.{lemmas.List.{length-map, map-append}, lemmas.Option.{slice_get-map}, lemmas.Simd.{map-map}}
 use Rattle.std.proofs.lemmas.List.Elements.{All-append, All-map, All-nil, All-weaker, All-head, All-tail}
+use Rattle.std.proofs.{lemmas.List.{length-map, map-append}, lemmas.Option.{slice_get-map}, lemmas.Simd.{map-map}}
 use Rattle.std.specs.{Prelude.{slice_get, option_map}, List.{All}}
 use Rattle.fb_network.specs.{Places.{dotted}, PlainPrefix.{PlainPrefix}, declared.flat.FlatBlock.{FlatBlock}, declared.flat.Link.{Link}}
 use Rattle.fb_network.specs.{declared.flat.Border.{Border}, declared.place.Place.{Place}, declared.entries.Leaf.{Leaf}, declared.entries.Join.{Join}}

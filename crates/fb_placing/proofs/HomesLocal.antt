@@ -4,8 +4,8 @@ use Rattle.fb_tree.specs.{Text.Order.{names_in_order}, Tree.{DeclTree, MappingTr
 use Rattle.fb_library.specs.View.{Sources, tree_at}
 use Rattle.fb_network.specs.declared.flat.FlatBlock.{FlatBlock}
 use Rattle.fb_placing.specs.Homes.{PlainHomes, unmatched, block_homes, homeless, homes_of, misplaced, unless_faulty}
-use Rattle.fb_placing.specs.{Mappings.{mapping_path, names_used, resource_at}, Resolved.{leads_nowhere}, Systems.{applications_in, mappings_in}}
 use Rattle.fb_placing.specs.declared.homes.Misplaced.TheVariants.{NoSuchBlock, Unmapped}
+use Rattle.fb_placing.specs.{Mappings.{mapping_path, names_used, resource_at}, Resolved.{leads_nowhere}, Systems.{applications_in, mappings_in}}
 use Rattle.fb_placing.proofs.{ListLemmas.{filter_same}, ResolvedLocal.{SameInstances, nowhere_same, own_tree}}
 
 -- homes of blocks by a tree

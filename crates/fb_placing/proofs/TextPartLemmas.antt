@@ -1,7 +1,7 @@
 -- Texts in parts, byte by byte.
 use Rattle.std.proofs.Common.{ℕ, zero, suc, ◌≡◌, Bool, true, false, ◌<◌, ◌≤◌, ◌+◌, List, [], ◌∷◌, ◌++◌, Some, None, length, get_or, take, drop, refl, sym, ap, ◌∙◌, arith, add-one, append-nil, ◌↔◌, IsTrue}
-use Rattle.std.proofs.{Math.Seq.{drop-cons, take-suc}, lemmas.Grind.{flat_map-append, same_number_lists}, lemmas.List.{drop_all, take_all}}
 use Rattle.std.proofs.lemmas.Option.{slice_get-get_or}
+use Rattle.std.proofs.{Math.Seq.{drop-cons, take-suc}, lemmas.Grind.{flat_map-append, same_number_lists}, lemmas.List.{drop_all, take_all}}
 use Rattle.std.specs.{Prelude.{not, slice_get}, Str.{bytes_eq}, Cmp.Lexicographic.{same_text}, Borrow.{Bor}}
 use Rattle.fb_placing.specs.TextParts.{joined}
 

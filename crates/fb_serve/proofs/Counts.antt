@@ -1,7 +1,7 @@
 -- How many receipts there are of a caller.
 use Rattle.std.proofs.Common.{◌≡◌, ◌≤◌, ◌==◌, ◌&&◌, ◌||◌, ℕ, ◌+◌, [], ◌∷◌, ◌++◌, ◌∙◌, Bool, List, ap, arith, cond, false, nat_le, nat_lt, not, refl, subst, sym, true}
-use Rattle.std.proofs.{lemmas.Bool.{eq-eqb, eqb-true}, lemmas.Bool.Decides.{nat_tests}, lemmas.List.Elements.{All-push, All-weaker, recursion_from_All}}
 use Rattle.std.proofs.lemmas.List.Sums.{sum_by-append, sum_by-cons}
+use Rattle.std.proofs.{lemmas.Bool.{eq-eqb, eqb-true}, lemmas.Bool.Decides.{nat_tests}, lemmas.List.Elements.{All-push, All-weaker, recursion_from_All}}
 use Rattle.std.specs.List.{AllByRecursion, list_any}
 use Rattle.fb_wire.specs.History.BenchView.{BenchView, all_turns, turns_of}
 use Rattle.fb_shared.specs.{Locked.Book.{is_caller}, Locked.Closing.{AgreesWith, has_seat, receipts_of}, Locked.Runs.{IsRun}}

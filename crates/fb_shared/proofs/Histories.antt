@@ -5,9 +5,9 @@ use Rattle.std.proofs.{lemmas.List.{take-take}, lemmas.List.Elements.{recursion_
 use Rattle.std.proofs.{lemmas.List.Sums.{sum_by-cons, sum_by-take-le}, lemmas.Option.{slice_get_within}}
 use Rattle.std.specs.List.{sum_by, AllByRecursion, Contains}
 use Rattle.fb_locked.specs.History.BenchView.{Record, BenchView, all_turns, last_number, on_page, record_at, record_numbered, turns_of, AreTurns}
+use Rattle.fb_locked.specs.Closing.{IsReceiptRight, AreReceiptsRight, times, receipts_of}
 use Rattle.fb_locked.specs.{declared.locked.SharedRefused.{SharedRefused}, declared.locked.SharedRefused.TheVariants.{SeatDiffers, Behind, HistoryFull}}
 use Rattle.fb_locked.specs.{Seats.{AreSeatsAt, ReceiptView, LockedView, SeatView, seat_at}, Refusals.{refusal_of}, Resuming.{IsUpToDate}}
-use Rattle.fb_locked.specs.Closing.{IsReceiptRight, AreReceiptsRight, times, receipts_of}
 use Rattle.fb_locked.proofs.Closings.{placed}
 
 -- ---- numbers and turns

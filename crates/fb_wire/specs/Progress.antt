@@ -4,8 +4,8 @@ use Rattle.std.specs.{declared.alloc.AllocError.{AllocError}, declared.alloc.Glo
 use Rattle.serde_json.specs.Data.{Data}
 use Rattle.fb_bench.specs.{History.Checkpoints.{KeptUpTo, OverNumbers, OverUnits}, History.Machine.{OfTake, Reply as MachineReply, ToTake}}
 use Rattle.fb_bench.specs.Calls.{Answer, BehindHistory, Checked, CheckpointAnswer, Exchange, FullHistory, Replied, SharedHistory}
-use Rattle.fb_bench.specs.{declared.desk.DeskError.{DeskError}, declared.desk.DeskError.TheVariants.{Behind, HistoryFull, Memory}}
 use Rattle.fb_bench.specs.declared.desk.DeskCheckpointError.{DeskCheckpointError}
+use Rattle.fb_bench.specs.{declared.desk.DeskError.{DeskError}, declared.desk.DeskError.TheVariants.{Behind, HistoryFull, Memory}}
 use Rattle.fb_bench.specs.declared.desk.DeskCheckpointError.TheVariants as checkpoint
 use Rattle.fb_library.specs.{Texts.{Edit}, Changes.{edit_of, edits_of}, declared.change.Change.{Change}}
 use Rattle.fb_wire.specs.{declared.change.ChangeFault.{ChangeFault}, Lines.{Fits, IsTooLong, is_blank, lines_of}, Ends.{IsNothing, IsPrefixOfReply, OutputAt}}

@@ -1,6 +1,5 @@
 //! The index of units by what they mention.
-ghost use Rattle.std.specs.Prelude.{◌≡◌, false, OnOk};
-ghost use Rattle.std.specs.BTreeMap.{is_at};
+ghost use Rattle.std.specs.{Prelude.{◌≡◌, false, OnOk}, BTreeMap.{is_at}};
 ghost use Rattle.fb_text.specs.Order.{name_cmp};
 ghost use Rattle.fb_tree.specs.Mentions.{mentioned, nothing_mentioned};
 ghost use Rattle.fb_index.specs.Indexed.{nothing_indexed, IsIndexedAs};

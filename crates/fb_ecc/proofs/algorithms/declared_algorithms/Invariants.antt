@@ -1,6 +1,5 @@
 use Rattle.std.proofs.Common.{◌≡◌, ℕ, List, map, take, nat_eq}
-use Rattle.std.specs.HashSet.{contains}
-use Rattle.std.specs.Cmp.Lexicographic.{pointwise}
+use Rattle.std.specs.{HashSet.{contains}, Cmp.Lexicographic.{pointwise}}
 use Rattle.fb_iface.specs.Names.{has_name}
 use Rattle.fb_ecc.proofs.algorithms.declared_algorithms.Given as goal
 

@@ -1,8 +1,5 @@
-use Rattle.std.proofs.Common.{◌≡◌, ◌++◌, ◌∙◌, ℕ, List, map, ap, nat_eq}
-use Rattle.std.specs.HashSet.{contains}
-use Rattle.std.specs.List.{flat_map}
-use Rattle.std.proofs.lemmas.Result.{on_ok_weaker}
-use Rattle.std.specs.Cmp.Lexicographic.{pointwise}
+use Rattle.std.proofs.{Common.{◌≡◌, ◌++◌, ◌∙◌, ℕ, List, map, ap, nat_eq}, lemmas.Result.{on_ok_weaker}}
+use Rattle.std.specs.{HashSet.{contains}, List.{flat_map}, Cmp.Lexicographic.{pointwise}}
 use Rattle.fb_tree.specs.Tree.{state_tree}
 use Rattle.fb_iface.specs.Names.{has_name}
 use Rattle.fb_ecc.specs.Algorithms.{run_faults}

@@ -1,7 +1,5 @@
 use Rattle.std.proofs.Common.{◌≡◌, ◌++◌, take, nat_eq}
-use Rattle.std.specs.HashSet.{contains}
-use Rattle.std.specs.List.{flat_map}
-use Rattle.std.specs.Cmp.Lexicographic.{pointwise}
+use Rattle.std.specs.{HashSet.{contains}, List.{flat_map}, Cmp.Lexicographic.{pointwise}}
 use Rattle.fb_ecc.specs.Algorithms.{run_faults}
 use Rattle.fb_ecc.proofs.algorithms.report_run_by.Given as goal
 

@@ -1,8 +1,6 @@
-use Rattle.std.proofs.Common.{◌≡◌, ◌+◌, ◌<◌, ◌∷◌, [], ◌++◌, ◌∙◌, true, ap, sym, subst, length, map, take, nat_eq, arith}
-use Rattle.std.proofs.lemmas.Grind.{common_steps}
+use Rattle.std.proofs.{Common.{◌≡◌, ◌+◌, ◌<◌, ◌∷◌, [], ◌++◌, ◌∙◌, true, ap, sym, subst, length, map, take, nat_eq, arith}, lemmas.Grind.{common_steps}}
 use Rattle.std.proofs.lemmas.List.{map-append}
-use Rattle.std.specs.Cmp.Lexicographic.{pointwise}
-use Rattle.std.specs.HashSet.{Updates}
+use Rattle.std.specs.{Cmp.Lexicographic.{pointwise}, HashSet.{Updates}}
 use Rattle.fb_tree.specs.declared.chart.State.{State}
 use Rattle.fb_iface.specs.Names.{has_name}
 use Rattle.fb_iface.proofs.RepeatLemmas.{noted-push}

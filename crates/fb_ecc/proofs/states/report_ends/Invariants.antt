@@ -1,7 +1,5 @@
 use Rattle.std.proofs.Common.{◌≡◌, ◌++◌, take, nat_eq}
-use Rattle.std.specs.HashSet.{contains}
-use Rattle.std.specs.List.{flat_map}
-use Rattle.std.specs.Cmp.Lexicographic.{pointwise}
+use Rattle.std.specs.{HashSet.{contains}, List.{flat_map}, Cmp.Lexicographic.{pointwise}}
 use Rattle.fb_tree.specs.Tree.{transition_tree}
 use Rattle.fb_ecc.specs.States.{transition_faults}
 use Rattle.fb_ecc.proofs.states.report_ends.Given as goal

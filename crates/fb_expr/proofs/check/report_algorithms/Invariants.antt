@@ -1,8 +1,7 @@
 use Rattle.std.proofs.Common.{◌≡◌, ◌++◌, take}
 use Rattle.std.specs.List.{flat_map}
 use Rattle.fb_tree.specs.Tree.{algorithm_tree}
-use Rattle.fb_expr.specs.Names.{names_in}
-use Rattle.fb_expr.specs.Charts.{algorithm_faults}
+use Rattle.fb_expr.specs.{Names.{names_in}, Charts.{algorithm_faults}}
 use Rattle.fb_expr.proofs.check.report_algorithms.Given as goal
 
 abbrev pub invariant-loop-algorithm : goal.invariant-loop-algorithm

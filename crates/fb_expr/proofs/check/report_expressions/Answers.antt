@@ -1,10 +1,7 @@
-use Rattle.std.proofs.Common.{◌≡◌, ◌++◌, ◌∙◌, ap, sym, append_assoc}
-use Rattle.std.proofs.lemmas.List.Folds.{flat_map-map}
-use Rattle.std.proofs.lemmas.Result.{on_ok_weaker}
+use Rattle.std.proofs.{Common.{◌≡◌, ◌++◌, ◌∙◌, ap, sym, append_assoc}, lemmas.List.Folds.{flat_map-map}, lemmas.Result.{on_ok_weaker}}
 use Rattle.std.specs.List.{flat_map}
 use Rattle.fb_tree.specs.Tree.{algorithm_tree, transition_tree}
-use Rattle.fb_expr.specs.Names.{names_in}
-use Rattle.fb_expr.specs.Charts.{algorithm_faults, transition_faults}
+use Rattle.fb_expr.specs.{Names.{names_in}, Charts.{algorithm_faults, transition_faults}}
 use Rattle.fb_expr.proofs.check.report_expressions.Goals as goal
 
 pub returns : goal.returns

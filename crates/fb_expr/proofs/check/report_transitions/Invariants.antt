@@ -1,8 +1,7 @@
 use Rattle.std.proofs.Common.{◌≡◌, ◌++◌, take}
 use Rattle.std.specs.List.{flat_map}
 use Rattle.fb_tree.specs.Tree.{transition_tree}
-use Rattle.fb_expr.specs.Names.{names_in}
-use Rattle.fb_expr.specs.Charts.{transition_faults}
+use Rattle.fb_expr.specs.{Names.{names_in}, Charts.{transition_faults}}
 use Rattle.fb_expr.proofs.check.report_transitions.Given as goal
 
 abbrev pub invariant-loop-transition : goal.invariant-loop-transition

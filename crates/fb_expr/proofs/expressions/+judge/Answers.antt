@@ -1,8 +1,6 @@
-use Rattle.std.proofs.Common.{◌≡◌, ◌++◌, ◌∙◌, ap, map, sym, append_assoc}
-use Rattle.std.proofs.lemmas.Result.{IfOk-weaker, on_ok_weaker}
+use Rattle.std.proofs.{Common.{◌≡◌, ◌++◌, ◌∙◌, ap, map, sym, append_assoc}, lemmas.Result.{IfOk-weaker, on_ok_weaker}}
 use Rattle.fb_tree.specs.Expression.{expression_tree, operand_tree, operands_of}
-use Rattle.fb_expr.specs.Names.{names_in}
-use Rattle.fb_expr.specs.Expressions.{class_in, faults_in, row_class, row_faults}
+use Rattle.fb_expr.specs.{Names.{names_in}, Expressions.{class_in, faults_in, row_class, row_faults}}
 use Rattle.fb_expr.proofs.TreeLemmas.{tree-Row}
 use Rattle.fb_expr.proofs.expressions.+judge.Goals as goal
 

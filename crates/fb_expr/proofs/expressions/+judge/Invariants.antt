@@ -1,7 +1,6 @@
 use Rattle.std.proofs.Common.{◌≡◌, ◌++◌, drop, map}
 use Rattle.fb_tree.specs.Expression.{expression_tree, expressions_of, operands_of}
-use Rattle.fb_expr.specs.Names.{names_in}
-use Rattle.fb_expr.specs.Expressions.{row_class, row_faults, subscript_faults}
+use Rattle.fb_expr.specs.{Names.{names_in}, Expressions.{row_class, row_faults, subscript_faults}}
 use Rattle.fb_expr.proofs.expressions.+judge.Given as goal
 
 abbrev pub invariant-judge_subscripts-loop-subscript : goal.invariant-judge_subscripts-loop-subscript

@@ -1,6 +1,5 @@
 use Rattle.std.proofs.Common.{◌≡◌, drop}
-use Rattle.fb_expr.specs.Names.{names_in}
-use Rattle.fb_expr.specs.References.{walk}
+use Rattle.fb_expr.specs.{Names.{names_in}, References.{walk}}
 use Rattle.fb_expr.proofs.references.referred_behind.Given as goal
 
 abbrev pub invariant-loop-member : goal.invariant-loop-member

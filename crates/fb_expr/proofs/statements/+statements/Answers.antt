@@ -1,13 +1,8 @@
-use Rattle.std.proofs.Common.{◌≡◌, ◌++◌, ◌∙◌, List, ap, map, option_map, sym, append_assoc, arith}
-use Rattle.std.proofs.lemmas.Grind.{common_steps}
-use Rattle.std.proofs.lemmas.Result.{on_ok_weaker}
+use Rattle.std.proofs.{Common.{◌≡◌, ◌++◌, ◌∙◌, List, ap, map, option_map, sym, append_assoc, arith}, lemmas.Grind.{common_steps}, lemmas.Result.{on_ok_weaker}}
 use Rattle.fb_iface.specs.declared.fault.Fault.{Fault}
-use Rattle.fb_tree.specs.Expression.{expression_tree}
-use Rattle.fb_tree.specs.declared.statement.Counting.{Counting}
-use Rattle.fb_tree.specs.declared.statement.Stmt.{Stmt}
+use Rattle.fb_tree.specs.{Expression.{expression_tree}, declared.statement.Counting.{Counting}, declared.statement.Stmt.{Stmt}}
 use Rattle.fb_tree.specs.Statement.{arm_tree, arms_of, statement_tree, statements_of}
-use Rattle.fb_expr.specs.Names.{names_in}
-use Rattle.fb_expr.specs.Statements.{arms_faults, counter_faults, faults_at_place, range_faults, statement_faults, statements_faults}
+use Rattle.fb_expr.specs.{Names.{names_in}, Statements.{arms_faults, counter_faults, faults_at_place, range_faults, statement_faults, statements_faults}}
 use Rattle.fb_expr.specs.declared.rules.ClassPlace.TheVariants.{Condition, Selector}
 use Rattle.fb_expr.proofs.TreeLemmas.{tree-Case, tree-For, tree-If, tree-Repeat, tree-While}
 use Rattle.fb_expr.proofs.statements.+statements.Goals as goal

@@ -1,8 +1,6 @@
 use Rattle.std.proofs.Common.{◌≡◌, ◌++◌, drop, map}
-use Rattle.fb_tree.specs.Expression.{expression_tree}
-use Rattle.fb_tree.specs.Statement.{arms_of, statement_tree, statements_of}
-use Rattle.fb_expr.specs.Names.{names_in}
-use Rattle.fb_expr.specs.Statements.{arms_faults, statements_faults}
+use Rattle.fb_tree.specs.{Expression.{expression_tree}, Statement.{arms_of, statement_tree, statements_of}}
+use Rattle.fb_expr.specs.{Names.{names_in}, Statements.{arms_faults, statements_faults}}
 use Rattle.fb_expr.proofs.statements.+statements.Given as goal
 
 abbrev pub invariant-report_statements-loop-statement : goal.invariant-report_statements-loop-statement

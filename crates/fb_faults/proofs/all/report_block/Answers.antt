@@ -1,5 +1,4 @@
-use Rattle.std.proofs.Common.{◌++◌, ◌∙◌, ap}
-use Rattle.std.proofs.lemmas.Result.{on_ok_weaker}
+use Rattle.std.proofs.{Common.{◌++◌, ◌∙◌, ap}, lemmas.Result.{on_ok_weaker}}
 use Rattle.fb_tree.specs.Tree.{type_tree}
 use Rattle.fb_faults.specs.Faults.{faults_here}
 use Rattle.fb_faults.proofs.all.report_block.Goals as goal

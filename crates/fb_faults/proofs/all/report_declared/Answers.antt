@@ -1,14 +1,10 @@
-use Rattle.std.proofs.Common.{◌++◌, ◌∙◌, Some, ap, sym}
-use Rattle.std.proofs.lemmas.Result.{on_ok_weaker}
+use Rattle.std.proofs.{Common.{◌++◌, ◌∙◌, Some, ap, sym}, lemmas.Result.{on_ok_weaker}}
 use Rattle.fb_tree.specs.Tree.{block_type, decl_tree, subapplication_type, system_configuration, system_tree, type_tree}
 use Rattle.fb_tree.specs.declared.kinds.UnitKind.TheVariants.{Subapplication}
-use Rattle.fb_netcheck.specs.Parse.Body.{Whole}
-use Rattle.fb_netcheck.specs.Iface.Declarations.{declaration_faults}
-use Rattle.fb_netcheck.specs.Networks.{declared_faults, tree_faults, type_network}
+use Rattle.fb_netcheck.specs.{Parse.Body.{Whole}, Iface.Declarations.{declaration_faults}, Networks.{declared_faults, tree_faults, type_network}}
 use Rattle.fb_expr.specs.Charts.{faults_in_unit}
 use Rattle.fb_ecc.specs.Charts.{chart_faults_in}
-use Rattle.fb_faults.specs.Faults.{block_faults, reported_in}
-use Rattle.fb_faults.specs.Mappings.{system_mapping_faults}
+use Rattle.fb_faults.specs.{Faults.{block_faults, reported_in}, Mappings.{system_mapping_faults}}
 use Rattle.fb_faults.proofs.JoinLemmas.{block_joined, subapplication_joined, system_joined}
 use Rattle.fb_faults.proofs.all.report_declared.Goals as goal
 

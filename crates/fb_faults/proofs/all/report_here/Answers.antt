@@ -1,8 +1,6 @@
-use Rattle.std.proofs.Common.{◌++◌, ◌∙◌, ap, append_assoc}
-use Rattle.std.proofs.lemmas.Result.{on_ok_weaker}
+use Rattle.std.proofs.{Common.{◌++◌, ◌∙◌, ap, append_assoc}, lemmas.Result.{on_ok_weaker}}
 use Rattle.fb_tree.specs.Tree.{type_tree}
-use Rattle.fb_netcheck.specs.Networks.{network_faults}
-use Rattle.fb_netcheck.specs.Settings.{place_in}
+use Rattle.fb_netcheck.specs.{Networks.{network_faults}, Settings.{place_in}}
 use Rattle.fb_faults.specs.Faults.{chart_here}
 use Rattle.fb_faults.proofs.all.report_here.Goals as goal
 

@@ -1,5 +1,4 @@
-use Rattle.std.proofs.Common.{◌≡◌, ◌+◌, ◌<◌, ◌&&◌, ◌||◌, [], ◌∷◌, ◌++◌, true, ap, subst, sym, ◌∙◌, length, map, take, arith}
-use Rattle.std.proofs.lemmas.Grind.{common_steps}
+use Rattle.std.proofs.{Common.{◌≡◌, ◌+◌, ◌<◌, ◌&&◌, ◌||◌, [], ◌∷◌, ◌++◌, true, ap, subst, sym, ◌∙◌, length, map, take, arith}, lemmas.Grind.{common_steps}}
 use Rattle.std.proofs.lemmas.List.{map-append, take_all}
 use Rattle.std.specs.BTreeSet.{contains, Updates}
 use Rattle.fb_tree.specs.declared.system.Resource.{Resource}

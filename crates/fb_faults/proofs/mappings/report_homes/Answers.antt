@@ -1,10 +1,8 @@
 use Rattle.std.proofs.Common.{◌++◌, ◌<◌, ◌∙◌, arith, length}
 use Rattle.std.specs.BTreeSet.{contains}
-use Rattle.fb_tree.specs.Tree.{mapping_tree}
-use Rattle.fb_tree.specs.declared.system.Mapping.{Mapping}
+use Rattle.fb_tree.specs.{Tree.{mapping_tree}, declared.system.Mapping.{Mapping}}
 use Rattle.fb_netcheck.proofs.JoinLemmas.{flat_map_next}
-use Rattle.fb_faults.specs.Mappings.{home_faults}
-use Rattle.fb_faults.specs.Pairs.{pair_cmp}
+use Rattle.fb_faults.specs.{Mappings.{home_faults}, Pairs.{pair_cmp}}
 use Rattle.fb_faults.proofs.mappings.report_homes.Goals as goal
 
 pub loop-mapping-preserved : goal.loop-mapping-preserved

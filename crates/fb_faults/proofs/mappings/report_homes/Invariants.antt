@@ -1,9 +1,7 @@
 use Rattle.std.proofs.Common.{◌≡◌, ◌++◌, take}
-use Rattle.std.specs.BTreeSet.{contains}
-use Rattle.std.specs.List.{flat_map}
+use Rattle.std.specs.{BTreeSet.{contains}, List.{flat_map}}
 use Rattle.fb_tree.specs.Tree.{mapping_tree}
-use Rattle.fb_faults.specs.Mappings.{home_faults}
-use Rattle.fb_faults.specs.Pairs.{pair_cmp}
+use Rattle.fb_faults.specs.{Mappings.{home_faults}, Pairs.{pair_cmp}}
 use Rattle.fb_faults.proofs.mappings.report_homes.Given as goal
 
 abbrev pub invariant-loop-mapping : goal.invariant-loop-mapping

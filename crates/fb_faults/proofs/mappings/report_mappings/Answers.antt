@@ -1,15 +1,9 @@
-use Rattle.std.proofs.Common.{◌≡◌, ℕ, List, ◌++◌, ◌∙◌, ap, append_assoc, map, sym}
-use Rattle.std.proofs.lemmas.List.Folds.{flat_map-map}
-use Rattle.std.proofs.lemmas.Result.{on_ok_weaker}
-use Rattle.std.specs.BTreeSet.{contains}
-use Rattle.std.specs.List.{flat_map}
-use Rattle.fb_tree.specs.Tree.{MappingTree, device_tree, mapping_tree}
-use Rattle.fb_tree.specs.declared.system.Mapping.{Mapping}
+use Rattle.std.proofs.{Common.{◌≡◌, ℕ, List, ◌++◌, ◌∙◌, ap, append_assoc, map, sym}, lemmas.List.Folds.{flat_map-map}, lemmas.Result.{on_ok_weaker}}
+use Rattle.std.specs.{BTreeSet.{contains}, List.{flat_map}}
+use Rattle.fb_tree.specs.{Tree.{MappingTree, device_tree, mapping_tree}, declared.system.Mapping.{Mapping}}
 use Rattle.fb_netcheck.proofs.Iface.TreeLemmas.{same_items}
-use Rattle.fb_netcheck.specs.Iface.declared.code.Code.TheVariants.{MappedTwice}
-use Rattle.fb_netcheck.specs.Paths.{path_of_names, repeated_faults}
-use Rattle.fb_faults.specs.Mappings.{has_resource, home_faults, resource_faults, second_mappings}
-use Rattle.fb_faults.specs.Pairs.{pair_cmp}
+use Rattle.fb_netcheck.specs.{Iface.declared.code.Code.TheVariants.{MappedTwice}, Paths.{path_of_names, repeated_faults}}
+use Rattle.fb_faults.specs.{Mappings.{has_resource, home_faults, resource_faults, second_mappings}, Pairs.{pair_cmp}}
 use Rattle.fb_faults.proofs.mappings.report_mappings.Goals as goal
 
 pub returns : goal.returns

@@ -1,19 +1,14 @@
 use Rattle.std.proofs.Common.{◌≡◌, ℕ, List, ◌+◌, ◌<◌, ◌&&◌, ◌||◌, [], ◌∷◌, ◌++◌, ap, sym, ◌∙◌, cond, length, map, not, take, false, true, is_some, arith}
-use Rattle.std.proofs.lemmas.Grind.{common_steps}
-use Rattle.std.proofs.lemmas.List.{map-append}
+use Rattle.std.proofs.{lemmas.Grind.{common_steps}, lemmas.List.{map-append}}
 use Rattle.std.specs.BTreeSet.{contains}
 use Rattle.fb_tree.proofs.Text.Tests.{not_true, not_false}
-use Rattle.fb_tree.specs.Text.Order.{name_cmp}
-use Rattle.fb_tree.specs.Text.declared.name.NameUse.{NameUse}
-use Rattle.fb_tree.specs.Tree.{DeviceTree, ResourceTree, device_tree, resource_tree}
+use Rattle.fb_tree.specs.{Text.Order.{name_cmp}, Text.declared.name.NameUse.{NameUse}, Tree.{DeviceTree, ResourceTree, device_tree, resource_tree}}
 use Rattle.fb_tree.specs.declared.system.Resource.{Resource}
 use Rattle.fb_netcheck.specs.Iface.Names.{has_name, is_same, stands_for}
 use Rattle.fb_netcheck.proofs.Iface.TreeLemmas.{same_items}
-use Rattle.fb_faults.specs.Mappings.{resources_in}
-use Rattle.fb_faults.specs.Pairs.{pair_cmp}
-use Rattle.fb_faults.proofs.MappingLemmas.{among, among-new, among-old, seen-next}
+use Rattle.fb_faults.specs.{Mappings.{resources_in}, Pairs.{pair_cmp}}
+use Rattle.fb_faults.proofs.{MappingLemmas.{among, among-new, among-old, seen-next}, mappings.resources_of.Goals.{then-branch+in_ok-add_resources, else-branch}}
 use Rattle.fb_faults.proofs.mappings.resources_of.Goals as goal
-use Rattle.fb_faults.proofs.mappings.resources_of.Goals.{then-branch+in_ok-add_resources, else-branch}
 
 pub loop-device-preserved : goal.loop-device-preserved
 loop-device-preserved c =

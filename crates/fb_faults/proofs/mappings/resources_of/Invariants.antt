@@ -1,10 +1,8 @@
 use Rattle.std.proofs.Common.{◌≡◌, ℕ, List, is_some, map, take}
 use Rattle.std.specs.BTreeSet.{contains}
-use Rattle.fb_tree.specs.Text.Order.{name_cmp}
-use Rattle.fb_tree.specs.Tree.{device_tree}
+use Rattle.fb_tree.specs.{Text.Order.{name_cmp}, Tree.{device_tree}}
 use Rattle.fb_netcheck.specs.Iface.Names.{stands_for}
-use Rattle.fb_faults.specs.Mappings.{has_resource, resources_in}
-use Rattle.fb_faults.specs.Pairs.{pair_cmp}
+use Rattle.fb_faults.specs.{Mappings.{has_resource, resources_in}, Pairs.{pair_cmp}}
 use Rattle.fb_faults.proofs.mappings.resources_of.Given as goal
 
 abbrev pub invariant-loop-device : goal.invariant-loop-device

@@ -1,6 +1,4 @@
-use Rattle.std.proofs.Common.{◌≡◌, ◌++◌, ◌∙◌, ap, sym, arith}
-use Rattle.std.proofs.lemmas.Grind.{common_steps}
-use Rattle.std.proofs.lemmas.List.Folds.{flat_map-map}
+use Rattle.std.proofs.{Common.{◌≡◌, ◌++◌, ◌∙◌, ap, sym, arith}, lemmas.Grind.{common_steps}, lemmas.List.Folds.{flat_map-map}}
 use Rattle.std.specs.List.{flat_map}
 use Rattle.fb_tree.specs.Tree.{variables_tree}
 use Rattle.fb_iface.specs.Literals.{initial_faults}

@@ -1,5 +1,4 @@
-use Rattle.std.proofs.Common.{◌++◌, ◌∙◌, ap, sym}
-use Rattle.std.proofs.lemmas.Result.{on_ok_weaker}
+use Rattle.std.proofs.{Common.{◌++◌, ◌∙◌, ap, sym}, lemmas.Result.{on_ok_weaker}}
 use Rattle.std.specs.List.{flat_map}
 use Rattle.fb_tree.specs.Tree.{decl_tree, network_tree}
 use Rattle.fb_iface.specs.Types.{instance_faults, type_faults}

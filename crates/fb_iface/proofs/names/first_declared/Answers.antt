@@ -1,6 +1,4 @@
-use Rattle.std.proofs.Common.{◌≡◌, ◌+◌, ◌<◌, ◌∷◌, [], ◌++◌, length, sym, ap, ◌∙◌, arith, take}
-use Rattle.std.proofs.lemmas.Grind.{common_steps}
-use Rattle.std.proofs.lemmas.List.{take_all}
+use Rattle.std.proofs.{Common.{◌≡◌, ◌+◌, ◌<◌, ◌∷◌, [], ◌++◌, length, sym, ap, ◌∙◌, arith, take}, lemmas.Grind.{common_steps}, lemmas.List.{take_all}}
 use Rattle.fb_iface.specs.Names.{first_ones, stands_for, with_first, with_firsts}
 use Rattle.fb_iface.proofs.TableLemmas.{firsts_all, found_by_name, stands_for-first_ones, with_firsts-push}
 use Rattle.fb_iface.proofs.names.first_declared.Goals as goal

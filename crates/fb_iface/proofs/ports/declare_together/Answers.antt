@@ -1,9 +1,7 @@
-use Rattle.std.proofs.Common.{◌≡◌, ℕ, List, ◌+◌, ◌<◌, ◌∷◌, [], ◌++◌, length, map, sym, ap, ◌∙◌, arith, take}
-use Rattle.std.proofs.lemmas.Grind.{common_steps}
+use Rattle.std.proofs.{Common.{◌≡◌, ℕ, List, ◌+◌, ◌<◌, ◌∷◌, [], ◌++◌, length, map, sym, ap, ◌∙◌, arith, take}, lemmas.Grind.{common_steps}}
 use Rattle.std.proofs.lemmas.List.{map-append, take_all}
 use Rattle.fb_tree.specs.Text.declared.name.NameUse.{NameUse}
-use Rattle.fb_iface.specs.declared.ports.DeclaredVariable.{DeclaredVariable}
-use Rattle.fb_iface.specs.Names.{with_first, with_firsts}
+use Rattle.fb_iface.specs.{declared.ports.DeclaredVariable.{DeclaredVariable}, Names.{with_first, with_firsts}}
 use Rattle.fb_iface.proofs.TableLemmas.{with_firsts-push}
 use Rattle.fb_iface.proofs.ports.declare_together.Goals as goal
 

@@ -1,12 +1,8 @@
-use Rattle.std.proofs.Common.{◌≡◌, ℕ, List, ◌+◌, ◌<◌, ◌∷◌, [], ◌++◌, length, map, sym, ap, ◌∙◌, arith, take}
-use Rattle.std.proofs.lemmas.Grind.{common_steps}
+use Rattle.std.proofs.{Common.{◌≡◌, ℕ, List, ◌+◌, ◌<◌, ◌∷◌, [], ◌++◌, length, map, sym, ap, ◌∙◌, arith, take}, lemmas.Grind.{common_steps}}
 use Rattle.std.proofs.lemmas.List.{map-append, take_all}
-use Rattle.fb_tree.specs.Tree.{EventTree, event_tree}
-use Rattle.fb_tree.specs.declared.interface.Event.{Event}
-use Rattle.fb_iface.specs.declared.ports.DeclaredEvent.{DeclaredEvent}
-use Rattle.fb_iface.specs.Names.{first_ones, with_first, with_firsts}
-use Rattle.fb_iface.proofs.TableLemmas.{firsts_all, with_firsts-push}
-use Rattle.fb_iface.proofs.TreeLemmas.{same_items}
+use Rattle.fb_tree.specs.{Tree.{EventTree, event_tree}, declared.interface.Event.{Event}}
+use Rattle.fb_iface.specs.{declared.ports.DeclaredEvent.{DeclaredEvent}, Names.{first_ones, with_first, with_firsts}}
+use Rattle.fb_iface.proofs.{TableLemmas.{firsts_all, with_firsts-push}, TreeLemmas.{same_items}}
 use Rattle.fb_iface.proofs.ports.event_table.Goals as goal
 
 pub loop-event-preserved : goal.loop-event-preserved

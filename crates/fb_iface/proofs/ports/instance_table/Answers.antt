@@ -1,12 +1,8 @@
-use Rattle.std.proofs.Common.{◌≡◌, ℕ, List, ◌+◌, ◌<◌, ◌∷◌, [], ◌++◌, length, map, sym, ap, ◌∙◌, arith, take}
-use Rattle.std.proofs.lemmas.Grind.{common_steps}
+use Rattle.std.proofs.{Common.{◌≡◌, ℕ, List, ◌+◌, ◌<◌, ◌∷◌, [], ◌++◌, length, map, sym, ap, ◌∙◌, arith, take}, lemmas.Grind.{common_steps}}
 use Rattle.std.proofs.lemmas.List.{map-append, take_all}
-use Rattle.fb_tree.specs.Tree.{InstanceTree, instance_tree}
-use Rattle.fb_tree.specs.declared.network.Instance.{Instance}
-use Rattle.fb_iface.specs.declared.ports.DeclaredInstance.{DeclaredInstance}
-use Rattle.fb_iface.specs.Names.{first_ones, with_first, with_firsts}
-use Rattle.fb_iface.proofs.TableLemmas.{firsts_all, with_firsts-push}
-use Rattle.fb_iface.proofs.TreeLemmas.{same_items}
+use Rattle.fb_tree.specs.{Tree.{InstanceTree, instance_tree}, declared.network.Instance.{Instance}}
+use Rattle.fb_iface.specs.{declared.ports.DeclaredInstance.{DeclaredInstance}, Names.{first_ones, with_first, with_firsts}}
+use Rattle.fb_iface.proofs.{TableLemmas.{firsts_all, with_firsts-push}, TreeLemmas.{same_items}}
 use Rattle.fb_iface.proofs.ports.instance_table.Goals as goal
 
 pub loop-instance-preserved : goal.loop-instance-preserved

@@ -1,12 +1,8 @@
-use Rattle.std.proofs.Common.{◌≡◌, ◌+◌, ◌<◌, ◌∷◌, [], ◌++◌, append-nil, length, sym, ap, ◌∙◌, arith, take}
-use Rattle.std.proofs.lemmas.Grind.{common_steps, flat_map-append}
-use Rattle.std.proofs.lemmas.List.{take_all}
-use Rattle.std.proofs.lemmas.List.Folds.{flat_map-map}
+use Rattle.std.proofs.{Common.{◌≡◌, ◌+◌, ◌<◌, ◌∷◌, [], ◌++◌, append-nil, length, sym, ap, ◌∙◌, arith, take}, lemmas.Grind.{common_steps, flat_map-append}}
+use Rattle.std.proofs.{lemmas.List.{take_all}, lemmas.List.Folds.{flat_map-map}}
 use Rattle.std.specs.List.{flat_map}
-use Rattle.fb_tree.specs.Tree.{variables_tree}
-use Rattle.fb_tree.specs.declared.interface.Variables.{Variables}
-use Rattle.fb_iface.specs.Names.{first_ones, with_firsts}
-use Rattle.fb_iface.specs.Ports.{variables_together}
+use Rattle.fb_tree.specs.{Tree.{variables_tree}, declared.interface.Variables.{Variables}}
+use Rattle.fb_iface.specs.{Names.{first_ones, with_firsts}, Ports.{variables_together}}
 use Rattle.fb_iface.proofs.TableLemmas.{firsts_all, with_firsts-append}
 use Rattle.fb_iface.proofs.ports.variable_table.Goals as goal
 

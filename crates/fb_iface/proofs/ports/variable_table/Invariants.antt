@@ -1,8 +1,7 @@
 use Rattle.std.proofs.Common.{◌≡◌, [], take}
 use Rattle.std.specs.List.{flat_map}
 use Rattle.fb_tree.specs.Tree.{variables_tree}
-use Rattle.fb_iface.specs.Names.{with_firsts}
-use Rattle.fb_iface.specs.Ports.{variables_together}
+use Rattle.fb_iface.specs.{Names.{with_firsts}, Ports.{variables_together}}
 use Rattle.fb_iface.proofs.ports.variable_table.Given as goal
 
 abbrev pub invariant-loop-group : goal.invariant-loop-group

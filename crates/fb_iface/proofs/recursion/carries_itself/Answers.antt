@@ -1,6 +1,5 @@
 use Rattle.std.proofs.Common.{ap, ◌∙◌, nat_eq}
-use Rattle.std.specs.Cmp.Lexicographic.{pointwise}
-use Rattle.std.specs.List.{list_any}
+use Rattle.std.specs.{Cmp.Lexicographic.{pointwise}, List.{list_any}}
 use Rattle.fb_library.specs.Seen.{has_name}
 use Rattle.fb_iface.proofs.FieldLemmas.{found_among}
 use Rattle.fb_iface.proofs.recursion.carries_itself.Goals as goal

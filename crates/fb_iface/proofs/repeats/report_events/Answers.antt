@@ -1,11 +1,6 @@
-use Rattle.std.proofs.Common.{◌≤◌, ◌++◌, ◌∙◌, append-nil, ap, length, map, sym, arith}
-use Rattle.std.proofs.lemmas.List.{length-map}
-use Rattle.fb_tree.specs.Tree.{interface_tree}
-use Rattle.fb_tree.specs.declared.interface.Event.{Event}
-use Rattle.fb_iface.specs.Fault.{faults_at}
-use Rattle.fb_iface.specs.Names.{first_ones}
-use Rattle.fb_iface.specs.Ports.{events_in}
-use Rattle.fb_iface.specs.declared.code.Code.TheVariants.{Duplicate}
+use Rattle.std.proofs.{Common.{◌≤◌, ◌++◌, ◌∙◌, append-nil, ap, length, map, sym, arith}, lemmas.List.{length-map}}
+use Rattle.fb_tree.specs.{Tree.{interface_tree}, declared.interface.Event.{Event}}
+use Rattle.fb_iface.specs.{Fault.{faults_at}, Names.{first_ones}, Ports.{events_in}, declared.code.Code.TheVariants.{Duplicate}}
 use Rattle.fb_iface.proofs.CountLemmas.{events_as_named, events_named, none_again}
 use Rattle.fb_iface.proofs.repeats.report_events.Goals as goal
 

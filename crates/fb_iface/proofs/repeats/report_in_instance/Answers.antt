@@ -1,8 +1,6 @@
-use Rattle.std.proofs.Common.{◌++◌, ◌∙◌, [], ap, map, sym, if◌then◌else◌}
-use Rattle.std.proofs.lemmas.Result.{on_ok_weaker}
+use Rattle.std.proofs.{Common.{◌++◌, ◌∙◌, [], ap, map, sym, if◌then◌else◌}, lemmas.Result.{on_ok_weaker}}
 use Rattle.fb_tree.specs.Tree.{parameter_tree}
-use Rattle.fb_iface.specs.Declarations.{space_duplicates}
-use Rattle.fb_iface.specs.Spaces.{is_block}
+use Rattle.fb_iface.specs.{Declarations.{space_duplicates}, Spaces.{is_block}}
 use Rattle.fb_iface.proofs.TreeLemmas.{parameters_named}
 use Rattle.fb_iface.proofs.repeats.report_in_instance.Goals as goal
 

@@ -1,8 +1,7 @@
 use Rattle.std.proofs.Common.{◌≡◌, ◌++◌, take}
 use Rattle.std.specs.List.{flat_map}
 use Rattle.fb_tree.specs.Tree.{instance_tree}
-use Rattle.fb_iface.specs.Declarations.{space_duplicates}
-use Rattle.fb_iface.specs.Spaces.{parameter_names}
+use Rattle.fb_iface.specs.{Declarations.{space_duplicates}, Spaces.{parameter_names}}
 use Rattle.fb_iface.proofs.repeats.report_in_instances.Given as goal
 
 abbrev pub invariant-loop-instance : goal.invariant-loop-instance

@@ -1,6 +1,5 @@
-use Rattle.std.proofs.Common.{◌++◌, ◌∙◌, refl, sym}
+use Rattle.std.proofs.{Common.{◌++◌, ◌∙◌, refl, sym}, lemmas.Result.{on_ok_weaker}}
 use Rattle.std.specs.List.{flat_map}
-use Rattle.std.proofs.lemmas.Result.{on_ok_weaker}
 use Rattle.fb_iface.specs.Declarations.{space_duplicates}
 use Rattle.fb_iface.proofs.TreeLemmas.{interface_joined, map_itself}
 use Rattle.fb_iface.proofs.repeats.report_in_interface.Goals as goal

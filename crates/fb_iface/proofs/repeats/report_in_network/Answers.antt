@@ -1,9 +1,7 @@
-use Rattle.std.proofs.Common.{◌≡◌, ◌++◌, ◌∙◌, ap, map}
-use Rattle.std.proofs.lemmas.Result.{on_ok_weaker}
+use Rattle.std.proofs.{Common.{◌≡◌, ◌++◌, ◌∙◌, ap, map}, lemmas.Result.{on_ok_weaker}}
 use Rattle.std.specs.List.{flat_map}
 use Rattle.fb_tree.specs.Tree.{instance_tree}
-use Rattle.fb_iface.specs.Declarations.{space_duplicates}
-use Rattle.fb_iface.specs.Spaces.{parameter_names}
+use Rattle.fb_iface.specs.{Declarations.{space_duplicates}, Spaces.{parameter_names}}
 use Rattle.fb_iface.proofs.TreeLemmas.{network_joined}
 use Rattle.fb_iface.proofs.repeats.report_in_network.Goals as goal
 

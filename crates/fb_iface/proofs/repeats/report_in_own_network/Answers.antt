@@ -1,17 +1,9 @@
-use Rattle.std.proofs.Common.{◌≡◌, ◌≤◌, ◌++◌, ◌∙◌, append-nil, ap, length, map, sym, arith}
-use Rattle.std.proofs.lemmas.List.{length-map}
-use Rattle.std.proofs.lemmas.Result.{on_ok_weaker}
+use Rattle.std.proofs.{Common.{◌≡◌, ◌≤◌, ◌++◌, ◌∙◌, append-nil, ap, length, map, sym, arith}, lemmas.List.{length-map}, lemmas.Result.{on_ok_weaker}}
 use Rattle.std.specs.List.{flat_map}
-use Rattle.fb_tree.specs.Tree.{instance_tree, network_tree}
-use Rattle.fb_tree.specs.declared.network.Instance.{Instance}
-use Rattle.fb_iface.specs.Declarations.{space_duplicates}
-use Rattle.fb_iface.specs.Fault.{faults_at}
-use Rattle.fb_iface.specs.Names.{first_ones}
-use Rattle.fb_iface.specs.Ports.{instances_in}
-use Rattle.fb_iface.specs.Spaces.{parameter_names}
+use Rattle.fb_tree.specs.{Tree.{instance_tree, network_tree}, declared.network.Instance.{Instance}}
+use Rattle.fb_iface.specs.{Declarations.{space_duplicates}, Fault.{faults_at}, Names.{first_ones}, Ports.{instances_in}, Spaces.{parameter_names}}
 use Rattle.fb_iface.specs.declared.code.Code.TheVariants.{Duplicate}
-use Rattle.fb_iface.proofs.CountLemmas.{instances_as_named, instances_named, none_again}
-use Rattle.fb_iface.proofs.TreeLemmas.{network_joined}
+use Rattle.fb_iface.proofs.{CountLemmas.{instances_as_named, instances_named, none_again}, TreeLemmas.{network_joined}}
 use Rattle.fb_iface.proofs.repeats.report_in_own_network.Goals as goal
 
 pub returns-else-len : goal.returns-else-len

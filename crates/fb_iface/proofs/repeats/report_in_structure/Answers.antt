@@ -1,6 +1,5 @@
-use Rattle.std.proofs.Common.{◌++◌, ◌∙◌, ap, map}
+use Rattle.std.proofs.{Common.{◌++◌, ◌∙◌, ap, map}, lemmas.Result.{on_ok_weaker}}
 use Rattle.std.specs.List.{flat_map}
-use Rattle.std.proofs.lemmas.Result.{on_ok_weaker}
 use Rattle.fb_iface.specs.Declarations.{space_duplicates}
 use Rattle.fb_iface.proofs.TreeLemmas.{structure_joined}
 use Rattle.fb_iface.proofs.repeats.report_in_structure.Goals as goal

@@ -1,9 +1,7 @@
-use Rattle.std.proofs.Common.{◌≡◌, ◌++◌, ◌∙◌, ap, map}
-use Rattle.std.proofs.lemmas.Result.{on_ok_weaker}
+use Rattle.std.proofs.{Common.{◌≡◌, ◌++◌, ◌∙◌, ap, map}, lemmas.Result.{on_ok_weaker}}
 use Rattle.std.specs.List.{flat_map}
 use Rattle.fb_tree.specs.Tree.{network_tree}
-use Rattle.fb_iface.specs.Declarations.{space_duplicates}
-use Rattle.fb_iface.specs.Spaces.{network_spaces}
+use Rattle.fb_iface.specs.{Declarations.{space_duplicates}, Spaces.{network_spaces}}
 use Rattle.fb_iface.proofs.TreeLemmas.{system_joined}
 use Rattle.fb_iface.proofs.repeats.report_in_system.Goals as goal
 

@@ -1,14 +1,10 @@
 use Rattle.std.proofs.Common.{◌≡◌, ◌+◌, ◌<◌, not, true, false, ap, subst, sym, ◌∙◌, arith, get_or, length, map, take, ◌∷◌, [], ◌++◌, append-nil, nat_eq}
-use Rattle.std.proofs.lemmas.Grind.{common_steps}
-use Rattle.std.proofs.lemmas.List.{get_or-map, length-map, take_more}
-use Rattle.std.specs.Cmp.Lexicographic.{pointwise}
-use Rattle.std.specs.HashSet.{contains, Updates}
-use Rattle.fb_iface.specs.Fault.{faults_at}
-use Rattle.fb_iface.specs.Names.{has_name}
-use Rattle.fb_iface.specs.declared.code.Code.TheVariants.{Duplicate}
+use Rattle.std.proofs.{lemmas.Grind.{common_steps}, lemmas.List.{get_or-map, length-map, take_more}}
+use Rattle.std.specs.{Cmp.Lexicographic.{pointwise}, HashSet.{contains, Updates}}
+use Rattle.fb_iface.specs.{Fault.{faults_at}, Names.{has_name}, declared.code.Code.TheVariants.{Duplicate}}
 use Rattle.fb_iface.proofs.RepeatLemmas.{none_repeated, noted-push, repeated_all, repeated_among, reported-again, reported-first}
-use Rattle.fb_iface.proofs.repeats.report_repeated.Goals as goal
 use Rattle.fb_iface.proofs.repeats.report_repeated.Goals.{then-not-branch+in_ok-push, else-not-branch}
+use Rattle.fb_iface.proofs.repeats.report_repeated.Goals as goal
 
 pub loop-declaration-preserved : goal.loop-declaration-preserved
 loop-declaration-preserved g c =

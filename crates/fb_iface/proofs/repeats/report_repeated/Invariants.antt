@@ -1,9 +1,6 @@
 use Rattle.std.proofs.Common.{◌≡◌, ℕ, List, ◌++◌, map, nat_eq, take}
-use Rattle.std.specs.Cmp.Lexicographic.{pointwise}
-use Rattle.std.specs.HashSet.{contains}
-use Rattle.fb_iface.specs.Fault.{faults_at}
-use Rattle.fb_iface.specs.Names.{has_name}
-use Rattle.fb_iface.specs.declared.code.Code.TheVariants.{Duplicate}
+use Rattle.std.specs.{Cmp.Lexicographic.{pointwise}, HashSet.{contains}}
+use Rattle.fb_iface.specs.{Fault.{faults_at}, Names.{has_name}, declared.code.Code.TheVariants.{Duplicate}}
 use Rattle.fb_iface.proofs.RepeatLemmas.{repeated_among}
 use Rattle.fb_iface.proofs.repeats.report_repeated.Given as goal
 

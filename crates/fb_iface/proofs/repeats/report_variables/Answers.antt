@@ -1,13 +1,7 @@
-use Rattle.std.proofs.Common.{◌≡◌, ◌≤◌, ◌++◌, ◌∙◌, append-nil, ap, length, map, sym, arith}
-use Rattle.std.proofs.lemmas.List.Folds.{flat_map-map}
+use Rattle.std.proofs.{Common.{◌≡◌, ◌≤◌, ◌++◌, ◌∙◌, append-nil, ap, length, map, sym, arith}, lemmas.List.Folds.{flat_map-map}}
 use Rattle.std.specs.List.{flat_map}
-use Rattle.fb_tree.specs.Text.declared.name.NameUse.{NameUse}
-use Rattle.fb_tree.specs.Tree.{interface_tree, variables_tree}
-use Rattle.fb_tree.specs.declared.interface.Variables.{Variables}
-use Rattle.fb_iface.specs.Fault.{faults_at}
-use Rattle.fb_iface.specs.Names.{first_ones}
-use Rattle.fb_iface.specs.Ports.{variables_in}
-use Rattle.fb_iface.specs.declared.code.Code.TheVariants.{Duplicate}
+use Rattle.fb_tree.specs.{Text.declared.name.NameUse.{NameUse}, Tree.{interface_tree, variables_tree}, declared.interface.Variables.{Variables}}
+use Rattle.fb_iface.specs.{Fault.{faults_at}, Names.{first_ones}, Ports.{variables_in}, declared.code.Code.TheVariants.{Duplicate}}
 use Rattle.fb_iface.proofs.CountLemmas.{none_again, variables_named}
 use Rattle.fb_iface.proofs.repeats.report_variables.Goals as goal
 

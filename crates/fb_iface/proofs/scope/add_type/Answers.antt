@@ -1,9 +1,7 @@
-use Rattle.std.proofs.Common.{◌≡◌, sym, ◌∙◌, Some, is_some, nat_eq, false, arith}
-use Rattle.std.proofs.lemmas.Grind.{common_steps}
-use Rattle.std.specs.Cmp.Lexicographic.{pointwise}
+use Rattle.std.proofs.{Common.{◌≡◌, sym, ◌∙◌, Some, is_some, nat_eq, false, arith}, lemmas.Grind.{common_steps}}
+use Rattle.std.specs.{Cmp.Lexicographic.{pointwise}, HashMap.{get}}
 use Rattle.fb_tree.specs.Tree.{decl_tree}
 use Rattle.fb_library.specs.View.{tree_at}
-use Rattle.std.specs.HashMap.{get}
 use Rattle.fb_iface.proofs.ScopeLemmas.{with_type-new}
 use Rattle.fb_iface.proofs.scope.add_type.Goals as goal
 

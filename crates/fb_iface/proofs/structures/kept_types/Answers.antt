@@ -1,13 +1,10 @@
-use Rattle.std.proofs.Common.{◌≡◌, ◌+◌, ◌<◌, ℕ, List, ◌∷◌, [], ◌++◌, length, take, sym, ap, ◌∙◌, nat_eq, arith}
-use Rattle.std.proofs.lemmas.Grind.{common_steps}
-use Rattle.std.specs.Cmp.Lexicographic.{pointwise}
-use Rattle.std.specs.HashMap.{get}
+use Rattle.std.proofs.{Common.{◌≡◌, ◌+◌, ◌<◌, ℕ, List, ◌∷◌, [], ◌++◌, length, take, sym, ap, ◌∙◌, nat_eq, arith}, lemmas.Grind.{common_steps}}
+use Rattle.std.specs.{Cmp.Lexicographic.{pointwise}, HashMap.{get}}
 use Rattle.fb_library.specs.View.{tree_at}
-use Rattle.fb_iface.specs.Fields.{fields_among, fields_of_tree}
-use Rattle.fb_iface.specs.KeptFields.{kept_fields}
+use Rattle.fb_iface.specs.{Fields.{fields_among, fields_of_tree}, KeptFields.{kept_fields}}
 use Rattle.fb_iface.proofs.FieldLemmas.{kept-more, none-more}
-use Rattle.fb_iface.proofs.structures.kept_types.Goals as goal
 use Rattle.fb_iface.proofs.structures.kept_types.Goals.{in-Some+in_ok-insert+in-Some+in-Known-1, in-Some+in_ok-insert+in-Some+in-NotJudged-1, in-Some+in_ok-insert+in-None-1, in_default}
+use Rattle.fb_iface.proofs.structures.kept_types.Goals as goal
 
 pub loop-name-preserved : goal.loop-name-preserved
 loop-name-preserved g c =

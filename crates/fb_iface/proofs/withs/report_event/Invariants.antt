@@ -1,9 +1,6 @@
 use Rattle.std.proofs.Common.{◌≡◌, ◌++◌, not, take}
 use Rattle.std.specs.List.{filter}
-use Rattle.fb_iface.specs.Fault.{faults_at}
-use Rattle.fb_iface.specs.Names.{stands_for}
-use Rattle.fb_iface.specs.Withs.{goes_along}
-use Rattle.fb_iface.specs.declared.code.Code.TheVariants.{WithUnknown}
+use Rattle.fb_iface.specs.{Fault.{faults_at}, Names.{stands_for}, Withs.{goes_along}, declared.code.Code.TheVariants.{WithUnknown}}
 use Rattle.fb_iface.proofs.withs.report_event.Given as goal
 
 abbrev pub invariant-loop-name : goal.invariant-loop-name

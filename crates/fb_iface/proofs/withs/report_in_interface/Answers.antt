@@ -1,11 +1,7 @@
-use Rattle.std.proofs.Common.{◌≡◌, ◌++◌, ◌∙◌, ℕ, List, ap, sym}
-use Rattle.std.proofs.lemmas.List.{take_all}
-use Rattle.std.proofs.lemmas.List.Folds.{flat_map-map}
+use Rattle.std.proofs.{Common.{◌≡◌, ◌++◌, ◌∙◌, ℕ, List, ap, sym}, lemmas.List.{take_all}, lemmas.List.Folds.{flat_map-map}}
 use Rattle.std.specs.List.{flat_map}
 use Rattle.fb_tree.specs.Tree.{event_tree, interface_tree}
-use Rattle.fb_iface.specs.Names.{stands_for}
-use Rattle.fb_iface.specs.Ports.{variables_in}
-use Rattle.fb_iface.specs.Withs.{event_withs}
+use Rattle.fb_iface.specs.{Names.{stands_for}, Ports.{variables_in}, Withs.{event_withs}}
 use Rattle.fb_iface.proofs.TableLemmas.{stands_for-first_ones}
 use Rattle.fb_iface.proofs.withs.report_in_interface.Goals as goal
 

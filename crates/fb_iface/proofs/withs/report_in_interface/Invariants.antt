@@ -1,8 +1,7 @@
 use Rattle.std.proofs.Common.{◌≡◌, ◌++◌, take}
 use Rattle.std.specs.List.{flat_map}
 use Rattle.fb_tree.specs.Tree.{event_tree}
-use Rattle.fb_iface.specs.Names.{stands_for}
-use Rattle.fb_iface.specs.Withs.{event_withs}
+use Rattle.fb_iface.specs.{Names.{stands_for}, Withs.{event_withs}}
 use Rattle.fb_iface.proofs.withs.report_in_interface.Given as goal
 
 abbrev pub invariant-loop-event : goal.invariant-loop-event

@@ -1,10 +1,6 @@
 use Rattle.std.proofs.Common.{◌≡◌, ◌++◌, take}
-use Rattle.std.specs.BTreeMap.{get}
-use Rattle.std.specs.List.{flat_map}
-use Rattle.fb_netcheck.specs.Connections.{connection_faults}
-use Rattle.fb_netcheck.specs.Known.{AreSpellings, part_cmp}
-use Rattle.fb_netcheck.specs.Settings.{place_in}
-use Rattle.fb_netcheck.specs.Types.{joined_types}
+use Rattle.std.specs.{BTreeMap.{get}, List.{flat_map}}
+use Rattle.fb_netcheck.specs.{Connections.{connection_faults}, Known.{AreSpellings, part_cmp}, Settings.{place_in}, Types.{joined_types}}
 use Rattle.fb_netcheck.proofs.connections.report_connections.Given as goal
 
 abbrev pub invariant-loop-connection : goal.invariant-loop-connection

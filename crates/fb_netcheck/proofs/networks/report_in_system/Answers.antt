@@ -1,6 +1,5 @@
 use Rattle.std.proofs.Common.{◌≡◌, ◌++◌, ◌∙◌, ◌<◌, ap, arith, get_or, length}
-use Rattle.fb_tree.specs.Tree.{application_tree}
-use Rattle.fb_tree.specs.declared.system.Application.{Application}
+use Rattle.fb_tree.specs.{Tree.{application_tree}, declared.system.Application.{Application}}
 use Rattle.fb_netcheck.specs.Networks.{application_network}
 use Rattle.fb_netcheck.proofs.JoinLemmas.{flat_map_next}
 use Rattle.fb_netcheck.proofs.networks.report_in_system.Goals as goal

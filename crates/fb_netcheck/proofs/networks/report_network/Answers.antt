@@ -1,14 +1,8 @@
-use Rattle.std.proofs.Common.{◌≡◌, List, ◌++◌, ◌∙◌, ap, map, sym}
-use Rattle.std.proofs.lemmas.List.Folds.{flat_map-map}
-use Rattle.std.proofs.lemmas.Result.{on_ok_weaker}
+use Rattle.std.proofs.{Common.{◌≡◌, List, ◌++◌, ◌∙◌, ap, map, sym}, lemmas.List.Folds.{flat_map-map}, lemmas.Result.{on_ok_weaker}}
 use Rattle.std.specs.List.{flat_map}
-use Rattle.fb_tree.specs.Tree.{instance_tree}
-use Rattle.fb_tree.specs.declared.network.Instance.{Instance}
+use Rattle.fb_tree.specs.{Tree.{instance_tree}, declared.network.Instance.{Instance}}
 use Rattle.fb_iface.specs.declared.fault.Fault.{Fault}
-use Rattle.fb_netcheck.specs.Connections.{connection_faults}
-use Rattle.fb_netcheck.specs.Parameters.{instance_parameters}
-use Rattle.fb_netcheck.specs.Repeats.{second_adapters, second_sources}
-use Rattle.fb_netcheck.specs.Settings.{place_in}
+use Rattle.fb_netcheck.specs.{Connections.{connection_faults}, Parameters.{instance_parameters}, Repeats.{second_adapters, second_sources}, Settings.{place_in}}
 use Rattle.fb_netcheck.specs.Types.{joined_types}
 use Rattle.fb_netcheck.proofs.JoinLemmas.{five_joined}
 use Rattle.fb_netcheck.proofs.networks.report_network.Goals as goal

@@ -1,6 +1,4 @@
-use Rattle.std.proofs.Common.{◌++◌, ◌∙◌, ap, sym}
-use Rattle.std.proofs.lemmas.List.Folds.{flat_map-map}
-use Rattle.std.proofs.lemmas.Result.{on_ok_weaker}
+use Rattle.std.proofs.{Common.{◌++◌, ◌∙◌, ap, sym}, lemmas.List.Folds.{flat_map-map}, lemmas.Result.{on_ok_weaker}}
 use Rattle.fb_tree.specs.Tree.{application_tree, decl_tree}
 use Rattle.fb_netcheck.specs.Networks.{application_network, declared_faults}
 use Rattle.fb_netcheck.proofs.networks.report_networks.Goals as goal

@@ -1,6 +1,4 @@
-use Rattle.std.proofs.Common.{◌++◌, ◌∙◌, ap, sym}
-use Rattle.std.proofs.lemmas.List.Folds.{flat_map-map}
-use Rattle.std.proofs.lemmas.Result.{on_ok_weaker}
+use Rattle.std.proofs.{Common.{◌++◌, ◌∙◌, ap, sym}, lemmas.List.Folds.{flat_map-map}, lemmas.Result.{on_ok_weaker}}
 use Rattle.fb_tree.specs.Tree.{ParameterTree, parameter_tree}
 use Rattle.fb_iface.specs.Names.{stands_for}
 use Rattle.fb_netcheck.specs.Parameters.{parameter_faults}

@@ -1,10 +1,9 @@
 use Rattle.std.proofs.Common.{◌≡◌, ◌+◌, ◌<◌, not, true, false, ap, sym, ◌∙◌, arith, get_or, length, map, take, ◌∷◌, [], ◌++◌, append-nil}
-use Rattle.std.proofs.lemmas.Grind.{common_steps}
-use Rattle.std.proofs.lemmas.List.{get_or-map, length-map, take_more}
+use Rattle.std.proofs.{lemmas.Grind.{common_steps}, lemmas.List.{get_or-map, length-map, take_more}}
 use Rattle.fb_netcheck.specs.Paths.{fault_at_path, has_path}
 use Rattle.fb_netcheck.proofs.RepeatLemmas.{none_repeated, noted-push, repeated_all, repeated_among, reported-again, reported-first}
-use Rattle.fb_netcheck.proofs.paths.report_repeated.Goals as goal
 use Rattle.fb_netcheck.proofs.paths.report_repeated.Goals.{then-not-branch+in_ok-push, else-not-branch}
+use Rattle.fb_netcheck.proofs.paths.report_repeated.Goals as goal
 
 pub loop-item-preserved : goal.loop-item-preserved
 loop-item-preserved g c =

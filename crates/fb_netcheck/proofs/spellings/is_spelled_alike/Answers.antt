@@ -1,9 +1,6 @@
 use Rattle.std.proofs.Common.{◌≡◌, Some, ◌∙◌, ap, sym, nat_eq}
-use Rattle.std.specs.BTreeMap.{get}
-use Rattle.std.specs.Cmp.Lexicographic.{pointwise}
-use Rattle.std.specs.Option.{option_copied}
-use Rattle.fb_netcheck.specs.Known.{PartKey, part_cmp}
-use Rattle.fb_netcheck.specs.Spellings.{words_at}
+use Rattle.std.specs.{BTreeMap.{get}, Cmp.Lexicographic.{pointwise}, Option.{option_copied}}
+use Rattle.fb_netcheck.specs.{Known.{PartKey, part_cmp}, Spellings.{words_at}}
 use Rattle.fb_netcheck.proofs.spellings.is_spelled_alike.Goals as goal
 
 pub returns-in-Some-Some : goal.returns-in-Some-Some

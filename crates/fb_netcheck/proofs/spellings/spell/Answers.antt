@@ -1,7 +1,6 @@
 use Rattle.std.proofs.Common.{◌∙◌, ap, sym}
 use Rattle.std.specs.BTreeMap.{get}
-use Rattle.fb_netcheck.specs.Known.{PartKey, part_cmp}
-use Rattle.fb_netcheck.specs.Spellings.{words_at}
+use Rattle.fb_netcheck.specs.{Known.{PartKey, part_cmp}, Spellings.{words_at}}
 use Rattle.fb_netcheck.proofs.KnownLemmas.{kept_more}
 use Rattle.fb_netcheck.proofs.spellings.spell.Goals as goal
 

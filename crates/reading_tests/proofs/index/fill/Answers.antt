@@ -2,8 +2,7 @@
 use Rattle.std.proofs.Common.{◌≡◌, ℕ, List, sym, subst, ◌∙◌}
 use Rattle.fb_tree.specs.Mentions.{Mentioned, mentioned, nothing_mentioned}
 use Rattle.fb_index.specs.Indexed.{Indexed, nothing_indexed, IsIndexedAs}
-use Rattle.fb_index.proofs.Lookups.{flips}
-use Rattle.fb_index.proofs.Replacing.{indexed_none, indexed_other}
+use Rattle.fb_index.proofs.{Lookups.{flips}, Replacing.{indexed_none, indexed_other}}
 use Rattle.reading_tests.proofs.index.fill.Goals as goal
 
 -- nothing is indexed of a unit at the beginning

@@ -1,10 +1,8 @@
 use Rattle.std.proofs.Common.{◌≡◌, ℕ, List, ap, map, ◌∙◌, option_map, nat_eq}
-use Rattle.std.specs.Cmp.Lexicographic.{pointwise}
-use Rattle.std.specs.HashMap.{get}
+use Rattle.std.specs.{Cmp.Lexicographic.{pointwise}, HashMap.{get}}
 use Rattle.fb_tree.specs.Tree.{instance_tree}
 use Rattle.fb_iface.proofs.ScopeLemmas.{kept_usable}
-use Rattle.fb_iface.specs.Kept.{kept_of, kept_ports}
-use Rattle.fb_iface.specs.Scope.{mentioned_type}
+use Rattle.fb_iface.specs.{Kept.{kept_of, kept_ports}, Scope.{mentioned_type}}
 use Rattle.fb_iface.proofs.scope.Scope.new.Goals as goal
 
 pub returns : goal.returns
