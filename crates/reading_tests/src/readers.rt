@@ -39,12 +39,13 @@ pub enum Part {
 
 /// How many tokens are left.
 fn left(tokens: &mut Tokens<'_>) -> usize {
-    let mut count = 0;
-    while !tokens.is_over() {
+    for count in 0..usize::MAX {
+        if tokens.is_over() {
+            return count;
+        }
         tokens.take();
-        count += 1;
     }
-    count
+    usize::MAX
 }
 
 /// What was read, or `stops`, and how many tokens are after it, or from the one that does not continue.
