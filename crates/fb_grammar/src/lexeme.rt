@@ -3,12 +3,12 @@ ghost use Rattle.std.specs.{Prelude.{◌≡◌, ◌<◌, ◌≤◌, ◌↔◌, �
 ghost use Rattle.fb_tree.specs.{Text.Bytes.{hash}, Text.Tokens.{GivesReading, LiesIn, SpansRise}, Text.declared.token.TokenKind.{TokenKind}};
 ghost use Rattle.fb_tree.specs.Text.declared.token.TokenKind.TheVariants.{Word};
 ghost use Rattle.fb_grammar.specs.{Kind.{is_among, name_kinds}, ReservedWords.{keyword}};
-ghost use Rattle.fb_grammar.specs.Lexemes.{kind_of, lexeme_of, lexemes_of, name_kind, number_kind, place, symbol_kind, type_name, typed_kind, word_kind};
+ghost use Rattle.fb_grammar.specs.Lexemes.{kind_of, lexeme_of, lexemes_of, name_kind, number_kind, symbol_kind, type_name, typed_kind, word_kind};
 
 use crate::keywords::{keyword, symbol};
 use crate::kind::Kind;
 use fb_tree::text::{
-    CompactName, NameUse, Place, Span, Token, TokenFault, TokenKind, TypeClass, same_word, tokens,
+    CompactName, NameUse, Place, Token, TokenFault, TokenKind, TypeClass, same_word, tokens,
     type_class,
 };
 use std::alloc::{AllocError, Global};
@@ -162,16 +162,6 @@ pub fn lexemes(alloc: Global, text: &str) -> Result<Vec<Lexeme>, TokenFault>
         lexemes.push(lexeme_of(alloc, text, token)?)?;
     }
     Ok(lexemes)
-}
-
-/// The place of the first token, or the end of the text if there is none.
-pub fn place_of(lexemes: &[Lexeme], end: usize) -> Span
-    ensures { result ≡ place end lexemes.now }
-{
-    match lexemes {
-        [lexeme, ..] => lexeme.span.span(),
-        [] => Span { start: end, end },
-    }
 }
 
 /// A token is a name if it is a word of at most 64 bytes that is not reserved.

@@ -12,7 +12,7 @@ mod stop;
 mod upcoming;
 
 pub use kind::{Kind, own_numbers};
-pub use lexeme::{Lexeme, lexemes, names_are_words, place_of};
+pub use lexeme::{Lexeme, lexemes, names_are_words};
 pub use literals::{NUMBERS, literal_form, literal_use};
 pub use naming::{NAMES, NameReader, Taken, is_next, key, name, name_of, names, one_of};
 pub use repetition::{Reader, listed, separated, several};
