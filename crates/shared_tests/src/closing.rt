@@ -124,9 +124,8 @@ fn a_silent_seat_that_is_missing(rt: HostRuntime) -> Result<(), Fail> {
 
 // asks so often, and gives the calls that the seat then has
 fn ask_often<R: Wait>(rt: &R, shared: &Shared, seat: &mut Seat, times: u32) -> Option<u64> {
-    let key = faults_of("A")?;
     for _ in 0..times {
-        shared.ask(rt, seat, key).ok()?;
+        shared.ask(rt, seat, faults_of("A")?).ok()?;
     }
     Some(seat.turns())
 }
