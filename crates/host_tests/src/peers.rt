@@ -14,7 +14,7 @@ const NOW_AND_THEN: u64 = 20;
 
 const BYTES: u32 = 500;
 
-/// How often a peer asks at most, until a worker has checked a unit or its stream ends.
+/// How often a peer asks at most until a worker has checked a unit.
 const LOOKS: u32 = 200_000;
 
 /// A peer that has connected.
@@ -124,34 +124,6 @@ fn is_open(stream: &TcpStream) -> bool {
     let mut byte = [0u8; 1];
     match stream.peek(&mut byte) {
         Ok(_) => false,
-        Err(error) => error.kind() == ErrorKind::WouldBlock,
-    }
-}
-
-/// Sends the line again and again and reads no reply, until its stream ends. It gives nothing, or that the stream is still open.
-pub(crate) fn flood<R: Clock>(
-    rt: &R,
-    alloc: Global,
-    stream: &TcpStream,
-    line: &str,
-) -> io::Result<String> {
-    let begun = Instant::now(rt)?;
-    stream.set_write_timeout(Some(Duration::from_millis(NOW_AND_THEN)))?;
-    let mut is_open = true;
-    for _ in 0..LOOKS {
-        is_open = takes(stream, line);
-        if !is_open || Duration::from_millis(BOUND) < begun.elapsed(rt)? {
-            break;
-        }
-    }
-    let told = String::from_str(alloc, if is_open { "open" } else { "" })?;
-    Ok(told)
-}
-
-// Whether a stream takes the text, or is only full.
-fn takes(stream: &TcpStream, text: &str) -> bool {
-    match say(stream, text) {
-        Ok(()) => true,
         Err(error) => error.kind() == ErrorKind::WouldBlock,
     }
 }
