@@ -1,6 +1,8 @@
-"""The words of the program: its help, its version, a port that is taken, and a secret that can't be read."""
+"""The words of the program: its help, its version, a port that is taken, and files without a secret."""
 from __future__ import annotations
 
+import errno
+import os
 import re
 import socket
 import subprocess
@@ -20,6 +22,11 @@ def ran(*words: str) -> tuple[int, str, str]:
     return done.returncode, done.stdout, done.stderr
 
 
+def in_std(error: OSError) -> str:
+    """What the program prints of the error."""
+    return f"{error.strerror} (os error {error.errno})"
+
+
 class WordsTest(unittest.TestCase):
     def test_each_option_has_a_sentence(self) -> None:
         for command, count in (("script", 2), ("serve", 5), ("host", 8)):
@@ -34,21 +41,33 @@ class WordsTest(unittest.TestCase):
         self.assertEqual((status, out), (2, ""), errors)
         self.assertRegex(errors, rf"^bench61499 {re.escape(version)} \({KIT.pattern}\)\n$")
 
-    def test_a_host_says_that_its_port_is_taken(self) -> None:
+    def test_a_server_says_why_it_cannot_listen(self) -> None:
+        reason = OSError(errno.EADDRINUSE, os.strerror(errno.EADDRINUSE))
         with socket.socket() as taken:
             taken.bind(("127.0.0.1", 0))
             taken.listen()
             port = taken.getsockname()[1]
-            status, out, errors = ran("host", "--port", str(port))
-        self.assertEqual((status, out, errors), (1, "", f"bench61499: cannot listen on 127.0.0.1:{port}\n"))
+            told = f"bench61499: cannot listen on 127.0.0.1:{port}: {in_std(reason)}\n"
+            for command in ("serve", "host"):
+                self.assertEqual(ran(command, "--port", str(port)), (1, "", told))
 
     def test_a_secret_that_cannot_be_read_admits_nobody(self) -> None:
         with tempfile.TemporaryDirectory() as folder:
-            empty = Path(folder, "empty")
-            empty.write_bytes(b"\nsecret\n")
-            for path in (empty, Path(folder, "absent"), Path(folder)):
-                told = (1, "", f"bench61499: no secret in {path}\n")
-                self.assertEqual(ran("host", "--port", "0", "--connections", "1", "--secret", str(path)), told)
+            for path in (Path(folder, "absent"), Path(folder)):
+                with self.assertRaises(OSError) as failed:
+                    path.read_bytes()
+                self.assert_no_secret(path, f"cannot read {path}: {in_std(failed.exception)}")
+
+    def test_a_file_without_a_secret_admits_nobody(self) -> None:
+        with tempfile.TemporaryDirectory() as folder:
+            path = Path(folder, "secret")
+            for content, reason in ((b"", "is empty"), (b"\nsecret\n", "is empty"), (b"s" * 4097, "has more than 4096 bytes")):
+                path.write_bytes(content)
+                self.assert_no_secret(path, f"no secret in {path}: its first line {reason}")
+
+    def assert_no_secret(self, path: Path, message: str) -> None:
+        told = (1, "", f"bench61499: {message}\n")
+        self.assertEqual(ran("host", "--port", "0", "--connections", "1", "--secret", str(path)), told)
 
 
 if __name__ == "__main__":

@@ -1,24 +1,19 @@
 //! The program `bench61499`: a workbench for IEC 61499 units that answers requests, one on each line.
 #![tactic(auto)]
 
-use fb_host::{FIRST_LINE_TIMEOUT, HostConfig, host};
+use fb_host::{FIRST_LINE_TIMEOUT, HostConfig, host_on};
 use fb_program::wire::{FromRead, IntoWrite};
 use fb_program::{
-    HostSettings, Outcome, ServerSettings, refuse_secret, refuse_words, run, secret_in,
+    HostSettings, Outcome, ServerSettings, refuse_file, refuse_port, refuse_secret, refuse_words,
+    run, secret_in,
 };
-use fb_serve::{ServerConfig, TURNS, serve};
+use fb_serve::{ServerConfig, TURNS, serve_on};
 use std::alloc::{AllocError, Global};
+use std::io::Write;
+use std::net::TcpListener;
 use std::process::ExitCode;
 use std::sync::Mutex;
 use std::{env, fs, io};
-
-fn texts<'a>(alloc: Global, words: &'a [String]) -> Result<Vec<&'a str>, AllocError> {
-    let mut texts = Vec::new(alloc);
-    for word in words {
-        texts.push(word.as_str())?;
-    }
-    Ok(texts)
-}
 
 /// How many milliseconds a minute has.
 const MINUTE: u64 = 60_000;
@@ -28,15 +23,33 @@ fn words(rt: &HostRuntime) -> io::Result<Vec<String>> {
     Ok(words?)
 }
 
-/// The bytes of the file of the secret: none if no file is named, or none can be read.
-fn secret_bytes(rt: &HostRuntime, path: Option<&str>) -> Vec<u8> {
-    let Some(path) = path else {
-        return Vec::new(rt.alloc());
-    };
-    match fs::read(rt, path) {
-        Ok(bytes) => bytes,
-        Err(_) => Vec::new(rt.alloc()),
+fn texts<'a>(alloc: Global, words: &'a [String]) -> Result<Vec<&'a str>, AllocError> {
+    let mut texts = Vec::new(alloc);
+    for word in words {
+        texts.push(word.as_str())?;
     }
+    Ok(texts)
+}
+
+/// The secret in the file, or no bytes if no file is named. If the file has none, this says why, and gives the status of the program.
+fn secret_at<E: Write>(
+    rt: &HostRuntime,
+    path: Option<&str>,
+    errors: &mut E,
+) -> Result<Vec<u8>, u8> {
+    let Some(path) = path else {
+        return Ok(Vec::new(rt.alloc()));
+    };
+    let mut bytes = match fs::read(rt, path) {
+        Ok(bytes) => bytes,
+        Err(error) => return Err(refuse_file(path, &error, errors)),
+    };
+    let length = match secret_in(&bytes) {
+        Ok(line) => line.len(),
+        Err(reason) => return Err(refuse_secret(path, reason, errors)),
+    };
+    bytes.truncate(length);
+    Ok(bytes)
 }
 
 fn main(rt: HostRuntime) -> ExitCode {
@@ -67,13 +80,17 @@ fn main(rt: HostRuntime) -> ExitCode {
                 sessions,
                 limits,
             } = settings;
+            let listener = match TcpListener::bind(&rt, ("127.0.0.1", port)) {
+                Ok(listener) => listener,
+                Err(error) => return ExitCode::from(refuse_port(port, &error, &mut errors)),
+            };
             let config = ServerConfig {
                 workers,
                 sessions,
                 limits,
             };
             let mut writer = IntoWrite::new(rt.stdout());
-            let ended = serve(&rt, rt.alloc(), port, config, &mut writer, &mut errors);
+            let ended = serve_on(&rt, rt.alloc(), &listener, config, &mut writer, &mut errors);
             ExitCode::from(ended.status)
         }
         Outcome::Hosts(settings) => {
@@ -86,13 +103,14 @@ fn main(rt: HostRuntime) -> ExitCode {
                 idle,
                 connections,
             } = settings;
-            let bytes = secret_bytes(&rt, secret);
-            let line = secret_in(&bytes).unwrap_or(&[]);
-            if let Some(path) = secret {
-                if line.is_empty() {
-                    return ExitCode::from(refuse_secret(path, &mut errors));
-                }
-            }
+            let secret = match secret_at(&rt, secret, &mut errors) {
+                Ok(secret) => secret,
+                Err(status) => return ExitCode::from(status),
+            };
+            let listener = match TcpListener::bind(&rt, ("127.0.0.1", port)) {
+                Ok(listener) => listener,
+                Err(error) => return ExitCode::from(refuse_port(port, &error, &mut errors)),
+            };
             let config = HostConfig {
                 workers,
                 sessions,
@@ -103,7 +121,15 @@ fn main(rt: HostRuntime) -> ExitCode {
             };
             let mut writer = IntoWrite::new(rt.stdout());
             let errors = Mutex::new(rt.stderr());
-            let ended = host(&rt, rt.alloc(), port, config, line, &mut writer, &errors);
+            let ended = host_on(
+                &rt,
+                rt.alloc(),
+                &listener,
+                config,
+                &secret,
+                &mut writer,
+                &errors,
+            );
             ExitCode::from(ended.status)
         }
     }

@@ -5,11 +5,13 @@ mod arguments;
 mod asked;
 mod program;
 mod secret;
+mod unopened;
 
 pub use arguments::settings;
 pub use asked::{HostSettings, ServerSettings, Settings};
 pub use program::{Outcome, refuse_words, run};
-pub use secret::{refuse_secret, secret_in};
+pub use secret::{NoSecret, refuse_secret, secret_in};
+pub use unopened::{refuse_file, refuse_port};
 
 /// Of `fb_bench`, for the crates above.
 pub mod bench {
