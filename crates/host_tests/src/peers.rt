@@ -1,10 +1,10 @@
 //! What a peer does, and what it gets then.
 use crate::lines::{ASK_LAST, PENDING};
 use std::alloc::Global;
-use std::io;
 use std::io::{ErrorKind, Read, Write};
 use std::net::{Net, OpenStream, Shutdown, TcpListener, TcpStream};
 use std::time::{Clock, Duration, Instant};
+use std::{io, thread};
 
 /// How many milliseconds a peer waits for what it must get, and for a worker.
 const BOUND: u64 = 20_000;
@@ -14,7 +14,10 @@ const NOW_AND_THEN: u64 = 20;
 
 const BYTES: u32 = 500;
 
-/// How often a peer asks at most until a worker has checked a unit.
+/// How many microseconds pass from one line to the next where a peer reads no reply: it must still send when the host has given up.
+const BETWEEN_LINES: u64 = 200;
+
+/// How often a peer asks at most, until a worker has checked a unit or its stream ends.
 const LOOKS: u32 = 200_000;
 
 /// A peer that has connected.
@@ -124,6 +127,35 @@ fn is_open(stream: &TcpStream) -> bool {
     let mut byte = [0u8; 1];
     match stream.peek(&mut byte) {
         Ok(_) => false,
+        Err(error) => error.kind() == ErrorKind::WouldBlock,
+    }
+}
+
+/// Sends the line again and again and reads no reply, until its stream ends. It gives nothing, or that the stream is still open.
+pub(crate) fn flood<R: Clock>(
+    rt: &R,
+    alloc: Global,
+    stream: &TcpStream,
+    line: &str,
+) -> io::Result<String> {
+    let begun = Instant::now(rt)?;
+    stream.set_write_timeout(Some(Duration::from_millis(NOW_AND_THEN)))?;
+    let mut is_open = true;
+    for _ in 0..LOOKS {
+        is_open = takes(stream, line);
+        if !is_open || Duration::from_millis(BOUND) < begun.elapsed(rt)? {
+            break;
+        }
+        thread::sleep(rt, Duration::from_micros(BETWEEN_LINES));
+    }
+    let told = String::from_str(alloc, if is_open { "open" } else { "" })?;
+    Ok(told)
+}
+
+// Whether a stream takes the text, or is only full.
+fn takes(stream: &TcpStream, text: &str) -> bool {
+    match say(stream, text) {
+        Ok(()) => true,
         Err(error) => error.kind() == ErrorKind::WouldBlock,
     }
 }

@@ -1,5 +1,5 @@
-//! A session of a host of which each allocation is refused in turn, those of a history that begins anew among them. Another session then goes on with its seat, and the
-//! workbench closes with the receipts of all calls since the start.
+//! A session of a host of which each allocation is refused in turn, those of a history that begins anew among them. Another session then goes on with its seat, and is given
+//! each key that the first has taken; and the workbench closes with the receipts of all calls since the start.
 use fb_host::{ReceiptStore, SessionResult, give_back_all, run_host_session};
 use fb_serve::CallerState;
 use fb_shared::Shared;
@@ -21,7 +21,34 @@ const REPLIES: &str = "{\"commit\":1}\n{\"accepted\":1}\n{\"faults\":[]}\n";
 
 const LAST: &str = "{\"faults\":[]}\n";
 
+const COMMIT: &str =
+    r#"{"op":"commit","changes":[{"put":"A","base":0,"text":"FUNCTION_BLOCK A END_FUNCTION_BLOCK"},{"put":"B","base":0,"text":"FUNCTION_BLOCK B END_FUNCTION_BLOCK"},{"put":"C","base":0,"text":"FUNCTION_BLOCK C END_FUNCTION_BLOCK"},{"put":"D","base":0,"text":"FUNCTION_BLOCK D END_FUNCTION_BLOCK"},{"put":"E","base":0,"text":"FUNCTION_BLOCK E END_FUNCTION_BLOCK"},{"put":"F","base":0,"text":"FUNCTION_BLOCK F END_FUNCTION_BLOCK"}]}
+"#;
+
+// More keys than a session has room for from its start.
+const TAKES: &str =
+    "{\"op\":\"take\"}\n{\"op\":\"take\"}\n{\"op\":\"take\"}\n{\"op\":\"take\"}\n{\"op\":\"take\"}\n{\"op\":\"take\"}\n";
+
+const JOBS: &str = r#"{"job":1,"kind":"faults","unit":"A"}
+{"job":2,"kind":"faults","unit":"B"}
+{"job":3,"kind":"faults","unit":"C"}
+{"job":4,"kind":"faults","unit":"D"}
+{"job":5,"kind":"faults","unit":"E"}
+{"job":6,"kind":"faults","unit":"F"}
+"#;
+
+const UNITS: u64 = 8;
+
 const HISTORY: u64 = 2;
+
+/// What a session says before, what two sessions then say one after another, the replies of the first to it, and the end of those of the second.
+#[derive(Clone, Copy)]
+struct Talk {
+    before: &'static str,
+    requests: &'static str,
+    replies: &'static str,
+    last: &'static str,
+}
 
 /// How a session ended, what it replied, and whether an allocation was refused.
 #[derive(Drop)]
@@ -38,10 +65,11 @@ fn say_lines<R: Wait>(
     shared: &Shared,
     store: &ReceiptStore,
     state: CallerState,
+    requests: &str,
     number: u32,
 ) -> Result<(CallerState, Session), Fail> {
     let mut output = Vec::with_capacity(alloc, 1000)?;
-    let mut feed = MemoryFeed::new(REQUESTS.as_bytes(), 8192, u64::MAX);
+    let mut feed = MemoryFeed::new(requests.as_bytes(), 8192, u64::MAX);
     let mut sink = IntoWrite::new(&mut output);
     refuse(alloc, number);
     let SessionResult {
@@ -59,11 +87,11 @@ fn say_lines<R: Wait>(
     Ok((state, session))
 }
 
-// Whether a session may end so.
-fn is_right(session: &Session) -> bool {
+// Whether a session whose replies are these may end so.
+fn is_right(session: &Session, replies: &str) -> bool {
     match session.end {
-        RunEnd::End => session.output.as_slice() == REPLIES.as_bytes(),
-        RunEnd::Memory => REPLIES.as_bytes().starts_with(session.output.as_slice()),
+        RunEnd::End => session.output.as_slice() == replies.as_bytes(),
+        RunEnd::Memory => replies.as_bytes().starts_with(session.output.as_slice()),
         _ => false,
     }
 }
@@ -90,26 +118,27 @@ fn is_closed<R: Wait>(
     }
 }
 
-// Two sessions with one seat, the first without the allocation of this number.
-fn tried<R: Wait>(rt: &R, alloc: Global, number: u32) -> Result<Session, Fail> {
-    let limits = Limits::new(4, HISTORY).ok_or("limits")?;
+// Sessions with one seat, the first of the two without the allocation of this number.
+fn tried<R: Wait>(rt: &R, alloc: Global, talk: Talk, number: u32) -> Result<Session, Fail> {
+    let limits = Limits::new(UNITS, HISTORY).ok_or("limits")?;
     let (shared, mut seats) = Shared::rolling(alloc, limits, 1)?;
     let store = ReceiptStore::new(alloc, HISTORY);
     let state = CallerState::new(alloc, seats.pop().ok_or("no seat")?);
-    let (state, first) = say_lines(rt, alloc, &shared, &store, state, number)?;
-    let (state, last) = say_lines(rt, alloc, &shared, &store, state, 0)?;
-    let is_done = last.end == RunEnd::End && last.output.ends_with(LAST.as_bytes());
+    let (state, _) = say_lines(rt, alloc, &shared, &store, state, talk.before, 0)?;
+    let (state, first) = say_lines(rt, alloc, &shared, &store, state, talk.requests, number)?;
+    let (state, last) = say_lines(rt, alloc, &shared, &store, state, talk.requests, 0)?;
+    let is_done = last.end == RunEnd::End && last.output.ends_with(talk.last.as_bytes());
     let is_closed = is_closed(rt, alloc, shared, store, state)?;
-    if !is_done || !is_closed || !is_right(&first) {
+    if !is_done || !is_closed || !is_right(&first, talk.replies) {
         return Err(Fail::from("another end"));
     }
     Ok(first)
 }
 
-fn each_refused<R: Wait>(rt: &R, alloc: Global) -> Result<Refusals, Fail> {
+fn each_refused<R: Wait>(rt: &R, alloc: Global, talk: Talk) -> Result<Refusals, Fail> {
     let mut memory = 0u32;
     for number in 1..100_000u32 {
-        let session = tried(rt, alloc, number)?;
+        let session = tried(rt, alloc, talk, number)?;
         if !session.is_refused {
             return Ok(Refusals {
                 allocations: number - 1,
@@ -123,7 +152,26 @@ fn each_refused<R: Wait>(rt: &R, alloc: Global) -> Result<Refusals, Fail> {
 
 #[test]
 fn each_allocation_of_a_session(rt: HostRuntime) -> Result<(), Fail> {
-    let found = each_refused(&rt, rt.alloc())?;
+    let talk = Talk {
+        before: "",
+        requests: REQUESTS,
+        replies: REPLIES,
+        last: LAST,
+    };
+    let found = each_refused(&rt, rt.alloc(), talk)?;
     report(&rt, "run_host_session", " of three lines", found)?;
+    Ok(())
+}
+
+#[test]
+fn each_allocation_of_a_session_that_takes_keys(rt: HostRuntime) -> Result<(), Fail> {
+    let talk = Talk {
+        before: COMMIT,
+        requests: TAKES,
+        replies: JOBS,
+        last: JOBS,
+    };
+    let found = each_refused(&rt, rt.alloc(), talk)?;
+    report(&rt, "run_host_session", " that takes six keys", found)?;
     Ok(())
 }

@@ -1,5 +1,5 @@
 //! Peers that are silent. A wait that ends may have been some milliseconds shorter than was asked for.
-use crate::lines::{NO_JOB, TAKE};
+use crate::lines::{ASK_FAULTS, FIRST, NO_JOB, TAKE};
 use crate::play::{LONG, Play, compare};
 use crate::steps::Step;
 use std::test::Fail;
@@ -30,6 +30,45 @@ fn a_silent_session_is_ended(rt: HostRuntime) -> Result<(), Fail> {
         steps: FALLS_SILENT,
         errors: "session 1: idle\nsession 1: idle\n",
         counts: Some((2, 2)),
+    };
+    compare(&rt, rt.alloc(), &play)
+}
+
+// A unit of which one question has a long reply.
+const FAULTY: &str =
+    "{\"op\":\"commit\",\"changes\":[{\"put\":\"A\",\"base\":0,\"text\":\"FUNCTION_BLOCK A EVENT_INPUT E WITH \
+    X,X,X,X,X,X,X,X,X,X,X,X,X,X,X,X,X,X,X,X,X,X,X,X,X,X,X,X,X,X,X,X,X,X,X,X,X,X,X,X,X,X,X,X,X,X,X,X,\
+    X,X,X,X,X,X,X,X,X,X,X,X,X,X,X,X,X,X,X,X,X,X,X,X,X,X,X,X,X,X,X,X,X,X,X,X,X,X,X,X,X,X,X,X,X,X,X,X,\
+    X,X,X,X,X,X,X,X,X,X,X,X,X,X,X,X,X,X,X,X,X,X,X,X,X,X,X,X,X,X,X,X,X,X,X,X,X,X,X,X,X,X,X,X,X,X,X,X,\
+    X,X,X,X,X,X,X,X,X,X,X,X,X,X,X,X,X,X,X,X,X,X,X,X,X,X,X,X,X,X,X,X,X,X,X,X,X,X,X,X,X,X,X,X,X,X,X,X\
+    ; END_EVENT END_FUNCTION_BLOCK\"}]}\n";
+
+// A session asks and takes no replies. Its seat is free once a reply has waited too long.
+const TAKES_NO_REPLY: &[Step<'static>] = &[
+    Step::Connect(1),
+    Step::Ask(0, FAULTY, FIRST),
+    Step::Ask(0, "{\"op\":\"work\",\"turns\":9}\n", "{\"accepted\":1}\n"),
+    Step::Flood(0, ASK_FAULTS),
+    Step::Passed(480),
+    Step::Connect(1),
+    Step::Ask(1, TAKE, NO_JOB),
+    Step::Errors("session 1: write failed\n"),
+    Step::Leave(1, ""),
+];
+
+#[test]
+fn a_session_that_takes_no_reply_is_ended(rt: HostRuntime) -> Result<(), Fail> {
+    let play = Play {
+        sessions: 1,
+        workers: 0,
+        history: 20,
+        first_line_timeout: LONG,
+        idle_timeout: 500,
+        connections: 2,
+        secret: "",
+        steps: TAKES_NO_REPLY,
+        errors: "session 1: write failed\n",
+        counts: None,
     };
     compare(&rt, rt.alloc(), &play)
 }

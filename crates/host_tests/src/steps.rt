@@ -1,6 +1,6 @@
 //! Steps of peers.
 use crate::lines::KNOWN;
-use crate::peers::{commit_all, connect, drip, leave, repeat, rest, say};
+use crate::peers::{commit_all, connect, drip, flood, leave, repeat, rest, say};
 use std::alloc::Global;
 use std::io;
 use std::io::ErrorKind;
@@ -22,6 +22,8 @@ pub(crate) enum Step<'a> {
     CommitAll(usize, u32),
     /// It sends a byte now and then, until it is closed.
     Drip(usize),
+    /// It sends a line again and again and reads no reply, until it is closed.
+    Flood(usize, &'a str),
     /// It ends its sending, and gets this to the end.
     Leave(usize, &'a str),
     /// The same of all peers from one number on and below another, who get nothing.
@@ -47,6 +49,7 @@ impl<'a> Step<'a> {
             Step::Connect(_)
             | Step::Say(_, _)
             | Step::Drip(_)
+            | Step::Flood(_, _)
             | Step::LeaveAll(_, _)
             | Step::Passed(_) => "",
         }
@@ -135,6 +138,7 @@ fn told<R: Net<Listener = TcpListener, Stream = TcpStream> + Wait + Clock>(
         }
         Step::CommitAll(number, count) => commit_all(rt, alloc, peer(streams, *number)?, *count),
         Step::Drip(number) => drip(alloc, peer(streams, *number)?),
+        Step::Flood(number, line) => flood(rt, alloc, peer(streams, *number)?, line),
         Step::Leave(number, _) => leave(alloc, peer(streams, *number)?),
         Step::LeaveAll(first, behind) => leave_all(alloc, streams, *first, *behind),
         Step::Rest(number, _) => rest(alloc, peer(streams, *number)?),
