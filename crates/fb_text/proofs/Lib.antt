@@ -10,5 +10,7 @@ pub mod OpenLines
 pub mod Reading
 pub mod Relation
 pub mod OrderLemmas
+mod NameOrder
+mod SortLemmas
 pub mod Members
 pub mod Tests

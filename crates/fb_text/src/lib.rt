@@ -3,6 +3,7 @@
 
 mod bytes;
 mod compact_name;
+mod eight;
 mod elementary;
 mod lexer;
 mod name;

@@ -8,6 +8,7 @@ ghost use Rattle.fb_text.specs.Words.{is_word};
 
 use crate::bytes::word_len;
 use crate::compact_name::CompactName;
+use crate::eight::eight_from;
 use crate::place::Place;
 use crate::short_name::SHORT_ROOM;
 use std::alloc::AllocError;
@@ -177,6 +178,12 @@ impl PartialEq for Name {
     ghost laws = { partial_equiv_from_equiv nat_list_eq_equiv };
 
     fn eq(&self, other: &Self) -> bool {
+        if eight_from(&self.bytes, 0) != eight_from(&other.bytes, 0) {
+            return false;
+        }
+        if eight_from(&self.bytes, 8) != eight_from(&other.bytes, 8) {
+            return false;
+        }
         self.as_bytes() == other.as_bytes()
     }
 }
@@ -205,7 +212,17 @@ impl Ord for Name {
     ghost matches_eq = { texts_ties };
 
     fn cmp(&self, other: &Self) -> Ordering {
-        self.as_str().cmp(other.as_str())
+        for i in 0..8 {
+            let x = eight_from(&self.bytes, 8 * i);
+            let y = eight_from(&other.bytes, 8 * i);
+            if x != y {
+                return x.cmp(&y);
+            }
+            if x % 256 == 0 {
+                return Ordering::Equal;
+            }
+        }
+        Ordering::Equal
     }
 }
 

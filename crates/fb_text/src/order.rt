@@ -1,10 +1,9 @@
 //! Lists in order, each item once.
-ghost use Rattle.std.specs.{Prelude.{◌≡◌, ◌↔◌, ℕ, List, IfOk}, List.{Contains}, List.Sorted.{IsStrictlySortedBy}, BTreeMap.{is_at}, FinMap.{IsAntisymmetric}};
+ghost use Rattle.std.specs.{Prelude.{◌≡◌, ◌↔◌, ℕ, List, IfOk, IsTrue}, List.{Contains}, List.Sorted.{IsStrictlySortedBy}, BTreeMap.{is_at}, FinMap.{IsAntisymmetric}};
 ghost use Rattle.fb_text.specs.Order.{in_order, name_cmp, names_in_order};
 
 use crate::name::Name;
 use std::alloc::{AllocError, Global};
-use std::collections::BTreeSet;
 
 /// Whether two names are equal.
 #[tactic(auto, using(crate::proofs::OrderLemmas::same_name))]
@@ -14,16 +13,17 @@ pub fn same_name(a: &Name, b: &Name) -> bool
     *a == *b
 }
 
-/// The items in order, each once.
+/// The items in order, each once. A list that is so already is copied.
 pub fn sorted_once<T: Ord + Copy>(alloc: Global, items: &[T]) -> Result<Vec<T>, AllocError>
     requires { IsAntisymmetric T.cmp }
     ensures { IfOk result (λ sorted. sorted.items ≡ in_order T.cmp items.now) }
 {
-    let mut seen = BTreeSet::new(alloc);
-    for item in items {
-        seen.insert(*item)?;
+    let mut sorted = Vec::from_slice(alloc, items)?;
+    if !rises(items) {
+        sorted.sort()?;
+        sorted.dedup();
     }
-    items_of(alloc, &seen)
+    Ok(sorted)
 }
 
 /// The names in order, each once.
@@ -33,11 +33,16 @@ pub fn sorted_names(alloc: Global, names: &[Name]) -> Result<Vec<Name>, AllocErr
     sorted_once(alloc, names)
 }
 
-/// The items of a set.
-fn items_of<T: Ord + Copy>(alloc: Global, set: &BTreeSet<T>) -> Result<Vec<T>, AllocError>
-    ensures { IfOk result (λ items. items.items ≡ set.now.keys) }
+/// Whether each item is below the next.
+fn rises<T: Ord>(items: &[T]) -> bool
+    ensures { IsTrue result → IsStrictlySortedBy T.cmp items.now }
 {
-    set.iter().copied().collect(alloc)
+    for i in 1..items.len() {
+        if !items[i - 1].cmp(&items[i]).is_lt() {
+            return false;
+        }
+    }
+    true
 }
 
 /// `in_order` gives the members of a list, each once, and each below those after it.

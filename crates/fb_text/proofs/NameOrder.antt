@@ -1,0 +1,197 @@
+-- Names are ordered as the numbers that their bytes spell, eight at a time.
+use Rattle.std.proofs.Common.{◌≡◌, ℕ, ◌+◌, ◌-◌, ◌*◌, ◌%◌, ◌<◌, ◌≤◌, ◌≢◌, nat_eq, true, false, List, [], ◌∷◌, ◌++◌, length, get_or, take, drop, replicate, zero, suc, nat_cmp, is_eq, Ordering, Less, Equal, Greater, sym, refl, ap, subst, ◌∙◌, arith, Fits, w8, take-append-drop, drop-drop, length-take-le, get_or-take, get_or-drop, length-drop, drop_of_length-le}
+use Rattle.std.specs.{Cmp.{ranks, nat_cmp_is}, Cmp.Lexicographic.{slice_cmp, pointwise, texts_ties}, Ordering.{ordering_then, MatchOrdering}, Slice.Scan.{big_endian}, List.{list_all}}
+use Rattle.std.proofs.{lemmas.Bool.{and_parts}, lemmas.Bool.Decides.{nat_tests}, lemmas.List.{drop-replicate}}
+use Rattle.fb_text.specs.{Bytes.{is_word_byte}, Stored.{IsStoredIn}}
+use Rattle.fb_text.proofs.NameLemmas.{is_word-all, is_word-ascii}
+
+abbrev cmp_bytes : List ℕ → List ℕ → Ordering
+cmp_bytes = slice_cmp nat_cmp
+
+abbrev AreBytes : List ℕ → Type 0
+AreBytes xs = (k : ℕ) → Fits w8 (get_or xs k 0)
+
+level : (x y : ℕ) → x ≡ y → nat_cmp x y ≡ Equal
+level x y e = sym (nat_cmp_is x y Equal e)
+
+below : (x y : ℕ) → x < y → nat_cmp x y ≡ Less
+below x y l = sym (nat_cmp_is x y Less l)
+
+above : (x y : ℕ) → y < x → nat_cmp x y ≡ Greater
+above x y l = sym (nat_cmp_is x y Greater l)
+
+same_bytes : (xs : List ℕ) → cmp_bytes xs xs ≡ Equal
+same_bytes [] = refl
+same_bytes (x ∷ xs) = ap (λ r. ordering_then r (cmp_bytes xs xs)) (level x x refl) ∙ same_bytes xs
+
+-- a lesser number in front stays less with further bytes
+rises : (n a b : ℕ) (xs ys : List ℕ) → n ≤ length xs → n ≤ length ys → AreBytes xs → a < b → big_endian a (take n xs) < big_endian b (take n ys)
+rises zero a b xs ys p q h l = l
+rises (suc n) a b [] ys p q h l = absurd (omega arith)
+rises (suc n) a b (x ∷ xs) [] p q h l = absurd (omega arith)
+rises (suc n) a b (x ∷ xs) (y ∷ ys) p q h l =
+    let small : x < 256 = (h 0).fits in
+    rises n (a * 256 + x) (b * 256 + y) xs ys (omega arith) (omega arith) (λ k. h (suc k)) (omega arith)
+
+-- the first n bytes as numbers, and then the other bytes
+pub by_number : (n a : ℕ) (xs ys : List ℕ) → n ≤ length xs → n ≤ length ys → AreBytes xs → AreBytes ys
+    → cmp_bytes xs ys ≡ ordering_then (nat_cmp (big_endian a (take n xs)) (big_endian a (take n ys))) (cmp_bytes (drop n xs) (drop n ys))
+by_number zero a xs ys p q g h = sym (ap (λ r. ordering_then r (cmp_bytes xs ys)) (level a a refl))
+by_number (suc n) a [] ys p q g h = absurd (omega arith)
+by_number (suc n) a (x ∷ xs) [] p q g h = absurd (omega arith)
+by_number (suc n) a (x ∷ xs) (y ∷ ys) p q g h =
+    by (nat_cmp x y) refl (ranks x y) (by_number n (a * 256 + x) xs ys (omega arith) (omega arith) (λ k. g (suc k)) (λ k. h (suc k)))
+  where
+    rest : Ordering
+    rest = cmp_bytes (drop n xs) (drop n ys)
+
+    by : (r : Ordering) → nat_cmp x y ≡ r → MatchOrdering r (x < y) (x ≡ y) (y < x)
+        → cmp_bytes xs ys ≡ ordering_then (nat_cmp (big_endian (a * 256 + x) (take n xs)) (big_endian (a * 256 + x) (take n ys))) (cmp_bytes (drop n xs) (drop n ys))
+        → ordering_then (nat_cmp x y) (cmp_bytes xs ys) ≡ ordering_then (nat_cmp (big_endian (a * 256 + x) (take n xs)) (big_endian (a * 256 + y) (take n ys))) (cmp_bytes (drop n xs) (drop n ys))
+    by Less e l more =
+        let under : x < y = l in
+        let less = rises n (a * 256 + x) (a * 256 + y) xs ys (omega arith) (omega arith) (λ k. g (suc k)) (omega arith) in
+        ap (λ r. ordering_then r (cmp_bytes xs ys)) e ∙ sym (ap (λ r. ordering_then r rest) (below _ _ less))
+    by Equal e l more =
+        let same : x ≡ y = l in
+        ap (λ r. ordering_then r (cmp_bytes xs ys)) e ∙ more
+        ∙ ap (λ z. ordering_then (nat_cmp (big_endian (a * 256 + x) (take n xs)) (big_endian (a * 256 + z) (take n ys))) rest) same
+    by Greater e l more =
+        let over : y < x = l in
+        let less = rises n (a * 256 + y) (a * 256 + x) ys xs (omega arith) (omega arith) (λ k. h (suc k)) (omega arith) in
+        ap (λ r. ordering_then r (cmp_bytes xs ys)) e ∙ sym (ap (λ r. ordering_then r rest) (above _ _ less))
+
+-- ---- zeros after a name
+not_zero : (b : ℕ) → is_word_byte b ≡ true → 0 < b
+unfolding is_word_byte
+not_zero b h = grind (arith, nat_tests)
+
+padded : (a b : List ℕ) (m n : ℕ) → length a + m ≡ length b + n → list_all is_word_byte a ≡ true → list_all is_word_byte b ≡ true
+    → cmp_bytes (a ++ replicate m 0) (b ++ replicate n 0) ≡ cmp_bytes a b
+padded [] [] m n e g h =
+    let same : m ≡ n = omega (arith, e) in
+    ap (λ k. cmp_bytes (replicate m 0) (replicate k 0)) (sym same) ∙ same_bytes (replicate m 0)
+padded [] (y ∷ b) zero n e g h = absurd (omega (arith, e))
+padded [] (y ∷ b) (suc m) n e g h = ap (λ r. ordering_then r (cmp_bytes (replicate m 0) (b ++ replicate n 0))) (below 0 y (not_zero y (and_parts _ _ h).0))
+padded (x ∷ a) [] m zero e g h = absurd (omega (arith, e))
+padded (x ∷ a) [] m (suc n) e g h = ap (λ r. ordering_then r (cmp_bytes (a ++ replicate m 0) (replicate n 0))) (above x 0 (not_zero x (and_parts _ _ g).0))
+padded (x ∷ a) (y ∷ b) m n e g h = ap (ordering_then (nat_cmp x y)) (padded a b m n (omega (arith, e)) (and_parts _ _ g).1 (and_parts _ _ h).1)
+
+whole : (bytes : List ℕ) (len : ℕ) → IsStoredIn 64 bytes len → take len bytes ++ replicate (64 - len) 0 ≡ bytes
+whole bytes len h = ap (λ xs. take len bytes ++ xs) (sym h.rest) ∙ take-append-drop len bytes
+
+-- names are ordered as all bytes of their fields
+as_stored : (xs ys : List ℕ) (m n : ℕ) → IsStoredIn 64 xs m → IsStoredIn 64 ys n → cmp_bytes (take m xs) (take n ys) ≡ cmp_bytes xs ys
+as_stored xs ys m n g h =
+    sym (padded (take m xs) (take n ys) (64 - m) (64 - n) (omega (arith, length-take-le m xs (omega (arith, g.room, g.within)), length-take-le n ys (omega (arith, h.room, h.within)), g.within, h.within)) (is_word-all _ g.name.word) (is_word-all _ h.name.word))
+    ∙ (λ i. cmp_bytes (whole xs m g i) (whole ys n h i))
+
+-- ---- a zero among the bytes
+byte_of : (bs : List ℕ) (j : ℕ) → list_all is_word_byte bs ≡ true → j < length bs → 0 < get_or bs j 0
+byte_of [] j h l = absurd (omega arith)
+byte_of (b ∷ bs) zero h l = not_zero b (and_parts _ _ h).0
+byte_of (b ∷ bs) (suc j) h l = byte_of bs j (and_parts _ _ h).1 (omega arith)
+
+zero_of : (n k : ℕ) → get_or (replicate {A = ℕ} n 0) k 0 ≡ 0
+zero_of zero k = refl
+zero_of (suc n) zero = refl
+zero_of (suc n) (suc k) = zero_of n k
+
+-- what a name's field has are bytes
+pub are_bytes : (xs : List ℕ) (m : ℕ) → IsStoredIn 64 xs m → AreBytes xs
+are_bytes xs m h k = by (nat_cmp k m) (ranks k m)
+  where
+    past : m ≤ k → Fits w8 (get_or xs k 0)
+    past l =
+        let at : m + (k - m) ≡ k = omega (arith, l) in
+        let is_zero : get_or xs k 0 ≡ 0 = ap (λ j. get_or xs j 0) (sym at) ∙ sym (get_or-drop m xs (k - m) 0) ∙ ap (λ ys. get_or ys (k - m) 0) h.rest ∙ zero_of (64 - m) (k - m) in
+        record { fits = omega (arith, is_zero) }
+
+    by : (r : Ordering) → MatchOrdering r (k < m) (k ≡ m) (m < k) → Fits w8 (get_or xs k 0)
+    by Less l =
+        let inside : k < m = l in
+        record { fits = omega (arith, is_word-ascii _ h.name.word k, get_or-take m xs k 0 inside) }
+    by Equal l = let e : k ≡ m = l in past (omega (arith, e))
+    by Greater l = let e : m < k = l in past (omega (arith, e))
+
+sub_sub : (a b c : ℕ) → a - b - c ≡ a - (b + c)
+sub_sub a b c = omega arith
+
+-- only zeros are after the name
+zeros_from : (xs : List ℕ) (m n : ℕ) → m ≤ n → IsStoredIn 64 xs m → drop n xs ≡ replicate (64 - n) 0
+zeros_from xs m n l h = subst (λ k. drop k xs ≡ replicate (64 - k) 0) (omega (arith, l)) (sym (drop-drop (n - m) m xs) ∙ ap (drop (n - m)) h.rest ∙ drop-replicate (n - m) (64 - m) 0 ∙ ap (λ k. replicate k 0) (sub_sub 64 m (n - m)))
+
+-- and after a zero
+zeros_left : (xs : List ℕ) (m j : ℕ) → IsStoredIn 64 xs m → get_or xs j 0 ≡ 0 → drop (j + 1) xs ≡ replicate (64 - (j + 1)) 0
+zeros_left xs m j h z = by (nat_cmp j m) (ranks j m)
+  where
+    by : (r : Ordering) → MatchOrdering r (j < m) (j ≡ m) (m < j) → drop (j + 1) xs ≡ replicate (64 - (j + 1)) 0
+    by Less l =
+        let inside : j < m = l in
+        let some = byte_of (take m xs) j (is_word-all _ h.name.word) (omega (arith, inside, length-take-le m xs (omega (arith, h.room, h.within)))) in
+        absurd (omega (arith, some, get_or-take m xs j 0 inside, z))
+    by Equal l = let e : j ≡ m = l in zeros_from xs m (j + 1) (omega (arith, e)) h
+    by Greater l = let e : m < j = l in zeros_from xs m (j + 1) (omega (arith, e)) h
+
+-- the last byte, from the number
+last_byte : (n a : ℕ) (xs : List ℕ) → n < length xs → AreBytes xs → big_endian a (take (suc n) xs) % 256 ≡ get_or xs n 0
+last_byte n a [] l h = absurd (omega arith)
+last_byte zero a (x ∷ xs) l h = let small : x < 256 = (h 0).fits in omega (arith, small)
+last_byte (suc n) a (x ∷ xs) l h = last_byte n (a * 256 + x) xs (omega arith) (λ k. h (suc k))
+
+-- ---- the order from the bytes that are left
+decided : (x y : ℕ) (o : Ordering) → x ≢ y → nat_cmp x y ≡ ordering_then (nat_cmp x y) o
+decided x y o differ = by (nat_cmp x y) (ranks x y)
+  where
+    by : (r : Ordering) → MatchOrdering r (x < y) (x ≡ y) (y < x) → r ≡ ordering_then r o
+    by Less l = refl
+    by Equal l = absurd (differ l)
+    by Greater l = refl
+
+-- where the bytes before i are equal
+abbrev pub IsLeft : List ℕ → List ℕ → List ℕ → List ℕ → ℕ → Type 0
+IsLeft a b xs ys i = cmp_bytes a b ≡ cmp_bytes (drop i xs) (drop i ys)
+
+pub all_left : (a b xs ys : List ℕ) (m n : ℕ) → take m xs ≡ a → take n ys ≡ b → IsStoredIn 64 xs m → IsStoredIn 64 ys n → IsLeft a b xs ys 0
+all_left a b xs ys m n p q g h = (λ i. cmp_bytes (sym p i) (sym q i)) ∙ as_stored xs ys m n g h
+
+ends : (xs : List ℕ) (m i x : ℕ) → IsStoredIn 64 xs m → i + 8 ≤ 64 → x ≡ big_endian 0 (take 8 (drop i xs)) → x % 256 ≡ 0 → drop (i + 8) xs ≡ replicate (64 - (i + 8)) 0
+ends xs m i x h le p z =
+    let last : get_or xs (i + 7) 0 ≡ 0 = sym (get_or-drop i xs 7 0)
+    ∙ sym (last_byte 7 0 (drop i xs) (omega (arith, length-drop i xs, h.room, le)) (λ k. subst (Fits w8) (sym (get_or-drop i xs k 0)) (are_bytes xs m h (i + k)))) ∙ ap (λ n. n % 256) (sym p) ∙ z in
+    let next : i + 7 + 1 ≡ i + 8 = omega arith in
+    subst (λ n. drop n xs ≡ replicate (64 - n) 0) next (zeros_left xs m (i + 7) h last)
+
+module _ (a b xs ys : List ℕ) (m n i x y : ℕ) (g : IsStoredIn 64 xs m) (h : IsStoredIn 64 ys n) (le : i + 8 ≤ 64) (left : IsLeft a b xs ys i)
+    (p : x ≡ big_endian 0 (take 8 (drop i xs))) (q : y ≡ big_endian 0 (take 8 (drop i ys))) where
+  -- the words and then the bytes after them
+  step : cmp_bytes a b ≡ ordering_then (nat_cmp x y) (cmp_bytes (drop (i + 8) xs) (drop (i + 8) ys))
+  step =
+      left
+      ∙ by_number 8 0 (drop i xs) (drop i ys) (omega (arith, length-drop i xs, g.room, le)) (omega (arith, length-drop i ys, h.room, le))
+      (λ k. subst (Fits w8) (sym (get_or-drop i xs k 0)) (are_bytes xs m g (i + k))) (λ k. subst (Fits w8) (sym (get_or-drop i ys k 0)) (are_bytes ys n h (i + k)))
+      ∙ (λ j. ordering_then (nat_cmp (sym p j) (sym q j)) (cmp_bytes (drop-drop 8 i xs j) (drop-drop 8 i ys j)))
+
+  pub unequal_words : x ≢ y → nat_cmp x y ≡ cmp_bytes a b
+  unequal_words differ = decided x y _ differ ∙ sym step
+
+  pub equal_words : x ≡ y → IsLeft a b xs ys (i + 8)
+  equal_words e = step ∙ ap (λ r. ordering_then r (cmp_bytes (drop (i + 8) xs) (drop (i + 8) ys))) (level x y e)
+
+  -- equal words that end with a zero are the last ones
+  pub last_words : x ≡ y → x % 256 ≡ 0 → Equal ≡ cmp_bytes a b
+  last_words e z =
+      sym (equal_words e ∙ (λ j. cmp_bytes (ends xs m i x g le p z j) (ends ys n i y h le q (ap (λ w. w % 256) (sym e) ∙ z) j)) ∙ same_bytes (replicate (64 - (i + 8)) 0))
+
+-- all words are equal
+pub none_left : (a b xs ys : List ℕ) (i : ℕ) → length xs ≤ i → length ys ≤ i → IsLeft a b xs ys i → Equal ≡ cmp_bytes a b
+none_left a b xs ys i p q left = sym (left ∙ (λ j. cmp_bytes (drop_of_length-le xs p j) (drop_of_length-le ys q j)))
+
+-- names of unequal words are not equal
+pub unequal_names : (a b : List ℕ) (x y : ℕ) → x ≢ y → nat_cmp x y ≡ cmp_bytes a b → false ≡ pointwise nat_eq a b
+unequal_names a b x y differ e = by (nat_cmp x y) (ranks x y) e
+  where
+    by : (r : Ordering) → MatchOrdering r (x < y) (x ≡ y) (y < x) → r ≡ cmp_bytes a b → false ≡ pointwise nat_eq a b
+    by Less l e = ap is_eq e ∙ sym (texts_ties a b)
+    by Equal l e = absurd (differ l)
+    by Greater l e = ap is_eq e ∙ sym (texts_ties a b)
