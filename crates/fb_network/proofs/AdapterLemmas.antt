@@ -1,5 +1,5 @@
 -- Chains of adapters keep the adapter, and stand for links of its events and data.
-use Rattle.std.proofs.Common.{ℕ, ◌≡◌, List, [], ◌∷◌, ◌++◌, ◌⊎◌, inl, inr, refl, sym, ◌∙◌, ap}
+use Rattle.std.proofs.Common.{ℕ, ◌≡◌, List, [], ◌∷◌, ◌++◌, inl, inr, refl, sym, ◌∙◌, ap}
 use Rattle.std.specs.Prelude.{Option, option_and_then}
 use Rattle.fb_tree.specs.{declared.network.Sort.{Sort}, declared.network.Sort.TheVariants.{Adapter}}
 use Rattle.fb_network.specs.{declared.network.End.{End}, Plain.{PlainNetwork}}
@@ -32,11 +32,11 @@ same_type clean (More b s border rest) = same_type_step clean s ∙ same_type cl
 pub adapter_behind : {view : View} {network : PlainNetwork} {place : Place} (end : End) → IsCleanThroughout view network → IsBehind view Adapter network end place → adapter_at view network place ≡ adapter_at view network (place_of end)
 adapter_behind {view = view} {network = network} end clean (BlockItself name type port b e g) = ap (adapter_at view network) (g ∙ sym (ap place_of e))
 adapter_behind {view = view} {network = network} end clean (BehindBorder inner name port to i e g border) =
-    ap (adapter_at view network) g ∙ ap (option_and_then view) (adapter_name_at-inner to (no_leaf_nothing border.leaf) i ∙ by_chain border.chain ∙ sym (adapter_name_at-inner (port ∷ []) (λ h. cc) i)) ∙ sym (ap (λ (x : End). adapter_at view network (place_of x)) e)
-  where
-    by_chain : Chain view Adapter inner (port ∷ []) to ⊎ Chain view Adapter inner to (port ∷ []) → adapter_name_at view inner to ≡ adapter_name_at view inner (port ∷ [])
-    by_chain (inl c) = sym (same_type (clean_inner clean i) c)
-    by_chain (inr c) = same_type (clean_inner clean i) c
+    let inside : adapter_name_at view inner to ≡ adapter_name_at view inner (port ∷ []) =
+    elim border.chain [ inl c ↦ sym (same_type (clean_inner clean i) c) | inr c ↦ same_type (clean_inner clean i) c ] in
+    ap (adapter_at view network) g
+    ∙ ap (option_and_then view) (adapter_name_at-inner to (no_leaf_nothing border.leaf) i ∙ inside ∙ sym (adapter_name_at-inner (port ∷ []) (λ h. cc) i))
+    ∙ sym (ap (λ (x : End). adapter_at view network (place_of x)) e)
 
 pub longer_not_nothing : (a : Place) (port : List ℕ) → a ++ port ∷ [] ≡ [] → ⊥
 longer_not_nothing [] port e = cc

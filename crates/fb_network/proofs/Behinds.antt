@@ -1,5 +1,5 @@
 -- The places behind an end, and the links and borders of connections, by numbers say what they say in plain.
-use Rattle.std.proofs.Common.{ℕ, ◌≡◌, ◌<◌, Bool, true, false, cond, List, [], ◌∷◌, ◌++◌, Option, Some, None, length, map, refl, sym, ap, subst, ◌∙◌}
+use Rattle.std.proofs.Common.{ℕ, ◌≡◌, ◌<◌, List, [], ◌∷◌, ◌++◌, Option, Some, None, length, map, refl, sym, ap, subst, ◌∙◌, arith}
 use Rattle.std.proofs.{lemmas.List.{map-append}, lemmas.List.Elements.{All-append, All-cons, All-filter, All-map, All-nil, All-head, All-tail, All-weaker}}
 use Rattle.std.specs.{Prelude.{filter}, List.{All}, BTreeMap.{is_at}}
 use Rattle.fb_tree.specs.{Text.Order.{name_cmp}, declared.network.Sort.{Sort}}
@@ -21,19 +21,11 @@ found_name xs name i e = same_bytes i.name name (passes_in_find (λ (j : Instanc
 -- the borders of a port, by numbers and in plain
 places_filter : (prefixes : List PlainPrefix) (sort : Sort) (port : List ℕ) (es : List Edge) → map (path_at prefixes) (border_places_at sort port es) ≡ map (λ (b : Border). b.place) (filter (belongs sort port) (map (border_at prefixes) es))
 places_filter prefixes sort port [] = refl
-places_filter prefixes sort port (e ∷ es) = by_test (edge_belongs sort port e) (places_filter prefixes sort port es)
-  where
-    by_test : (b : Bool) → map (path_at prefixes) (border_places_at sort port es) ≡ map (λ (x : Border). x.place) (filter (belongs sort port) (map (border_at prefixes) es)) → map (path_at prefixes) (map (λ (x : Edge). x.place) (cond b (e ∷ filter (edge_belongs sort port) es) (filter (edge_belongs sort port) es))) ≡ map (λ (x : Border). x.place) (cond b (border_at prefixes e ∷ filter (belongs sort port) (map (border_at prefixes) es)) (filter (belongs sort port) (map (border_at prefixes) es)))
-    by_test true h = ap (λ (ts : List (List ℕ)). path_at prefixes e.place ∷ ts) h
-    by_test false h = h
+places_filter prefixes sort port (e ∷ es) = grind (arith, places_filter prefixes sort port es)
 
 filter_within : (sort : Sort) (port name : List ℕ) (bs : List Border) → map (λ (b : Border). b.place) (filter (belongs sort port) (map (border_within name) bs)) ≡ border_places sort name port bs
 filter_within sort port name [] = refl
-filter_within sort port name (x ∷ bs) = by_test (belongs sort port x) (filter_within sort port name bs)
-  where
-    by_test : (b : Bool) → map (λ (y : Border). y.place) (filter (belongs sort port) (map (border_within name) bs)) ≡ border_places sort name port bs → map (λ (y : Border). y.place) (cond b (border_within name x ∷ filter (belongs sort port) (map (border_within name) bs)) (filter (belongs sort port) (map (border_within name) bs))) ≡ map (λ (y : Border). dotted name y.place) (cond b (x ∷ filter (belongs sort port) bs) (filter (belongs sort port) bs))
-    by_test true h = ap (λ (ts : List (List ℕ)). dotted name x.place ∷ ts) h
-    by_test false h = h
+filter_within sort port name (x ∷ bs) = grind (arith, filter_within sort port name bs)
 
 -- the places behind a port of an instance
 stands_read : (prefixes : List PlainPrefix) (nets : Nets) (sort : Sort) (port name : List ℕ) (own : Place) (s : Standing) (i : Instance) → Says prefixes own (dotted name port) → i.name ≡ name → s.instance ≡ i → AreEdges prefixes s.borders.items (inner_borders nets i) → ArePlaces prefixes (places_of_standing sort port own s) (behind_instance nets sort name port i)
@@ -59,9 +51,8 @@ behind_reads prefixes nets table xs sort own (Of name port) is says = by_found (
   where
     by_found : (a : Option Standing) (b : Option Instance) → instance_named xs name ≡ b → StandsFor prefixes nets a b → ArePlaces prefixes (places_of_found sort port own a) (behind_found nets sort name port b)
     by_found None None e p = reading_nothing IsPlaceBelow path_at prefixes
-    by_found None (Some i) e p = absurd p
-    by_found (Some s) None e p = absurd p
     by_found (Some s) (Some i) e p = stands_read prefixes nets sort port name own s i says (found_name xs name i e) p.0 p.1
+    by_found a b e p = absurd p
 
 from_says : (prefixes : List PlainPrefix) (sort : Sort) (from : Place) (ts : List Place) → map (link_at prefixes) (joins_from sort ts from) ≡ links_from sort (map (path_at prefixes) ts) (path_at prefixes from)
 from_says prefixes sort from [] = refl

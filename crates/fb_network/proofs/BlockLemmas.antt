@@ -1,5 +1,5 @@
 -- The blocks that are composed are those of the network.
-use Rattle.std.proofs.Common.{ℕ, ◌≡◌, List, [], ◌∷◌, ◌++◌, Some, refl, sym, ◌∙◌, ap, subst}
+use Rattle.std.proofs.Common.{ℕ, ◌≡◌, List, [], ◌∷◌, ◌++◌, Some, refl, sym, ◌∙◌, ap, subst, arith}
 use Rattle.std.specs.Prelude.{Contains, map, flat_map}
 use Rattle.fb_network.specs.{declared.network.InstanceKind.{InstanceKind}, declared.network.InstanceKind.TheVariants.{Block, Subapplication}}
 use Rattle.fb_network.specs.{declared.network.Instance.{Instance}, Plain.{PlainNetwork}, declared.flat.FlatBlock.{FlatBlock}, Network.{View}}
@@ -41,22 +41,13 @@ have_paths (ThenBlock i rest others k more) = ((λ e. cc), have_paths more)
 have_paths (ThenSubapplication i rest inner own others k d inside more) =
     ((λ e. cc), have_paths-append (map (held_within i.name) own) others (have_paths-within i.name own) (have_paths more))
 
-leaf_first-append : (k : InstanceKind) (h : Held) (xs ys : List FlatBlock) → leaf_first k h (xs ++ ys) ≡ leaf_first k h xs ++ ys
-leaf_first-append Block h xs ys = refl
-leaf_first-append Subapplication h xs ys = refl
-
 leaves_of-append : (xs ys : List Held) → leaves_of (xs ++ ys) ≡ leaves_of xs ++ leaves_of ys
 leaves_of-append [] ys = refl
-leaves_of-append (x ∷ xs) ys = ap (leaf_first x.kind x) (leaves_of-append xs ys) ∙ leaf_first-append x.kind x (leaves_of xs) (leaves_of ys)
-
-leaf_first-within : (name : List ℕ) (k : InstanceKind) (h : Held) (xs : List FlatBlock) → (h.path ≡ [] → ⊥) → leaf_first k (held_within name h) (map (block_within name) xs) ≡ map (block_within name) (leaf_first k h xs)
-leaf_first-within name Block h xs n = ap (λ (t : List ℕ). record { path = t; type_name = h.typed } ∷ map (block_within name) xs) (printed-within name h.path n)
-leaf_first-within name Subapplication h xs n = refl
+leaves_of-append (x ∷ xs) ys = grind (arith, leaves_of-append xs ys)
 
 leaves_of-within : (name : List ℕ) (hs : List Held) → HavePaths hs → leaves_of (map (held_within name) hs) ≡ map (block_within name) (leaves_of hs)
 leaves_of-within name [] p = refl
-leaves_of-within name (h ∷ hs) p =
-    ap (leaf_first h.kind (held_within name h)) (leaves_of-within name hs p.1) ∙ leaf_first-within name h.kind h (leaves_of hs) p.0
+leaves_of-within name (h ∷ hs) p = grind (arith, leaves_of-within name hs p.1, printed-within name h.path p.0)
 
 -- the types of the subapplications among some instances are finished
 abbrev AreReady : View → List Instance → Nets → Type 0

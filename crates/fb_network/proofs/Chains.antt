@@ -21,6 +21,14 @@ no_step_to_nothing (Within inner name a' b' i e f s) n = cc
 pub same_inner : {view : View} {network n m : PlainNetwork} {name : List ℕ} → IsInner view network name n → IsInner view network name m → n ≡ m
 same_inner p q = cc
 
+-- what holds of a place inside a subapplication, which two look-ups find
+pub moved : {view : View} {network inner inner2 : PlainNetwork} {name name2 : List ℕ} {from from2 : Place} (P : PlainNetwork → Place → Type 0) → IsInner view network name inner → IsInner view network name2 inner2 → name2 ∷ from2 ≡ name ∷ from → P inner2 from2 → P inner from
+moved {view = view} {network = network} {inner = inner} {inner2 = inner2} {name = name} {name2 = name2} {from = from} {from2 = from2} P i i2 e p =
+    let same_name : name2 ≡ name = cc in
+    let same_from : from2 ≡ from = cc in
+    let same : inner2 ≡ inner = same_inner (subst (λ (m : List ℕ). IsInner view network m inner2) same_name i2) i in
+    subst (λ (m : PlainNetwork). P m from) same (subst (λ (q : Place). P inner2 q) same_from p)
+
 -- the type of a subapplication instance is its declaration
 pub type_of-inner : {view : View} {network inner : PlainNetwork} {name : List ℕ} → IsInner view network name inner → type_of view network name ≡ Some inner
 type_of-inner p = rw (p.first) p.declared
@@ -65,22 +73,13 @@ pub record StepsTo (view : View) (sort : Sort) (inner : PlainNetwork) (name : Li
 pub step_inside : {view : View} {sort : Sort} {network inner : PlainNetwork} {name : List ℕ} {a b : Place} (from : Place) → IsCleanThroughout view network → IsInner view network name inner → Step view sort network a b → a ≡ name ∷ from → (from ≡ [] → ⊥) → side_at view sort network a ≡ Some Input → StepsTo view sort inner name from b
 step_inside {sort = sort} from clean i (Holds (Own x) d c e f) g n h = absurd (n (cc))
 step_inside {sort = sort} from clean i (Holds (Of j x) d c e f) g n h = let k = (here clean).sources sort _ _ c in absurd (cc)
-step_inside {view = view} {sort = sort} {network = network} {inner = inner} {name = name} from clean i (Within inner2 name2 a' b' i2 e f s) g n h =
-    let same_name : name2 ≡ name = cc in
-    let same_from : a' ≡ from = cc in
-    let i2' : IsInner view network name inner2 = subst (λ (m : List ℕ). IsInner view network m inner2) same_name i2 in
-    let same : inner2 ≡ inner = same_inner i2' i in
-    record { to = b'; to_is = cc; step = subst (λ (m : PlainNetwork). Step view sort m from b') same (subst (λ (q : Place). Step view sort inner2 q b') same_from s) }
+step_inside {view = view} {sort = sort} from clean i (Within inner2 name2 a' b' i2 e f s) g n h =
+    record { to = b'; to_is = cc; step = moved (λ (m : PlainNetwork) (q : Place). Step view sort m q b') i i2 (sym e ∙ g) s }
 
 -- a border place inside a subapplication is one of it
 pub border_inside : {view : View} {network inner : PlainNetwork} {name : List ℕ} {a : Place} (from : Place) → IsInner view network name inner → IsBorderPlace view network a → a ≡ name ∷ from → (from ≡ [] → ⊥) → IsBorderPlace view inner from
 border_inside from i (OwnPort port e) g n = absurd (n (cc))
-border_inside {view = view} {network = network} {inner = inner} {name = name} from i (PortWithin inner2 name2 a' i2 e border) g n =
-    let same_name : name2 ≡ name = cc in
-    let same_from : a' ≡ from = cc in
-    let i2' : IsInner view network name inner2 = subst (λ (m : List ℕ). IsInner view network m inner2) same_name i2 in
-    let same : inner2 ≡ inner = same_inner i2' i in
-    subst (λ (m : PlainNetwork). IsBorderPlace view m from) same (subst (λ (q : Place). IsBorderPlace view inner2 q) same_from border)
+border_inside {view = view} from i (PortWithin inner2 name2 a' i2 e border) g n = moved (λ (m : PlainNetwork) (q : Place). IsBorderPlace view m q) i i2 (sym e ∙ g) border
 
 -- a chain from an input inside a subapplication stays inside
 pub stays_inside : {view : View} {sort : Sort} {network inner : PlainNetwork} {name : List ℕ} {a b : Place} (from : Place) → IsCleanThroughout view network → IsInner view network name inner → Chain view sort network a b → a ≡ name ∷ from → (from ≡ [] → ⊥) → side_at view sort network a ≡ Some Input → Reaches view sort inner name from b
@@ -113,12 +112,7 @@ inner_at_border {view = view} {network = network} name port (PortWithin inner na
 -- a step of a subapplication before a chain that is composed already
 pub composed_step : {view : View} {sort : Sort} {network : PlainNetwork} {b c : Place} (inner : PlainNetwork) (name : List ℕ) (from to : Place) → IsInner view network name inner → b ≡ name ∷ to → Step view sort inner from to → IsBorderPlace view network b → IsComposed view sort network b c → IsComposed view sort network (name ∷ from) c
 composed_step {view = view} {sort = sort} {network = network} inner name from to i f s border (inl inside) =
-    let same_name : inside.name ≡ name = cc in
-    let same_to : inside.from ≡ to = cc in
-    let there : IsInner view network name inside.inner = subst (λ (m : List ℕ). IsInner view network m inside.inner) same_name inside.is_inner in
-    let same : inside.inner ≡ inner = same_inner there i in
-    let on : Chain view sort inner to inside.to =
-    subst (λ (m : PlainNetwork). Chain view sort m to inside.to) same (subst (λ (q : Place). Chain view sort inside.inner q inside.to) same_to inside.chain) in
+    let on : Chain view sort inner to inside.to = moved (λ (m : PlainNetwork) (q : Place). Chain view sort m q inside.to) i inside.is_inner (sym inside.from_is ∙ f) inside.chain in
     inl (record { inner = inner; name = name; from = from; to = inside.to; is_inner = i; from_is = refl; to_is = cc; chain = More to s (border_inside to i border f (no_step_to_nothing s)) on })
 composed_step {view = view} {sort = sort} {network = network} {b = b} inner name from to i f s border (inr crosses) =
     inr (record { source = crosses.source; destination = crosses.destination; connected = crosses.connected; after = crosses.after; before = inr (left_by crosses.source crosses.before) })
@@ -130,12 +124,7 @@ composed_step {view = view} {sort = sort} {network = network} {b = b} inner name
         let same_to : to ≡ x ∷ [] = cc in
         record { inner = inner; name = name; port = x; from = from; is_inner = i; end_is = ap (λ (m : List ℕ). Of m x) same_name; from_is = refl; chain = One (subst (λ (q : Place). Step view sort inner from q) same_to s) }
     left_by end (inr leaves) =
-        let same_name : leaves.name ≡ name = cc in
-        let same_to : leaves.from ≡ to = cc in
-        let there : IsInner view network name leaves.inner = subst (λ (m : List ℕ). IsInner view network m leaves.inner) same_name leaves.is_inner in
-        let same : leaves.inner ≡ inner = same_inner there i in
-        let on : Chain view sort inner to (leaves.port ∷ []) =
-        subst (λ (m : PlainNetwork). Chain view sort m to (leaves.port ∷ [])) same (subst (λ (q : Place). Chain view sort leaves.inner q (leaves.port ∷ [])) same_to leaves.chain) in
+        let on : Chain view sort inner to (leaves.port ∷ []) = moved (λ (m : PlainNetwork) (q : Place). Chain view sort m q (leaves.port ∷ [])) i leaves.is_inner (sym leaves.from_is ∙ f) leaves.chain in
         record { inner = inner; name = name; port = leaves.port; from = from; is_inner = i; end_is = cc; from_is = refl; chain = More to s (border_inside to i border f (no_step_to_nothing s)) on }
 
 -- a connection of the network itself before a chain

@@ -1,21 +1,22 @@
 -- What is composed of the right flat networks are the links and borders of the network.
-use Rattle.std.proofs.Common.{ℕ, ◌≡◌, Bool, true, false, List, [], ◌∷◌, ◌++◌, Option, Some, None, ◌⊎◌, inl, inr, refl, sym, ◌∙◌, ap, subst, append_assoc}
+use Rattle.std.proofs.Common.{ℕ, ◌≡◌, true, List, [], ◌∷◌, ◌++◌, Option, Some, None, ◌⊎◌, inl, inr, refl, sym, ◌∙◌, ap, subst, append_assoc}
+use Rattle.std.proofs.lemmas.Bool.{and_parts}
 use Rattle.std.proofs.lemmas.List.Elements.{Contains-append_left, Contains-append_right, Contains-append_cases}
-use Rattle.std.specs.{Prelude.{Contains, flat_map, filter, ◌&&◌}, BTreeMap.{is_at}}
+use Rattle.std.specs.{Prelude.{Contains, flat_map, filter}, BTreeMap.{is_at}}
 use Rattle.fb_tree.specs.{Text.Order.{name_cmp}, declared.network.Sort.{Sort}, declared.network.Sort.TheVariants.{Event, Data, Adapter}}
 use Rattle.fb_tree.specs.{declared.interface.Side.{Side}, declared.interface.Side.TheVariants.{Input, Output}}
 use Rattle.fb_network.specs.{Sorts.{same_sort}, declared.network.Port.{Port}, declared.network.InstanceKind.{InstanceKind}}
 use Rattle.fb_network.specs.{declared.network.InstanceKind.TheVariants.{Block, Subapplication}, declared.network.Instance.{Instance}}
-use Rattle.fb_network.specs.{declared.network.End.{End}, declared.network.End.TheVariants.{Own, Of}, declared.network.Connection.{Connection}}
+use Rattle.fb_network.specs.{declared.network.End.{End}, declared.network.End.TheVariants.{Own, Of}}
 use Rattle.fb_network.specs.{Plain.{PlainNetwork}, declared.flat.Link.{Link}, declared.flat.Border.{Border}, PlainFlat.{PlainFlat}}
 use Rattle.fb_network.specs.{Network.{View, Place, place_of, instance_named, IsInner, IsConnected, IsLink, IsBorder}, Clean.{IsCleanThroughout, adapter_at}}
 use Rattle.fb_network.specs.{NetLink.{IsNetLink, Direct, FromPlug, ToPlug}, Composition.{IsBehind, BlockItself, BehindBorder, IsComposedLink, IsComposedBorder}}
-use Rattle.fb_network.specs.Composed.{belongs, border_places, places_of, behind_kind, behind_instance, behind_found, behind_of, links_from, link_pairs, link_within, links_of, inner_links_of_kind, inner_links, link_on_side, port_links, plug_links, adapter_links, links_of_adapter, links_of_sort, connection_links, end_borders, connection_borders, composed_links, composed_borders}
+use Rattle.fb_network.specs.Composed.{belongs, border_places, places_of, behind_kind, behind_found, behind_of, links_from, link_pairs, link_within, links_of, inner_links_of_kind, inner_links, link_on_side, port_links, plug_links, adapter_links, links_of_adapter, links_of_sort, connection_links, end_borders, connection_borders, composed_links, composed_borders}
 use Rattle.fb_network.specs.{Flat.{PrintsLink, PrintsBorder, AreLinks, AreBorders}, Ready.{Nets, AreFinished}, Places.{dotted}, Printed.{printed}}
 use Rattle.fb_network.proofs.{Chains.{here}, AdapterLemmas.{adapter_at-inner, adapter_behind, net_link_from, net_link_to, net_link_within}}
 use Rattle.fb_network.proofs.Equals.{same_bytes, bytes_same, same_sorts, sort_same, same_links, printed-within}
 use Rattle.fb_network.proofs.LinkLemmas.{no_leaf_nothing, leaf_behind, link_composed, border_composed, link_of_composed, border_of_composed}
-use Rattle.fb_tree.proofs.Text.Members.{contains_nothing, contains_here, contains_cases, contains_map, origin_in_map, contains_flat_map, origin_in_flat_map, contains_filter, passes_in_filter, passes_in_find}
+use Rattle.fb_tree.proofs.Text.Members.{contains_nothing, contains_here, contains_single, contains_map, origin_in_map, contains_flat_map, origin_in_flat_map, contains_filter, passes_in_filter, passes_in_find}
 
 -- what a search by name finds
 pub record FoundByName (instances : List Instance) (name : List ℕ) (i : Instance) : Type 0 where
@@ -35,11 +36,9 @@ pub record PrintsBehind (view : View) (sort : Sort) (network : PlainNetwork) (en
 
 -- the border that has a place
 pub border_in : (sort : Sort) (port : List ℕ) (b : Border) → belongs sort port b ≡ true → (b.sort ≡ sort) × (b.port ≡ port)
-border_in sort port b h = by_test (same_sort b.sort sort) refl h
-  where
-    by_test : (t : Bool) → same_sort b.sort sort ≡ t → (t && is_at (name_cmp b.port) port) ≡ true → (b.sort ≡ sort) × (b.port ≡ port)
-    by_test true e g = (same_sorts b.sort sort e, same_bytes b.port port g)
-    by_test false e g = absurd (cc)
+border_in sort port b h =
+    let p = and_parts (same_sort b.sort sort) (is_at (name_cmp b.port) port) h in
+    (same_sorts b.sort sort p.0, same_bytes b.port port p.1)
 
 pub border_belongs : (sort : Sort) (port : List ℕ) (place : List ℕ) → belongs sort port (record { sort = sort; port = port; place = place }) ≡ true
 border_belongs sort port place = rw (sort_same sort) (bytes_same port)
@@ -64,13 +63,9 @@ behind_instance_sound : {view : View} {network : PlainNetwork} {nets : Nets} {na
 behind_instance_sound {network = network} {name = name} sort port text i ready e Block g c =
     record {
       at = name ∷ port ∷ [];
-      text_is = one (contains_cases (dotted name port) [] text c);
+      text_is = sym (contains_single (dotted name port) text c);
       behind = BlockItself name i.type_name port (record { instance = i; first = e; kind = g; typed = refl }) refl refl;
     }
-  where
-    one : (dotted name port ≡ text) ⊎ Contains [] text → text ≡ dotted name port
-    one (inl h) = sym h
-    one (inr h) = absurd (contains_nothing text h)
 behind_instance_sound {view = view} {network = network} {nets = nets} {name = name} sort port text i ready e Subapplication g c =
     let f = ready i ((found_by_name network.instances name i e).among) g in
     behind_inner_sound sort port text f.net.borders (record { instance = i; first = e; kind = g; declared = f.declared }) f.flat.borders
@@ -85,17 +80,15 @@ behind_sound {view = view} {network = network} {nets = nets} sort (Of name port)
     by_found None e d = absurd (contains_nothing text d)
     by_found (Some i) e d = behind_instance_sound sort port text i ready e i.kind refl d
 
+-- what is behind a port of an instance is behind the end of this name
+found_behind : (network : PlainNetwork) (nets : Nets) (sort : Sort) (end : End) (name port text : List ℕ) (i : Instance) (k : InstanceKind) → instance_named network.instances name ≡ Some i → i.kind ≡ k → end ≡ Of name port → Contains (behind_kind k nets sort name port i.type_name) text → Contains (behind_of (instance_named network.instances) nets sort end) text
+found_behind network nets sort end name port text i k first kind e c = rw (e, first, kind) c
+
 -- what is behind an end is among the places that the code finds
 pub behind_complete : {view : View} {network : PlainNetwork} {nets : Nets} (sort : Sort) (end : End) (place : Place) → AreFinished view network nets → IsBehind view sort network end place → Contains (behind_of (instance_named network.instances) nets sort end) (printed place)
 behind_complete {network = network} {nets = nets} sort end place ready (BlockItself name type port block e g) =
-    let there : Contains (behind_kind Block nets sort name port block.instance.type_name) (dotted name port) = contains_here (dotted name port) [] in
-    let at_kind : Contains (behind_instance nets sort name port block.instance) (dotted name port) =
-    subst (λ (k : InstanceKind). Contains (behind_kind k nets sort name port block.instance.type_name) (dotted name port)) (sym block.kind) there in
-    let at_name : Contains (behind_of (instance_named network.instances) nets sort (Of name port)) (dotted name port) =
-    subst (λ (o : Option Instance). Contains (behind_found nets sort name port o) (dotted name port)) (sym block.first) at_kind in
-    let at_place : Contains (behind_of (instance_named network.instances) nets sort (Of name port)) (printed place) =
-    subst (λ (q : Place). Contains (behind_of (instance_named network.instances) nets sort (Of name port)) (printed q)) (sym g) at_name in
-    subst (λ (x : End). Contains (behind_of (instance_named network.instances) nets sort x) (printed place)) (sym e) at_place
+    subst (λ (q : Place). Contains (behind_of (instance_named network.instances) nets sort end) (printed q)) (sym g)
+    (found_behind network nets sort end name port (dotted name port) block.instance Block block.first block.kind e (contains_here (dotted name port) []))
 behind_complete {view = view} {network = network} {nets = nets} sort end place ready (BehindBorder inner name port to i e g border) =
     let f = ready i.instance ((found_by_name network.instances name i.instance i.first).among) i.kind in
     let same : inner ≡ f.inner = let k = i.declared in let h = f.declared in cc in
@@ -105,16 +98,10 @@ behind_complete {view = view} {network = network} {nets = nets} sort end place r
     contains_filter (belongs sort port) f.net.borders entry (f.flat.borders.complete sort port to there) (border_belongs sort port (printed to)) in
     let listed : Contains (border_places sort name port f.net.borders) (dotted name (printed to)) =
     contains_map (λ (b : Border). dotted name b.place) (filter (belongs sort port) f.net.borders) entry kept in
-    let at_found : Contains (behind_kind Subapplication nets sort name port i.instance.type_name) (dotted name (printed to)) =
-    subst (λ (o : Option PlainFlat). Contains (places_of sort name port o) (dotted name (printed to))) (sym f.found) listed in
-    let at_kind : Contains (behind_instance nets sort name port i.instance) (dotted name (printed to)) =
-    subst (λ (k : InstanceKind). Contains (behind_kind k nets sort name port i.instance.type_name) (dotted name (printed to))) (sym i.kind) at_found in
-    let at_name : Contains (behind_of (instance_named network.instances) nets sort (Of name port)) (dotted name (printed to)) =
-    subst (λ (o : Option Instance). Contains (behind_found nets sort name port o) (dotted name (printed to))) (sym i.first) at_kind in
     let printed_is : dotted name (printed to) ≡ printed place = sym (printed-within name to (no_leaf_nothing border.leaf)) ∙ ap printed (sym g) in
-    let at_place : Contains (behind_of (instance_named network.instances) nets sort (Of name port)) (printed place) =
-    subst (λ (t : List ℕ). Contains (behind_of (instance_named network.instances) nets sort (Of name port)) t) printed_is at_name in
-    subst (λ (x : End). Contains (behind_of (instance_named network.instances) nets sort x) (printed place)) (sym e) at_place
+    subst (λ (t : List ℕ). Contains (behind_of (instance_named network.instances) nets sort end) t) printed_is
+    (found_behind network nets sort end name port (dotted name (printed to)) i.instance Subapplication i.first i.kind e
+    (subst (λ (o : Option PlainFlat). Contains (places_of sort name port o) (dotted name (printed to))) (sym f.found) listed))
 
 -- a printed place with a port after it
 printed-extended : (a : Place) (port : List ℕ) → (a ≡ [] → ⊥) → printed (a ++ port ∷ []) ≡ dotted (printed a) port
@@ -204,27 +191,23 @@ connection_links_sound {view = view} {network = network} l s d clean ready Adapt
 
 links_sound : {view : View} {network : PlainNetwork} {nets : Nets} (l : Link) → IsCleanThroughout view network → AreFinished view network nets → Contains (composed_links view network (instance_named network.instances) nets) l → PrintsLink view network l
 links_sound {view = view} {network = network} {nets = nets} l clean ready c =
-    by_case (Contains-append_cases (flat_map (inner_links nets) network.instances) (flat_map (connection_links view network (instance_named network.instances) nets) network.connections) l c)
-  where
-    by_case : Contains (flat_map (inner_links nets) network.instances) l ⊎ Contains (flat_map (connection_links view network (instance_named network.instances) nets) network.connections) l → PrintsLink view network l
-    by_case (inl d) = let o = origin_in_flat_map (inner_links nets) network.instances l d in inner_links_sound l o.origin clean ready o.among o.origin.kind refl o.has
-    by_case (inr d) =
-        let o = origin_in_flat_map (connection_links view network (instance_named network.instances) nets) network.connections l d in
-        let k = o.origin in
-        connection_links_sound l k.source k.destination clean ready k.sort (record { connection = k; among = o.among; sorted = refl; source = refl; destination = refl }) o.has
+    let links = connection_links view network (instance_named network.instances) nets in
+    elim (Contains-append_cases (flat_map (inner_links nets) network.instances) (flat_map links network.connections) l c) [
+      | inl d ↦ let o = origin_in_flat_map (inner_links nets) network.instances l d in inner_links_sound l o.origin clean ready o.among o.origin.kind refl o.has
+      | inr d ↦ let o = origin_in_flat_map links network.connections l d in
+          let k = o.origin in
+          connection_links_sound l k.source k.destination clean ready k.sort (record { connection = k; among = o.among; sorted = refl; source = refl; destination = refl }) o.has
+    ]
 
 -- the links that a connection of those ends gives
 ends_links : (view : View) {network : PlainNetwork} (nets : Nets) (l : Link) (sort : Sort) (s d : End) → IsConnected network sort s d → Contains (links_of_sort sort (adapter_at view network (place_of s)) (behind_of (instance_named network.instances) nets sort s) (behind_of (instance_named network.instances) nets sort d)) l → Contains (composed_links view network (instance_named network.instances) nets) l
 ends_links view {network = network} nets l sort s d c h =
     let k = c.connection in
-    let at_destination : Contains (links_of_sort sort (adapter_at view network (place_of s)) (behind_of (instance_named network.instances) nets sort s) (behind_of (instance_named network.instances) nets sort k.destination)) l =
-    subst (λ (x : End). Contains (links_of_sort sort (adapter_at view network (place_of s)) (behind_of (instance_named network.instances) nets sort s) (behind_of (instance_named network.instances) nets sort x)) l) (sym c.destination) h in
-    let at_source : Contains (links_of_sort sort (adapter_at view network (place_of k.source)) (behind_of (instance_named network.instances) nets sort k.source) (behind_of (instance_named network.instances) nets sort k.destination)) l =
-    subst (λ (x : End). Contains (links_of_sort sort (adapter_at view network (place_of x)) (behind_of (instance_named network.instances) nets sort x) (behind_of (instance_named network.instances) nets sort k.destination)) l) (sym c.source) at_destination in
-    let at_sort : Contains (connection_links view network (instance_named network.instances) nets k) l =
-    subst (λ (x : Sort). Contains (links_of_sort x (adapter_at view network (place_of k.source)) (behind_of (instance_named network.instances) nets x k.source) (behind_of (instance_named network.instances) nets x k.destination)) l) (sym c.sorted) at_source in
+    let at : Contains (connection_links view network (instance_named network.instances) nets k) l =
+    subst (λ (x : Sort × End × End). Contains (links_of_sort x.0 (adapter_at view network (place_of x.1)) (behind_of (instance_named network.instances) nets x.0 x.1) (behind_of (instance_named network.instances) nets x.0 x.2)) l)
+    (λ i. (sym c.sorted i, sym c.source i, sym c.destination i)) h in
     Contains-append_right (flat_map (inner_links nets) network.instances) (flat_map (connection_links view network (instance_named network.instances) nets) network.connections) l
-    (contains_flat_map (connection_links view network (instance_named network.instances) nets) network.connections k l c.among at_sort)
+    (contains_flat_map (connection_links view network (instance_named network.instances) nets) network.connections k l c.among at)
 
 -- the pair of what is behind two ends
 pair_listed : {view : View} {network : PlainNetwork} {nets : Nets} (sort : Sort) (a b : Place) (s d : End) → AreFinished view network nets → IsBehind view sort network s a → IsBehind view sort network d b → Contains (link_pairs sort (behind_of (instance_named network.instances) nets sort s) (behind_of (instance_named network.instances) nets sort d)) (record { sort = sort; from = printed a; to = printed b })
@@ -265,10 +248,7 @@ inner_listed {view = view} {network = network} {inner = inner} {nets = nets} {na
     let entry : Link = record { sort = sort; from = printed from; to = printed to } in
     let whole : Link = record { sort = sort; from = printed (name ∷ from); to = printed (name ∷ to) } in
     let listed : Contains (links_of i.name (Some f.net)) (link_within i.name entry) = contains_map (link_within i.name) f.net.links entry (f.flat.links.complete sort from to link) in
-    let at_found : Contains (inner_links_of_kind Subapplication nets i.name i.type_name) (link_within i.name entry) =
-    subst (λ (o : Option PlainFlat). Contains (links_of i.name o) (link_within i.name entry)) (sym f.found) listed in
-    let at_kind : Contains (inner_links nets i) (link_within i.name entry) =
-    subst (λ (k : InstanceKind). Contains (inner_links_of_kind k nets i.name i.type_name) (link_within i.name entry)) (sym is_inner.kind) at_found in
+    let at_kind : Contains (inner_links nets i) (link_within i.name entry) = rw (is_inner.kind, f.found) listed in
     let from_is : dotted i.name (printed from) ≡ printed (name ∷ from) = ap (λ (n : List ℕ). dotted n (printed from)) found.name_is ∙ sym (printed-within name from (net_link_from link)) in
     let to_is : dotted i.name (printed to) ≡ printed (name ∷ to) = ap (λ (n : List ℕ). dotted n (printed to)) found.name_is ∙ sym (printed-within name to (net_link_to link)) in
     let same_link : link_within i.name entry ≡ whole = same_links refl from_is to_is in
@@ -349,47 +329,34 @@ end_borders_sound {view = view} {network = network} {nets = nets} sort (Own port
 borders_sound : {view : View} {network : PlainNetwork} {nets : Nets} (b : Border) → IsCleanThroughout view network → AreFinished view network nets → Contains (composed_borders network (instance_named network.instances) nets) b → PrintsBorder view network b
 borders_sound {view = view} {network = network} {nets = nets} b clean ready c =
     let o = origin_in_flat_map (connection_borders (instance_named network.instances) nets) network.connections b c in
-    by_case o.origin o.among (Contains-append_cases (end_borders o.origin.sort o.origin.source (behind_of (instance_named network.instances) nets o.origin.sort o.origin.destination)) (end_borders o.origin.sort o.origin.destination (behind_of (instance_named network.instances) nets o.origin.sort o.origin.source)) b o.has)
-  where
-    by_case : (k : Connection) → Contains network.connections k → Contains (end_borders k.sort k.source (behind_of (instance_named network.instances) nets k.sort k.destination)) b ⊎ Contains (end_borders k.sort k.destination (behind_of (instance_named network.instances) nets k.sort k.source)) b → PrintsBorder view network b
-    by_case k among (inl d) = end_borders_sound k.sort k.source k.destination b clean ready (inl (record { connection = k; among = among; sorted = refl; source = refl; destination = refl })) d
-    by_case k among (inr d) = end_borders_sound k.sort k.destination k.source b clean ready (inr (record { connection = k; among = among; sorted = refl; source = refl; destination = refl })) d
+    let k = o.origin in
+    let at : IsConnected network k.sort k.source k.destination = record { connection = k; among = o.among; sorted = refl; source = refl; destination = refl } in
+    elim (Contains-append_cases (end_borders k.sort k.source (behind_of (instance_named network.instances) nets k.sort k.destination)) (end_borders k.sort k.destination (behind_of (instance_named network.instances) nets k.sort k.source)) b o.has) [
+      | inl d ↦ end_borders_sound k.sort k.source k.destination b clean ready (inl at) d
+      | inr d ↦ end_borders_sound k.sort k.destination k.source b clean ready (inr at) d
+    ]
 
 -- the border at an own end of a connection
 own_source_borders : {network : PlainNetwork} (nets : Nets) (sort : Sort) (port : List ℕ) (d : End) (b : Border) → IsConnected network sort (Own port) d → Contains (end_borders sort (Own port) (behind_of (instance_named network.instances) nets sort d)) b → Contains (composed_borders network (instance_named network.instances) nets) b
 own_source_borders {network = network} nets sort port d b c h =
-    let at_destination : Contains (end_borders sort (Own port) (behind_of (instance_named network.instances) nets sort c.connection.destination)) b =
-    subst (λ (x : End). Contains (end_borders sort (Own port) (behind_of (instance_named network.instances) nets sort x)) b) (sym c.destination) h in
-    let at_source : Contains (end_borders sort c.connection.source (behind_of (instance_named network.instances) nets sort c.connection.destination)) b =
-    subst (λ (x : End). Contains (end_borders sort x (behind_of (instance_named network.instances) nets sort c.connection.destination)) b) (sym c.source) at_destination in
-    let at_sort : Contains (end_borders c.connection.sort c.connection.source (behind_of (instance_named network.instances) nets c.connection.sort c.connection.destination)) b =
-    subst (λ (x : Sort). Contains (end_borders x c.connection.source (behind_of (instance_named network.instances) nets x c.connection.destination)) b) (sym c.sorted) at_source in
+    let at : Contains (end_borders c.connection.sort c.connection.source (behind_of (instance_named network.instances) nets c.connection.sort c.connection.destination)) b =
+    subst (λ (x : Sort × End × End). Contains (end_borders x.0 x.1 (behind_of (instance_named network.instances) nets x.0 x.2)) b) (λ i. (sym c.sorted i, sym c.source i, sym c.destination i)) h in
     contains_flat_map (connection_borders (instance_named network.instances) nets) network.connections c.connection b c.among
-    (Contains-append_left (end_borders c.connection.sort c.connection.source (behind_of (instance_named network.instances) nets c.connection.sort c.connection.destination)) (end_borders c.connection.sort c.connection.destination (behind_of (instance_named network.instances) nets c.connection.sort c.connection.source)) b at_sort)
+    (Contains-append_left (end_borders c.connection.sort c.connection.source (behind_of (instance_named network.instances) nets c.connection.sort c.connection.destination)) (end_borders c.connection.sort c.connection.destination (behind_of (instance_named network.instances) nets c.connection.sort c.connection.source)) b at)
 
 own_destination_borders : {network : PlainNetwork} (nets : Nets) (sort : Sort) (port : List ℕ) (s : End) (b : Border) → IsConnected network sort s (Own port) → Contains (end_borders sort (Own port) (behind_of (instance_named network.instances) nets sort s)) b → Contains (composed_borders network (instance_named network.instances) nets) b
 own_destination_borders {network = network} nets sort port s b c h =
-    let at_source : Contains (end_borders sort (Own port) (behind_of (instance_named network.instances) nets sort c.connection.source)) b =
-    subst (λ (x : End). Contains (end_borders sort (Own port) (behind_of (instance_named network.instances) nets sort x)) b) (sym c.source) h in
-    let at_destination : Contains (end_borders sort c.connection.destination (behind_of (instance_named network.instances) nets sort c.connection.source)) b =
-    subst (λ (x : End). Contains (end_borders sort x (behind_of (instance_named network.instances) nets sort c.connection.source)) b) (sym c.destination) at_source in
-    let at_sort : Contains (end_borders c.connection.sort c.connection.destination (behind_of (instance_named network.instances) nets c.connection.sort c.connection.source)) b =
-    subst (λ (x : Sort). Contains (end_borders x c.connection.destination (behind_of (instance_named network.instances) nets x c.connection.source)) b) (sym c.sorted) at_destination in
+    let at : Contains (end_borders c.connection.sort c.connection.destination (behind_of (instance_named network.instances) nets c.connection.sort c.connection.source)) b =
+    subst (λ (x : Sort × End × End). Contains (end_borders x.0 x.1 (behind_of (instance_named network.instances) nets x.0 x.2)) b) (λ i. (sym c.sorted i, sym c.destination i, sym c.source i)) h in
     contains_flat_map (connection_borders (instance_named network.instances) nets) network.connections c.connection b c.among
-    (Contains-append_right (end_borders c.connection.sort c.connection.source (behind_of (instance_named network.instances) nets c.connection.sort c.connection.destination)) (end_borders c.connection.sort c.connection.destination (behind_of (instance_named network.instances) nets c.connection.sort c.connection.source)) b at_sort)
+    (Contains-append_right (end_borders c.connection.sort c.connection.source (behind_of (instance_named network.instances) nets c.connection.sort c.connection.destination)) (end_borders c.connection.sort c.connection.destination (behind_of (instance_named network.instances) nets c.connection.sort c.connection.source)) b at)
 
 borders_complete : {view : View} {network : PlainNetwork} {nets : Nets} (sort : Sort) (port : List ℕ) (a : Place) → AreFinished view network nets → IsComposedBorder view network sort port a → Contains (composed_borders network (instance_named network.instances) nets) (record { sort = sort; port = port; place = printed a })
-borders_complete {view = view} {network = network} {nets = nets} sort port a ready border = by_side border.connected
-  where
-    entry : Border
-    entry = record { sort = sort; port = port; place = printed a }
-
-    listed : Contains (end_borders sort (Own port) (behind_of (instance_named network.instances) nets sort border.end)) entry
-    listed = contains_map (λ (place : List ℕ). record { sort = sort; port = port; place = place }) (behind_of (instance_named network.instances) nets sort border.end) (printed a) (behind_complete sort border.end a ready border.behind)
-
-    by_side : IsConnected network sort (Own port) border.end ⊎ IsConnected network sort border.end (Own port) → Contains (composed_borders network (instance_named network.instances) nets) entry
-    by_side (inl c) = own_source_borders nets sort port border.end entry c listed
-    by_side (inr c) = own_destination_borders nets sort port border.end entry c listed
+borders_complete {view = view} {network = network} {nets = nets} sort port a ready border =
+    let entry : Border = record { sort = sort; port = port; place = printed a } in
+    let listed : Contains (end_borders sort (Own port) (behind_of (instance_named network.instances) nets sort border.end)) entry =
+    contains_map (λ (place : List ℕ). record { sort = sort; port = port; place = place }) (behind_of (instance_named network.instances) nets sort border.end) (printed a) (behind_complete sort border.end a ready border.behind) in
+    elim border.connected [ inl c ↦ own_source_borders nets sort port border.end entry c listed | inr c ↦ own_destination_borders nets sort port border.end entry c listed ]
 
 -- what is composed are the borders of the network
 pub composed_borders_are : {view : View} {network : PlainNetwork} {nets : Nets} → IsCleanThroughout view network → AreFinished view network nets → AreBorders view network (composed_borders network (instance_named network.instances) nets)

@@ -87,13 +87,11 @@ table_instances prefixes nets table xs is = λ name. by_found (table name) (inst
   where
     by_found : (a : Option Standing) (b : Option Instance) → StandsFor prefixes nets a b → option_map (λ (s : Standing). s.instance) a ≡ b
     by_found None None p = refl
-    by_found None (Some i) p = absurd p
-    by_found (Some s) None p = absurd p
     by_found (Some s) (Some i) p = ap Some p.0
+    by_found a b p = absurd p
 
 pub standing_type : (view : View) (o : Option Standing) → option_and_then (λ (s : Standing). view s.instance.type_name) o ≡ option_and_then (λ (i : Instance). view i.type_name) (option_map (λ (s : Standing). s.instance) o)
-standing_type view None = refl
-standing_type view (Some s) = refl
+standing_type view o = grind arith
 
 -- no links more
 pub adds_none : (draft : Draft) → AddsLinks draft draft []

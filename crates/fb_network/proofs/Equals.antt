@@ -1,9 +1,9 @@
 -- What compares equal is equal.
-use Rattle.std.proofs.Common.{ℕ, ◌≡◌, Bool, true, false, List, ◌∷◌, [], refl, sym, ap, arith}
+use Rattle.std.proofs.Common.{ℕ, ◌≡◌, true, false, List, ◌∷◌, [], refl, sym, ap, arith}
 use Rattle.std.specs.{declared.cmp.Ordering.TheVariants.{Equal}, Ordering.{eq_by_cmp, is_eq, nat_cmp, ordering_then}, Cmp.{tied_itself}}
 use Rattle.std.specs.{Cmp.Lexicographic.{nat_list_cmp_total}, FinMap.{nat_cmp-IsAntisymmetric, slice_cmp-IsAntisymmetric}, BTreeMap.{is_at}}
-use Rattle.fb_tree.proofs.Text.OrderLemmas.{is_equal, both_equal}
-use Rattle.fb_tree.specs.{Text.Order.{name_cmp}, declared.network.Sort.{Sort}, declared.network.Sort.TheVariants.{Event, Data, Adapter}}
+use Rattle.fb_tree.proofs.{Text.OrderLemmas.{is_equal, both_equal}, Text.Tests.{by_bool}}
+use Rattle.fb_tree.specs.{Text.Order.{name_cmp}, declared.network.Sort.{Sort}}
 use Rattle.fb_network.specs.{Sorts.{number_of, same_sort}, Places.{dotted}, Network.{Place}, Printed.{printed}, LinkOrder.{border_cmp, link_cmp}}
 use Rattle.fb_network.specs.{declared.flat.Link.{Link}, declared.flat.Border.{Border}}
 
@@ -19,41 +19,19 @@ bytes_same xs = ap is_eq (tied_itself nat_list_cmp_total xs)
 
 -- a name fails the test of another name
 pub not_at : (xs ys : List ℕ) → (ys ≡ xs → ⊥) → is_at (name_cmp xs) ys ≡ false
-not_at xs ys n = by_test (is_at (name_cmp xs) ys) refl
-  where
-    by_test : (b : Bool) → is_at (name_cmp xs) ys ≡ b → is_at (name_cmp xs) ys ≡ false
-    by_test true e = absurd (n (sym (same_bytes xs ys e)))
-    by_test false e = e
+not_at xs ys n = by_bool (is_at (name_cmp xs) ys) (λ t. absurd (n (sym (same_bytes xs ys t)))) (λ f. f)
 
 pub at_not : (xs ys : List ℕ) → is_at (name_cmp xs) ys ≡ false → ys ≡ xs → ⊥
 at_not xs ys e s = let same : is_at (name_cmp xs) ys ≡ true = let h = ap (is_at (name_cmp xs)) s in let k = bytes_same xs in cc in cc
 
 pub same_sorts : (a b : Sort) → same_sort a b ≡ true → a ≡ b
-same_sorts Event Event h = refl
-same_sorts Event Data h = absurd (cc)
-same_sorts Event Adapter h = absurd (cc)
-same_sorts Data Event h = absurd (cc)
-same_sorts Data Data h = refl
-same_sorts Data Adapter h = absurd (cc)
-same_sorts Adapter Event h = absurd (cc)
-same_sorts Adapter Data h = absurd (cc)
-same_sorts Adapter Adapter h = refl
+same_sorts a b h = grind arith
 
 pub sort_same : (a : Sort) → same_sort a a ≡ true
-sort_same Event = refl
-sort_same Data = refl
-sort_same Adapter = refl
+sort_same a = grind arith
 
 exact_sort : (a b : Sort) → number_of a ≡ number_of b → a ≡ b
-exact_sort Event Event e = refl
-exact_sort Event Data e = absurd (omega arith)
-exact_sort Event Adapter e = absurd (omega arith)
-exact_sort Data Event e = absurd (omega arith)
-exact_sort Data Data e = refl
-exact_sort Data Adapter e = absurd (omega arith)
-exact_sort Adapter Event e = absurd (omega arith)
-exact_sort Adapter Data e = absurd (omega arith)
-exact_sort Adapter Adapter e = refl
+exact_sort a b e = grind arith
 
 -- links of one sort between equal texts
 pub same_links : {a b c d : List ℕ} {sort sort' : Sort} → sort ≡ sort' → a ≡ b → c ≡ d → (let l : Link = record { sort = sort; from = a; to = c } in l) ≡ record { sort = sort'; from = b; to = d }

@@ -11,6 +11,7 @@ pub mod FlatLemmas
 pub mod EmptyMaps
 pub mod SystemLemmas
 pub mod Texts
+pub mod Tellings
 pub mod Readings
 pub mod SortedOnce
 pub mod Drafts

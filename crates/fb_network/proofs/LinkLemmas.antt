@@ -5,7 +5,7 @@ use Rattle.fb_network.specs.{declared.network.End.{End}, declared.network.End.Th
 use Rattle.fb_network.specs.Network.{View, Place, place_of, IsInner, IsBlock, IsConnected, Step, Holds, Within, IsBorderPlace, OwnPort, PortWithin, IsLeafPlace, BlockPort, LeafWithin, Chain, One, More, IsLink, IsBorder}
 use Rattle.fb_network.specs.Clean.{side_at, IsSource, IsDestination, IsCleanThroughout}
 use Rattle.fb_network.specs.Composition.{LeavesInner, EntersInner, IsComposed, IsBehind, BlockItself, BehindBorder, IsComposedLink, IsComposedBorder}
-use Rattle.fb_network.proofs.Chains.{no_step_from_nothing, no_step_to_nothing, same_inner, side_at-within, here, clean_inner, no_chain_from_output, composed}
+use Rattle.fb_network.proofs.Chains.{moved, no_step_from_nothing, no_step_to_nothing, side_at-within, here, clean_inner, no_chain_from_output, composed}
 
 -- a block's name stands for no subapplication
 pub no_block_inner : {view : View} {network inner : PlainNetwork} {name type : List ℕ} → IsBlock network name type → IsInner view network name inner → ⊥
@@ -24,12 +24,7 @@ pub leaf_inside : {view : View} {network inner : PlainNetwork} {name : List ℕ}
 leaf_inside {view = view} {network = network} {inner = inner} {name = name} from i (BlockPort name2 type port b e) g =
     let same_name : name2 ≡ name = cc in
     absurd (no_block_inner (subst (λ (m : List ℕ). IsBlock network m type) same_name b) i)
-leaf_inside {view = view} {network = network} {inner = inner} {name = name} from i (LeafWithin inner2 name2 a' i2 e leaf) g =
-    let same_name : name2 ≡ name = cc in
-    let same_from : a' ≡ from = cc in
-    let there : IsInner view network name inner2 = subst (λ (m : List ℕ). IsInner view network m inner2) same_name i2 in
-    let same : inner2 ≡ inner = same_inner there i in
-    subst (λ (m : PlainNetwork). IsLeafPlace view m from) same (subst (λ (q : Place). IsLeafPlace view inner2 q) same_from leaf)
+leaf_inside {view = view} from i (LeafWithin inner2 name2 a' i2 e leaf) g = moved (λ (m : PlainNetwork) (q : Place). IsLeafPlace view m q) i i2 (sym e ∙ g) leaf
 
 -- a leaf place of an instance's port is a block's
 pub block_at_leaf : {view : View} {network : PlainNetwork} {a : Place} (sort : Sort) (name port : List ℕ) → IsLeafPlace view network a → a ≡ name ∷ port ∷ [] → IsBehind view sort network (Of name port) a
@@ -55,11 +50,11 @@ behind_after end leaf (inr l) =
 
 -- a link is composed
 pub link_composed : {view : View} {network : PlainNetwork} {sort : Sort} {a b : Place} → IsCleanThroughout view network → IsLink view network sort a b → IsComposedLink view network sort a b
-link_composed {view = view} {network = network} {sort = sort} {a = a} {b = b} clean link = by_case (composed clean link.chain)
-  where
-    by_case : IsComposed view sort network a b → IsComposedLink view network sort a b
-    by_case (inl l) = inl (record { inner = l.inner; name = l.name; from = l.from; to = l.to; is_inner = l.is_inner; from_is = l.from_is; to_is = l.to_is; link = record { from_leaf = leaf_inside l.from l.is_inner link.from_leaf l.from_is; to_leaf = leaf_inside l.to l.is_inner link.to_leaf l.to_is; chain = l.chain } })
-    by_case (inr l) = inr (record { source = l.source; destination = l.destination; connected = l.connected; before = behind_before l.source link.from_leaf l.before; after = behind_after l.destination link.to_leaf l.after })
+link_composed clean link =
+    elim (composed clean link.chain) [
+      | inl l ↦ inl (record { inner = l.inner; name = l.name; from = l.from; to = l.to; is_inner = l.is_inner; from_is = l.from_is; to_is = l.to_is; link = record { from_leaf = leaf_inside l.from l.is_inner link.from_leaf l.from_is; to_leaf = leaf_inside l.to l.is_inner link.to_leaf l.to_is; chain = l.chain } })
+      | inr l ↦ inr (record { source = l.source; destination = l.destination; connected = l.connected; before = behind_before l.source link.from_leaf l.before; after = behind_after l.destination link.to_leaf l.after })
+    ]
 
 -- no chain leaves or reaches the empty place
 no_chain_from_nothing : {view : View} {sort : Sort} {network : PlainNetwork} {a b : Place} → Chain view sort network a b → a ≡ [] → ⊥
@@ -129,33 +124,27 @@ pub chain_from : {view : View} {sort : Sort} {network : PlainNetwork} {a b : Pla
 chain_from {view = view} {sort = sort} {network = network} {a = a} {b = b} s d clean c (BlockItself name type port block e g) on =
     subst (λ (q : Place). Chain view sort network q b) (ap place_of e ∙ sym g) on
 chain_from {view = view} {sort = sort} {network = network} {a = a} {b = b} s d clean c (BehindBorder inner name port to i e g border) on =
-    subst (λ (q : Place). Chain view sort network q b) (sym g) (by_chain border.chain)
-  where
-    from_port : Chain view sort network (name ∷ port ∷ []) b
-    from_port = subst (λ (q : Place). Chain view sort network q b) (ap place_of e) on
-
-    is_source : IsSource view sort network (Of name port)
-    is_source = subst (λ (m : End). IsSource view sort network m) e ((here clean).sources sort s d c)
-
-    by_chain : Chain view sort inner (port ∷ []) to ⊎ Chain view sort inner to (port ∷ []) → Chain view sort network (name ∷ to) b
-    by_chain (inl chain) = absurd (no_chain_from_output port (clean_inner clean i) chain refl (sym (side_at-within sort port [] i) ∙ is_source))
-    by_chain (inr chain) = joined (name ∷ port ∷ []) (chain_within i chain) (PortWithin inner name (port ∷ []) i refl (OwnPort port refl)) from_port
+    let from_port : Chain view sort network (name ∷ port ∷ []) b = subst (λ (q : Place). Chain view sort network q b) (ap place_of e) on in
+    let is_source : IsSource view sort network (Of name port) = subst (λ (m : End). IsSource view sort network m) e ((here clean).sources sort s d c) in
+    let whole : Chain view sort network (name ∷ to) b =
+    elim border.chain [
+      | inl chain ↦ absurd (no_chain_from_output port (clean_inner clean i) chain refl (sym (side_at-within sort port [] i) ∙ is_source))
+      | inr chain ↦ joined (name ∷ port ∷ []) (chain_within i chain) (PortWithin inner name (port ∷ []) i refl (OwnPort port refl)) from_port
+    ] in
+    subst (λ (q : Place). Chain view sort network q b) (sym g) whole
 
 pub chain_to : {view : View} {sort : Sort} {network : PlainNetwork} {a b : Place} (s d : End) → IsCleanThroughout view network → IsConnected network sort s d → IsBehind view sort network d b → Chain view sort network a (place_of d) → Chain view sort network a b
 chain_to {view = view} {sort = sort} {network = network} {a = a} {b = b} s d clean c (BlockItself name type port block e g) on =
     subst (λ (q : Place). Chain view sort network a q) (ap place_of e ∙ sym g) on
 chain_to {view = view} {sort = sort} {network = network} {a = a} {b = b} s d clean c (BehindBorder inner name port to i e g border) on =
-    subst (λ (q : Place). Chain view sort network a q) (sym g) (by_chain border.chain)
-  where
-    to_port : Chain view sort network a (name ∷ port ∷ [])
-    to_port = subst (λ (q : Place). Chain view sort network a q) (ap place_of e) on
-
-    is_destination : IsDestination view sort network (Of name port)
-    is_destination = subst (λ (m : End). IsDestination view sort network m) e ((here clean).destinations sort s d c)
-
-    by_chain : Chain view sort inner (port ∷ []) to ⊎ Chain view sort inner to (port ∷ []) → Chain view sort network a (name ∷ to)
-    by_chain (inr chain) = absurd (no_chain_to_input port (clean_inner clean i) chain refl (sym (side_at-within sort port [] i) ∙ is_destination))
-    by_chain (inl chain) = joined (name ∷ port ∷ []) to_port (PortWithin inner name (port ∷ []) i refl (OwnPort port refl)) (chain_within i chain)
+    let to_port : Chain view sort network a (name ∷ port ∷ []) = subst (λ (q : Place). Chain view sort network a q) (ap place_of e) on in
+    let is_destination : IsDestination view sort network (Of name port) = subst (λ (m : End). IsDestination view sort network m) e ((here clean).destinations sort s d c) in
+    let whole : Chain view sort network a (name ∷ to) =
+    elim border.chain [
+      | inr chain ↦ absurd (no_chain_to_input port (clean_inner clean i) chain refl (sym (side_at-within sort port [] i) ∙ is_destination))
+      | inl chain ↦ joined (name ∷ port ∷ []) to_port (PortWithin inner name (port ∷ []) i refl (OwnPort port refl)) (chain_within i chain)
+    ] in
+    subst (λ (q : Place). Chain view sort network a q) (sym g) whole
 
 -- what is composed is a link
 pub link_of_composed : {view : View} {network : PlainNetwork} {sort : Sort} {a b : Place} → IsCleanThroughout view network → IsComposedLink view network sort a b → IsLink view network sort a b
@@ -175,9 +164,12 @@ link_of_composed clean (inr l) =
 
 -- what is composed is a border
 pub border_of_composed : {view : View} {network : PlainNetwork} {sort : Sort} {port : List ℕ} {place : Place} → IsCleanThroughout view network → IsComposedBorder view network sort port place → IsBorder view network sort port place
-border_of_composed {view = view} {network = network} {sort = sort} {port = port} {place = place} clean border =
-    record { leaf = leaf_behind border.end border.behind; chain = by_side border.connected }
-  where
-    by_side : IsConnected network sort (Own port) border.end ⊎ IsConnected network sort border.end (Own port) → Chain view sort network (port ∷ []) place ⊎ Chain view sort network place (port ∷ [])
-    by_side (inl c) = inl (chain_to (Own port) border.end clean c border.behind (One (Holds (Own port) border.end c refl refl)))
-    by_side (inr c) = inr (chain_from border.end (Own port) clean c border.behind (One (Holds border.end (Own port) c refl refl)))
+border_of_composed {port = port} clean border =
+    record {
+      leaf = leaf_behind border.end border.behind;
+      chain =
+          elim border.connected [
+            | inl c ↦ inl (chain_to (Own port) border.end clean c border.behind (One (Holds (Own port) border.end c refl refl)))
+            | inr c ↦ inr (chain_from border.end (Own port) clean c border.behind (One (Holds border.end (Own port) c refl refl)))
+          ];
+    }

@@ -1,18 +1,15 @@
 -- What is nearest is had by the longest prefix that has something.
-use Rattle.std.proofs.Common.{ℕ, zero, suc, ◌≡◌, ◌<◌, ◌≤◌, ◌==◌, ◌⊎◌, Bool, true, false, List, ◌∷◌, ◌++◌, Option, Some, None, inl, inr, refl, sym, ◌∙◌, ap, subst, take, drop, get_or, length, arith, eq-eqb, length-append, length-take-le, take-append-drop}
+use Rattle.std.proofs.Common.{ℕ, zero, suc, ◌≡◌, ◌<◌, ◌≤◌, ◌==◌, ◌⊎◌, true, false, List, ◌∷◌, ◌++◌, Option, Some, None, inl, inr, refl, sym, ◌∙◌, ap, subst, take, drop, get_or, length, arith, eq-eqb, length-append, length-take-le, take-append-drop}
 use Rattle.std.proofs.{lemmas.Bool.Decides.{Decides-eqb}, Math.Seq.{drop-cons, take-append_seam, get_or-append_seam}}
 use Rattle.std.specs.Option.{option_or}
 use native.Mathlib.Decide.{dec_lt}
+use Rattle.fb_tree.proofs.Text.Tests.{by_bool}
 use Rattle.fb_network.specs.Prefixes.{IsPrefix, IsNearest, nearest}
 use Rattle.fb_network.proofs.PrefixLemmas.{nearest_below, nearest_is, below_no_point, below_nothing, below_here}
 
 -- the test of a byte as a fact
 is_point : (b : ℕ) → ((b == 46) ≡ true) ⊎ ((b == 46) ≡ false)
-is_point b = by_test (b == 46) refl
-  where
-    by_test : (t : Bool) → (b == 46) ≡ t → ((b == 46) ≡ true) ⊎ ((b == 46) ≡ false)
-    by_test true e = inl e
-    by_test false e = inr e
+is_point b = by_bool (b == 46) (λ e. inl e) (λ e. inr e)
 
 no_point : (b : ℕ) → (b == 46) ≡ false → b ≡ 46 → ⊥
 no_point b e same = let h = eq-eqb b 46 same in cc

@@ -20,15 +20,13 @@ member_grown prefixes new names n text g e = ap (λ (fs : List PlainPrefix). sli
 
 pub members_grown : (prefixes new : List PlainPrefix) (names : List (List ℕ)) (ns : List ℕ) (ts : List (List ℕ)) → Grows prefixes new → AreMembers prefixes names ns ts → AreMembers new names ns ts
 members_grown prefixes new names [] [] g p = tt
-members_grown prefixes new names [] (t ∷ ts) g p = absurd p
-members_grown prefixes new names (n ∷ ns) [] g p = absurd p
 members_grown prefixes new names (n ∷ ns) (t ∷ ts) g p = (member_grown prefixes new names n t g p.0, members_grown prefixes new names ns ts g p.1)
+members_grown prefixes new names ns ts g p = absurd p
 
 members_push : (prefixes : List PlainPrefix) (names : List (List ℕ)) (ns : List ℕ) (ts : List (List ℕ)) (n : ℕ) (t : List ℕ) → AreMembers prefixes names ns ts → IsMember prefixes names n t → AreMembers prefixes names (ns ++ n ∷ []) (ts ++ t ∷ [])
 members_push prefixes names [] [] n t p q = (q, tt)
-members_push prefixes names [] (u ∷ ts) n t p q = absurd p
-members_push prefixes names (m ∷ ns) [] n t p q = absurd p
 members_push prefixes names (m ∷ ns) (u ∷ ts) n t p q = (p.0, members_push prefixes names ns ts n t p.1 q)
+members_push prefixes names ns ts n t p q = absurd p
 
 pub adds_nothing : (prefixes : List PlainPrefix) (names : List (List ℕ)) → AddsMembers prefixes prefixes names [] []
 adds_nothing prefixes names = record { grows = grows_none prefixes; members = tt }
@@ -94,10 +92,9 @@ module _ (prefixes : List PlainPrefix) (names : List (List ℕ)) where
   module _ (ports : List Port) (named : names ≡ map (λ (port : Port). port.name) ports) where
     plug_joins_say : (n : ℕ) (t : List ℕ) (ms : List ℕ) (us : List (List ℕ)) → IsMember prefixes names n t → AreMembers prefixes names ms us → map (link_at prefixes) (plug_joins ports ms n) ≡ plug_links ports us t
     plug_joins_say n t [] [] p q = refl
-    plug_joins_say n t [] (u ∷ us) p q = absurd q
-    plug_joins_say n t (m ∷ ms) [] p q = absurd q
     plug_joins_say n t (m ∷ ms) (u ∷ us) p q =
         map-append (link_at prefixes) (member_joins n m 0 ports) (plug_joins ports ms n) ∙ (λ i. member_joins_say [] ports 0 n m t u refl named p q.0 i ++ plug_joins_say n t ms us p q.1 i)
+    plug_joins_say n t ms us p q = absurd q
 
     plug_joins_below : (n : ℕ) (ms : List ℕ) (us : List (List ℕ)) → n < length prefixes → AreMembers prefixes names ms us → All (IsJoinBelow (length prefixes)) (plug_joins ports ms n)
     plug_joins_below n [] us lt q = All-nil (IsJoinBelow (length prefixes))

@@ -1,5 +1,6 @@
 -- What stands in front of a path, place by place.
-use Rattle.std.proofs.Common.{ℕ, zero, suc, ◌≡◌, ◌==◌, Bool, true, false, cond, List, [], ◌∷◌, ◌++◌, Option, Some, None, refl, sym, ◌∙◌, ap, take, get_or, length, map, append_assoc, append-nil}
+use Rattle.std.proofs.Common.{ℕ, zero, suc, ◌≡◌, ◌==◌, true, false, cond, List, [], ◌∷◌, ◌++◌, Option, Some, None, refl, sym, ◌∙◌, ap, take, get_or, length, map, append_assoc, append-nil, arith}
+use Rattle.std.proofs.lemmas.List.{map-append}
 use Rattle.std.specs.Option.{option_or}
 use Rattle.fb_network.specs.Prefixes.{prefixes, last_there, nearest}
 
@@ -12,16 +13,8 @@ abbrev pub cuts_below : List ℕ → ℕ → List (List ℕ)
 cuts_below path zero = []
 cuts_below path (suc k) = cuts_below path k ++ cut_at path k
 
-map-append : {X Y : Type 0} (f : X → Y) (xs ys : List X) → map f (xs ++ ys) ≡ map f xs ++ map f ys
-map-append f [] ys = refl
-map-append f (x ∷ xs) ys = ap (λ l. f x ∷ l) (map-append f xs ys)
-
 cut_later : (b : ℕ) (bs : List ℕ) (k : ℕ) → cut_at (b ∷ bs) (suc k) ≡ map (λ prefix. b ∷ prefix) (cut_at bs k)
-cut_later b bs k = by_test (get_or bs k 0 == 46)
-  where
-    by_test : (t : Bool) → cond t ((b ∷ take k bs) ∷ []) [] ≡ map (λ prefix. b ∷ prefix) (cond t (take k bs ∷ []) [])
-    by_test true = refl
-    by_test false = refl
+cut_later b bs k = grind arith
 
 cuts_later : (b : ℕ) (bs : List ℕ) (k : ℕ) → cuts_below (b ∷ bs) (suc k) ≡ cut_at (b ∷ bs) 0 ++ map (λ prefix. b ∷ prefix) (cuts_below bs k)
 cuts_later b bs zero = sym (append-nil (cut_at (b ∷ bs) 0))
@@ -40,17 +33,9 @@ prefixes_are (b ∷ bs) =
     ∙ sym (append_assoc (cut_at (b ∷ bs) 0) (map (λ prefix. b ∷ prefix) (cuts_below bs (length bs))) ((b ∷ bs) ∷ []))
     ∙ ap (λ (l : List (List ℕ)). l ++ (b ∷ bs) ∷ []) (sym (cuts_later b bs (length bs)))
 
-option_or-assoc : {X : Type 0} (a b c : Option X) → option_or (option_or a b) c ≡ option_or a (option_or b c)
-option_or-assoc None b c = refl
-option_or-assoc (Some x) b c = refl
-
-option_or-none : {X : Type 0} (o : Option X) → option_or o None ≡ o
-option_or-none None = refl
-option_or-none (Some x) = refl
-
 last_there-append : {X : Type 0} (os ps : List (Option X)) → last_there (os ++ ps) ≡ option_or (last_there ps) (last_there os)
-last_there-append [] ps = sym (option_or-none (last_there ps))
-last_there-append (o ∷ os) ps = ap (λ (p : Option _). option_or p o) (last_there-append os ps) ∙ option_or-assoc (last_there ps) (last_there os) o
+last_there-append [] ps = grind arith
+last_there-append (o ∷ os) ps = grind (arith, last_there-append os ps)
 
 -- what the longest prefix that ends at a point before a place has, of those that have something
 abbrev pub nearest_below : {X : Type 0} → (List ℕ → Option X) → List ℕ → ℕ → Option X
@@ -77,21 +62,12 @@ below_step at path k =
 
 -- no prefix ends here
 pub below_no_point : {X : Type 0} (at : List ℕ → Option X) (path : List ℕ) (k : ℕ) → (get_or path k 0 == 46) ≡ false → nearest_below at path (suc k) ≡ nearest_below at path k
-below_no_point at path k e =
-    below_step at path k
-    ∙ ap (λ (t : Bool). option_or (last_there (map at (cond t (take k path ∷ []) []))) (nearest_below at path k)) e
+below_no_point at path k e = grind (arith, below_step at path k)
 
 -- the prefix that ends here has nothing
 pub below_nothing : {X : Type 0} (at : List ℕ → Option X) (path : List ℕ) (k : ℕ) → at (take k path) ≡ None → nearest_below at path (suc k) ≡ nearest_below at path k
-below_nothing {X = X} at path k e = below_step at path k ∙ by_test (get_or path k 0 == 46)
-  where
-    by_test : (t : Bool) → option_or (last_there (map at (cond t (take k path ∷ []) []))) (nearest_below at path k) ≡ nearest_below at path k
-    by_test true = ap (λ (o : Option X). option_or o (nearest_below at path k)) e
-    by_test false = refl
+below_nothing at path k e = grind (arith, below_step at path k)
 
 -- the prefix that ends here has something
 pub below_here : {X : Type 0} (at : List ℕ → Option X) (path : List ℕ) (k : ℕ) (x : X) → (get_or path k 0 == 46) ≡ true → at (take k path) ≡ Some x → nearest_below at path (suc k) ≡ Some x
-below_here {X = X} at path k x p e =
-    below_step at path k
-    ∙ ap (λ (t : Bool). option_or (last_there (map at (cond t (take k path ∷ []) []))) (nearest_below at path k)) p
-    ∙ ap (λ (o : Option X). option_or o (nearest_below at path k)) e
+below_here at path k x p e = grind (arith, below_step at path k)

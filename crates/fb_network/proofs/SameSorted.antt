@@ -18,6 +18,12 @@ rises_head {X = X} R x xs z h (k, lt, e) = subst (λ (w : X). R x w ≡ Less) e 
 not_both : {X : Type 0} {R : X → X → Ordering} (o : IsTotalOrder R) (x y : X) → R x y ≡ Less → R y x ≡ Less → ⊥
 not_both o x y p q = let k = o.antisymm x y in let r : ordering_reverse Less ≡ Greater = refl in let s = ap ordering_reverse q in cc
 
+later_only : {X : Type 0} {R : X → X → Ordering} → IsTotalOrder R → (u v z : X) (us : List X) → u ≡ v → R u z ≡ Less → (v ≡ z) ⊎ Contains us z → Contains us z
+later_only o u v z us h l (inr d) = d
+later_only {X = X} {R = R} o u v z us h l (inl e) =
+    let itself : R u u ≡ Less = subst (λ (w : X). R u w ≡ Less) (sym (h ∙ e)) l in
+    absurd (not_both o u u itself itself)
+
 same_rising : {X : Type 0} {R : X → X → Ordering} → IsTotalOrder R → (xs ys : List X) → Rises R xs → Rises R ys → ((z : X) → Contains xs z → Contains ys z) → ((z : X) → Contains ys z → Contains xs z) → xs ≡ ys
 same_rising o [] [] p q f g = refl
 same_rising o [] (y ∷ ys) p q f g = absurd (contains_nothing y (g y (contains_here y ys)))
@@ -26,22 +32,14 @@ same_rising {X = X} {R = R} o (x ∷ xs) (y ∷ ys) p q f g =
     let heads : x ≡ y = same_heads (contains_cases y ys x (f x (contains_here x xs))) (contains_cases x xs y (g y (contains_here y ys))) in
     let tails : xs ≡ ys =
     same_rising o xs ys (rises_tail R x xs p) (rises_tail R y ys q)
-    (λ z c. onward z heads (rises_head R x xs z p c) (contains_cases y ys z (f z (contains_later x xs z c))))
-    (λ z c. back z heads (rises_head R y ys z q c) (contains_cases x xs z (g z (contains_later y ys z c)))) in
+    (λ z c. later_only o x y z ys heads (rises_head R x xs z p c) (contains_cases y ys z (f z (contains_later x xs z c))))
+    (λ z c. later_only o y x z xs (sym heads) (rises_head R y ys z q c) (contains_cases x xs z (g z (contains_later y ys z c)))) in
     cc
   where
     same_heads : (y ≡ x) ⊎ Contains ys x → (x ≡ y) ⊎ Contains xs y → x ≡ y
     same_heads (inl e) c = sym e
     same_heads (inr d) (inl e) = e
     same_heads (inr d) (inr c) = absurd (not_both o x y (rises_head R x xs y p c) (rises_head R y ys x q d))
-
-    onward : (z : X) → x ≡ y → R x z ≡ Less → (y ≡ z) ⊎ Contains ys z → Contains ys z
-    onward z h l (inr d) = d
-    onward z h l (inl e) = let same : x ≡ z = h ∙ e in absurd (not_both o x x (subst (λ (w : X). R x w ≡ Less) (sym same) l) (subst (λ (w : X). R x w ≡ Less) (sym same) l))
-
-    back : (z : X) → x ≡ y → R y z ≡ Less → (x ≡ z) ⊎ Contains xs z → Contains xs z
-    back z h l (inr d) = d
-    back z h l (inl e) = let same : y ≡ z = sym h ∙ e in absurd (not_both o y y (subst (λ (w : X). R y w ≡ Less) (sym same) l) (subst (λ (w : X). R y w ≡ Less) (sym same) l))
 
 -- so the links and the borders of a network are one list each
 pub same_sorted : {X : Type 0} {R : X → X → Ordering} → IsTotalOrder R → (xs ys : List X) → IsStrictlySortedBy R xs → IsStrictlySortedBy R ys → ((z : X) → Contains xs z → Contains ys z) → ((z : X) → Contains ys z → Contains xs z) → xs ≡ ys

@@ -1,10 +1,10 @@
 -- What is sorted by what it says, and then deduplicated, says each thing once, in order.
-use Rattle.std.proofs.Common.{◌≡◌, Bool, true, List, [], ◌∷◌, map, refl, sym, subst, ◌∙◌}
+use Rattle.std.proofs.Common.{◌≡◌, Bool, true, List, [], ◌∷◌, length, map, refl, sym, subst, ◌∙◌}
 use Rattle.std.proofs.lemmas.List.Elements.{All-contains, All-contains_itself, All-weaker}
 use Rattle.std.proofs.lemmas.List.Kept.{Any-dedup, Contains-from_dedup, IsStrictlySortedBy-dedup}
-use Rattle.std.proofs.lemmas.List.Sorted.{Contains-permutation, IsPermutation-sym}
+use Rattle.std.proofs.lemmas.{List.Sorted.{Contains-permutation, IsPermutation-sym}, Map.Keys.{sorted_from_all_adjacent}}
 use Rattle.std.specs.{declared.cmp.Ordering.{Ordering}, declared.cmp.Ordering.TheVariants.{Less}, Ordering.{eq_by_cmp, is_lt, on}}
-use Rattle.std.specs.{Cmp.{IsTotalOrder, eq_by_cmp_equiv, on_total}, List.{All, AllByRecursion, Contains, dedup}}
+use Rattle.std.specs.{Cmp.{IsTotalOrder, eq_by_cmp_equiv, on_total}, List.{All, AllAdjacentBelow, AllByRecursion, Contains, dedup}}
 use Rattle.std.specs.List.Sorted.{IsPermutation, IsSortedBy, IsStrictlySortedBy}
 use Rattle.fb_tree.proofs.Text.Members.{contains_map, origin_in_map}
 use Rattle.fb_network.specs.Once.{IsOnce}
@@ -18,6 +18,15 @@ module _ {E X : Type 0} (says : E → X) (R : X → X → Ordering) where
   unfolding IsStrictlySortedBy
   strict_map [] p = tt
   strict_map (x ∷ xs) p = (below_map x xs p.0, strict_map xs p.1)
+
+  strict_from_adjacent : IsTotalOrder R → (es : List E) → AllAdjacentBelow (λ x y. R (says x) (says y) ≡ Less) es (length es) → IsStrictlySortedBy (on says R) es
+  unfolding IsStrictlySortedBy
+  strict_from_adjacent o [] a = tt
+  strict_from_adjacent o (x ∷ xs) a = sorted_from_all_adjacent (on_total says o) (x ∷ xs) x (λ k h. a k x h)
+
+  -- what is in order, each once, is left as it is
+  pub risen_once : IsTotalOrder R → (es : List E) → AllAdjacentBelow (λ x y. R (says x) (says y) ≡ Less) es (length es) → IsOnce says R es es
+  risen_once o es a = record { sorted = strict_map es (strict_from_adjacent o es a); kept = λ x c. c; left = λ e c. c }
 
   module _ (o : IsTotalOrder R) (exact : (x y : X) → eq_by_cmp R x y ≡ true → x ≡ y) where
     abbrev same : E → E → Bool

@@ -16,42 +16,11 @@ use Rattle.fb_network.proofs.{Drafts.{added}, Equals.{same_bytes}, Readings.{edg
 
 -- a new name is put
 pub put_new : (old new : List ℕ → Option Standing) (s : Standing) → is_some (old s.instance.name) ≡ false → ((q : List ℕ) → new q ≡ cond (is_at (name_cmp s.instance.name) q) (Some s) (old q)) → (q : List ℕ) → new q ≡ or_alone s q (old q)
-put_new old new s gone updates q = updates q ∙ by_test (is_at (name_cmp s.instance.name) q) refl
-  where
-    none_there : is_at (name_cmp s.instance.name) q ≡ true → old q ≡ None
-    none_there e = by_found (old q) refl
-      where
-        by_found : (o : Option Standing) → old q ≡ o → old q ≡ None
-        by_found None h = h
-        by_found (Some t) h =
-            let here : is_some (old q) ≡ false = subst (λ (n : List ℕ). is_some (old n) ≡ false) (same_bytes s.instance.name q e) gone in
-            let some = ap is_some h in absurd (cc)
-
-    by_test : (b : Bool) → is_at (name_cmp s.instance.name) q ≡ b → cond (is_at (name_cmp s.instance.name) q) (Some s) (old q) ≡ or_alone s q (old q)
-    by_test true e = by_cases (old q) refl (none_there e)
-      where
-        by_cases : (o : Option Standing) → old q ≡ o → old q ≡ None → cond (is_at (name_cmp s.instance.name) q) (Some s) o ≡ or_alone s q o
-        by_cases None h n = refl
-        by_cases (Some t) h n = absurd (cc)
-    by_test false e = by_cases (old q)
-      where
-        by_cases : (o : Option Standing) → cond (is_at (name_cmp s.instance.name) q) (Some s) o ≡ or_alone s q o
-        by_cases None = refl
-        by_cases (Some t) = ap (λ (b : Bool). cond b (Some s) (Some t)) e
+put_new old new s gone updates q = grind (arith, updates q, same_bytes s.instance.name q)
 
 -- a name that is there stays
 pub put_kept : (old : List ℕ → Option Standing) (s : Standing) → is_some (old s.instance.name) ≡ true → (q : List ℕ) → old q ≡ or_alone s q (old q)
-put_kept old s there q = by_cases (old q) refl
-  where
-    by_cases : (o : Option Standing) → old q ≡ o → o ≡ or_alone s q o
-    by_cases (Some t) h = refl
-    by_cases None h = by_test (is_at (name_cmp s.instance.name) q) refl
-      where
-        by_test : (b : Bool) → is_at (name_cmp s.instance.name) q ≡ b → None ≡ cond (is_at (name_cmp s.instance.name) q) (Some s) None
-        by_test true e =
-            let here : is_some (old q) ≡ true = subst (λ (n : List ℕ). is_some (old n) ≡ true) (same_bytes s.instance.name q e) there in
-            let none = ap is_some h in absurd (cc)
-        by_test false e = ap (λ (b : Bool). cond b (Some s) None) (sym e)
+put_kept old s there q = grind (arith, same_bytes s.instance.name q)
 
 pub says_grown : {prefixes new : List PlainPrefix} {place : Place} {text : List ℕ} → Grows prefixes new → Says prefixes place text → Says new place text
 says_grown {prefixes = prefixes} {place = place} {text = text} g s =
@@ -127,11 +96,7 @@ holds_nothing {nets = nets} draft table no_blocks no_links none =
 
 named_push : (xs : List Instance) (i : Instance) (name : List ℕ) → instance_named (xs ++ i ∷ []) name ≡ or_instance i name (instance_named xs name)
 named_push [] i name = refl
-named_push (x ∷ xs) i name = by_test (is_at (name_cmp x.name) name) (named_push xs i name)
-  where
-    by_test : (b : Bool) → instance_named (xs ++ i ∷ []) name ≡ or_instance i name (instance_named xs name) → cond b (Some x) (instance_named (xs ++ i ∷ []) name) ≡ or_instance i name (cond b (Some x) (instance_named xs name))
-    by_test true e = refl
-    by_test false e = e
+named_push (x ∷ xs) i name = grind (arith, named_push xs i name)
 
 stands_more : (nets : Nets) (prefixes new : List PlainPrefix) (s : Standing) (i : Instance) (q : List ℕ) → Grows prefixes new → s.instance ≡ i → AreEdges new s.borders.items (inner_borders nets i) → (a : Option Standing) (b : Option Instance) → StandsFor prefixes nets a b → StandsFor new nets (or_alone s q a) (or_instance i q b)
 stands_more nets prefixes new s i q g same edges None None p =
@@ -140,9 +105,8 @@ stands_more nets prefixes new s i q g same edges None None p =
     by_test : (b : Bool) → StandsFor new nets (cond b (Some s) None) (cond b (Some i) None)
     by_test true = (same, edges)
     by_test false = tt
-stands_more nets prefixes new s i q g same edges None (Some x) p = absurd p
-stands_more nets prefixes new s i q g same edges (Some t) None p = absurd p
 stands_more nets prefixes new s i q g same edges (Some t) (Some x) p = (p.0, edges_grown g p.1)
+stands_more nets prefixes new s i q g same edges a b p = absurd p
 
 pub flat_map_push : {A B : Type 0} (f : A → List B) (xs : List A) (x : A) → flat_map f (xs ++ x ∷ []) ≡ flat_map f xs ++ f x
 flat_map_push f xs x = flat_map-append f xs (x ∷ []) ∙ ap (λ (bs : List _). flat_map f xs ++ bs) (flat_map-cons f x [] ∙ append-nil (f x))
@@ -170,6 +134,5 @@ table_grown prefixes new nets table xs g is = λ name. by_found name (table name
   where
     by_found : (name : List ℕ) (a : Option Standing) (b : Option Instance) → StandsFor prefixes nets a b → StandsFor new nets a b
     by_found name None None p = tt
-    by_found name None (Some x) p = absurd p
-    by_found name (Some t) None p = absurd p
     by_found name (Some t) (Some x) p = (p.0, edges_grown g p.1)
+    by_found name a b p = absurd p

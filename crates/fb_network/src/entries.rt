@@ -1,13 +1,13 @@
 //! Blocks, links and borders by numbers.
-ghost use Rattle.std.specs.Prelude.{◌≡◌, ◌++◌, IfOk, OnOk, map};
+ghost use Rattle.std.specs.{Prelude.{◌≡◌, ◌++◌, IfOk, OnOk, map}, Ordering.{eq_by_cmp}};
 ghost use Rattle.fb_network.specs.{Laid.{block_at, border_at, edge_moved, join_moved, leaf_moved, link_at}, LinkOrder.{border_cmp, link_cmp}};
 
 use crate::flat::{Border, FlatBlock, Link};
-use crate::network::sort_number;
-use crate::place::{Place, compare_places, moved, path_of};
+use crate::network::{is_same_sort, sort_number};
+use crate::place::{Place, compare_places, is_same_place, moved, path_of};
 use crate::prefix::Prefix;
 use fb_tree::Sort;
-use fb_tree::text::Name;
+use fb_tree::text::{Name, same_name};
 use std::alloc::{AllocError, Global};
 use std::cmp::Ordering;
 
@@ -78,22 +78,44 @@ pub fn edges_moved(alloc: Global, by: u32, inner: &[Edge]) -> Result<Vec<Edge>, 
     Ok(edges)
 }
 
-/// The order of two links by sort and paths, each among prefixes of its own.
-pub fn compare_joins(prefixes: &[Prefix], a: &Join, others: &[Prefix], b: &Join) -> Ordering
-    ensures { result ≡ link_cmp (link_at prefixes.now a.now) (link_at others.now b.now) }
+/// The order of two links by sort and paths.
+pub fn compare_joins(prefixes: &[Prefix], a: &Join, b: &Join) -> Ordering
+    ensures { result ≡ link_cmp (link_at prefixes.now a.now) (link_at prefixes.now b.now) }
 {
     let sorts = sort_number(a.sort).cmp(&sort_number(b.sort));
-    let froms = sorts.then_with(|| compare_places(prefixes, &a.from, others, &b.from));
-    froms.then_with(|| compare_places(prefixes, &a.to, others, &b.to))
+    let froms = sorts.then_with(|| compare_places(prefixes, &a.from, &b.from));
+    froms.then_with(|| compare_places(prefixes, &a.to, &b.to))
 }
 
-/// The order of two borders by sort, port and path, each among prefixes of its own.
-pub fn compare_edges(prefixes: &[Prefix], a: &Edge, others: &[Prefix], b: &Edge) -> Ordering
-    ensures { result ≡ border_cmp (border_at prefixes.now a.now) (border_at others.now b.now) }
+/// The order of two borders by sort, port and path.
+pub fn compare_edges(prefixes: &[Prefix], a: &Edge, b: &Edge) -> Ordering
+    ensures { result ≡ border_cmp (border_at prefixes.now a.now) (border_at prefixes.now b.now) }
 {
     let sorts = sort_number(a.sort).cmp(&sort_number(b.sort));
     let ports = sorts.then_with(|| a.port.cmp(&b.port));
-    ports.then_with(|| compare_places(prefixes, &a.place, others, &b.place))
+    ports.then_with(|| compare_places(prefixes, &a.place, &b.place))
+}
+
+/// Whether two links, each among prefixes of its own, say the same. Links in order differ more often in where they end.
+#[tactic(auto, using(crate::proofs::Tellings::tellings))]
+pub fn is_equal_join(prefixes: &[Prefix], a: &Join, others: &[Prefix], b: &Join) -> bool
+    ensures { result
+        ≡ eq_by_cmp link_cmp (link_at prefixes.now a.now) (link_at others.now b.now) }
+{
+    is_same_sort(a.sort, b.sort)
+        && is_same_place(prefixes, &a.to, others, &b.to)
+        && is_same_place(prefixes, &a.from, others, &b.from)
+}
+
+/// Whether two borders, each among prefixes of its own, say the same.
+#[tactic(auto, using(crate::proofs::Tellings::tellings))]
+pub fn is_equal_edge(prefixes: &[Prefix], a: &Edge, others: &[Prefix], b: &Edge) -> bool
+    ensures { result
+        ≡ eq_by_cmp border_cmp (border_at prefixes.now a.now) (border_at others.now b.now) }
+{
+    is_same_sort(a.sort, b.sort)
+        && is_same_place(prefixes, &a.place, others, &b.place)
+        && same_name(&a.port, &b.port)
 }
 
 /// The blocks in plain.

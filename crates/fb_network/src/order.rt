@@ -1,17 +1,31 @@
 //! Entries in order, each once.
-ghost use Rattle.std.specs.Prelude.{OnOk};
+ghost use Rattle.std.specs.Prelude.{IsTrue, OnOk};
 ghost use Rattle.fb_network.specs.{Laid.{border_at, link_at}, LinkOrder.{border_cmp, link_cmp}, Once.{IsOnce}};
 
-use crate::entries::{Edge, Join, compare_edges, compare_joins};
+use crate::entries::{Edge, Join, compare_edges, compare_joins, is_equal_edge, is_equal_join};
 use crate::prefix::Prefix;
 use std::alloc::AllocError;
 
-/// Sorts links by what they say, and leaves each once.
+/// Whether each link is below the next.
+fn joins_rise(prefixes: &[Prefix], joins: &[Join]) -> bool
+    ensures { IsTrue result → IsOnce (link_at prefixes.now) link_cmp joins.now joins.now }
+{
+    for i in 1..joins.len() {
+        if !compare_joins(prefixes, &joins[i - 1], &joins[i]).is_lt() {
+            return false;
+        }
+    }
+    true
+}
+
+/// Sorts links by what they say, and leaves each once. Those of a network inside one instance are in order already.
 pub fn sort_joins(prefixes: &[Prefix], joins: &mut Vec<Join>) -> Result<(), AllocError>
     ensures { OnOk result (IsOnce (link_at prefixes.now) link_cmp joins.old.items joins.new.items) }
 {
-    joins.sort_by(|a, b| compare_joins(prefixes, a, prefixes, b))?;
-    joins.dedup_by(|a, b| compare_joins(prefixes, a, prefixes, b).is_eq());
+    if !joins_rise(prefixes, joins.as_slice()) {
+        joins.sort_by(|a, b| compare_joins(prefixes, a, b))?;
+        joins.dedup_by(|a, b| is_equal_join(prefixes, a, prefixes, b));
+    }
     Ok(())
 }
 
@@ -20,7 +34,7 @@ pub fn sort_edges(prefixes: &[Prefix], edges: &mut Vec<Edge>) -> Result<(), Allo
     ensures { OnOk result
         (IsOnce (border_at prefixes.now) border_cmp edges.old.items edges.new.items) }
 {
-    edges.sort_by(|a, b| compare_edges(prefixes, a, prefixes, b))?;
-    edges.dedup_by(|a, b| compare_edges(prefixes, a, prefixes, b).is_eq());
+    edges.sort_by(|a, b| compare_edges(prefixes, a, b))?;
+    edges.dedup_by(|a, b| is_equal_edge(prefixes, a, prefixes, b));
     Ok(())
 }

@@ -1,9 +1,9 @@
 //! Places: paths by numbers.
-ghost use Rattle.std.specs.Prelude.{◌≡◌, ◌≤◌, ◌^◌, ◌++◌, IfOk, OnErr};
+ghost use Rattle.std.specs.{Prelude.{◌≡◌, ◌≤◌, ◌^◌, ◌++◌, IfOk, OnErr}, Ordering.{eq_by_cmp}};
 ghost use Rattle.fb_tree.specs.Text.Order.{name_cmp};
 ghost use Rattle.fb_network.specs.Laid.{path_at, place_moved};
 
-use crate::compare::compare_parts;
+use crate::compare::{compare_parts, is_same_text};
 use crate::path::Path;
 use crate::prefix::Prefix;
 use std::alloc::{AllocError, Global};
@@ -34,13 +34,28 @@ pub fn path_of(alloc: Global, prefixes: &[Prefix], place: &Place) -> Result<Path
     Path::of_parts(alloc, start, end)
 }
 
-/// The order of the paths at two places, each among prefixes of its own.
-pub fn compare_places(prefixes: &[Prefix], a: &Place, others: &[Prefix], b: &Place) -> Ordering
-    ensures { result ≡ name_cmp (path_at prefixes.now a.now) (path_at others.now b.now) }
+/// The order of the paths at two places. Those of one prefix differ in their ends alone.
+pub fn compare_places(prefixes: &[Prefix], a: &Place, b: &Place) -> Ordering
+    ensures { result ≡ name_cmp (path_at prefixes.now a.now) (path_at prefixes.now b.now) }
+{
+    if a.prefix == b.prefix {
+        return match prefixes.get(a.prefix as usize) {
+            Some(prefix) => prefix.compare_ends(a.end, b.end),
+            None => Ordering::Equal,
+        };
+    }
+    let (start, end) = parts_at(prefixes, a);
+    let (other_start, other_end) = parts_at(prefixes, b);
+    compare_parts(start, end, other_start, other_end)
+}
+
+/// Whether the paths at two places, each among prefixes of its own, are equal.
+pub fn is_same_place(prefixes: &[Prefix], a: &Place, others: &[Prefix], b: &Place) -> bool
+    ensures { result ≡ eq_by_cmp name_cmp (path_at prefixes.now a.now) (path_at others.now b.now) }
 {
     let (start, end) = parts_at(prefixes, a);
     let (other_start, other_end) = parts_at(others, b);
-    compare_parts(start, end, other_start, other_end)
+    is_same_text(start, end, other_start, other_end)
 }
 
 /// The place with `by` added to the number of its prefix.

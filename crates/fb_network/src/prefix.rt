@@ -1,10 +1,12 @@
 //! Prefixes, and paths in two parts.
-ghost use Rattle.std.specs.Prelude.{◌≡◌, ◌++◌, IfOk};
-ghost use Rattle.fb_network.specs.Laid.{prefix_within, path_of_end};
+ghost use Rattle.std.specs.Prelude.{◌≡◌, ◌++◌, IfOk, slice_get};
+ghost use Rattle.fb_tree.specs.Text.Order.{name_cmp};
+ghost use Rattle.fb_network.specs.Laid.{prefix_within, path_of_end, text_or_nothing};
 
 use crate::path::Path;
 use fb_tree::text::Name;
 use std::alloc::{AllocError, Global};
+use std::cmp::Ordering;
 use std::marker::Model;
 use std::sync::Arc;
 
@@ -31,14 +33,32 @@ impl Prefix {
         Prefix { start, ends }
     }
 
-    /// The two parts of the path of an end. An end that the prefix has not is no text.
+    /// The text of an end. An end that the prefix has not is no text.
+    fn end_text(&self, end: u32) -> &str
+        ensures { result.now ≡ text_or_nothing (slice_get self.now.ends end) }
+    {
+        match self.ends.get(end as usize) {
+            Some(text) => text.as_str(),
+            None => "",
+        }
+    }
+
+    /// The two parts of the path of an end.
     pub fn parts(&self, end: u32) -> (&str, &str)
         ensures { result.0.now ++ result.1.now ≡ path_of_end self.now end }
     {
-        match self.ends.get(end as usize) {
-            Some(text) => (self.start.as_str(), text.as_str()),
-            None => (self.start.as_str(), ""),
+        (self.start.as_str(), self.end_text(end))
+    }
+
+    /// The order of the paths of two ends.
+    #[tactic(auto, using(crate::proofs::Tellings::ends))]
+    pub fn compare_ends(&self, a: u32, b: u32) -> Ordering
+        ensures { result ≡ name_cmp (path_of_end self.now a) (path_of_end self.now b) }
+    {
+        if a == b {
+            return Ordering::Equal;
         }
+        self.end_text(a).cmp(self.end_text(b))
     }
 
     /// This prefix, inside the instance of that name.

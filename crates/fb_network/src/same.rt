@@ -2,28 +2,27 @@
 ghost use Rattle.std.specs.Prelude.{◌≡◌, ◌↔◌, IsTrue, map};
 ghost use Rattle.fb_network.specs.Laid.{block_at, border_at, link_at};
 
-use crate::entries::{Edge, Join, Leaf, compare_edges, compare_joins};
-use crate::place::compare_places;
+use crate::entries::{Edge, Join, Leaf, is_equal_edge, is_equal_join};
+use crate::place::is_same_place;
 use crate::prefix::Prefix;
 use fb_tree::text::same_name;
 
 fn is_same_leaf(prefixes: &[Prefix], a: &Leaf, others: &[Prefix], b: &Leaf) -> bool
     ensures { IsTrue result ↔ (block_at prefixes.now a.now ≡ block_at others.now b.now) }
 {
-    compare_places(prefixes, &a.place, others, &b.place).is_eq()
-        && same_name(&a.type_name, &b.type_name)
+    is_same_place(prefixes, &a.place, others, &b.place) && same_name(&a.type_name, &b.type_name)
 }
 
 fn is_same_join(prefixes: &[Prefix], a: &Join, others: &[Prefix], b: &Join) -> bool
     ensures { IsTrue result ↔ (link_at prefixes.now a.now ≡ link_at others.now b.now) }
 {
-    compare_joins(prefixes, a, others, b).is_eq()
+    is_equal_join(prefixes, a, others, b)
 }
 
 fn is_same_edge(prefixes: &[Prefix], a: &Edge, others: &[Prefix], b: &Edge) -> bool
     ensures { IsTrue result ↔ (border_at prefixes.now a.now ≡ border_at others.now b.now) }
 {
-    compare_edges(prefixes, a, others, b).is_eq()
+    is_equal_edge(prefixes, a, others, b)
 }
 
 /// The same blocks, each list among prefixes of its own.

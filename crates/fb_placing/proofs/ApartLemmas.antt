@@ -1,45 +1,11 @@
 -- Blocks none of which stands inside another one.
-use Rattle.std.proofs.Common.{ℕ, ◌≡◌, ◌<◌, ◌+◌, ◌==◌, ◌⊎◌, inl, inr, Bool, true, false, cond, List, [], ◌∷◌, ◌++◌, Option, Some, None, refl, sym, ◌∙◌, ap, subst, take, get_or, length, map, append_assoc, arith}
-use Rattle.std.proofs.{lemmas.Bool.Decides.{Decides-eqb}, lemmas.List.{map-append}}
+use Rattle.std.proofs.Common.{ℕ, ◌≡◌, ◌<◌, ◌+◌, ◌==◌, ◌⊎◌, inl, inr, Bool, true, false, cond, List, [], ◌∷◌, ◌++◌, Option, Some, None, refl, sym, ◌∙◌, ap, subst, take, get_or, length, append_assoc, arith}
+use Rattle.std.proofs.{lemmas.Bool.Decides.{Decides-eqb}}
 use Rattle.std.specs.{Prelude.{nat_eq, slice_index_or}, Option.{option_or}, Str.{bytes_eq}}
 use Rattle.fb_placing.specs.{Cuts.{home_at}, Points.{AreApart, HasNoPoint, IsInside}, declared.homes.Home.{Home}}
-use Rattle.fb_network.specs.Prefixes.{IsPrefix, IsNearest, prefixes, last_there, nearest}
-use Rattle.fb_placing.proofs.{FirstEntryLemmas.{first_at-push}, InsideLemmas.{prefixes_inside, nearest_inside}, ListLemmas.{one_more}, TableLemmas.{same_text}}
+use Rattle.fb_network.specs.Prefixes.{IsPrefix, IsNearest, nearest}
+use Rattle.fb_placing.proofs.{FirstEntryLemmas.{first_at-push}, InsideLemmas.{nearest_inside}, ListLemmas.{one_more}, TableLemmas.{same_text}}
 use Rattle.fb_network.proofs.{PrefixLemmas.{nearest_here}, NearestLemmas.{is_nearest}}
-
--- a name is its own prefix, and has no other
-one_prefix : (name : List ℕ) → HasNoPoint name → prefixes name ≡ name ∷ []
-unfolding prefixes
-one_prefix [] none = refl
-one_prefix (b ∷ bs) none =
-    (λ i. cond (none.0 i) ([] ∷ []) [] ++ map (λ (prefix : List ℕ). b ∷ prefix) (one_prefix bs none.1 i))
-
-last_more : {X : Type 0} (os : List (Option X)) (o : Option X) → last_there (os ++ o ∷ []) ≡ option_or o (last_there os)
-last_more [] None = refl
-last_more [] (Some x) = refl
-last_more {X = X} (p ∷ os) o = ap (λ (q : Option X). option_or q p) (last_more os o) ∙ grouped o (last_there os)
-  where
-    grouped : (a b : Option X) → option_or (option_or a b) p ≡ option_or a (option_or b p)
-    grouped None b = refl
-    grouped (Some x) b = refl
-
--- what is nearest to a path in two parts is what the path stands for, or else what is nearest to the first part
-pub nearest_parted : {X : Type 0} (at : List ℕ → Option X) (outer name : List ℕ) → HasNoPoint name → nearest at (outer ++ 46 ∷ name) ≡ option_or (at (outer ++ 46 ∷ name)) (nearest at outer)
-unfolding nearest
-nearest_parted at outer name none =
-    ap (λ (fs : List (List ℕ)). last_there (map at fs))
-    (prefixes_inside outer name ∙ ap (λ (fs : List (List ℕ)). prefixes outer ++ map (λ (prefix : List ℕ). outer ++ 46 ∷ prefix) fs) (one_prefix name none))
-    ∙ ap last_there (map-append at (prefixes outer) ((outer ++ 46 ∷ name) ∷ []))
-    ∙ last_more (map at (prefixes outer)) (at (outer ++ 46 ∷ name))
-
--- the home of what stands in a block
-pub apart_nearest : {X : Type 0} (at : List ℕ → Option X) (path outer name : List ℕ) (x : X) → AreApart at → path ≡ outer ++ 46 ∷ name → HasNoPoint name → at outer ≡ Some x → nearest at path ≡ Some x
-apart_nearest {X = X} at path outer name x apart e none there =
-    ap (nearest at) e ∙ nearest_parted at outer name none ∙ by_whole (at (outer ++ 46 ∷ name)) refl
-  where
-    by_whole : (o : Option X) → at (outer ++ 46 ∷ name) ≡ o → option_or o (nearest at outer) ≡ Some x
-    by_whole None f = nearest_here at outer x there
-    by_whole (Some y) f = absurd (let nothing = sym (apart outer name y none f) ∙ nearest_here at outer x there in let no : ⊥ = cc in no)
 
 no_point_inside : (outer name : List ℕ) → HasNoPoint (outer ++ 46 ∷ name) → ⊥
 no_point_inside [] name none = let point = none.0 in let no : ⊥ = cc in no

@@ -1,11 +1,11 @@
 //! The homes of the ends of links. Those of links beside each other are often in one block.
-//! If no block is inside another one, which is looked up once for each plan, an end has the home of the block before its last point; otherwise each
-//! prefix is looked up, the longest first. Definitions allow any homes.
-ghost use Rattle.std.specs.Prelude.{◌≡◌, ◌++◌, IfOk, IsTrue, option_copied, string_bytes};
+//! If no block is inside another one, which is looked up once for each plan, an end has the home of the block before its last point or the one before
+//! that; otherwise each prefix is looked up, the longest first. Definitions allow any homes.
+ghost use Rattle.std.specs.Prelude.{◌≡◌, ◌++◌, IfOk, IfSome, IsTrue, Some, option_copied, string_bytes};
 ghost use Rattle.fb_network.specs.Prefixes.{nearest};
 ghost use Rattle.fb_placing.specs.{Points.{IsInside}, HomeTable.{IsKnown, home_by_path}};
 
-use crate::homes::table::{HomeTable, home_by_path, nearest_home};
+use crate::homes::table::{ByPath, HomeTable, home_by_path, nearest_home};
 use crate::paths::split::split_last;
 use crate::plan::text_parts::write_both;
 use fb_network::Path;
@@ -37,6 +37,26 @@ fn stands_in(start: &[u8], end: &[u8], block: &[u8]) -> bool
     first == name && rest[0] == b'.'
 }
 
+/// The block before one of the last two points of an end's path, and its home: an end is a port of a block, or of one of its plugs and sockets.
+fn block_before<'a, 'p>(by_path: &ByPath<'a>, path: &'p str) -> Option<(&'p str, &'a Path)>
+    ensures { IfSome result (λ it. IsInside path.now it.0.now
+        × (home_by_path by_path.now it.0.now ≡ Some it.1.now)) }
+{
+    let Some((outer, _)) = split_last(path) else {
+        return None;
+    };
+    if let Some(home) = home_by_path(by_path, outer) {
+        return Some((outer, home));
+    }
+    let Some((block, _)) = split_last(outer) else {
+        return None;
+    };
+    match home_by_path(by_path, block) {
+        Some(home) => Some((block, home)),
+        None => None,
+    }
+}
+
 impl<'a, 't> EndFinder<'a, 't> {
     /// No end was found yet.
     pub(crate) fn new(alloc: Global, homes: &'t HomeTable<'a>) -> EndFinder<'a, 't>
@@ -51,7 +71,7 @@ impl<'a, 't> EndFinder<'a, 't> {
     }
 
     /// The home of an end whose path was not looked up just before. If no block is inside another one, it is that of the block before
-    /// the last point, which is kept.
+    /// one of the last two points, which is kept.
     fn look_up(&mut self) -> Result<Option<&'a Path>, AllocError>
         ensures homes { self.new.homes.now ≡ self.old.homes.now }
         ensures found { IfOk result (λ found. option_copied found
@@ -59,14 +79,12 @@ impl<'a, 't> EndFinder<'a, 't> {
     {
         let homes = self.homes;
         if homes.apart {
-            if let Some((outer, _)) = split_last(self.text.as_str()) {
-                if let Some(found) = home_by_path(&homes.by_path, outer) {
-                    self.home = None;
-                    self.path.clear();
-                    self.path.push_str(outer)?;
-                    self.home = Some(found);
-                    return Ok(Some(found));
-                }
+            if let Some((block, home)) = block_before(&homes.by_path, self.text.as_str()) {
+                self.home = None;
+                self.path.clear();
+                self.path.push_str(block)?;
+                self.home = Some(home);
+                return Ok(Some(home));
             }
         }
         Ok(nearest_home(&homes.by_path, self.text.as_str()))

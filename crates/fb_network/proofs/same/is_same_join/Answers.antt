@@ -1,8 +1,6 @@
--- The entries compare equal where they say the same.
-use Rattle.std.proofs.Common.{ap, ◌∙◌}
-use Rattle.std.specs.Ordering.{is_eq}
+-- The test of both tells whether they say the same.
 use Rattle.fb_network.proofs.Alike.{one_link}
 use Rattle.fb_network.proofs.same.is_same_join.Goals as goal
 
 pub returns : goal.returns
-returns c = rw (c.is_eq.ensures ∙ ap is_eq c.compare_joins.ensures) (one_link _ _)
+returns c = rw c.is_equal_join.ensures (one_link _ _)
