@@ -62,9 +62,12 @@ impl Ord for Fault {
 
     fn cmp(&self, other: &Fault) -> Ordering {
         let start = self.span.start.cmp(&other.span.start);
+        if start.is_ne() {
+            return start;
+        }
         let end = self.span.end.cmp(&other.span.end);
         let number = self.code.number().cmp(&other.code.number());
-        start.then(end.then(number))
+        end.then(number)
     }
 }
 

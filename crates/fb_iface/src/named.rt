@@ -1,8 +1,9 @@
 //! What declares a name.
 ghost use Rattle.std.specs.Prelude.{◌≡◌};
 ghost use Rattle.fb_tree.specs.Text.declared.name.NameUse.{NameUse as Use};
+ghost use Rattle.fb_iface.specs.Names.{is_same};
 
-use fb_tree::text::WideUse;
+use fb_tree::text::{Name, WideUse, same_name};
 use fb_tree::{Algorithm, Application, Device, Event, Instance, Parameter, Resource, State};
 
 /// What declares a name.
@@ -12,6 +13,10 @@ pub trait Named {
     /// The name with the place of its declaration.
     fn name(&self) -> WideUse
         ensures { result ≡ name_of self.now };
+
+    /// Whether it declares this name.
+    fn is_named(&self, name: &Name) -> bool
+        ensures { result ≡ is_same (name_of self.now).name name.now };
 }
 
 impl Named for WideUse {
@@ -19,6 +24,10 @@ impl Named for WideUse {
 
     fn name(&self) -> WideUse {
         *self
+    }
+
+    fn is_named(&self, name: &Name) -> bool {
+        same_name(WideUse::name(self), name)
     }
 }
 
@@ -28,6 +37,10 @@ impl Named for Event {
     fn name(&self) -> WideUse {
         WideUse::of(&self.name)
     }
+
+    fn is_named(&self, name: &Name) -> bool {
+        self.name.name.is(name)
+    }
 }
 
 impl Named for State {
@@ -35,6 +48,10 @@ impl Named for State {
 
     fn name(&self) -> WideUse {
         WideUse::of(&self.name)
+    }
+
+    fn is_named(&self, name: &Name) -> bool {
+        self.name.name.is(name)
     }
 }
 
@@ -44,6 +61,10 @@ impl Named for Algorithm {
     fn name(&self) -> WideUse {
         WideUse::of(&self.name)
     }
+
+    fn is_named(&self, name: &Name) -> bool {
+        self.name.name.is(name)
+    }
 }
 
 impl Named for Instance {
@@ -51,6 +72,10 @@ impl Named for Instance {
 
     fn name(&self) -> WideUse {
         WideUse::of(&self.name)
+    }
+
+    fn is_named(&self, name: &Name) -> bool {
+        self.name.name.is(name)
     }
 }
 
@@ -60,6 +85,10 @@ impl Named for Parameter {
     fn name(&self) -> WideUse {
         WideUse::of(&self.name)
     }
+
+    fn is_named(&self, name: &Name) -> bool {
+        self.name.name.is(name)
+    }
 }
 
 impl Named for Application {
@@ -67,6 +96,10 @@ impl Named for Application {
 
     fn name(&self) -> WideUse {
         WideUse::of(&self.name)
+    }
+
+    fn is_named(&self, name: &Name) -> bool {
+        self.name.name.is(name)
     }
 }
 
@@ -76,6 +109,10 @@ impl Named for Device {
     fn name(&self) -> WideUse {
         WideUse::of(&self.name)
     }
+
+    fn is_named(&self, name: &Name) -> bool {
+        self.name.name.is(name)
+    }
 }
 
 impl Named for Resource {
@@ -83,5 +120,9 @@ impl Named for Resource {
 
     fn name(&self) -> WideUse {
         WideUse::of(&self.name)
+    }
+
+    fn is_named(&self, name: &Name) -> bool {
+        self.name.name.is(name)
     }
 }

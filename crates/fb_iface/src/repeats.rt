@@ -1,7 +1,8 @@
 //! Names that are declared again in their name space.
-ghost use Rattle.std.specs.{Prelude.{◌≡◌, ◌<◌, ◌↔◌, ◌++◌, length, map, IfOk, IsTrue, OnOk}, List.{flat_map}};
+ghost use Rattle.std.specs.{Prelude.{◌≡◌, ◌<◌, ◌↔◌, ◌++◌, length, map, IfOk, IsTrue, OnOk}, List.{flat_map, list_any}};
 ghost use Rattle.fb_tree.specs.Tree.{chart_tree, decl_tree, device_tree, instance_tree, interface_tree, network_tree, structure_tree, system_tree, type_tree};
-ghost use Rattle.fb_iface.specs.{Declarations.{duplicate_faults, space_duplicates}, Names.{first_ones}};
+ghost use Rattle.fb_iface.specs.{Declarations.{duplicate_faults, space_duplicates}, Fault.{fault_at}, Names.{first_ones, is_same}};
+ghost use Rattle.fb_iface.specs.declared.code.Code.TheVariants.{Duplicate};
 ghost use Rattle.fb_iface.specs.Ports.{events_in, instances_in, meanings_in, meanings_in_type, variables_in};
 ghost use Rattle.fb_iface.specs.Spaces.{chart_spaces, interface_spaces, network_spaces, parameter_names, resource_names, structure_spaces, system_spaces, type_spaces};
 
@@ -9,7 +10,7 @@ use crate::code::Code;
 use crate::fault::Fault;
 use crate::named::Named;
 use crate::ports::Ports;
-use fb_tree::text::{NameUse, WideUse};
+use fb_tree::text::{Name, NameUse, WideUse};
 use fb_tree::{
     Application, Chart, Decl, Device, Instance, Interface, Network, Role, Structure, System,
     TypeDeclaration, Variables,
@@ -270,6 +271,9 @@ fn report_in_devices(
     Ok(())
 }
 
+/// Up to this number of declarations are compared with each other; of more, the names are kept in a set.
+const FEW: usize = 8;
+
 /// Reports each declaration of one name space whose name is before it.
 fn report_repeated<T: Named>(
     alloc: Global,
@@ -279,19 +283,61 @@ fn report_repeated<T: Named>(
     ensures { OnOk result
         (found.new.items ≡ found.old.items ++ space_duplicates (map T.name_of declarations.now)) }
 {
-    if declarations.len() < 2 {
-        return Ok(());
+    if declarations.len() <= FEW {
+        report_among_few(declarations, found)
+    } else {
+        report_among_many(alloc, declarations, found)
     }
+}
+
+/// Reports them by comparing each name with those before it.
+fn report_among_few<T: Named>(declarations: &[T], found: &mut Vec<Fault>) -> Result<(), AllocError>
+    ensures { OnOk result
+        (found.new.items ≡ found.old.items ++ space_duplicates (map T.name_of declarations.now)) }
+{
+    for (i, declaration) in declarations.iter().enumerate() {
+        let name = declaration.name();
+        if is_declared(&declarations[..i], name.name()) {
+            found.push(duplicate_at(&name))?;
+        }
+    }
+    Ok(())
+}
+
+/// Whether one of the declarations has the name.
+fn is_declared<T: Named>(declarations: &[T], name: &Name) -> bool
+    ensures { result ≡ list_any (λ d. is_same (T.name_of d).name name.now) declarations.now }
+{
+    declarations
+        .iter()
+        .any(|declaration| declaration.is_named(name))
+}
+
+/// Reports them by a set of the names so far.
+fn report_among_many<T: Named>(
+    alloc: Global,
+    declarations: &[T],
+    found: &mut Vec<Fault>,
+) -> Result<(), AllocError>
+    ensures { OnOk result
+        (found.new.items ≡ found.old.items ++ space_duplicates (map T.name_of declarations.now)) }
+{
     let mut seen = HashSet::with_capacity(alloc, declarations.len())?;
     for declaration in declarations {
         let name = declaration.name();
         if !seen.insert(*name.name())? {
-            let span = name.place().span();
-            found.push(Fault {
-                code: Code::Duplicate,
-                span,
-            })?;
+            found.push(duplicate_at(&name))?;
         }
     }
     Ok(())
+}
+
+/// A fault at a name that is declared again.
+fn duplicate_at(name: &WideUse) -> Fault
+    ensures { result ≡ fault_at Duplicate name.now }
+{
+    Fault {
+        code: Code::Duplicate,
+        span: name.place().span(),
+    }
 }

@@ -1,3 +1,4 @@
+mod AgainLemmas
 pub mod CleanLemmas
 pub mod JoinLemmas
 pub mod KnownLemmas

@@ -4,6 +4,7 @@ pub mod Ends
 pub mod Sides
 pub mod Paths
 pub mod Repeats
+pub mod Again
 pub mod Spellings
 pub mod Known
 pub mod Types

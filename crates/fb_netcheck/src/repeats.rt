@@ -1,13 +1,18 @@
 //! Ends of connections that are ends of an earlier one.
-ghost use Rattle.std.specs.Prelude.{◌≡◌, ◌++◌, IfOk, OnOk};
-ghost use Rattle.fb_netcheck.specs.{Ends.{last_name}, Repeats.{all_adapter_ends, data_destinations, path_named, second_adapters, second_sources}};
+ghost use Rattle.std.specs.{Prelude.{◌≡◌, ◌++◌, IfOk, OnOk}, List.{list_any}};
+ghost use Rattle.fb_netcheck.specs.{Ends.{last_name}, Repeats.{all_adapter_ends, data_destinations, end_path, path_named, second_adapters, second_sources}};
+ghost use Rattle.fb_netcheck.specs.{Paths.{same_path}, Again.{brings, same_port, source_faults}, Iface.Names.{is_same}};
 
 use crate::paths::{Placed, report_repeated};
+use crate::sides::fault_at;
 use fb_iface::{Code, Fault};
-use fb_tree::text::{Name, Span, WideUse};
+use fb_tree::text::{Name, NameUse, Span, WideUse};
 use fb_tree::{Connection, End, Sort};
 use std::alloc::{AllocError, Global};
 use std::marker::Model;
+
+/// Up to this number of connections are compared with each other; of more, the ends are kept in a set.
+const FEW: usize = 16;
 
 /// A copy of an end. A contract sees it as the end.
 #[derive(Clone, Copy, Debug)]
@@ -87,8 +92,83 @@ pub fn report_second_sources(
 ) -> Result<(), AllocError>
     ensures { OnOk result (found.new.items ≡ found.old.items ++ second_sources connections.now) }
 {
+    if connections.len() <= FEW {
+        return report_sources(connections, found);
+    }
     let ends = destinations_of_data(alloc, connections)?;
     report_repeated(alloc, Code::SecondSource, ends.as_slice(), found)
+}
+
+/// Reports them by comparing each destination with those before it.
+fn report_sources(connections: &[Connection], found: &mut Vec<Fault>) -> Result<(), AllocError>
+    ensures { OnOk result (found.new.items ≡ found.old.items ++ second_sources connections.now) }
+{
+    for i in 0..connections.len() {
+        report_source(&connections[..i], &connections[i], found)?;
+    }
+    Ok(())
+}
+
+/// Reports the destination of a data connection if it has a source in those before.
+fn report_source(
+    before: &[Connection],
+    connection: &Connection,
+    found: &mut Vec<Fault>,
+) -> Result<(), AllocError>
+    ensures { OnOk result
+        (found.new.items ≡ found.old.items ++ source_faults before.now connection.now) }
+{
+    match connection.sort {
+        Sort::Data => {
+            if has_source(before, &connection.destination) {
+                found.push(fault_at(Code::SecondSource, &connection.destination))?;
+            }
+        }
+        Sort::Event | Sort::Adapter => {}
+    }
+    Ok(())
+}
+
+/// Whether one of the connections brings data to an end.
+fn has_source(connections: &[Connection], end: &End) -> bool
+    ensures { result ≡ list_any (brings (end_path end.now).names) connections.now }
+{
+    connections
+        .iter()
+        .any(|connection| brings_data(connection, end))
+}
+
+/// Whether a connection brings data to an end.
+fn brings_data(connection: &Connection, end: &End) -> bool
+    ensures { result ≡ brings (end_path end.now).names connection.now }
+{
+    match connection.sort {
+        Sort::Data => is_same_end(&connection.destination, end),
+        Sort::Event | Sort::Adapter => false,
+    }
+}
+
+/// Whether two ends have the same names.
+fn is_same_end(end: &End, other: &End) -> bool
+    ensures { result ≡ same_path (end_path end.now).names (end_path other.now).names }
+{
+    is_same_name(&end.name, &other.name) && is_same_port(&end.port, &other.port)
+}
+
+fn is_same_port(port: &Option<NameUse>, other: &Option<NameUse>) -> bool
+    ensures { result ≡ same_port port.now other.now }
+{
+    match (port, other) {
+        (Some(port), Some(other)) => is_same_name(port, other),
+        (None, None) => true,
+        _ => false,
+    }
+}
+
+fn is_same_name(name: &NameUse, other: &NameUse) -> bool
+    ensures { result ≡ is_same name.now.name other.now.name }
+{
+    name.name.as_str() == other.name.as_str()
 }
 
 fn destinations_of_data(

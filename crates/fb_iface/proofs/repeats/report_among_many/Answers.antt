@@ -1,10 +1,10 @@
-use Rattle.std.proofs.Common.{◌≡◌, ◌+◌, ◌<◌, not, true, false, ap, subst, sym, ◌∙◌, arith, get_or, length, map, take, ◌∷◌, [], ◌++◌, append-nil, nat_eq}
+use Rattle.std.proofs.Common.{◌≡◌, ◌+◌, ◌<◌, not, true, false, ap, subst, sym, ◌∙◌, arith, get_or, length, map, take, ◌∷◌, [], ◌++◌, nat_eq}
 use Rattle.std.proofs.{lemmas.Grind.{common_steps}, lemmas.List.{get_or-map, length-map, take_more}}
 use Rattle.std.specs.{Cmp.Lexicographic.{pointwise}, HashSet.{contains, Updates}}
 use Rattle.fb_iface.specs.{Fault.{faults_at}, Names.{has_name}, declared.code.Code.TheVariants.{Duplicate}}
-use Rattle.fb_iface.proofs.RepeatLemmas.{none_repeated, noted-push, repeated_all, repeated_among, reported-again, reported-first}
-use Rattle.fb_iface.proofs.repeats.report_repeated.Goals.{then-not-branch+in_ok-push, else-not-branch}
-use Rattle.fb_iface.proofs.repeats.report_repeated.Goals as goal
+use Rattle.fb_iface.proofs.RepeatLemmas.{noted-push, repeated_all, repeated_among, reported-again, reported-first}
+use Rattle.fb_iface.proofs.repeats.report_among_many.Goals.{then-not-branch+in_ok-push, else-not-branch}
+use Rattle.fb_iface.proofs.repeats.report_among_many.Goals as goal
 
 pub loop-declaration-preserved : goal.loop-declaration-preserved
 loop-declaration-preserved g c =
@@ -38,9 +38,3 @@ returns g c =
     let all : c.loop-declaration.declaration-index ≡ length names = omega (arith, length-map c.args.declarations.now g.T.Named.name_of) in
     c.loop-declaration.invariant.reported
     ∙ ap (λ l. c.args.found.now.items ++ faults_at Duplicate l) (ap (λ n. repeated_among n names) all ∙ repeated_all names)
-
-pub returns-then-declarations-lt2 : goal.returns-then-declarations-lt2
-returns-then-declarations-lt2 g c =
-    let names = map g.T.Named.name_of c.args.declarations.now in
-    let few : length names < 2 = omega (arith, length-map c.args.declarations.now g.T.Named.name_of, c.if-declarations-lt2.true) in
-    sym (append-nil c.args.found.now.items) ∙ ap (λ l. c.args.found.now.items ++ faults_at Duplicate l) (sym (none_repeated names few))

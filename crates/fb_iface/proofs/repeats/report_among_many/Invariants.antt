@@ -2,7 +2,7 @@ use Rattle.std.proofs.Common.{◌≡◌, ℕ, List, ◌++◌, map, nat_eq, take}
 use Rattle.std.specs.{Cmp.Lexicographic.{pointwise}, HashSet.{contains}}
 use Rattle.fb_iface.specs.{Fault.{faults_at}, Names.{has_name}, declared.code.Code.TheVariants.{Duplicate}}
 use Rattle.fb_iface.proofs.RepeatLemmas.{repeated_among}
-use Rattle.fb_iface.proofs.repeats.report_repeated.Given as goal
+use Rattle.fb_iface.proofs.repeats.report_among_many.Given as goal
 
 abbrev pub invariant-loop-declaration : goal.invariant-loop-declaration
 invariant-loop-declaration g l = record {
