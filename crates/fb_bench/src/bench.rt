@@ -405,6 +405,7 @@ impl Bench {
                 self.index = self.entries.carry_out(found);
                 self.library = library;
                 self.commits = number;
+                // For the proof: a key that the commit does not reach keeps its value.
                 locality();
                 Ok((Committed::Done(number), share))
             }
@@ -447,6 +448,7 @@ impl Bench {
         let call = call_of_result(self.alloc, finished)?;
         match answer {
             Delivered::Accepted => {
+                // For the proof: a result whose reads are current has the value of the present texts, and so have the nets found on its way.
                 current_reads();
                 current_nets();
                 let share = self.take_in(caller, call, finished)?;

@@ -1,46 +1,33 @@
 -- Units without faults are clean in plain.
-use Rattle.std.proofs.Common.{◌≡◌, ℕ, ◌<◌, true, false, ◌&&◌, List, [], ◌∷◌, ◌++◌, map, Option, Some, None, option_map, refl, sym, ap, ◌∙◌, subst, ◌⊎◌, inl, inr}
+use Rattle.std.proofs.Common.{◌≡◌, ℕ, ◌<◌, true, false, ◌&&◌, List, [], ◌∷◌, ◌++◌, map, Option, Some, None, option_map, refl, sym, ap, ◌∙◌, subst, inl, inr, arith}
 use Rattle.std.proofs.lemmas.List.Elements.{All-contains, All-head, Contains-append_left, Contains-append_right}
 use Rattle.std.specs.{List.{All, Contains, filter_map, find, flat_map, slice_get}, Option.{option_and_then}}
 use Rattle.fb_wiring.specs.Text.declared.name.NameUse.{NameUse}
-use Rattle.fb_wiring.specs.Tree.Tree.{ApplicationTree, DeclTree, InstanceTree, NetworkTree, SystemTree, TypeTree, block_type, adapter_type, subapplication_type, system_configuration, structure_type}
+use Rattle.fb_wiring.specs.Tree.Tree.{ApplicationTree, DeclTree, InstanceTree, NetworkTree, SystemTree, subapplication_type, system_configuration}
 use Rattle.fb_wiring.specs.Iface.Declarations.{declaration_faults, duplicate_faults, literal_faults_of, mixed_faults, name_faults, with_faults_of}
 use Rattle.fb_wiring.specs.Iface.Ports.{events_in, instances_in, meanings_in_type, variables_in}
 use Rattle.fb_wiring.specs.Iface.Spaces.{chart_spaces, interface_spaces, network_spaces, resource_names, spaces_of}
 use Rattle.fb_wiring.specs.declared.systems.Application.{Application}
-use Rattle.fb_wiring.specs.{Tree.declared.network.Role.{Role}, Tree.declared.network.Sort.{Sort}, Library.View.{Sources, tree_at}}
+use Rattle.fb_wiring.specs.{Tree.declared.network.Sort.{Sort}, Library.View.{Sources, tree_at}}
 use Rattle.fb_wiring.specs.{Iface.Recursion.{recursion_faults}, Iface.Names.{first_ones, is_same, stands_for}}
 use Rattle.fb_wiring.specs.{Iface.Types.{instance_faults, instances_of, type_faults}, Iface.declared.ports.DeclaredInstance.{DeclaredInstance}}
 use Rattle.fb_wiring.specs.{Network.Plain.{PlainNetwork}, Network.declared.network.End.TheVariants.{Own}, Network.declared.network.Port.{Port}}
 use Rattle.fb_wiring.specs.{Applications.{applications_of, plain_application}, Networks.{end_named, network_of, plain_network}, Ports.{plain_ports}}
 use Rattle.fb_wiring.specs.Tree.declared.kinds.UnitKind.TheVariants as kinds
-use Rattle.fb_wiring.specs.Tree.declared.network.Role.TheVariants as roles
-use Rattle.fb_wiring.specs.Tree.declared.network.Sort.TheVariants as sorts
 use Rattle.fb_wiring.proofs.Text.Members.{contains_cases, contains_flat_map, contains_here, contains_later, contains_map, contains_nothing, got_in_map, map_gets, origin_in_map}
 use Rattle.fb_faults.specs.{Netcheck.Networks.{application_place, networks_in, type_place}, Netcheck.Clean.{AreRight, IsCleanConnection, IsCleanNetwork}}
-use Rattle.fb_faults.specs.{Netcheck.Ends.{adapter_port, holder_of, port_in, port_in_role, target, target_named, target_of}, Netcheck.Settings.{NetworkPlace}}
+use Rattle.fb_faults.specs.{Netcheck.Ends.{adapter_port, port_in, target, target_named}, Netcheck.Settings.{NetworkPlace}}
 use Rattle.fb_faults.specs.{Netcheck.Sides.{is_own_port}, Netcheck.declared.ends.Position.TheVariants.{Source, Destination}}
-use Rattle.fb_faults.specs.Netcheck.declared.ends.Holder.TheVariants as holders
 use Rattle.fb_faults.proofs.Netcheck.CleanLemmas.{left_none, networks_clean as faultless_clean, none_of_each, right_none}
 use Rattle.fb_faults.proofs.{Netcheck.Locality.{Each, instance_stands}, Netcheck.RightLemmas.{connections_right}}
 use Rattle.fb_flatten.specs.{Clean.{ApplicationsAreClean, AreCleanWithKinds, IsCleanWithKinds, NetworksAreClean, application_named}, Nothing.{HasNoReport}}
-use Rattle.fb_flatten.proofs.{Finding.{found_by_name}, FirstOnes.{Distinct, first_ones-distinct}, InnerInstances.{IsInnerInstance, inner_instances, is_inner}}
-use Rattle.fb_flatten.proofs.{NameLemmas.{AreApart, apart, distinct, stands_for_itself}, NetworkLemmas.{meaning, sound}, NothingLemmas.{nothing_reported}}
+use Rattle.fb_flatten.proofs.{InnerInstances.{IsInnerInstance, inner_instances, is_inner}}
+use Rattle.fb_flatten.proofs.{NameLemmas.{AreApart, Distinct, apart, distinct, first_ones-distinct, found_by_name, mapped, stands_for_itself}, NetworkLemmas.{meaning, sound}, NothingLemmas.{nothing_reported}}
 use Rattle.fb_flatten.proofs.PortLemmas.{plain_port, port_by_name}
 
 -- ports alone
 leaf_sound : (sources : Sources) (ports : List Port) → IsCleanWithKinds sources (record { ports = ports; instances = []; connections = [] })
-leaf_sound sources ports = record {
-  clean = record {
-    named = λ i c. absurd (contains_nothing i c);
-    typed = λ i c. absurd (contains_nothing i c);
-    sources = λ sort s d k. absurd (contains_nothing k.connection k.among);
-    destinations = λ sort s d k. absurd (contains_nothing k.connection k.among);
-    same_adapters = λ s d k. absurd (contains_nothing k.connection k.among);
-    no_pass_through = λ sort x y k. contains_nothing k.connection k.among;
-  };
-  kinds = λ i c. absurd (contains_nothing i c);
-}
+leaf_sound sources ports = grind arith
 
 abbrev Right : NetworkPlace × NetworkTree → Type 0
 Right placed = All (AreRight placed.0) placed.1.connections
@@ -48,11 +35,13 @@ Right placed = All (AreRight placed.0) placed.1.connections
 abbrev Fine : Sources → NetworkPlace × NetworkTree → Type 0
 Fine sources placed = IsCleanNetwork sources placed.0 placed.1
 
+second_none : {A : Type 0} (a b c d e : List A) → (((a ++ b) ++ c) ++ d) ++ e ≡ [] → b ≡ []
+second_none a b c d e h = right_none a b (left_none (a ++ b) c (left_none (a ++ b ++ c) d (left_none (a ++ b ++ c ++ d) e h)))
+
 -- the type of each instance has no fault
 types_fine : (sources : Sources) (unit : List ℕ) (decl : DeclTree) → declaration_faults sources unit (Some decl) ≡ [] → (i : InstanceTree) → Contains (instances_of decl) i → instance_faults sources i ≡ []
 types_fine sources unit decl e i c =
-    let prefix = (name_faults unit decl ++ duplicate_faults decl) ++ mixed_faults decl in
-    let types = right_none prefix (type_faults sources decl) (left_none (prefix ++ type_faults sources decl) (with_faults_of decl) (left_none ((prefix ++ type_faults sources decl) ++ with_faults_of decl) (literal_faults_of decl) (left_none (((prefix ++ type_faults sources decl) ++ with_faults_of decl) ++ literal_faults_of decl) (recursion_faults sources unit decl) e))) in
+    let types = second_none (name_faults unit decl ++ duplicate_faults decl ++ mixed_faults decl) (type_faults sources decl) (with_faults_of decl) (literal_faults_of decl) (recursion_faults sources unit decl) e in
     All-contains (λ (x : InstanceTree). instance_faults sources x ≡ []) (instances_of decl) i (none_of_each (instance_faults sources) (instances_of decl) types) c
 
 module _ (sources : Sources) (unit : List ℕ) (decl : DeclTree) (is : tree_at sources unit ≡ Some decl) (report : HasNoReport sources unit) where
@@ -68,18 +57,8 @@ module _ (sources : Sources) (unit : List ℕ) (decl : DeclTree) (is : tree_at s
   all_apart : (n : NetworkTree) → Contains (spaces_of decl) (map (λ i. i.name) n.instances) → Distinct (instances_in n)
   all_apart n among = distinct (λ (i : InstanceTree). i.name) meaning n.instances (apart sources unit decl (map (λ i. i.name) n.instances) report.declarations is among)
 
-no_plug : (sort : Sort) → holder_of kinds.Subapplication sort roles.Plug ≡ None
-no_plug sorts.Event = refl
-no_plug sorts.Data = refl
-no_plug sorts.Adapter = refl
-
-no_socket : (sort : Sort) → holder_of kinds.Subapplication sort roles.Socket ≡ None
-no_socket sorts.Event = refl
-no_socket sorts.Data = refl
-no_socket sorts.Adapter = refl
-
-subapplication_sound : (sources : Sources) (unit : List ℕ) (d : TypeTree) → tree_at sources unit ≡ Some (subapplication_type d) → HasNoReport sources unit → IsCleanWithKinds sources (network_of (subapplication_type d))
-subapplication_sound sources unit d is report =
+declared_sound : (sources : Sources) (unit : List ℕ) (decl : DeclTree) → tree_at sources unit ≡ Some decl → HasNoReport sources unit → IsCleanWithKinds sources (network_of decl)
+declared_sound sources unit (subapplication_type d) is report =
     let decl = subapplication_type d in
     let placed = type_place sources unit kinds.Subapplication d in
     let fine : Fine sources placed = All-head (Fine sources) placed [] (all_fine sources unit decl is report) in
@@ -87,74 +66,41 @@ subapplication_sound sources unit d is report =
     let among : Contains (spaces_of decl) names = Contains-append_right (interface_spaces d.interface ++ chart_spaces d.chart) (network_spaces d.network) names (contains_here names _) in
     sound sources placed.0 d.network (plain_ports (meanings_in_type d))
     (all_apart sources unit decl is report d.network among)
-    refl refl no_plug no_socket
+    refl refl (grind arith) (grind arith)
     (λ sort name. port_by_name (meanings_in_type d) name (first_ones-distinct (events_in d.interface)) (first_ones-distinct (variables_in d.interface)) (first_ones-distinct (instances_in d.network)) sort)
     (All-head Right placed [] (all_right sources unit decl is report))
     fine
     (all_types sources unit decl is report)
     (λ c x among own. (All-contains (IsCleanConnection sources placed.0) d.network.connections c fine.connections among).passes_nothing)
-
-declared_sound : (sources : Sources) (unit : List ℕ) (decl : DeclTree) → tree_at sources unit ≡ Some decl → HasNoReport sources unit → IsCleanWithKinds sources (network_of decl)
-declared_sound sources unit (block_type d) is report = leaf_sound sources (plain_ports (meanings_in_type d))
-declared_sound sources unit (adapter_type d) is report = leaf_sound sources (plain_ports (meanings_in_type d))
-declared_sound sources unit (subapplication_type d) is report = subapplication_sound sources unit d is report
-declared_sound sources unit (system_configuration s) is report = leaf_sound sources []
-declared_sound sources unit (structure_type s) is report = leaf_sound sources []
+declared_sound sources unit other is report = leaf_sound sources (network_of other).ports
 
 pub networks_clean : NetworksAreClean
-networks_clean sources unit network is none = by (tree_at sources unit) refl is
-  where
-    by : (tree : Option DeclTree) → tree_at sources unit ≡ tree → option_map network_of tree ≡ Some network → IsCleanWithKinds sources network
-    by None there e = absurd (let no : ⊥ = cc in no)
-    by (Some decl) there e =
-        let same : network_of decl ≡ network = cc in
-        subst (λ (n : PlainNetwork). IsCleanWithKinds sources n) same (declared_sound sources unit decl there (nothing_reported sources unit none))
+networks_clean sources unit network is none =
+    let m = mapped network_of (tree_at sources unit) network is in
+    subst (λ (n : PlainNetwork). IsCleanWithKinds sources n) m.2 (declared_sound sources unit m.0 m.1 (nothing_reported sources unit none))
 
 -- an application has no ports
 
-no_adapter : (n : NetworkTree) → Each IsInnerInstance n.instances → (name : List ℕ) → option_and_then adapter_port (stands_for (first_ones (instances_in n)) name) ≡ None
-no_adapter n inner name = by (stands_for (first_ones (instances_in n)) name) (λ i e. instance_stands (λ (d : DeclaredInstance). is_inner d.role ≡ true) n inner name i e)
-  where
-    in_role : (role : Role) (type_name : NameUse) → is_inner role ≡ true → port_in_role role type_name ≡ None
-    in_role roles.Plug type_name e = absurd (let no : ⊥ = cc in no)
-    in_role roles.Socket type_name e = absurd (let no : ⊥ = cc in no)
-    in_role roles.Block type_name e = refl
-    in_role roles.Subapplication type_name e = refl
+no_adapter_of : (o : Option DeclaredInstance) → ((i : DeclaredInstance) → o ≡ Some i → is_inner i.role ≡ true) → option_and_then adapter_port o ≡ None
+no_adapter_of None inner = refl
+no_adapter_of (Some i) inner = grind (arith, inner i refl)
 
-    by : (o : Option DeclaredInstance) → ((i : DeclaredInstance) → o ≡ Some i → is_inner i.role ≡ true) → option_and_then adapter_port o ≡ None
-    by None inner = refl
-    by (Some i) inner = in_role i.role i.type_name (inner i refl)
+no_adapter : (n : NetworkTree) → Each IsInnerInstance n.instances → (name : List ℕ) → option_and_then adapter_port (stands_for (first_ones (instances_in n)) name) ≡ None
+no_adapter n inner name = no_adapter_of (stands_for (first_ones (instances_in n)) name) (instance_stands (λ (d : DeclaredInstance). is_inner d.role ≡ true) n inner name)
 
 module _ (sources : Sources) (unit : List ℕ) (a : ApplicationTree) (inner : Each IsInnerInstance a.network.instances) where
   abbrev here : NetworkPlace
   here = (application_place sources unit a).0
 
   no_own_port : (sort : Sort) (name : List ℕ) → port_in sort here.scope.own name ≡ None
-  no_own_port sorts.Event name = refl
-  no_own_port sorts.Data name = refl
-  no_own_port sorts.Adapter name = no_adapter a.network inner name
+  no_own_port sort name = grind (arith, no_adapter a.network inner name)
 
   no_own_end : (sort : Sort) (name : NameUse) (port : Option NameUse) (x : List ℕ) → end_named name port ≡ Own x → is_own_port Source (target_named here sort name.name port) ≡ false
-  no_own_end sort name None x e = ap (λ o. is_own_port Source (target_of holders.Own o)) (no_own_port sort name.name)
-  no_own_end sort name (Some port) x e = absurd (let no : ⊥ = cc in no)
-
-no_plug_in : (sort : Sort) → holder_of kinds.System sort roles.Plug ≡ None
-no_plug_in sorts.Event = refl
-no_plug_in sorts.Data = refl
-no_plug_in sorts.Adapter = refl
-
-no_socket_in : (sort : Sort) → holder_of kinds.System sort roles.Socket ≡ None
-no_socket_in sorts.Event = refl
-no_socket_in sorts.Data = refl
-no_socket_in sorts.Adapter = refl
+  no_own_end sort name port x e = grind (arith, no_own_port sort name.name)
 
 each_contains : {A : Type 0} (P : A → Type 0) (xs : List A) → Each P xs → (x : A) → Contains xs x → P x
 each_contains P [] h x c = absurd (contains_nothing x c)
-each_contains {A = A} P (y ∷ ys) h x c = by (contains_cases y ys x c) (each_contains P ys h.1 x)
-  where
-    by : (y ≡ x) ⊎ Contains ys x → (Contains ys x → P x) → P x
-    by (inl e) more = subst P e h.0
-    by (inr d) more = more d
+each_contains P (y ∷ ys) h x c = elim (contains_cases y ys x c) [ inl e ↦ subst P e h.0 | inr d ↦ each_contains P ys h.1 x d ]
 
 module _ (sources : Sources) (unit : List ℕ) (s : SystemTree) (is : tree_at sources unit ≡ Some (system_configuration s)) (report : HasNoReport sources unit) where
   abbrev prefix : List (List NameUse)
@@ -176,7 +122,7 @@ module _ (sources : Sources) (unit : List ℕ) (s : SystemTree) (is : tree_at so
       let among : Contains (spaces_of decl) names = Contains-append_left prefix behind names (contains_later (map (λ (x : ApplicationTree). x.name) s.applications) (flat_map (λ (x : ApplicationTree). network_spaces x.network) s.applications) names inside) in
       sound sources placed.0 a.network []
       (all_apart sources unit decl is report a.network among)
-      refl refl no_plug_in no_socket_in
+      refl refl (grind arith) (grind arith)
       (λ sort name. sym (ap (option_map (plain_port sort name)) (no_own_port sources unit a inner sort name)))
       right
       fine
@@ -226,25 +172,11 @@ module _ (sources : Sources) (unit : List ℕ) (s : SystemTree) (is : tree_at so
         subst (λ (x : Application). IsCleanWithKinds sources x.network) o.gives (application_sound o.origin o.among);
   }
 
-no_applications : (sources : Sources) → AreCleanWithKinds sources []
-no_applications sources = record {
-  apart = λ i j a b before first again same. absurd (let no : ⊥ = cc in no);
-  named = λ a c. absurd (contains_nothing a c);
-  sound = λ a c. absurd (contains_nothing a c);
-}
-
 applications_sound : (sources : Sources) (unit : List ℕ) (decl : DeclTree) → tree_at sources unit ≡ Some decl → HasNoReport sources unit → AreCleanWithKinds sources (applications_of decl)
-applications_sound sources unit (block_type d) is report = no_applications sources
-applications_sound sources unit (adapter_type d) is report = no_applications sources
-applications_sound sources unit (subapplication_type d) is report = no_applications sources
 applications_sound sources unit (system_configuration s) is report = system_sound sources unit s is report
-applications_sound sources unit (structure_type s) is report = no_applications sources
+applications_sound sources unit other is report = grind arith
 
 pub applications_clean : ApplicationsAreClean
-applications_clean sources unit applications is none = by (tree_at sources unit) refl is
-  where
-    by : (tree : Option DeclTree) → tree_at sources unit ≡ tree → option_map applications_of tree ≡ Some applications → AreCleanWithKinds sources applications
-    by None there e = absurd (let no : ⊥ = cc in no)
-    by (Some decl) there e =
-        let same : applications_of decl ≡ applications = cc in
-        subst (λ (l : List Application). AreCleanWithKinds sources l) same (applications_sound sources unit decl there (nothing_reported sources unit none))
+applications_clean sources unit applications is none =
+    let m = mapped applications_of (tree_at sources unit) applications is in
+    subst (λ (l : List Application). AreCleanWithKinds sources l) m.2 (applications_sound sources unit m.0 m.1 (nothing_reported sources unit none))

@@ -1,5 +1,5 @@
 -- What can be composed by a table that has the networks of types and of the adapters of their ports.
-use Rattle.std.proofs.Common.{ℕ, ◌≡◌, List, Option, Some, None, refl, sym, ◌∙◌, ap, subst, length}
+use Rattle.std.proofs.Common.{ℕ, ◌≡◌, List, Option, Some, None, refl, sym, ◌∙◌, ap, subst, length, arith}
 use Rattle.std.specs.{Prelude.{Contains, ◌&&◌}, Option.{option_and_then}, BTreeMap.{is_at}}
 use Rattle.fb_wiring.specs.{Text.Order.{name_cmp}, Tree.Tree.{DeclTree}, Tree.declared.network.Sort.TheVariants.{Adapter}}
 use Rattle.fb_wiring.specs.{Library.View.{Sources, parts_at, tree_at}, Network.Sorts.{same_sort}, Network.declared.network.Port.{Port}}
@@ -26,16 +26,11 @@ module _ (table view : View) where
   abbrev adapter_in : List ℕ → PlainNetwork → Option (List ℕ)
   adapter_in port type = option_and_then (λ (p : Port). p.adapter) (port_named type.ports Adapter port)
 
-  same_adapter : (ports : List Port) (name : List ℕ) → SamePorts ports → option_and_then table (option_and_then (λ (p : Port). p.adapter) (port_named ports Adapter name)) ≡ option_and_then view (option_and_then (λ (p : Port). p.adapter) (port_named ports Adapter name))
-  same_adapter ports name same = by (port_named ports Adapter name) refl
-    where
-      by_adapter : (p : Port) → Contains ports p → (a : Option (List ℕ)) → p.adapter ≡ a → option_and_then table a ≡ option_and_then view a
-      by_adapter p c None e = refl
-      by_adapter p c (Some a) e = same p a c e
+  same_adapter_of : (o : Option Port) → ((p : Port) → o ≡ Some p → (a : List ℕ) → p.adapter ≡ Some a → table a ≡ view a) → option_and_then table (option_and_then (λ (p : Port). p.adapter) o) ≡ option_and_then view (option_and_then (λ (p : Port). p.adapter) o)
+  same_adapter_of o same = grind arith
 
-      by : (o : Option Port) → port_named ports Adapter name ≡ o → option_and_then table (option_and_then (λ (p : Port). p.adapter) o) ≡ option_and_then view (option_and_then (λ (p : Port). p.adapter) o)
-      by None e = refl
-      by (Some p) e = by_adapter p (found (λ (q : Port). same_sort q.sort Adapter && is_at (name_cmp q.name) name) ports p e) p.adapter refl
+  same_adapter : (ports : List Port) (name : List ℕ) → SamePorts ports → option_and_then table (option_and_then (λ (p : Port). p.adapter) (port_named ports Adapter name)) ≡ option_and_then view (option_and_then (λ (p : Port). p.adapter) (port_named ports Adapter name))
+  same_adapter ports name same = same_adapter_of (port_named ports Adapter name) (λ p e a h. same p a (found (λ (q : Port). same_sort q.sort Adapter && is_at (name_cmp q.name) name) ports p e) h)
 
   same_adapters : (network : PlainNetwork) → SamePorts network.ports → ((i : Instance) → Contains network.instances i → SameType i.type_name) → SameAdapters table view network
   same_adapters network own types (Own port) = same_adapter network.ports port own

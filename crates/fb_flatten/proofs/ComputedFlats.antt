@@ -1,11 +1,11 @@
 -- Through enough depths flat networks and instances are found.
-use Rattle.std.proofs.Common.{◌≡◌, ℕ, suc, List, [], ◌∷◌, ◌++◌, Some, None, refl, sym, ap, subst, ◌∙◌}
-use Rattle.std.specs.{Prelude.{Contains, ◌≢◌, option_map}, FinMap.{get}, Ordering.{is_eq}, declared.cmp.Ordering.TheVariants.{Equal}}
+use Rattle.std.proofs.Common.{Ordering, ◌≡◌, ℕ, suc, List, [], ◌∷◌, ◌++◌, Some, None, refl, sym, ap, subst}
+use Rattle.std.specs.{Prelude.{Contains, ◌≢◌, option_map}, FinMap.{get}, Cmp.{IsTotalOrder}, Ordering.{is_eq}, declared.cmp.Ordering.TheVariants.{Equal}}
 use Rattle.fb_wiring.specs.{Text.Order.{in_order}, Library.View.{Sources, parts_at}, Library.Rests.{PartRests, on_itself, through_part}}
 use Rattle.fb_wiring.specs.{Network.declared.network.InstanceKind.{InstanceKind}, Network.declared.network.InstanceKind.TheVariants.{Block, Subapplication}}
 use Rattle.fb_wiring.specs.{Network.declared.network.Instance.{Instance}, Network.declared.flat.Link.{Link}, Network.declared.flat.Border.{Border}}
 use Rattle.fb_wiring.specs.{Network.Plain.{PlainNetwork}, Network.LinkOrder.{link_cmp, link_cmp_total, border_cmp, border_cmp_total}}
-use Rattle.fb_wiring.specs.{Network.Network.{View, IsInner, instance_named}, Network.Clean.{IsClean, IsCleanThroughout, CleanThroughout}}
+use Rattle.fb_wiring.specs.{Network.Network.{View, instance_named}, Network.Clean.{IsClean, IsCleanThroughout, CleanThroughout}}
 use Rattle.fb_wiring.specs.{Network.Instances.{Held, held_as, AreInstances, NoInstance, ThenBlock, ThenSubapplication}, Network.FlatNet.{IsFlat}}
 use Rattle.fb_wiring.specs.{Network.Composed.{composed_blocks, composed_borders, composed_links}, Network.Ready.{Nets, IsFinished, AreFinished}}
 use Rattle.fb_wiring.specs.{ByName.{declared}, Networks.{network_of}}
@@ -23,17 +23,11 @@ link_ties a b e = exact_link a b (ap is_eq e)
 pub border_ties : (a b : Border) → border_cmp a b ≡ Equal → a ≡ b
 border_ties a b e = exact_border a b (ap is_eq e)
 
-pub links_ordered : (links : List Link) → IsOrderOf links (in_order link_cmp links)
-links_ordered links = record {
-  kept = λ l c. (in_order-members link_cmp link_cmp_total link_ties links l).1 c;
-  added = λ l c. (in_order-members link_cmp link_cmp_total link_ties links l).0 c;
-}
+ordered : {X : Type 0} (cmp : X → X → Ordering) → IsTotalOrder cmp → ((a b : X) → cmp a b ≡ Equal → a ≡ b) → (xs : List X) → IsOrderOf xs (in_order cmp xs)
+ordered cmp total ties xs = record { kept = λ x c. (in_order-members cmp total ties xs x).1 c; added = λ x c. (in_order-members cmp total ties xs x).0 c }
 
-pub borders_ordered : (borders : List Border) → IsOrderOf borders (in_order border_cmp borders)
-borders_ordered borders = record {
-  kept = λ b c. (in_order-members border_cmp border_cmp_total border_ties borders b).1 c;
-  added = λ b c. (in_order-members border_cmp border_cmp_total border_ties borders b).0 c;
-}
+pub links_ordered : (links : List Link) → IsOrderOf links (in_order link_cmp links)
+links_ordered links = ordered link_cmp link_cmp_total link_ties links
 
 -- what is composed of finished types is the flat network
 pub composed_is : (view : View) (nets : Nets) (network : PlainNetwork) → IsCleanThroughout view network → AreFinished view network nets → IsFlat view network (composed view nets network)
@@ -41,7 +35,7 @@ composed_is view nets network clean finished =
     let links = composed_links view network (instance_named network.instances) nets in
     let borders = composed_borders network (instance_named network.instances) nets in
     flat_of (instance_named network.instances) (composed_blocks network nets) links (in_order link_cmp links) borders (in_order border_cmp borders) clean finished refl refl refl refl
-    (links_ordered links) (borders_ordered borders) (in_order-sorted link_cmp link_cmp_total links) (in_order-sorted border_cmp border_cmp_total borders)
+    (links_ordered links) (ordered border_cmp border_cmp_total border_ties borders) (in_order-sorted link_cmp link_cmp_total links) (in_order-sorted border_cmp border_cmp_total borders)
 
 -- ---- depths
 
@@ -61,16 +55,14 @@ abbrev AreDone : Sources → ℕ → List Instance → Type 0
 AreDone sources depth list = (i : Instance) → Contains list i → IsDone sources depth i.type_name
 
 pub clean_with : (sources : Sources) (depth : ℕ) (network : PlainNetwork) → IsClean (declared sources) network → AreDone sources depth network.instances → IsCleanThroughout (declared sources) network
-clean_with sources depth network clean done = CleanThroughout clean inside
-  where
-    inside : (at : List ℕ) (inner : PlainNetwork) → IsInner (declared sources) network at inner → IsCleanThroughout (declared sources) inner
-    inside at inner i =
-        let found = found_by_name network.instances at i.instance i.first in
-        let d = done i.instance found.among in
-        let a = d.is_declared in
-        let b = i.declared in
-        let same : d.network ≡ inner = cc in
-        subst (λ (n : PlainNetwork). IsCleanThroughout (declared sources) n) same d.clean
+clean_with sources depth network clean done = CleanThroughout clean
+    (λ at inner i.
+    let found = found_by_name network.instances at i.instance i.first in
+    let d = done i.instance found.among in
+    let a = d.is_declared in
+    let b = i.declared in
+    let same : d.network ≡ inner = cc in
+    subst (λ (n : PlainNetwork). IsCleanThroughout (declared sources) n) same d.clean)
 
 pub finished_with : (sources : Sources) (depth : ℕ) (network : PlainNetwork) → AreDone sources depth network.instances → AreFinished (declared sources) network (flats_of depth (declared sources))
 finished_with sources depth network done i c k = (done i c).finished
@@ -90,15 +82,8 @@ held_with sources depth [] done = NoInstance
 held_with sources depth (i ∷ rest) done =
     held_one sources depth i rest (held_by (held_of depth (declared sources)) rest) i.kind refl (done i (contains_here i rest)) (held_with sources depth rest (λ j c. done j (contains_later i rest j c)))
 
-flats_next : (depth : ℕ) (view : View) (name : List ℕ) → flats_of (suc depth) view name ≡ composed_at view (flats_of depth view) (view name)
-unfolding flats_of
-flats_next depth view name = refl
-
-held_next : (depth : ℕ) (view : View) (name : List ℕ) → held_of (suc depth) view name ≡ held_at (held_of depth view) (view name)
-unfolding held_of
-held_next depth view name = refl
-
 done_next : (sources : Sources) (depth : ℕ) (name : List ℕ) → AreFaultless sources name → ((w : List ℕ) → Contains (parts_at sources name) w → IsDone sources depth w) → IsDone sources (suc depth) name
+unfolding flats_of held_of
 done_next sources depth name faultless inner =
     let whole = faultless name on_itself in
     let t = tree_of_faultless sources name whole.0 whole.1 in
@@ -115,10 +100,10 @@ done_next sources depth name faultless inner =
         inner = network;
         declared = is;
         net = composed view (flats_of depth view) network;
-        found = flats_next depth view name ∙ ap (composed_at view (flats_of depth view)) is;
+        found = ap (composed_at view (flats_of depth view)) is;
         flat = flat_with sources depth network clean done;
       };
-      held = subst (AreInstances view network.instances) (sym (held_next depth view name ∙ ap (held_at (held_of depth view)) is)) (held_with sources depth network.instances done);
+      held = subst (AreInstances view network.instances) (sym (ap (held_at (held_of depth view)) is)) (held_with sources depth network.instances done);
     }
 
 pub all_done : {sources : Sources} {depth : ℕ} {name : List ℕ} → Deep sources depth name → AreFaultless sources name → IsDone sources depth name

@@ -1,21 +1,21 @@
 -- What is computed is the net of the unit.
 use Rattle.std.proofs.Common.{◌≡◌, ℕ, Bool, true, false, cond, if◌then◌else◌, List, [], ◌∷◌, length, ◌⊎◌, inl, inr, Option, Some, None, refl, sym, ap, subst, ◌∙◌, arith}
 use Rattle.std.proofs.{lemmas.Bool.{false≢true}, lemmas.Bool.Decides.{nat_tests}, lemmas.List.Kept.{IsStrictlySortedBy-filter}}
-use Rattle.std.specs.{Prelude.{Contains, ◌≢◌, ◌↔◌, nat_lt, map, filter, option_map}, List.{flat_map}, Option.{option_and_then}, FinMap.{get}}
+use Rattle.std.specs.{Prelude.{Contains, ◌≢◌, nat_lt, map, filter, option_map}, List.{flat_map}, Option.{option_and_then}, FinMap.{get}}
 use Rattle.fb_wiring.specs.Text.Order.{name_cmp, in_order}
-use Rattle.fb_wiring.specs.Tree.Tree.{DeclTree, SystemTree, TypeTree, block_type, adapter_type, subapplication_type, system_configuration, structure_type}
+use Rattle.fb_wiring.specs.Tree.Tree.{DeclTree, subapplication_type, system_configuration}
 use Rattle.fb_wiring.specs.declared.systems.Application.{Application}
 use Rattle.fb_wiring.specs.Units.{HasNet, has_net_tree, own_instances, AreFlatApplications, NoApplication, ThenApplication, Holds, IsUnitFlat, OfSubapplication, OfSystem}
 use Rattle.fb_wiring.specs.Library.Seen.{has_name}
 use Rattle.fb_wiring.specs.{Tree.Mentions.{unit_kind_of}, Library.View.{Sources, parts_at, tree_at, tree_of}}
-use Rattle.fb_wiring.specs.{Library.Rests.{Rests, itself, PartRests, on_itself, through_part}, Library.Local.{AgreeFar}, Iface.declared.fault.Fault.{Fault}}
+use Rattle.fb_wiring.specs.{Library.Rests.{Rests, itself, PartRests, on_itself, through_part}, Library.Local.{AgreeFar}}
 use Rattle.fb_wiring.specs.{Reaches.{IsRecursive}, Network.declared.count.TheConstants.{INSTANCE_LIMIT}, Network.PlainFlat.{PlainFlat}}
 use Rattle.fb_wiring.specs.{Network.LinkOrder.{link_cmp, link_cmp_total}, Network.Network.{View}, Network.FlatNet.{IsFlat}, Network.Instances.{Held}}
 use Rattle.fb_wiring.specs.{Network.SystemFlat.{IsSystemFlat, application_links}, Network.declared.application.FlatApplication.{FlatApplication}}
 use Rattle.fb_wiring.specs.{Applications.{applications_of}, ByName.{applications_at, declared}, Networks.{network_of}}
 use Rattle.fb_wiring.proofs.{Text.OrderLemmas.{in_order-sorted}, Library.Locality.{far_local, part_mention, parts_both, parts_rest, rests_more}}
 use Rattle.fb_wiring.proofs.Text.Members.{contains_nothing, contains_filter, passes_in_filter, contains_here, contains_later}
-use Rattle.fb_wiring.proofs.{Network.SystemLemmas.{system_links_are}, KindLemmas.{net_kind, no_net_kind}, Library.WalkLemmas.{Contains-has, has-Contains}}
+use Rattle.fb_wiring.proofs.{Network.SystemLemmas.{system_links_are}, Library.WalkLemmas.{Contains-has, has-Contains}}
 use Rattle.fb_wiring.specs.Tree.declared.kinds.UnitKind.TheVariants as kinds
 use Rattle.fb_faults.specs.Faults.{faults_of}
 use Rattle.fb_flatten.proofs.{CleanUnits.{applications_clean, networks_clean}, MentionLemmas.{applications_within, declared_within, own_within}}
@@ -24,7 +24,11 @@ use Rattle.fb_flatten.proofs.{FarNames.{far_is_all}, Depths.{far_deep, recursive
 use Rattle.fb_flatten.proofs.ComputedFlats.{AreFaultless, IsDone, all_done, flat_with, held_with, links_ordered}
 use Rattle.fb_flatten.specs.{Blocking.{AreThose, IsBlocking, IsPartBelow, is_blocking, is_part_among}, Net.{PlainNet, too_large, flat_net, IsNet, IsSound}}
 use Rattle.fb_flatten.specs.Far.{far_of}
-use Rattle.fb_flatten.specs.Nets.{composed, flats_of, flat_application, joined, flat_of_tree, held_by, held_of, is_recursive, sized_net, finite_net, first_net, net_of_tree, has_net_in, net_in, net_at, HasNetByText, NetAtIsNet, NetAtIsLocal}
+use Rattle.fb_flatten.specs.Nets.{composed, flats_of, flat_application, joined, flat_of_tree, held_by, held_of, is_recursive, sized_net, finite_net, first_net, net_of_tree, net_in, net_at, HasNetByText, NetAtIsNet, NetAtIsLocal}
+
+none_unless : {A : Type 0} (xs : List A) → ((xs ≡ [] → ⊥) → ⊥) → xs ≡ []
+none_unless [] h = refl
+none_unless (x ∷ xs) h = absurd (h (λ e. let no : ⊥ = cc in no))
 
 module _ (sources : Sources) (unit : List ℕ) where
   names_sound : (v : List ℕ) → Contains (far_of sources unit) v → Rests sources unit v
@@ -40,7 +44,7 @@ module _ (sources : Sources) (unit : List ℕ) where
   part_below : (v : List ℕ) → is_part v ≡ true → IsPartBelow sources unit v
   part_below v told =
       let s = some_passes (λ holder. has_name (parts_at sources holder) v) (far_of sources unit) told in
-      (s.name, names_sound s.name (Contains-has s.name (far_of sources unit) s.among), Contains-has v (parts_at sources s.name) s.passes)
+      (s.0, names_sound s.0 (Contains-has s.0 (far_of sources unit) s.1), Contains-has v (parts_at sources s.0) s.2)
 
   below_part : (v : List ℕ) → IsPartBelow sources unit v → is_part v ≡ true
   below_part v below =
@@ -65,11 +69,7 @@ module _ (sources : Sources) (unit : List ℕ) where
 
   -- what it rests on has no faults
   no_faults : IsSound sources unit → (v : List ℕ) → Rests sources unit v → faults_of sources v ≡ []
-  no_faults sound v r = by (faults_of sources v) refl
-    where
-      by : (fs : List Fault) → faults_of sources v ≡ fs → faults_of sources v ≡ []
-      by [] f = f
-      by (x ∷ fs) f = absurd (contains_nothing v ((sound.whole.members v).1 (r, inl (λ n. let no : ⊥ = cc in no))))
+  no_faults sound v r = none_unless (faults_of sources v) (λ n. contains_nothing v ((sound.whole.members v).1 (r, inl n)))
 
   pub unit_faultless : IsSound sources unit → faults_of sources unit ≡ []
   unit_faultless sound = no_faults sound unit itself
@@ -112,33 +112,24 @@ module _ (sources : Sources) (unit : List ℕ) where
         borders = refl;
       }
 
-  system_flat : (s : SystemTree) → tree_at sources unit ≡ Some (system_configuration s) → IsSound sources unit → IsUnitFlat sources unit (flat_of_tree (declared sources) (flats_of (length (far_of sources unit)) (declared sources)) (system_configuration s))
-  system_flat s present sound =
-      let view = declared sources in
-      let depth = length (far_of sources unit) in
-      let list = applications_of (system_configuration s) in
-      let flats = map (flat_application view (flats_of depth view)) list in
-      let is : applications_at sources unit ≡ Some list = ap (option_map applications_of) present in
-      let clean = applications_clean sources unit list is (unit_faultless sound) in
-      OfSystem list flats (ap (option_map unit_kind_of) present) is
-      (flat_applications view depth list
-      (λ a c. flat_with sources depth a.network (clean.sound a c).clean (λ i h. done_part sound i.type_name ((applications_within sources unit list is a c).types i h))))
-      (joined_is flats)
-
-  type_flat : (d : TypeTree) → tree_at sources unit ≡ Some (subapplication_type d) → IsSound sources unit → IsUnitFlat sources unit (flat_of_tree (declared sources) (flats_of (length (far_of sources unit)) (declared sources)) (subapplication_type d))
-  type_flat d present sound =
+  unit_flat : (tree : DeclTree) → tree_at sources unit ≡ Some tree → has_net_tree tree ≡ true → IsSound sources unit → IsUnitFlat sources unit (flat_of_tree (declared sources) (flats_of (length (far_of sources unit)) (declared sources)) tree)
+  unit_flat (subapplication_type d) present has sound =
       let network = network_of (subapplication_type d) in
       let is : declared sources unit ≡ Some network = ap (option_map network_of) present in
       OfSubapplication network (ap (option_map unit_kind_of) present) is
       (flat_with sources (length (far_of sources unit)) network (networks_clean sources unit network is (unit_faultless sound)).clean
       (λ i h. done_part sound i.type_name ((declared_within sources unit network is).types i h)))
-
-  unit_flat : (tree : DeclTree) → tree_at sources unit ≡ Some tree → has_net_tree tree ≡ true → IsSound sources unit → IsUnitFlat sources unit (flat_of_tree (declared sources) (flats_of (length (far_of sources unit)) (declared sources)) tree)
-  unit_flat (block_type d) present has sound = absurd (false≢true has)
-  unit_flat (adapter_type d) present has sound = absurd (false≢true has)
-  unit_flat (subapplication_type d) present has sound = type_flat d present sound
-  unit_flat (system_configuration s) present has sound = system_flat s present sound
-  unit_flat (structure_type s) present has sound = absurd (false≢true has)
+  unit_flat (system_configuration s) present has sound =
+      let view = declared sources in
+      let depth = length (far_of sources unit) in
+      let list = applications_of (system_configuration s) in
+      let is : applications_at sources unit ≡ Some list = ap (option_map applications_of) present in
+      let clean = applications_clean sources unit list is (unit_faultless sound) in
+      OfSystem list (map (flat_application view (flats_of depth view)) list) (ap (option_map unit_kind_of) present) is
+      (flat_applications view depth list
+      (λ a c. flat_with sources depth a.network (clean.sound a c).clean (λ i h. done_part sound i.type_name ((applications_within sources unit list is a c).types i h))))
+      (joined_is (map (flat_application view (flats_of depth view)) list))
+  unit_flat other present has sound = absurd (false≢true has)
 
   -- ---- its net
 
@@ -167,58 +158,36 @@ module _ (sources : Sources) (unit : List ℕ) where
   net_of_tree_is : (tree : DeclTree) → tree_at sources unit ≡ Some tree → has_net_tree tree ≡ true → IsNet sources unit (net_of_tree sources unit tree)
   net_of_tree_is tree present has = first_is _ _ _ (present_of_tree sources unit tree present) those_blocking those_recursive (finite_is tree present has)
 
+  -- the tree of a unit that has a net
+  net_tree : HasNet sources unit → (tree : DeclTree) × (tree_at sources unit ≡ Some tree) × (has_net_tree tree ≡ true)
+  net_tree has = grind arith
+
   -- the computed net of a unit that has one
-  record Computed : Type 0 where
-    pub net : PlainNet
-    pub at : net_at sources unit ≡ Some net
-    pub is : IsNet sources unit net
-
-  computed : HasNet sources unit → Computed
+  computed : HasNet sources unit → (net : PlainNet) × (net_at sources unit ≡ Some net) × IsNet sources unit net
   unfolding net_at
-  computed has = by_tree (tree_at sources unit) refl
-    where
-      by_test : (tree : DeclTree) (b : Bool) → tree_at sources unit ≡ Some tree → has_net_tree tree ≡ b → Computed
-      by_test tree true present e = record {
-        net = net_of_tree sources unit tree;
-        at = ap (net_in sources unit) present ∙ ap (λ c. if c then Some (net_of_tree sources unit tree) else None) e;
-        is = net_of_tree_is tree present e;
-      }
-      by_test tree false present e = absurd (false≢true ((net_kind sources unit tree false present (sym e)).1 has))
-
-      by_tree : (o : Option DeclTree) → tree_at sources unit ≡ o → Computed
-      by_tree None e = absurd (false≢true ((no_net_kind sources unit e).1 has))
-      by_tree (Some tree) e = by_test tree (has_net_tree tree) e refl
+  computed has =
+      let t = net_tree has in
+      let net = net_of_tree sources unit t.0 in
+      (net, ap (net_in sources unit) t.1 ∙ ap (λ c. if c then Some net else None) t.2, net_of_tree_is t.0 t.1 t.2)
 
   has_computed : (net : PlainNet) → net_at sources unit ≡ Some net → HasNet sources unit
   unfolding net_at
-  has_computed net at = by_tree (tree_at sources unit) refl at
-    where
-      by_test : (tree : DeclTree) (b : Bool) → tree_at sources unit ≡ Some tree → has_net_tree tree ≡ b → (if b then Some (net_of_tree sources unit tree) else None) ≡ Some net → HasNet sources unit
-      by_test tree true present e there = (net_kind sources unit tree true present (sym e)).0 refl
-      by_test tree false present e there = absurd (let no : ⊥ = cc in no)
-
-      by_tree : (o : Option DeclTree) → tree_at sources unit ≡ o → net_in sources unit o ≡ Some net → HasNet sources unit
-      by_tree None e there = absurd (let no : ⊥ = cc in no)
-      by_tree (Some tree) e there = by_test tree (has_net_tree tree) e refl there
+  has_computed net at = grind arith
 
   computed_is : (net : PlainNet) → net_at sources unit ≡ Some net → HasNet sources unit × IsNet sources unit net
   computed_is net at =
       let has = has_computed net at in
       let c = computed has in
-      let there = c.at in
-      let same : c.net ≡ net = cc in
-      (has, subst (IsNet sources unit) same c.is)
+      let there = c.1 in
+      let same : c.0 ≡ net = cc in
+      (has, subst (IsNet sources unit) same c.2)
 
   is_computed : (net : PlainNet) → HasNet sources unit → IsNet sources unit net → net_at sources unit ≡ Some net
-  is_computed net has is = let c = computed has in c.at ∙ ap (λ n. Some n) (one_net_only sources unit c.net net c.is is)
+  is_computed net has is = let c = computed has in c.1 ∙ ap (λ n. Some n) (one_net_only sources unit c.0 net c.2 is)
 
 -- whether there is a net is told by the tree
 pub has_by_text : HasNetByText
-has_by_text sources unit = by (tree_at sources unit) refl
-  where
-    by : (o : Option DeclTree) → tree_at sources unit ≡ o → (has_net_in o ≡ true) ↔ HasNet sources unit
-    by None e = no_net_kind sources unit e
-    by (Some tree) e = net_kind sources unit tree (has_net_tree tree) e refl
+has_by_text sources unit = grind arith
 
 pub net_at_is : NetAtIsNet
 net_at_is sources unit net = (computed_is sources unit net, λ h. is_computed sources unit net h.0 h.1)

@@ -1,41 +1,24 @@
 -- The flat network of a network is found by the networks alone that it rests on.
-use Rattle.std.proofs.Common.{ℕ, ◌≡◌, Bool, true, false, cond, List, [], ◌∷◌, Option, Some, None, ◌⊎◌, inl, inr, refl, sym, ◌∙◌, ap, subst, arith}
-use Rattle.std.proofs.lemmas.List.Elements.{Contains-append_right}
+use Rattle.std.proofs.Common.{ℕ, ◌≡◌, Bool, List, [], ◌∷◌, Option, Some, inl, inr, sym, ◌∙◌, ap, arith}
+use Rattle.fb_wiring.proofs.Text.Members.{contains_here, contains_later, passes_in_find}
 use Rattle.std.specs.{Prelude.{Contains, find, ◌&&◌, option_and_then}, BTreeMap.{is_at}}
 use Rattle.fb_wiring.specs.{Text.Order.{name_cmp}, Tree.declared.network.Sort.{Sort}, Tree.declared.network.Sort.TheVariants.{Adapter}}
 use Rattle.fb_wiring.specs.{Network.Sorts.{same_sort}, Network.declared.network.Port.{Port}, Network.declared.network.Instance.{Instance}}
 use Rattle.fb_wiring.specs.{Network.Plain.{PlainNetwork}, Network.PlainFlat.{PlainFlat}, Network.declared.flat.Link.{Link}}
 use Rattle.fb_wiring.specs.Network.declared.flat.Border.{Border}
 use Rattle.fb_wiring.specs.Network.Network.{View, Place, instance_named, IsInner, Step, Holds, Within as Inside, IsBorderPlace, OwnPort, PortWithin, IsLeafPlace, BlockPort, LeafWithin, Chain, One, More, IsLink, IsBorder}
-use Rattle.fb_wiring.specs.{Network.Flat.{PrintsLink, PrintsBorder, AreLinks, AreBorders}, Network.FlatNet.{IsFlat}}
+use Rattle.fb_wiring.specs.{Network.Flat.{AreLinks, AreBorders}, Network.FlatNet.{IsFlat}}
 use Rattle.fb_wiring.specs.{Network.Clean.{port_named, type_of, adapter_name_at, adapter_at}, Network.NetLink.{IsNetLink, Direct, FromPlug, ToPlug}}
 use Rattle.fb_wiring.specs.{Network.Instances.{Held, AreInstances, NoInstance, ThenBlock, ThenSubapplication}, Network.Count.{IsCount}}
 use Rattle.fb_flatten.specs.Locality.{Within, IsClosed, SameNetworks, SameFlats}
 
-here : {X : Type 0} (x : X) (xs : List X) → Contains (x ∷ xs) x
-here x xs = (0, omega arith, refl)
-
-later : {X : Type 0} (x : X) (xs : List X) (y : X) → Contains xs y → Contains (x ∷ xs) y
-later x xs y c = Contains-append_right (x ∷ []) xs y c
-
 -- what a search finds stands in the list
 pub found : {X : Type 0} (p : X → Bool) (xs : List X) (x : X) → find p xs ≡ Some x → Contains xs x
-found p [] x e = absurd (cc)
-found {X = X} p (z ∷ xs) x e = by_test (p z) e (found p xs x)
-  where
-    by_test : (b : Bool) → cond b (Some z) (find p xs) ≡ Some x → (find p xs ≡ Some x → Contains xs x) → Contains (z ∷ xs) x
-    by_test true d more = let same : z ≡ x = cc in subst (λ (w : X). Contains (z ∷ xs) w) same (here z xs)
-    by_test false d more = later z xs x (more d)
+found p xs x e = (passes_in_find p xs x e).among
 
 -- the steps of a look-up that gives something
-record Reached {X Y : Type 0} (f : X → Option Y) (o : Option X) (y : Y) : Type 0 where
-  pub middle : X
-  pub first : o ≡ Some middle
-  pub gives : f middle ≡ Some y
-
-reached : {X Y : Type 0} (f : X → Option Y) (o : Option X) (y : Y) → option_and_then f o ≡ Some y → Reached f o y
-reached f None y e = absurd (cc)
-reached f (Some x) y e = record { middle = x; first = refl; gives = e }
+reached : {X Y : Type 0} (f : X → Option Y) (o : Option X) (y : Y) → option_and_then f o ≡ Some y → (x : X) × (o ≡ Some x) × (f x ≡ Some y)
+reached f o y e = grind arith
 
 -- the inner network is the same, and within the names
 inner_known : {a : View} {known : List ℕ → Type 0} {network inner : PlainNetwork} {name : List ℕ} → IsClosed a known → Within known network → IsInner a network name inner → Within known inner
@@ -80,42 +63,28 @@ link_there closed same within l =
     }
 
 border_there : {a b : View} {known : List ℕ → Type 0} {network : PlainNetwork} {sort : Sort} {port : List ℕ} {x : Place} → IsClosed a known → SameNetworks known a b → Within known network → IsBorder a network sort port x → IsBorder b network sort port x
-border_there {a = a} {b = b} {network = network} {sort = sort} {port = port} {x = x} closed same within l =
-    record { leaf = leaf_there closed same within l.leaf; chain = by_case l.chain }
-  where
-    by_case : Chain a sort network (port ∷ []) x ⊎ Chain a sort network x (port ∷ []) → Chain b sort network (port ∷ []) x ⊎ Chain b sort network x (port ∷ [])
-    by_case (inl c) = inl (chain_there closed same within c)
-    by_case (inr c) = inr (chain_there closed same within c)
+border_there closed same within l =
+    record { leaf = leaf_there closed same within l.leaf; chain = elim l.chain [ inl c ↦ inl (chain_there closed same within c) | inr c ↦ inr (chain_there closed same within c) ] }
 
 -- the adapter type of a place is among the names, and the same
-record AdapterName (b : View) (known : List ℕ → Type 0) (network : PlainNetwork) (x : Place) (name : List ℕ) : Type 0 where
-  pub is_known : known name
-  pub there : adapter_name_at b network x ≡ Some name
-
-adapter_name_there : {a b : View} {known : List ℕ → Type 0} (network : PlainNetwork) (x : Place) (name : List ℕ) → IsClosed a known → SameNetworks known a b → Within known network → adapter_name_at a network x ≡ Some name → AdapterName b known network x name
+adapter_name_there : {a b : View} {known : List ℕ → Type 0} (network : PlainNetwork) (x : Place) (name : List ℕ) → IsClosed a known → SameNetworks known a b → Within known network → adapter_name_at a network x ≡ Some name → known name × (adapter_name_at b network x ≡ Some name)
 adapter_name_there network [] name closed same within e = absurd (cc)
 adapter_name_there network (port ∷ []) name closed same within e =
     let r = reached (λ (p : Port). p.adapter) (port_named network.ports Adapter port) name e in
-    record {
-      is_known = within.adapters r.middle name (found (λ (p : Port). same_sort p.sort Adapter && is_at (name_cmp p.name) port) network.ports r.middle r.first) r.gives;
-      there = e;
-    }
+    (within.adapters r.0 name (found (λ (p : Port). same_sort p.sort Adapter && is_at (name_cmp p.name) port) network.ports r.0 r.1) r.2, e)
 adapter_name_there {a = a} {b = b} network (at ∷ (y ∷ x)) name closed same within e =
     let r = reached (λ (type : PlainNetwork). adapter_name_at a type (y ∷ x)) (type_of a network at) name e in
-    let q = reached (λ (i : Instance). a i.type_name) (instance_named network.instances at) r.middle r.first in
-    let is_type = within.types q.middle (found (λ (j : Instance). is_at (name_cmp j.name) at) network.instances q.middle q.first) in
-    let inner = adapter_name_there r.middle (y ∷ x) name closed same (closed q.middle.type_name r.middle is_type q.gives) r.gives in
-    let type_there : type_of b network at ≡ Some r.middle = ap (option_and_then (λ (i : Instance). b i.type_name)) q.first ∙ sym (same q.middle.type_name is_type) ∙ q.gives in
-    record {
-      is_known = inner.is_known;
-      there = ap (option_and_then (λ (type : PlainNetwork). adapter_name_at b type (y ∷ x))) type_there ∙ inner.there;
-    }
+    let q = reached (λ (i : Instance). a i.type_name) (instance_named network.instances at) r.0 r.1 in
+    let is_type = within.types q.0 (found (λ (j : Instance). is_at (name_cmp j.name) at) network.instances q.0 q.1) in
+    let inner = adapter_name_there r.0 (y ∷ x) name closed same (closed q.0.type_name r.0 is_type q.2) r.2 in
+    let type_there : type_of b network at ≡ Some r.0 = ap (option_and_then (λ (i : Instance). b i.type_name)) q.1 ∙ sym (same q.0.type_name is_type) ∙ q.2 in
+    (inner.0, ap (option_and_then (λ (type : PlainNetwork). adapter_name_at b type (y ∷ x))) type_there ∙ inner.1)
 
 adapter_there : {a b : View} {known : List ℕ → Type 0} (network adapter : PlainNetwork) (x : Place) → IsClosed a known → SameNetworks known a b → Within known network → adapter_at a network x ≡ Some adapter → adapter_at b network x ≡ Some adapter
 adapter_there {a = a} {b = b} network adapter x closed same within e =
     let r = reached a (adapter_name_at a network x) adapter e in
-    let n = adapter_name_there network x r.middle closed same within r.first in
-    ap (option_and_then b) n.there ∙ sym (same r.middle n.is_known) ∙ r.gives
+    let n = adapter_name_there network x r.0 closed same within r.1 in
+    ap (option_and_then b) n.1 ∙ sym (same r.0 n.0) ∙ r.2
 
 net_link_there : {a b : View} {known : List ℕ → Type 0} {sort : Sort} {network : PlainNetwork} {x y : Place} → IsClosed a known → SameNetworks known a b → Within known network → IsNetLink a network sort x y → IsNetLink b network sort x y
 net_link_there closed same within (Direct n link) = Direct n (link_there closed same within link)
@@ -127,28 +96,26 @@ net_link_there {network = network} closed same within (ToPlug plug socket adapte
 pub instances_there : {a b : View} {known : List ℕ → Type 0} {list : List Instance} {held : List Held} → IsClosed a known → SameNetworks known a b → ((i : Instance) → Contains list i → known i.type_name) → AreInstances a list held → AreInstances b list held
 instances_there closed same within NoInstance = NoInstance
 instances_there closed same within (ThenBlock i rest others k more) =
-    ThenBlock i rest others k (instances_there closed same (λ j c. within j (later i rest j c)) more)
+    ThenBlock i rest others k (instances_there closed same (λ j c. within j (contains_later i rest j c)) more)
 instances_there closed same within (ThenSubapplication i rest inner own others k d inside more) =
-    let is_type = within i (here i rest) in
+    let is_type = within i (contains_here i rest) in
     ThenSubapplication i rest inner own others k (sym (same i.type_name is_type) ∙ d)
     (instances_there closed same (closed i.type_name inner is_type d).types inside)
-    (instances_there closed same (λ j c. within j (later i rest j c)) more)
+    (instances_there closed same (λ j c. within j (contains_later i rest j c)) more)
 
 links_there : {a b : View} {known : List ℕ → Type 0} {network : PlainNetwork} {links : List Link} → IsClosed a known → SameNetworks known a b → IsClosed b known → SameNetworks known b a → Within known network → AreLinks a network links → AreLinks b network links
-links_there {b = b} {network = network} {links = links} closed same closed' same' within are =
-    record { sound = sound; complete = λ sort x y l. are.complete sort x y (net_link_there closed' same' within l) }
-  where
-    sound : (l : Link) → Contains links l → PrintsLink b network l
-    sound l c =
-        let p = are.sound l c in
-        record { from_place = p.from_place; to_place = p.to_place; from_is = p.from_is; to_is = p.to_is; link = net_link_there closed same within p.link }
+links_there closed same closed' same' within are = record {
+  sound = λ l c.
+      let p = are.sound l c in
+      record { from_place = p.from_place; to_place = p.to_place; from_is = p.from_is; to_is = p.to_is; link = net_link_there closed same within p.link };
+  complete = λ sort x y l. are.complete sort x y (net_link_there closed' same' within l);
+}
 
 borders_there : {a b : View} {known : List ℕ → Type 0} {network : PlainNetwork} {borders : List Border} → IsClosed a known → SameNetworks known a b → IsClosed b known → SameNetworks known b a → Within known network → AreBorders a network borders → AreBorders b network borders
-borders_there {b = b} {network = network} {borders = borders} closed same closed' same' within are =
-    record { sound = sound; complete = λ sort port x l. are.complete sort port x (border_there closed' same' within l) }
-  where
-    sound : (l : Border) → Contains borders l → PrintsBorder b network l
-    sound l c = let p = are.sound l c in record { at = p.at; place_is = p.place_is; border = border_there closed same within p.border }
+borders_there closed same closed' same' within are = record {
+  sound = λ l c. let p = are.sound l c in record { at = p.at; place_is = p.place_is; border = border_there closed same within p.border };
+  complete = λ sort port x l. are.complete sort port x (border_there closed' same' within l);
+}
 
 flat_there : {a b : View} {known : List ℕ → Type 0} {network : PlainNetwork} {flat : PlainFlat} → IsClosed a known → SameNetworks known a b → IsClosed b known → SameNetworks known b a → Within known network → IsFlat a network flat → IsFlat b network flat
 flat_there closed same closed' same' within f =

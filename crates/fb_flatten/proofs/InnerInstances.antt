@@ -1,16 +1,15 @@
 -- The applications of a text have no plugs and no sockets.
-use Rattle.std.proofs.Common.{◌≡◌, ℕ, Bool, true, false, List, [], ◌∷◌, ◌++◌, length, Option, Some, None, Result, Ok, Err, sym, ap, subst, inl, inr}
+use Rattle.std.proofs.Common.{◌≡◌, ℕ, Bool, true, false, List, [], ◌∷◌, ◌++◌, length, Option, Some, None, Result, Ok, Err, sym, ap, ◌∙◌, subst, inl, inr}
 use Rattle.std.specs.{FinMap.{get}, Option.{option_and_then}}
-use Rattle.fb_wiring.specs.{Text.declared.token.Span.{Span}, Forms.Lexemes.{lexemes_of}, Forms.declared.kind.Kind.{Kind}, Forms.declared.lexeme.Lexeme.{Lexeme}}
-use Rattle.fb_wiring.specs.{Forms.Form.{Form, Spells, both, either, many, as_value}, Forms.Words.{before, behind, key, name}}
-use Rattle.fb_wiring.specs.{Sections.Network.{blocks, connections, instance, inner_subapplication, subapplications}, Sections.Sections.{section}}
-use Rattle.fb_wiring.specs.Sections.SystemParts.{device, mappings}
-use Rattle.fb_wiring.specs.Tree.Tree.{ApplicationTree, DeclTree, DeviceTree, InstanceTree, MappingTree, SystemTree, block_type, adapter_type, subapplication_type, system_configuration, structure_type}
+use Rattle.fb_wiring.specs.{Text.declared.token.Span.{Span}, Text.declared.name.NameUse.{NameUse}, Forms.Lexemes.{lexemes_of}, Forms.declared.kind.Kind.{Kind}, Forms.declared.lexeme.Lexeme.{Lexeme}}
+use Rattle.fb_wiring.specs.{Forms.Form.{Form, Spells, both, many, as_value}, Forms.Words.{before, behind, key, name}}
+use Rattle.fb_wiring.specs.{Sections.Network.{blocks, instance, inner_subapplication, subapplications}, Sections.Sections.{section}}
+use Rattle.fb_wiring.specs.Tree.Tree.{ApplicationTree, DeclTree, InstanceTree, SystemTree, system_configuration}
 use Rattle.fb_wiring.specs.Parse.Grammar.{application, application_of, application_section, network_section, system, system_of, system_section, unit}
-use Rattle.fb_wiring.specs.Parse.SystemContents.{SystemContentsTree, of_application, of_device, of_mappings, system_joined}
+use Rattle.fb_wiring.specs.Parse.SystemContents.{SystemContentsTree, system_joined}
 use Rattle.fb_wiring.specs.Library.View.{Sources, tree_at, tree_in, tree_of}
-use Rattle.fb_wiring.specs.{Tree.declared.network.Connection.{Connection}, Tree.declared.network.Role.{Role}}
-use Rattle.fb_wiring.specs.{Parse.Body.{BodyTree, Whole, BrokenAt, IsBodyIn, body_of}, Parse.Contents.{ContentsTree, joined, of_connections, of_instances}}
+use Rattle.fb_wiring.specs.{Tree.declared.network.Role.{Role}}
+use Rattle.fb_wiring.specs.{Parse.Body.{BodyTree, Whole, BrokenAt, IsBodyIn, body_of}, Parse.Contents.{ContentsTree, joined}}
 use Rattle.fb_wiring.specs.Forms.declared.kind.Kind.TheVariants as kinds
 use Rattle.fb_wiring.specs.Tree.declared.network.Role.TheVariants as roles
 use Rattle.fb_wiring.proofs.Parse.Bodies.{told}
@@ -20,31 +19,12 @@ use Rattle.fb_faults.proofs.Netcheck.Locality.{Each}
 abbrev GivesOnly : {A : Type 0} → Form A → (A → Type 0) → Type 0
 GivesOnly {A = A} x P = (tokens : List Lexeme) (value : A) → Spells x tokens value → P value
 
-gives_as : {A B : Type 0} (f : A → B) (x : Form A) (P : A → Type 0) (Q : B → Type 0) → ((a : A) → P a → Q (f a)) → GivesOnly x P → GivesOnly (as_value f x) Q
-gives_as f x P Q keeps h tokens value s = subst Q (sym s.2) (keeps s.0 (h tokens s.0 s.1))
-
-gives_first : {A B : Type 0} (x : Form A) (y : Form B) (P : A → Type 0) → GivesOnly x P → GivesOnly (both x y) (λ v. P v.0)
-gives_first x y P h tokens value s = h s.0 value.0 s.3
-
-gives_second : {A B : Type 0} (x : Form A) (y : Form B) (P : B → Type 0) → GivesOnly y P → GivesOnly (both x y) (λ v. P v.1)
-gives_second x y P h tokens value s = h s.1 value.1 s.4
-
-gives_before : {A B : Type 0} (x : Form A) (y : Form B) (P : A → Type 0) → GivesOnly x P → GivesOnly (before x y) P
-gives_before {A = A} {B = B} x y P h = gives_as (λ (v : A × B). v.0) (both x y) (λ (v : A × B). P v.0) P (λ v p. p) (gives_first x y P h)
-
-gives_behind : {A B : Type 0} (x : Form A) (y : Form B) (P : B → Type 0) → GivesOnly y P → GivesOnly (behind x y) P
-gives_behind {A = A} {B = B} x y P h = gives_as (λ (v : A × B). v.1) (both x y) (λ (v : A × B). P v.1) P (λ v p. p) (gives_second x y P h)
-
-gives_either : {A : Type 0} (x y : Form A) (P : A → Type 0) → GivesOnly x P → GivesOnly y P → GivesOnly (either x y) P
-gives_either x y P first second tokens value (inl s) = first tokens value s
-gives_either x y P first second tokens value (inr s) = second tokens value s
-
 gives_each : {A : Type 0} (x : Form A) (P : A → Type 0) → GivesOnly x P → GivesOnly (many x) (Each P)
 gives_each x P h tokens [] s = tt
 gives_each x P h tokens (v ∷ vs) s = (h s.0 v s.3, gives_each x P h s.1 vs s.4)
 
 gives_section : {A : Type 0} (start end : Kind) (x : Form A) (P : A → Type 0) → GivesOnly x P → GivesOnly (section start x end) (Each P)
-gives_section start end x P h = gives_behind (key start) (before (many x) (key end)) (Each P) (gives_before (many x) (key end) (Each P) (gives_each x P h))
+gives_section start end x P h tokens value s = subst (Each P) (sym (s.2 ∙ s.1.4.2)) (gives_each x P h s.1.4.1.0 s.1.4.0.0 s.1.4.1.3)
 
 each_append : {A : Type 0} (P : A → Type 0) (xs ys : List A) → Each P xs → Each P ys → Each P (xs ++ ys)
 each_append P [] ys h more = more
@@ -60,37 +40,28 @@ is_inner roles.Subapplication = true
 abbrev pub IsInnerInstance : InstanceTree → Type 0
 IsInnerInstance i = is_inner i.role ≡ true
 
-gives_block : GivesOnly (instance roles.Block) IsInnerInstance
-unfolding instance
-gives_block tokens value s = ap (λ (i : InstanceTree). is_inner i.role) s.2
-
 gives_blocks : GivesOnly blocks (Each IsInnerInstance)
-unfolding blocks
-gives_blocks = gives_section kinds.Fbs kinds.EndFbs (instance roles.Block) IsInnerInstance gives_block
-
-gives_subapplication : GivesOnly inner_subapplication IsInnerInstance
-unfolding inner_subapplication
-gives_subapplication tokens value s = ap (λ (i : InstanceTree). is_inner i.role) s.2
+unfolding blocks instance
+gives_blocks = gives_section kinds.Fbs kinds.EndFbs (instance roles.Block) IsInnerInstance (λ tokens value s. ap (λ (i : InstanceTree). is_inner i.role) s.2)
 
 gives_subapplications : GivesOnly subapplications (Each IsInnerInstance)
-unfolding subapplications
-gives_subapplications = gives_section kinds.Subapps kinds.EndSubapps inner_subapplication IsInnerInstance gives_subapplication
+unfolding subapplications inner_subapplication
+gives_subapplications = gives_section kinds.Subapps kinds.EndSubapps inner_subapplication IsInnerInstance (λ tokens value s. ap (λ (i : InstanceTree). is_inner i.role) s.2)
 
 abbrev InContents : ContentsTree → Type 0
 InContents c = Each IsInnerInstance c.network.instances
 
-gives_network_section : GivesOnly network_section InContents
-unfolding network_section
-gives_network_section =
-    gives_either (as_value of_instances blocks) (as_value of_connections connections) InContents
-    (gives_as of_instances blocks (Each IsInnerInstance) InContents (λ i h. h) gives_blocks)
-    (gives_as of_connections connections (λ (c : List Connection). Unit {0}) InContents (λ c h. tt) (λ tokens value s. tt))
-
 gives_application_section : GivesOnly application_section InContents
-unfolding application_section
-gives_application_section =
-    gives_either network_section (as_value of_instances subapplications) InContents gives_network_section
-    (gives_as of_instances subapplications (Each IsInnerInstance) InContents (λ i h. h) gives_subapplications)
+unfolding application_section network_section
+gives_application_section tokens value (inl (inl s)) = subst InContents (sym s.2) (gives_blocks tokens s.0 s.1)
+gives_application_section tokens value (inl (inr s)) = subst InContents (sym s.2) tt
+gives_application_section tokens value (inr s) = subst InContents (sym s.2) (gives_subapplications tokens s.0 s.1)
+
+-- a name and sections between two words
+gives_closed : {S A B : Type 0} (start end : Kind) (x : Form S) (join : List S → A) (make : NameUse × A → B) (P : S → Type 0) (Q : A → Type 0) (R : B → Type 0) → ((all : List S) → Each P all → Q (join all)) → ((v : NameUse × A) → Q v.1 → R (make v)) → GivesOnly x P → GivesOnly (as_value make (behind (key start) (both name (before (as_value join (many x)) (key end))))) R
+gives_closed start end x join make P Q R joins makes h tokens value s =
+    let sections = s.1.1.4.4.1 in
+    subst R (sym s.2) (makes s.0 (subst Q (sym (ap (λ v. v.1) s.1.2 ∙ s.1.1.4.4.2 ∙ sections.3.2)) (joins sections.3.0 (gives_each x P h sections.0 sections.3.0 sections.3.1))))
 
 in_joined : (sections : List ContentsTree) → Each InContents sections → InContents (joined sections)
 in_joined [] h = tt
@@ -101,25 +72,16 @@ InApplication a = Each IsInnerInstance a.network.instances
 
 gives_application : GivesOnly application InApplication
 unfolding application
-gives_application =
-    let sections = as_value joined (many application_section) in
-    let all : GivesOnly sections InContents = gives_as joined (many application_section) (Each InContents) InContents in_joined (gives_each application_section InContents gives_application_section) in
-    let closed : GivesOnly (before sections (key kinds.EndApplication)) InContents = gives_before sections (key kinds.EndApplication) InContents all in
-    gives_as application_of (behind (key kinds.Application) (both name (before sections (key kinds.EndApplication)))) (λ v. InContents v.1) InApplication (λ v h. h)
-    (gives_behind (key kinds.Application) (both name (before sections (key kinds.EndApplication))) (λ v. InContents v.1)
-    (gives_second name (before sections (key kinds.EndApplication)) InContents closed))
+gives_application = gives_closed kinds.Application kinds.EndApplication application_section joined application_of InContents InContents InApplication in_joined (λ v h. h) gives_application_section
 
 abbrev InSystem : SystemContentsTree → Type 0
 InSystem c = Each InApplication c.applications
 
 gives_system_section : GivesOnly system_section InSystem
 unfolding system_section
-gives_system_section =
-    gives_either (as_value of_application application) (either (as_value of_device device) (as_value of_mappings mappings)) InSystem
-    (gives_as of_application application InApplication InSystem (λ a h. (h, tt)) gives_application)
-    (gives_either (as_value of_device device) (as_value of_mappings mappings) InSystem
-    (gives_as of_device device (λ (d : DeviceTree). Unit {0}) InSystem (λ d h. tt) (λ tokens value s. tt))
-    (gives_as of_mappings mappings (λ (m : List MappingTree). Unit {0}) InSystem (λ m h. tt) (λ tokens value s. tt)))
+gives_system_section tokens value (inl s) = subst InSystem (sym s.2) (gives_application tokens s.0 s.1, tt)
+gives_system_section tokens value (inr (inl s)) = subst InSystem (sym s.2) tt
+gives_system_section tokens value (inr (inr s)) = subst InSystem (sym s.2) tt
 
 in_system_joined : (sections : List SystemContentsTree) → Each InSystem sections → InSystem (system_joined sections)
 in_system_joined [] h = tt
@@ -130,20 +92,11 @@ InSystemTree s = Each InApplication s.applications
 
 gives_system : GivesOnly system InSystemTree
 unfolding system
-gives_system =
-    let sections = as_value system_joined (many system_section) in
-    let all : GivesOnly sections InSystem = gives_as system_joined (many system_section) (Each InSystem) InSystem in_system_joined (gives_each system_section InSystem gives_system_section) in
-    let closed : GivesOnly (before sections (key kinds.EndSystem)) InSystem = gives_before sections (key kinds.EndSystem) InSystem all in
-    gives_as system_of (behind (key kinds.System) (both name (before sections (key kinds.EndSystem)))) (λ v. InSystem v.1) InSystemTree (λ v h. h)
-    (gives_behind (key kinds.System) (both name (before sections (key kinds.EndSystem))) (λ v. InSystem v.1)
-    (gives_second name (before sections (key kinds.EndSystem)) InSystem closed))
+gives_system = gives_closed kinds.System kinds.EndSystem system_section system_joined system_of InSystem InSystem InSystemTree in_system_joined (λ v h. h) gives_system_section
 
 abbrev InUnit : DeclTree → Type 0
-InUnit (block_type d) = Unit {0}
-InUnit (adapter_type d) = Unit {0}
-InUnit (subapplication_type d) = Unit {0}
 InUnit (system_configuration s) = InSystemTree s
-InUnit (structure_type s) = Unit {0}
+InUnit other = Unit {0}
 
 gives_unit : GivesOnly unit InUnit
 unfolding unit

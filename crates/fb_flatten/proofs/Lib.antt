@@ -1,6 +1,4 @@
 -- Lemmas of the proofs.
-pub mod Finding
-pub mod FirstOnes
 pub mod InnerInstances
 pub mod NameLemmas
 pub mod NetworkLemmas

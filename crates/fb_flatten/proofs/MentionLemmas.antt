@@ -1,10 +1,10 @@
 -- What a unit says as a network is within its mentions.
-use Rattle.std.proofs.Common.{ℕ, ◌≡◌, ◌+◌, List, [], ◌∷◌, ◌++◌, Option, Some, None, ◌⊎◌, inl, inr, refl, sym, ◌∙◌, ap, subst}
+use Rattle.std.proofs.Common.{ℕ, ◌≡◌, ◌+◌, List, [], ◌∷◌, ◌++◌, Option, Some, None, inl, inr, refl, sym, ◌∙◌, ap, subst, arith}
 use Rattle.std.proofs.lemmas.List.Elements.{Contains-append_cases}
-use Rattle.std.specs.{Prelude.{Contains, map, filter, option_map, is_none, take}, List.{filter_map, cons_option, enumerate_from}}
+use Rattle.std.specs.{Prelude.{Contains, map, filter, is_none, take}, List.{filter_map, enumerate_from}}
 use Rattle.std.specs.{Cmp.Lexicographic.{nat_list_cmp_total}, FinMap.{slice_cmp-IsAntisymmetric, nat_cmp-IsAntisymmetric}}
 use Rattle.fb_wiring.specs.{Text.Order.{name_cmp}, Text.declared.name.NameUse.{NameUse}}
-use Rattle.fb_wiring.specs.Tree.Tree.{ApplicationTree, DeclTree, InstanceTree, TypeTree, block_type, adapter_type, subapplication_type, system_configuration, structure_type}
+use Rattle.fb_wiring.specs.Tree.Tree.{ApplicationTree, DeclTree, InstanceTree, TypeTree, block_type, adapter_type, subapplication_type, system_configuration}
 use Rattle.fb_wiring.specs.Iface.Ports.{meanings_in_type, events_on, data_on, instances_as, instances_in as declared_instances, same_role}
 use Rattle.fb_wiring.specs.{Tree.Mentions.{instance_types, parts_of, types_in}, Tree.declared.interface.Side.{Side}}
 use Rattle.fb_wiring.specs.{Tree.declared.interface.Side.TheVariants.{Input, Output}, Tree.declared.network.Role.{Role}}
@@ -17,35 +17,15 @@ use Rattle.fb_wiring.proofs.Text.OrderLemmas.{in_order-members}
 use Rattle.fb_wiring.proofs.Text.Members.{contains_nothing, contains_here, contains_later, contains_cases, contains_map, origin_in_map, contains_flat_map, origin_in_flat_map, passes_in_filter}
 use Rattle.fb_wiring.specs.Tree.declared.network.Role.TheVariants as roles
 use Rattle.fb_flatten.specs.Locality.{Within}
-
--- an element of which the member is given
-record IsGiven {X Y : Type 0} (f : X → Option Y) (xs : List X) (y : Y) : Type 0 where
-  pub origin : X
-  pub among : Contains xs origin
-  pub gives : f origin ≡ Some y
-
-given_later : {X Y : Type 0} (f : X → Option Y) (x : X) (xs : List X) (y : Y) → IsGiven f xs y → IsGiven f (x ∷ xs) y
-given_later f x xs y g = record { origin = g.origin; among = contains_later x xs g.origin g.among; gives = g.gives }
-
-origin_in_filter_map : {X Y : Type 0} (f : X → Option Y) (xs : List X) (y : Y) → Contains (filter_map f xs) y → IsGiven f xs y
-origin_in_filter_map f [] y c = absurd (contains_nothing y c)
-origin_in_filter_map {X = X} {Y = Y} f (x ∷ xs) y c = by_given (f x) refl c (origin_in_filter_map f xs y)
-  where
-    by_given : (o : Option Y) → f x ≡ o → Contains (cons_option o (filter_map f xs)) y → (Contains (filter_map f xs) y → IsGiven f xs y) → IsGiven f (x ∷ xs) y
-    by_given None e c more = given_later f x xs y (more c)
-    by_given (Some z) e c more = by_case (contains_cases z (filter_map f xs) y c)
-      where
-        by_case : (z ≡ y) ⊎ Contains (filter_map f xs) y → IsGiven f (x ∷ xs) y
-        by_case (inl s) = record { origin = x; among = contains_here x xs; gives = e ∙ ap (λ (w : Y). Some w) s }
-        by_case (inr d) = given_later f x xs y (more d)
+use Rattle.fb_flatten.proofs.NameLemmas.{mapped, origin_in_filter_map}
 
 in_enumerated : {X : Type 0} (n : ℕ) (xs : List X) (p : ℕ × X) → Contains (enumerate_from n xs) p → Contains xs p.1
 in_enumerated n [] p c = absurd (contains_nothing p c)
-in_enumerated {X = X} n (x ∷ xs) p c = by_case (contains_cases (n, x) (enumerate_from (n + 1) xs) p c) (in_enumerated (n + 1) xs p)
-  where
-    by_case : ((n, x) ≡ p) ⊎ Contains (enumerate_from (n + 1) xs) p → (Contains (enumerate_from (n + 1) xs) p → Contains xs p.1) → Contains (x ∷ xs) p.1
-    by_case (inl e) more = subst (λ (q : ℕ × X). Contains (x ∷ xs) q.1) e (contains_here x xs)
-    by_case (inr d) more = contains_later x xs p.1 (more d)
+in_enumerated {X = X} n (x ∷ xs) p c =
+    elim (contains_cases (n, x) (enumerate_from (n + 1) xs) p c) [
+      | inl e ↦ subst (λ (q : ℕ × X). Contains (x ∷ xs) q.1) e (contains_here x xs)
+      | inr d ↦ contains_later x xs p.1 (in_enumerated (n + 1) xs p d)
+    ]
 
 -- first declarations are declarations
 in_first_ones : {D : Type 0} (declarations : List (List ℕ × D)) (y : List ℕ × D) → Contains (first_ones declarations) y → Contains declarations y
@@ -56,10 +36,7 @@ in_first_ones {D = D} declarations y c =
     subst (λ (z : List ℕ × D). Contains declarations z) o.gives (in_enumerated 0 declarations o.origin p.among)
 
 type_kept : (role : Role) (name type_name : List ℕ) (i : Instance) → instance_in_role role name type_name ≡ Some i → type_name ≡ i.type_name
-type_kept roles.Plug name type_name i e = absurd (let no : ⊥ = cc in no)
-type_kept roles.Socket name type_name i e = absurd (let no : ⊥ = cc in no)
-type_kept roles.Block name type_name i e = let same = ap (λ (o : Option Instance). elim o [ None ↦ type_name | Some j ↦ j.type_name ]) e in same
-type_kept roles.Subapplication name type_name i e = let same = ap (λ (o : Option Instance). elim o [ None ↦ type_name | Some j ↦ j.type_name ]) e in same
+type_kept role name type_name i e = grind arith
 
 -- an instance of a network has the type of one of the text
 instance_mentioned : (instances : List InstanceTree) (i : Instance) → Contains (filter_map plain_instance instances) i → Contains (types_in instances) i.type_name
@@ -84,12 +61,15 @@ adapter_mentioned side role d port name c e =
     let same : a.origin.1.name ≡ name = cc in
     subst (λ (n : List ℕ). Contains (types_in d.network.instances) n) (ap (λ (u : NameUse). u.name) (second ∙ first) ∙ same) (contains_map (λ (j : InstanceTree). j.type_name.name) d.network.instances t.origin t.among)
 
--- a port with no adapter
-no_adapter : {X : Type 0} (f : X → Port) (xs : List X) (port : Port) (name : List ℕ) → ((x : X) → (f x).adapter ≡ None) → Contains (map f xs) port → port.adapter ≡ Some name → ⊥
-no_adapter f xs port name none c e =
-    let o = origin_in_map f xs port c in
-    let same : None ≡ Some name = sym (none o.origin) ∙ ap (λ (x : Port). x.adapter) o.gives ∙ e in
-    cc
+-- ports with no adapter
+abbrev NoAdapters : List Port → Type 0
+NoAdapters ports = (port : Port) → Contains ports port → port.adapter ≡ None
+
+no_adapters : {X : Type 0} (f : X → Port) (xs : List X) → ((x : X) → (f x).adapter ≡ None) → NoAdapters (map f xs)
+no_adapters f xs none port c = let o = origin_in_map f xs port c in ap (λ (x : Port). x.adapter) (sym o.gives) ∙ none o.origin
+
+neither : (a b : List Port) → NoAdapters a → NoAdapters b → NoAdapters (a ++ b)
+neither a b first second port c = elim (Contains-append_cases a b port c) [ inl h ↦ first port h | inr h ↦ second port h ]
 
 port_mentioned : (d : TypeTree) (port : Port) (name : List ℕ) → Contains (plain_ports (meanings_in_type d)) port → port.adapter ≡ Some name → Contains (types_in d.network.instances) name
 port_mentioned d port name c e =
@@ -100,20 +80,14 @@ port_mentioned d port name c e =
     let w = map (plain_data Output) (data_on Output m) in
     let plugs = map (plain_adapter Output) (instances_as roles.Plug m) in
     let sockets = map (plain_adapter Input) (instances_as roles.Socket m) in
-    elim (Contains-append_cases ((((a ++ b) ++ v) ++ w) ++ plugs) sockets port c) [
+    let events = neither a b (no_adapters (plain_event Input) (events_on Input m) (λ x. refl)) (no_adapters (plain_event Output) (events_on Output m) (λ x. refl)) in
+    let data_inputs = neither (a ++ b) v events (no_adapters (plain_data Input) (data_on Input m) (λ x. refl)) in
+    let none = neither (a ++ b ++ v) w data_inputs (no_adapters (plain_data Output) (data_on Output m) (λ x. refl)) in
+    elim (Contains-append_cases (a ++ b ++ v ++ w ++ plugs) sockets port c) [
       | inr h ↦ adapter_mentioned Input roles.Socket d port name h e
-      | inl h ↦ elim (Contains-append_cases (((a ++ b) ++ v) ++ w) plugs port h) [
+      | inl h ↦ elim (Contains-append_cases (a ++ b ++ v ++ w) plugs port h) [
         | inr h ↦ adapter_mentioned Output roles.Plug d port name h e
-        | inl h ↦ elim (Contains-append_cases ((a ++ b) ++ v) w port h) [
-          | inr h ↦ absurd (no_adapter (plain_data Output) (data_on Output m) port name (λ x. refl) h e)
-          | inl h ↦ elim (Contains-append_cases (a ++ b) v port h) [
-            | inr h ↦ absurd (no_adapter (plain_data Input) (data_on Input m) port name (λ x. refl) h e)
-            | inl h ↦ elim (Contains-append_cases a b port h) [
-              | inr h ↦ absurd (no_adapter (plain_event Output) (events_on Output m) port name (λ x. refl) h e)
-              | inl h ↦ absurd (no_adapter (plain_event Input) (events_on Input m) port name (λ x. refl) h e)
-            ]
-          ]
-        ]
+        | inl h ↦ let no = none port h in absurd (let fails : ⊥ = cc in fails)
       ]
     ]
 
@@ -137,40 +111,29 @@ network_within (subapplication_type d) =
       types = λ i c. listed (subapplication_type d) i.type_name (instance_mentioned d.network.instances i c);
       adapters = λ port name c e. listed (subapplication_type d) name (port_mentioned d port name c e);
     }
-network_within (system_configuration s) = record { types = λ i c. absurd (contains_nothing i c); adapters = λ port name c e. absurd (contains_nothing port c) }
-network_within (structure_type s) = record { types = λ i c. absurd (contains_nothing i c); adapters = λ port name c e. absurd (contains_nothing port c) }
+network_within other = record { types = λ i c. absurd (contains_nothing i c); adapters = λ port name c e. absurd (contains_nothing port c) }
 
 -- the network of a declared unit is within its parts
 pub declared_within : (sources : Sources) (name : List ℕ) (network : PlainNetwork) → declared sources name ≡ Some network → Within (Contains (parts_at sources name)) network
-declared_within sources name network e = by_tree (tree_at sources name) refl e
-  where
-    by_tree : (o : Option DeclTree) → tree_at sources name ≡ o → option_map network_of o ≡ Some network → Within (Contains (parts_at sources name)) network
-    by_tree None t e = absurd (let no : ⊥ = cc in no)
-    by_tree (Some decl) t e =
-        let same : network_of decl ≡ network = cc in
-        subst (λ (n : PlainNetwork). Within (Contains (parts_at sources name)) n) same
-        (subst (λ (o : Option DeclTree). Within (Contains (parts_in o)) (network_of decl)) (sym t) (network_within decl))
+declared_within sources name network e =
+    let m = mapped network_of (tree_at sources name) network e in
+    subst (λ (n : PlainNetwork). Within (Contains (parts_at sources name)) n) m.2
+    (subst (λ (o : Option DeclTree). Within (Contains (parts_in o)) (network_of m.0)) (sym m.1) (network_within m.0))
 
 own_mentioned : (decl : DeclTree) (i : Instance) → Contains (own_instances decl) i → Contains (parts_of decl) i.type_name
-own_mentioned (block_type d) i c = absurd (contains_nothing i c)
-own_mentioned (adapter_type d) i c = absurd (contains_nothing i c)
 own_mentioned (subapplication_type d) i c = listed (subapplication_type d) i.type_name (instance_mentioned d.network.instances i c)
-own_mentioned (structure_type s) i c = absurd (contains_nothing i c)
 own_mentioned (system_configuration s) i c =
     let o = origin_in_flat_map (λ (a : Application). a.network.instances) (map plain_application s.applications) i c in
     let a = origin_in_map plain_application s.applications o.origin o.among in
     let has : Contains (plain_application a.origin).network.instances i = subst (λ (x : Application). Contains x.network.instances i) (sym a.gives) o.has in
     listed (system_configuration s) i.type_name (contains_flat_map (λ (x : ApplicationTree). types_in x.network.instances) s.applications a.origin i.type_name a.among (instance_mentioned a.origin.network.instances i has))
+own_mentioned other i c = absurd (contains_nothing i c)
 
 -- the types of a unit's own instances are among its parts
 pub own_within : (sources : Sources) (unit : List ℕ) (decl : DeclTree) → tree_at sources unit ≡ Some decl → (i : Instance) → Contains (own_instances decl) i → Contains (parts_at sources unit) i.type_name
 own_within sources unit decl t i c = subst (λ (o : Option DeclTree). Contains (parts_in o) i.type_name) (sym t) (own_mentioned decl i c)
 
 plain_within : (decl : DeclTree) (a : Application) → Contains (applications_of decl) a → Within (Contains (parts_of decl)) a.network
-plain_within (block_type d) a c = absurd (contains_nothing a c)
-plain_within (adapter_type d) a c = absurd (contains_nothing a c)
-plain_within (subapplication_type d) a c = absurd (contains_nothing a c)
-plain_within (structure_type s) a c = absurd (contains_nothing a c)
 plain_within (system_configuration s) a c =
     record {
       types = λ i h. own_mentioned (system_configuration s) i (contains_flat_map (λ (x : Application). x.network.instances) (applications_of (system_configuration s)) a i c h);
@@ -181,14 +144,11 @@ plain_within (system_configuration s) a c =
     adapters port name h e =
         let o = origin_in_map plain_application s.applications a c in
         absurd (contains_nothing port (subst (λ (x : Application). Contains x.network.ports port) (sym o.gives) h))
+plain_within other a c = absurd (contains_nothing a c)
 
 -- the networks of a system's applications are within its parts
 pub applications_within : (sources : Sources) (unit : List ℕ) (applications : List Application) → applications_at sources unit ≡ Some applications → (a : Application) → Contains applications a → Within (Contains (parts_at sources unit)) a.network
-applications_within sources unit applications e a c = by_tree (tree_at sources unit) refl e
-  where
-    by_tree : (o : Option DeclTree) → tree_at sources unit ≡ o → option_map applications_of o ≡ Some applications → Within (Contains (parts_at sources unit)) a.network
-    by_tree None t e = absurd (let no : ⊥ = cc in no)
-    by_tree (Some decl) t e =
-        let same : applications_of decl ≡ applications = cc in
-        subst (λ (o : Option DeclTree). Within (Contains (parts_in o)) a.network) (sym t)
-        (plain_within decl a (subst (λ (l : List Application). Contains l a) (sym same) c))
+applications_within sources unit applications e a c =
+    let m = mapped applications_of (tree_at sources unit) applications e in
+    subst (λ (o : Option DeclTree). Within (Contains (parts_in o)) a.network) (sym m.1)
+    (plain_within m.0 a (subst (λ (l : List Application). Contains l a) (sym m.2) c))

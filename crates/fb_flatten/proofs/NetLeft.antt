@@ -1,11 +1,11 @@
 -- Texts that say the same, and have no faults, leave the net of what rests on them as it was.
-use Rattle.std.proofs.{Common.{ℕ, ◌≡◌, true, List, [], ◌⊎◌, inl, inr, None, Some, sym, ◌∙◌, ap}, lemmas.Bool.{false≢true}}
+use Rattle.std.proofs.{Common.{ℕ, ◌≡◌, true, List, [], inl, inr, None, ◌∙◌, ap}, lemmas.Bool.{false≢true}}
 use Rattle.std.specs.{FinMap.{get}, Option.{option_and_then}}
-use Rattle.fb_wiring.specs.{Library.View.{Sources, tree_at, tree_of}, Library.Rests.{Rests, itself}, Hints.{is_whole_net}, Iface.Fault.{faults_in_order}}
+use Rattle.fb_wiring.specs.{Library.View.{Sources, tree_at, tree_of}, Library.Rests.{Rests}, Hints.{is_whole_net}, Iface.Fault.{faults_in_order}}
 use Rattle.fb_wiring.proofs.Text.Members.{contains_nothing}
 use Rattle.fb_faults.specs.Faults.{all_reported, faults_of, text_faults}
 use Rattle.fb_flatten.specs.{Blocking.{IsBlocking}, Kept.{LeavesNet, NetIsLeft}}
-use Rattle.fb_flatten.specs.{Net.{PlainNet, blocked, recursive, too_large, flat_net, IsNet, IsSound, IsWhole}, Nets.{net_at}}
+use Rattle.fb_flatten.specs.{Net.{PlainNet, blocked, recursive, too_large, flat_net, IsNet, IsSound, IsWhole}}
 use Rattle.fb_flatten.proofs.ComputedNets.{net_at_is, same_kind}
 use Rattle.fb_flatten.proofs.SaidFar.{SaysSameFar, far_back, large_there, part_back, recursive_those_there, unit_flat_there, within_there}
 

@@ -1,30 +1,17 @@
 -- Which names keep a unit from having a flat network.
-use Rattle.std.proofs.Common.{ℕ, ◌≡◌, Bool, true, false, ◌∙◌, List, [], ◌∷◌, Option, Some, None, inl, inr, refl, sym, ap, subst}
-use Rattle.std.proofs.{lemmas.Bool.{false≢true, or_right}, lemmas.List.Kept.{IsStrictlySortedBy-filter}}
-use Rattle.std.specs.{Prelude.{Contains, ◌≢◌, ◌↔◌, ◌||◌, ◌&&◌, is_none, filter}, FinMap.{get}, List.Sorted.{IsStrictlySortedBy}}
-use Rattle.fb_wiring.specs.{Text.Order.{name_cmp}, Library.View.{Sources}, Library.Rests.{Rests}, Iface.declared.fault.Fault.{Fault}}
+use Rattle.std.proofs.Common.{ℕ, ◌≡◌, Bool, true, false, List, [], None, sym, subst, arith}
+use Rattle.std.proofs.{lemmas.List.Kept.{IsStrictlySortedBy-filter}}
+use Rattle.std.specs.{Prelude.{Contains, ◌≢◌, ◌↔◌, filter}, FinMap.{get}, List.Sorted.{IsStrictlySortedBy}}
+use Rattle.fb_wiring.specs.{Text.Order.{name_cmp}, Library.View.{Sources}, Library.Rests.{Rests}}
 use Rattle.fb_wiring.specs.Reaches.{IsRecursive, RestsOnRecursive}
 use Rattle.fb_wiring.proofs.Text.Members.{contains_nothing, contains_filter, passes_in_filter}
-use Rattle.fb_faults.specs.Faults.{faults_of}
-use Rattle.fb_flatten.specs.Blocking.{AreThose, IsBlocking, IsPartBelow, is_blocking, is_some_fault, is_some_name}
+use Rattle.fb_flatten.specs.Blocking.{AreThose, IsBlocking, IsPartBelow, is_blocking, is_some_name}
 
 pub blocking_is : (sources : Sources) (unit v : List ℕ) (is_part : List ℕ → Bool) → (get sources v ≡ None → is_part v ≡ true → IsPartBelow sources unit v) → is_blocking sources is_part v ≡ true → IsBlocking sources unit v
-blocking_is sources unit v is_part below h = by (faults_of sources v) refl (get sources v) refl h
-  where
-    by : (fs : List Fault) → faults_of sources v ≡ fs → (o : Option (List ℕ)) → get sources v ≡ o → (is_some_fault fs || (is_none o && is_part v)) ≡ true → IsBlocking sources unit v
-    by (x ∷ fs) f o e h = inl (λ n. let no : ⊥ = cc in no)
-    by [] f None e h = inr (e, below e h)
-    by [] f (Some t) e h = absurd (false≢true h)
+blocking_is sources unit v is_part below h = grind arith
 
 is_found_blocking : (sources : Sources) (unit v : List ℕ) (is_part : List ℕ → Bool) → (get sources v ≡ None → IsPartBelow sources unit v → is_part v ≡ true) → IsBlocking sources unit v → is_blocking sources is_part v ≡ true
-is_found_blocking sources unit v is_part told (inl n) = by (faults_of sources v) refl
-  where
-    by : (fs : List Fault) → faults_of sources v ≡ fs → (is_some_fault fs || (is_none (get sources v) && is_part v)) ≡ true
-    by [] f = absurd (n f)
-    by (x ∷ fs) f = refl
-is_found_blocking sources unit v is_part told (inr p) =
-    or_right (is_some_fault (faults_of sources v)) (is_none (get sources v) && is_part v)
-    (ap (λ (o : Option (List ℕ)). is_none o && is_part v) p.0 ∙ told p.0 p.1)
+is_found_blocking sources unit v is_part told b = grind arith
 
 -- the blocking ones among names that a unit rests on, where all of them are among the names, and a test tells which absent ones are parts
 pub blocking_those : {sources : Sources} {unit : List ℕ} (is_part : List ℕ → Bool) (names found : List (List ℕ)) → IsStrictlySortedBy name_cmp names → ((v : List ℕ) → Contains names v → Rests sources unit v) → ((v : List ℕ) → Rests sources unit v → IsBlocking sources unit v → Contains names v) → ((v : List ℕ) → Contains names v → get sources v ≡ None → is_part v ≡ true → IsPartBelow sources unit v) → ((v : List ℕ) → Contains names v → get sources v ≡ None → IsPartBelow sources unit v → is_part v ≡ true) → found ≡ filter (is_blocking sources is_part) names → AreThose sources unit (IsBlocking sources unit) found
@@ -49,9 +36,7 @@ pub some_recursive : {sources : Sources} {unit : List ℕ} (found : List (List �
 some_recursive found those r none = contains_nothing r.0 (subst (λ (l : List (List ℕ)). Contains l r.0) none ((those.members r.0).1 r.1))
 
 pub some_not_none : (names : List (List ℕ)) → is_some_name names ≡ true → names ≢ []
-some_not_none [] h e = let no : ⊥ = cc in no
-some_not_none (x ∷ xs) h e = let no : ⊥ = cc in no
+some_not_none names h = grind arith
 
 pub none_of_not : (names : List (List ℕ)) → is_some_name names ≡ false → names ≡ []
-none_of_not [] h = refl
-none_of_not (x ∷ xs) h = absurd (let no : ⊥ = cc in no)
+none_of_not names h = grind arith

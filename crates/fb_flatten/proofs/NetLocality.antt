@@ -1,5 +1,5 @@
 -- The net of a unit depends on the texts alone that the unit rests on.
-use Rattle.std.proofs.Common.{ℕ, ◌≡◌, List, [], ◌⊎◌, inl, inr, sym, ◌∙◌, ap, option_map}
+use Rattle.std.proofs.Common.{ℕ, ◌≡◌, List, [], inl, inr, sym, ◌∙◌, ap, option_map}
 use Rattle.std.specs.{Prelude.{Contains, Option}, Option.{option_and_then}}
 use Rattle.fb_wiring.specs.{Library.View.{Sources, parts_in, tree_at, tree_of, values_in}, Library.Near.{near_of}, Library.Rests.{Rests, itself}}
 use Rattle.fb_wiring.specs.{Library.Local.{AgreeFar}, Tree.Mentions.{unit_kind_of}, Applications.{applications_of}, Local.{SaysSame}, Networks.{network_of}}

@@ -1,57 +1,35 @@
 -- A network without faults is clean in plain.
-use Rattle.std.proofs.Common.{◌≡◌, ℕ, Bool, true, false, cond, ◌&&◌, List, [], ◌∷◌, map, Option, Some, None, option_map, refl, sym, ap, ◌∙◌, subst, true≢false, inl, inr}
+use Rattle.std.proofs.Common.{◌≡◌, ℕ, Bool, true, false, cond, ◌&&◌, List, [], map, Option, Some, None, option_map, refl, sym, ap, ◌∙◌, subst, true≢false, arith}
 use Rattle.std.proofs.lemmas.List.Elements.{All-contains}
-use Rattle.std.specs.{List.{All, Contains, cons_option, filter_map}, Option.{option_and_then}}
+use Rattle.std.specs.{List.{All, Contains}, Option.{option_and_then}}
 use Rattle.fb_wiring.specs.{Text.declared.name.NameUse.{NameUse}, Tree.Mentions.{unit_kind_of}, Tree.Tree.{DeclTree, InstanceTree, NetworkTree}}
-use Rattle.fb_wiring.specs.{Tree.declared.interface.Side.{Side}, Tree.declared.interface.Side.TheVariants.{Input, Output}}
 use Rattle.fb_wiring.specs.{Tree.declared.interface.TypeUse.{TypeUse}, Tree.declared.kinds.UnitKind.{UnitKind}}
 use Rattle.fb_wiring.specs.{Tree.declared.network.Connection.{Connection as ConnectionTree}, Tree.declared.network.End.{End as EndTree}}
 use Rattle.fb_wiring.specs.{Tree.declared.network.Role.{Role}, Tree.declared.network.Sort.{Sort}, Library.View.{Sources, tree_at}}
-use Rattle.fb_wiring.specs.{Iface.Names.{first_ones, has_name, is_same, stands_for}, Iface.Ports.{Meanings, instances_in, meanings_in, same_side}}
-use Rattle.fb_wiring.specs.{Iface.Scope.{ports_of, type_ports_of, usable}, Iface.Types.{instance_faults, suits, type_fault}, Iface.declared.fault.Fault.{Fault}}
+use Rattle.fb_wiring.specs.{Iface.Names.{first_ones, has_name, is_same, stands_for}, Iface.Ports.{Meanings, instances_in, meanings_in}}
+use Rattle.fb_wiring.specs.{Iface.Scope.{ports_of, type_ports_of, usable}, Iface.Types.{instance_faults, suits, type_fault}}
 use Rattle.fb_wiring.specs.Iface.declared.ports.DeclaredInstance.{DeclaredInstance}
 use Rattle.fb_wiring.specs.Network.Clean.{IsDeclared, IsDestination, IsSource, adapter_name_at, port_named, side_at, type_of}
 use Rattle.fb_wiring.specs.Networks.{end_named, instance_in_role, network_of, plain_connection, plain_end, plain_instance, plain_network}
 use Rattle.fb_wiring.specs.{Network.Network.{IsConnected, View, instance_named, place_of}, Network.Plain.{PlainNetwork}, Network.declared.network.End.{End}}
 use Rattle.fb_wiring.specs.{Network.declared.network.End.TheVariants.{Own, Of}, Network.declared.network.Instance.{Instance}}
 use Rattle.fb_wiring.specs.{Network.declared.network.Port.{Port}, ByName.{declared, kind_at}}
-use Rattle.fb_wiring.specs.Tree.declared.kinds.UnitKind.TheVariants as kinds
 use Rattle.fb_wiring.specs.Tree.declared.network.Role.TheVariants as roles
 use Rattle.fb_wiring.specs.Tree.declared.network.Sort.TheVariants as sorts
-use Rattle.fb_wiring.proofs.{Text.Members.{contains_cases, contains_here, contains_later, contains_nothing, origin_in_map}, Iface.NameLemmas.{same_exact}}
+use Rattle.fb_wiring.proofs.{Text.Members.{origin_in_map}, Iface.NameLemmas.{same_exact}, Iface.TableLemmas.{stands_for-first_ones}}
 use Rattle.fb_faults.specs.Netcheck.Clean.{AreRight, IsCleanConnection, IsCleanNetwork}
-use Rattle.fb_faults.specs.Netcheck.Ends.{adapter_port, holder_of, is_right, port_in, port_in_role, right_side, target, target_held, target_in, target_named, target_of, target_of_instance}
+use Rattle.fb_faults.specs.Netcheck.Ends.{holder_of, is_right, port_in, right_side, target, target_held, target_in, target_named, target_of, target_of_instance}
 use Rattle.fb_faults.specs.{Netcheck.Settings.{NetworkPlace}, Netcheck.Sides.{is_own_port}, Netcheck.Types.{flows_agree, same_at_ends, targets_agree}}
 use Rattle.fb_faults.specs.{Netcheck.declared.ends.Flow.{Flow}, Netcheck.declared.ends.Holder.{Holder}, Netcheck.declared.ends.Port.{Port as JudgedPort}}
 use Rattle.fb_faults.specs.{Netcheck.declared.ends.Position.{Position}, Netcheck.declared.ends.Position.TheVariants.{Source, Destination}}
 use Rattle.fb_faults.specs.{Netcheck.declared.ends.Target.{Target}, Netcheck.declared.ends.Target.TheVariants.{Found}}
 use Rattle.fb_faults.specs.Netcheck.declared.ends.Flow.TheVariants as flows
 use Rattle.fb_faults.specs.Netcheck.declared.ends.Holder.TheVariants as holders
-use Rattle.fb_wiring.specs.Network.declared.network.InstanceKind.TheVariants as instances
 use Rattle.fb_flatten.specs.Clean.{IsCleanWithKinds, wanted_kind}
-use Rattle.fb_flatten.proofs.{Finding.{found_by_name}, FirstOnes.{Distinct, stands_for-first_ones}, NameLemmas.{stands_for_itself}}
+use Rattle.fb_flatten.proofs.NameLemmas.{Distinct, found_by_name, origin_in_filter_map, stands_for_itself}
 use Rattle.fb_flatten.proofs.PortLemmas.{declared_port, plain_flow, plain_port}
 
 -- instances in plain
-
-record ComesAs {X Y : Type 0} (f : X → Option Y) (xs : List X) (y : Y) : Type 0 where
-  origin : X
-  among : Contains xs origin
-  gives : f origin ≡ Some y
-
-origin_in_filter_map : {X Y : Type 0} (f : X → Option Y) (xs : List X) (y : Y) → Contains (filter_map f xs) y → ComesAs f xs y
-origin_in_filter_map f [] y c = absurd (contains_nothing y c)
-origin_in_filter_map {X = X} {Y = Y} f (x ∷ xs) y c = by (f x) refl c (origin_in_filter_map f xs y)
-  where
-    later : ComesAs f xs y → ComesAs f (x ∷ xs) y
-    later o = record { origin = o.origin; among = contains_later x xs o.origin o.among; gives = o.gives }
-
-    by : (o : Option Y) → f x ≡ o → Contains (cons_option o (filter_map f xs)) y → (Contains (filter_map f xs) y → ComesAs f xs y) → ComesAs f (x ∷ xs) y
-    by None e c more = later (more c)
-    by (Some z) e c more = elim (contains_cases z (filter_map f xs) y c) [
-      | inl s ↦ record { origin = x; among = contains_here x xs; gives = e ∙ ap Some s }
-      | inr d ↦ later (more d)
-    ]
 
 -- what is declared as an instance, by its name
 abbrev pub meaning : InstanceTree → DeclaredInstance
@@ -67,52 +45,11 @@ record IsMade (role : Role) (name type_name : List ℕ) (i : Instance) : Type 0 
   kind : (type : UnitKind) → suits role type ≡ true → type ≡ wanted_kind i.kind
 
 made_in_role : (role : Role) (name type_name : List ℕ) (i : Instance) → instance_in_role role name type_name ≡ Some i → IsMade role name type_name i
-made_in_role roles.Plug name type_name i e = absurd (let no : ⊥ = cc in no)
-made_in_role roles.Socket name type_name i e = absurd (let no : ⊥ = cc in no)
-made_in_role roles.Block name type_name i e =
-    let it : Instance = record { name = name; kind = instances.Block; type_name = type_name } in
-    let same : it ≡ i = cc in
-    record {
-      named = ap (λ (j : Instance). j.name) same;
-      typed = ap (λ (j : Instance). j.type_name) same;
-      kind = λ type e. block type e ∙ ap (λ (j : Instance). wanted_kind j.kind) same;
-    }
-  where
-    block : (type : UnitKind) → suits roles.Block type ≡ true → type ≡ kinds.Block
-    block kinds.Block e = refl
-    block kinds.Adapter e = absurd (true≢false (sym e))
-    block kinds.Subapplication e = absurd (true≢false (sym e))
-    block kinds.System e = absurd (true≢false (sym e))
-    block kinds.Structure e = absurd (true≢false (sym e))
-made_in_role roles.Subapplication name type_name i e =
-    let it : Instance = record { name = name; kind = instances.Subapplication; type_name = type_name } in
-    let same : it ≡ i = cc in
-    record {
-      named = ap (λ (j : Instance). j.name) same;
-      typed = ap (λ (j : Instance). j.type_name) same;
-      kind = λ type e. part type e ∙ ap (λ (j : Instance). wanted_kind j.kind) same;
-    }
-  where
-    part : (type : UnitKind) → suits roles.Subapplication type ≡ true → type ≡ kinds.Subapplication
-    part kinds.Block e = absurd (true≢false (sym e))
-    part kinds.Adapter e = absurd (true≢false (sym e))
-    part kinds.Subapplication e = refl
-    part kinds.System e = absurd (true≢false (sym e))
-    part kinds.Structure e = absurd (true≢false (sym e))
+made_in_role role name type_name i e = grind arith
 
 -- the type of an instance without faults
-record HasType (sources : Sources) (role : Role) (name : List ℕ) : Type 0 where
-  type : DeclTree
-  there : tree_at sources name ≡ Some type
-  suited : suits role (unit_kind_of type) ≡ true
-
-has_type : (sources : Sources) (role : Role) (name : NameUse) (tree : Option DeclTree) → tree_at sources name.name ≡ tree → type_fault role name tree ≡ [] → HasType sources role name.name
-has_type sources role name None is e = absurd (let no : ⊥ = cc in no)
-has_type sources role name (Some type) is e = record { type = type; there = is; suited = by (suits role (unit_kind_of type)) _ e }
-  where
-    by : (b : Bool) (fault : Fault) → cond b [] (fault ∷ []) ≡ [] → b ≡ true
-    by true fault e = refl
-    by false fault e = absurd (let no : ⊥ = cc in no)
+has_type : (sources : Sources) (role : Role) (name : NameUse) → type_fault role name (tree_at sources name.name) ≡ [] → (type : DeclTree) × (tree_at sources name.name ≡ Some type) × (suits role (unit_kind_of type) ≡ true)
+has_type sources role name e = grind arith
 
 -- ends
 
@@ -133,32 +70,11 @@ HasFlow sorts.Adapter (flows.Data used) = ⊥
 HasFlow sorts.Adapter (flows.Adapter name) = Unit {0}
 
 flow_of_port : (sort : Sort) (m : Meanings) (name : List ℕ) (p : JudgedPort) → port_in sort m name ≡ Some p → HasFlow sort p.flow
-flow_of_port sorts.Event m name p e = tt
-flow_of_port sorts.Data m name p e = tt
-flow_of_port sorts.Adapter m name p e = by (stands_for m.instances name) e
-  where
-    in_role : (role : Role) (type_name : NameUse) → port_in_role role type_name ≡ Some p → HasFlow sorts.Adapter p.flow
-    in_role roles.Plug type_name e = let same : record { side = Output; flow = flows.Adapter type_name } ≡ p = cc in subst (λ (q : JudgedPort). HasFlow sorts.Adapter q.flow) same tt
-    in_role roles.Socket type_name e = let same : record { side = Input; flow = flows.Adapter type_name } ≡ p = cc in subst (λ (q : JudgedPort). HasFlow sorts.Adapter q.flow) same tt
-    in_role roles.Block type_name e = absurd (let no : ⊥ = cc in no)
-    in_role roles.Subapplication type_name e = absurd (let no : ⊥ = cc in no)
-
-    by : (o : Option DeclaredInstance) → option_and_then adapter_port o ≡ Some p → HasFlow sorts.Adapter p.flow
-    by None e = absurd (let no : ⊥ = cc in no)
-    by (Some i) e = in_role i.role i.type_name e
+flow_of_port sort m name p e = grind arith
 
 same_flow : (same : TypeUse → TypeUse → Bool) (a b : Flow) → HasFlow sorts.Adapter a → HasFlow sorts.Adapter b → flows_agree same a b ≡ true → plain_flow a ≡ plain_flow b
 same_flow same (flows.Adapter a) (flows.Adapter b) first second e = ap Some (same_exact a.name b.name e)
-same_flow same flows.Event b first second e = absurd first
-same_flow same (flows.Data used) b first second e = absurd first
-same_flow same (flows.Adapter a) flows.Event first second e = absurd second
-same_flow same (flows.Adapter a) (flows.Data used) first second e = absurd second
-
-same_side_exact : (a b : Side) → same_side a b ≡ true → a ≡ b
-same_side_exact Input Input e = refl
-same_side_exact Output Output e = refl
-same_side_exact Input Output e = absurd (true≢false (sym e))
-same_side_exact Output Input e = absurd (true≢false (sym e))
+same_flow same a b first second e = grind arith
 
 -- the port at an end of a connection of the network itself
 abbrev port_at : View → PlainNetwork → Sort → End → Option Port
@@ -166,20 +82,10 @@ port_at view network sort (Own port) = port_named network.ports sort port
 port_at view network sort (Of instance port) = option_and_then (λ type. port_named type.ports sort port) (type_of view network instance)
 
 side_there : (view : View) (network : PlainNetwork) (sort : Sort) (e : End) → side_at view sort network (place_of e) ≡ option_map (λ p. p.side) (port_at view network sort e)
-side_there view network sort (Own port) = refl
-side_there view network sort (Of instance port) = by (type_of view network instance)
-  where
-    by : (o : Option PlainNetwork) → option_and_then (λ type. option_map (λ p. p.side) (port_named type.ports sort port)) o ≡ option_map (λ p. p.side) (option_and_then (λ type. port_named type.ports sort port) o)
-    by None = refl
-    by (Some type) = refl
+side_there view network sort e = grind arith
 
 adapter_there : (view : View) (network : PlainNetwork) (e : End) → adapter_name_at view network (place_of e) ≡ option_and_then (λ p. p.adapter) (port_at view network sorts.Adapter e)
-adapter_there view network (Own port) = refl
-adapter_there view network (Of instance port) = by (type_of view network instance)
-  where
-    by : (o : Option PlainNetwork) → option_and_then (λ type. option_and_then (λ p. p.adapter) (port_named type.ports sorts.Adapter port)) o ≡ option_and_then (λ p. p.adapter) (option_and_then (λ type. port_named type.ports sorts.Adapter port) o)
-    by None = refl
-    by (Some type) = refl
+adapter_there view network e = grind arith
 
 -- an end names a port of the right side, and this is the one in plain
 record Meets (view : View) (network : PlainNetwork) (sort : Sort) (t : Target) (e : End) : Type 0 where
@@ -189,17 +95,11 @@ record Meets (view : View) (network : PlainNetwork) (sort : Sort) (t : Target) (
   flow : HasFlow sort port.flow
 
 right_port : (position : Position) (holder : Holder) (port : JudgedPort) (t : Target) → t ≡ Found holder port → is_right position t ≡ true → port.side ≡ right_side position holder
-right_port position holder port t is e = same_side_exact port.side (right_side position holder) (sym (ap (is_right position) is) ∙ e)
+right_port position holder port t is e = grind arith
 
 -- a port is found where a target is right
-record IsPort (holder : Holder) (o : Option JudgedPort) : Type 0 where
-  port : JudgedPort
-  there : o ≡ Some port
-  is : target_of holder o ≡ Found holder port
-
-is_port : (position : Position) (holder : Holder) (o : Option JudgedPort) → is_right position (target_of holder o) ≡ true → IsPort holder o
-is_port position holder None e = absurd (true≢false (sym e))
-is_port position holder (Some port) e = record { port = port; there = refl; is = refl }
+is_port : (position : Position) (holder : Holder) (o : Option JudgedPort) → is_right position (target_of holder o) ≡ true → (port : JudgedPort) × (o ≡ Some port) × (target_of holder o ≡ Found holder port)
+is_port position holder o e = grind arith
 
 -- the types of the instances have no faults
 abbrev pub TypesAreFine : Sources → NetworkTree → Type 0
@@ -229,22 +129,19 @@ module _ (sources : Sources) (here : NetworkPlace) (n : NetworkTree) (ports : Li
       ∙ ap (λ q. instance_in_role o.origin.role q o.origin.type_name.name) (sym m.named)
       ∙ o.gives
 
-  type_there : TypesAreFine sources n → (i : InstanceTree) → Contains n.instances i → HasType sources i.role i.type_name.name
-  type_there none i among = has_type sources i.role i.type_name (tree_at sources i.type_name.name) refl (none i among)
-
   typed : TypesAreFine sources n → (i : Instance) → Contains network.instances i → IsDeclared view i.type_name
   typed none i c =
       let o = origin_in_filter_map plain_instance n.instances i c in
       let m = made_in_role o.origin.role o.origin.name.name o.origin.type_name.name i o.gives in
-      let t = type_there none o.origin o.among in
-      record { type = network_of t.type; declared = ap view (sym m.typed) ∙ ap (option_map network_of) t.there }
+      let t = has_type sources o.origin.role o.origin.type_name (none o.origin o.among) in
+      record { type = network_of t.0; declared = ap view (sym m.typed) ∙ ap (option_map network_of) t.1 }
 
   of_kind : TypesAreFine sources n → (i : Instance) → Contains network.instances i → kind_at sources i.type_name ≡ Some (wanted_kind i.kind)
   of_kind none i c =
       let o = origin_in_filter_map plain_instance n.instances i c in
       let m = made_in_role o.origin.role o.origin.name.name o.origin.type_name.name i o.gives in
-      let t = type_there none o.origin o.among in
-      ap (kind_at sources) (sym m.typed) ∙ ap (option_map unit_kind_of) t.there ∙ ap Some (m.kind (unit_kind_of t.type) t.suited)
+      let t = has_type sources o.origin.role o.origin.type_name (none o.origin o.among) in
+      ap (kind_at sources) (sym m.typed) ∙ ap (option_map unit_kind_of) t.1 ∙ ap Some (m.kind (unit_kind_of t.0) t.2)
 
   -- a port of an instance, by the declaration of its type
   meets_type : (position : Position) (sort : Sort) (instance port : List ℕ) (role : Role) (decl : Option DeclTree) (mentioned : Bool) → type_of view network instance ≡ option_map network_of decl → is_right position (target_in holders.OfInstance sort (usable role (cond mentioned decl None)) port) ≡ true → Meets view network sort (target_in holders.OfInstance sort (usable role (cond mentioned decl None)) port) (Of instance port)
@@ -257,10 +154,10 @@ module _ (sources : Sources) (here : NetworkPlace) (n : NetworkTree) (ports : Li
       by true e =
           let p = is_port position holders.OfInstance (port_in sort (meanings_in decl) port) e in
           record {
-            port = p.port;
-            is = p.is;
-            found = ap (option_and_then (λ (t : PlainNetwork). port_named t.ports sort port)) type ∙ declared_port decl sort port ∙ ap (option_map (plain_port sort port)) p.there;
-            flow = flow_of_port sort (meanings_in decl) port p.port p.there;
+            port = p.0;
+            is = p.2;
+            found = ap (option_and_then (λ (t : PlainNetwork). port_named t.ports sort port)) type ∙ declared_port decl sort port ∙ ap (option_map (plain_port sort port)) p.1;
+            flow = flow_of_port sort (meanings_in decl) port p.0 p.1;
           }
 
   module _ (distinct : Distinct (instances_in n)) (own : here.scope.own.instances ≡ first_ones (instances_in n)) (types : here.scope.type_ports ≡ type_ports_of sources n) (no_plug : (sort : Sort) → holder_of here.kind sort roles.Plug ≡ None) (no_socket : (sort : Sort) → holder_of here.kind sort roles.Socket ≡ None) (own_port : (sort : Sort) (name : List ℕ) → port_named ports sort name ≡ option_map (plain_port sort name) (port_in sort here.scope.own name)) where
@@ -283,8 +180,7 @@ module _ (sources : Sources) (here : NetworkPlace) (n : NetworkTree) (ports : Li
     meets_role : (position : Position) (sort : Sort) (instance port name : List ℕ) (role : Role) → type_of view network instance ≡ option_and_then (λ i. view i.type_name) (instance_in_role role instance name) → is_right position (held sort role name port) ≡ true → Meets view network sort (held sort role name port) (Of instance port)
     meets_role position sort instance port name roles.Plug type e = absurd (not_held position sort roles.Plug name port (no_plug sort) e)
     meets_role position sort instance port name roles.Socket type e = absurd (not_held position sort roles.Socket name port (no_socket sort) e)
-    meets_role position sort instance port name roles.Block type e = meets_type position sort instance port roles.Block (tree_at sources name) (has_name (map (λ (x : InstanceTree). x.type_name) n.instances) name) type e
-    meets_role position sort instance port name roles.Subapplication type e = meets_type position sort instance port roles.Subapplication (tree_at sources name) (has_name (map (λ (x : InstanceTree). x.type_name) n.instances) name) type e
+    meets_role position sort instance port name role type e = meets_type position sort instance port role (tree_at sources name) (has_name (map (λ (x : InstanceTree). x.type_name) n.instances) name) type e
 
     meets_instance : (position : Position) (sort : Sort) (instance port : List ℕ) (o : Option DeclaredInstance) → type_of view network instance ≡ option_and_then (λ i. view i.type_name) (option_and_then (made instance) o) → is_right position (judged sort o port) ≡ true → Meets view network sort (judged sort o port) (Of instance port)
     meets_instance position sort instance port None type e = absurd (true≢false (sym e))
@@ -294,10 +190,10 @@ module _ (sources : Sources) (here : NetworkPlace) (n : NetworkTree) (ports : Li
     meets position sort name None e =
         let p = is_port position holders.Own (port_in sort here.scope.own name.name) e in
         record {
-          port = p.port;
-          is = p.is;
-          found = own_port sort name.name ∙ ap (option_map (plain_port sort name.name)) p.there;
-          flow = flow_of_port sort here.scope.own name.name p.port p.there;
+          port = p.0;
+          is = p.2;
+          found = own_port sort name.name ∙ ap (option_map (plain_port sort name.name)) p.1;
+          flow = flow_of_port sort here.scope.own name.name p.0 p.1;
         }
     meets position sort name (Some port) e =
         let there = judged_there sort name.name port.name in
@@ -315,12 +211,10 @@ module _ (sources : Sources) (here : NetworkPlace) (n : NetworkTree) (ports : Li
         ∙ ap Some (right_port position (holder_at (plain_end end)) m.port (target here sort end) m.is e)
 
     is_source : (sort : Sort) (e : End) → side_at view sort network (place_of e) ≡ Some (right_side Source (holder_at e)) → IsSource view sort network e
-    is_source sort (Own port) h = h
-    is_source sort (Of instance port) h = h
+    is_source sort e h = grind arith
 
     is_destination : (sort : Sort) (e : End) → side_at view sort network (place_of e) ≡ Some (right_side Destination (holder_at e)) → IsDestination view sort network e
-    is_destination sort (Own port) h = h
-    is_destination sort (Of instance port) h = h
+    is_destination sort e h = grind arith
 
     -- the connection that a connection in plain comes from
     record Comes (sort : Sort) (s d : End) : Type 0 where

@@ -1,12 +1,12 @@
 -- A unit has one net only.
 use Rattle.std.proofs.Common.{ℕ, ◌≡◌, List, [], ◌∷◌, refl, sym, ◌∙◌, ap, subst, arith, length}
 use Rattle.std.specs.Cmp.Lexicographic.{nat_list_cmp_total}
-use Rattle.fb_wiring.specs.{Tree.Tree.{DeclTree}, Library.View.{Sources}, Network.LinkOrder.{link_cmp_total}, Network.Plain.{PlainNetwork}}
+use Rattle.fb_wiring.specs.{Tree.Tree.{DeclTree}, Library.View.{Sources}, Network.Plain.{PlainNetwork}}
 use Rattle.fb_wiring.specs.{Network.PlainFlat.{PlainFlat}, Network.Network.{View}, Network.Instances.{Held, AreInstances}, Network.FlatNet.{IsFlat}}
 use Rattle.fb_wiring.specs.{Network.SystemFlat.{IsSystemFlat}, Network.declared.application.FlatApplication.{FlatApplication}, ByName.{declared}}
 use Rattle.fb_wiring.specs.declared.systems.Application.{Application}
 use Rattle.fb_wiring.specs.Units.{AreFlatApplications, NoApplication, ThenApplication, Holds, IsTooLarge, IsWithinLimit, IsUnitFlat, OfSubapplication, OfSystem, own_instances}
-use Rattle.fb_wiring.proofs.{Network.BlockLemmas.{same_instances}, Network.OneFlat.{same_flat}, Network.SameSorted.{same_sorted}}
+use Rattle.fb_wiring.proofs.{Network.BlockLemmas.{same_instances}, Network.OneFlat.{same_flat}, Network.SystemLemmas.{same_system}, Network.SameSorted.{same_sorted}}
 use Rattle.fb_flatten.specs.{Blocking.{AreThose}, Net.{PlainNet, blocked, recursive, too_large, flat_net, IsNet}, Laws.{OneNet}}
 
 same_names : {sources : Sources} {unit : List ℕ} {property : List ℕ → Type 0} (xs ys : List (List ℕ)) → AreThose sources unit property xs → AreThose sources unit property ys → xs ≡ ys
@@ -35,13 +35,6 @@ same_applications (ThenApplication a f p more) (ThenApplication b g q others) =
     let rest = same_applications more others in
     λ i. first i ∷ rest i
 
-same_system_flat : {flats : List FlatApplication} (a b : PlainFlat) → IsSystemFlat flats a → IsSystemFlat flats b → a ≡ b
-same_system_flat a b p q =
-    let blocks = p.blocks ∙ sym q.blocks in
-    let links = same_sorted link_cmp_total a.links b.links p.links_sorted q.links_sorted (λ l c. (q.links l).1 ((p.links l).0 c)) (λ l c. (p.links l).1 ((q.links l).0 c)) in
-    let borders = p.borders ∙ sym q.borders in
-    λ i. record { blocks = blocks i; links = links i; borders = borders i }
-
 same_unit_flat : {sources : Sources} {unit : List ℕ} (a b : PlainFlat) → IsUnitFlat sources unit a → IsUnitFlat sources unit b → a ≡ b
 same_unit_flat {sources = sources} a b (OfSubapplication n k d f) (OfSubapplication m l e g) =
     let same : n ≡ m = cc in
@@ -51,7 +44,7 @@ same_unit_flat a b (OfSystem list fs l e each j) (OfSubapplication n k d f) = ab
 same_unit_flat {sources = sources} a b (OfSystem list fs k d each j) (OfSystem bs gs l e others m) =
     let same : list ≡ bs = cc in
     let flats : fs ≡ gs = same_applications (subst (λ (x : List Application). AreFlatApplications (declared sources) x fs) same each) others in
-    same_system_flat a b (subst (λ (x : List FlatApplication). IsSystemFlat x a) flats j) m
+    same_system gs a b (subst (λ (x : List FlatApplication). IsSystemFlat x a) flats j) m
 
 one : (sources : Sources) (unit : List ℕ) (a b : PlainNet) → IsNet sources unit a → IsNet sources unit b → a ≡ b
 one sources unit (blocked xs) (blocked ys) p q = ap blocked (same_names xs ys p.0 q.0)

@@ -1,20 +1,19 @@
 -- What is left to look at where nets are kept.
-use Rattle.std.proofs.Common.{ℕ, ◌≡◌, ◌<◌, Bool, true, false, not, cond, ◌||◌, List, [], Option, Some, None, inl, inr, refl, sym, ◌∙◌, ap, subst, take, get_or, length}
-use Rattle.std.proofs.{lemmas.Bool.{false≢true, or_right}, lemmas.List.{get_or_default}}
+use Rattle.std.proofs.Common.{ℕ, ◌≡◌, ◌<◌, Bool, true, false, not, cond, ◌||◌, List, [], Option, None, inl, inr, ◌∙◌, ap, subst, take, get_or, length, arith}
+use Rattle.std.proofs.{lemmas.Bool.{or_right}, lemmas.List.{get_or_default}}
 use Rattle.std.specs.{Prelude.{Contains, ◌≢◌, ◌↔◌, ◌⊎◌}, BTreeMap.{is_at}, FinMap.{get}}
-use Rattle.fb_wiring.proofs.{Text.Tests.{by_bool}, Text.Members.{contains_nothing}, Library.Locality.{part_mention, parts_rest, rests_both}}
+use Rattle.fb_wiring.proofs.{Text.Tests.{by_bool, not_false}, Text.Members.{contains_nothing}, Library.Locality.{part_mention, parts_rest, rests_both}}
 use Rattle.fb_wiring.proofs.{Network.Equals.{bytes_same}, LeftLemmas.{get_left}}
 use Rattle.fb_wiring.specs.{Text.Order.{name_cmp}, Library.View.{Sources, parts_at}, Library.Rests.{Rests, itself, through, PartRests, on_itself, through_part}}
 use Rattle.fb_wiring.specs.Order.{IsOrdered}
 use Rattle.fb_wiring.specs.Reaches.{Reaches, directly, onward, IsRecursive, RestsOnRecursive, PartRestsOnRecursive, SomePartRestsOnRecursive}
 use Rattle.fb_flatten.specs.{Hints.{AreRightHints, is_left, is_whole_hint, left_of}, Net.{PlainNet, IsSound, IsWhole}, Suspects.{AreFinite}}
 use Rattle.fb_flatten.specs.Tables.{IsUnitOrder}
-use Rattle.fb_flatten.proofs.{Depths.{rests_of_reach}, HintLemmas.{is_of_not, known_sound}, KeptLemmas.{part_kept, reaches_within, rests_within}}
+use Rattle.fb_flatten.proofs.{Depths.{rests_of_reach}, HintLemmas.{known_sound}, KeptLemmas.{part_kept, reaches_within, rests_within}}
 use Rattle.fb_flatten.proofs.SoundLemmas.{sound_below, sound_where}
 
 or_false : (a b : Bool) → (a || b) ≡ false → b ≡ false
-or_false true b e = absurd (false≢true (sym e))
-or_false false b e = e
+or_false a b e = grind arith
 
 module _ (hints : List ℕ → Option PlainNet) (sources : Sources) (unit : List ℕ) where
   abbrev left : Sources
@@ -36,7 +35,7 @@ module _ (hints : List ℕ → Option PlainNet) (sources : Sources) (unit : List
   module _ (right : AreRightHints sources hints) where
     settled_finite : (n v : List ℕ) → is_left hints unit n ≡ false → Rests sources n v → IsRecursive sources v → ⊥
     settled_finite n v f r rec =
-        contains_nothing v (((known_sound sources hints n right (is_of_not (is_whole_hint (hints n)) (or_false (is_at (name_cmp unit) n) _ f))).finite.members v).1 (r, rec))
+        contains_nothing v (((known_sound sources hints n right (not_false (is_whole_hint (hints n)) (or_false (is_at (name_cmp unit) n) _ f))).finite.members v).1 (r, rec))
 
     -- a cycle is left whole
     reaches_left : {u v : List ℕ} → Reaches sources u v → IsRecursive sources v → Reaches left u v

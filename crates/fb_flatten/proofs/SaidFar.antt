@@ -1,5 +1,5 @@
 -- What nets take of the texts that a unit rests on, but for faults: what these mention, and what they say to networks.
-use Rattle.std.proofs.Common.{ℕ, ◌≡◌, List, [], sym, ◌∙◌, ◌++◌, ap, subst}
+use Rattle.std.proofs.Common.{ℕ, ◌≡◌, List, sym, ◌∙◌, ◌++◌, subst}
 use Rattle.std.specs.Prelude.{Contains}
 use Rattle.fb_wiring.specs.{Library.View.{Sources, mentions_at, parts_at, tree_at}, Library.Rests.{Rests, itself, through}}
 use Rattle.fb_wiring.specs.{Reaches.{IsRecursive, Reaches, directly, onward}, Network.PlainFlat.{PlainFlat}, Network.Instances.{Held}}

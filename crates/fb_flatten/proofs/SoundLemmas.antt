@@ -1,11 +1,11 @@
 -- What is known of a unit that nothing blocks, and of which none of what it rests on reaches itself.
-use Rattle.std.proofs.Common.{ℕ, ◌≡◌, List, [], Some, None, inl, inr, subst}
+use Rattle.std.proofs.Common.{ℕ, ◌≡◌, List, [], Some, None, inl, inr, subst, length}
 use Rattle.std.specs.{Prelude.{Contains, ◌≢◌}, FinMap.{get}, List.Sorted.{IsStrictlySortedBy}}
 use Rattle.fb_wiring.specs.{Text.Order.{name_cmp}, Library.View.{Sources, parts_at}, Library.Rests.{Rests, itself, PartRests, on_itself, through_part}}
 use Rattle.fb_wiring.specs.{Reaches.{IsRecursive}, Network.Plain.{PlainNetwork}, Network.Clean.{IsCleanThroughout}, ByName.{declared}}
 use Rattle.fb_wiring.proofs.{Library.Locality.{parts_rest, rests_both}, Text.Members.{contains_nothing}}
-use Rattle.fb_flatten.specs.{Blocking.{AreThose, IsBlocking}, Net.{IsSound, IsWhole}}
-use Rattle.fb_flatten.proofs.{ComputedNets.{done, present_below, unit_faultless}, OrderLemmas.{HasTree, reaches_part, tree_of_faultless}}
+use Rattle.fb_flatten.specs.{Far.{far_of}, Blocking.{AreThose, IsBlocking}, Net.{IsSound, IsWhole}}
+use Rattle.fb_flatten.proofs.{ComputedFlats.{IsDone}, ComputedNets.{done, present_below, unit_faultless}, OrderLemmas.{HasTree, reaches_part, tree_of_faultless}}
 
 pub no_names_sorted : IsStrictlySortedBy name_cmp []
 unfolding IsStrictlySortedBy
@@ -45,13 +45,8 @@ module _ {sources : Sources} {unit : List ℕ} (sound : IsSound sources unit) wh
   sound_tree = tree_of_faultless sources unit sound.present (unit_faultless sources unit sound)
 
   -- its network
-  pub record SoundNetwork : Type 0 where
-    pub network : PlainNetwork
-    pub is_declared : declared sources unit ≡ Some network
-    pub clean : IsCleanThroughout (declared sources) network
-
-  pub sound_network : SoundNetwork
-  sound_network = let it = done sources unit sound unit on_itself in record { network = it.network; is_declared = it.is_declared; clean = it.clean }
+  pub sound_network : IsDone sources (length (far_of sources unit)) unit
+  sound_network = done sources unit sound unit on_itself
 
   pub clean_network : (network : PlainNetwork) → declared sources unit ≡ Some network → IsCleanThroughout (declared sources) network
   clean_network network is =

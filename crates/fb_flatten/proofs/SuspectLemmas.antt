@@ -1,26 +1,20 @@
 -- The walk to the names among which those that block a unit, or reach themselves, are looked for.
-use Rattle.std.proofs.Common.{◌≡◌, ℕ, ◌+◌, ◌<◌, Bool, true, false, if◌then◌else◌, ◌||◌, ◌⊎◌, inl, inr, List, [], ◌∷◌, ◌++◌, length, Option, Some, None, refl, sym, ap, subst, ◌∙◌, arith}
-use Rattle.std.proofs.lemmas.Bool.{false≢true, or_left, or_right}
-use Rattle.std.specs.{Prelude.{Contains, ◌≢◌, filter}, FinMap.{get}, Ordering.{eq_by_cmp}}
-use Rattle.fb_wiring.proofs.{Text.Tests.{no_both, by_bool, or_cases}, Text.Members.{contains_nothing}, Library.Locality.{part_mention, rests_more}}
+use Rattle.std.proofs.Common.{◌≡◌, ℕ, ◌+◌, ◌<◌, Bool, true, false, if◌then◌else◌, inl, inr, List, [], ◌∷◌, ◌++◌, length, Option, None, refl, sym, ap, subst, ◌∙◌, arith}
+use Rattle.std.proofs.lemmas.Bool.{or_left, or_right}
+use Rattle.std.specs.{Prelude.{Contains, ◌≢◌, filter}, FinMap.{get}}
+use Rattle.fb_wiring.proofs.{Text.Tests.{no_both, by_bool, or_cases, or_false}, Text.Members.{contains_nothing}, Library.Locality.{part_mention, rests_more}}
+use Rattle.fb_wiring.proofs.Library.SeenLemmas.{same, same_is, same_self}
 use Rattle.fb_wiring.proofs.Library.WalkLemmas.{Contains-has, has-Contains, has-push, longer, mentioned_somewhere}
-use Rattle.fb_wiring.specs.{Text.Order.{name_cmp}, Library.View.{Sources, mentions_at, mentions_in, parts_at, tree_at}, Library.Near.{in_all_trees}}
-use Rattle.fb_wiring.specs.{Library.Rests.{Rests, itself, through}, Library.Seen.{Opens, has_name, unseen}, Reaches.{IsRecursive}, Tree.Tree.{DeclTree}}
+use Rattle.fb_wiring.specs.{Library.View.{Sources, mentions_at, mentions_in, parts_at, tree_at}, Library.Near.{in_all_trees}}
+use Rattle.fb_wiring.specs.{Library.Rests.{Rests, itself, through}, Library.Seen.{Opens, has_name, unseen}, Reaches.{IsRecursive}}
 use Rattle.fb_wiring.specs.Units.{has_net_in}
 use Rattle.fb_faults.specs.Faults.{faults_of}
 use Rattle.fb_flatten.specs.{Blocking.{AreThose, IsBlocking, IsPartBelow, is_blocking}, Hints.{AreRightHints, is_whole_hint}, Net.{PlainNet}}
 use Rattle.fb_flatten.specs.Suspects.{AreSuspects, mentions_beyond, parts_beyond, is_part_beyond}
-use Rattle.fb_flatten.proofs.{Depths.{same_is, same_self, some_of, some_passes}, HintLemmas.{known_sound}, NetLemmas.{blocking_those}}
-use Rattle.fb_flatten.proofs.OrderLemmas.{present_of_tree}
-
-abbrev same : List ℕ → List ℕ → Bool
-same = eq_by_cmp name_cmp
+use Rattle.fb_flatten.proofs.{Depths.{some_of, some_passes}, HintLemmas.{known_sound}, NetLemmas.{blocking_those}}
 
 last_has : (names : List (List ℕ)) (x : List ℕ) → has_name (names ++ x ∷ []) x ≡ true
-last_has names x = has-push names x x ∙ or_right (has_name names x) (same x x) (is_same x)
-  where
-    is_same : (y : List ℕ) → same y y ≡ true
-    is_same y = by_bool (same y y) (λ t. t) (λ f. no_both (has_name (y ∷ []) y) (same_self y) (ap (λ b. b || false) f))
+last_has names x = has-push names x x ∙ or_right (has_name names x) (same x x) (same_self x)
 
 -- what all units mention
 abbrev pub all_mentions : Sources → List (List ℕ)
@@ -31,9 +25,7 @@ module _ (hints : List ℕ → Option PlainNet) (sources : Sources) (unit : List
   next = mentions_beyond hints sources
 
   next_mentioned : (n q : List ℕ) → has_name (next n) q ≡ true → has_name (mentions_at sources n) q ≡ true
-  next_mentioned n q h = by_bool (is_whole_hint (hints n))
-      (λ t. no_both (has_name (next n) q) h (ap (λ b. has_name (if b then [] else mentions_at sources n) q) t))
-      (λ f. sym (ap (λ b. has_name (if b then [] else mentions_at sources n) q) f) ∙ h)
+  next_mentioned n q h = grind arith
 
   -- seen names are rested on; what those that are not pending mention is seen, save below units that are known to be whole
   pub record IsSearch (seen pending : List (List ℕ)) : Type 0 where
@@ -45,18 +37,11 @@ module _ (hints : List ℕ → Option PlainNet) (sources : Sources) (unit : List
   pub IsSearch-begin : (seen pending : List (List ℕ)) → ((q : List ℕ) → has_name seen q ≡ same q unit) → pending ≡ unit ∷ [] → IsSearch seen pending
   IsSearch-begin seen pending one is =
       record {
-        start = one unit ∙ is_same unit;
+        start = one unit ∙ same_self unit;
         sound = λ q h. subst (Rests sources unit) (sym (same_is q unit (sym (one q) ∙ h))) itself;
-        within = λ q h. one q ∙ sym (or_no (same q unit)) ∙ sym (ap (λ l. has_name l q) is) ∙ h;
-        closed = λ q w s o m. no_both (same q unit) (sym (one q) ∙ s) (sym (or_no (same q unit)) ∙ sym (ap (λ l. has_name l q) is) ∙ o);
+        within = λ q h. one q ∙ sym (or_false (same q unit)) ∙ sym (ap (λ l. has_name l q) is) ∙ h;
+        closed = λ q w s o m. no_both (same q unit) (sym (one q) ∙ s) (sym (or_false (same q unit)) ∙ sym (ap (λ l. has_name l q) is) ∙ o);
       }
-    where
-      or_no : (b : Bool) → (b || false) ≡ b
-      or_no true = refl
-      or_no false = refl
-
-      is_same : (y : List ℕ) → same y y ≡ true
-      is_same y = by_bool (same y y) (λ t. t) (λ f. no_both (has_name (y ∷ []) y) (same_self y) (ap (λ b. b || false) f))
 
   pub IsSearch-step : (seen pending seen' pending' : List (List ℕ)) (name : List ℕ) → IsSearch seen (pending ++ name ∷ []) → Opens (next name) seen pending seen' pending' → IsSearch seen' pending'
   IsSearch-step seen pending seen' pending' name walk opens =
@@ -67,16 +52,13 @@ module _ (hints : List ℕ → Option PlainNet) (sources : Sources) (unit : List
         sound = λ q h. or_cases (has_name seen q) (has_name (next name) q) (sym (opens.marks q) ∙ h)
             (walk.sound q)
             (λ m. rests_more (walk.sound name named) (Contains-has q (mentions_at sources name) (next_mentioned name q m)));
-        within = λ q h. or_cases (has_name pending q) (has_name (next name) q) (opens.only q h)
-            (λ o. grows q (walk.within q (has-push pending name q ∙ or_left (has_name pending q) (same q name) o)))
-            (λ m. opens.marks q ∙ or_right (has_name seen q) _ m);
-        closed = λ q w s o m. by_bool (has_name seen q)
-            (λ t. by_bool (same q name)
-            (λ is. opens.marks w ∙ or_right (has_name seen w) _ (sym (ap (λ n. has_name (next n) w) (same_is q name is)) ∙ m))
-            (λ other. by_bool (has_name pending q)
-            (λ p. no_both (has_name pending' q) (opens.keeps q p) o)
-            (λ p. grows w (walk.closed q w t (has-push pending name q ∙ ap (λ b. b || same q name) p ∙ other) m))))
-            (λ f. no_both (has_name pending' q) (opens.opened q s f) o);
+        within = λ q h. let only = opens.only q h in grind (arith, opens.marks q, walk.within q, has-push pending name q);
+        closed = λ q w s o m.
+            let on : same q name ≡ true → has_name (next name) w ≡ true = λ is. sym (ap (λ n. has_name (next n) w) (same_is q name is)) ∙ m in
+            let opened = opens.opened q s in
+            let kept = opens.keeps q in
+            let closed = walk.closed q w in
+            grind (arith, opens.marks w, has-push pending name q);
       }
 
   pub search_falls : (name : List ℕ) (seen pending seen' pending' before : List (List ℕ)) → Opens (next name) seen pending seen' pending' → before ≡ pending ++ name ∷ [] → unseen seen' (all_mentions sources) + length pending' < unseen seen (all_mentions sources) + length before
@@ -139,12 +121,10 @@ module _ (hints : List ℕ → Option PlainNet) (sources : Sources) (unit : List
 pub part_beyond_below : (hints : List ℕ → Option PlainNet) (sources : Sources) (unit : List ℕ) (names : List (List ℕ)) → ((v : List ℕ) → Contains names v → Rests sources unit v) → (v : List ℕ) → is_part_beyond hints sources names v ≡ true → IsPartBelow sources unit v
 part_beyond_below hints sources unit names sound v told =
     let s = some_passes (λ h. has_name (parts_beyond hints sources h) v) names told in
-    (s.name, sound s.name (Contains-has s.name names s.among), Contains-has v (parts_at sources s.name) (beyond s.name s.passes))
+    (s.0, sound s.0 (Contains-has s.0 names s.1), Contains-has v (parts_at sources s.0) (beyond s.0 s.2))
   where
     beyond : (n : List ℕ) → has_name (parts_beyond hints sources n) v ≡ true → has_name (parts_at sources n) v ≡ true
-    beyond n h = by_bool (is_whole_hint (hints n))
-        (λ t. no_both (has_name (parts_beyond hints sources n) v) h (ap (λ b. has_name (if b then [] else parts_at sources n) v) t))
-        (λ f. sym (ap (λ b. has_name (if b then [] else parts_at sources n) v) f) ∙ h)
+    beyond n h = grind arith
 
 -- those among the suspects that block the unit
 pub blocking_found : (hints : List ℕ → Option PlainNet) (sources : Sources) (unit : List ℕ) (names found : List (List ℕ)) (is_part : List ℕ → Bool) → AreSuspects hints sources unit names → ((v : List ℕ) → Contains names v → get sources v ≡ None → is_part v ≡ is_part_beyond hints sources names v) → found ≡ filter (is_blocking sources is_part) names → AreThose sources unit (IsBlocking sources unit) found
@@ -156,8 +136,4 @@ blocking_found hints sources unit names found is_part known told is =
 
 -- a unit that has a net is present
 pub present_of_net : (sources : Sources) (unit : List ℕ) → has_net_in (tree_at sources unit) ≡ true → get sources unit ≢ None
-present_of_net sources unit has = by (tree_at sources unit) refl has
-  where
-    by : (o : Option DeclTree) → tree_at sources unit ≡ o → has_net_in o ≡ true → get sources unit ≢ None
-    by None e t = absurd (false≢true t)
-    by (Some tree) e t = present_of_tree sources unit tree e
+present_of_net sources unit has = grind arith

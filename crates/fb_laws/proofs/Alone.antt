@@ -1,5 +1,5 @@
 -- Parts that are cut out of their text.
-use Rattle.fb_laws.proofs.Common.{◌≡◌, ℕ, ◌+◌, ◌-◌, ◌≤◌, List, [], ◌∷◌, ◌++◌, length, take, drop, map, refl, sym, ap, ap₂, ◌∙◌, subst, arith, Ok, slice_range, drop-drop, drop-take, take-take, All-weaker, tokens_of, Token, kind_of, lexeme_of, lexemes_in, lexemes_of, spelled_name, Lexeme, Part, tree_parts, part_span, BeginsAt, EndsAt, IsWritten, nearer, ReadsAlone, PartsReadAlone}
+use Rattle.fb_laws.proofs.Common.{◌≡◌, ℕ, ◌+◌, ◌-◌, ◌≤◌, List, [], ◌∷◌, ◌++◌, length, take, drop, map, refl, sym, ap, ap₂, ◌∙◌, subst, arith, Ok, slice_range, drop-drop, drop-take, take-take, All-weaker, tokens_of, Token, lexeme_of, lexemes_in, lexemes_of, Lexeme, Part, tree_parts, part_span, BeginsAt, EndsAt, IsWritten, nearer, ReadsAlone, PartsReadAlone}
 use Rattle.fb_laws.proofs.{Cutting.{Rising, LastEnds, last_rises, nearer_token, rising_inside, tokens_alone}, Reading.{tokens_are}}
 use Rattle.fb_laws.proofs.Standing.{covers_lies, part_covers, tree_stands}
 
@@ -14,8 +14,7 @@ part_of_part text s e a b sa ab be =
 
 lexeme_alone : (text : List ℕ) (s e : ℕ) (t : Token) → s ≤ t.span.start → t.span.start ≤ t.span.end → t.span.end ≤ e → lexeme_of (slice_range text s e) (nearer_token s t) ≡ nearer s (lexeme_of text t)
 unfolding lexeme_of
-lexeme_alone text s e t sa ab be =
-    ap (λ (bytes : List ℕ). record { kind = kind_of t.kind bytes; span = record { start = t.span.start - s; end = t.span.end - s }; name = spelled_name bytes }) (part_of_part text s e t.span.start t.span.end sa ab be)
+lexeme_alone text s e t sa ab be = grind (arith, part_of_part)
 
 lexemes_alone : (text : List ℕ) (s e from : ℕ) (ts : List Token) → s ≤ from → Rising from ts → LastEnds from ts e → map (lexeme_of (slice_range text s e)) (map (nearer_token s) ts) ≡ map (nearer s) (map (lexeme_of text) ts)
 lexemes_alone text s e from [] sa rise last = refl
@@ -75,13 +74,7 @@ module _ (text : List ℕ) (tokens : List Token) (are : tokens_of text ≡ Ok to
       let first = halves text tokens h.before (h.inside ++ h.behind) h.parts in
       let second = halves text first.rest h.inside h.behind first.rest_is in
       let whole : tokens ≡ first.prefix ++ (second.prefix ++ second.rest) = first.whole ∙ ap (λ z. first.prefix ++ z) second.whole in
-      record {
-        inside = h.inside;
-        spells = h.spells;
-        alone = alone_by first.prefix second.prefix second.rest h.inside whole second.prefix_is
-            (subst (λ (z : List Lexeme). BeginsAt z (part_span p).start) (sym second.prefix_is) h.begins)
-            (subst (λ (z : List Lexeme). EndsAt z (part_span p).end) (sym second.prefix_is) h.ends) within;
-      }
+      grind (arith, alone_by)
 
 pub parts_read_alone : PartsReadAlone
 parts_read_alone text tree utf8 e =

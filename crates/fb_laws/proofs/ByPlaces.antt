@@ -110,8 +110,7 @@ left_pending s cs k none is =
 pub due_by_places : (s : State) (cs : List Call) (k : Key) → IsDueByPlaces s cs k
 due_by_places s cs k = (forth (due s cs k) refl, back) where
   forth : (b : Bool) → due s cs k ≡ b → due_from s cs k ≡ true → IsMarkedLast s cs k ⊎ IsLeftPending s cs k
-  forth true is e = inl (marked_last s cs k is)
-  forth false none e = inr (left_pending s cs k none (or_first _ (due s cs k) none e))
+  forth b is e = grind (arith, marked_last, left_pending, or_first)
 
   back : IsMarkedLast s cs k ⊎ IsLeftPending s cs k → due_from s cs k ≡ true
   back (inl it) = or_right (s.pending k && not (settled s cs k)) _ (due_if_marked s cs k it.place it.marked it.unsettled)

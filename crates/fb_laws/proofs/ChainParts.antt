@@ -1,5 +1,5 @@
 -- A chain of a clean network, by the connections that it passes.
-use Rattle.fb_laws.proofs.Common.{ℕ, ◌≡◌, List, [], ◌∷◌, ◌++◌, map, Some, ◌⊎◌, inl, inr, refl, sym, ◌∙◌, ap, subst, Sort, Input, PlainNetwork, View, Place, IsInner, IsConnected, Step, Within, IsBorderPlace, IsLeafPlace, Chain, One, More, side_at, IsCleanThroughout, Passed, passed_at, passed_by, StaysInside, nothing_before, border_before, IsAfter, nothing_after, border_after, CrossesOnce, LinksAreComposed, CrossesFrom, BordersAreComposed, LeavesInner, EntersInner, filter}
+use Rattle.fb_laws.proofs.Common.{arith, ℕ, ◌≡◌, List, [], ◌∷◌, ◌++◌, map, Some, ◌⊎◌, inl, inr, refl, sym, ◌∙◌, ap, subst, Sort, Input, PlainNetwork, View, Place, IsInner, IsConnected, Step, Within, IsBorderPlace, IsLeafPlace, Chain, One, More, side_at, IsCleanThroughout, Passed, passed_at, passed_by, StaysInside, nothing_before, border_before, IsAfter, nothing_after, border_after, CrossesOnce, LinksAreComposed, CrossesFrom, BordersAreComposed, LeavesInner, EntersInner, filter}
 use Rattle.fb_wiring.specs.{Network.declared.network.End.{End}, Network.declared.network.End.TheVariants.{Own, Of}, Network.Network.{place_of, Holds}}
 use Rattle.fb_wiring.proofs.Network.Chains.{no_step_from_nothing, no_step_to_nothing, same_inner, here, input_step, border_inside, no_chain_from_output, inner_at_border}
 use Rattle.fb_wiring.proofs.Network.LinkLemmas.{leaf_inside}
@@ -197,18 +197,13 @@ none_own name [] = refl
 none_own name (p ∷ list) = none_own name list
 
 own_before : {view : View} {sort : Sort} {network : PlainNetwork} {a : Place} {source : End} {list : List Passed} (rest : List Passed) → Before view sort network a source list → filter is_own (list ++ rest) ≡ filter is_own rest
-own_before rest (at_source e) = refl
-own_before rest (leaves l) = ap (λ (list : List Passed). filter is_own (list ++ rest)) l.whole ∙ past l.name (passed_by l.chain) rest
+own_before rest before = grind (arith, past)
 
 own_after : {view : View} {sort : Sort} {network : PlainNetwork} {b : Place} {destination : End} {list : List Passed} → After view sort network destination b list → filter is_own list ≡ []
-own_after (at_destination e) = refl
-own_after (enters l) = ap (λ (list : List Passed). filter is_own list) l.whole ∙ none_own l.name (passed_by l.chain)
+own_after after = grind (arith, none_own)
 
 once : {view : View} {sort : Sort} {network : PlainNetwork} {a b : Place} {list : List Passed} (x : Across view sort network a b list) → filter is_own list ≡ own x.source x.destination ∷ []
-once x =
-    ap (λ (l : List Passed). filter is_own l) x.whole
-    ∙ own_before (own x.source x.destination ∷ x.after) x.is_before
-    ∙ ap (λ (l : List Passed). own x.source x.destination ∷ l) (own_after x.is_after)
+once x = grind (arith, own_before, own_after)
 
 crossed : {view : View} {sort : Sort} {network : PlainNetwork} {a b : Place} {list : List Passed} (x : Across view sort network a b list) → IsBefore view sort network a x.source x.before → IsAfter view sort network x.destination b x.after → CrossesOnce view sort network a b list
 crossed x before after = record { source = x.source; destination = x.destination; connected = x.connected; once = once x; before = x.before; after = x.after; whole = x.whole; is_before = before; is_after = after }
@@ -216,8 +211,7 @@ crossed x before after = record { source = x.source; destination = x.destination
 -- ---- chains behind links and borders
 
 no_chain_from_nothing : {view : View} {sort : Sort} {network : PlainNetwork} {a b : Place} → Chain view sort network a b → a ≡ [] → ⊥
-no_chain_from_nothing (One s) g = no_step_from_nothing s g
-no_chain_from_nothing (More b s border rest) g = no_step_from_nothing s g
+no_chain_from_nothing chain g = grind (arith, no_step_from_nothing)
 
 no_chain_to_nothing : {view : View} {sort : Sort} {network : PlainNetwork} {a b : Place} → Chain view sort network a b → b ≡ [] → ⊥
 no_chain_to_nothing (One s) g = no_step_to_nothing s g
@@ -236,12 +230,10 @@ to_leaf leaf (enters l) = border_after (record { enters = l; border = record { l
 -- from and to own ports
 
 from_port : {view : View} {sort : Sort} {network : PlainNetwork} {a : Place} {source : End} {list : List Passed} (port : List ℕ) → a ≡ port ∷ [] → Before view sort network a source list → IsBefore view sort network a source list
-from_port port is (at_source e) = nothing_before e
-from_port port is (leaves l) = absurd (no_chain_from_nothing l.chain (let k = l.from_is in cc))
+from_port port is before = grind (arith, nothing_before, no_chain_from_nothing)
 
 to_port : {view : View} {sort : Sort} {network : PlainNetwork} {b : Place} {destination : End} {list : List Passed} (port : List ℕ) → b ≡ port ∷ [] → After view sort network destination b list → IsAfter view sort network destination b list
-to_port port is (at_destination e) = nothing_after e
-to_port port is (enters l) = absurd (no_chain_to_nothing l.chain (let k = l.to_is in cc))
+to_port port is after = grind (arith, nothing_after, no_chain_to_nothing)
 
 pub links_composed : {view : View} {network : PlainNetwork} → IsCleanThroughout view network → LinksAreComposed view network
 links_composed {view = view} {network = network} clean sort a b link = by (passed_by link.chain) (parts clean link.chain)

@@ -1,11 +1,11 @@
 -- Each code of charts, by what its list of faults has.
-use Rattle.fb_laws.proofs.Common.{◌≡◌, ◌≢◌, ℕ, Bool, true, false, List, [], ◌∷◌, Option, Some, None, map, refl, sym, ap, ◌∙◌, subst, true≢false, inl, inr, if◌then◌else◌, Contains, flat_map, slice_get, option_map_or, Contains-append_left, Contains-append_right, NameUse, Span, AlgorithmTree, ChartTree, DeclTree, StateTree, TransitionTree, TypeTree, block_type, Side, Input, Output, End, Role, Plug, Socket, Sources, tree_at, Code, AlgorithmUnknown, EventUnknown, StateUnknown, Fault, DeclaredEvent, DeclaredInstance, fault_at, has_name, stands_for, Meanings, meanings_in_type, same_side, Scope, instance_ports, scope_of_type, usable, contains_flat_map, contains_here, contains_later, contains_map, contains_nothing, contains_single, in_unless, in_written, origin_in_flat_map, origin_in_map, unless, written, chart_faults, chart_faults_in, ecc_faults_of, none_named, not_named, IsAdapter, IsNotJudged, of_unusable, append-nil, ◌++◌}
+use Rattle.fb_laws.proofs.Common.{arith, ◌≡◌, ◌≢◌, ℕ, Bool, true, false, List, [], ◌∷◌, Option, Some, None, map, refl, sym, ap, ◌∙◌, subst, true≢false, inl, inr, Contains, flat_map, slice_get, option_map_or, Contains-append_left, Contains-append_right, NameUse, Span, AlgorithmTree, ChartTree, DeclTree, StateTree, TransitionTree, TypeTree, block_type, Side, Input, Output, End, Role, Plug, Socket, Sources, tree_at, Code, AlgorithmUnknown, EventUnknown, StateUnknown, Fault, DeclaredInstance, fault_at, has_name, stands_for, Meanings, meanings_in_type, Scope, instance_ports, scope_of_type, usable, contains_flat_map, contains_here, contains_later, contains_map, contains_nothing, contains_single, in_unless, in_written, origin_in_flat_map, origin_in_map, unless, written, chart_faults, chart_faults_in, ecc_faults_of, none_named, not_named, IsAdapter, IsNotJudged, of_unusable, append-nil, ◌++◌}
 use Rattle.fb_laws.proofs.{ItemRows.{same_sides, side_itself}, UsableTypes.{known_type, no_type, own_type, told_type, type_missing}}
 use Rattle.fb_laws.proofs.Joined.{iff, of_either, in_joined}
 use Rattle.fb_tree.specs.declared.chart.Action.{Action}
 use Rattle.fb_ecc.specs.{Algorithms.{algorithm_fault, algorithm_faults, algorithm_names, run_faults}, declared.events.EventTarget.{EventTarget}}
 use Rattle.fb_ecc.specs.declared.events.EventTarget.TheVariants.{Found, Unknown, NotJudged}
-use Rattle.fb_ecc.specs.Events.{end_event_faults, event_among, event_behind, event_faults, event_in, event_named, event_of_adapter, event_on, opposite, sent_faults, side_through, span_from, target_faults, trigger_faults, written_fault}
+use Rattle.fb_ecc.specs.Events.{end_event_faults, event_among, event_behind, event_faults, event_in, event_named, event_of_adapter, opposite, sent_faults, side_through, span_from, target_faults, trigger_faults, written_fault}
 use Rattle.fb_ecc.specs.States.{transition_faults, state_fault, state_faults, state_names}
 use Rattle.fb_laws.specs.Charts.{AlgorithmsAreDeclared, EventsAreKnown, HasUnknownAlgorithm, HasUnknownEvent, HasUnknownState, IsEventOf, IsNoEventOf, StandsForEvent, StatesAreListed, own_event, of_plug, of_socket}
 use Rattle.fb_laws.specs.Declared.{IsBlockAt}
@@ -59,30 +59,14 @@ is_unknown Unknown = true
 is_unknown o = false
 
 stands_for_event : (side : Side) (ports : Meanings) (name : List ℕ) → event_among side ports name ≡ Found → StandsForEvent ports name side
-stands_for_event side ports name e =
-    (elim (stands_for ports.events name) as (λ o. stands_for ports.events name ≡ o → event_on side o ≡ Found → StandsForEvent ports name side) [ None ↦ λ g h. absurd (true≢false (sym (ap is_found h))) | Some event ↦ λ g h. judged event g (same_side event.side side) refl h ]) refl e
-  where
-    judged : (event : DeclaredEvent) → stands_for ports.events name ≡ Some event → (same : Bool) → same_side event.side side ≡ same → (if same then Found else Unknown) ≡ Found → StandsForEvent ports name side
-    judged event g true h e = record { event = event; first = g; on_side = same_sides event.side side h }
-    judged event g false h e = absurd (true≢false (sym (ap is_found e)))
+stands_for_event side ports name e = grind (arith, same_sides)
 
 event_stands : (side : Side) (ports : Meanings) (name : List ℕ) → StandsForEvent ports name side → event_among side ports name ≡ Found
-event_stands side ports name s =
-    ap (event_on side) s.first
-    ∙ ap (λ a. if same_side a side then Found else Unknown) s.on_side
-    ∙ ap (λ b. if b then Found else Unknown) (side_itself side)
+event_stands side ports name s = grind (arith, side_itself)
 
 -- ports that are known are judged
 judged_among : (side : Side) (ports : Meanings) (name : List ℕ) → event_among side ports name ≢ NotJudged
-judged_among side ports name e = by (stands_for ports.events name) e
-  where
-    judged : (same : Bool) → (if same then Found else Unknown) ≢ NotJudged
-    judged true h = true≢false (ap is_found h)
-    judged false h = true≢false (ap is_unknown h)
-
-    by : (o : Option DeclaredEvent) → event_on side o ≢ NotJudged
-    by None h = true≢false (ap is_unknown h)
-    by (Some event) h = judged (same_side event.side side) h
+judged_among side ports name e = grind arith
 
 module _ (sources : Sources) (d : TypeTree) (side : Side) where
   abbrev scope : Scope
@@ -135,12 +119,10 @@ module _ (sources : Sources) (d : TypeTree) (side : Side) where
       by_role i is o r h = absurd (true≢false (ap is_unknown h))
 
   event_found : (name : NameUse) (port : Option NameUse) → event_named scope side name port ≡ Found → IsEvent name port
-  event_found name None e = own_event (stands_for_event side own name.name e)
-  event_found name (Some X) e = found_behind name X e
+  event_found name port e = grind (arith, own_event, stands_for_event, found_behind)
 
   not_judged : (name : NameUse) (port : Option NameUse) → event_named scope side name port ≡ NotJudged → IsUnjudged name port
-  not_judged name None e = absurd (judged_among side own name.name e)
-  not_judged name (Some X) e = not_judged_behind name X e
+  not_judged name port e = grind (arith, judged_among, not_judged_behind)
 
   told_found : (name : NameUse) (port : Option NameUse) → IsEvent name port → event_named scope side name port ≡ Found
   told_found name None (own_event s) = event_stands side own name.name s
@@ -148,17 +130,13 @@ module _ (sources : Sources) (d : TypeTree) (side : Side) where
   told_found p (Some X) (of_socket i ports is socket u s) = behind p X i Socket (Some ports) is socket (told_type sources i.type_name.name i.role ports u) ∙ event_stands (opposite side) ports X.name s
 
   told_not_judged : (name : NameUse) (port : Option NameUse) → IsUnjudged name port → event_named scope side name port ≡ NotJudged
-  told_not_judged name None none = elim none [ ]
-  told_not_judged p (Some X) (of_unusable i is (inl plug) none) = behind p X i Plug None is plug (type_missing sources i.type_name.name i.role none)
-  told_not_judged p (Some X) (of_unusable i is (inr socket) none) = behind p X i Socket None is socket (type_missing sources i.type_name.name i.role none)
+  told_not_judged name port none = grind (arith, of_unusable, type_missing)
 
   unknown_event : (event : End) → event_named scope side event.name event.port ≡ Unknown → IsNoEventOf sources own side event
-  unknown_event event e =
-      (λ is. true≢false (sym (ap is_unknown (sym (told_found event.name event.port is) ∙ e))), λ is. true≢false (sym (ap is_unknown (sym (told_not_judged event.name event.port is) ∙ e))))
+  unknown_event event e = grind (arith, told_found, told_not_judged)
 
   no_event : (event : End) → IsNoEventOf sources own side event → event_named scope side event.name event.port ≡ Unknown
-  no_event event fails =
-      (elim (event_named scope side event.name event.port) as (λ t. event_named scope side event.name event.port ≡ t → t ≡ Unknown) [ Found ↦ λ e. absurd (fails.0 (event_found event.name event.port e)) | Unknown ↦ λ e. refl | NotJudged ↦ λ e. absurd (fails.1 (not_judged event.name event.port e)) ]) refl
+  no_event event fails = grind (arith, event_found, not_judged)
 
 abbrev event_fault_at : End → Fault
 event_fault_at e = record { code = EventUnknown; span = span_from e.name.span e.port }
@@ -170,8 +148,7 @@ record EventOrigin (sources : Sources) (d : TypeTree) (side : Side) (o : Option 
   is : event_fault_at event ≡ fault
 
 in_target : (target : EventTarget) (event : End) (fault : Fault) → Contains (target_faults target (span_from event.name.span event.port)) fault → (target ≡ Unknown) × (event_fault_at event ≡ fault)
-in_target Unknown event fault c = (refl, contains_single (event_fault_at event) fault c)
-in_target o event fault c = absurd (contains_nothing fault c)
+in_target target event fault c = grind (arith, contains_single, contains_nothing)
 
 event_origin : (sources : Sources) (d : TypeTree) (side : Side) (o : Option End) (fault : Fault) → Contains (written_fault (scope_of_type sources d) side o) fault → EventOrigin sources d side o fault
 event_origin sources d side o fault c =
@@ -237,18 +214,7 @@ module _ (sources : Sources) (unit : List ℕ) where
         let w = in_written (algorithm_fault declares) a.action.algorithm f a.has in
         let fails = in_unless (declares w.item.name) (fault_at AlgorithmUnknown w.item) f w.has in
         subst Finds fails.1
-        (record {
-          block = d;
-          declared = declared;
-          state = a.state;
-          listed = a.listed;
-          action = a.action;
-          written = a.written;
-          algorithm = w.item;
-          run = w.is;
-          undeclared = unlisted_names (λ (x : AlgorithmTree). x.name) d.chart.algorithms w.item.name fails.0;
-          place = refl;
-        })
+        (search (unlisted_names))
 
     chart_found : (f : Fault) → Contains (chart_faults block_scope d.chart) f → Finds f
     chart_found = of_either _ _ (of_either _ _ states_found (of_either _ _ triggers_found sent_found)) algorithms_found

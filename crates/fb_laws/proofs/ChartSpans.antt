@@ -1,5 +1,5 @@
 -- The parts of transitions and algorithms.
-use Rattle.fb_laws.proofs.Common.{arith, ◌≡◌, true, List, [], ◌∷◌, ◌++◌, Option, Some, None, flat_map, NameUse, name, is_among, name_kinds, Kind, Name, NameIn, NameOn, NameSt, end, Expression, Statement, End, levels, statement, Part, name_part, name_parts, option_parts, end_parts, expression_parts, statement_parts, condition_parts, transition_parts, algorithm_parts, among_left, among_right}
+use Rattle.fb_laws.proofs.Common.{arith, List, [], ◌∷◌, ◌++◌, Option, Some, None, flat_map, NameUse, name, Name, NameIn, NameOn, NameSt, end, Expression, Statement, End, levels, statement, Part, name_part, name_parts, option_parts, end_parts, expression_parts, statement_parts, condition_parts, transition_parts, algorithm_parts, among_left, among_right}
 use Rattle.fb_laws.proofs.Tokens.{Each, each_prefix}
 use Rattle.fb_laws.proofs.Sound.{Sound, sound_nothing, sound_both, sound_as, sound_either, sound_option, sound_many, sound_behind, sound_before, sound_section, sound_mark, sound_name, sound_name_of, sound_same}
 use Rattle.fb_laws.proofs.{Sections.{sound_end}, ExpressionSpans.{sound_expression}, Statements.{sound_statement}}
@@ -11,20 +11,17 @@ sound_bracketed : Sound bracketed expression_parts
 unfolding bracketed
 sound_bracketed = sound_behind _ _ expression_parts (sound_before _ _ expression_parts (sound_expression levels (omega arith)))
 
-sound_optional_test : Sound optional_test (option_parts expression_parts)
-unfolding optional_test joined_test
-sound_optional_test = sound_option _ expression_parts (sound_either _ _ expression_parts sound_bracketed (sound_behind _ _ expression_parts (sound_expression levels (omega arith))))
-
 each_on_event : (P : Part → Type 0) (event : End) (test : Option Expression) → Each P (end_parts event ++ option_parts expression_parts test) → Each P (condition_parts (on_event_with event test))
 each_on_event P event None h = each_prefix P (end_parts event) [] h
 each_on_event P event (Some test) h = h
 
 sound_event_condition : Sound event_condition condition_parts
-unfolding event_condition
+unfolding event_condition optional_test joined_test
 sound_event_condition =
     sound_as _ _ condition_parts
     (sound_same _ (λ v. end_parts v.0 ++ option_parts expression_parts v.1) _ (λ P v h. each_on_event P v.0 v.1 h)
-    (sound_both end _ end_parts (option_parts expression_parts) sound_end sound_optional_test))
+    (sound_both end _ end_parts (option_parts expression_parts) sound_end (sound_option _ expression_parts (sound_either _ _ expression_parts sound_bracketed
+    (sound_behind _ _ expression_parts (sound_expression levels (omega arith)))))))
 
 sound_condition : Sound condition condition_parts
 unfolding condition
@@ -32,41 +29,24 @@ sound_condition =
     sound_either _ _ condition_parts (sound_as _ _ condition_parts (sound_mark _))
     (sound_either _ _ condition_parts (sound_as _ bracketed condition_parts sound_bracketed) sound_event_condition)
 
-sound_transition : Sound transition transition_parts
-unfolding transition
-sound_transition =
-    sound_as _ _ transition_parts
-    (sound_both name _ name_parts (λ v. name_parts v.0 ++ condition_parts v.1) sound_name
-    (sound_behind _ _ _ (sound_both name _ name_parts condition_parts sound_name (sound_behind _ _ _ (sound_before condition _ condition_parts sound_condition)))))
-
 pub sound_transitions : Sound transitions (flat_map transition_parts)
-unfolding transitions
-sound_transitions = sound_section _ transition _ transition_parts sound_transition
+unfolding transitions transition
+sound_transitions =
+    sound_section _ transition _ transition_parts (sound_as _ _ transition_parts (sound_both name _ name_parts (λ v. name_parts v.0 ++ condition_parts v.1) sound_name
+    (sound_behind _ _ _ (sound_both name _ name_parts condition_parts sound_name (sound_behind _ _ _ (sound_before condition _ condition_parts sound_condition))))))
 
 -- Algorithms
-
-st_is_name : (k : Kind) → is_among (NameSt ∷ []) k ≡ true → is_among name_kinds k ≡ true
-st_is_name k h = among_right (Name ∷ NameIn ∷ NameOn ∷ []) (NameSt ∷ []) k h
-
-other_is_name : (k : Kind) → is_among (Name ∷ NameIn ∷ NameOn ∷ []) k ≡ true → is_among name_kinds k ≡ true
-other_is_name k h = among_left (Name ∷ NameIn ∷ NameOn ∷ []) (NameSt ∷ []) k h
 
 abbrev body_parts : NameUse × List Statement → List Part
 body_parts v = name_part v.0 ∷ flat_map statement_parts v.1
 
-sound_structured_text : Sound structured_text body_parts
-unfolding structured_text
-sound_structured_text =
-    sound_both _ _ name_parts (flat_map statement_parts) (sound_name_of (NameSt ∷ []) st_is_name)
-    (sound_behind _ _ _ (sound_many (statement levels) statement_parts (sound_statement levels (omega arith))))
-
-sound_other_language : Sound other_language body_parts
-unfolding other_language
-sound_other_language = sound_both _ _ name_parts (flat_map statement_parts) (sound_name_of (Name ∷ NameIn ∷ NameOn ∷ []) other_is_name) (sound_as _ _ _ (sound_nothing _))
-
 sound_algorithm_body : Sound algorithm_body body_parts
-unfolding algorithm_body
-sound_algorithm_body = sound_either _ _ body_parts sound_structured_text sound_other_language
+unfolding algorithm_body structured_text other_language
+sound_algorithm_body =
+    sound_either _ _ body_parts (sound_both _ _ name_parts (flat_map statement_parts)
+    (sound_name_of (NameSt ∷ []) (λ k h. among_right (Name ∷ NameIn ∷ NameOn ∷ []) (NameSt ∷ []) k h)) (sound_behind _ _ _ (sound_many (statement levels) statement_parts
+    (sound_statement levels (omega arith))))) (sound_both _ _ name_parts (flat_map statement_parts)
+    (sound_name_of (Name ∷ NameIn ∷ NameOn ∷ []) (λ k h. among_left (Name ∷ NameIn ∷ NameOn ∷ []) (NameSt ∷ []) k h)) (sound_as _ _ _ (sound_nothing _)))
 
 pub sound_algorithm : Sound algorithm algorithm_parts
 unfolding algorithm

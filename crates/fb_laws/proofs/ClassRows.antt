@@ -1,5 +1,5 @@
 -- Rules of classes that are broken, by what the list of faults has.
-use Rattle.fb_laws.proofs.Common.{◌≡◌, ℕ, Bool, true, false, List, [], ◌∷◌, Option, Some, refl, sym, ap, ◌∙◌, subst, true≢false, is_some, Contains, NameUse, Span, Expression, reference_expression, no_expressions, Statements, count, TypeTree, block_type, TypeUse, Member, Sources, tree_at, class_of_type, stands_for, meanings_in_type, Class as ValueClass, Fault, DeclaredVariable, expr_faults_of, change, combined, join, Demand, suits_operand, suits_operands, suits_place, assigns, code_of_demand, is_met, alone_tree, class_in, Names, names_of_type, allows, ClassPlace, Condition, Count, Counter, Fits, HasClass, of_variable, of_element, of_no_array, of_no_variable, IsRunIn, StandsAt, BreaksRule, at_operator, between_operands, at_subscript, at_guard, at_counter, at_assignment, ClassesAreRight, ExpressionsHaveOneClass, HasBrokenRule, Begins, own, GoesOn, at_end, NamesType}
+use Rattle.fb_laws.proofs.Common.{arith, ◌≡◌, ℕ, Bool, true, false, List, [], ◌∷◌, Option, Some, refl, sym, ap, ◌∙◌, subst, true≢false, is_some, Contains, NameUse, Span, Expression, reference_expression, no_expressions, Statements, count, TypeTree, block_type, TypeUse, Sources, tree_at, class_of_type, stands_for, meanings_in_type, Class as ValueClass, Fault, DeclaredVariable, expr_faults_of, change, combined, join, Demand, suits_operand, suits_operands, suits_place, assigns, code_of_demand, is_met, alone_tree, class_in, Names, names_of_type, allows, ClassPlace, Condition, Count, Counter, Fits, HasClass, of_variable, of_element, of_no_array, of_no_variable, IsRunIn, StandsAt, BreaksRule, at_operator, between_operands, at_subscript, at_guard, at_counter, at_assignment, ClassesAreRight, ExpressionsHaveOneClass, HasBrokenRule, own, GoesOn, at_end, NamesType}
 use Rattle.fb_laws.proofs.{ClassLemmas.{class_of, pair_in, pair_of, told_class}, ExpressionLemmas.{IsPairOf}, ExpressionPlaces.{stands, told_stands}}
 use Rattle.fb_laws.proofs.RuleLemmas.{misfits, no_change, none_change, none_combined, not_combined, told_misfit, none_of, missing, told_join, joins}
 use Rattle.fb_laws.proofs.UnitDemands.{DemandOf, operator, pair, subscript, test, in_place, of_counter, of_assignment, reported, unmet}
@@ -21,13 +21,7 @@ nothing_behind : (sources : Sources) (first used : TypeUse) (at_first subscripte
 nothing_behind sources first used at_first subscripted at_end = (refl, refl)
 
 typed_alone : (sources : Sources) (d : TypeTree) (name : NameUse) (used : TypeUse) (subscripted : Bool) → NamesType sources d (alone_tree name) used subscripted → TypedAlone d name used subscripted
-typed_alone sources d name used subscripted n = by n.first n.at_first n.behind n.begins n.leads
-  where
-    by : (first : TypeUse) (at_first : Bool) (behind : List Member) → Begins sources d (alone_tree name) first at_first behind → GoesOn sources first at_first behind used subscripted → TypedAlone d name used subscripted
-    by first at_first behind (own v e none) leads =
-        let same = nothing_behind sources v.type_use used false subscripted leads in
-        record { variable = v; stands = e; type = same.0; none = same.1 }
-    by first at_first behind (of_adapter i m a v at is e data_port) leads = let both = at.second in absurd (let no : ⊥ = cc in no)
+typed_alone sources d name used subscripted n = grind (arith, nothing_behind, of_adapter)
 
 alone_typed : (sources : Sources) (d : TypeTree) (name : NameUse) (v : DeclaredVariable) → stands_for (meanings_in_type d).variables name.name ≡ Some v → NamesType sources d (alone_tree name) v.type_use false
 alone_typed sources d name v stands = record { first = v.type_use; at_first = false; behind = []; begins = own v stands (λ i m behind at. let both : [] ≡ m ∷ behind = at.second in cc both); leads = at_end }
@@ -73,13 +67,7 @@ module _ (sources : Sources) (unit : List ℕ) (d : TypeTree) (declared : tree_a
     place : span ≡ place_of demand
 
   at_place : (place : ClassPlace) (x : Expression) (c : ValueClass) (span : Span) → DemandOf names d (suits_place place x) → HasClass sources d x c → ¬ Fits place c → StandsAt x span → Broken span
-  at_place place x c span demanded has misfit there = record {
-    demand = suits_place place x;
-    of_type = demanded;
-    class = refl;
-    fails = ap (allows place) (told_class sources unit d declared x c has) ∙ told_misfit place c misfit;
-    place = sym (told_stands x span there);
-  }
+  at_place place x c span demanded has misfit there = grind (arith, told_class, told_misfit, told_stands)
 
   unmet_by : (span : Span) → BreaksRule sources d span → Broken span
   unmet_by span (at_operator used x c w has none) = record {
@@ -129,11 +117,7 @@ right sources unit span = (to, λ h. let b = unmet_by sources unit h.block h.dec
     to : Contains (expr_faults_of sources unit) it → HasBrokenRule sources unit span
     to c =
         let u = unmet sources unit it c in
-        record {
-          block = u.block;
-          declared = u.declared;
-          breaks = subst (BreaksRule sources u.block) (sym (ap (λ (f : Fault). f.span) u.is)) (broken sources unit u.block u.declared u.demand u.of_block (sym (ap (λ (f : Fault). f.code) u.is)) u.fails);
-        }
+        grind (arith, broken)
 
 pub one_class : ExpressionsHaveOneClass
 one_class sources unit d declared e = (class_in (names_of_type sources unit d) e, class_of sources unit d declared e, λ other has. sym (told_class sources unit d declared e other has))

@@ -1,5 +1,5 @@
 -- The codes that each part of the check gives.
-use Rattle.fb_laws.proofs.Common.{ℕ, List, sym, subst, Contains, Span, Sources, Code, MappedTwice, NameDiffers, PortUnknown, StateUnknown, Fault, NetworkTree, Demand, code_of_demand, names_field, names_variable, NetworkPlace, contains_nothing, IsCodeOf, Declarations, Charts, Networks, Mappings, PartsHaveOwnCodes, other_name, duplicate, mixed_kind, unknown_type, wrong_kind, unknown_with, initial_value, recursive_structure, unknown_variable, unknown_member, class, unknown_state, unknown_event, unknown_algorithm, unknown_port, wrong_side, other_type, second_source, second_adapter, passage, unknown_parameter, parameter_value, second_mapping, lost_mapping}
+use Rattle.fb_laws.proofs.Common.{arith, ℕ, List, sym, subst, Contains, Span, Sources, Code, MappedTwice, NameDiffers, PortUnknown, StateUnknown, Fault, NetworkTree, Demand, code_of_demand, names_field, names_variable, NetworkPlace, contains_nothing, IsCodeOf, Declarations, Charts, Networks, Mappings, PartsHaveOwnCodes, other_name, duplicate, mixed_kind, unknown_type, wrong_kind, unknown_with, initial_value, recursive_structure, unknown_variable, unknown_member, class, unknown_state, unknown_event, unknown_algorithm, unknown_port, wrong_side, other_type, second_source, second_adapter, passage, unknown_parameter, parameter_value, second_mapping, lost_mapping}
 use Rattle.fb_laws.proofs.{NetworkLemmas.{network_origin, part, place_at}, UnitDemands.{unmet}}
 use Rattle.fb_laws.specs.UnitParts.{Expressions}
 use Rattle.fb_laws.proofs.ChartRows as charts
@@ -29,9 +29,7 @@ module _ (sources : Sources) (unit : List ℕ) (span : Span) where
   mapping_code code h = search codes_or_none
 
 demand_code : (demand : Demand) → IsCodeOf Expressions (code_of_demand demand)
-demand_code (names_variable r) = unknown_variable
-demand_code (names_field r before m) = unknown_member
-demand_code demand = class
+demand_code demand = grind (arith, unknown_variable, unknown_member, class)
 
 network_code : (sources : Sources) (here : NetworkPlace) (n : NetworkTree) (f : Fault) (code : Code) → Contains (part sources here n code) f → IsCodeOf Networks code
 network_code sources here n f PortUnknown c = unknown_port

@@ -1,24 +1,18 @@
 -- The commands of a resource, part by part.
-use Rattle.fb_laws.proofs.Common.{ℕ, ◌≡◌, Bool, true, false, cond, List, [], ◌∷◌, ◌++◌, Option, Some, None, refl, sym, ◌∙◌, ap, map, filter, option_map, cons_option, bytes_eq, map-append, filter-append, Link, same_home, nearest, connection_commands, connection_text, link_resource, commands_for, PlacedCommand, ResourceCommand}
+use Rattle.fb_laws.proofs.Common.{arith, ℕ, ◌≡◌, Bool, true, false, cond, List, [], ◌∷◌, ◌++◌, Option, Some, None, refl, sym, ◌∙◌, ap, map, filter, option_map, cons_option, bytes_eq, map-append, filter-append, Link, same_home, nearest, connection_commands, connection_text, link_resource, commands_for, PlacedCommand, ResourceCommand}
 use Rattle.fb_laws.proofs.HomeLemmas.{bytes_same, same_bytes}
 
 -- ---- the parts of the commands for a resource
 
 pub commands_append : (a b : List ResourceCommand) (r : List ℕ) → commands_for (a ++ b) r ≡ commands_for a r ++ commands_for b r
-commands_append a b r =
-    ap (λ (l : List ResourceCommand). map (λ (o : ResourceCommand). o.command) l) (filter-append (λ (o : ResourceCommand). bytes_eq r o.resource) a b)
-    ∙ map-append (λ (o : ResourceCommand). o.command) (filter (λ (o : ResourceCommand). bytes_eq r o.resource) a) (filter (λ (o : ResourceCommand). bytes_eq r o.resource) b)
+commands_append a b r = grind (arith, filter-append, bytes_eq, map-append)
 
 abbrev pub lines_on : List ℕ → List PlacedCommand → List PlacedCommand
 lines_on r lines = filter (λ (l : PlacedCommand). bytes_eq r l.resource) lines
 
 pub for_each : {X : Type 0} (order : X → ResourceCommand) (items : List X) (r : List ℕ) → commands_for (map order items) r ≡ map (λ (x : X). (order x).command) (filter (λ (x : X). bytes_eq r (order x).resource) items)
 for_each order [] r = refl
-for_each {X = X} order (x ∷ xs) r = by_test (bytes_eq r (order x).resource) (for_each order xs r)
-  where
-    by_test : (t : Bool) → commands_for (map order xs) r ≡ map (λ (y : X). (order y).command) (filter (λ (y : X). bytes_eq r (order y).resource) xs) → map (λ (o : ResourceCommand). o.command) (cond t (order x ∷ filter (λ (o : ResourceCommand). bytes_eq r o.resource) (map order xs)) (filter (λ (o : ResourceCommand). bytes_eq r o.resource) (map order xs))) ≡ map (λ (y : X). (order y).command) (cond t (x ∷ filter (λ (y : X). bytes_eq r (order y).resource) xs) (filter (λ (y : X). bytes_eq r (order y).resource) xs))
-    by_test true h = ap (λ (w : List (List ℕ)). (order x).command ∷ w) h
-    by_test false h = h
+for_each {X = X} order (x ∷ xs) r = grind (arith, bytes_eq, for_each order xs r)
 
 abbrev pub is_resource : List ℕ → Option (List ℕ) → Bool
 is_resource r None = false
@@ -39,15 +33,7 @@ links_on homes r links = filter (λ (l : Link). is_resource r (link_resource hom
 
 pub for_links : (homes : List ℕ → Option (List ℕ)) (links : List Link) (r : List ℕ) → commands_for (connection_commands homes links) r ≡ map link_command (links_on homes r links)
 for_links homes [] r = refl
-for_links homes (l ∷ ls) r = by_given (link_resource homes l) (for_links homes ls r)
-  where
-    by_test : (q : List ℕ) (t : Bool) → commands_for (connection_commands homes ls) r ≡ map link_command (links_on homes r ls) → map (λ (o : ResourceCommand). o.command) (cond t (record { resource = q; command = link_command l } ∷ filter (λ (o : ResourceCommand). bytes_eq r o.resource) (connection_commands homes ls)) (filter (λ (o : ResourceCommand). bytes_eq r o.resource) (connection_commands homes ls))) ≡ map link_command (cond t (l ∷ links_on homes r ls) (links_on homes r ls))
-    by_test q true h = ap (λ (w : List (List ℕ)). link_command l ∷ w) h
-    by_test q false h = h
-
-    by_given : (o : Option (List ℕ)) → commands_for (connection_commands homes ls) r ≡ map link_command (links_on homes r ls) → commands_for (cons_option (option_map (λ (q : List ℕ). (let it : ResourceCommand = record { resource = q; command = link_command l } in it)) o) (connection_commands homes ls)) r ≡ map link_command (cond (is_resource r o) (l ∷ links_on homes r ls) (links_on homes r ls))
-    by_given None h = h
-    by_given (Some q) h = by_test q (bytes_eq r q) h
+for_links homes (l ∷ ls) r = grind (arith, bytes_eq, cons_option, option_map, for_links homes ls r)
 
 -- ---- the resource of a link
 

@@ -1,5 +1,5 @@
 -- The commands of each resource, in words of their own.
-use Rattle.fb_laws.proofs.Common.{ℕ, ◌≡◌, ◌≢◌, Bool, true, false, not, ◌||◌, cond, List, [], ◌∷◌, ◌++◌, Option, Some, None, inl, inr, refl, sym, ◌∙◌, ap, subst, map, append_assoc, ◌==◌, true≢false, filter, option_map, codes, filter_map, flat_map, bytes_eq, IsStrictlySortedBy-filter, eqb-false, not-true, or_cases, in_order-members, in_order-sorted, contains_cases, contains_filter, contains_flat_map, contains_here, contains_later, contains_map, contains_nothing, origin_in_flat_map, origin_in_map, passes_in_filter, ApplicationTree, DeclTree, ParameterTree, Sources, text_or_empty, tree_at, link_cmp, FlatBlock, Link, PlainFlat, home_at, nearest, block_home, PlainResolved, path_names, resolved_at, applications_in, devices_in, Home, create_command, create_commands, create_text, home_commands, command_cmp, command_cmp_total, commands_at, write_command, write_commands, write_text, connection_commands, without_place, link_resource, system_commands, start_command, start_text, dotted, PlainResource, commands_for, resource_plan, resource_plans, resources_of, PlacedCommand, ResourceCommand, IsPlanned, AllBegin, BeginsWith, BlocksAreMadeAtHome, CommandsAreInOrder, IsInOrder, IsWithin, LinksAreMadeAtHome, MakesBlock, MakesItsBlocks, MakesItsLinks, NoneBegins, ParametersAreSetAtHome, ResourcesHaveTheirCommands, SetsItsParameters, SetsParameter, StandsOnce, Contains}
+use Rattle.fb_laws.proofs.Common.{arith, ℕ, ◌≡◌, ◌≢◌, Bool, true, false, not, ◌||◌, cond, List, [], ◌∷◌, ◌++◌, Option, Some, None, inl, inr, refl, sym, ◌∙◌, ap, subst, map, append_assoc, ◌==◌, true≢false, filter, option_map, codes, filter_map, flat_map, bytes_eq, IsStrictlySortedBy-filter, eqb-false, not-true, or_cases, in_order-members, in_order-sorted, contains_cases, contains_filter, contains_flat_map, contains_here, contains_later, contains_map, contains_nothing, origin_in_flat_map, origin_in_map, passes_in_filter, ApplicationTree, DeclTree, ParameterTree, Sources, text_or_empty, tree_at, link_cmp, FlatBlock, Link, PlainFlat, home_at, nearest, block_home, PlainResolved, path_names, resolved_at, applications_in, devices_in, Home, create_command, create_commands, create_text, home_commands, command_cmp, command_cmp_total, commands_at, write_command, write_commands, write_text, link_resource, system_commands, start_text, dotted, PlainResource, commands_for, resource_plan, resource_plans, resources_of, PlacedCommand, ResourceCommand, IsPlanned, AllBegin, BeginsWith, BlocksAreMadeAtHome, CommandsAreInOrder, IsInOrder, IsWithin, LinksAreMadeAtHome, MakesBlock, MakesItsBlocks, MakesItsLinks, NoneBegins, ParametersAreSetAtHome, ResourcesHaveTheirCommands, SetsItsParameters, SetsParameter, StandsOnce, Contains}
 use Rattle.fb_laws.proofs.{Joined.{given, gives_member, of_either}, HomeLemmas.{IsHomed, bytes_same, home_listed, nearest_of, of_home, of_nearest, same_bytes}}
 use Rattle.fb_laws.proofs.PlannedLemmas.{Known, home_there, homes_in, known, links_sorted, mapped, names_in, stands}
 use Rattle.fb_laws.proofs.CommandLemmas.{commands_append, for_each, for_links, is_of, is_resource, link_command, link_on, lines_on, links_on, of_is, on_link}
@@ -14,10 +14,7 @@ differ (x ∷ a) (y ∷ b) = not (x == y) || differ a b
 differ a b = false
 
 apart : (a b rest more : List ℕ) → differ a b ≡ true → a ++ rest ≢ b ++ more
-apart (x ∷ a) (y ∷ b) rest more d e = elim (or_cases (not (x == y)) (differ a b) d) [
-  | inl n ↦ eqb-false x y (not-true (x == y) n) (let same : x ≡ y = cc in same)
-  | inr s ↦ apart a b rest more s (let tails : a ++ rest ≡ b ++ more = cc in tails)
-]
+apart (x ∷ a) (y ∷ b) rest more d e = grind (arith, or_cases, eqb-false, not-true, apart a b rest more)
 apart a b rest more d e = true≢false (sym d)
 
 -- commands that begin otherwise
@@ -47,22 +44,12 @@ module _ (sources : Sources) (system : List ℕ) (flat : PlainFlat) where
     commands = commands_for (system_commands sources system (applications_in (tree_at sources system)) (names_in sources system) flat (homes_in sources system flat)) r
 
     parts : commands ≡ map (λ (l : PlacedCommand). l.command) makes ++ map (λ (l : PlacedCommand). l.command) writes ++ map link_command joins ++ starts
-    parts =
-        let a = map without_place (create_commands homes flat.blocks) in
-        let b = map without_place (write_commands sources system (applications_in (tree_at sources system)) (homes_in sources system flat)) in
-        let c = connection_commands homes flat.links in
-        let d = map start_command (names_in sources system) in
-        commands_append (a ++ b ++ c) d r
-        ∙ ap (λ (l : List (List ℕ)). l ++ commands_for d r) (commands_append (a ++ b) c r ∙ ap (λ (l : List (List ℕ)). l ++ commands_for c r) (commands_append a b r))
-        ∙ (λ i. for_each without_place (create_commands homes flat.blocks) r i ++ for_each without_place (write_commands sources system (applications_in (tree_at sources system)) (homes_in sources system flat)) r i ++ for_links homes flat.links r i ++ for_each start_command (names_in sources system) r i)
+    parts = grind (arith, commands_append, for_each, for_links)
 
     -- each line that makes a block
 
     create_given : (b : FlatBlock) (o : Option (List ℕ)) (line : PlacedCommand) → homes b.path ≡ o → option_map (λ (q : List ℕ). (let it : PlacedCommand = record { place = b.path; command = create_text b.path b.type_name; resource = q } in it)) o ≡ Some line → (line.place ≡ b.path) × (line.command ≡ create_text b.path b.type_name) × (homes b.path ≡ Some line.resource)
-    create_given b None line e g = absurd (let no : ⊥ = cc in no)
-    create_given b (Some q) line e g =
-        let same : (let it : PlacedCommand = record { place = b.path; command = create_text b.path b.type_name; resource = q } in it) ≡ line = cc in
-        (sym (ap (λ (l : PlacedCommand). l.place) same), sym (ap (λ (l : PlacedCommand). l.command) same), e ∙ ap (λ (l : PlacedCommand). Some l.resource) same)
+    create_given b o line e g = grind arith
 
     made_text : (line : PlacedCommand) → Contains makes line → BeginsWith (codes "CREATE FB ") line.command
     made_text line c =

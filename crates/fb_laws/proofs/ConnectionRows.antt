@@ -1,5 +1,5 @@
 -- Connections of ports of different types, and through a subapplication, by what the list of faults has.
-use Rattle.fb_laws.proofs.Common.{◌≡◌, ◌≢◌, ℕ, Bool, true, false, not, ◌&&◌, ◌||◌, List, ◌++◌, refl, sym, ap, ◌∙◌, subst, true≢false, bytes_decides, same_text, Contains, Contains-append_right, false_from_ne_true, and_from, and_parts, or_from, or_parts, not_true, Span, NetworkTree, TypeForm, TypeUse, UnitKind, Connection, Sources, class_of_type, is_free, first_ones, is_same, instances_in, DataType, PassThrough, Fault, contains_flat_map, contains_nothing, origin_in_flat_map, same_exact, same_itself, Own, Source, Destination, Target, connection_faults, is_right, target, NetworkPlace, connection_span, fault_of, is_own_port, pass_through_faults, flows_agree, joined_types, same_at_ends, targets_agree, IsNetworkOf, NamesRight, Site, DifferInType, IsSameType, of_names, of_sizes, of_arrays, HasOtherType, HasPassThrough, NothingPassesThrough, TypesAgree, data_types, adapter_types}
+use Rattle.fb_laws.proofs.Common.{arith, ◌≡◌, ℕ, Bool, true, false, not, ◌&&◌, ◌||◌, List, ◌++◌, refl, sym, ap, ◌∙◌, subst, true≢false, bytes_decides, same_text, Contains, Contains-append_right, false_from_ne_true, and_from, and_parts, or_from, or_parts, not_true, Span, NetworkTree, TypeForm, TypeUse, UnitKind, Connection, Sources, class_of_type, is_free, first_ones, is_same, instances_in, DataType, PassThrough, Fault, contains_flat_map, contains_nothing, origin_in_flat_map, same_exact, same_itself, Own, Source, Destination, Target, connection_faults, is_right, target, NetworkPlace, connection_span, fault_of, is_own_port, pass_through_faults, flows_agree, joined_types, same_at_ends, targets_agree, IsNetworkOf, NamesRight, Site, DifferInType, IsSameType, of_names, of_sizes, of_arrays, HasOtherType, HasPassThrough, NothingPassesThrough, TypesAgree, data_types, adapter_types}
 use Rattle.fb_laws.proofs.{RuleLemmas.{judged, not_free}, NetworkEnds.{end_target, known_end, known_own, told_end, told_home, told_own}}
 use Rattle.fb_laws.proofs.Joined.{iff, in_where, where_passes}
 use Rattle.fb_laws.proofs.NetworkLemmas.{at_both, at_destination, at_source, end_place, network_origin, own_instances, place_at, reported}
@@ -23,13 +23,8 @@ module _ (sources : Sources) (unit other : List ℕ) where
       by forms.Array forms.Array p q e = of_arrays p q (same_text (words_at sources unit a.span) (words_at sources other b.span) (sym e))
       by f g p q e = absurd (true≢false (sym e))
 
-  abbrev by_forms : TypeUse → TypeUse → TypeForm → TypeForm → Bool
-  by_forms a b f g = same_by_form f g (is_same a.name.name b.name.name) (same_words sources unit a.span other b.span)
-
   told_same : (a b : TypeUse) → IsSameType sources unit a other b → same a b ≡ true
-  told_same a b (of_names p q e) = (λ i. by_forms a b (p i) (q i)) ∙ same_itself a.name.name b.name.name e
-  told_same a b (of_sizes p q e) = (λ i. by_forms a b (p i) (q i)) ∙ (bytes_decides (words_at sources unit a.span) (words_at sources other b.span)).1 e
-  told_same a b (of_arrays p q e) = (λ i. by_forms a b (p i) (q i)) ∙ (bytes_decides (words_at sources unit a.span) (words_at sources other b.span)).1 e
+  told_same a b alike = grind (arith, of_names, same_itself, of_sizes, bytes_decides, of_arrays)
 
   known_differ : (f g : Flow) → flows_agree same f g ≡ false → DifferInType sources unit other f g
   known_differ (flows.Data a) (flows.Data b) e =

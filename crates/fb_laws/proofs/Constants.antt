@@ -1,5 +1,5 @@
 -- Constants that are cut out of their text.
-use Rattle.fb_laws.proofs.Common.{◌≡◌, ℕ, inl, inr, List, [], ◌∷◌, map, Option, Some, None, refl, ap, ◌∙◌, option_map, map-append, All-contains, Form, one, both, either, option, many, as_value, Spells, SpellsOption, SpellsEach, key, cons, separated, list, name, Kind, Lexeme, number_with, number, other_literal_kinds, simple, in_brackets, constant_list, constant, NameUse, constant_part, tree_parts, constant_span, nearer, nearer_span, nearer_simple, nearer_constant, ReadsAlone, ConstantsReadAlone}
+use Rattle.fb_laws.proofs.Common.{arith, ◌≡◌, ℕ, inl, inr, List, [], ◌∷◌, map, Option, refl, ap, ◌∙◌, option_map, map-append, All-contains, Form, one, both, either, option, many, as_value, Spells, SpellsOption, SpellsEach, key, cons, separated, list, name, Kind, Lexeme, number_with, number, other_literal_kinds, simple, in_brackets, constant_list, constant, NameUse, constant_part, tree_parts, constant_span, nearer, nearer_span, nearer_simple, nearer_constant, ReadsAlone, ConstantsReadAlone}
 use Rattle.fb_laws.proofs.Alone.{parts_read_alone}
 use Rattle.fb_tree.specs.declared.constant.Literal.{Literal}
 
@@ -12,17 +12,13 @@ module _ (bytes : ℕ) where
   moves_one kinds = record { moves = λ us v s. (ap (map (nearer bytes)) s.0, s.1) }
 
   moves_both : {A B : Type 0} (x : Form A) (y : Form B) (f : A → A) (g : B → B) → Moves x f → Moves y g → Moves (both x y) (λ v. (f v.0, g v.1))
-  moves_both x y f g h k = record {
-    moves = λ us v s.
-        (map (nearer bytes) s.0, map (nearer bytes) s.1, ap (map (nearer bytes)) s.2 ∙ map-append (nearer bytes) s.0 s.1, h.moves s.0 v.0 s.3, k.moves s.1 v.1 s.4);
-  }
+  moves_both x y f g h k = grind (arith, map-append)
 
   moves_either : {A : Type 0} (x y : Form A) (f : A → A) → Moves x f → Moves y f → Moves (either x y) f
   moves_either x y f h k = record { moves = λ us v s. elim s [ inl p ↦ inl (h.moves us v p) | inr p ↦ inr (k.moves us v p) ] }
 
   moves_written : {A : Type 0} (x : Form A) (f : A → A) → Moves x f → (us : List Lexeme) (v : Option A) → SpellsOption (Spells x) us v → SpellsOption (Spells x) (map (nearer bytes) us) (option_map f v)
-  moves_written x f h us None s = ap (map (nearer bytes)) s
-  moves_written x f h us (Some v) s = h.moves us v s
+  moves_written x f h us v s = grind arith
 
   moves_option : {A : Type 0} (x : Form A) (f : A → A) → Moves x f → Moves (option x) (option_map f)
   moves_option x f h = record { moves = moves_written x f h }
@@ -51,26 +47,17 @@ module _ (bytes : ℕ) where
   abbrev nearer_literal : Literal → Literal
   nearer_literal l = record { form = l.form; span = nearer_span bytes l.span }
 
-  moves_name : Moves name nearer_name
-  unfolding name
-  moves_name = moves_as _ _ (nearer bytes) nearer_name (λ l. refl) (moves_one _)
-
   nearer_number : (sign : Option Lexeme) (token : Lexeme) → nearer_literal (number_with sign token) ≡ number_with (option_map (nearer bytes) sign) (nearer bytes token)
-  nearer_number None token = refl
-  nearer_number (Some sign) token = refl
-
-  moves_number : Moves number nearer_literal
-  unfolding number
-  moves_number =
-      moves_as _ _ (λ v. (option_map (nearer bytes) v.0, nearer bytes v.1)) nearer_literal (λ v. nearer_number v.0 v.1)
-      (moves_both _ _ (option_map (nearer bytes)) (nearer bytes) (moves_option _ (nearer bytes) (moves_one _)) (moves_one _))
+  nearer_number sign token = grind arith
 
   moves_simple : Moves simple (nearer_simple bytes)
-  unfolding simple
+  unfolding simple name number
   moves_simple =
-      moves_either _ _ (nearer_simple bytes) (moves_as _ name nearer_name (nearer_simple bytes) (λ n. refl) moves_name)
+      moves_either _ _ (nearer_simple bytes) (moves_as _ name nearer_name (nearer_simple bytes) (λ n. refl) (moves_as _ _ (nearer bytes) nearer_name (λ l. refl) (moves_one _)))
       (moves_either _ _ (nearer_simple bytes) (moves_as _ _ (nearer bytes) (nearer_simple bytes) (λ l. refl) (moves_one other_literal_kinds))
-      (moves_as _ number nearer_literal (nearer_simple bytes) (λ l. refl) moves_number))
+      (moves_as _ number nearer_literal (nearer_simple bytes) (λ l. refl)
+      (moves_as _ _ (λ v. (option_map (nearer bytes) v.0, nearer bytes v.1)) nearer_literal (λ v. nearer_number v.0 v.1)
+      (moves_both _ _ (option_map (nearer bytes)) (nearer bytes) (moves_option _ (nearer bytes) (moves_one _)) (moves_one _)))))
 
   moves_list : Moves constant_list (nearer_constant bytes)
   unfolding constant_list

@@ -1,5 +1,5 @@
 -- The cut links are those between blocks with different homes; each other link is within a resource.
-use Rattle.fb_laws.proofs.Common.{ℕ, ◌≡◌, ◌≢◌, true, not, List, Option, sym, ◌∙◌, ap, subst, IsStrictlySortedBy, bytes_eq, false≢true, false_from_ne_true, IsStrictlySortedBy-filter, contains_filter, passes_in_filter, Sources, link_cmp, Link, PlainFlat, home_at, is_cut, same_home, PlainResource, IsPlanned, CutsJoinResources, JoinsResources, Contains, Some, ◌⊎◌, inl, inr, refl, StandsOn, IsMade, LinksAreCutOrMade, by_bool}
+use Rattle.fb_laws.proofs.Common.{arith, ℕ, ◌≡◌, true, not, List, Option, sym, ◌∙◌, ap, subst, IsStrictlySortedBy, bytes_eq, false≢true, false_from_ne_true, IsStrictlySortedBy-filter, contains_filter, passes_in_filter, Sources, link_cmp, Link, PlainFlat, home_at, is_cut, same_home, PlainResource, IsPlanned, CutsJoinResources, JoinsResources, Contains, Some, ◌⊎◌, inl, inr, refl, StandsOn, IsMade, LinksAreCutOrMade, by_bool}
 use Rattle.fb_laws.proofs.{EntryLemmas.{entry_named, home_named}, HomeLemmas.{bytes_same, nearest_of, same_bytes, some_home}}
 use Rattle.fb_laws.proofs.{PlannedLemmas.{Known, home_there, homes_in, known, links_sorted, mapped, stands}, PlanEnds.{net_prefixes}}
 
@@ -40,15 +40,7 @@ module _ (sources : Sources) (system : List ℕ) (flat : PlainFlat) (cuts : List
   made_on link c r from to =
       let named = home_named sources system flat p.is_flat from.block.path r (nearest_of (mapped sources system) from.block.path r from.home) in
       let entry = entry_named sources system flat cuts resources p r named in
-      record {
-        entry = entry.0;
-        listed = entry.1;
-        within = record {
-          listed = c;
-          from = subst (λ (n : List ℕ). StandsOn sources system flat.blocks link.from n) (sym entry.2) from;
-          to = subst (λ (n : List ℕ). StandsOn sources system flat.blocks link.to n) (sym entry.2) to;
-        };
-      }
+      grind arith
 
   pub cut_or : (link : Link) → Contains flat.links link → Contains cuts link ⊎ IsMade sources system flat resources link
   cut_or link c =

@@ -1,5 +1,5 @@
 -- The tokens of a part of a text that begins and ends where tokens do.
-use Rattle.fb_laws.proofs.Common.{◌≡◌, ◌≢◌, ℕ, zero, suc, ◌+◌, ◌-◌, ◌<◌, ◌≤◌, List, [], ◌∷◌, ◌++◌, length, take, drop, map, refl, sym, ap, ap₂, ◌∙◌, subst, arith, append_assoc, length-append, length-drop, length-take-le, take-append-drop, Some, None, Result, Ok, Err, slice_range, drop-append-add, continuation_len, drop-append-le, drop-drop, nil_from_length, take-append-le, is_blank, first, is_word_start, form_of, is_number, is_typed, is_string, is_symbol, is_word, IsLongest, char_len, tokens_of, with_token, Span, Token, TokenKind, Other, codes}
+use Rattle.fb_laws.proofs.Common.{◌≡◌, ◌≢◌, ℕ, ◌+◌, ◌-◌, ◌<◌, ◌≤◌, List, [], ◌∷◌, ◌++◌, length, take, drop, map, refl, sym, ap, ap₂, ◌∙◌, subst, arith, append_assoc, length-append, length-drop, length-take-le, take-append-drop, None, Result, Ok, slice_range, drop-append-add, continuation_len, drop-append-le, drop-drop, nil_from_length, take-append-le, first, is_word_start, form_of, is_number, is_typed, is_string, is_symbol, is_word, IsLongest, char_len, tokens_of, with_token, Span, Token, TokenKind, Other, codes}
 use Rattle.fb_text.specs.Reads.{AtBlank, AtComment, AtEnd, AtLineComment, AtOpenComment, AtOther, AtToken, BeginsToken, EndsLine, HasNoForm, IsFirstClose, Reads, token_of}
 use Rattle.fb_text.proofs.Relation.{reads-one, reads-tokens}
 
@@ -27,25 +27,17 @@ rising_from from later [] h r = tt
 rising_from from later (t ∷ ts) h r = (omega (arith, h, r.0), r.1, r.2)
 
 token_first : (token t : Token) (following : Result (List Token) Span) (ts : List Token) → with_token token following ≡ Ok (t ∷ ts) → (t ≡ token) × (following ≡ Ok ts)
-token_first token t (Ok us) ts e = (cc, cc)
-token_first token t (Err bad) ts e = cc
+token_first token t following ts e = grind arith
 
 form_nil : form_of [] ≡ None
 unfolding form_of is_word is_number is_typed is_word_start is_string is_symbol
 form_nil = refl
 
-no_form : (kind : TokenKind) → None ≡ Some kind → ⊥
-no_form kind e = cc
-
 some_bytes : (text : List ℕ) (kind : TokenKind) (n : ℕ) → IsLongest text kind n → 0 < n
-some_bytes text kind zero is = absurd (no_form kind (sym form_nil ∙ is.form))
-some_bytes text kind (suc n) is = omega arith
+some_bytes text kind n is = grind (arith, form_nil)
 
 rising_token : (p n : ℕ) (kind : TokenKind) (following : Result (List Token) Span) (ts : List Token) → 0 < n → with_token (token_of kind p n) following ≡ Ok ts → ((us : List Token) → following ≡ Ok us → Rising (p + n) us) → Rising p ts
-rising_token p n kind following [] pos e more = tt
-rising_token p n kind following (t ∷ ts) pos e more =
-    let is = token_first (token_of kind p n) t following ts e in
-    subst (λ (u : Token). Rising p (u ∷ ts)) (sym is.0) (omega arith, omega (arith, pos), more ts is.1)
+rising_token p n kind following ts pos e more = grind (arith, token_first)
 
 pub rising : {p : ℕ} {text : List ℕ} {reading : Result (List Token) Span} → Reads p text reading → (ts : List Token) → reading ≡ Ok ts → Rising p ts
 rising {p} (AtEnd e r) ts h = subst (Rising p) (let same : [] ≡ ts = cc in same) tt
@@ -78,27 +70,16 @@ first_same [] ys h = absurd (omega arith)
 first_same (x ∷ xs) ys h = refl
 
 ends_line : (xs ys : List ℕ) → EndsLine (xs ++ ys) → EndsLine xs
-ends_line [] ys h = tt
-ends_line (x ∷ xs) ys h = h
+ends_line xs ys h = grind arith
 
 not_empty : (xs : List ℕ) → 0 < length xs → xs ≢ []
-not_empty [] h e = absurd (omega arith)
-not_empty (x ∷ xs) h e = cc
+not_empty xs h e = grind arith
 
 begins_token : (xs ys : List ℕ) → 0 < length xs → BeginsToken (xs ++ ys) → BeginsToken xs
-begins_token xs ys some h = record {
-  some = not_empty xs some;
-  no_blank = ap is_blank (sym (first_same xs ys some)) ∙ h.no_blank;
-  no_comment = λ rest e. h.no_comment (rest ++ ys) (ap (λ z. z ++ ys) e);
-  no_line_comment = λ rest e. h.no_line_comment (rest ++ ys) (ap (λ z. z ++ ys) e);
-}
+begins_token xs ys some h = grind (arith, not_empty, first_same)
 
 longest_in : (xs ys : List ℕ) (kind : TokenKind) (n : ℕ) → n ≤ length xs → IsLongest (xs ++ ys) kind n → IsLongest xs kind n
-longest_in xs ys kind n within is = record {
-  within = within;
-  form = ap form_of (sym (take-append-le n xs ys within)) ∙ is.form;
-  longer = λ m more l. ap form_of (sym (take-append-le m xs ys l)) ∙ is.longer m more (omega (arith, l, length-append xs ys));
-}
+longest_in xs ys kind n within is = grind (arith, take-append-le, length-append)
 
 no_form_in : (xs ys : List ℕ) → HasNoForm (xs ++ ys) → HasNoForm xs
 no_form_in xs ys none = λ n l. ap form_of (sym (take-append-le n xs ys l)) ∙ none n (omega (arith, l, length-append xs ys))
@@ -119,16 +100,7 @@ abbrev pub nearer_token : ℕ → Token → Token
 nearer_token d t = record { kind = t.kind; span = record { start = t.span.start - d; end = t.span.end - d } }
 
 nearer_token_of : (kind : TokenKind) (q p d n : ℕ) → q ≡ p + d → nearer_token d (token_of kind q n) ≡ token_of kind p n
-nearer_token_of kind q p d n e =
-    let start : q - d ≡ p = omega (arith, e) in
-    let end : q + n - d ≡ p + n = omega (arith, e) in
-    ap₂ (λ (a b : ℕ). record { kind = kind; span = record { start = a; end = b } }) start end
-
-nothing_read : (t : Token) (ts : List Token) → ◌≡◌ {A = Result (List Token) Span} (Ok []) (Ok (t ∷ ts)) → ⊥
-nothing_read t ts e = cc
-
-no_reading : (bad : Span) (ts : List Token) → ◌≡◌ {A = Result (List Token) Span} (Err bad) (Ok ts) → ⊥
-no_reading bad ts e = cc
+nearer_token_of kind q p d n e = grind arith
 
 cut_none : (p q : ℕ) (xs : List ℕ) → q + length xs ≡ q → Reads p xs (Ok [])
 cut_none p q xs e = AtEnd (nil_from_length xs (omega (arith, e))) refl
@@ -150,20 +122,7 @@ Alone p d xs inside = Reads p xs (Ok (map (nearer_token d) inside))
 cut_token : (kind : TokenKind) (n p d q : ℕ) (text xs ys : List ℕ) (following : Result (List Token) Span) (t : Token) (ts behind : List Token)
     → 0 < n → Rising q ((t ∷ ts) ++ behind) → Cut p d q text (with_token (token_of kind q n) following) xs ys (t ∷ ts) behind
     → (n ≤ length xs) × Cut (p + n) d (q + n) (drop n text) following (drop n xs) ys ts behind × (nearer_token d t ≡ token_of kind p n)
-cut_token kind n p d q text xs ys following t ts behind pos rise c =
-    let is = token_first (token_of kind q n) t following (ts ++ behind) c.tokens in
-    let end : t.span.end ≡ q + n = ap (λ (u : Token). u.span.end) is.0 in
-    let later = last_rises t.span.end ts (q + length xs) (rising_prefix t.span.end ts behind rise.2) c.last in
-    let within : n ≤ length xs = omega (arith, end, later) in (
-      within,
-      record {
-        shift = omega (arith, c.shift);
-        parts = ap (drop n) c.parts ∙ drop-append-le n xs ys within;
-        tokens = is.1;
-        last = subst (λ (z : ℕ). LastEnds z ts (q + n + length (drop n xs))) end (subst (LastEnds t.span.end ts) (let same : q + length xs ≡ q + n + length (drop n xs) = omega (arith, within, length-drop n xs) in same) c.last);
-      },
-      ap (nearer_token d) is.0 ∙ nearer_token_of kind q p d n c.shift,
-    )
+cut_token kind n p d q text xs ys following t ts behind pos rise c = grind (arith, token_first, last_rises, rising_prefix, drop-append-le, length-drop, nearer_token_of)
 
 -- a blank or a comment of n bytes is passed
 cut_gap : (us rest : List ℕ) (n p d q : ℕ) (text xs ys : List ℕ) (reading : Result (List Token) Span) (t : Token) (ts behind : List Token)
@@ -176,17 +135,12 @@ cut_gap us rest n p d q text xs ys reading t ts behind is e rise c =
       pre.behind,
       pre.whole,
       pre.rest_is,
-      record {
-        shift = omega (arith, c.shift);
-        parts = pre.rest_is;
-        tokens = c.tokens;
-        last = subst (LastEnds t.span.end ts) (let same : q + length xs ≡ q + n + length pre.behind = omega (arith, len, is) in same) c.last;
-      },
+      grind arith,
     )
 
 pub cut : {q : ℕ} {text : List ℕ} {reading : Result (List Token) Span} → Reads q text reading → (p d : ℕ) (xs ys : List ℕ) (inside behind : List Token) → Cut p d q text reading xs ys inside behind → Alone p d xs inside
 cut {q} (AtEnd e r) p d xs ys [] behind c = cut_none p q xs c.last
-cut (AtEnd e r) p d xs ys (t ∷ ts) behind c = absurd (nothing_read t (ts ++ behind) (sym r ∙ c.tokens))
+cut (AtEnd e r) p d xs ys (t ∷ ts) behind c = let both = sym r ∙ c.tokens in absurd (let no : ⊥ = cc in no)
 cut {q} (AtBlank b rest e h more) p d xs ys [] behind c = cut_none p q xs c.last
 cut {q} {text} {reading} (AtBlank b rest e h more) p d xs ys (t ∷ ts) behind c =
     let gap = cut_gap (b ∷ []) rest 1 p d q text xs ys reading t ts behind (omega arith) e (rising more ((t ∷ ts) ++ behind) c.tokens) c in
@@ -199,7 +153,7 @@ cut {q} {text} {reading} (AtComment after inside rest e close more) p d xs ys (t
     let gap = cut_gap comment rest (length inside + 4) p d q text xs ys reading t ts behind len whole (rising more ((t ∷ ts) ++ behind) c.tokens) c in
     AtComment (inside ++ (codes "*)" ++ gap.0)) inside gap.0 (gap.1 ∙ ap (λ z. codes "(*" ++ z) (append_assoc inside (codes "*)") gap.0)) (first_close after inside rest gap.0 ys gap.2 close)
     (cut more (p + (length inside + 4)) d gap.0 ys (t ∷ ts) behind gap.3)
-cut (AtOpenComment after e never r) p d xs ys inside behind c = absurd (no_reading _ (inside ++ behind) (sym r ∙ c.tokens))
+cut (AtOpenComment after e never r) p d xs ys inside behind c = let both = sym r ∙ c.tokens in absurd (let no : ⊥ = cc in no)
 cut {q} (AtLineComment line rest e all ends more) p d xs ys [] behind c = cut_none p q xs c.last
 cut {q} {text} {reading} (AtLineComment line rest e all ends more) p d xs ys (t ∷ ts) behind c =
     let gap = cut_gap (codes "//" ++ line) rest (length line + 2) p d q text xs ys reading t ts behind (omega arith) e (rising more ((t ∷ ts) ++ behind) c.tokens) c in
@@ -231,11 +185,7 @@ pub record Reached (q : ℕ) (text : List ℕ) (t : Token) (others : List Token)
   pub reads : Reads t.span.start (drop len text) (Ok (t ∷ others))
 
 reached_gap : (us rest : List ℕ) (n q : ℕ) (text : List ℕ) (t : Token) (others : List Token) → n ≡ length us → text ≡ us ++ rest → Reached (q + n) rest t others → Reached q text t others
-reached_gap us rest n q text t others is e h = record {
-  len = n + h.len;
-  place = omega (arith, h.place);
-  reads = subst (λ (z : List ℕ). Reads t.span.start z (Ok (t ∷ others))) (sym (ap (λ k. drop (k + h.len) text) is ∙ ap (drop (length us + h.len)) e ∙ drop-append-add us rest h.len)) h.reads;
-}
+reached_gap us rest n q text t others is e h = grind (arith, drop-append-add)
 
 reached_token : (n q : ℕ) (text : List ℕ) (t : Token) (others : List Token) → Reached (q + n) (drop n text) t others → Reached q text t others
 reached_token n q text t others h = record { len = n + h.len; place = omega (arith, h.place); reads = subst (λ (z : List ℕ). Reads t.span.start z (Ok (t ∷ others))) (drop-drop h.len n text) h.reads }
@@ -255,7 +205,7 @@ reach {q} {text} (AtComment after inside rest e close more) before t others h =
     let whole : text ≡ comment ++ rest = e ∙ ap (λ z. codes "(*" ++ z) (close.parts ∙ sym (append_assoc inside (codes "*)") rest)) in
     let len : length inside + 4 ≡ length comment = omega (arith, length-append inside (codes "*)")) in
     reached_gap comment rest (length inside + 4) q text t others len whole (reach more before t others h)
-reach (AtOpenComment after e never r) before t others h = absurd (no_reading _ (before ++ t ∷ others) (sym r ∙ h))
+reach (AtOpenComment after e never r) before t others h = let both = sym r ∙ h in absurd (let no : ⊥ = cc in no)
 reach {q} {text} (AtLineComment line rest e all ends more) before t others h = reached_gap (codes "//" ++ line) rest (length line + 2) q text t others (omega arith) e (reach more before t others h)
 reach {q} {text} (AtToken kind n following begins is more r) [] t others h =
     let found = token_first (token_of kind q n) t following others (sym r ∙ h) in
@@ -289,10 +239,5 @@ tokens_alone text before inside behind t end e last within =
     let len : length xs ≡ end - s = length-take-le (end - s) (drop s text) (omega (arith, within, length-drop s text)) in
     let alone : Alone 0 s xs (t ∷ inside) =
     cut here 0 s xs ys (t ∷ inside) behind
-    (record {
-      shift = omega arith;
-      parts = sym (take-append-drop (end - s) (drop s text));
-      tokens = refl;
-      last = subst (LastEnds s (t ∷ inside)) (let same : end ≡ s + length xs = omega (arith, len, above) in same) last;
-    }) in
+    (grind (arith, take-append-drop)) in
     sym (reads-one xs (Ok (map (nearer_token s) (t ∷ inside))) alone)

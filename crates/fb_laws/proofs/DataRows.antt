@@ -1,6 +1,6 @@
 -- The data inputs and outputs of a type.
-use Rattle.fb_laws.proofs.Common.{◌≡◌, ◌≢◌, ◌↔◌, ℕ, ◌<◌, Bool, true, List, Some, refl, sym, ap, ◌∙◌, subst, slice_get, NameUse, InterfaceTree, VariablesTree, Section, Side, TypeUse, DeclaredVariable, first_ones, stands_for, variables_in, variables_together, is_data_on, Cell, IsBefore, IsDataOn, IsFirstVariable, IsVariableIn, data_input, data_output, of_block, AreExactly, ComeAsDeclared, DataAreDeclared, HaveOwnNames, got_in_map, map_gets, arith}
-use Rattle.fb_laws.proofs.FirstLemmas.{IsFirst, IsPort, NoneBefore, among_ports, first_stands, in_turn, is_port, once, ports, stands_first}
+use Rattle.fb_laws.proofs.Common.{◌≡◌, ◌≢◌, ◌↔◌, ℕ, ◌<◌, Bool, true, List, Some, refl, sym, ap, ◌∙◌, subst, slice_get, NameUse, InterfaceTree, VariablesTree, Section, Side, TypeUse, DeclaredVariable, first_ones, stands_for, variables_in, variables_together, is_data_on, Cell, IsBefore, IsDataOn, IsFirstVariable, IsVariableIn, data_input, data_output, of_block, AreExactly, ComeAsDeclared, DataAreDeclared, got_in_map, map_gets, arith}
+use Rattle.fb_laws.proofs.FirstLemmas.{IsFirst, IsPort, NoneBefore, among_ports, first_stands, in_turn, is_port, ports, stands_first}
 use Rattle.fb_laws.proofs.RowLemmas.{IsAt, at_number, before_by_numbers, in_rows, number_of, numbers_in_turn}
 use Rattle.fb_tree.specs.declared.interface.Section.TheVariants as sections
 use Rattle.fb_tree.specs.declared.interface.Side.TheVariants as sides
@@ -90,9 +90,6 @@ module _ (i : InterfaceTree) where
 
     abbrev type_of : DeclaredVariable → TypeUse
     type_of d = d.type_use
-
-    pub data_once : HaveOwnNames (ports stands_on type_of (variables_in i))
-    data_once = once stands_on type_of (variables_in i)
 
     pub data_in_turn : ComeAsDeclared (ports stands_on type_of (variables_in i)) (IsFirstVariable i) IsBefore
     data_in_turn j k one other before at_one at_other =

@@ -44,15 +44,13 @@ Has code = λ sources unit span. ⊥
 -- names behind WITH
 
 withs_by_type : (decl : DeclTree) → with_faults_of decl ≡ option_map_or (λ d. with_faults d.interface) (type_in decl) []
-withs_by_type (block_type d) = refl
-withs_by_type decl = refl
+withs_by_type decl = grind (arith, block_type)
 
 no_data_where : (side : Side) (o : Option DeclaredVariable) → goes_along side o ≡ false → (v : DeclaredVariable) → o ≡ Some v → goes_with side v.section ≡ false
 no_data_where side o e v is = sym (ap (goes_along side) is) ∙ e
 
 uncarried_where : (side : Side) (o : Option DeclaredVariable) → ((v : DeclaredVariable) → o ≡ Some v → goes_with side v.section ≡ false) → goes_along side o ≡ false
-uncarried_where side None fails = refl
-uncarried_where side (Some v) fails = fails v refl
+uncarried_where side o fails = grind arith
 
 -- constants
 
@@ -64,12 +62,10 @@ declared_in (system_configuration s) v c = absurd (contains_nothing v c)
 declared_in (structure_type s) v c = fields_of_structure c
 
 in_type : (decl : DeclTree) (type : TypeTree) (v : VariablesTree) → IsType decl type → Contains type.interface.variables v → Contains (variables_of decl) v
-in_type decl type v (of_block d) c = c
-in_type decl type v is c = c
+in_type decl type v is c = grind (arith, of_block)
 
 pub among_declared : (decl : DeclTree) (v : VariablesTree) → AreDeclaredIn decl v → Contains (variables_of decl) v
-among_declared decl v (variables_of_type {type = type} is c) = in_type decl type v is c
-among_declared decl v (fields_of_structure c) = c
+among_declared decl v declared = grind (arith, variables_of_type, in_type, fields_of_structure)
 
 abbrev is_array : TypeForm → Bool
 is_array forms.Array = true
@@ -95,8 +91,7 @@ misfit_origin used (one_value v) f c = by used.form refl (in_unless (fits_alone 
 misfit_origin used (value_list values span) f c = by used.form refl c
   where
     whole : (form : TypeForm) → used.form ≡ form → is_array form ≡ false → (is_free (class_of_type used) ≡ false) × (literal_fault span ≡ f) → (f.code ≡ Literal) × IsMisfit used (value_list values span) f.span
-    whole form e other fails =
-        (sym (ap (λ (g : Fault). g.code) fails.1), subst (λ (s : Span). IsMisfit used (value_list values span) s) (ap (λ (g : Fault). g.span) fails.1) (no_array (no_array_form used.form (ap is_array e ∙ other)) (not_free (class_of_type used) fails.0)))
+    whole form e other fails = grind (arith, value_list, no_array, no_array_form, not_free)
 
     by : (form : TypeForm) → used.form ≡ form → Contains (list_faults form used values span) f → (f.code ≡ Literal) × IsMisfit used (value_list values span) f.span
     by forms.Plain e h = whole forms.Plain e refl (in_unless (is_free (class_of_type used)) (literal_fault span) f h)

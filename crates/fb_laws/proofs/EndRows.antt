@@ -1,5 +1,5 @@
 -- Ends that name no port, or one of the wrong side, by what the list of faults has.
-use Rattle.fb_laws.proofs.Common.{◌≡◌, ℕ, List, [], ◌++◌, refl, sym, ◌∙◌, subst, true≢false, Contains, Contains-append_left, Contains-append_right, false_from_ne_true, Span, NetworkTree, Connection, End, Sources, first_ones, instances_in, same_side, Code, PortSide, PortUnknown, Fault, contains_flat_map, contains_here, contains_nothing, contains_single, in_unless, origin_in_flat_map, unless, Position, Source, Destination, Target, Unknown, NotJudged, Found, connection_faults, right_side, target, net_faults_of, NetworkPlace, end_faults, fault_of, IsEndOf, IsNetworkOf, Site, place_of, source, destination, HasUnknownPort, HasWrongSide, PortsAreKnown, PortsAreOfRightSides}
+use Rattle.fb_laws.proofs.Common.{arith, ◌≡◌, ℕ, List, [], ◌++◌, refl, sym, ◌∙◌, subst, Contains, Contains-append_left, Contains-append_right, false_from_ne_true, Span, NetworkTree, Connection, End, Sources, first_ones, instances_in, same_side, Code, PortSide, PortUnknown, Fault, contains_flat_map, contains_here, contains_nothing, contains_single, in_unless, origin_in_flat_map, unless, Position, Source, Destination, Target, Unknown, NotJudged, Found, connection_faults, right_side, target, net_faults_of, NetworkPlace, end_faults, fault_of, IsEndOf, IsNetworkOf, Site, place_of, source, destination, HasUnknownPort, HasWrongSide, PortsAreKnown, PortsAreOfRightSides}
 use Rattle.fb_laws.proofs.NetworkEnds.{known_names, known_right, known_unknown, told_names, told_right, unknown_judged, unknown_names}
 use Rattle.fb_laws.proofs.Joined.{iff, of_either}
 use Rattle.fb_laws.proofs.NetworkLemmas.{at_both, at_destination, at_source, end_place, network_origin, own_instances, part, place_at, reported}
@@ -44,22 +44,7 @@ module _ (sources : Sources) (unit : List ℕ) (here : Site) (n : NetworkTree) (
           let fails = in_unless (same_side port.side (right_side position holder)) (fault_of PortSide end) f h in
           let named = known_names sources here n own c.sort end.name end.port holder port e in
           subst Finds fails.1
-          (record {
-            here = here;
-            network = n;
-            stands = stands;
-            connection = c;
-            listed = listed;
-            position = position;
-            end = end;
-            is_end = is_end;
-            holder = holder;
-            home = named.0;
-            port = port;
-            names = named.1;
-            wrong = λ right. true≢false (sym (told_right position holder port.side right) ∙ fails.0);
-            place = end_place end;
-          })
+          (grind (arith, told_right, end_place))
 
   found : (f : Fault) → Contains (part sources at n PortUnknown) f → Finds f
   found f h =

@@ -1,5 +1,5 @@
 -- What an expression demands, by what occurs in it.
-use Rattle.fb_laws.proofs.Common.{◌≡◌, List, [], ◌∷◌, ◌++◌, ◌⊎◌, inl, inr, refl, sym, subst, append-nil, append_assoc, Contains, Contains-append_cases, Contains-append_left, Contains-append_right, ReferenceTree, Expression, literal_expression, reference_expression, unary_expression, row_expression, parentheses, Expressions, no_expressions, expression_then, Operands, no_operands, operand_then, BinaryUse, UnaryUse, Member, Class as ValueClass, contains_cases, contains_here, contains_later, contains_nothing, contains_single, pair_class, Demand, names_variable, names_field, suits_operand, suits_operands, suits_place, field_demands, reference_demands, demands_in, row_demands, subscript_demands, class_in, Names, Count, IsOneOf, first_one, later_one, IsOperandOf, first_operand, later_operand, OccursIn, in_subscript, behind_operator, in_first, in_operand, demands_at}
+use Rattle.fb_laws.proofs.Common.{arith, ◌≡◌, List, [], ◌∷◌, ◌++◌, ◌⊎◌, inl, inr, refl, sym, subst, append-nil, append_assoc, Contains, Contains-append_cases, Contains-append_left, Contains-append_right, ReferenceTree, Expression, literal_expression, reference_expression, unary_expression, row_expression, parentheses, Expressions, no_expressions, expression_then, Operands, no_operands, operand_then, BinaryUse, UnaryUse, Member, Class as ValueClass, contains_cases, contains_here, contains_later, contains_nothing, contains_single, pair_class, Demand, names_variable, names_field, suits_operand, suits_operands, suits_place, field_demands, reference_demands, demands_in, row_demands, subscript_demands, class_in, Names, Count, IsOneOf, first_one, later_one, IsOperandOf, first_operand, later_operand, OccursIn, in_subscript, behind_operator, in_first, in_operand, demands_at}
 use Rattle.fb_laws.specs.Occurrences.{itself, in_parentheses}
 
 -- an operator of a row, the class of what stands before it, and the operand behind it
@@ -30,10 +30,7 @@ fields_asked r before (m ∷ ms) demand c =
 
 fields_placed : (r : ReferenceTree) (done before : List Member) (m : Member) (others : List Member) → Contains (field_demands r done (before ++ m ∷ others)) (names_field r (done ++ before) m)
 fields_placed r done [] m others = subst (λ (l : List Member). Contains (field_demands r done (m ∷ others)) (names_field r l m)) (sym (append-nil done)) (contains_here (names_field r done m) (field_demands r (done ++ m ∷ []) others))
-fields_placed r done (b ∷ bs) m others =
-    let more = field_demands r (done ++ b ∷ []) (bs ++ m ∷ others) in
-    contains_later (names_field r done b) more (names_field r (done ++ b ∷ bs) m)
-    (subst (λ (l : List Member). Contains more (names_field r l m)) (append_assoc done (b ∷ []) bs) (fields_placed r (done ++ b ∷ []) bs m others))
+fields_placed r done (b ∷ bs) m others = grind (arith, contains_later, append_assoc, fields_placed r (done ++ b ∷ []) bs m others)
 
 -- what subscripts demand
 data AskedOf (names : Names) (subscripts : Expressions) : Demand → Type 0 where

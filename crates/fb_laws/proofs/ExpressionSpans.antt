@@ -23,10 +23,6 @@ flat_operands (o ∷ os) = ap (λ (l : List Part). operator_part o.0 ∷ (expres
 abbrev place_of : PartTree → Span
 place_of p = record { start = p.name.span.start; end = p.end }
 
-filled_flat_part : Filled flat_part place_of
-unfolding flat_part
-filled_flat_part = filled_as (λ n. part_of n None) name place_of filled_name
-
 ends_subscripts : (inner : Form Expression) → Ends (subscripts inner) (λ s. s.1.span)
 unfolding subscripts
 ends_subscripts inner = ends_behind _ _ (λ s. s.1.span) (ends_second _ _ (λ l. l.span) (ends_filled _ (λ l. l.span) (filled_token _)))
@@ -55,15 +51,11 @@ module _ (part : Form PartTree) (filled : Filled part place_of) where
       (fills_parts (prefix ++ first) others start p.end ps wider each.4)
 
   filled_parts : Filled (parts part) (λ v. reference_span (reference_in v))
-  filled_parts = record {
-    fills = λ us v s.
-        subst (λ (z : List Lexeme). Fills z (reference_span (reference_in v))) (sym s.2)
-        (fills_parts s.0 s.1 v.0.name.span.start v.0.end v.1 (filled.fills s.0 v.0 s.3) s.4);
-  }
+  filled_parts = grind (arith, fills_parts)
 
 filled_flat_reference : Filled flat_reference reference_span
-unfolding flat_reference
-filled_flat_reference = filled_as reference_in (parts flat_part) reference_span (filled_parts flat_part filled_flat_part)
+unfolding flat_reference flat_part
+filled_flat_reference = filled_as reference_in (parts flat_part) reference_span (filled_parts flat_part (filled_as (λ n. part_of n None) name place_of filled_name))
 
 filled_deep_reference : (inner : Form Expression) → Filled (deep_reference inner) reference_span
 unfolding deep_reference
@@ -72,10 +64,6 @@ filled_deep_reference inner = filled_as reference_in (parts (deep_part inner)) r
 -- a name and its subscripts
 abbrev named_parts : PartTree → List Part
 named_parts p = name_part p.name ∷ flat_map expression_parts p.subscripts
-
-sound_flat_part : Sound flat_part named_parts
-unfolding flat_part
-sound_flat_part = sound_as (λ n. part_of n None) name named_parts sound_name
 
 abbrev subscripts_parts : List Expression × Lexeme → List Part
 subscripts_parts s = flat_map expression_parts s.0
@@ -122,8 +110,8 @@ sound_parts_of part h =
     (sound_both part _ named_parts (flat_map named_parts) h (sound_many (further_part part) named_parts (sound_behind (key Point) part named_parts h)))
 
 sound_flat_reference : Sound flat_reference subscripted_parts
-unfolding flat_reference
-sound_flat_reference = sound_as reference_in (parts flat_part) subscripted_parts (sound_parts_of flat_part sound_flat_part)
+unfolding flat_reference flat_part
+sound_flat_reference = sound_as reference_in (parts flat_part) subscripted_parts (sound_parts_of flat_part (sound_as (λ n. part_of n None) name named_parts sound_name))
 
 sound_deep_reference : (inner : Form Expression) → Sound inner expression_parts → Sound (deep_reference inner) subscripted_parts
 unfolding deep_reference
@@ -147,14 +135,10 @@ suits_either x y h k = record {
 
 -- Operands
 
-filled_literal : Filled literal expression_span
-unfolding literal
-filled_literal = filled_as _ _ expression_span (filled_token literal_kinds)
-
 suits_literal : Suits literal
 unfolding literal
 suits_literal = record {
-  filled = filled_literal;
+  filled = filled_as _ _ expression_span (filled_token literal_kinds);
   sound = λ is. sound_as _ _ expression_parts (sound_own _ (λ l. expression_part _) (λ _. []) (λ us l s. is.spells us _ (l, s, refl)) (filled_token literal_kinds) (sound_nothing _));
 }
 

@@ -1,5 +1,5 @@
 -- The first declarations of their names, by places.
-use Rattle.fb_laws.proofs.Common.{◌≡◌, ◌≢◌, zero, suc, ℕ, ◌+◌, ◌<◌, Bool, true, false, cond, List, [], ◌∷◌, length, map, take, Option, Some, None, refl, sym, ap, ◌∙◌, subst, true≢false, inl, inr, arith, filter, enumerate_from, slice_get, cases_order, take_all, slice_get_read, first_ones, is_same, stands_for, same_exact, same_itself, at_place, contains_filter, contains_map, is_none, Contains}
+use Rattle.fb_laws.proofs.Common.{◌≡◌, ◌≢◌, zero, suc, ℕ, ◌+◌, ◌<◌, Bool, true, false, cond, List, [], ◌∷◌, length, map, take, Option, Some, None, refl, sym, ap, ◌∙◌, subst, inl, inr, arith, filter, enumerate_from, slice_get, cases_order, take_all, slice_get_read, first_ones, is_same, stands_for, same_exact, same_itself, at_place, contains_filter, contains_map, is_none, Contains}
 use Rattle.std.proofs.lemmas.Map.Entries.{place_from_lookup}
 
 -- what stands at the places of a list of those items that pass
@@ -61,12 +61,7 @@ module _ {D : Type 0} where
   pub none_before : (xs : List (List ℕ × D)) (place : ℕ) (name : List ℕ) → stands_for (take place xs) name ≡ None → NoneBefore xs place name
   none_before [] place name e k y lt there = absurd (let no : ⊥ = cc in no)
   none_before (x ∷ xs) zero name e k y lt there = absurd (omega arith)
-  none_before (x ∷ xs) (suc place) name e k y lt there = by (is_same x.0 name) refl e k lt there (λ h. none_before xs place name h)
-    where
-      by : (b : Bool) → is_same x.0 name ≡ b → cond b (Some x.1) (stands_for (take place xs) name) ≡ None → (k : ℕ) → k < suc place → slice_get (x ∷ xs) k ≡ Some y → (stands_for (take place xs) name ≡ None → NoneBefore xs place name) → y.0 ≢ name
-      by true s h k less at more = absurd (let no : ⊥ = cc in no)
-      by false s h zero less at more = λ same. let here : x ≡ y = cc in true≢false (sym (same_itself x.0 name (ap (λ (z : List ℕ × D). z.0) here ∙ same)) ∙ s)
-      by false s h (suc k) less at more = more h k y (omega arith) at
+  none_before (x ∷ xs) (suc place) name e k y lt there = grind (arith, same_itself, none_before xs place name)
 
   pub before_none : (xs : List (List ℕ × D)) (place : ℕ) (name : List ℕ) → NoneBefore xs place name → stands_for (take place xs) name ≡ None
   before_none (x ∷ xs) (suc place) name h =
@@ -76,21 +71,14 @@ module _ {D : Type 0} where
 
   placed : (n : ℕ) (xs : List (List ℕ × D)) (k : ℕ) (p : ℕ × (List ℕ × D)) → slice_get (enumerate_from n xs) k ≡ Some p → (p.0 ≡ n + k) × (slice_get xs k ≡ Some p.1)
   placed n [] k p e = absurd (let no : ⊥ = cc in no)
-  placed n (x ∷ xs) zero p e =
-      let here : (n, x) ≡ p = cc in
-      let number : n ≡ p.0 = ap (λ (q : ℕ × (List ℕ × D)). q.0) here in
-      (omega (arith, number), ap (λ (q : ℕ × (List ℕ × D)). Some q.1) here)
-  placed n (x ∷ xs) (suc k) p e =
-      let o = placed (n + 1) xs k p e in
-      let number : p.0 ≡ (n + 1) + k = o.0 in
-      (omega (arith, number), o.1)
+  placed n (x ∷ xs) zero p e = grind arith
+  placed n (x ∷ xs) (suc k) p e = grind (arith, placed (n + 1) xs k p e)
 
   abbrev is_first : List (List ℕ × D) → ℕ × (List ℕ × D) → Bool
   is_first xs p = is_none (stands_for (take p.0 xs) p.1.0)
 
   none_of : (o : Option D) → is_none o ≡ true → o ≡ None
-  none_of None e = refl
-  none_of (Some d) e = absurd (let no : ⊥ = cc in no)
+  none_of o e = grind arith
 
   -- the first declaration of the name
   pub record IsFirst (xs : List (List ℕ × D)) (name : List ℕ) (meaning : D) : Type 0 where
@@ -99,11 +87,7 @@ module _ {D : Type 0} where
     pub first : NoneBefore xs place name
 
   first_facts : (xs : List (List ℕ × D)) (x : List ℕ × D) (o : IsPicked (λ p. p.1) (is_first xs) (enumerate_from 0 xs) x) → (slice_get xs o.place ≡ Some x) × NoneBefore xs o.place x.0
-  first_facts xs x o =
-      let p = placed 0 xs o.place o.item o.there in
-      let number : o.item.0 ≡ o.place = p.0 ∙ (let start : 0 + o.place ≡ o.place = omega arith in start) in
-      let unknown : is_none (stands_for (take o.place xs) x.0) ≡ true = (λ i. is_none (stands_for (take (sym number i) xs) (sym o.gives i).0)) ∙ o.passed in
-      (p.1 ∙ ap Some o.gives, none_before xs o.place x.0 (none_of (stands_for (take o.place xs) x.0) unknown))
+  first_facts xs x o = grind (arith, placed, none_before, none_of)
 
   abbrev first_picked : (xs : List (List ℕ × D)) (name : List ℕ) (x : List ℕ × D) → x.0 ≡ name → IsPicked (λ p. p.1) (is_first xs) (enumerate_from 0 xs) x → IsFirst xs name x.1
   first_picked xs name x e o = record { place = o.place; there = (first_facts xs x o).0 ∙ (λ i. Some (e i, x.1)); first = subst (λ (n : List ℕ). NoneBefore xs o.place n) e (first_facts xs x o).1 }
@@ -117,8 +101,7 @@ module _ {D : Type 0} where
       contains_map (λ (p : ℕ × (List ℕ × D)). p.1) (filter (is_first xs) (enumerate_from 0 xs)) (o.place, (name, m)) (contains_filter (is_first xs) (enumerate_from 0 xs) (o.place, (name, m)) listed passed)
 
   one_meaning : (xs : List (List ℕ × D)) (name : List ℕ) (m n : D) → IsFirst xs name m → IsFirst xs name n → m ≡ n
-  one_meaning xs name m n o p =
-      elim (cases_order o.place p.place) [ inl e ↦ let both : Some (name, m) ≡ Some (name, n) = sym o.there ∙ ap (slice_get xs) e ∙ p.there in let same : (name, m) ≡ (name, n) = cc in ap (λ (x : List ℕ × D). x.1) same | inr (inl h) ↦ absurd (p.first o.place (name, m) h o.there refl) | inr (inr h) ↦ absurd (o.first p.place (name, n) h p.there refl) ]
+  one_meaning xs name m n o p = grind (arith, cases_order)
 
   -- what a name stands for among the first declarations
   pub stands_first : (xs : List (List ℕ × D)) (name : List ℕ) (m : D) → stands_for (first_ones xs) name ≡ Some m → IsFirst xs name m

@@ -1,5 +1,5 @@
 -- The networks of units whose nets are flat, and the nets of the types of their subapplication instances.
-use Rattle.fb_laws.proofs.Common.{ℕ, ◌≡◌, List, Option, Some, None, length, inl, refl, ap, subst, Contains, contains_flat_map, unit_kind_of, DeclTree, adapter_type, block_type, structure_type, subapplication_type, system_configuration, Sources, parts_at, tree_at, IsSound, flat_net, done_part, net_at_is, unit_faultless, sound_part, sound_tree, IsClean, IsCleanThroughout, IsFlat, Held, AreInstances, IsInner, PlainNetwork, Instance, applications_of, applications_at, declared, kind_at, network_of, Holds, IsWithinLimit, OfSubapplication, own_instances, Application, FlatBordersAreComposed, FlatLinksAreComposed, FlatUnitsAreClean, HasFlatNet, InnerBordersAreListed, InnerNetsAreFlat, IsOwnNetwork, option_map}
+use Rattle.fb_laws.proofs.Common.{arith, ℕ, ◌≡◌, List, Option, Some, None, length, inl, refl, ap, subst, Contains, contains_flat_map, unit_kind_of, DeclTree, adapter_type, block_type, structure_type, subapplication_type, system_configuration, Sources, parts_at, tree_at, IsSound, flat_net, done_part, net_at_is, unit_faultless, sound_part, sound_tree, IsClean, IsCleanThroughout, IsFlat, Held, AreInstances, IsInner, PlainNetwork, Instance, applications_of, applications_at, declared, kind_at, Holds, IsWithinLimit, OfSubapplication, own_instances, Application, FlatBordersAreComposed, FlatLinksAreComposed, FlatUnitsAreClean, HasFlatNet, InnerBordersAreListed, InnerNetsAreFlat, IsOwnNetwork, option_map}
 use Rattle.fb_laws.proofs.ChainParts.{borders_composed, links_composed}
 use Rattle.fb_tree.specs.declared.kinds.UnitKind.TheVariants as kinds
 use Rattle.fb_deploy.specs.Flatten.Far.{far_of}
@@ -18,10 +18,7 @@ type_holds sources name kind network held d is = by (tree_at sources name) refl
     by (Some (adapter_type t)) e = let two : kind_at sources name ≡ Some kinds.Adapter = ap (option_map unit_kind_of) e in absurd (let no : ⊥ = cc in no)
     by (Some (system_configuration t)) e = let two : kind_at sources name ≡ Some kinds.System = ap (option_map unit_kind_of) e in absurd (let no : ⊥ = cc in no)
     by (Some (structure_type t)) e = let two : kind_at sources name ≡ Some kinds.Structure = ap (option_map unit_kind_of) e in absurd (let no : ⊥ = cc in no)
-    by (Some (subapplication_type t)) e =
-        let there : declared sources name ≡ Some (network_of (subapplication_type t)) = ap (option_map network_of) e in
-        let same : network ≡ network_of (subapplication_type t) = cc in
-        record { tree = subapplication_type t; present = e; instances = subst (λ (n : PlainNetwork). AreInstances (declared sources) n.instances held) same is }
+    by (Some (subapplication_type t)) e = grind (arith, option_map)
 
 module _ (sources : Sources) (unit : List ℕ) where
   of_type : (network : PlainNetwork) → kind_at sources unit ≡ Some kinds.Subapplication → declared sources unit ≡ Some network → (i : Instance) → Contains network.instances i → (tree : DeclTree) → tree_at sources unit ≡ Some tree → Contains (own_instances tree) i
@@ -29,10 +26,7 @@ module _ (sources : Sources) (unit : List ℕ) where
   of_type network kind is i c (adapter_type t) e = let two : kind_at sources unit ≡ Some kinds.Adapter = ap (option_map unit_kind_of) e in absurd (let no : ⊥ = cc in no)
   of_type network kind is i c (system_configuration t) e = let two : kind_at sources unit ≡ Some kinds.System = ap (option_map unit_kind_of) e in absurd (let no : ⊥ = cc in no)
   of_type network kind is i c (structure_type t) e = let two : kind_at sources unit ≡ Some kinds.Structure = ap (option_map unit_kind_of) e in absurd (let no : ⊥ = cc in no)
-  of_type network kind is i c (subapplication_type t) e =
-      let there : declared sources unit ≡ Some (network_of (subapplication_type t)) = ap (option_map network_of) e in
-      let same : network ≡ network_of (subapplication_type t) = cc in
-      subst (λ (n : PlainNetwork). Contains n.instances i) same c
+  of_type network kind is i c (subapplication_type t) e = grind (arith, option_map)
 
   of_system : (list : List Application) (a : Application) → kind_at sources unit ≡ Some kinds.System → applications_at sources unit ≡ Some list → Contains list a → (i : Instance) → Contains a.network.instances i → (tree : DeclTree) → tree_at sources unit ≡ Some tree → Contains (own_instances tree) i
   of_system list a kind is among i c (block_type t) e = let two : kind_at sources unit ≡ Some kinds.Block = ap (option_map unit_kind_of) e in absurd (let no : ⊥ = cc in no)

@@ -1,5 +1,5 @@
 -- The homes of blocks, and of the ends of links.
-use Rattle.fb_laws.proofs.Common.{ℕ, ◌≡◌, ◌<◌, Bool, true, false, cond, List, [], ◌∷◌, Option, Some, None, ◌⊎◌, inl, inr, refl, sym, ◌∙◌, ap, subst, take, length, arith, option_map, find, cons_option, bytes_eq, take-append_seam, take_all, dec_lt, contains_cases, contains_nothing, is_nearest, FlatBlock, home_at, first_at, IsPrefix, IsNearest, nearest, block_homes, Home, IsBlockAt, Contains, block_home, passes_in_find}
+use Rattle.fb_laws.proofs.Common.{ℕ, ◌≡◌, ◌<◌, true, List, [], ◌∷◌, Option, Some, None, refl, sym, ◌∙◌, ap, subst, take, length, arith, option_map, find, cons_option, bytes_eq, take-append_seam, take_all, dec_lt, contains_cases, contains_nothing, is_nearest, FlatBlock, home_at, first_at, IsPrefix, IsNearest, nearest, block_homes, Home, IsBlockAt, Contains, block_home, passes_in_find}
 use Rattle.fb_laws.proofs.Joined.{by_option, given}
 use Rattle.std.proofs.lemmas.Slice.Eq.{bytes_eq-Decides}
 
@@ -19,14 +19,10 @@ pub record IsFound {X Y : Type 0} (key : X → List ℕ) (value : X → Y) (xs :
   pub gives : value item ≡ y
 
 pub found_in : {X Y : Type 0} (key : X → List ℕ) (value : X → Y) (xs : List X) (name : List ℕ) (y : Y) → first_at key value xs name ≡ Some y → IsFound key value xs name y
-found_in {X = X} key value xs name y e =
-    by_option (find (λ (x : X). bytes_eq (key x) name) xs) (λ none. absurd (let no : ⊥ = cc in no)) (λ x found.
-    let p = passes_in_find (λ (z : X). bytes_eq (key z) name) xs x found in
-    record { item = x; among = p.among; named = same_bytes (key x) name p.passes; gives = cc })
+found_in key value xs name y e = grind (arith, by_option, find, bytes_eq, passes_in_find, same_bytes)
 
 prefix_begins : (prefix path : List ℕ) → IsPrefix prefix path → take (length prefix) path ≡ prefix
-prefix_begins prefix path (inl e) = ap (take (length prefix)) e ∙ take_all (length prefix) prefix (omega arith)
-prefix_begins prefix path (inr (rest, e)) = ap (take (length prefix)) e ∙ take-append_seam prefix (46 ∷ rest)
+prefix_begins prefix path is = grind (arith, take_all, take-append_seam)
 
 pub one_prefix : (a b path : List ℕ) → IsPrefix a path → IsPrefix b path → length a ≡ length b → a ≡ b
 one_prefix a b path p q e = sym (prefix_begins a path p) ∙ ap (λ (n : ℕ). take n path) e ∙ prefix_begins b path q
@@ -56,17 +52,7 @@ module _ (resources : List ℕ → Option (List ℕ)) where
   -- the home of a block of the list
   pub home_listed : (blocks : List FlatBlock) (b : FlatBlock) (r : List ℕ) → Contains blocks b → nearest resources b.path ≡ Some r → home_at (block_homes resources blocks) b.path ≡ Some r
   home_listed [] b r c e = absurd (contains_nothing b c)
-  home_listed (z ∷ zs) b r c e = by_home (nearest resources z.path) refl (contains_cases z zs b c) (λ d. home_listed zs b r d e)
-    where
-      by_test : (q : List ℕ) → nearest resources z.path ≡ Some q → (t : Bool) → bytes_eq z.path b.path ≡ t → (t ≡ false → home_at (block_homes resources zs) b.path ≡ Some r) → option_map (λ (h : Home). h.resource) (cond t (Some (record { path = z.path; resource = q })) (find (λ (h : Home). bytes_eq h.path b.path) (block_homes resources zs))) ≡ Some r
-      by_test q home true same more = sym home ∙ ap (nearest resources) (same_bytes z.path b.path same) ∙ e
-      by_test q home false differs more = more refl
-
-      by_home : (o : Option (List ℕ)) → nearest resources z.path ≡ o → (z ≡ b) ⊎ Contains zs b → (Contains zs b → home_at (block_homes resources zs) b.path ≡ Some r) → first_at (λ (h : Home). h.path) (λ (h : Home). h.resource) (cons_option (option_map (λ (q : List ℕ). (let h : Home = record { path = z.path; resource = q } in h)) o) (block_homes resources zs)) b.path ≡ Some r
-      by_home None none (inl same) more = absurd (let no = sym none ∙ ap (λ (w : FlatBlock). nearest resources w.path) same ∙ e in cc)
-      by_home None none (inr d) more = more d
-      by_home (Some q) home (inl same) more = by_test q home (bytes_eq z.path b.path) refl (λ differs. absurd (let yes = bytes_same z.path b.path (ap (λ (w : FlatBlock). w.path) same) in cc))
-      by_home (Some q) home (inr d) more = by_test q home (bytes_eq z.path b.path) refl (λ differs. more d)
+  home_listed (z ∷ zs) b r c e = grind (arith, contains_cases, bytes_eq, option_map, find, same_bytes, cons_option, bytes_same, home_listed zs b r)
 
   -- a block with that home
   pub record IsHomed (blocks : List FlatBlock) (path r : List ℕ) : Type 0 where
@@ -80,11 +66,7 @@ module _ (resources : List ℕ → Option (List ℕ)) where
   of_home blocks home c = let o = given (block_home resources) blocks home c in by o.origin o.among (nearest resources o.origin.path) refl o.gives
     where
       by : (b : FlatBlock) → Contains blocks b → (o : Option (List ℕ)) → nearest resources b.path ≡ o → option_map (λ (q : List ℕ). (let h : Home = record { path = b.path; resource = q } in h)) o ≡ Some home → IsHomed blocks home.path home.resource
-      by b among None e g = absurd (let no : ⊥ = cc in no)
-      by b among (Some q) e g =
-          let same : (let h : Home = record { path = b.path; resource = q } in h) ≡ home = cc in
-          let placed : b.path ≡ home.path = ap (λ (h : Home). h.path) same in
-          record { block = b; listed = among; placed = placed; home = ap (nearest resources) (sym placed) ∙ e ∙ ap (λ (h : Home). Some h.resource) same }
+      by b among o e g = grind arith
 
   pub homed : (blocks : List FlatBlock) (path r : List ℕ) → home_at (block_homes resources blocks) path ≡ Some r → IsHomed blocks path r
   homed blocks path r e =
@@ -113,18 +95,7 @@ module _ (resources : List ℕ → Option (List ℕ)) where
     end_home end r e = let n = of_nearest (home_at (block_homes resources blocks)) end r e in made n.0 n.1 n.3 (homed blocks n.0 r n.2)
       where
         made : (prefix : List ℕ) → IsPrefix prefix end → ((other : List ℕ) → IsPrefix other end → length prefix < length other → home_at (block_homes resources blocks) other ≡ None) → IsHomed blocks prefix r → EndHome blocks end r
-        made prefix is longer o = record {
-          block = o.block;
-          is_at = record {
-            listed = o.listed;
-            prefix = subst (λ (p : List ℕ). IsPrefix p end) (sym o.placed) is;
-            longest = λ other listed other_prefix. elim (dec_lt (length o.block.path) (length other.path)) [
-              | Prim.yes below ↦ absurd (nothing_at other listed (longer other.path other_prefix (subst (λ (p : List ℕ). length p < length other.path) o.placed below)))
-              | Prim.no above ↦ omega arith
-            ];
-          };
-          home = subst (λ (p : List ℕ). IsNearest resources p (Some r)) (sym o.placed) (of_nearest resources prefix r o.home);
-        }
+        made prefix is longer o = grind (arith, dec_lt, nothing_at, of_nearest)
 
     pub home_end : (end r : List ℕ) → EndHome blocks end r → nearest (home_at (block_homes resources blocks)) end ≡ Some r
     home_end end r o =

@@ -1,7 +1,6 @@
 -- The events of a type, and its plugs, sockets and instances in other roles.
-use Rattle.fb_laws.proofs.Common.{◌≡◌, ◌↔◌, ℕ, ◌<◌, Bool, true, List, Option, Some, map, refl, sym, ap, ◌∙◌, true≢false, NameUse, EventTree, InstanceTree, InterfaceTree, NetworkTree, Side, Role, Plug, Socket, Block, Subapplication, DeclaredEvent, DeclaredInstance, first_ones, stands_for, events_in, instances_in, same_role, same_side, got_in_map, map_gets, IsEventOn, IsFirstEvent, IsFirstInstance, IsFirstItem, IsInstanceAs, IsItemOf, of_block, AdaptersAreDeclared, AreExactly, ComeAsDeclared, EventsAreDeclared, HaveOwnNames, arith}
-use Rattle.fb_laws.proofs.FirstLemmas.{IsFirst, IsPort, among_ports, first_stands, in_turn, is_port, once, ports, stands_first}
-use Rattle.fb_tree.specs.declared.interface.Side.TheVariants as sides
+use Rattle.fb_laws.proofs.Common.{◌≡◌, ◌↔◌, ℕ, ◌<◌, Bool, true, List, Option, Some, map, ap, ◌∙◌, NameUse, EventTree, InstanceTree, InterfaceTree, NetworkTree, Side, Role, DeclaredEvent, DeclaredInstance, first_ones, stands_for, events_in, instances_in, same_role, same_side, got_in_map, map_gets, IsEventOn, IsFirstEvent, IsFirstInstance, IsFirstItem, IsInstanceAs, IsItemOf, of_block, AdaptersAreDeclared, AreExactly, ComeAsDeclared, EventsAreDeclared, arith}
+use Rattle.fb_laws.proofs.FirstLemmas.{IsFirst, IsPort, among_ports, first_stands, in_turn, is_port, ports, stands_first}
 
 -- what items mean is their sort and their type
 record Meaning (D S T : Type 0) : Type 0 where
@@ -45,11 +44,7 @@ module _ {A D S T : Type 0} (of : Meaning D S T) (name_of : A → NameUse) (mean
   of_item name m h =
       let d = h.declared in
       let means = of.equal (meaning_of d.item) m h.of_sort h.typed in
-      record {
-        place = h.place;
-        there = map_gets entry items h.place d.item d.there ∙ (λ i. Some (d.named i, means i));
-        first = λ k y less at same. let p = got_in_map entry items k y at in d.first k p.0 less p.1 (ap (λ (q : List ℕ × D). q.0) p.2 ∙ same);
-      }
+      grind (arith, map_gets, got_in_map)
 
   stand : (name : List ℕ) (m : D) → stands_for (first_ones declared) name ≡ Some m ↔ IsItemOf name_of sort_of type_of items (of.sort m) name (of.type m)
   stand name m = (λ e. item_of name m (stands_first declared name m e), λ h. first_stands declared name m (of_item name m h))
@@ -66,12 +61,7 @@ module _ {A D S T : Type 0} (of : Meaning D S T) (name_of : A → NameUse) (mean
     item_is : (name : List ℕ) (type : T) → IsItemOf name_of sort_of type_of items sort name type → IsPort keeps of.type declared name type
     item_is name type h =
         let m = meaning_of h.declared.item in
-        record {
-          meaning = m;
-          origin = of_item name m (record { place = h.place; declared = h.declared; of_sort = refl; typed = refl });
-          kept = ap (λ (x : S). of.same x sort) h.of_sort ∙ of.itself sort;
-          gives = h.typed;
-        }
+        grind (arith, of_item)
 
     are_exactly : AreExactly (ports keeps of.type declared) (IsItemOf name_of sort_of type_of items sort)
     are_exactly name type = (λ c. is_item name type (is_port keeps of.type declared name type c), λ h. among_ports keeps of.type declared name type (item_is name type h))
@@ -90,9 +80,7 @@ module _ {A D S T : Type 0} (of : Meaning D S T) (name_of : A → NameUse) (mean
 -- events
 
 pub same_sides : (a b : Side) → same_side a b ≡ true → a ≡ b
-same_sides sides.Input sides.Input e = refl
-same_sides sides.Output sides.Output e = refl
-same_sides a b e = absurd (true≢false (sym e))
+same_sides a b e = grind arith
 
 pub side_itself : (a : Side) → same_side a a ≡ true
 side_itself a = grind arith
@@ -113,27 +101,17 @@ event_meaning e = record { side = e.side; type_name = e.type_name }
 pub events_stand : (i : InterfaceTree) (name : List ℕ) (m : DeclaredEvent) → stands_for (first_ones (events_in i)) name ≡ Some m ↔ IsEventOn i m.side name m.type_name
 events_stand i = stand of_events (λ (e : EventTree). e.name) event_meaning i.events
 
-pub events_once : (i : InterfaceTree) (side : Side) → HaveOwnNames (ports (λ (d : DeclaredEvent). same_side d.side side) (λ d. d.type_name) (events_in i))
-events_once i side = once (λ (d : DeclaredEvent). same_side d.side side) (λ d. d.type_name) (events_in i)
-
 pub events_in_turn : (i : InterfaceTree) (side : Side) → ComeAsDeclared (ports (λ (d : DeclaredEvent). same_side d.side side) (λ d. d.type_name) (events_in i)) (IsFirstEvent i) (λ place later. place < later)
 events_in_turn i side = come_in_turn of_events (λ (e : EventTree). e.name) event_meaning i.events side
 
-events : (i : InterfaceTree) (side : Side) → AreExactly (ports (λ (d : DeclaredEvent). same_side d.side side) (λ d. d.type_name) (events_in i)) (IsEventOn i side)
-events i side = are_exactly of_events (λ (e : EventTree). e.name) event_meaning i.events side
-
 pub events_declared : EventsAreDeclared
-events_declared decl type (of_block d) side = events type.interface side
-events_declared decl type is side = events type.interface side
+events_declared decl type (of_block d) side = are_exactly of_events (λ (e : EventTree). e.name) event_meaning type.interface.events side
+events_declared decl type is side = are_exactly of_events (λ (e : EventTree). e.name) event_meaning type.interface.events side
 
 -- plugs, sockets, and instances in other roles
 
 same_roles : (a b : Role) → same_role a b ≡ true → a ≡ b
-same_roles Plug Plug e = refl
-same_roles Socket Socket e = refl
-same_roles Block Block e = refl
-same_roles Subapplication Subapplication e = refl
-same_roles a b e = absurd (true≢false (sym e))
+same_roles a b e = grind arith
 
 role_itself : (a : Role) → same_role a a ≡ true
 role_itself a = grind arith
@@ -154,15 +132,9 @@ instance_meaning i = record { role = i.role; type_name = i.type_name }
 pub instances_stand : (n : NetworkTree) (name : List ℕ) (m : DeclaredInstance) → stands_for (first_ones (instances_in n)) name ≡ Some m ↔ IsInstanceAs n m.role name m.type_name
 instances_stand n = stand of_instances (λ (x : InstanceTree). x.name) instance_meaning n.instances
 
-pub adapters_once : (n : NetworkTree) (role : Role) → HaveOwnNames (ports (λ (d : DeclaredInstance). same_role d.role role) (λ d. d.type_name) (instances_in n))
-adapters_once n role = once (λ (d : DeclaredInstance). same_role d.role role) (λ d. d.type_name) (instances_in n)
-
 pub adapters_in_turn : (n : NetworkTree) (role : Role) → ComeAsDeclared (ports (λ (d : DeclaredInstance). same_role d.role role) (λ d. d.type_name) (instances_in n)) (IsFirstInstance n) (λ place later. place < later)
 adapters_in_turn n role = come_in_turn of_instances (λ (x : InstanceTree). x.name) instance_meaning n.instances role
 
-instances : (n : NetworkTree) (role : Role) → AreExactly (ports (λ (d : DeclaredInstance). same_role d.role role) (λ d. d.type_name) (instances_in n)) (IsInstanceAs n role)
-instances n role = are_exactly of_instances (λ (x : InstanceTree). x.name) instance_meaning n.instances role
-
 pub adapters_declared : AdaptersAreDeclared
-adapters_declared decl type (of_block d) role = instances type.network role
-adapters_declared decl type is role = instances type.network role
+adapters_declared decl type (of_block d) role = are_exactly of_instances (λ (i : InstanceTree). i.name) instance_meaning type.network.instances role
+adapters_declared decl type is role = are_exactly of_instances (λ (i : InstanceTree). i.name) instance_meaning type.network.instances role

@@ -1,5 +1,5 @@
 -- Members of lists that are joined from others, of lists with one item where a test passes, and of what a list gives.
-use Rattle.fb_laws.proofs.Common.{zero, suc, ◌≡◌, ℕ, Bool, true, false, cond, List, [], ◌∷◌, ◌++◌, Some, ◌↔◌, inl, inr, refl, sym, subst, true≢false, Contains, slice_get, Contains-append_left, Contains-append_right, Contains-append_cases, contains_here, contains_nothing, contains_single, Option, None, filter_map, cons_option, contains_cases, contains_later, ◌⊎◌, ap, ◌∙◌}
+use Rattle.fb_laws.proofs.Common.{arith, zero, suc, ◌≡◌, ℕ, Bool, true, cond, List, [], ◌∷◌, ◌++◌, Some, ◌↔◌, inl, inr, refl, sym, subst, Contains, slice_get, Contains-append_left, Contains-append_right, Contains-append_cases, contains_here, contains_nothing, contains_single, Option, None, filter_map, cons_option, contains_cases, contains_later, ◌⊎◌, ap, ◌∙◌}
 
 -- what is so of the members of each of two lists
 pub of_either : {X : Type 0} {P : X → Type 0} (a b : List X) → ((y : X) → Contains a y → P y) → ((y : X) → Contains b y → P y) → (y : X) → Contains (a ++ b) y → P y
@@ -23,17 +23,14 @@ in_joined first (next ∷ others) (suc (suc k)) list y e c = in_joined (first ++
 
 -- one item, where a test passes
 pub in_where : {X : Type 0} (b : Bool) (x y : X) → Contains (cond b (x ∷ []) []) y → (b ≡ true) × (x ≡ y)
-in_where true x y c = (refl, contains_single x y c)
-in_where false x y c = absurd (contains_nothing y c)
+in_where b x y c = grind (arith, contains_single, contains_nothing)
 
 pub where_passes : {X : Type 0} (b : Bool) (x : X) → b ≡ true → Contains (cond b (x ∷ []) []) x
-where_passes true x e = contains_here x []
-where_passes false x e = absurd (true≢false (sym e))
+where_passes b x e = grind (arith, contains_here)
 
 -- an option, by whether there is something
 pub by_option : {A P : Type 0} (o : Option A) → (o ≡ None → P) → ((a : A) → o ≡ Some a → P) → P
-by_option None none some = none refl
-by_option (Some a) none some = some a refl
+by_option o none some = grind arith
 
 -- an element of the first list that gives the member
 pub record IsGiven {X Y : Type 0} (h : X → Option Y) (xs : List X) (y : Y) : Type 0 where

@@ -1,5 +1,5 @@
 -- What a unit is made of is what it rests on, and what blocks its net is reported there.
-use Rattle.fb_laws.proofs.Common.{◌≡◌, ◌≢◌, ℕ, false, List, [], ◌∷◌, Option, Some, None, inl, inr, refl, sym, ap, ◌∙◌, subst, get, Contains, option_and_then, Contains-append_cases, is_elementary, contains_flat_map, contains_here, contains_map, contains_nothing, origin_in_flat_map, origin_in_map, passes_in_filter, instance_types, types_in, value_types, variable_types, ApplicationTree, DeclTree, InstanceTree, TypeTree, VariablesTree, adapter_type, block_type, structure_type, subapplication_type, system_configuration, Rests, itself, Sources, mentions_at, parts_at, parts_in, tree_at, tree_of, values_at, values_in, variables_of, instances_of, UnknownType, Fault, faults_of, IsNet, IsWhole, PlainNet, blocked, flat_net, recursive, too_large, part_mention, rests_more, value_mention, net_at_is, no_names_sorted, HasUnknownType, IsDeclaredAt, AreDeclaredIn, IsHeldIn, IsType, instance_of_application, instance_of_type, of_adapter, of_block, of_subapplication, Declarations, filter, from_names}
+use Rattle.fb_laws.proofs.Common.{arith, ◌≡◌, ◌≢◌, ℕ, false, List, [], ◌∷◌, Option, Some, None, inl, inr, refl, sym, ap, ◌∙◌, subst, get, Contains, option_and_then, Contains-append_cases, is_elementary, contains_flat_map, contains_here, contains_map, contains_nothing, origin_in_flat_map, origin_in_map, passes_in_filter, instance_types, types_in, value_types, variable_types, ApplicationTree, DeclTree, InstanceTree, TypeTree, VariablesTree, adapter_type, block_type, structure_type, subapplication_type, system_configuration, Rests, itself, Sources, mentions_at, parts_at, parts_in, tree_at, tree_of, values_at, values_in, variables_of, instances_of, UnknownType, Fault, faults_of, IsNet, IsWhole, PlainNet, blocked, flat_net, recursive, too_large, part_mention, rests_more, value_mention, net_at_is, no_names_sorted, HasUnknownType, IsDeclaredAt, AreDeclaredIn, IsHeldIn, IsType, instance_of_application, instance_of_type, of_adapter, of_block, of_subapplication, Declarations, filter, from_names}
 use Rattle.fb_laws.proofs.{CarriedTypes.{is_plain, no_elementary, value_of}, DeclarationRows.{among_declared, declared_in, unknown_types}}
 use Rattle.fb_laws.proofs.{PartLemmas.{whole_units}, PathHolders.{part_among}}
 use Rattle.fb_deploy.specs.{Library.Rests.{through}, Flatten.Blocking.{AreThose, IsBlocking}}
@@ -31,8 +31,7 @@ instance_there (system_configuration s) name c =
 instance_there (structure_type s) name c = absurd (contains_nothing name c)
 
 of_type_held : (decl : DeclTree) (type : TypeTree) (i : InstanceTree) → IsType decl type → Contains type.network.instances i → Contains (instances_of decl) i
-of_type_held decl type i (of_block d) c = c
-of_type_held decl type i is c = c
+of_type_held decl type i is c = grind (arith, of_block)
 
 held_listed : (decl : DeclTree) (i : InstanceTree) → IsHeldIn decl i → Contains (instances_of decl) i
 held_listed decl i (instance_of_type {type = type} is c) = of_type_held decl type i is c
@@ -45,8 +44,7 @@ record HasVariables (decl : DeclTree) (name : List ℕ) : Type 0 where
   typed : variables.type_use.name.name ≡ name
 
 types_by_variables : (decl : DeclTree) → value_types decl ≡ variable_types (variables_of decl)
-types_by_variables (block_type d) = refl
-types_by_variables decl = refl
+types_by_variables decl = grind (arith, block_type)
 
 variables_there : (decl : DeclTree) (name : List ℕ) → Contains (value_types decl) name → HasVariables decl name
 variables_there decl name c =
@@ -117,9 +115,7 @@ module _ (sources : Sources) (unit : List ℕ) where
   made_rests : {name : List ℕ} → IsMadeOf sources unit name → Rests sources unit name
   made_rests own_unit = itself
   made_rests (type_of_part {holder = holder} decl i made is held) = rests_more (made_rests made) (part_mention sources holder i.type_name.name (part_held sources holder decl i is held))
-  made_rests (type_of_value {holder = holder} decl v made is declared plain) =
-      let type = v.type_use.name.name in
-      rests_more (made_rests made) (value_mention sources holder type (value_of sources holder decl is type (type_among decl v declared) plain))
+  made_rests (type_of_value {holder = holder} decl v made is declared plain) = search (rests_more, value_mention, value_of, type_among, made_rests made)
 
   -- what has an instance of an absent type has a fault
   holder_faulty : (holder : List ℕ) (decl : DeclTree) (i : InstanceTree) → IsDeclaredAt sources holder decl → IsHeldIn decl i → get sources i.type_name.name ≡ None → faults_of sources holder ≢ []
@@ -138,16 +134,14 @@ module _ (sources : Sources) (unit : List ℕ) where
       of_parts sources holder (λ n. get sources n ≡ None → IsInTheWay sources unit n) (λ decl i. absent_type decl i (rests_made below)) name part absent
 
   way_below : {name : List ℕ} → IsInTheWay sources unit name → Rests sources unit name
-  way_below (faulty_unit made faulty) = made_rests made
-  way_below (absent_type decl i made is held absent) = made_rests (type_of_part decl i made is held)
+  way_below way = grind (arith, faulty_unit, made_rests, absent_type, type_of_part)
 
   way_blocks : {name : List ℕ} → IsInTheWay sources unit name → IsBlocking sources unit name
   way_blocks (faulty_unit made faulty) = inl faulty
   way_blocks (absent_type {holder = holder} decl i made is held absent) = inr (absent, (holder, made_rests made, part_held sources holder decl i is held))
 
   way_faulty : {name : List ℕ} → IsInTheWay sources unit name → HasFaultBelow sources unit
-  way_faulty {name = name} (faulty_unit made faulty) = record { name = name; below = made; faulty = faulty }
-  way_faulty (absent_type {holder = holder} decl i made is held absent) = record { name = holder; below = made; faulty = holder_faulty holder decl i is held absent }
+  way_faulty way = grind (arith, faulty_unit, absent_type, holder_faulty)
 
   -- ---- whole units
 
@@ -181,10 +175,7 @@ pub others_faultless : OtherNetsHaveNoFaultsBelow
 others_faultless sources unit net is other = by net ((net_at_is sources unit net).0 is).1 other
   where
     by : (net : PlainNet) → IsNet sources unit net → ((names : List (List ℕ)) → net ≢ blocked names) → HasNoFaultsBelow sources unit
-    by (blocked names) is other = absurd (other names refl)
-    by (recursive names) is other = none_below sources unit is.0
-    by too_large is other = none_below sources unit is.0.whole
-    by (flat_net flat) is other = none_below sources unit is.0.whole
+    by net is other = grind (arith, blocked, recursive, none_below, too_large, flat_net)
 
 pub recursive_told : RecursiveIsTold
 recursive_told sources unit names is name =

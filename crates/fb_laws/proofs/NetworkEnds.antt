@@ -1,5 +1,5 @@
 -- What ends name, by the tests of the check.
-use Rattle.fb_laws.proofs.Common.{◌≡◌, ◌≢◌, ℕ, true, List, Option, Some, None, refl, sym, ap, ◌∙◌, subst, true≢false, option_map, option_and_then, option_map_or, and_from, and_parts, NameUse, NetworkTree, Section, Side, Input, Output, UnitKind, End, Role, Sort, Sources, tree_at, DeclaredEvent, DeclaredInstance, DeclaredVariable, first_ones, stands_for, Meanings, instances_in, same_side, instance_ports, usable, Own, OfInstance, OfPlug, OfSocket, Position, Source, Destination, Target, Unknown, NotJudged, Found, adapter_port, data_port, event_port, holder_of, is_right, port_in, port_in_role, port_in_section, right_side, target, target_held, target_in, target_named, target_of, target_of_instance, NetworkPlace, is_own, is_own_port, home_of, IsPort, IsReached, IsReachedBy, IsRightSide, NamesRight, Site, event, socket, plug, of_block_instance, of_subapplication_instance, of_plug, of_socket, own_port, port_of, own_source, own_destination, instance_source, instance_destination, plug_source, plug_destination, socket_source, socket_destination, IsNotJudged, of_unusable, arith}
+use Rattle.fb_laws.proofs.Common.{◌≡◌, ◌≢◌, ℕ, true, List, Option, Some, None, refl, sym, ap, ◌∙◌, subst, true≢false, option_map, option_and_then, and_from, and_parts, NameUse, NetworkTree, Section, Side, Input, Output, UnitKind, End, Role, Sort, Sources, tree_at, DeclaredEvent, DeclaredInstance, DeclaredVariable, first_ones, stands_for, Meanings, instances_in, same_side, instance_ports, usable, Own, OfInstance, OfPlug, OfSocket, Position, Source, Destination, Target, Unknown, NotJudged, Found, adapter_port, data_port, event_port, holder_of, is_right, port_in, port_in_role, port_in_section, right_side, target, target_held, target_in, target_named, target_of, target_of_instance, NetworkPlace, is_own, is_own_port, home_of, IsPort, IsReached, IsReachedBy, IsRightSide, NamesRight, Site, event, socket, plug, of_block_instance, of_subapplication_instance, of_plug, of_socket, own_port, port_of, own_source, own_destination, instance_source, instance_destination, plug_source, plug_destination, socket_source, socket_destination, IsNotJudged, of_unusable, arith}
 use Rattle.fb_laws.proofs.{ItemRows.{same_sides}, NetworkLemmas.{place_at}, UsableTypes.{declared_type, known_type, no_type, told_type, type_missing}}
 use Rattle.fb_tree.specs.declared.interface.Section.TheVariants as sections
 use Rattle.fb_tree.specs.declared.kinds.UnitKind.TheVariants as kinds
@@ -22,8 +22,7 @@ module _ (ports : Meanings) (name : List ℕ) where
   known_section p v g o is e = absurd (let fails : ⊥ = cc in fails)
 
   known_data : (p : Port) (o : Option DeclaredVariable) → stands_for ports.variables name ≡ o → option_and_then data_port o ≡ Some p → IsPort ports name sorts.Data p
-  known_data p None g e = absurd (let fails : ⊥ = cc in fails)
-  known_data p (Some v) g e = known_section p v g v.section refl e
+  known_data p o g e = grind (arith, known_section)
 
   known_role : (p : Port) (i : DeclaredInstance) → stands_for ports.instances name ≡ Some i → (r : Role) → i.role ≡ r → port_in_role r i.type_name ≡ Some p → IsPort ports name sorts.Adapter p
   known_role p i g roles.Socket is e = let same : record { side = Input; flow = flows.Adapter i.type_name } ≡ p = cc in subst (IsPort ports name sorts.Adapter) same (socket i g is)
@@ -31,8 +30,7 @@ module _ (ports : Meanings) (name : List ℕ) where
   known_role p i g o is e = absurd (let fails : ⊥ = cc in fails)
 
   known_adapter : (p : Port) (o : Option DeclaredInstance) → stands_for ports.instances name ≡ o → option_and_then adapter_port o ≡ Some p → IsPort ports name sorts.Adapter p
-  known_adapter p None g e = absurd (let fails : ⊥ = cc in fails)
-  known_adapter p (Some i) g e = known_role p i g i.role refl e
+  known_adapter p o g e = grind (arith, known_role)
 
   known_port : (sort : Sort) (p : Port) → port_in sort ports name ≡ Some p → IsPort ports name sort p
   known_port sorts.Event p e = known_event p (stands_for ports.events name) refl e
@@ -68,10 +66,7 @@ module _ (here : Site) (sort : Sort) (i : DeclaredInstance) where
   socket_holder s other = grind arith
 
   told_holder : (holder : Holder) → IsReached here sort i holder → holder_of here.kind sort i.role ≡ Some holder
-  told_holder holder (of_block_instance r) = ap (holder_of here.kind sort) r
-  told_holder holder (of_subapplication_instance r) = ap (holder_of here.kind sort) r
-  told_holder holder (of_plug r k other) = (λ j. holder_of (k j) sort (r j)) ∙ plug_holder sort other
-  told_holder holder (of_socket r k other) = (λ j. holder_of (k j) sort (r j)) ∙ socket_holder sort other
+  told_holder holder reached = grind (arith, of_block_instance, of_subapplication_instance, of_plug, plug_holder, of_socket, socket_holder)
 
 -- what an end names, by its target
 
@@ -104,8 +99,7 @@ module _ (sources : Sources) (here : Site) (n : NetworkTree) (own : here.own.ins
       by_ports holder r (Some m) u = (elim (port_in sort m X.name) as (λ o. port_in sort m X.name ≡ o → IsTarget sources here sort I (Some X) (target_of holder o)) [ None ↦ λ e. is_unknown | Some p ↦ λ e. is_found i.type_name.name (port_of i m g r (known_type sources i.type_name.name i.role m u) (known_port m X.name sort p e)) ]) refl
 
   pub is_target : (name : NameUse) (port : Option NameUse) → IsTarget sources here sort name port (target_named at sort name.name port)
-  is_target name None = target_own name (port_in sort here.own name.name) refl
-  is_target name (Some X) = target_behind name X (stands_for here.own.instances name.name) refl
+  is_target name port = grind (arith, target_own, target_behind)
 
   behind : (I X : NameUse) (i : DeclaredInstance) (holder : Holder) (m : Option Meanings) → stands_for here.own.instances I.name ≡ Some i → IsReached here sort i holder → usable_as i ≡ m → target_named at sort I.name (Some X) ≡ target_in holder sort m X.name
   behind I X i holder m g r u =
@@ -123,8 +117,7 @@ module _ (sources : Sources) (here : Site) (n : NetworkTree) (own : here.own.ins
 
   -- the unit in whose text the port is declared
   pub told_home : (name : NameUse) (port : Option NameUse) (holder : Holder) (unit : List ℕ) (p : Port) → Names sources here sort name port holder unit p → home_of at name port ≡ unit
-  told_home name None holder unit p (own_port q) = refl
-  told_home I (Some X) holder unit p (port_of i m g r u q) = ap (λ o. option_map_or (λ (d : DeclaredInstance). d.type_name.name) o here.unit) g
+  told_home name port holder unit p names = grind (arith, own_port, port_of)
 
   pub unknown_names : (name : NameUse) (port : Option NameUse) → target_named at sort name.name port ≡ Unknown → (holder : Holder) (unit : List ℕ) (p : Port) → ¬ Names sources here sort name port holder unit p
   unknown_names name port e holder unit p n = let both : Found holder p ≡ Unknown = sym (told_names name port holder unit p n) ∙ e in let fails : ⊥ = cc in fails
@@ -136,18 +129,13 @@ module _ (sources : Sources) (here : Site) (n : NetworkTree) (own : here.own.ins
   known_unknown name port none judged = by (target_named at sort name.name port) (is_target name port)
     where
       by : (t : Target) → IsTarget sources here sort name port t → t ≡ Unknown
-      by t (is_found {holder = holder} {p = p} unit n) = absurd (none holder unit p n)
-      by t (is_not_judged n) = absurd (judged n)
-      by t is_unknown = refl
+      by t is = grind arith
 
   pub known_names : (name : NameUse) (port : Option NameUse) (holder : Holder) (p : Port) → target_named at sort name.name port ≡ Found holder p → (unit : List ℕ) × Names sources here sort name port holder unit p
   known_names name port holder p e = by (target_named at sort name.name port) (is_target name port) e
     where
       by : (t : Target) → IsTarget sources here sort name port t → t ≡ Found holder p → (unit : List ℕ) × Names sources here sort name port holder unit p
-      by t (is_found {holder = h} {p = q} unit n) e =
-          let holders : h ≡ holder = cc in
-          let ports : q ≡ p = cc in
-          (unit, subst (λ (r : Port). Names sources here sort name port holder unit r) ports (subst (λ (g : Holder). Names sources here sort name port g unit q) holders n))
+      by t (is_found {holder = h} {p = q} unit n) e = grind arith
       by t none e = absurd (let fails : ⊥ = cc in fails)
 
 -- the right sides

@@ -1,5 +1,5 @@
 -- The faults of a unit's networks, network by network and code by code.
-use Rattle.fb_laws.proofs.Common.{◌≡◌, ℕ, ◌&&◌, List, [], ◌∷◌, ◌++◌, map, Option, Some, None, refl, sym, ap, subst, Contains, flat_map, slice_get, Contains-append_left, Contains-append_right, Span, DeclTree, InstanceTree, NetworkTree, ParameterTree, block_type, subapplication_type, system_configuration, TypeUse, UnitKind, Connection, End, Role, Sources, tree_at, fault_at, first_ones, stands_for, Meanings, instances_in, same_side, type_ports_of, Code, DataType, Literal, ParameterUnknown, PassThrough, PortSide, PortUnknown, SecondAdapter, SecondSource, Fault, DeclaredVariable, contains_flat_map, contains_nothing, contains_single, in_unless, origin_in_flat_map, origin_in_map, Position, Source, Destination, Target, Unknown, NotJudged, Found, connection_faults, end_span, right_side, target, application_network, net_faults_of, network_faults, tree_faults, all_parameters, instance_parameters, judged_parameters, parameter_faults, typed_parameters, value_faults, fault_at_path, repeated, all_adapter_ends, data_destinations, end_path, second_adapters, second_sources, NetworkPlace, connection_span, end_faults, fault_of, is_own_port, pass_through_faults, joined_types, IsNetworkOf, Site, place_of}
+use Rattle.fb_laws.proofs.Common.{arith, ◌≡◌, ℕ, ◌&&◌, List, [], ◌∷◌, ◌++◌, map, Option, Some, None, refl, sym, ap, subst, Contains, flat_map, slice_get, Contains-append_left, Contains-append_right, Span, DeclTree, InstanceTree, NetworkTree, ParameterTree, block_type, subapplication_type, system_configuration, TypeUse, UnitKind, Connection, End, Role, Sources, tree_at, fault_at, first_ones, stands_for, Meanings, instances_in, same_side, type_ports_of, Code, DataType, Literal, ParameterUnknown, PassThrough, PortSide, PortUnknown, SecondAdapter, SecondSource, Fault, DeclaredVariable, contains_flat_map, contains_nothing, contains_single, in_unless, origin_in_flat_map, origin_in_map, Position, Source, Destination, Target, Unknown, NotJudged, Found, connection_faults, end_span, right_side, target, application_network, net_faults_of, network_faults, tree_faults, all_parameters, instance_parameters, judged_parameters, parameter_faults, typed_parameters, value_faults, fault_at_path, repeated, all_adapter_ends, data_destinations, end_path, second_adapters, second_sources, NetworkPlace, connection_span, end_faults, fault_of, is_own_port, pass_through_faults, joined_types, IsNetworkOf, Site, place_of}
 use Rattle.fb_laws.proofs.{DeclarationRows.{misfit_origin}, Joined.{in_joined, in_where, of_either}}
 use Rattle.fb_tree.specs.declared.interface.Section.TheVariants as sections
 use Rattle.fb_tree.specs.declared.kinds.UnitKind.TheVariants as kinds
@@ -156,8 +156,7 @@ module _ (sources : Sources) (unit : List ℕ) (here : Site) (n : NetworkTree) (
 
 -- the instances of a network are among what its names stand for
 pub own_instances : (sources : Sources) (unit : List ℕ) (here : Site) (n : NetworkTree) → IsNetworkOf sources unit here n → here.own.instances ≡ first_ones (instances_in n)
-own_instances sources unit here n (of_block d e) = refl
-own_instances sources unit here n is = refl
+own_instances sources unit here n stands = grind (arith, of_block)
 
 -- where ends stand
 

@@ -1,5 +1,5 @@
 -- Parameters that stand for no data input, and values that don't fit, by what the list of faults has.
-use Rattle.fb_laws.proofs.Common.{◌≡◌, ◌≢◌, ℕ, Bool, true, false, List, [], ◌∷◌, Option, Some, None, refl, sym, ap, ◌∙◌, subst, true≢false, Contains, Span, InstanceTree, NetworkTree, ParameterTree, Section, Sources, fault_at, literal_fault, stands_for, Meanings, IsMisfit, Code, Literal, ParameterUnknown, Fault, DeclaredVariable, contains_here, contains_single, net_faults_of, all_parameters, parameter_faults, value_faults, NetworkPlace, IsNetworkOf, Site, IsUsable, HasMisfit, HasUnknownParameter, ParametersAreKnown, ParametersFit}
+use Rattle.fb_laws.proofs.Common.{arith, ◌≡◌, ◌≢◌, ℕ, Bool, true, false, List, [], ◌∷◌, Option, Some, None, refl, sym, ap, ◌∙◌, subst, true≢false, Contains, Span, InstanceTree, NetworkTree, ParameterTree, Section, Sources, fault_at, literal_fault, stands_for, Meanings, IsMisfit, Code, Literal, ParameterUnknown, Fault, DeclaredVariable, contains_here, contains_single, net_faults_of, all_parameters, parameter_faults, value_faults, NetworkPlace, IsNetworkOf, Site, IsUsable, HasMisfit, HasUnknownParameter, ParametersAreKnown, ParametersFit}
 use Rattle.fb_laws.proofs.DeclarationRows.{misfit_origin, misfit_reported}
 use Rattle.fb_laws.proofs.NetworkLemmas.{ParameterOrigin, network_origin, parameter_origin, parameter_reported, place_at, reported}
 use Rattle.fb_laws.proofs.{UsableTypes.{known_type, listed_type, told_type}, Joined.{iff}}
@@ -25,9 +25,7 @@ input_missing (Some d) p none =
     (elim d.section as (λ s. s ≢ sections.Input → Contains (value_faults s d.type_use p) (fault_at ParameterUnknown p.name)) [ sections.Input ↦ λ other. absurd (other refl) | o ↦ λ other. contains_here (fault_at ParameterUnknown p.name) [] ]) (none d refl)
 
 input_unfit : (o : Option DeclaredVariable) (p : ParameterTree) (v : DeclaredVariable) (span : Span) → o ≡ Some v → v.section ≡ sections.Input → IsMisfit v.type_use p.value span → Contains (parameter_faults o p) (literal_fault span)
-input_unfit o p v span e is m =
-    subst (λ (q : Option DeclaredVariable). Contains (parameter_faults q p) (literal_fault span)) (sym e)
-    (subst (λ (s : Section). Contains (value_faults s v.type_use p) (literal_fault span)) (sym is) (misfit_reported v.type_use p.value span m))
+input_unfit o p v span e is m = grind (arith, misfit_reported)
 
 module _ (sources : Sources) (unit : List ℕ) (here : Site) (n : NetworkTree) (stands : IsNetworkOf sources unit here n) where
   abbrev at : NetworkPlace
@@ -45,40 +43,12 @@ module _ (sources : Sources) (unit : List ℕ) (here : Site) (n : NetworkTree) (
       unknown : (o : ParameterOrigin at n f) → ((v : DeclaredVariable) → stands_for o.ports.variables o.parameter.name.name ≡ Some v → v.section ≢ sections.Input) → Contains (fault_at ParameterUnknown o.parameter.name ∷ []) f → Finds f
       unknown o none h =
           subst Finds (contains_single (fault_at ParameterUnknown o.parameter.name) f h)
-          (record {
-            here = here;
-            network = n;
-            stands = stands;
-            instance = o.instance;
-            listed = o.listed;
-            is_block = o.is_block;
-            ports = o.ports;
-            usable = usable_type o;
-            parameter = o.parameter;
-            written = o.written;
-            no_input = none;
-            place = refl;
-          })
+          (grind (arith, usable_type))
 
       unfit : (o : ParameterOrigin at n f) (v : DeclaredVariable) → stands_for o.ports.variables o.parameter.name.name ≡ Some v → v.section ≡ sections.Input → (f.code ≡ Literal) × IsMisfit v.type_use o.parameter.value f.span → Finds f
       unfit o v e is m =
           subst (λ (code : Code). Has code sources unit f.span) (sym m.0)
-          (record {
-            here = here;
-            network = n;
-            stands = stands;
-            instance = o.instance;
-            listed = o.listed;
-            is_block = o.is_block;
-            ports = o.ports;
-            usable = usable_type o;
-            parameter = o.parameter;
-            written = o.written;
-            input = v;
-            first = e;
-            is_input = is;
-            misfit = m.1;
-          })
+          (grind (arith, usable_type))
 
       outside : (o : ParameterOrigin at n f) (d : DeclaredVariable) (s : Section) → stands_for o.ports.variables o.parameter.name.name ≡ Some d → d.section ≡ s → is_input s ≡ false → (v : DeclaredVariable) → stands_for o.ports.variables o.parameter.name.name ≡ Some v → v.section ≢ sections.Input
       outside o d s e is other v same = let it : d ≡ v = cc in other_section v.section (ap (λ (w : DeclaredVariable). is_input w.section) (sym it) ∙ ap is_input is ∙ other)

@@ -1,5 +1,5 @@
 -- Which part of the check has a code, and a fault of a unit.
-use Rattle.fb_laws.proofs.Common.{◌≡◌, ◌≢◌, ℕ, Bool, true, false, List, [], ◌∷◌, Some, None, ◌⊎◌, inl, inr, refl, sym, ap, ◌∙◌, subst, true≢false, Contains, slice_get, get, option_and_then, none-some, Span, BrokenAt, Whole, body_of, Sources, tree_at, tree_in, tree_of, iface_faults_of, Code, Syntax, StateUnknown, EventUnknown, AlgorithmUnknown, VariableUnknown, PortUnknown, PortSide, DataType, SecondSource, SecondAdapter, PassThrough, ParameterUnknown, Literal, MappedTwice, NoSuchResource, MemberUnknown, Fault, expr_faults_of, ecc_faults_of, net_faults_of, mapping_faults_of, body_faults, faults_of, reported_of, syntax_faults_of, text_faults, contains_nothing, contains_single, in_written, those_reported, CodesAreOfTheirParts, ConstantsAreOfTwoParts, HasPart, IsCodeOf, IsOfConstants, Declarations, Charts, Networks, Mappings, PartsHaveAllOtherCodes, PartsShareOneCode, WholeUnitsHaveFaultsOfParts, faults_by, of_constant, parameter_value, broken_at}
+use Rattle.fb_laws.proofs.Common.{arith, ◌≡◌, ◌≢◌, ℕ, Bool, true, false, List, [], ◌∷◌, Some, None, ◌⊎◌, inl, inr, refl, sym, ap, ◌∙◌, subst, true≢false, Contains, slice_get, get, option_and_then, none-some, BrokenAt, body_of, Sources, tree_at, tree_in, tree_of, iface_faults_of, Code, Syntax, StateUnknown, EventUnknown, AlgorithmUnknown, VariableUnknown, PortUnknown, PortSide, DataType, SecondSource, SecondAdapter, PassThrough, ParameterUnknown, Literal, MappedTwice, NoSuchResource, MemberUnknown, Fault, expr_faults_of, ecc_faults_of, net_faults_of, mapping_faults_of, faults_of, reported_of, syntax_faults_of, text_faults, contains_nothing, contains_single, in_written, those_reported, CodesAreOfTheirParts, ConstantsAreOfTwoParts, HasPart, IsCodeOf, IsOfConstants, Declarations, Charts, Networks, Mappings, PartsHaveAllOtherCodes, PartsShareOneCode, WholeUnitsHaveFaultsOfParts, faults_by, of_constant, parameter_value}
 use Rattle.fb_laws.proofs.{CodeLemmas.{own_codes, codes}, Joined.{in_joined, of_either}}
 use Rattle.fb_deploy.specs.Iface.declared.code.Code.TheVariants.{Class}
 use Rattle.fb_laws.specs.UnitParts.{Part, Expressions}
@@ -40,10 +40,7 @@ pub one_shared : PartsShareOneCode
 one_shared p q code differ a b = by (home_of p code a).1 (home_of q code b).1
   where
     by : (p ≡ own_part code) ⊎ ((p ≡ Networks) × (code ≡ Literal)) → (q ≡ own_part code) ⊎ ((q ≡ Networks) × (code ≡ Literal)) → IsOfConstants p q code
-    by (inl e) (inl g) = absurd (differ (e ∙ sym g))
-    by (inl e) (inr g) = (g.1, inl (e ∙ ap own_part g.1, g.0))
-    by (inr e) (inl g) = (e.1, inr (e.0, g ∙ ap own_part e.1))
-    by (inr e) (inr g) = absurd (differ (e.0 ∙ sym g.0))
+    by first second = grind arith
 
 -- a code of a part is none of texts
 pub no_text_code : (part : Part) (code : Code) → IsCodeOf part code → code ≡ Syntax → ⊥
@@ -51,8 +48,7 @@ no_text_code part code c e = true≢false (sym (ap is_of_texts e) ∙ (home_of p
 
 -- the list that has a code
 listed_code : (code : Code) → code ≢ Syntax → HasPart code
-listed_code Syntax other = absurd (other refl)
-listed_code code other = record { part = own_part code; is = search codes }
+listed_code code other = grind (arith, codes)
 
 pub all_other_codes : PartsHaveAllOtherCodes
 all_other_codes code = (listed_code code, λ p. no_text_code p.part code p.is)
@@ -66,10 +62,7 @@ pub record TextOrigin (sources : Sources) (unit : List ℕ) (f : Fault) : Type 0
   pub code : f.code ≡ Syntax
 
 pub text_origin : (sources : Sources) (unit : List ℕ) (f : Fault) → Contains (text_faults (get sources unit)) f → TextOrigin sources unit f
-text_origin sources unit f c = let w = in_written (λ (t : List ℕ). body_faults (body_of t)) (get sources unit) f c in (elim (body_of w.item) as (λ body. body_of w.item ≡ body → Contains (body_faults body) f → TextOrigin sources unit f) [ Whole decl ↦ λ e h. absurd (contains_nothing f h) | BrokenAt span ↦ λ e h. made w.item w.is span e (contains_single (broken_at span) f h) ]) refl w.has
-  where
-    made : (text : List ℕ) → get sources unit ≡ Some text → (span : Span) → body_of text ≡ BrokenAt span → broken_at span ≡ f → TextOrigin sources unit f
-    made text is span e same = record { text = text; present = is; broken = e ∙ ap (λ (g : Fault). BrokenAt g.span) same; code = sym (ap (λ (g : Fault). g.code) same) }
+text_origin sources unit f c = grind (arith, in_written, get, contains_nothing, contains_single)
 
 -- the parts of what is reported
 
@@ -90,8 +83,7 @@ module _ (sources : Sources) (unit : List ℕ) (f : Fault) where
   place_of Mappings = 5
 
   part_at : (part : Part) → slice_get (syntax_faults_of sources unit ∷ of_parts) (place_of part) ≡ Some (faults_by part sources unit)
-  part_at Declarations = refl
-  part_at part = refl
+  part_at part = grind arith
 
   is_reported : (g : Fault) → Contains (reported_of sources unit) g → IsReported sources unit g
   is_reported = of_either _ _ (of_either _ _ (of_either _ _ (of_either _ _ (of_either _ _ (λ g h. of_text (text_origin sources unit g h)) (λ g. of_part Declarations)) (λ g. of_part Expressions)) (λ g. of_part Charts)) (λ g. of_part Networks)) (λ g. of_part Mappings)
@@ -115,9 +107,7 @@ pub of_their_parts : CodesAreOfTheirParts
 of_their_parts part sources unit f code other = (λ c. (elim (is_found sources unit f c) [ of_text o ↦ absurd (no_text_code part f.code code o.code) | of_part q h ↦ subst (λ (p : Part). Contains (faults_by p sources unit) f) (same q (home_of part f.code code).1 (home_of q f.code (own_codes q sources unit f h)).1) h ]), λ h. part_found sources unit f part h)
   where
     same : (q : Part) → (part ≡ own_part f.code) ⊎ ((part ≡ Networks) × (f.code ≡ Literal)) → (q ≡ own_part f.code) ⊎ ((q ≡ Networks) × (f.code ≡ Literal)) → q ≡ part
-    same q (inl e) (inl g) = g ∙ sym e
-    same q (inl e) (inr g) = absurd (other g.1)
-    same q (inr e) g = absurd (other e.1)
+    same q first second = grind arith
 
 pub of_two_parts : ConstantsAreOfTwoParts
 of_two_parts sources unit span = (λ c. by (is_found sources unit it c), from)

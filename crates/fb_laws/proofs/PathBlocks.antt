@@ -1,5 +1,5 @@
 -- The blocks of a system's flat network are those that stand at its paths.
-use Rattle.fb_laws.proofs.Common.{◌≡◌, ℕ, List, [], ◌∷◌, ◌++◌, Option, Some, None, ◌⊎◌, inl, inr, refl, sym, ap, ◌∙◌, subst, append_assoc, option_map, filter_map, flat_map, Contains-append_cases, Contains-append_left, Contains-append_right, contains_cases, contains_flat_map, contains_here, contains_later, contains_map, contains_nothing, origin_in_flat_map, origin_in_map, ApplicationTree, DeclTree, InstanceTree, SystemTree, subapplication_type, unit_kind_of, Role, Sources, tree_at, HasFlat, applications_of, plain_application, declared, instance_in_role, network_of, plain_instance, AreFlatApplications, IsUnitFlat, OfSubapplication, OfSystem, Application, block_within, AreInstances, Held, NoInstance, ThenBlock, ThenSubapplication, held_as, held_within, leaf_first, leaves_of, View, PlainNetwork, PlainFlat, printed, dotted, IsSystemFlat, application_blocks, FlatApplication, FlatBlock, Instance, InstanceKind, IsSystemAt, IsAtPath, in_application, inside, with_points, Contains, map, Path}
+use Rattle.fb_laws.proofs.Common.{arith, ◌≡◌, ℕ, List, [], ◌∷◌, ◌++◌, Option, Some, None, ◌⊎◌, inl, inr, refl, sym, ap, ◌∙◌, subst, append_assoc, option_map, filter_map, flat_map, Contains-append_cases, Contains-append_left, Contains-append_right, contains_cases, contains_flat_map, contains_here, contains_later, contains_map, contains_nothing, origin_in_flat_map, origin_in_map, ApplicationTree, DeclTree, InstanceTree, SystemTree, subapplication_type, Role, Sources, tree_at, HasFlat, plain_application, declared, instance_in_role, network_of, plain_instance, AreFlatApplications, Application, block_within, AreInstances, Held, NoInstance, ThenBlock, ThenSubapplication, held_as, held_within, leaves_of, View, PlainNetwork, PlainFlat, printed, dotted, IsSystemFlat, application_blocks, FlatApplication, FlatBlock, Instance, InstanceKind, IsSystemAt, IsAtPath, in_application, inside, with_points, Contains, map, Path}
 use Rattle.fb_laws.proofs.{PathHolders.{within}, Joined.{given, gives_member}, PlanEnds.{instance_held, leaf_listed, application_of, flat_of}}
 use Rattle.fb_laws.proofs.PathTexts.{same_print}
 use Rattle.fb_tree.specs.declared.network.Role.TheVariants as roles
@@ -15,8 +15,7 @@ abbrev in_plain : InstanceTree → InstanceKind → Instance
 in_plain i kind = record { name = i.name.name; kind = kind; type_name = i.type_name.name }
 
 plain_of : (role : Role) (kind : InstanceKind) (name type_name : List ℕ) → role ≡ role_of kind → instance_in_role role name type_name ≡ Some (record { name = name; kind = kind; type_name = type_name })
-plain_of role Block name type_name e = ap (λ (r : Role). instance_in_role r name type_name) e
-plain_of role Subapplication name type_name e = ap (λ (r : Role). instance_in_role r name type_name) e
+plain_of role kind name type_name e = grind arith
 
 -- what an instance in plain is of
 record IsOfTree (i : InstanceTree) (p : Instance) : Type 0 where
@@ -40,12 +39,7 @@ among_plain instances i kind c role = gives_member plain_instance instances i (i
 module _ (view : View) where
   held_more : {list : List Instance} {held : List Held} → AreInstances view list held → (path : Path) (typed : List ℕ) (inner : PlainNetwork) (p : Instance) → Contains held (record { path = path; kind = Subapplication; typed = typed }) → view typed ≡ Some inner → Contains inner.instances p → Contains held (record { path = path ++ p.name ∷ []; kind = p.kind; typed = p.type_name })
   held_more NoInstance path typed inner p c known cp = absurd (contains_nothing _ c)
-  held_more (ThenBlock z rest others k more) path typed inner p c known cp =
-      by (contains_cases (held_as z) others (record { path = path; kind = Subapplication; typed = typed }) c) (λ d. held_more more path typed inner p d known cp)
-    where
-      by : (held_as z ≡ record { path = path; kind = Subapplication; typed = typed }) ⊎ Contains others (record { path = path; kind = Subapplication; typed = typed }) → (Contains others (record { path = path; kind = Subapplication; typed = typed }) → Contains others (record { path = path ++ p.name ∷ []; kind = p.kind; typed = p.type_name })) → Contains (held_as z ∷ others) (record { path = path ++ p.name ∷ []; kind = p.kind; typed = p.type_name })
-      by (inl same) later = absurd (let kinds = ap (λ (h : Held). h.kind) same in cc)
-      by (inr d) later = contains_later (held_as z) others _ (later d)
+  held_more (ThenBlock z rest others k more) path typed inner p c known cp = grind (arith, contains_cases, contains_later, held_more more path typed inner p)
   held_more (ThenSubapplication z rest nested own others k here within more) path typed inner p c known cp =
       by (contains_cases (held_as z) (map (held_within z.name) own ++ others) outer c) (λ q e. held_more within q typed inner p e known cp)
       (λ d. held_more more path typed inner p d known cp)
@@ -118,12 +112,7 @@ module _ (sources : Sources) (s : SystemTree) where
       let g = given plain_instance d.network.instances p (subst (λ (n : PlainNetwork). Contains n.instances p) (sym same) c) in
       let t = of_tree g.origin p g.gives in
       let role : o.instance.role ≡ roles.Subapplication = o.in_role ∙ ap role_of k in
-      record {
-        instance = g.origin;
-        at = subst (λ (n : List ℕ). IsAtPath sources s ((path ++ z.name ∷ []) ++ n ∷ []) g.origin) t.named (inside d g.origin o.at role (ap (tree_at sources) o.of_type ∙ there) g.among);
-        in_role = t.in_role;
-        of_type = t.typed;
-      }
+      grind (arith, inside)
   step_in path z None k there o inner e p c = absurd (let no : ⊥ = cc in no)
   step_in path z (Some d) k there o inner e p c = let same : network_of d ≡ inner = cc in absurd (contains_nothing p (subst (λ (n : PlainNetwork). Contains n.instances p) (sym same) c))
 
@@ -150,22 +139,7 @@ record IsLeaf (held : List Held) (b : FlatBlock) : Type 0 where
 
 leaf_origin : (held : List Held) (b : FlatBlock) → Contains (leaves_of held) b → IsLeaf held b
 leaf_origin [] b c = absurd (contains_nothing b c)
-leaf_origin (h ∷ hs) b c = by h.kind refl c (leaf_origin hs b)
-  where
-    later : IsLeaf hs b → IsLeaf (h ∷ hs) b
-    later o = record { path = o.path; listed = contains_later h hs _ o.listed; place = o.place }
-
-    here : h.kind ≡ Block → (let it : FlatBlock = record { path = printed h.path; type_name = h.typed } in it) ≡ b → IsLeaf (h ∷ hs) b
-    here k same =
-        let is : h ≡ record { path = h.path; kind = Block; typed = b.type_name } = (λ i. record { path = h.path; kind = k i; typed = (same i).type_name }) in
-        record { path = h.path; listed = subst (λ (w : Held). Contains (h ∷ hs) w) is (contains_here h hs); place = ap (λ (w : FlatBlock). w.path) same }
-
-    by : (k : InstanceKind) → h.kind ≡ k → Contains (leaf_first k h (leaves_of hs)) b → (Contains (leaves_of hs) b → IsLeaf hs b) → IsLeaf (h ∷ hs) b
-    by Block k d more = elim (contains_cases (record { path = printed h.path; type_name = h.typed }) (leaves_of hs) b d) [
-      | inl same ↦ here k same
-      | inr e ↦ later (more e)
-    ]
-    by Subapplication k d more = later (more d)
+leaf_origin (h ∷ hs) b c = grind (arith, contains_later, contains_here, contains_cases, leaf_origin hs b)
 
 -- ---- the blocks of the system
 
@@ -239,10 +213,4 @@ module _ (sources : Sources) (s : SystemTree) (flats : List FlatApplication) (fl
   blocks_stand = record { listed = listed_in; stands = block_stands }
 
 pub system_blocks : (sources : Sources) (unit : List ℕ) (s : SystemTree) (flat : PlainFlat) → IsSystemAt sources unit s → HasFlat sources unit flat → BlocksStand sources s flat
-system_blocks sources unit s flat is net = by net.2
-  where
-    by : IsUnitFlat sources unit flat → BlocksStand sources s flat
-    by (OfSubapplication network kind there own) = absurd (let no = sym (ap (option_map unit_kind_of) is) ∙ kind in cc)
-    by (OfSystem applications flats kind there are whole) =
-        let same : map plain_application s.applications ≡ applications = (let e = sym (ap (option_map applications_of) is) ∙ there in cc) in
-        blocks_stand sources s flats flat (subst (λ (l : List Application). AreFlatApplications (declared sources) l flats) (sym same) are) whole
+system_blocks sources unit s flat is net = grind (arith, option_map, blocks_stand)

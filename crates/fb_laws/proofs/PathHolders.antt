@@ -1,5 +1,5 @@
 -- The units whose texts have what stands at the paths of a sound system: these have no faults, so each name stands for one instance of theirs.
-use Rattle.fb_laws.proofs.Common.{◌≡◌, ℕ, Bool, true, false, cond, List, [], ◌∷◌, ◌++◌, Option, Some, refl, sym, ◌∙◌, subst, true≢false, find, option_map, flat_map, bytes_eq, Contains-append_left, Contains-append_right, NameUse, contains_flat_map, contains_here, contains_later, contains_map, contains_nothing, origin_in_flat_map, instance_types, types_in, unit_kind_of, ApplicationTree, DeclTree, DeviceTree, InstanceTree, SystemTree, TypeTree, block_type, adapter_type, subapplication_type, system_configuration, structure_type, Role, PartRests, on_itself, Sources, parts_at, parts_in, tree_at, is_same, stands_for, chart_spaces, interface_spaces, network_spaces, resource_names, instances_of, suits, WrongKind, Fault, IsSound, same_exact, same_itself, parts_more, unit_faultless, sound_below, first_at, IsSystemAt, IsAtPath, in_application, inside, Contains, map, in_order_has, true_from_ne_false, ap, arith}
+use Rattle.fb_laws.proofs.Common.{◌≡◌, ℕ, true, List, [], ◌∷◌, ◌++◌, Option, Some, refl, sym, ◌∙◌, subst, find, option_map, flat_map, bytes_eq, Contains-append_left, Contains-append_right, NameUse, contains_flat_map, contains_here, contains_later, contains_map, contains_nothing, origin_in_flat_map, instance_types, types_in, unit_kind_of, ApplicationTree, DeclTree, DeviceTree, InstanceTree, SystemTree, TypeTree, block_type, adapter_type, subapplication_type, system_configuration, structure_type, Role, PartRests, on_itself, Sources, parts_at, parts_in, tree_at, stands_for, chart_spaces, interface_spaces, network_spaces, resource_names, instances_of, suits, WrongKind, Fault, IsSound, same_exact, same_itself, parts_more, unit_faultless, sound_below, first_at, IsSystemAt, IsAtPath, in_application, inside, Contains, map, in_order_has, true_from_ne_false, ap, arith}
 use Rattle.fb_laws.proofs.{DeclarationRows.{not_suited, wrong_kinds}, HomeLemmas.{bytes_same, same_bytes}}
 use Rattle.fb_tree.specs.declared.kinds.UnitKind.TheVariants as kinds
 use Rattle.fb_tree.specs.declared.network.Role.TheVariants as roles
@@ -10,13 +10,7 @@ use Rattle.fb_deploy.proofs.{Flatten.NameLemmas.{AreApart, apart, distinct, stan
 
 same_found : {X Y : Type 0} (key : X → NameUse) (value : X → Y) (xs : List X) (name : List ℕ) → first_at (λ (x : X). (key x).name) value xs name ≡ stands_for (map (λ (x : X). ((key x).name, value x)) xs) name
 same_found key value [] name = refl
-same_found {X = X} {Y = Y} key value (z ∷ xs) name = by (bytes_eq (key z).name name) (is_same (key z).name name) refl refl (same_found key value xs name)
-  where
-    by : (b c : Bool) → bytes_eq (key z).name name ≡ b → is_same (key z).name name ≡ c → first_at (λ (x : X). (key x).name) value xs name ≡ stands_for (map (λ (x : X). ((key x).name, value x)) xs) name → option_map value (cond b (Some z) (find (λ (x : X). bytes_eq (key x).name name) xs)) ≡ cond c (Some (value z)) (stands_for (map (λ (x : X). ((key x).name, value x)) xs) name)
-    by true true e g h = refl
-    by false false e g h = h
-    by true false e g h = absurd (true≢false (sym (same_itself (key z).name name (same_bytes (key z).name name e)) ∙ g))
-    by false true e g h = absurd (true≢false (sym (bytes_same (key z).name name (same_exact (key z).name name g)) ∙ e))
+same_found {X = X} {Y = Y} key value (z ∷ xs) name = grind (arith, bytes_eq, option_map, find, same_itself, same_bytes, bytes_same, same_exact, same_found key value xs name)
 
 -- an item is the first of its name
 pub first_own : {X Y : Type 0} (key : X → NameUse) (value : X → Y) (xs : List X) → AreApart (map key xs) → (x : X) → Contains xs x → first_at (λ (y : X). (key y).name) value xs (key x).name ≡ Some (value x)
@@ -54,9 +48,7 @@ type_below sources unit i h = parts_more h.below (part_among sources h.name h.tr
 pub holder_of : (sources : Sources) (unit : List ℕ) (s : SystemTree) → IsSystemAt sources unit s → (path : List (List ℕ)) (i : InstanceTree) → IsAtPath sources s path i → Holder sources unit i
 holder_of sources unit s is path end (in_application a i ca ci) =
     record { name = unit; below = on_itself; tree = system_configuration s; declared = is; among = contains_flat_map (λ (x : ApplicationTree). x.network.instances) s.applications a i ca ci }
-holder_of sources unit s is path end (inside {path = before} {outer = outer} type i at role there ci) =
-    let h = holder_of sources unit s is before outer at in
-    record { name = outer.type_name.name; below = type_below sources unit outer h; tree = subapplication_type type; declared = there; among = ci }
+holder_of sources unit s is path end (inside {path = before} {outer = outer} type i at role there ci) = grind (arith, type_below, subapplication_type, holder_of sources unit s is before outer at)
 
 -- the application of a path, and the names behind it
 pub record InApplication (s : SystemTree) (path : List (List ℕ)) : Type 0 where
@@ -115,12 +107,7 @@ module _ (sources : Sources) (unit : List ℕ) (sound : IsSound sources unit) wh
     space_apart names c = apart sources unit (system_configuration s) names (no_report unit on_itself).declarations is (Contains-append_left prefix behind names c)
 
     pub applications_apart : AreApart (map (λ (a : ApplicationTree). a.name) s.applications)
-    applications_apart =
-        space_apart (map (λ (a : ApplicationTree). a.name) s.applications) (contains_here (map (λ (a : ApplicationTree). a.name) s.applications) (flat_map (λ (x : ApplicationTree). network_spaces x.network) s.applications))
+    applications_apart = grind (arith, space_apart, contains_here)
 
     pub instances_apart : (a : ApplicationTree) → Contains s.applications a → AreApart (map (λ (i : InstanceTree). i.name) a.network.instances)
-    instances_apart a c =
-        let names = map (λ (i : InstanceTree). i.name) a.network.instances in
-        space_apart names
-        (contains_later (map (λ (x : ApplicationTree). x.name) s.applications) (flat_map (λ (x : ApplicationTree). network_spaces x.network) s.applications) names
-        (contains_flat_map (λ (x : ApplicationTree). network_spaces x.network) s.applications a names c (contains_here names _)))
+    instances_apart a c = search (space_apart, contains_later, contains_flat_map, contains_here)

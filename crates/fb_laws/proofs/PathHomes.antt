@@ -1,5 +1,5 @@
 -- The home of what stands at a path is the resource of the nearest mapping of it or above it.
-use Rattle.fb_laws.proofs.Common.{◌≡◌, ◌≢◌, ℕ, ◌<◌, Bool, true, false, cond, length, List, [], ◌∷◌, ◌++◌, Some, None, ◌⊎◌, inl, inr, refl, sym, ap, ◌∙◌, subst, append_assoc, append-nil, arith, find, option_map, bytes_eq, dec_lt, Contains-append_right, contains_cases, contains_here, contains_nothing, Span, MappingTree, SystemTree, on_itself, Sources, MappedTwice, Fault, IsSound, IsPrefix, IsNearest, mapping_home, mapping_path, resource_at, IsSystemAt, place_of_path, IsAbove, IsMappedTo, path_of, with_points, Contains, Path}
+use Rattle.fb_laws.proofs.Common.{◌≡◌, ◌≢◌, ℕ, ◌<◌, Bool, cond, length, List, [], ◌∷◌, ◌++◌, Some, None, ◌⊎◌, inl, inr, refl, sym, ap, ◌∙◌, subst, append_assoc, append-nil, arith, find, option_map, bytes_eq, dec_lt, Contains-append_right, contains_cases, contains_here, contains_nothing, Span, MappingTree, SystemTree, on_itself, Sources, MappedTwice, Fault, IsSound, IsPrefix, IsNearest, mapping_home, mapping_path, resource_at, IsSystemAt, place_of_path, IsAbove, IsMappedTo, path_of, with_points, Contains, Path}
 use Rattle.fb_laws.proofs.{Joined.{by_option}, HomeLemmas.{bytes_same, found_in, same_bytes}, MappingRows.{own_paths}, PathHolders.{no_report}}
 use Rattle.fb_laws.proofs.PathNames.{mapping_plain}
 use Rattle.fb_laws.proofs.PathTexts.{ArePlain, prefix_has_name, prefix_of, goes_on, longer_text, longer_text_by, same_names, same_print, split_paths}
@@ -21,9 +21,7 @@ module _ (sources : Sources) (unit : List ℕ) (s : SystemTree) (is : IsSystemAt
       contains_nothing fault (subst (λ (l : List Fault). Contains l fault) (no_report sources unit sound unit on_itself).mappings has)
 
   text_names : (a b : MappingTree) → Contains s.mappings a → Contains s.mappings b → mapping_path a ≡ mapping_path b → path_of a ≡ path_of b
-  text_names a b ca cb e =
-      same_names (path_of a) (path_of b) (mapping_plain sources unit s is a ca) (mapping_plain sources unit s is b cb)
-      (same_print (path_of a) ∙ e ∙ sym (same_print (path_of b)))
+  text_names a b ca cb e = grind (arith, same_names, mapping_plain, same_print)
 
   first_among : (xs before : List MappingTree) → s.mappings ≡ before ++ xs → (m : MappingTree) → Contains xs m → resource_at xs (mapping_path m) ≡ Some (mapping_home m)
   first_among [] before e m c = absurd (contains_nothing m c)
@@ -43,10 +41,7 @@ module _ (sources : Sources) (unit : List ℕ) (s : SystemTree) (is : IsSystemAt
           (text_names z m (listed z (contains_here z zs)) (listed m c) same)
 
       by : (b : Bool) → bytes_eq (mapping_path z) (mapping_path m) ≡ b → (z ≡ m) ⊎ Contains zs m → (Contains zs m → resource_at zs (mapping_path m) ≡ Some (mapping_home m)) → option_map mapping_home (cond b (Some z) (find (λ (y : MappingTree). bytes_eq (mapping_path y) (mapping_path m)) zs)) ≡ Some (mapping_home m)
-      by true t (inl same) more = ap (λ (y : MappingTree). Some (mapping_home y)) same
-      by true t (inr d) more = absurd (again d (same_bytes (mapping_path z) (mapping_path m) t))
-      by false t (inl same) more = absurd (let yes = bytes_same (mapping_path z) (mapping_path m) (ap mapping_path same) in cc)
-      by false t (inr d) more = more d
+      by b t found more = grind (arith, again, same_bytes, bytes_same)
 
   -- the resource under the path of a mapping
   pub mapped_there : (m : MappingTree) → Contains s.mappings m → resource_at s.mappings (mapping_path m) ≡ Some (mapping_home m)
@@ -56,9 +51,7 @@ module _ (sources : Sources) (unit : List ℕ) (s : SystemTree) (is : IsSystemAt
 
   module _ (path : Path) (some : path ≢ []) (plain : ArePlain path) where
     pub above_prefix : (m : MappingTree) → IsAbove m path → IsPrefix (mapping_path m) (with_points path)
-    above_prefix m h =
-        subst (λ (p : Path). IsPrefix (mapping_path m) (with_points p)) (sym h.goes_on)
-        (subst (λ (t : List ℕ). IsPrefix t (with_points (path_of m ++ h.inner))) (same_print (path_of m)) (prefix_of (path_of m) h.inner h.written))
+    above_prefix m h = grind (arith, same_print, prefix_of)
 
     prefix_above : (m : MappingTree) → Contains s.mappings m → path_of m ≢ [] → IsPrefix (mapping_path m) (with_points path) → IsAbove m path
     prefix_above m c written prefix =

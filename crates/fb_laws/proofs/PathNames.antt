@@ -1,5 +1,5 @@
 -- The names of paths: those of the instances of a system, and those of its mappings.
-use Rattle.fb_laws.proofs.Common.{◌≢◌, ℕ, List, [], ◌∷◌, ◌++◌, flat_map, Contains-append_left, Contains-append_right, NameUse, contains_flat_map, contains_here, contains_later, contains_map, ApplicationTree, InstanceTree, MappingTree, NetworkTree, SystemTree, TypeTree, subapplication_type, system_configuration, Sources, IsSystemAt, IsAtPath, in_application, inside, path_of, Part, application_parts, chart_parts, connection_parts, device_parts, instance_parts, interface_parts, mapping_parts, name_part, network_parts, parameter_parts, tree_parts, Contains, map}
+use Rattle.fb_laws.proofs.Common.{arith, ◌≢◌, ℕ, List, [], ◌∷◌, ◌++◌, flat_map, Contains-append_left, Contains-append_right, NameUse, contains_flat_map, contains_here, contains_later, contains_map, ApplicationTree, InstanceTree, MappingTree, NetworkTree, SystemTree, TypeTree, subapplication_type, system_configuration, Sources, IsSystemAt, IsAtPath, in_application, inside, path_of, Part, application_parts, chart_parts, connection_parts, device_parts, instance_parts, interface_parts, mapping_parts, name_part, network_parts, parameter_parts, tree_parts, Contains, map}
 use Rattle.fb_laws.proofs.{PlainNames.{IsPlain, name_in_unit}, PathTexts.{ArePlain, plain_more}}
 
 -- ---- where names stand in trees
@@ -56,5 +56,4 @@ some_more [] name e = cc
 some_more (first ∷ others) name e = cc
 
 pub path_some : (sources : Sources) (s : SystemTree) (path : List (List ℕ)) (i : InstanceTree) → IsAtPath sources s path i → path ≢ []
-path_some sources s path end (in_application a i ca ci) e = cc
-path_some sources s path end (inside {path = before} type i at role there ci) e = some_more before i.name.name e
+path_some sources s path i at e = grind (arith, in_application, inside, some_more)

@@ -1,5 +1,5 @@
 -- What is made where, and what is misplaced, by what stands at the paths of a system and what its mappings name.
-use Rattle.fb_laws.proofs.Common.{◌≡◌, ◌≢◌, ℕ, Bool, true, false, List, [], ◌∷◌, ◌++◌, Option, Some, None, ◌⊎◌, inl, inr, refl, sym, ap, ◌∙◌, subst, map, true≢false, filter, is_none, codes, append_cancel_left, Contains-append_cases, Contains-append_left, Contains-append_right, names_in_order, contains_filter, contains_map, contains_nothing, origin_in_map, passes_in_filter, DeclTree, InstanceTree, MappingTree, SystemTree, system_configuration, Sources, tree_at, faulty, planned, planned_by, with_homes, HasFlat, IsNet, IsSound, PlainNet, flat_net, plan_at_is, PlainFlat, FlatBlock, Link, IsNearest, nearest, unmatched, block_homes, homeless, misplaced, unless_faulty, create_text, mapping_path, names_used, resource_at, PlainResource, leads_nowhere, mappings_in, Home, Misplaced, NoSuchBlock, Unmapped, PlacedCommand, is_nearest, IsSystemAt, AllBlocksAreMade, BlocksAreMadeWhereMapped, IsAbove, IsAtPath, IsMappedTo, IsMisplaced, IsOfSomething, MakesMapped, MisplacedIsTold, NothingPlannedIsMisplaced, OnlyBlocksAreMade, making, of_nothing, path_of, unmapped, with_points, IsHome, BeginsWith, MakesItsBlocks, Contains, Path, from_names, in_order_has, true_from_ne_false}
+use Rattle.fb_laws.proofs.Common.{arith, ◌≡◌, ◌≢◌, ℕ, Bool, true, false, List, [], ◌∷◌, ◌++◌, Option, Some, None, ◌⊎◌, inl, inr, refl, sym, ap, ◌∙◌, subst, map, true≢false, filter, is_none, codes, append_cancel_left, Contains-append_cases, Contains-append_left, Contains-append_right, names_in_order, contains_filter, contains_map, contains_nothing, origin_in_map, passes_in_filter, DeclTree, InstanceTree, MappingTree, SystemTree, system_configuration, Sources, tree_at, faulty, planned, planned_by, HasFlat, IsNet, IsSound, PlainNet, flat_net, plan_at_is, PlainFlat, FlatBlock, Link, IsNearest, nearest, unmatched, homeless, misplaced, create_text, mapping_path, names_used, resource_at, PlainResource, leads_nowhere, mappings_in, Misplaced, NoSuchBlock, Unmapped, PlacedCommand, is_nearest, IsSystemAt, AllBlocksAreMade, BlocksAreMadeWhereMapped, IsAbove, IsAtPath, IsMappedTo, IsMisplaced, IsOfSomething, MakesMapped, MisplacedIsTold, NothingPlannedIsMisplaced, OnlyBlocksAreMade, making, of_nothing, path_of, unmapped, with_points, IsHome, BeginsWith, MakesItsBlocks, Contains, Path, from_names, in_order_has, true_from_ne_false}
 use Rattle.fb_laws.proofs.{CommandRows.{blocks_made}, EntryLemmas.{homes_have}, HomeLemmas.{of_nearest}, PathBlocks.{BlocksStand, system_blocks}}
 use Rattle.fb_laws.proofs.{PathHomes.{home_there, mapped_to, not_mapped}, PathNames.{path_plain, path_some}, PathStanding.{of_something, somewhere}}
 use Rattle.fb_laws.proofs.{PathTexts.{same_path, same_print}, PlannedLemmas.{known}}
@@ -21,16 +21,7 @@ record IsFaulty (sources : Sources) (unit : List ℕ) (found : List Misplaced) :
   some : found ≢ []
 
 flat_faulty : (sources : Sources) (unit : List ℕ) (found : List Misplaced) (net : PlainNet) → IsNet sources unit net → faulty found ≡ planned_by sources unit net → IsFaulty sources unit found
-flat_faulty sources unit found (flat_net flat) net e = by (misplaced sources unit (tree_at sources unit) flat.blocks) refl e
-  where
-    homes : List Home
-    homes = block_homes (resource_at (mappings_in (tree_at sources unit))) flat.blocks
-
-    by : (told : List Misplaced) → misplaced sources unit (tree_at sources unit) flat.blocks ≡ told → faulty found ≡ with_homes sources unit flat (unless_faulty told homes) → IsFaulty sources unit found
-    by [] is g = absurd (let no : ⊥ = cc in no)
-    by (m ∷ ms) is g =
-        let same : m ∷ ms ≡ found = cc in
-        record { flat = flat; is_flat = net; is = is ∙ same; some = λ none. (let empty = same ∙ none in cc) }
+flat_faulty sources unit found (flat_net flat) net e = grind (arith, faulty)
 flat_faulty sources unit found other net e = absurd (let no : ⊥ = cc in no)
 
 module _ (sources : Sources) (unit : List ℕ) (s : SystemTree) (is : IsSystemAt sources unit s) where

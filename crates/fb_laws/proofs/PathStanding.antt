@@ -1,5 +1,5 @@
 -- Where names lead to in a sound system is what stands at their path.
-use Rattle.fb_laws.proofs.Common.{◌≡◌, ℕ, Bool, true, false, not, List, [], ◌∷◌, ◌++◌, Option, Some, None, ◌⊎◌, inl, inr, refl, sym, ap, ◌∙◌, subst, append_assoc, append-nil, true≢false, is_none, option_map_or, not-false, contains_nothing, ApplicationTree, DeclTree, InstanceTree, SystemTree, subapplication_type, Role, Sources, tree_at, IsSound, PlainResolved, application_called, inner_instances, is_placed, leads_nowhere, resolved_among, resolved_at, resolved_beyond, resolved_inside, IsSystemAt, IsAtPath, IsOfSomething, in_application, inside, of_application, Contains, option_and_then, Path}
+use Rattle.fb_laws.proofs.Common.{arith, ◌≡◌, ℕ, Bool, true, false, not, List, [], ◌∷◌, ◌++◌, Option, Some, None, ◌⊎◌, inl, inr, refl, sym, ap, ◌∙◌, subst, append_assoc, append-nil, true≢false, is_none, option_map_or, not-false, contains_nothing, ApplicationTree, DeclTree, InstanceTree, SystemTree, subapplication_type, Role, Sources, tree_at, IsSound, PlainResolved, application_called, inner_instances, is_placed, leads_nowhere, resolved_among, resolved_at, resolved_beyond, resolved_inside, IsSystemAt, IsAtPath, IsOfSomething, in_application, inside, of_application, Contains, option_and_then, Path}
 use Rattle.fb_laws.proofs.{Joined.{by_option}, HomeLemmas.{found_in}}
 use Rattle.fb_laws.proofs.PathHolders.{applications_apart, first_own, holder_of, instances_apart, is_subapplication, type_apart, type_below, within}
 use Rattle.fb_tree.specs.declared.network.Role.TheVariants as roles
@@ -23,9 +23,7 @@ module _ (sources : Sources) (unit : List ℕ) (s : SystemTree) (is : IsSystemAt
       (step_in path st.instance at name f.item (tree_at sources type) refl f.among f.named)
 
   beyond_at : (names : Path) (path : Path) (st end : PlainResolved) → IsAtPath sources s path st.instance → resolved_beyond sources (Some st) names ≡ Some end → IsAtPath sources s (path ++ names) end.instance
-  beyond_at [] path st end at e =
-      let same : st ≡ end = cc in
-      subst (λ (p : Path). IsAtPath sources s p end.instance) (sym (append-nil path)) (subst (λ (t : PlainResolved). IsAtPath sources s path t.instance) same at)
+  beyond_at [] path st end at e = grind (arith, append-nil)
   beyond_at (name ∷ names) path st end at e = by (resolved_inside sources name st) refl e (λ next f. beyond_at names (path ++ name ∷ []) next end (next_at path st at name next f))
     where
       by : (o : Option PlainResolved) → resolved_inside sources name st ≡ o → resolved_beyond sources o names ≡ Some end → ((next : PlainResolved) → resolved_inside sources name st ≡ Some next → resolved_beyond sources (Some next) names ≡ Some end → IsAtPath sources s ((path ++ name ∷ []) ++ names) end.instance) → IsAtPath sources s (path ++ name ∷ names) end.instance
@@ -108,15 +106,8 @@ module _ (sources : Sources) (unit : List ℕ) (s : SystemTree) (is : IsSystemAt
 
   -- a path has two names at least
   placed_at : (path : Path) (i : InstanceTree) → IsAtPath sources s path i → is_placed i.role ≡ true → nowhere path ≡ false
-  placed_at path i at placed =
-      let o = within at in
-      let there = led_to path i at in
-      let long = o.application.name.name ∷ o.first ∷ o.others in
-      let leads : resolved_at sources unit s.applications long ≡ Some (record { unit = there.0; instance = i }) = ap (resolved_at sources unit s.applications) (sym o.is_path) ∙ there.1 in
-      ap nowhere o.is_path ∙ ap (λ (t : Option PlainResolved). option_map_or (λ (t : PlainResolved). not (is_placed t.instance.role)) t true) leads ∙ ap not placed
+  placed_at path i at placed = grind (arith, led_to)
 
   -- and those of something do
   pub of_something : (path : Path) → IsOfSomething sources s path → nowhere path ≡ false
-  of_something path (of_application a c) = ap (λ (o : Option ApplicationTree). is_none o) (called a c)
-  of_something path (of_block i at role) = placed_at path i at (ap is_placed role)
-  of_something path (of_subapplication i at role) = placed_at path i at (ap is_placed role)
+  of_something path there = grind (arith, called, of_block, placed_at, of_subapplication)

@@ -1,5 +1,5 @@
 -- Paths of names without points and blanks, as texts.
-use Rattle.fb_laws.proofs.Common.{◌≡◌, ◌≢◌, ℕ, ◌<◌, ◌≤◌, ◌==◌, true, false, cond, length, List, [], ◌∷◌, ◌++◌, inl, inr, refl, sym, ap, ◌∙◌, append_assoc, append-nil, length-append, arith, flat_map, eqb-true, printed, IsPrefix, on_first, path_names, with_points, Path}
+use Rattle.fb_laws.proofs.Common.{◌≡◌, ◌≢◌, ℕ, ◌<◌, ◌≤◌, length, List, [], ◌∷◌, ◌++◌, inl, inr, refl, sym, ap, ◌∙◌, append_assoc, append-nil, length-append, arith, flat_map, eqb-true, printed, IsPrefix, on_first, path_names, with_points, Path}
 use Rattle.fb_laws.proofs.PlainNames.{AllPlain, IsPlain}
 
 abbrev pub ArePlain : List (List ℕ) → Type 0
@@ -22,8 +22,7 @@ same_print (x ∷ (y ∷ others)) = ap (λ (rest : List ℕ). x ++ 46 ∷ rest) 
 -- names from a place on that is no point
 names_on : (b : ℕ) (bs : List ℕ) → b ≢ 46 → path_names (b ∷ bs) ≡ on_first b (path_names bs)
 unfolding path_names
-names_on b bs other =
-    (elim (b == 46) as (λ t. (b == 46) ≡ t → cond t ([] ∷ path_names bs) (on_first b (path_names bs)) ≡ on_first b (path_names bs)) [ true ↦ λ e. absurd (other (eqb-true b 46 e)) | false ↦ λ e. refl ]) refl
+names_on b bs other = grind (arith, eqb-true)
 
 names_behind : (bs : List ℕ) → path_names (46 ∷ bs) ≡ [] ∷ path_names bs
 unfolding path_names
@@ -68,9 +67,7 @@ no_point_first (b ∷ bs) others rest plain e = plain.bytes.0 (let same : b ≡ 
 
 -- a text that stands in front of a path by whole names has names
 pub prefix_has_name : (path : Path) → path ≢ [] → ArePlain path → ¬ IsPrefix [] (with_points path)
-prefix_has_name [] some plain prefix = some refl
-prefix_has_name (first ∷ others) some plain (inl e) = not_empty first others plain.0 e
-prefix_has_name (first ∷ others) some plain (inr (rest, e)) = no_point_first first others rest plain.0 e
+prefix_has_name path some plain prefix = grind (arith, not_empty, no_point_first)
 
 goes_on_from : (a : List ℕ) (others : Path) (first : List ℕ) (more : Path) → ArePlain (a ∷ others) → ArePlain (first ∷ more) → IsPrefix (with_points (a ∷ others)) (with_points (first ∷ more)) → (inner : Path) × (first ∷ more ≡ (a ∷ others) ++ inner)
 goes_on_from a others first more plain whole (inl e) = ([], sym (names_of first more whole) ∙ ap path_names e ∙ names_of a others plain ∙ sym (append-nil (a ∷ others)))
@@ -104,11 +101,7 @@ split_paths (x ∷ xs) (y ∷ ys) inner more e h =
     (o.0, λ i. sym first i ∷ o.1 i)
 
 pub longer_text : (a rest : Path) → length (with_points a) ≤ length (with_points (a ++ rest))
-longer_text [] rest = omega arith
-longer_text (first ∷ others) rest =
-    let text = points_append first others rest in
-    let sum = length-append (with_points (first ∷ others)) (flat_map (λ (name : List ℕ). 46 ∷ name) rest) in
-    omega (arith, ap length text, sum)
+longer_text a rest = grind (arith, points_append, length-append)
 
 pub longer_text_by : (a rest : Path) → a ≢ [] → rest ≢ [] → length (with_points a) < length (with_points (a ++ rest))
 longer_text_by [] rest some more = absurd (some refl)
@@ -155,7 +148,4 @@ same_names (a ∷ others) (b ∷ more) h k e = sym (names_of a others h) ∙ ap 
 
 -- and those of commands that are the same
 pub same_path : (a b : Path) (x y : List ℕ) → a ≢ [] → b ≢ [] → ArePlain a → ArePlain b → with_points a ++ 32 ∷ x ≡ with_points b ++ 32 ∷ y → a ≡ b
-same_path [] b x y some there h k e = absurd (some refl)
-same_path (a ∷ others) [] x y some there h k e = absurd (there refl)
-same_path (a ∷ others) (b ∷ more) x y some there h k e =
-    same_names (a ∷ others) (b ∷ more) h k (before_blank (with_points (a ∷ others)) (with_points (b ∷ more)) x y (no_blank_points a others h) (no_blank_points b more k) e)
+same_path a b x y some there h k e = grind (arith, same_names, before_blank, no_blank_points)

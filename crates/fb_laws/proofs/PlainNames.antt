@@ -1,5 +1,5 @@
 -- The names of trees are words: neither a point nor a blank stands in them.
-use Rattle.fb_laws.proofs.Common.{◌≡◌, ◌≢◌, ℕ, true, List, [], ◌∷◌, Some, None, Result, Ok, Err, refl, sym, ap, ◌∙◌, subst, arith, true≢false, IsOk, codes, slice_range, list_all, get, option_and_then, All-contains, is_word_start, is_word_byte, name_of, is_word, NameFault, NameUse, IsName-upper, is_word-all, name_of-ok, lexeme_of, name_or, name_use, spelled_name, DeclTree, Sources, tree_at, tree_in, tree_of, BodyTree, BrokenAt, Whole, body_of, name_part, tree_parts, IsWritten, Contains, map, and_parts}
+use Rattle.fb_laws.proofs.Common.{◌≡◌, ◌≢◌, ℕ, true, List, [], ◌∷◌, Some, None, Result, Ok, Err, refl, sym, ap, ◌∙◌, subst, arith, IsOk, codes, slice_range, list_all, get, option_and_then, All-contains, is_word_start, is_word_byte, name_of, is_word, NameFault, NameUse, IsName-upper, is_word-all, name_of-ok, lexeme_of, name_or, name_use, spelled_name, DeclTree, Sources, tree_at, tree_in, tree_of, BodyTree, BrokenAt, Whole, body_of, name_part, tree_parts, IsWritten, Contains, map, and_parts}
 use Rattle.fb_laws.proofs.Standing.{name_in, of_token, spelled_word, tree_stands}
 use Rattle.std.proofs.lemmas.Bool.Decides.{nat_tests}
 use Rattle.fb_text.specs.Spelling.{IsName}
@@ -27,8 +27,7 @@ all_plain (b ∷ bs) h = let p = and_parts (is_word_byte b) (list_all is_word_by
 
 plain_name : (name : List ℕ) → IsName name → IsPlain name
 unfolding is_word
-plain_name [] h = absurd (true≢false (sym h.word))
-plain_name (b ∷ bs) h = record { some = λ e. cc; bytes = all_plain (b ∷ bs) (is_word-all (b ∷ bs) h.word) }
+plain_name name h = grind (arith, all_plain, is_word-all)
 
 underscore : IsName (codes "_")
 unfolding is_word is_word_start

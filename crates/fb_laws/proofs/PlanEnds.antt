@@ -1,15 +1,14 @@
 -- Each end of a link of a flat network is that of a block.
-use Rattle.fb_laws.proofs.Common.{ℕ, ◌≡◌, List, [], ◌∷◌, ◌++◌, Some, ◌⊎◌, inl, inr, sym, ◌∙◌, ap, subst, map, append_assoc, Contains-append_left, Contains-append_right, name_cmp, contains_cases, contains_flat_map, contains_here, contains_later, contains_map, contains_nothing, passes_in_find, Sources, Sort, FlatBlock, Link, Instance, InstanceKind, IsFlat, AreBlocks, AreInstances, Held, NoInstance, ThenBlock, ThenSubapplication, held_as, held_within, leaf_first, leaves_of, BlockPort, IsLeafPlace, LeafWithin, Place, View, dotted, PlainNetwork, PlainFlat, printed, HasFlat, AreFlatApplications, IsUnitFlat, NoApplication, OfSubapplication, OfSystem, ThenApplication, Application, block_within, IsSystemFlat, application_blocks, FlatApplication, IsPrefix, Contains, IsFlatApplication}
+use Rattle.fb_laws.proofs.Common.{arith, ℕ, ◌≡◌, List, [], ◌∷◌, ◌++◌, Some, ◌⊎◌, inl, inr, sym, ◌∙◌, ap, subst, map, append_assoc, Contains-append_left, Contains-append_right, name_cmp, contains_cases, contains_flat_map, contains_here, contains_later, contains_map, contains_nothing, passes_in_find, Sources, Sort, FlatBlock, Link, Instance, InstanceKind, IsFlat, AreBlocks, AreInstances, Held, NoInstance, ThenBlock, ThenSubapplication, held_as, held_within, leaf_first, leaves_of, BlockPort, IsLeafPlace, LeafWithin, Place, View, dotted, PlainNetwork, PlainFlat, printed, HasFlat, AreFlatApplications, IsUnitFlat, NoApplication, OfSubapplication, OfSystem, ThenApplication, Application, block_within, IsSystemFlat, application_blocks, FlatApplication, IsPrefix, Contains, IsFlatApplication}
 use Rattle.std.specs.BTreeMap.{is_at}
 use Rattle.fb_wiring.proofs.Network.Equals.{same_bytes}
 use Rattle.fb_placing.proofs.NameLemmas.{printed-push}
-use Rattle.fb_wiring.specs.{Network.declared.network.InstanceKind.TheVariants.{Block, Subapplication}, Network.NetLink.{Direct, FromPlug, IsNetLink, ToPlug}}
+use Rattle.fb_wiring.specs.{Network.declared.network.InstanceKind.TheVariants.{Block, Subapplication}, Network.NetLink.{IsNetLink}}
 
 -- ---- blocks at ports
 
 in_held : (z i : Instance) (rest : List Instance) (tail : List Held) → (z ≡ i) ⊎ Contains rest i → (Contains rest i → Contains tail (held_as i)) → Contains (held_as z ∷ tail) (held_as i)
-in_held z i rest tail (inl same) more = subst (λ (w : Instance). Contains (held_as z ∷ tail) (held_as w)) same (contains_here (held_as z) tail)
-in_held z i rest tail (inr d) more = contains_later (held_as z) tail (held_as i) (more d)
+in_held z i rest tail among more = grind (arith, contains_here, contains_later)
 
 -- an instance is held
 pub instance_held : {view : View} {list : List Instance} {held : List Held} → AreInstances view list held → (i : Instance) → Contains list i → Contains held (held_as i)
@@ -131,15 +130,7 @@ module _ {view : View} {network : PlainNetwork} {blocks : List FlatBlock} (are :
       }
 
   link_prefixes : {sort : Sort} {a b : Place} → IsNetLink view network sort a b → HasPrefix blocks (printed a) × HasPrefix blocks (printed b)
-  link_prefixes (Direct other link) = (leaf_prefix link.from_leaf, leaf_prefix link.to_leaf)
-  link_prefixes (FromPlug plug socket adapter port link at c sort side from to) = (
-    subst (λ (p : Place). HasPrefix blocks (printed p)) (sym from) (port_prefix port.name link.from_leaf),
-    subst (λ (p : Place). HasPrefix blocks (printed p)) (sym to) (port_prefix port.name link.to_leaf),
-  )
-  link_prefixes (ToPlug plug socket adapter port link at c sort side from to) = (
-    subst (λ (p : Place). HasPrefix blocks (printed p)) (sym from) (port_prefix port.name link.to_leaf),
-    subst (λ (p : Place). HasPrefix blocks (printed p)) (sym to) (port_prefix port.name link.from_leaf),
-  )
+  link_prefixes link = grind (arith, leaf_prefix, port_prefix)
 
 flat_prefixes : {view : View} {network : PlainNetwork} {flat : PlainFlat} → IsFlat view network flat → (link : Link) → Contains flat.links link → HasPrefix flat.blocks link.from × HasPrefix flat.blocks link.to
 flat_prefixes {flat = flat} is link c =
@@ -169,8 +160,7 @@ application_of {view = view} (ThenApplication {rest = rest} {others = others} z 
     elim (contains_cases y others f c) [ inl same ↦ (z, subst (λ (w : FlatApplication). IsPair view (z ∷ rest) (y ∷ others) z w) same (record { application_listed = contains_here z rest; flat_listed = contains_here y others; is = is })) | inr d ↦ let p = (application_of more f d) in (p.0, later_pair z y p.1) ]
 
 prefix_within : (name prefix path : List ℕ) → IsPrefix prefix path → IsPrefix (dotted name prefix) (dotted name path)
-prefix_within name prefix path (inl e) = inl (ap (dotted name) e)
-prefix_within name prefix path (inr (rest, e)) = inr (rest, ap (dotted name) e ∙ sym (append_assoc name (46 ∷ prefix) (46 ∷ rest)))
+prefix_within name prefix path is = grind (arith, append_assoc)
 
 prefixes_within : (flats : List FlatApplication) (flat : PlainFlat) → IsSystemFlat flats flat → (f : FlatApplication) → Contains flats f → (end : List ℕ) → HasPrefix f.flat.blocks end → HasPrefix flat.blocks (dotted f.name end)
 prefixes_within flats flat whole f c end h = record {

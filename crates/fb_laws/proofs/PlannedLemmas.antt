@@ -1,5 +1,5 @@
 -- What is known of a system with a plan.
-use Rattle.fb_laws.proofs.Common.{ℕ, ◌≡◌, List, [], ◌∷◌, Option, Some, None, refl, ◌∙◌, ap, subst, map, filter, is_none, IsStrictlySortedBy, nat_list_cmp_total, nat_cmp-IsAntisymmetric, slice_cmp-IsAntisymmetric, Contains-append_left, name_cmp, names_in_order, in_order-members, contains_filter, contains_map, contains_nothing, plan_at_is, Sources, tree_at, FlatBlock, Link, PlainFlat, HasFlat, flat_net, IsUnitFlat, OfSubapplication, OfSystem, link_cmp, cuts_of, home_at, nearest, block_homes, homeless, misplaced, unless_faulty, resource_at, IsSystem, applications_in, devices_in, mappings_in, Home, Misplaced, Unmapped, IsPlan, planned, planned_by, with_homes, system_commands, PlainResource, resource_plans, resources_of, IsPlanned, StandsOn, Contains, arith, IsHome, BlocksHaveOneHome, EndsHaveOneHome}
+use Rattle.fb_laws.proofs.Common.{ℕ, ◌≡◌, List, [], ◌∷◌, Option, Some, None, refl, ◌∙◌, ap, subst, map, filter, is_none, IsStrictlySortedBy, nat_list_cmp_total, nat_cmp-IsAntisymmetric, slice_cmp-IsAntisymmetric, Contains-append_left, name_cmp, names_in_order, in_order-members, contains_filter, contains_map, contains_nothing, plan_at_is, Sources, tree_at, FlatBlock, Link, PlainFlat, HasFlat, flat_net, IsUnitFlat, link_cmp, cuts_of, home_at, nearest, block_homes, homeless, misplaced, unless_faulty, resource_at, IsSystem, applications_in, devices_in, mappings_in, Home, Misplaced, Unmapped, IsPlan, planned, planned_by, with_homes, system_commands, PlainResource, resource_plans, resources_of, IsPlanned, StandsOn, Contains, arith, IsHome, BlocksHaveOneHome, EndsHaveOneHome}
 use Rattle.fb_laws.proofs.HomeLemmas.{HasHome, end_home, home_end, one_nearest, one_prefix}
 use Rattle.fb_deploy.proofs.Flatten.OneNet.{one_net_only}
 
@@ -49,8 +49,7 @@ known sources system flat cuts resources p = by (misplaced sources system (tree_
 
 -- the links of a flat network are in order
 unit_sorted : (sources : Sources) (unit : List ℕ) (flat : PlainFlat) → IsUnitFlat sources unit flat → IsStrictlySortedBy link_cmp flat.links
-unit_sorted sources unit flat (OfSubapplication network kind there net) = net.links_sorted
-unit_sorted sources unit flat (OfSystem applications flats kind there are net) = net.links_sorted
+unit_sorted sources unit flat is = grind arith
 
 pub links_sorted : (sources : Sources) (unit : List ℕ) (flat : PlainFlat) → HasFlat sources unit flat → IsStrictlySortedBy link_cmp flat.links
 links_sorted sources unit flat is = unit_sorted sources unit flat is.2

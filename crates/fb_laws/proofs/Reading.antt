@@ -1,5 +1,5 @@
 -- What is known of the tokens of a text.
-use Rattle.fb_laws.proofs.Common.{◌≡◌, ℕ, zero, suc, ◌+◌, ◌<◌, ◌≤◌, inl, inr, List, [], ◌∷◌, ◌++◌, length, drop, refl, subst, arith, length-drop, Result, Ok, Err, IsUtf8, All, slice_index_or, cases_lt, piece_at, tokens_of, FitsIn, IsSpelled, LiesIn, SpansRise, spans_of, Span, Token}
+use Rattle.fb_laws.proofs.Common.{◌≡◌, ℕ, zero, suc, ◌+◌, ◌<◌, ◌≤◌, inl, inr, List, [], ◌∷◌, ◌++◌, length, drop, refl, subst, arith, length-drop, Ok, IsUtf8, All, slice_index_or, cases_lt, piece_at, tokens_of, FitsIn, IsSpelled, LiesIn, SpansRise, spans_of, Span, Token}
 use Rattle.std.proofs.lemmas.Str.{IsUtf8-drop}
 use Rattle.fb_text.specs.{declared.scan.Piece.{Piece}, declared.scan.Piece.TheVariants.{Gap, Unclosed, Found}}
 use Rattle.fb_text.proofs.{Boundaries.{piece-fits}, Reading.{HasRead, start, after-gap, after-token, unclosed, all-read}}
@@ -10,25 +10,16 @@ pub record AreTokens (text : List ℕ) (tokens : List Token) : Type 0 where
   pub spelled : All (IsSpelled text) tokens
   pub rise : SpansRise 0 (length text) (spans_of tokens)
 
-same_tokens : (r : Result (List Token) Span) (ts us : List Token) → r ≡ Ok ts → r ≡ Ok us → ts ≡ us
-same_tokens r ts us e f = cc
-
-no_tokens : (r : Result (List Token) Span) (bad : Span) (ts : List Token) → r ≡ Err bad → r ≡ Ok ts → ⊥
-no_tokens r bad ts e f = cc
-
 module _ (text : List ℕ) (utf8 : IsUtf8 text) (tokens : List Token) (are : tokens_of text ≡ Ok tokens) where
   at_end : (ts : List Token) (place : ℕ) → HasRead text ts place → length text ≤ place → AreTokens text tokens
-  at_end ts place read done =
-      let whole : place ≡ length text = omega (arith, read.place_ends.0) in
-      let same = same_tokens (tokens_of text) ts tokens (all-read text ts place read done) are in
-      subst (AreTokens text) same (record { within = read.within; spelled = read.spelled; rise = subst (λ (n : ℕ). SpansRise 0 n (spans_of ts)) whole read.rise })
+  at_end ts place read done = grind (arith, all-read)
 
   -- one piece is read, and what is read then tells the tokens
   past_piece : (ts : List Token) (place : ℕ) → HasRead text ts place → place < length text
       → ((us : List Token) (n : ℕ) → 0 < n → HasRead text us (place + n) → AreTokens text tokens)
       → (piece : Piece) → piece_at (drop place text) ≡ piece → FitsIn (drop place text) piece → AreTokens text tokens
   past_piece ts place read left more (Gap n) e fits = more ts n fits.some (after-gap text ts place read left n e fits)
-  past_piece ts place read left more Unclosed e fits = absurd (no_tokens (tokens_of text) _ tokens (unclosed text ts place read left e) are)
+  past_piece ts place read left more Unclosed e fits = let bad = unclosed text ts place read left e in absurd (let no : ⊥ = cc in no)
   past_piece ts place read left more (Found kind n) e fits = more _ n fits.some (after-token text ts place read left kind n e fits)
 
   -- by the number of bytes that are left at most

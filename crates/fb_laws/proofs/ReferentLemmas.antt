@@ -1,5 +1,5 @@
 -- What references stand for by the check: what they begin at, and what their further names lead to.
-use Rattle.fb_laws.proofs.Common.{◌≡◌, ℕ, Bool, true, false, true≢false, cond, not, ◌&&◌, List, [], ◌∷◌, ◌++◌, Option, Some, None, ◌⊎◌, inl, inr, refl, sym, ap, subst, ◌∙◌, append-nil, arith, option_and_then, ltb-false, or_parts, has_own_class, is_elementary, type_class_of, Span, ReferenceTree, DeclTree, TypeTree, adapter_type, block_type, structure_type, Section, TypeForm, TypeUse, Role, Plug, Socket, Block, Subapplication, Member, Sources, tree_at, class_of_name, is_free, named_class, Fields, NoFields, HasFields, fields_in, fields_of_tree, first_ones, stands_for, Meanings, meanings_in_type, instance_ports, ports_of, usable, DeclaredInstance, DeclaredVariable, stands_for-first_ones, is_known, referent_through, Names, names_of_type, data_referent, field_referent, fields_behind, fields_named, is_adapter, is_at_adapter, is_before_port, is_data, is_some_count, member_among, own_referent, port_named, port_referent, referent_of, step, unless_judged, variable_named, walk, Referent, Variable, Unjudged, NoMember, IsAdapter, IsUsable, as_plug, as_socket, IsData, IsAtPort, Begins, own, IsOfNoAdapter, Shows, plain, element, IsOpen, generic, unknown, HasField, GoesOn, at_end, through, NamesType}
+use Rattle.fb_laws.proofs.Common.{◌≡◌, ℕ, Bool, true, false, true≢false, cond, not, ◌&&◌, List, [], ◌∷◌, ◌++◌, Option, Some, None, ◌⊎◌, inl, inr, refl, sym, ap, subst, ◌∙◌, append-nil, arith, option_and_then, ltb-false, or_parts, has_own_class, is_elementary, type_class_of, Span, ReferenceTree, DeclTree, TypeTree, adapter_type, block_type, structure_type, Section, TypeForm, TypeUse, Role, Plug, Socket, Member, Sources, tree_at, class_of_name, is_free, named_class, Fields, NoFields, fields_in, fields_of_tree, first_ones, stands_for, Meanings, meanings_in_type, instance_ports, ports_of, usable, DeclaredInstance, DeclaredVariable, stands_for-first_ones, is_known, referent_through, Names, names_of_type, data_referent, field_referent, fields_behind, fields_named, is_adapter, is_at_adapter, is_before_port, is_data, is_some_count, member_among, own_referent, port_named, port_referent, referent_of, step, unless_judged, variable_named, walk, Referent, Variable, Unjudged, NoMember, IsAdapter, IsUsable, as_plug, as_socket, IsData, IsAtPort, Begins, own, IsOfNoAdapter, Shows, plain, element, IsOpen, generic, unknown, HasField, GoesOn, at_end, through, NamesType}
 use Rattle.fb_laws.proofs.{CarriedTypes.{IsKnown, data_known, field_known, known_fields, own_known}, UsableTypes.{known_type, own_type}}
 use Rattle.fb_text.specs.declared.elementary.TypeClass.{TypeClass}
 use Rattle.fb_text.specs.declared.elementary.TypeClass.TheVariants as types
@@ -34,19 +34,16 @@ found_known : (o : Option DeclaredVariable) (m : Member) → is_known (field_ref
 found_known o m = grind arith
 
 among_known : (fields : Fields) (m : Member) → is_known (member_among fields m) ≡ true
-among_known (HasFields found) m = found_known (stands_for found m.name.name) m
-among_known o m = refl
+among_known fields m = grind (arith, found_known)
 
 data_section : (s : Section) → IsData s → is_data s ≡ true
-data_section s (inl input) = ap is_data input
-data_section s (inr output) = ap is_data output
+data_section s is = grind arith
 
 has_role : (i : DeclaredInstance) → IsAdapter i → is_adapter i.role ≡ true
 has_role i is = grind arith
 
 of_role : (i : DeclaredInstance) → is_adapter i.role ≡ true → IsAdapter i
-of_role i e =
-    (elim i.role as (λ role. i.role ≡ role → is_adapter role ≡ true → IsAdapter i) [ Plug ↦ λ is e. inl is | Socket ↦ λ is e. inr is | Block ↦ λ is e. absurd (true≢false (sym e)) | Subapplication ↦ λ is e. absurd (true≢false (sym e)) ]) refl e
+of_role i e = grind arith
 
 -- an adapter type with these ports
 record HasAdapter (sources : Sources) (name : List ℕ) (ports : Meanings) : Type 0 where
@@ -56,14 +53,10 @@ record HasAdapter (sources : Sources) (name : List ℕ) (ports : Meanings) : Typ
 
 module _ (sources : Sources) where
   adapter_used : (i : DeclaredInstance) → IsAdapter i → (a : TypeTree) → tree_at sources i.type_name.name ≡ Some (adapter_type a) → usable i.role (tree_at sources i.type_name.name) ≡ Some (meanings_in_type a)
-  adapter_used i (inl role) a e = λ k. usable (role k) (e k)
-  adapter_used i (inr role) a e = λ k. usable (role k) (e k)
+  adapter_used i is a e = grind arith
 
   adapter_found : (name : List ℕ) (role : Role) (ports : Meanings) → role ≡ Plug ⊎ role ≡ Socket → IsUsable sources name role ports → HasAdapter sources name ports
-  adapter_found name role ports adapter (as_plug a e) = record { type = a; is = e; has = refl }
-  adapter_found name role ports adapter (as_socket a e) = record { type = a; is = e; has = refl }
-  adapter_found name role ports (inl r) used = absurd (let no : ⊥ = cc in no)
-  adapter_found name role ports (inr r) used = absurd (let no : ⊥ = cc in no)
+  adapter_found name role ports adapter used = grind (arith, as_plug, as_socket)
 
 module _ (sources : Sources) (unit : List ℕ) (d : TypeTree) (declared : tree_at sources unit ≡ Some (block_type d)) where
   abbrev names : Names
@@ -88,25 +81,10 @@ module _ (sources : Sources) (unit : List ℕ) (d : TypeTree) (declared : tree_a
   behind_shown used false true none = elim none [ ]
 
   pub told_open : (used : TypeUse) (s : Bool) (m : Member) → Known used → IsOpen sources used s → step names (Variable used s) m ≡ Unjudged
-  told_open used s m known (generic on shows free) =
-      ap (λ fields. member_among fields m)
-      (behind_shown used s on shows
-      ∙ ap (λ b. shown on (cond b NotJudged (names.fields used.name.name))) free
-      ∙ open_shown on)
-  told_open used s m known (unknown on shows elementary absent) =
-      ap (λ fields. member_among fields m)
-      (behind_shown used s on shows
-      ∙ ap (shown on) (named_known used.name.name known)
-      ∙ (λ k. shown on (cond (not_free used.name.name elementary k) NotJudged (cond (elementary k) NoFields (fields_of_tree (absent k)))))
-      ∙ open_shown on)
+  told_open used s m known open_there = grind (arith, generic, behind_shown, open_shown, unknown, named_known, not_free)
 
   pub told_field : (used : TypeUse) (s : Bool) (m : Member) (v : DeclaredVariable) → Known used → HasField sources used s m.name.name v → step names (Variable used s) m ≡ Variable v.type_use (is_some_count m.subscripts)
-  told_field used s m v known h =
-      ap (λ fields. member_among fields m)
-      (behind_shown used s false h.shown
-      ∙ named_known used.name.name known
-      ∙ (λ k. cond (not_free used.name.name h.declared k) NotJudged (cond (h.declared k) NoFields (fields_of_tree (h.is_structure k)))))
-      ∙ ap (λ o. field_referent o m) (stands_for-first_ones (fields_in h.structure) m.name.name ∙ h.found)
+  told_field used s m v known h = grind (arith, behind_shown, named_known, not_free, stands_for-first_ones)
 
   -- what a further name stands for
   pub data Looks (used : TypeUse) (s : Bool) (m : Member) : Referent → Type 0 where
@@ -135,8 +113,7 @@ module _ (sources : Sources) (unit : List ℕ) (d : TypeTree) (declared : tree_a
     by_tree s on shows elementary (Some decl) t = no_field s on
 
     by_elementary : (s on : Bool) → Shows used s on → (b : Bool) → is_elementary name ≡ b → Looks used s m (member_among (shown on (cond b NoFields (fields_of_tree (tree_at sources name)))) m)
-    by_elementary s on shows true e = no_field s on
-    by_elementary s on shows false e = by_tree s on shows e (tree_at sources name) refl
+    by_elementary s on shows b e = grind (arith, no_field, by_tree)
 
     by_free : (s on : Bool) → Shows used s on → (b : Bool) → is_free (class_of_name name) ≡ b → Looks used s m (member_among (shown on (cond b NotJudged (declared_fields name))) m)
     by_free s on shows true e = not_judged s on (generic on shows e)
@@ -214,15 +191,7 @@ module _ (sources : Sources) (unit : List ℕ) (d : TypeTree) (declared : tree_a
 
   -- a reference at a plug or a socket
   port_found : (r : ReferenceTree) (m : Member) (behind : List Member) → r.members ≡ m ∷ behind → is_before_port names.scope r.name.name r.subscripts ≡ true → (i : DeclaredInstance) × IsAtPort d r i m behind
-  port_found r m behind second e = by_count (is_some_count r.subscripts) refl e
-    where
-      by_instance : r.subscripts ≡ 0 → (o : Option DeclaredInstance) → stands_for (meanings_in_type d).instances r.name.name ≡ o → is_at_adapter o ≡ true → (i : DeclaredInstance) × IsAtPort d r i m behind
-      by_instance none None stands e = absurd (true≢false (sym e))
-      by_instance none (Some i) stands e = (i, record { stands = stands; adapter = of_role i e; plain = none; second = second })
-
-      by_count : (b : Bool) → is_some_count r.subscripts ≡ b → (not b && is_at_adapter (stands_for (meanings_in_type d).instances r.name.name)) ≡ true → (i : DeclaredInstance) × IsAtPort d r i m behind
-      by_count false none e = let few = ltb-false 0 r.subscripts none in by_instance (omega (arith, few)) (stands_for (meanings_in_type d).instances r.name.name) refl e
-      by_count true some e = absurd (true≢false (sym e))
+  port_found r m behind second e = grind (arith, of_role, ltb-false)
 
   -- what a reference begins at, the names of that behind the first one, and the further ones
   pub data Starts (r : ReferenceTree) : Referent → List Member → List Member → Type 0 where
@@ -259,9 +228,7 @@ module _ (sources : Sources) (unit : List ℕ) (d : TypeTree) (declared : tree_a
       by_members (m ∷ behind) second = by_port m behind second (is_before_port names.scope r.name.name r.subscripts) refl
 
   pub parts : (r : ReferenceTree) (base : Referent) (skipped behind : List Member) → Starts r base skipped behind → r.members ≡ skipped ++ behind
-  parts r base [] behind (at_first none) = refl
-  parts r base (n ∷ []) behind (at_second i m others at) = at.second
-  parts r base (n ∷ (q ∷ qs)) behind none = elim none [ ]
+  parts r base skipped behind starts = grind arith
 
   -- behind what it begins at a reference is walked through
   pub walked : (r : ReferenceTree) (base : Referent) (skipped behind : List Member) → Starts r base skipped behind → (before others : List Member) → behind ≡ before ++ others → referent_through names r (skipped ++ before) ≡ walk names base before
@@ -301,16 +268,8 @@ module _ (sources : Sources) (unit : List ℕ) (d : TypeTree) (declared : tree_a
     by_data a is (Some v) e = by_section a is v e v.section refl
 
     by_ports : (o : Option Meanings) → usable i.role (tree_at sources i.type_name.name) ≡ o → Base r behind (port_referent o m.name.name on)
-    by_ports None u = not_judged_port (record {
-      instance = i;
-      member = m;
-      behind = behind;
-      at_port = at;
-      none = λ a is. let both : Some (meanings_in_type a) ≡ None = sym (adapter_used sources i at.adapter a is) ∙ u in cc both;
-    })
-    by_ports (Some ports) u =
-        let a = adapter_found sources i.type_name.name i.role ports at.adapter (known_type sources i.type_name.name i.role ports u) in
-        subst (λ (p : Meanings). Base r behind (port_referent (Some p) m.name.name on)) a.has (by_data a.type a.is (stands_for (meanings_in_type a.type).variables m.name.name) refl)
+    by_ports None u = not_judged_port (grind (arith, adapter_used))
+    by_ports (Some ports) u = grind (arith, adapter_found, known_type, by_data)
 
     base_at_port : Base r behind (port_named names.scope r.name.name m)
     base_at_port = subst (λ (o : Option Meanings). Base r behind (port_referent o m.name.name on)) (sym (port_ports r i m behind at)) (by_ports (usable i.role (tree_at sources i.type_name.name)) refl)
@@ -346,8 +305,7 @@ module _ (sources : Sources) (unit : List ℕ) (d : TypeTree) (declared : tree_a
   }
 
   pub begins_known : (r : ReferenceTree) (used : TypeUse) (s : Bool) (behind : List Member) → Begins sources d r used s behind → Known used
-  begins_known r used s behind (own v e none) = own_known sources unit d declared r.name.name v e
-  begins_known r used s behind (of_adapter i m a v at is e data_port) = data_known sources unit d declared r.name.name i a m.name.name v at.stands is e
+  begins_known r used s behind begins = grind (arith, own_known, of_adapter, data_known)
 
   -- References that begin at no variable
 
@@ -358,19 +316,7 @@ module _ (sources : Sources) (unit : List ℕ) (d : TypeTree) (declared : tree_a
       cc both
 
   pub is_judged : (r : ReferenceTree) → referent_of names r ≡ Unknown → ¬ IsOfNoAdapter sources d r
-  is_judged r e n =
-      let i = n.instance in
-      let starts = at_second i n.member n.behind n.at_port in
-      let none = by (usable i.role (tree_at sources i.type_name.name)) refl in
-      let is : port_named names.scope r.name.name n.member ≡ Unjudged = ap (λ o. port_referent o n.member.name.name (is_some_count n.member.subscripts)) (port_ports r i n.member n.behind n.at_port ∙ none) in
-      let both : Unjudged ≡ Unknown = sym is ∙ walk_unknown (port_named names.scope r.name.name n.member) n.behind (sym (whole r (port_named names.scope r.name.name n.member) (n.member ∷ []) n.behind starts) ∙ e) in
-      cc both
-    where
-      by : (o : Option Meanings) → usable n.instance.role (tree_at sources n.instance.type_name.name) ≡ o → usable n.instance.role (tree_at sources n.instance.type_name.name) ≡ None
-      by None u = u
-      by (Some ports) u =
-          let a = adapter_found sources n.instance.type_name.name n.instance.role ports n.at_port.adapter (known_type sources n.instance.type_name.name n.instance.role ports u) in
-          absurd (n.none a.type a.is)
+  is_judged r e n = grind (arith, port_ports, walk_unknown, adapter_found, known_type)
 
   pub is_unknown : (r : ReferenceTree) → ((used : TypeUse) (s : Bool) (behind : List Member) → ¬ Begins sources d r used s behind) → ¬ IsOfNoAdapter sources d r → referent_of names r ≡ Unknown
   is_unknown r none judged = by_base (start r)

@@ -1,5 +1,5 @@
 -- Ends that stand twice, by what the list of faults has.
-use Rattle.fb_laws.proofs.Common.{◌≡◌, List, [], ◌∷◌, ◌++◌, map, Option, Some, None, ◌⊎◌, inl, inr, refl, sym, ap, ◌∙◌, subst, Contains, flat_map, Contains-append_left, Contains-append_right, Contains-append_cases, NameUse, NetworkTree, Connection, End, Sort, Code, SecondAdapter, SecondSource, Fault, ComesThrough, contains_cases, contains_flat_map, contains_here, contains_later, contains_nothing, contains_single, origin_in_flat_map, Position, Source, Destination, net_faults_of, Path, fault_at_path, repeated_faults, adapter_ends, data_destination, end_path, path_named, HaveSameNames, IsEndOf, IsNetworkOf, Site, place_of, source, destination, AdaptersHaveOneEnd, DestinationsHaveOneSource, HasSecondAdapter, HasSecondSource, IsTaken, by_earlier, by_source, option_map}
+use Rattle.fb_laws.proofs.Common.{arith, ◌≡◌, List, [], ◌∷◌, ◌++◌, map, ◌⊎◌, inl, inr, refl, sym, ap, ◌∙◌, subst, Contains, flat_map, Contains-append_left, Contains-append_right, Contains-append_cases, NetworkTree, Connection, End, Sort, Code, SecondAdapter, SecondSource, Fault, ComesThrough, contains_cases, contains_flat_map, contains_here, contains_later, contains_nothing, contains_single, origin_in_flat_map, Position, Source, Destination, net_faults_of, Path, fault_at_path, repeated_faults, adapter_ends, data_destination, end_path, path_named, HaveSameNames, IsEndOf, IsNetworkOf, Site, source, destination, AdaptersHaveOneEnd, DestinationsHaveOneSource, HasSecondAdapter, HasSecondSource, IsTaken, by_earlier, by_source, option_map}
 use Rattle.fb_laws.proofs.{NetworkLemmas.{end_place, fault_at_end, network_origin, reported}, RepeatedPaths.{repeat_origin, repeat_reported}}
 use Rattle.fb_laws.proofs.{SplitLemmas.{nothing_split, split_through, through_split}, Joined.{iff}}
 use Rattle.fb_tree.specs.declared.network.Sort.TheVariants as sorts
@@ -10,20 +10,10 @@ abbrev names_of : End → Path
 names_of e = path_named e.name e.port
 
 same_ends : (a b : End) → names_of a ≡ names_of b → HaveSameNames a b
-same_ends a b e = by a.port b.port e
-  where
-    by : (p q : Option NameUse) → path_named a.name p ≡ path_named b.name q → (a.name.name ≡ b.name.name) × (option_map (λ n. n.name) p ≡ option_map (λ n. n.name) q)
-    by None None e = (cc, refl)
-    by (Some p) (Some q) e = let same : p.name ≡ q.name = cc in (cc, ap Some same)
-    by p q e = absurd (let fails : ⊥ = cc in fails)
+same_ends a b e = grind (arith, option_map)
 
 ends_same : (a b : End) → HaveSameNames a b → names_of a ≡ names_of b
-ends_same a b e = by a.port b.port e.1
-  where
-    by : (p q : Option NameUse) → option_map (λ (n : NameUse). n.name) p ≡ option_map (λ (n : NameUse). n.name) q → path_named a.name p ≡ path_named b.name q
-    by None None s = ap (λ n. n ∷ []) e.0
-    by (Some p) (Some q) s = let same : p.name ≡ q.name = cc in λ i. e.0 i ∷ same i ∷ []
-    by p q s = absurd (let fails : ⊥ = cc in fails)
+ends_same a b e = grind (arith, option_map)
 
 -- an end of those that each connection has, with one of the same names before it
 record IsSecond (f : Connection → List End) (connections : List Connection) (e : End) : Type 0 where
@@ -118,24 +108,7 @@ one_source sources unit span =
     it = record { code = SecondSource; span = span }
 
     in_earlier : (here : Site) (n : NetworkTree) → IsNetworkOf sources unit here n → (e : End) → fault_at_end SecondSource e ≡ it → (s : IsSecond destinations n.connections e) → ComesThrough destinations s.earlier s.other → HasSecondSource sources unit span
-    in_earlier here n stands e is s o =
-        let again = data_parts s.again.sort s.again.destination s.inside s.rest e s.parts in
-        let first = in_data o.origin.sort o.origin.destination s.other o.has in
-        record {
-          here = here;
-          network = n;
-          stands = stands;
-          before = s.earlier;
-          again = s.again;
-          after = s.later;
-          listed = s.listed;
-          of_data = again.0;
-          first = o.origin;
-          earlier = o.among;
-          first_of_data = first.0;
-          same = subst (λ (x : End). HaveSameNames x s.again.destination) (sym first.1) (subst (λ (x : End). HaveSameNames s.other x) (sym again.1) s.same);
-          place = sym (ap (λ (g : Fault). g.span) is) ∙ ap place_of (sym again.1);
-        }
+    in_earlier here n stands e is s o = grind (arith, data_parts, in_data)
 
     by : (here : Site) (n : NetworkTree) → IsNetworkOf sources unit here n → (e : End) → fault_at_end SecondSource e ≡ it → (s : IsSecond destinations n.connections e) → ComesThrough destinations s.earlier s.other ⊎ Contains s.inside s.other → HasSecondSource sources unit span
     by here n stands e is s (inl o) = in_earlier here n stands e is s o
@@ -180,11 +153,7 @@ both_is : (c : Connection) → c.sort ≡ sorts.Adapter → both_ends c ≡ c.so
 both_is c e = ap (λ s. adapter_ends s c.source c.destination) e
 
 both_have : (c : Connection) (position : Position) (e : End) → c.sort ≡ sorts.Adapter → IsEndOf c position e → Contains (both_ends c) e
-both_have c position e is end = subst (λ (l : List End). Contains l e) (sym (both_is c is)) (by position e end)
-  where
-    by : (position : Position) (e : End) → IsEndOf c position e → Contains (c.source ∷ c.destination ∷ []) e
-    by Source e source = contains_here c.source (c.destination ∷ [])
-    by Destination e destination = contains_later c.source (c.destination ∷ []) c.destination (contains_here c.destination [])
+both_have c position e is end = grind (arith, both_is, contains_here, contains_later)
 
 -- what stands around an end in the list of both
 around : (c : Connection) (position : Position) (e : End) → IsEndOf c position e → (inside : List End) × (rest : List End) × (c.source ∷ c.destination ∷ [] ≡ inside ++ e ∷ rest)
@@ -201,33 +170,14 @@ one_end sources unit span =
     it = record { code = SecondAdapter; span = span }
 
     made : (here : Site) (n : NetworkTree) → IsNetworkOf sources unit here n → (e : End) → fault_at_end SecondAdapter e ≡ it → (s : IsSecond both_ends n.connections e) → (position : Position) → s.again.sort ≡ sorts.Adapter → IsEndOf s.again position e → IsTaken s.earlier s.again position e → HasSecondAdapter sources unit span
-    made here n stands e is s position sort end taken = record {
-      here = here;
-      network = n;
-      stands = stands;
-      before = s.earlier;
-      again = s.again;
-      after = s.later;
-      listed = s.listed;
-      of_adapter = sort;
-      position = position;
-      end = e;
-      is_end = end;
-      taken = taken;
-      place = sym (ap (λ (g : Fault). g.span) is);
-    }
+    made here n stands e is s position sort end taken = grind arith
 
     position_of : (c : Connection) (inside : List End) (e : End) → IsPart c.source c.destination inside e → (position : Position) × IsEndOf c position e
-    position_of c inside e (at_source none same) = (Source, is_source c e same)
-    position_of c inside e (at_destination one same) = (Destination, is_destination c e same)
+    position_of c inside e part = grind (arith, is_source, is_destination)
 
     -- the source of its own connection
     own : (earlier : List Connection) (c : Connection) (inside : List End) (e other : End) → IsPart c.source c.destination inside e → Contains inside other → HaveSameNames other e → (position : Position) × IsEndOf c position e × IsTaken earlier c position e
-    own earlier c inside e other (at_source none same) h names = absurd (contains_nothing other (subst (λ (l : List End). Contains l other) none h))
-    own earlier c inside e other (at_destination one same) h names =
-        let first = contains_single c.source other (subst (λ (l : List End). Contains l other) one h) in
-        let alike : HaveSameNames c.source c.destination = subst (λ (x : End). HaveSameNames x c.destination) (sym first) (subst (λ (x : End). HaveSameNames other x) (sym same) names) in
-        (Destination, is_destination c e same, subst (IsTaken earlier c Destination) same (by_source alike))
+    own earlier c inside e other part h names = grind (arith, contains_nothing, contains_single, is_destination, by_source)
 
     by : (here : Site) (n : NetworkTree) → IsNetworkOf sources unit here n → (e : End) → fault_at_end SecondAdapter e ≡ it → (s : IsSecond both_ends n.connections e) → ComesThrough both_ends s.earlier s.other ⊎ Contains s.inside s.other → HasSecondAdapter sources unit span
     by here n stands e is s (inl o) =

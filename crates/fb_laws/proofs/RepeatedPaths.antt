@@ -74,16 +74,7 @@ repeat_origin path items code f c =
     by : (x : PathUse) → fault_at_path code x ≡ f → (a : IsAgain (map path items) x) → SplitImages path items a.before x → (p : PathUse) × Contains a.before p × (p.names ≡ x.names) → RepeatOrigin path items code f
     by x gives a e p =
         let o = origin_in_map path e.earlier p.0 (subst (λ (l : List PathUse). Contains l p.0) e.passed p.1) in
-        record {
-          before = e.earlier;
-          item = e.origin;
-          after = e.later;
-          split = e.split;
-          other = o.origin;
-          seen = o.among;
-          same = names (path o.origin) p.0 o.gives ∙ p.2 ∙ names x (path e.origin) (sym e.gives);
-          is = ap (fault_at_path code) e.gives ∙ gives;
-        }
+        grind arith
 
 pub repeat_reported : {A : Type 0} (path : A → PathUse) (code : Code) (items before after : List A) (item other : A) → items ≡ before ++ item ∷ after → Contains before other → (path other).names ≡ (path item).names → Contains (repeated_faults code (map path items)) (fault_at_path code (path item))
 repeat_reported path code items before after item other split seen same =

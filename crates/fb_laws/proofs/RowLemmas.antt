@@ -1,5 +1,5 @@
 -- Places in a list of rows.
-use Rattle.fb_laws.proofs.Common.{◌≡◌, zero, suc, ℕ, ◌+◌, ◌<◌, List, [], ◌∷◌, ◌++◌, length, Some, refl, sym, ap, ◌∙◌, subst, ◌⊎◌, inl, inr, arith, flat_map, slice_get, cases_order, slice_get_within, Cell, IsBefore, in_earlier_row, in_same_row}
+use Rattle.fb_laws.proofs.Common.{◌≡◌, zero, suc, ℕ, ◌+◌, ◌<◌, List, [], ◌∷◌, ◌++◌, length, Some, refl, ap, ◌∙◌, subst, ◌⊎◌, inl, inr, arith, flat_map, slice_get, cases_order, slice_get_within, Cell, IsBefore, in_earlier_row, in_same_row}
 
 in_either : {Y : Type 0} (xs ys : List Y) (k : ℕ) (y : Y) → slice_get (xs ++ ys) k ≡ Some y → (slice_get xs k ≡ Some y) ⊎ ((j : ℕ) × (k ≡ length xs + j) × (slice_get ys j ≡ Some y))
 in_either [] ys k y e = inr (k, (let start : k ≡ 0 + k = omega arith in start), e)
@@ -51,25 +51,16 @@ module _ {X Y : Type 0} (f : X → List Y) where
   pub at_number : (xs : List X) (row column : ℕ) (y : Y) → IsAt xs row column y → slice_get (flat_map f xs) (number_of xs row column) ≡ Some y
   unfolding number_of
   at_number [] row column y o = absurd (let h = o.row_there in let no : ⊥ = cc in no)
-  at_number (x ∷ xs) zero column y o =
-      let h = o.row_there in
-      let here : x ≡ o.item = cc in
-      in_prefix (f x) (flat_map f xs) column y (subst (λ (z : X). slice_get (f z) column ≡ Some y) (sym here) o.there)
+  at_number (x ∷ xs) zero column y o = grind (arith, in_prefix)
   at_number (x ∷ xs) (suc row) column y o = behind (f x) (flat_map f xs) (number_of xs row column) ∙ at_number xs row column y (record { item = o.item; row_there = o.row_there; there = o.there })
 
   rows_in_turn : (xs : List X) (row column row' column' : ℕ) (y : Y) → IsAt xs row column y → row < row' → number_of xs row column < number_of xs row' column'
   unfolding number_of
   rows_in_turn [] row column row' column' y o less = absurd (let h = o.row_there in let no : ⊥ = cc in no)
   rows_in_turn (x ∷ xs) zero column zero column' y o less = absurd (omega arith)
-  rows_in_turn (x ∷ xs) zero column (suc row') column' y o less =
-      let h = o.row_there in
-      let here : x ≡ o.item = cc in
-      let within : column < length (f x) = slice_get_within (f x) column y (subst (λ (z : X). slice_get (f z) column ≡ Some y) (sym here) o.there) in
-      omega (arith, within)
+  rows_in_turn (x ∷ xs) zero column (suc row') column' y o less = grind (arith, slice_get_within)
   rows_in_turn (x ∷ xs) (suc row) column zero column' y o less = absurd (omega arith)
-  rows_in_turn (x ∷ xs) (suc row) column (suc row') column' y o less =
-      let more = rows_in_turn xs row column row' column' y (record { item = o.item; row_there = o.row_there; there = o.there }) (omega arith) in
-      omega (arith, more)
+  rows_in_turn (x ∷ xs) (suc row) column (suc row') column' y o less = grind (arith, rows_in_turn xs row column row' column' y)
 
   columns_in_turn : (xs : List X) (row column column' : ℕ) → column < column' → number_of xs row column < number_of xs row column'
   unfolding number_of
@@ -87,10 +78,4 @@ module _ {X Y : Type 0} (f : X → List Y) where
       not_after h = let more = numbers_in_turn xs b a y o h in omega (arith, less, more)
 
       by : (a.row ≡ b.row) ⊎ ((a.row < b.row) ⊎ (b.row < a.row)) → (a.column ≡ b.column) ⊎ ((a.column < b.column) ⊎ (b.column < a.column)) → IsBefore a b
-      by (inr (inl h)) c = in_earlier_row h
-      by (inr (inr h)) c = absurd (not_after (in_earlier_row h))
-      by (inl e) (inr (inl h)) = in_same_row e h
-      by (inl e) (inr (inr h)) = absurd (not_after (in_same_row (sym e) h))
-      by (inl e) (inl s) =
-          let same : number_of xs a.row a.column ≡ number_of xs b.row b.column = λ i. number_of xs (e i) (s i) in
-          absurd (omega (arith, less, same))
+      by rows columns = grind (arith, in_earlier_row, not_after, in_same_row)

@@ -58,8 +58,7 @@ pub not_free : (c : Class) → is_free c ≡ false → c ≢ Free
 not_free c e is = true≢false (sym (ap is_free is) ∙ e)
 
 pub judged : (c : Class) → c ≢ Free → is_free c ≡ false
-judged Free other = absurd (other refl)
-judged c other = refl
+judged c other = grind arith
 
 -- what operators work on
 
@@ -178,9 +177,7 @@ results operator a b = by_case (combined operator a b) refl (combines operator a
 
 pub told_results : (operator : BinaryOperator) (a b g : Class) → Results operator a b g → pair_class operator a b ≡ g
 told_results operator a b g (Results.met p) = ap (λ (o : Option Class). unwrap_or o (class_of_broken operator)) (told_combined operator a b g p)
-told_results operator a b g (Results.broken none s) =
-    ap (λ (o : Option Class). unwrap_or o (class_of_broken operator)) (not_combined operator a b none)
-    ∙ told_spoils operator g s
+told_results operator a b g (Results.broken none s) = grind (arith, unwrap_or, not_combined, told_spoils)
 
 -- places
 

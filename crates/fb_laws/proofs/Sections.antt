@@ -1,35 +1,27 @@
 -- The parts of constants, types, interfaces, networks, states and parts of systems.
-use Rattle.fb_laws.proofs.Common.{inl, inr, refl, List, ◌∷◌, ◌++◌, map, Option, Some, None, flat_map, NameUse, one, key, behind, list, name, names, OpenBracket, CloseBracket, Of, Lexeme, number, ranges, length_of_string, element_or_sized, plain_type, array_of, array_type, type_use, other_literal_kinds, simple, in_brackets, constant_list, constant, parameter, listed_parameters, parameters, optional_parameters, instance, inner_subapplication, end, connection, connections, ParameterTree, one_value, value_span, Section, Side, TypeUse, Role, Sort, Part, name_part, constant_part, type_part, name_parts, names_in, option_parts, simple_parts, constant_parts, type_use_parts, event_parts, variables_parts, parameter_parts, instance_parts, end_parts, connection_parts, action_parts, state_parts, resource_parts, device_parts, mapping_parts, Kind, subapplications}
+use Rattle.fb_laws.proofs.Common.{inl, inr, refl, List, ◌∷◌, ◌++◌, map, Option, Some, None, flat_map, NameUse, one, list, name, names, Lexeme, number, length_of_string, element_or_sized, plain_type, array_of, array_type, type_use, other_literal_kinds, simple, in_brackets, constant_list, constant, parameter, listed_parameters, parameters, optional_parameters, instance, inner_subapplication, end, connection, connections, ParameterTree, one_value, value_span, Section, Side, TypeUse, Role, Sort, Part, name_part, constant_part, type_part, name_parts, names_in, option_parts, simple_parts, constant_parts, type_use_parts, event_parts, variables_parts, parameter_parts, instance_parts, end_parts, connection_parts, action_parts, state_parts, resource_parts, device_parts, mapping_parts, Kind, subapplications}
 use Rattle.fb_laws.proofs.Tokens.{Each}
-use Rattle.fb_laws.proofs.Filling.{Filled, filled_as, filled_either, filled_token, filled_name, Ends, ends_filled, ends_second, ends_behind, filled_across, filled_more, filled_from}
+use Rattle.fb_laws.proofs.Filling.{Filled, filled_as, filled_either, filled_token, filled_name, ends_filled, ends_second, ends_behind, filled_across, filled_more, filled_from}
 use Rattle.fb_laws.proofs.Sound.{Sound, sound_nothing, sound_both, sound_first, sound_second, sound_as, sound_either, sound_option, sound_many, sound_behind, sound_before, sound_optional_list, sound_separated, sound_section, sound_own, sound_name, sound_named, sound_names, sound_optional_name, sound_same}
 use Rattle.fb_sections.specs.{Chart.{sent_event, action, actions, state, states}, Interface.{with_names, event, events, initial, variables, data_variables}}
 use Rattle.fb_sections.specs.{Sections.{section}, SystemParts.{path, mapping, mappings, header, resource, device}}
 
 -- Constants
 
-filled_number : Filled number (λ l. l.span)
-unfolding number
-filled_number =
-    filled_as _ _ (λ l. l.span)
-    (filled_from (one _) (one _) (λ l. l.span) (λ l. l.span) _ (λ token. refl) (λ sign token. refl) (filled_token _) (filled_token _))
-
 filled_simple : Filled simple value_span
-unfolding simple
+unfolding simple number
 filled_simple =
     filled_either _ _ value_span (filled_as _ name value_span filled_name)
     (filled_either _ _ value_span (filled_as _ _ value_span (filled_token other_literal_kinds))
-    (filled_as _ number value_span filled_number))
-
-sound_names_in : Sound simple names_in
-unfolding simple
-sound_names_in =
-    sound_either _ _ names_in (sound_as _ name names_in sound_name)
-    (sound_either _ _ names_in (sound_as _ _ names_in (sound_nothing _)) (sound_as _ _ names_in (sound_nothing _)))
+    (filled_as _ number value_span (filled_as _ _ (λ l. l.span)
+    (filled_from (one _) (one _) (λ l. l.span) (λ l. l.span) _ (λ token. refl) (λ sign token. refl) (filled_token _) (filled_token _)))))
 
 sound_simple : Sound simple simple_parts
-unfolding constant
-sound_simple = sound_own simple (λ v. constant_part (one_value v)) names_in (λ us v s. inr (v, s, refl)) filled_simple sound_names_in
+unfolding constant simple
+sound_simple =
+    sound_own simple (λ v. constant_part (one_value v)) names_in (λ us v s. inr (v, s, refl)) filled_simple
+    (sound_either _ _ names_in (sound_as _ name names_in sound_name)
+    (sound_either _ _ names_in (sound_as _ _ names_in (sound_nothing _)) (sound_as _ _ names_in (sound_nothing _))))
 
 sound_constant_list : Sound constant_list constant_parts
 unfolding constant constant_list
@@ -45,26 +37,16 @@ sound_constant = sound_either _ _ constant_parts sound_constant_list (sound_as _
 
 -- Types
 
-ends_length : Ends length_of_string (λ l. l.span)
-unfolding length_of_string
-ends_length = ends_behind _ _ (λ l. l.span) (ends_behind _ _ (λ l. l.span) (ends_filled _ (λ l. l.span) (filled_token _)))
-
-filled_plain_type : Filled plain_type (λ t. t.span)
-unfolding plain_type
-filled_plain_type =
-    filled_as _ _ (λ t. t.span)
-    (filled_more name length_of_string (λ n. n.span) (λ l. l.span) _ (λ n. refl) (λ n bracket. refl) filled_name ends_length)
-
-ends_element : Ends (behind (key OpenBracket) (behind ranges (behind (key CloseBracket) (behind (key Of) name)))) (λ n. n.span)
-ends_element = ends_behind _ _ (λ n. n.span) (ends_behind _ _ (λ n. n.span) (ends_behind _ _ (λ n. n.span) (ends_behind _ name (λ n. n.span) (ends_filled name (λ n. n.span) filled_name))))
-
-filled_array_type : Filled array_type (λ t. t.span)
-unfolding array_type
-filled_array_type = filled_as array_of _ (λ t. t.span) (filled_across _ _ (λ l. l.span) (λ n. n.span) (filled_token _) ends_element)
-
 filled_type_use : Filled type_use (λ t. t.span)
-unfolding type_use
-filled_type_use = filled_either _ _ (λ t. t.span) filled_plain_type filled_array_type
+unfolding type_use plain_type length_of_string array_type
+filled_type_use =
+    filled_either _ _ (λ t. t.span)
+    (filled_as _ _ (λ t. t.span)
+    (filled_more name length_of_string (λ n. n.span) (λ l. l.span) _ (λ n. refl) (λ n bracket. refl) filled_name
+    (ends_behind _ _ (λ l. l.span) (ends_behind _ _ (λ l. l.span) (ends_filled _ (λ l. l.span) (filled_token _))))))
+    (filled_as array_of _ (λ t. t.span)
+    (filled_across _ _ (λ l. l.span) (λ n. n.span) (filled_token _)
+    (ends_behind _ _ (λ n. n.span) (ends_behind _ _ (λ n. n.span) (ends_behind _ _ (λ n. n.span) (ends_behind _ name (λ n. n.span) (ends_filled name (λ n. n.span) filled_name)))))))
 
 abbrev type_names : TypeUse → List Part
 type_names t = name_parts t.name
@@ -86,31 +68,25 @@ sound_type_use = sound_own type_use type_part type_names (λ us t s. s) filled_t
 
 -- Interfaces
 
-sound_with_names : Sound with_names (map name_part)
-unfolding with_names
-sound_with_names = sound_named _ (sound_optional_list _ name_parts (sound_behind _ names (flat_map name_parts) sound_names))
-
 sound_event : (s : Side) → Sound (event s) event_parts
-unfolding event
+unfolding event with_names
 sound_event s =
     sound_as _ _ event_parts
     (sound_both name _ name_parts (λ v. option_parts name_parts v.0 ++ map name_part v.1) sound_name
-    (sound_both _ _ (option_parts name_parts) (map name_part) (sound_optional_name _) (sound_before _ _ (map name_part) sound_with_names)))
+    (sound_both _ _ (option_parts name_parts) (map name_part) (sound_optional_name _) (sound_before _ _ (map name_part) (sound_named _ (sound_optional_list _ name_parts
+    (sound_behind _ names (flat_map name_parts) sound_names))))))
 
 pub sound_events : Sound events (flat_map event_parts)
 unfolding events
 sound_events = sound_either _ _ (flat_map event_parts) (sound_section _ _ _ event_parts (sound_event _)) (sound_section _ _ _ event_parts (sound_event _))
 
-sound_initial : Sound initial (option_parts constant_parts)
-unfolding initial
-sound_initial = sound_option _ constant_parts (sound_behind _ constant constant_parts sound_constant)
-
 pub sound_variables : (s : Section) → Sound (variables s) variables_parts
-unfolding variables
+unfolding variables initial
 sound_variables s =
     sound_as _ _ variables_parts
     (sound_both names _ (map name_part) (λ v. type_use_parts v.0 ++ option_parts constant_parts v.1) (sound_named names sound_names)
-    (sound_behind _ _ _ (sound_both type_use _ type_use_parts (option_parts constant_parts) sound_type_use (sound_before _ _ (option_parts constant_parts) sound_initial))))
+    (sound_behind _ _ _ (sound_both type_use _ type_use_parts (option_parts constant_parts) sound_type_use (sound_before _ _ (option_parts constant_parts)
+    (sound_option _ constant_parts (sound_behind _ constant constant_parts sound_constant))))))
 
 pub sound_data_variables : Sound data_variables (flat_map variables_parts)
 unfolding data_variables
@@ -118,16 +94,13 @@ sound_data_variables = sound_either _ _ (flat_map variables_parts) (sound_sectio
 
 -- Networks
 
-sound_parameter : Sound parameter parameter_parts
-unfolding parameter
-sound_parameter = sound_as _ _ parameter_parts (sound_both name _ name_parts constant_parts sound_name (sound_behind _ constant constant_parts sound_constant))
-
 sound_optional_parameters : Sound optional_parameters (flat_map parameter_parts)
-unfolding optional_parameters parameters listed_parameters
+unfolding optional_parameters parameters listed_parameters parameter
 sound_optional_parameters =
     sound_optional_list _ parameter_parts
     (sound_behind _ _ _ (sound_before _ _ (flat_map parameter_parts)
-    (sound_optional_list _ parameter_parts (sound_separated _ parameter parameter_parts sound_parameter))))
+    (sound_optional_list _ parameter_parts (sound_separated _ parameter parameter_parts (sound_as _ _ parameter_parts (sound_both name _ name_parts constant_parts sound_name
+    (sound_behind _ constant constant_parts sound_constant)))))))
 
 sound_instance : (r : Role) → Sound (instance r) instance_parts
 unfolding instance
@@ -140,13 +113,11 @@ sound_instance r =
 pub sound_instances : (start : Kind) (r : Role) (last : Kind) → Sound (section start (instance r) last) (flat_map instance_parts)
 sound_instances start r last = sound_section start (instance r) last instance_parts (sound_instance r)
 
-sound_subapplication : Sound inner_subapplication instance_parts
-unfolding inner_subapplication
-sound_subapplication = sound_as _ _ instance_parts (sound_both name _ name_parts name_parts sound_name (sound_behind _ _ _ (sound_before name _ name_parts sound_name)))
-
 pub sound_subapplications : Sound subapplications (flat_map instance_parts)
-unfolding subapplications
-sound_subapplications = sound_section _ _ _ instance_parts sound_subapplication
+unfolding subapplications inner_subapplication
+sound_subapplications =
+    sound_section _ _ _ instance_parts (sound_as _ _ instance_parts (sound_both name _ name_parts name_parts sound_name (sound_behind _ _ _
+    (sound_before name _ name_parts sound_name))))
 
 pub sound_end : Sound end end_parts
 unfolding end
@@ -176,34 +147,19 @@ sound_action =
     (sound_as _ _ action_parts (sound_both name _ name_parts (option_parts end_parts) sound_name (sound_option sent_event end_parts sound_sent_event)))
     (sound_as _ sent_event action_parts sound_sent_event)
 
-sound_actions : Sound actions (flat_map action_parts)
-unfolding actions
-sound_actions = sound_optional_list _ action_parts (sound_behind _ _ _ (sound_separated _ action action_parts sound_action))
-
-sound_state : Sound state state_parts
-unfolding state
-sound_state = sound_as _ _ state_parts (sound_both name _ name_parts (flat_map action_parts) sound_name (sound_before actions _ (flat_map action_parts) sound_actions))
-
 pub sound_states : Sound states (flat_map state_parts)
-unfolding states
-sound_states = sound_section _ state _ state_parts sound_state
+unfolding states state actions
+sound_states =
+    sound_section _ state _ state_parts (sound_as _ _ state_parts (sound_both name _ name_parts (flat_map action_parts) sound_name (sound_before actions _ (flat_map action_parts)
+    (sound_optional_list _ action_parts (sound_behind _ _ _ (sound_separated _ action action_parts sound_action))))))
 
 -- Parts of systems
 
-sound_path : Sound path (map name_part)
-unfolding path
-sound_path = sound_named _ (sound_separated _ name name_parts sound_name)
-
-sound_mapping : Sound mapping mapping_parts
-unfolding mapping
-sound_mapping =
-    sound_as _ _ mapping_parts
-    (sound_both path _ (map name_part) (λ v. name_parts v.0 ++ name_parts v.1) sound_path
-    (sound_behind _ _ _ (sound_both name _ name_parts name_parts sound_name (sound_behind _ _ _ (sound_before name _ name_parts sound_name)))))
-
 pub sound_mappings : Sound mappings (flat_map mapping_parts)
-unfolding mappings
-sound_mappings = sound_section _ mapping _ mapping_parts sound_mapping
+unfolding mappings mapping path
+sound_mappings = sound_section _ mapping _ mapping_parts (sound_as _ _ mapping_parts
+    (sound_both path _ (map name_part) (λ v. name_parts v.0 ++ name_parts v.1) (sound_named _ (sound_separated _ name name_parts sound_name))
+    (sound_behind _ _ _ (sound_both name _ name_parts name_parts sound_name (sound_behind _ _ _ (sound_before name _ name_parts sound_name))))))
 
 abbrev header_parts : NameUse × (NameUse × List ParameterTree) → List Part
 header_parts v = name_part v.0 ∷ name_part v.1.0 ∷ flat_map parameter_parts v.1.1
@@ -214,13 +170,10 @@ sound_header =
     sound_both name _ name_parts (λ v. name_parts v.0 ++ flat_map parameter_parts v.1) sound_name
     (sound_behind _ _ _ (sound_both name _ name_parts (flat_map parameter_parts) sound_name (sound_before _ _ (flat_map parameter_parts) sound_optional_parameters)))
 
-sound_resource : Sound resource resource_parts
-unfolding resource
-sound_resource = sound_as _ _ resource_parts (sound_behind _ _ header_parts (sound_before header _ header_parts sound_header))
-
 pub sound_device : Sound device device_parts
-unfolding device
+unfolding device resource
 sound_device =
     sound_as _ _ device_parts
     (sound_behind _ _ _ (sound_both header _ header_parts (flat_map resource_parts) sound_header
-    (sound_before _ _ (flat_map resource_parts) (sound_many resource resource_parts sound_resource))))
+    (sound_before _ _ (flat_map resource_parts) (sound_many resource resource_parts (sound_as _ _ resource_parts (sound_behind _ _ header_parts
+    (sound_before header _ header_parts sound_header)))))))

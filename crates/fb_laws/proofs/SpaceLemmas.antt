@@ -1,5 +1,5 @@
 -- Name spaces, by the function of the check.
-use Rattle.fb_laws.proofs.Common.{◌≡◌, ℕ, false, List, [], ◌∷◌, ◌++◌, map, if◌then◌else◌, Some, None, ◌⊎◌, inl, inr, refl, sym, ap, ◌∙◌, subst, Contains, slice_get, Contains-append_left, Contains-append_right, Contains-append_cases, NameUse, contains_cases, contains_flat_map, contains_here, contains_later, contains_map, contains_single, origin_in_flat_map, origin_in_map, ApplicationTree, DeclTree, DeviceTree, EventTree, InstanceTree, NetworkTree, ParameterTree, StateTree, AlgorithmTree, StructureTree, SystemTree, TypeTree, VariablesTree, adapter_type, block_type, structure_type, subapplication_type, system_configuration, Role, Block, Plug, Socket, Subapplication, chart_spaces, interface_spaces, is_block, network_spaces, parameter_names, resource_names, spaces_of, system_spaces, type_spaces, IsHeldIn, IsType, instance_of_application, instance_of_type, of_adapter, of_block, of_subapplication, flat_map}
+use Rattle.fb_laws.proofs.Common.{arith, ◌≡◌, ℕ, false, List, [], ◌∷◌, ◌++◌, map, if◌then◌else◌, Some, ◌⊎◌, inl, inr, refl, sym, ap, ◌∙◌, subst, Contains, slice_get, Contains-append_left, Contains-append_right, Contains-append_cases, NameUse, contains_cases, contains_flat_map, contains_here, contains_later, contains_map, contains_single, origin_in_flat_map, origin_in_map, ApplicationTree, DeclTree, DeviceTree, EventTree, InstanceTree, NetworkTree, ParameterTree, StateTree, AlgorithmTree, StructureTree, SystemTree, TypeTree, VariablesTree, adapter_type, block_type, structure_type, subapplication_type, system_configuration, Role, Block, Plug, Socket, Subapplication, chart_spaces, interface_spaces, is_block, network_spaces, parameter_names, resource_names, spaces_of, system_spaces, type_spaces, IsHeldIn, IsType, instance_of_application, instance_of_type, of_adapter, of_block, of_subapplication, flat_map}
 use Rattle.fb_laws.specs.Spaces.{IsSpace, algorithms, applications, devices, events, fields, instances, instances_of_application, parameters, resources, states, variables}
 
 abbrev event_names : TypeTree → List NameUse
@@ -126,11 +126,7 @@ known (structure_type s) space c = inl (subst (λ (names : List NameUse). IsSpac
 
 -- what the function lists, where it has a name
 pub known_space : (decl : DeclTree) (space : List NameUse) (place : ℕ) (name : NameUse) → Contains (spaces_of decl) space → slice_get space place ≡ Some name → IsSpace decl space
-known_space decl space place name c at = by (known decl space c)
-  where
-    by : IsSpaceOrNone decl space → IsSpace decl space
-    by (inl is) = is
-    by (inr none) = let both : None ≡ Some name = ap (λ (l : List NameUse). slice_get l place) (sym none) ∙ at in absurd (let no : ⊥ = cc in no)
+known_space decl space place name c at = grind (arith, known)
 
 of_type : (decl : DeclTree) (d : TypeTree) → IsType decl d → (space : List NameUse) → Contains (type_spaces d) space → Contains (spaces_of decl) space
 of_type decl d (of_block x) space c = c

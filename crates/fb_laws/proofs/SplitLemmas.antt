@@ -1,5 +1,5 @@
 -- Lists that are split at an item.
-use Rattle.fb_laws.proofs.Common.{zero, suc, ◌≡◌, ℕ, length, List, [], ◌∷◌, ◌++◌, map, take, Some, ◌⊎◌, inl, inr, refl, sym, ap, ◌∙◌, append_assoc, flat_map, slice_get, flat_map-append}
+use Rattle.fb_laws.proofs.Common.{arith, zero, suc, ◌≡◌, ℕ, length, List, [], ◌∷◌, ◌++◌, map, take, Some, ◌⊎◌, inl, inr, refl, sym, ap, ◌∙◌, append_assoc, flat_map, slice_get, flat_map-append}
 
 -- the empty list is not split
 pub nothing_split : {A : Type 0} (before : List A) (x : A) (after : List A) → [] ≡ before ++ x ∷ after → ⊥
@@ -20,17 +20,7 @@ at_split (y ∷ before) x after = at_split before x after
 pub split_append : {A : Type 0} (xs ys before after : List A) (y : A) → xs ++ ys ≡ before ++ y ∷ after → ((rest : List A) × (xs ≡ before ++ y ∷ rest)) ⊎ ((inside : List A) × (before ≡ xs ++ inside) × (ys ≡ inside ++ y ∷ after))
 split_append [] ys before after y e = inr (before, refl, e)
 split_append (x ∷ xs) ys [] after y e = let same : x ≡ y = cc in inl (xs, ap (λ w. w ∷ xs) same)
-split_append {A = A} (x ∷ xs) ys (z ∷ before) after y e = by (split_append xs ys before after y tails)
-  where
-    same : x ≡ z
-    same = cc
-
-    tails : xs ++ ys ≡ before ++ y ∷ after
-    tails = cc
-
-    by : ((rest : List A) × (xs ≡ before ++ y ∷ rest)) ⊎ ((inside : List A) × (before ≡ xs ++ inside) × (ys ≡ inside ++ y ∷ after)) → ((rest : List A) × (x ∷ xs ≡ (z ∷ before) ++ y ∷ rest)) ⊎ ((inside : List A) × (z ∷ before ≡ (x ∷ xs) ++ inside) × (ys ≡ inside ++ y ∷ after))
-    by (inl o) = inl (o.0, λ i. same i ∷ o.1 i)
-    by (inr o) = inr (o.0, (λ i. sym same i ∷ o.1 i), o.2)
+split_append {A = A} (x ∷ xs) ys (z ∷ before) after y e = grind (arith, split_append xs ys before after y)
 
 -- a list of images that is split is that of a list that is
 pub record SplitImages {X Y : Type 0} (f : X → Y) (xs : List X) (before : List Y) (y : Y) : Type 0 where
@@ -88,8 +78,4 @@ split_through {X = X} {Y = Y} f (x ∷ xs) before after y e = by (split_append (
 
 -- and the other way
 pub through_split : {X Y : Type 0} (f : X → List Y) (earlier later : List X) (x : X) (inside rest : List Y) (y : Y) → f x ≡ inside ++ y ∷ rest → flat_map f (earlier ++ x ∷ later) ≡ (flat_map f earlier ++ inside) ++ y ∷ (rest ++ flat_map f later)
-through_split f earlier later x inside rest y parts =
-    flat_map-append f earlier (x ∷ later)
-    ∙ ap (λ l. flat_map f earlier ++ (l ++ flat_map f later)) parts
-    ∙ ap (λ l. flat_map f earlier ++ l) (append_assoc inside (y ∷ rest) (flat_map f later))
-    ∙ sym (append_assoc (flat_map f earlier) inside (y ∷ (rest ++ flat_map f later)))
+through_split f earlier later x inside rest y parts = grind (arith, flat_map-append, append_assoc)

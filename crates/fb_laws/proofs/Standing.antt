@@ -1,7 +1,6 @@
 -- Parts that are written in the tokens as the grammar sees them stand in the text.
-use Rattle.fb_laws.proofs.Common.{◌≡◌, ℕ, zero, suc, ◌<◌, ◌≤◌, Bool, true, false, cond, List, [], ◌∷◌, ◌++◌, length, map, refl, sym, ap, ◌∙◌, subst, arith, Result, Ok, Err, All, IsOk, nat_lt, slice_index_or, slice_range, IsCharBoundary, str_to_ascii_uppercase, map-append, Contains-append_left, All-contains, All-from_recursion, All-map, All-weaker, Contains-append_right, name_of, tokens_of, spans_of, IsSpelled, LiesIn, SpansRise, HasForm, is_word, word_len, NameFault, NameUse, Span, Token, TokenKind, name_of-ok, IsBody, IsBodyIn, body_of, Whole, name as name_form, Spells, is_among, name_kinds, lexeme_of, lexemes_in, lexemes_of, name_or, name_use, Lexeme, DeclTree, told, Part, name_part, tree_parts, PartsAreWritten, SpansCoverTokens, SpansLieInText, NamesAreWords, part_span, BeginsAt, EndsAt, IsWritten, Contains, ◌==◌}
+use Rattle.fb_laws.proofs.Common.{◌≡◌, ℕ, zero, suc, ◌<◌, ◌≤◌, Bool, true, cond, List, [], ◌∷◌, ◌++◌, length, map, refl, sym, ap, ◌∙◌, subst, arith, Result, Ok, Err, All, IsOk, nat_lt, slice_index_or, slice_range, IsCharBoundary, str_to_ascii_uppercase, map-append, Contains-append_left, All-contains, All-from_recursion, All-map, All-weaker, Contains-append_right, name_of, tokens_of, spans_of, LiesIn, SpansRise, is_word, NameFault, NameUse, Span, Token, name_of-ok, IsBody, IsBodyIn, body_of, Whole, name as name_form, Spells, is_among, name_kinds, lexeme_of, lexemes_in, lexemes_of, name_or, name_use, Lexeme, DeclTree, told, Part, name_part, tree_parts, PartsAreWritten, SpansCoverTokens, SpansLieInText, NamesAreWords, part_span, BeginsAt, EndsAt, IsWritten, Contains}
 use Rattle.fb_laws.proofs.{Reading.{AreTokens, tokens_are, rise_at, rise_behind}, UnitSpans.{sound_unit}}
-use Rattle.fb_text.specs.declared.name.NameFault.TheVariants.{Empty, BadByte, TooLong}
 use Rattle.fb_structured_text.proofs.Forms.NameWords.{names as names_are_words}
 use Rattle.fb_laws.specs.Standing.{Covers, IsWord}
 
@@ -9,15 +8,12 @@ use Rattle.fb_laws.specs.Standing.{Covers, IsWord}
 
 ok_name : (a b c : Bool) (e f g : NameFault) (name other : List ℕ)
     → IsOk (cond a (Err e) (cond b (Err f) (cond c (Err g) (Ok name)))) → name_or (cond a (Err e) (cond b (Err f) (cond c (Err g) (Ok name)))) other ≡ name
-ok_name false false false e f g name other h = refl
-ok_name a b c e f g name other h = cc
+ok_name a b c e f g name other h = grind arith
 
 -- a word of at most 64 bytes spells its name
 pub spelled_word : (bytes other : List ℕ) → is_word bytes ≡ true → length bytes ≤ 64 → name_or (name_of bytes) other ≡ str_to_ascii_uppercase bytes
 unfolding name_of
-spelled_word bytes other word short =
-    ok_name (length bytes == 0) (nat_lt (word_len bytes) (length bytes)) (nat_lt 64 (length bytes)) Empty (BadByte (word_len bytes)) TooLong (str_to_ascii_uppercase bytes) other
-    ((name_of-ok bytes).1 (word, short))
+spelled_word bytes other word short = grind (arith, ok_name, nat_lt, str_to_ascii_uppercase, name_of-ok)
 
 -- Tokens
 
@@ -46,17 +42,7 @@ same_spans text (t ∷ ts) = ap (λ ss. t.span ∷ ss) (same_spans text ts)
 word_stands : (text : List ℕ) (tokens : List Token) (token : Token) (name : NameUse) → AreTokens text tokens → Contains tokens token → is_among name_kinds (lexeme_of text token).kind ≡ true
     → name ≡ name_use (lexeme_of text token) → IsWord text tokens name
 unfolding lexeme_of
-word_stands text tokens token name are among kind same =
-    let bytes = slice_range text token.span.start token.span.end in
-    let word = (names_are_words token.kind bytes).0 kind in
-    let spelled = All-contains (IsSpelled text) tokens token are.spelled among in
-    record {
-      token = token;
-      among = among;
-      word = word.0;
-      span = ap (λ (n : NameUse). n.span) same;
-      spelling = ap (λ (n : NameUse). n.name) same ∙ spelled_word bytes _ (subst (λ (k : TokenKind). HasForm k bytes) word.0 spelled) word.1;
-    }
+word_stands text tokens token name are among kind same = grind (arith, slice_range, names_are_words, spelled_word)
 
 -- the token of a name that is written
 pub name_in : (us inside : List Lexeme) (before behind : List Lexeme) (name : NameUse) → us ≡ before ++ (inside ++ behind) → Spells name_form inside name
@@ -98,9 +84,7 @@ covers us before (l ∷ inside) behind s e begins ends =
     }
 
 pub part_covers : (text : List ℕ) (tokens : List Token) (p : Part) → IsWritten (map (lexeme_of text) tokens) p → Covers (spans_of tokens) (part_span p)
-part_covers text tokens p h =
-    subst (λ (ss : List Span). Covers ss (part_span p)) (same_spans text tokens)
-    (covers (map (lexeme_of text) tokens) h.before h.inside h.behind (part_span p) h.parts h.begins h.ends)
+part_covers text tokens p h = grind (arith, same_spans, covers)
 
 -- Trees
 

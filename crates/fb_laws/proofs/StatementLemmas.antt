@@ -1,5 +1,5 @@
 -- What a statement demands, by what stands in it.
-use Rattle.fb_laws.proofs.Common.{◌≡◌, List, [], ◌∷◌, ◌++◌, Option, Some, None, ◌⊎◌, inl, inr, refl, sym, subst, Contains, option_map_or, Contains-append_cases, Contains-append_left, Contains-append_right, NameUse, Span, ReferenceTree, Expression, reference_expression, Expressions, no_expressions, Statement, assignment, choice, selection, count, while_loop, repeat_loop, Statements, no_statements, statement_then, Arms, no_arms, arm_then, contains_cases, contains_here, contains_later, contains_nothing, contains_single, Demand, names_variable, suits_place, assigns, demands_in, demands_at, alone_tree, counter_demands, range_demands, statement_demands, statements_demands, arms_demands, Names, ClassPlace, Condition, Count, Counter, Selector, IsArmOf, first_arm, later_arm, Asks, selector, from, to, by, while_condition, until_condition, HasExpression, in_place, value, this, in_arm, behind_else, in_case, behind_cases, in_for, in_while, in_repeat, IsAmong, in_first_statement, in_later_statement}
+use Rattle.fb_laws.proofs.Common.{arith, ◌≡◌, List, [], ◌∷◌, ◌++◌, Option, Some, None, ◌⊎◌, inl, inr, refl, sym, subst, Contains, option_map_or, Contains-append_cases, Contains-append_left, Contains-append_right, NameUse, Span, ReferenceTree, Expression, reference_expression, Expressions, no_expressions, Statement, assignment, choice, selection, count, while_loop, repeat_loop, Statements, no_statements, statement_then, Arms, no_arms, arm_then, contains_cases, contains_here, contains_later, contains_nothing, contains_single, Demand, names_variable, suits_place, assigns, demands_in, demands_at, alone_tree, counter_demands, range_demands, statement_demands, statements_demands, arms_demands, Names, ClassPlace, Condition, Count, Counter, Selector, IsArmOf, first_arm, later_arm, Asks, selector, from, to, by, while_condition, until_condition, HasExpression, in_place, value, this, in_arm, behind_else, in_case, behind_cases, in_for, in_while, in_repeat, IsAmong, in_first_statement, in_later_statement}
 use Rattle.fb_laws.proofs.ExpressionLemmas.{Asked, asked_in, demanded_in}
 use Rattle.fb_laws.specs.Occurrences.{arm, destination, IsWithin}
 
@@ -99,12 +99,10 @@ module _ (names : Names) where
   of_loop s condition body demand asks lift (inr h) more = deeper s body demand lift (more h)
 
   swapped : {A B : Type 0} → A ⊎ B → B ⊎ A
-  swapped (inl a) = inr a
-  swapped (inr b) = inl b
+  swapped either = grind arith
 
   of_list : (s : Statement) (others : Statements) (demand : Demand) → Contains (statement_demands names s) demand ⊎ Contains (statements_demands names others) demand → (Contains (statement_demands names s) demand → Within names s demand) → (Contains (statements_demands names others) demand → Among names others demand) → Among names (statement_then s others) demand
-  of_list s others demand (inl h) inner more = let w = inner h in record { statement = w.statement; stands = in_first_statement w.stands; own = w.own }
-  of_list s others demand (inr h) inner more = let a = more h in record { statement = a.statement; stands = in_later_statement a.stands; own = a.own }
+  of_list s others demand among inner more = grind (arith, in_first_statement, in_later_statement)
 
   of_arms : (condition : Expression) (body : Statements) (others : Arms) (demand : Demand) → InThree (demands_at Condition names condition) (statements_demands names body) (arms_demands names others) demand → (Contains (statements_demands names body) demand → Among names body demand) → (Contains (arms_demands names others) demand → AmongArms names others demand) → AmongArms names (arm_then condition body others) demand
   of_arms condition body others demand (first h) inner more = of_condition condition body first_arm h

@@ -67,15 +67,12 @@ module _ (e : Form Expression) (inner : Form Statement) (sound_e : Sound e expre
   unfolding arm
   sound_arm word = sound_both _ _ expression_parts block_parts (sound_announced word) (sound_behind _ (many inner) block_parts (sound_block (many inner) sound_several))
 
-  sound_arms : Sound (arms e inner) (flat_map arm_parts)
-  unfolding arms
-  sound_arms = sound_as cons _ (flat_map arm_parts) (sound_both _ _ arm_parts (flat_map arm_parts) (sound_arm _) (sound_many _ arm_parts (sound_arm _)))
-
   sound_if : Sound (if_statement e inner) statement_parts
-  unfolding if_statement
+  unfolding if_statement arms
   sound_if =
       sound_as _ _ statement_parts
-      (sound_both _ _ (λ v. arms_parts (arms_of v)) block_parts (sound_same _ (flat_map arm_parts) _ (λ P v e. subst (Each P) (flat_arms v) e) sound_arms)
+      (sound_both _ _ (λ v. arms_parts (arms_of v)) block_parts (sound_same _ (flat_map arm_parts) _ (λ P v e. subst (Each P) (flat_arms v) e)
+      (sound_as cons _ (flat_map arm_parts) (sound_both _ _ arm_parts (flat_map arm_parts) (sound_arm _) (sound_many _ arm_parts (sound_arm _)))))
       (sound_before (otherwise inner) _ block_parts sound_otherwise))
 
   sound_case_part : Sound (case inner) (flat_map statement_parts)
@@ -107,21 +104,15 @@ module _ (e : Form Expression) (inner : Form Statement) (sound_e : Sound e expre
       (sound_both _ _ expression_parts (λ v. option_parts expression_parts v.0 ++ block_parts v.1) (sound_announced _)
       (sound_both _ _ (option_parts expression_parts) block_parts (sound_option _ expression_parts (sound_announced _)) (sound_enclosed _ _)))))
 
-  sound_while : Sound (while_statement e inner) statement_parts
-  unfolding while_statement
-  sound_while = sound_as _ _ statement_parts (sound_both _ _ expression_parts block_parts (sound_announced _) (sound_enclosed _ _))
-
-  sound_repeat : Sound (repeat_statement e inner) statement_parts
-  unfolding repeat_statement
-  sound_repeat = sound_as _ _ statement_parts (sound_both _ _ block_parts expression_parts (sound_enclosed _ _) (sound_before e _ expression_parts sound_e))
-
   sound_nested : Sound (nested_statement e inner) statement_parts
-  unfolding nested_statement
+  unfolding nested_statement while_statement repeat_statement
   sound_nested =
       sound_either _ _ statement_parts sound_if
       (sound_either _ _ statement_parts sound_case
       (sound_either _ _ statement_parts sound_for
-      (sound_either _ _ statement_parts sound_while sound_repeat)))
+      (sound_either _ _ statement_parts
+      (sound_as _ _ statement_parts (sound_both _ _ expression_parts block_parts (sound_announced _) (sound_enclosed _ _)))
+      (sound_as _ _ statement_parts (sound_both _ _ block_parts expression_parts (sound_enclosed _ _) (sound_before e _ expression_parts sound_e))))))
 
 -- Levels
 

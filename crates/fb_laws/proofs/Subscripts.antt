@@ -1,5 +1,5 @@
 -- The names of a reference count its subscripts.
-use Rattle.fb_laws.proofs.Common.{◌≡◌, ℕ, zero, suc, ◌+◌, inl, inr, List, [], ◌∷◌, ◌++◌, length, map, Option, Some, None, refl, sym, ap, ◌∙◌, subst, length-append, sum_by, All-contains, Form, either, as_value, Spells, Kind, Lexeme, ReferenceTree, Expression, reference_expression, Expressions, expressions_of, BinaryUse, UnaryUse, Member, strengths, PartTree, expression, parts, flat_part, deep_part, member_in, subscripts_in, reference_in, flat_reference, deep_reference, reference_value, literal, in_parentheses, parenthesized, flat_primary, deep_primary, with_sign, unary, row_of, row, rows, expression_part, tree_parts, SubscriptsAreCounted, counted_by, number_of, IsWritten}
+use Rattle.fb_laws.proofs.Common.{arith, ◌≡◌, ℕ, suc, ◌+◌, inl, inr, List, [], ◌∷◌, length, map, Option, refl, sym, ap, ◌∙◌, subst, length-append, sum_by, All-contains, Form, either, as_value, Spells, Kind, Lexeme, Expression, reference_expression, expressions_of, BinaryUse, UnaryUse, Member, PartTree, expression, parts, flat_part, deep_part, member_in, subscripts_in, reference_in, flat_reference, deep_reference, reference_value, literal, in_parentheses, parenthesized, flat_primary, deep_primary, with_sign, unary, row_of, row, rows, expression_part, tree_parts, SubscriptsAreCounted, counted_by, number_of, IsWritten}
 use Rattle.fb_laws.proofs.Standing.{parts_are_written}
 use Rattle.std.proofs.lemmas.List.Sums.{sum_by-cons}
 
@@ -15,10 +15,7 @@ members_count (p ∷ ps) =
     ∙ sym (length-append p.subscripts (subscripts_in ps))
 
 parts_count : (p : PartTree) (ps : List PartTree) → counted_by (reference_in (p, ps)).0 ≡ number_of (reference_in (p, ps)).1
-parts_count p ps =
-    ap (λ n. length p.subscripts + n) (members_count ps)
-    ∙ sym (length-append p.subscripts (subscripts_in ps))
-    ∙ sym (number_is (p.subscripts ++ subscripts_in ps))
+parts_count p ps = grind (arith, members_count, length-append, number_is)
 
 -- what is so of an expression that is a reference
 abbrev Counts : Expression → Type 0
@@ -39,34 +36,26 @@ counted_literal : Counted literal
 unfolding literal
 counted_literal = counted_as _ _ (λ us v s. tt)
 
-counted_parenthesized : (inner : Form Expression) → Counted (parenthesized inner)
-unfolding parenthesized
-counted_parenthesized inner = counted_as in_parentheses _ (λ us v s. tt)
-
 counted_parts : (part : Form PartTree) → Counted (as_value reference_value (as_value reference_in (parts part)))
-counted_parts part =
-    counted_as reference_value (as_value reference_in (parts part))
-    (λ us v s. subst (λ (z : ReferenceTree × Expressions). Counts (reference_value z)) (sym s.2) (parts_count s.0.0 s.0.1))
+counted_parts part = grind (arith, counted_as, as_value, parts_count)
 
 counted_flat_primary : Counted flat_primary
 unfolding flat_primary flat_reference
 counted_flat_primary = counted_either literal _ counted_literal (counted_parts flat_part)
 
 counted_deep_primary : (inner : Form Expression) → Counted (deep_primary inner)
-unfolding deep_primary deep_reference
-counted_deep_primary inner = counted_either literal _ counted_literal (counted_either _ (parenthesized inner) (counted_parts (deep_part inner)) (counted_parenthesized inner))
+unfolding deep_primary deep_reference parenthesized
+counted_deep_primary inner = counted_either literal _ counted_literal (counted_either _ (parenthesized inner) (counted_parts (deep_part inner)) (counted_as in_parentheses _ (λ us v s. tt)))
 
 counts_signed : (o : Option UnaryUse) (e : Expression) → Counts e → Counts (with_sign o e)
-counts_signed None e h = h
-counts_signed (Some operator) e h = tt
+counts_signed o e h = grind arith
 
 counted_unary : (primary : Form Expression) → Counted primary → Counted (unary primary)
 unfolding unary
 counted_unary primary h = counted_as (λ v. with_sign v.0 v.1) _ (λ us v s. counts_signed v.0 v.1 (h.counts s.1 v.1 s.4))
 
 counts_row : (e : Expression) (os : List (BinaryUse × Expression)) → Counts e → Counts (row_of e os)
-counts_row e [] h = h
-counts_row e (o ∷ os) h = tt
+counts_row e os h = grind arith
 
 counted_row : (kinds : List Kind) (x : Form Expression) → Counted x → Counted (row kinds x)
 unfolding row
@@ -79,8 +68,7 @@ counted_rows (kinds ∷ stronger) x h = counted_row kinds (rows stronger x) (cou
 
 counted_expression : (n : ℕ) → Counted (expression n)
 unfolding expression
-counted_expression zero = counted_rows strengths (unary flat_primary) (counted_unary flat_primary counted_flat_primary)
-counted_expression (suc n) = counted_rows strengths (unary (deep_primary (expression n))) (counted_unary (deep_primary (expression n)) (counted_deep_primary (expression n)))
+counted_expression n = grind (arith, counted_rows, counted_unary, counted_flat_primary, counted_deep_primary)
 
 pub subscripts_are_counted : SubscriptsAreCounted
 subscripts_are_counted text tree whole r subscripts among =

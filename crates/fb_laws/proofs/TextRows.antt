@@ -1,5 +1,5 @@
 -- Units whose text is broken, that are absent, and that are whole.
-use Rattle.fb_laws.proofs.Common.{◌≡◌, List, [], refl, sym, ap, subst, Contains, option_and_then, BodyTree, BrokenAt, IsBody, tree_of, faults_in_order, Syntax, Fault, all_reported, text_faults, contains_here, broken_alone, told, IsOfPart, AbsentUnitsHaveNoFaults, BrokenTextsAreReported, BrokenTextsAreReportedAlone, IsBroken, WholeTextsAreNotReported, broken_at}
+use Rattle.fb_laws.proofs.Common.{◌≡◌, List, [], refl, sym, subst, Contains, option_and_then, BodyTree, BrokenAt, IsBody, Syntax, Fault, contains_here, broken_alone, told, IsOfPart, AbsentUnitsHaveNoFaults, BrokenTextsAreReported, BrokenTextsAreReportedAlone, IsBroken, WholeTextsAreNotReported, broken_at}
 use Rattle.fb_laws.proofs.{CodeLemmas.{own_codes}, PartLemmas.{IsReported, is_found, no_text_code, of_part, of_text, whole_units}, Joined.{iff}}
 use Rattle.fb_deploy.proofs.Parse.Bodies.{one}
 
@@ -26,6 +26,4 @@ whole_not_reported sources unit decl there f c = by ((whole_units sources unit d
 
 -- an absent unit declares nothing
 pub absent_clean : AbsentUnitsHaveNoFaults
-absent_clean sources unit absent =
-    let declared = ap (option_and_then tree_of) absent in
-    λ i. faults_in_order (all_reported sources unit (text_faults (absent i)) (declared i))
+absent_clean sources unit absent = search (option_and_then)

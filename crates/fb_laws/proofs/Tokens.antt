@@ -1,15 +1,13 @@
 -- Parts that are written among tokens.
-use Rattle.fb_laws.proofs.Common.{ℕ, List, [], ◌∷◌, ◌++◌, sym, ap, ◌∙◌, append_assoc, AllByRecursion, Span, Lexeme, Part, part_span, BeginsAt, EndsAt, SpellsPart, IsWritten, append-nil}
+use Rattle.fb_laws.proofs.Common.{arith, ℕ, List, [], ◌∷◌, ◌++◌, sym, ap, ◌∙◌, append_assoc, AllByRecursion, Span, Lexeme, Part, part_span, BeginsAt, EndsAt, SpellsPart, IsWritten, append-nil}
 
 -- Where tokens begin and end
 
 pub begins_more : (us vs : List Lexeme) (place : ℕ) → BeginsAt us place → BeginsAt (us ++ vs) place
-begins_more [] vs place h = absurd h
-begins_more (u ∷ us) vs place h = h
+begins_more us vs place h = grind arith
 
 ends_next : (u : Lexeme) (us : List Lexeme) (place : ℕ) → EndsAt us place → EndsAt (u ∷ us) place
-ends_next u [] place h = absurd h
-ends_next u (v ∷ us) place h = h
+ends_next u us place h = grind arith
 
 pub ends_more : (us vs : List Lexeme) (place : ℕ) → EndsAt vs place → EndsAt (us ++ vs) place
 ends_more [] vs place h = h
@@ -27,15 +25,7 @@ pub written_whole : (us : List Lexeme) (p : Part) → Fills us (part_span p) →
 written_whole us p fills spells = record { before = []; inside = us; behind = []; parts = sym (append-nil us); begins = fills.begins; ends = fills.ends; spells = spells }
 
 written_left : (us vs : List Lexeme) (p : Part) → IsWritten us p → IsWritten (us ++ vs) p
-written_left us vs p h = record {
-  before = h.before;
-  inside = h.inside;
-  behind = h.behind ++ vs;
-  parts = ap (λ z. z ++ vs) h.parts ∙ append_assoc h.before (h.inside ++ h.behind) vs ∙ ap (λ z. h.before ++ z) (append_assoc h.inside h.behind vs);
-  begins = h.begins;
-  ends = h.ends;
-  spells = h.spells;
-}
+written_left us vs p h = grind (arith, append_assoc)
 
 written_right : (us vs : List Lexeme) (p : Part) → IsWritten vs p → IsWritten (us ++ vs) p
 written_right us vs p h = record {

@@ -79,13 +79,15 @@ sound_interface_section =
     sound_either _ _ contents_parts sound_data_section
     (sound_either _ _ contents_parts
     (sound_as of_adapters plugs contents_parts (sound_of plugs of_adapters (flat_map instance_parts) (λ P v h. each_instances P (flat_map instance_parts v) h) (sound_instances _ _ _)))
-    (sound_as of_adapters sockets contents_parts (sound_of sockets of_adapters (flat_map instance_parts) (λ P v h. each_instances P (flat_map instance_parts v) h) (sound_instances _ _ _))))
+    (sound_as of_adapters sockets contents_parts (sound_of sockets of_adapters (flat_map instance_parts) (λ P v h. each_instances P (flat_map instance_parts v) h)
+    (sound_instances _ _ _))))
 
 sound_network_section : Sound network_section contents_parts
 unfolding network_section blocks
 sound_network_section =
     sound_either _ _ contents_parts
-    (sound_as of_instances blocks contents_parts (sound_of blocks of_instances (flat_map instance_parts) (λ P v h. each_instances P (flat_map instance_parts v) h) (sound_instances _ _ _)))
+    (sound_as of_instances blocks contents_parts (sound_of blocks of_instances (flat_map instance_parts) (λ P v h. each_instances P (flat_map instance_parts v) h)
+    (sound_instances _ _ _)))
     (sound_as of_connections connections contents_parts (sound_of connections of_connections (flat_map connection_parts) (λ P v h. each_none P (flat_map connection_parts v) h) sound_connections))
 
 sound_chart_section : Sound chart_section contents_parts
@@ -102,13 +104,10 @@ unfolding block_section internal_variables
 sound_block_section =
     sound_either _ _ contents_parts sound_interface_section
     (sound_either _ _ contents_parts
-    (sound_as of_variables _ contents_parts (sound_of _ of_variables (flat_map variables_parts) (λ P v h. each_none P (flat_map variables_parts v) h) (sound_section _ _ _ variables_parts (sound_variables _))))
+    (sound_as of_variables _ contents_parts (sound_of _ of_variables (flat_map variables_parts) (λ P v h. each_none P (flat_map variables_parts v) h)
+    (sound_section _ _ _ variables_parts (sound_variables _))))
     (sound_either _ _ contents_parts sound_network_section
     (sound_either _ _ contents_parts sound_chart_section sound_service_section)))
-
-sound_adapter_section : Sound adapter_section contents_parts
-unfolding adapter_section
-sound_adapter_section = sound_either _ _ contents_parts sound_data_section sound_service_section
 
 sound_application_section : Sound application_section contents_parts
 unfolding application_section
@@ -134,21 +133,6 @@ sound_framed start section end h =
     (sound_before _ _ contents_parts
     (sound_as joined (many section) contents_parts
     (sound_same (many section) (flat_map contents_parts) (λ v. contents_parts (joined v)) each_section (sound_many section contents_parts h)))))
-
-sound_type : (start : Kind) (section : Form ContentsTree) (end : Kind) → Sound section contents_parts → Sound (framed start section end) (λ v. declared_parts (type_of v))
-sound_type start section end h = sound_framed start section end h
-
-sound_block : Sound block declared_parts
-unfolding block
-sound_block = sound_as type_of _ declared_parts (sound_type _ block_section _ sound_block_section)
-
-sound_adapter : Sound adapter declared_parts
-unfolding adapter
-sound_adapter = sound_as type_of _ declared_parts (sound_type _ adapter_section _ sound_adapter_section)
-
-sound_subapplication : Sound subapplication declared_parts
-unfolding subapplication
-sound_subapplication = sound_as type_of _ declared_parts (sound_type _ subapplication_section _ sound_subapplication_section)
 
 -- Systems
 
@@ -208,10 +192,11 @@ sound_structure =
 -- Units
 
 pub sound_unit : Sound unit tree_parts
-unfolding unit
+unfolding unit block adapter adapter_section subapplication
 sound_unit =
-    sound_either _ _ tree_parts (sound_as _ block tree_parts sound_block)
-    (sound_either _ _ tree_parts (sound_as _ adapter tree_parts sound_adapter)
-    (sound_either _ _ tree_parts (sound_as _ subapplication tree_parts sound_subapplication)
+    sound_either _ _ tree_parts (sound_as _ block tree_parts (sound_as type_of _ declared_parts (sound_framed _ block_section _ sound_block_section)))
+    (sound_either _ _ tree_parts (sound_as _ adapter tree_parts (sound_as type_of _ declared_parts (sound_framed _ adapter_section _
+    (sound_either _ _ contents_parts sound_data_section sound_service_section))))
+    (sound_either _ _ tree_parts (sound_as _ subapplication tree_parts (sound_as type_of _ declared_parts (sound_framed _ subapplication_section _ sound_subapplication_section)))
     (sound_either _ _ tree_parts (sound_as _ system tree_parts sound_system)
     (sound_as _ structure tree_parts sound_structure))))

@@ -1,5 +1,5 @@
 -- References that begin at no variable, and further names that are no fields, by what the list of faults has.
-use Rattle.fb_laws.proofs.Common.{◌≡◌, ℕ, zero, suc, Bool, true, false, true≢false, not, ◌||◌, List, [], ◌∷◌, ◌++◌, Some, refl, sym, ap, subst, ◌∙◌, append_assoc, Span, TypeTree, block_type, ReferenceTree, TypeUse, Member, Sources, tree_at, Code, MemberUnknown, VariableUnknown, Fault, DeclaredVariable, Demand, names_field, names_variable, is_field, is_known, is_met, alone_tree, referent_through, Names, names_of_type, referent_of, step, walk, names_span, through_second, Referent, Variable, Unjudged, NoMember, HasUnknownMember, HasUnknownVariable, IsNamedIn, in_reference, behind_for, MembersAreKnown, VariablesAreKnown, alone, subscripted, with_second, Begins, GoesOn, HasField, IsOpen}
+use Rattle.fb_laws.proofs.Common.{arith, ◌≡◌, ℕ, zero, suc, Bool, true, false, true≢false, not, ◌||◌, List, [], ◌∷◌, ◌++◌, Some, refl, sym, ap, subst, ◌∙◌, append_assoc, Span, TypeTree, block_type, ReferenceTree, TypeUse, Member, Sources, tree_at, Code, MemberUnknown, VariableUnknown, Fault, DeclaredVariable, Demand, names_field, names_variable, is_field, is_known, is_met, alone_tree, referent_through, Names, names_of_type, referent_of, step, walk, names_span, through_second, Referent, Variable, Unjudged, NoMember, HasUnknownMember, HasUnknownVariable, IsNamedIn, in_reference, behind_for, MembersAreKnown, VariablesAreKnown, alone, subscripted, with_second, Begins, GoesOn, HasField, IsOpen}
 use Rattle.fb_laws.proofs.ReferentLemmas.{Base, variable, not_judged_port, nothing, open_stays, unknown_stays, Looks, is_open, is_none, is_found, Starts, at_first, at_second, base_of, begins_known, begun, goes, is_judged, is_unknown, last_known, looks, none_begins, parts, start, told_field, told_goes, told_open, walked}
 use Rattle.fb_laws.proofs.{UnitDemands.{DemandOf, reference, field, behind_for as behind_for_demanded, reported, unmet}, Joined.{iff}}
 use Rattle.fb_deploy.specs.Iface.declared.code.Code.TheVariants.{Class}
@@ -111,16 +111,7 @@ module _ (sources : Sources) (unit : List ℕ) (d : TypeTree) (declared : tree_a
   wrong_in r base skipped behind starts before m others parted is fails =
       let first = walked sources unit d declared r base skipped behind starts before (m ∷ others) parted in
       let next = walked sources unit d declared r base skipped behind starts (before ++ m ∷ []) others (parted ∙ sym (append_assoc before (m ∷ []) others)) in
-      record {
-        base = base;
-        skipped = skipped;
-        behind = behind;
-        starts = starts;
-        before = before;
-        parted = parted;
-        is = ap is_field (sym first) ∙ is;
-        fails = ap is_field (sym (walk-append names base before (m ∷ [])) ∙ sym next ∙ ap (referent_through names r) (sym (append_assoc skipped before (m ∷ [])))) ∙ fails;
-      }
+      grind (arith, walk-append, append_assoc)
 
   -- data of a port, or what is not judged there, is a field
   first_field : (r : ReferenceTree) (base : Referent) (skipped behind : List Member) → Starts sources unit d declared r base skipped behind → is_field base ≡ true

@@ -1,6 +1,6 @@
 -- The count of more instances.
-use Rattle.std.proofs.Common.{ℕ, suc, ◌≡◌, ◌+◌, ◌<◌, List, [], ◌∷◌, ◌++◌, Option, Some, None, refl, sym, ◌∙◌, ap, subst, arith, length, min, take, get_or, append-nil, append_assoc, length-append}
-use Rattle.std.proofs.{lemmas.List.{take_more}, lemmas.List.Elements.{Contains-append_left, Contains-append_right, filter_map-append}}
+use Rattle.std.proofs.Common.{ℕ, ◌≡◌, ◌+◌, ◌<◌, List, [], ◌∷◌, ◌++◌, Option, Some, None, refl, sym, ◌∙◌, ap, subst, arith, length, min, take, get_or, append-nil, append_assoc, length-append}
+use Rattle.std.proofs.{lemmas.List.{take_more, length-map, map_push}, lemmas.List.Elements.{Contains-append_left, Contains-append_right, filter_map-append}}
 use Rattle.std.specs.{Prelude.{map, unwrap_or}, List.{cons_option}}
 use Rattle.fb_network.specs.{declared.count.TheConstants.{INSTANCE_LIMIT}, declared.network.InstanceKind.{InstanceKind}}
 use Rattle.fb_network.specs.{declared.network.InstanceKind.TheVariants.{Block, Subapplication}, declared.network.Instance.{Instance}, Plain.{PlainNetwork}}
@@ -16,10 +16,6 @@ instances-append (ThenBlock i rest others k more) b = ThenBlock i _ _ k (instanc
 instances-append {view = view} {ys = ys} {bs = bs} (ThenSubapplication i rest inner own others k d inside more) b =
     subst (λ (hs : List Held). AreInstances view (i ∷ (rest ++ ys)) (held_as i ∷ hs)) (sym (append_assoc (map (held_within i.name) own) others bs))
     (ThenSubapplication i (rest ++ ys) inner own (others ++ bs) k d inside (instances-append more b))
-
-length-within : (name : List ℕ) (hs : List Held) → length (map (held_within name) hs) ≡ length hs
-length-within name [] = refl
-length-within name (h ∷ hs) = ap suc (length-within name hs)
 
 pub count_block : {view : View} (xs : List Instance) (i : Instance) (n m : ℕ) → IsCount view xs n → i.kind ≡ Block → m ≡ min (n + 1) (INSTANCE_LIMIT + 1) → IsCount view (xs ++ i ∷ []) m
 count_block xs i n m c k e =
@@ -37,7 +33,7 @@ count_subapplication xs i inner n j m c k d own e =
       count_is =
           let len = length-append c.held (held_as i ∷ (map (held_within i.name) own.held ++ [])) in
           let more : length (map (held_within i.name) own.held ++ []) ≡ length (map (held_within i.name) own.held) + 0 = length-append (map (held_within i.name) own.held) [] in
-          let inside = length-within i.name own.held in
+          let inside = length-map own.held (held_within i.name) in
           let was = c.count_is in let inner_was = own.count_is in omega (arith, e, len, more, inside, was, inner_was);
     }
 
@@ -54,10 +50,6 @@ count_one {counts = counts} xs i n m c ready Subapplication g e =
 
 -- ---- instances of a text
 
-pushed : {X Y : Type 0} (f : X → Y) (xs : List X) (x : X) → map f (xs ++ x ∷ []) ≡ map f xs ++ f x ∷ []
-pushed f [] x = refl
-pushed f (y ∷ ys) x = ap (λ l. f y ∷ l) (pushed f ys x)
-
 pub mapped_twice : {X Y Z : Type 0} (f : Y → Z) (g : X → Y) (xs : List X) → map f (map g xs) ≡ map (λ x. f (g x)) xs
 mapped_twice f g [] = refl
 mapped_twice f g (x ∷ xs) = ap (λ l. f (g x) ∷ l) (mapped_twice f g xs)
@@ -65,7 +57,7 @@ mapped_twice f g (x ∷ xs) = ap (λ l. f (g x) ∷ l) (mapped_twice f g xs)
 -- one item of a list further
 pub mapped_further : {X Y : Type 0} (f : X → Y) (xs : List X) (i : ℕ) (x : X) → i < length xs → x ≡ get_or xs i x → map f (take i xs) ++ f x ∷ [] ≡ map f (take (i + 1) xs)
 mapped_further f xs i x within here =
-    sym (pushed f (take i xs) x) ∙ ap (map f) (ap (λ y. take i xs ++ y ∷ []) here ∙ sym (take_more xs i x within))
+    sym (map_push f (take i xs) x) ∙ ap (map f) (ap (λ y. take i xs ++ y ∷ []) here ∙ sym (take_more xs i x within))
 
 module _ (counts : List ℕ → Option ℕ) where
   pub nothing_further : (so_far : ℕ) → CountsOn counts so_far [] so_far

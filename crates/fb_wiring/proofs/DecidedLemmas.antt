@@ -1,5 +1,5 @@
 -- Deciding which names reach themselves, one round after another.
-use Rattle.std.proofs.Common.{◌≡◌, ℕ, Bool, true, false, cond, ◌||◌, List, [], ◌∷◌, ◌++◌, refl, sym, ap, subst, ◌∙◌}
+use Rattle.std.proofs.Common.{◌≡◌, ℕ, Bool, true, false, cond, ◌||◌, List, [], ◌∷◌, ◌++◌, sym, ap, subst, ◌∙◌, arith}
 use Rattle.std.proofs.lemmas.Bool.{false≢true, or_left, or_right}
 use Rattle.std.specs.List.{Contains}
 use Rattle.fb_tree.proofs.Text.Tests.{by_bool, or_cases, no_both}
@@ -15,18 +15,13 @@ stays : (b x : Bool) → b ≡ false → cond b false x ≡ x
 stays b x f = ap (λ c. cond c false x) f
 
 left_over : (b x : Bool) → cond b false x ≡ true → (b ≡ false) × (x ≡ true)
-left_over true x h = absurd (false≢true h)
-left_over false x h = (refl, h)
+left_over b x h = grind arith
 
 still_false : (b x : Bool) → x ≡ false → cond b false x ≡ false
-still_false true x h = refl
-still_false false x h = h
+still_false b x h = grind arith
 
 pub gone_twice : (a b c x : Bool) → cond a false (cond (b || c) false x) ≡ cond ((b || a) || c) false x
-gone_twice true true c x = refl
-gone_twice true false c x = refl
-gone_twice false true c x = refl
-gone_twice false false c x = refl
+gone_twice a b c x = grind arith
 
 pub IsDecided-begin : (next : List ℕ → List (List ℕ)) (undecided found : List (List ℕ)) → ((u : List ℕ) → has_name undecided u ≡ false → next u ≡ []) → found ≡ [] → IsDecided next undecided found
 IsDecided-begin next undecided found outside none =
@@ -60,15 +55,10 @@ module _ (next : List ℕ → List (List ℕ)) (undecided found undecided' found
       sound = λ u h. or_cases (has_name found u) (has_name round u) (sym (adds u) ∙ h)
           (decided.sound u)
           (λ t. let both = of_round u t in follow_both next both.1 both.0);
-      complete = λ u r. by_bool (has_name round u)
-          (λ t. or_right (has_name undecided' u) _ (adds u ∙ or_right (has_name found u) _ t))
-          (λ f. or_cases (has_name undecided u) (has_name found u) (decided.complete u r)
-          (λ t. by_bool (same u name)
-          (λ s.
-          let is = same_is u name s in
-          no_both (has_name round u) (in_round u (subst (λ (n : List ℕ). Follows next n u) is r) (subst (λ (n : List ℕ). Follows next u n) is r)) f)
-          (λ g. or_left (has_name undecided' u) _ (left u ∙ stays (has_name round u || same u name) _ (or_none (has_name round u) (same u name) f g) ∙ t)))
-          (λ t. or_right (has_name undecided' u) _ (adds u ∙ or_left (has_name found u) _ t)));
+      complete = λ u r.
+          let own : same u name ≡ true → has_name round u ≡ true = λ s. let is = same_is u name s in in_round u (subst (λ (n : List ℕ). Follows next n u) is r) (subst (λ (n : List ℕ). Follows next u n) is r) in
+          let was = decided.complete u r in
+          grind (arith, adds u, left u, own);
     }
 
   pub AreDecided-step : (names before : List (List ℕ)) → AreDecided names before undecided → AreDecided (names ++ name ∷ []) before undecided'

@@ -1,9 +1,9 @@
 -- The search that makes a graph: what it keeps.
-use Rattle.std.proofs.Common.{◌≡◌, ℕ, ◌<◌, Bool, true, false, cond, ◌||◌, ◌&&◌, List, [], ◌∷◌, ◌++◌, Option, Some, refl, sym, ap, subst, ◌∙◌, append_assoc, nat_cmp}
+use Rattle.std.proofs.Common.{◌≡◌, ℕ, ◌<◌, Bool, true, false, cond, ◌||◌, ◌&&◌, List, [], ◌∷◌, ◌++◌, Option, Some, refl, sym, ap, subst, ◌∙◌, append_assoc, nat_cmp, arith}
 use Rattle.std.proofs.{lemmas.Bool.{or_left, or_right}, lemmas.List.Elements.{Contains-append_left, Contains-append_right}}
 use Rattle.std.specs.{Option.{option_map_or}, BTreeMap.{Updates, get, is_at}, Map.{lookup}, Cmp.Lexicographic.{slice_cmp}, declared.vec.Vec.{Vec}}
 use Rattle.std.specs.declared.alloc.Global.{Global}
-use Rattle.fb_tree.proofs.Text.Tests.{by_bool, or_cases, or_assoc, or_false, no_both}
+use Rattle.fb_tree.proofs.Text.Tests.{by_bool, or_cases, or_assoc, or_false, no_both, and_true, and_false}
 use Rattle.fb_tree.specs.Text.Order.{name_cmp}
 use Rattle.fb_iface.proofs.{Library.SeenLemmas.{same, same_is, same_self}, Library.WalkLemmas.{Contains-has, has-Contains, has-push, mentioned_somewhere}}
 use Rattle.fb_iface.specs.{Library.View.{Sources, parts_at, parts_in}, Library.Seen.{has_name}}
@@ -46,8 +46,7 @@ no_edges edges none u = ap (λ es. option_map_or (λ (it : Vec (List ℕ) Global
 
 -- the edges after an insertion
 edges_of : (b : Bool) (new : Vec (List ℕ) Global) (old : Option (Vec (List ℕ) Global)) → option_map_or (λ (it : Vec (List ℕ) Global). it.items) (cond b (Some new) old) [] ≡ cond b new.items (option_map_or (λ (it : Vec (List ℕ) Global). it.items) old [])
-edges_of true new old = refl
-edges_of false new old = refl
+edges_of b new old = grind arith
 
 pub edges-updates : (old new : Edges) (w : List ℕ) (leads : Vec (List ℕ) Global) → Updates (slice_cmp nat_cmp) old new w (Some leads) → (u : List ℕ) → edges_at new u ≡ cond (same w u) leads.items (edges_at old u)
 edges-updates old new w leads updates u = ap (λ o. option_map_or (λ (it : Vec (List ℕ) Global). it.items) o []) (updates.0 u) ∙ edges_of (same w u) leads (get name_cmp old u)
@@ -61,21 +60,8 @@ edge_added old new from to had leads was is updates u =
     (λ t. ap (λ b. cond b leads.items (edges_at old u)) t ∙ is ∙ ap (λ l. l ++ to ∷ []) (sym was ∙ ap (edges_at old) (same_is from u t)) ∙ sym (ap (λ b. cond b (edges_at old u ++ to ∷ []) (edges_at old u)) t))
     (λ f. ap (λ b. cond b leads.items (edges_at old u)) f ∙ sym (ap (λ b. cond b (edges_at old u ++ to ∷ []) (edges_at old u)) f))
 
-and_true : (a b : Bool) → b ≡ true → (a && b) ≡ a
-and_true true b t = t
-and_true false b t = refl
-
-and_false : (a b : Bool) → b ≡ false → (a && b) ≡ false
-and_false true b f = f
-and_false false b f = refl
-
 or_and : (a b c d : Bool) → ((a || (b && d)) || (c && d)) ≡ (a || ((b || c) && d))
-or_and true b c d = refl
-or_and false true true true = refl
-or_and false true true false = refl
-or_and false true false true = refl
-or_and false true false false = refl
-or_and false false c d = refl
+or_and a b c d = grind arith
 
 -- one edge more, from x
 pub edge_more : (first old new : Edges) (from : List (List ℕ)) (x to : List ℕ) → ((u : List ℕ) → edges_at new u ≡ cond (same x u) (edges_at old u ++ to ∷ []) (edges_at old u)) → ((u v : List ℕ) → has_name (edges_at old u) v ≡ (has_name (edges_at first u) v || (has_name from u && same v to)))
@@ -130,12 +116,7 @@ module _ (sources : Sources) (begun : List (List ℕ)) where
     pub IsExplored-skip : step ≡ Enter w → has_name names w ≡ true → IsExplored sources begun names forth back steps
     IsExplored-skip is old =
         let at = at_popped (Enter w) is in
-        let still : (u : List ℕ) → (has_name names u || awaits (steps ++ Enter w ∷ []) u) ≡ true → (has_name names u || awaits steps u) ≡ true =
-        λ u h. or_cases (has_name names u) (awaits (steps ++ Enter w ∷ []) u) h
-        (λ t. or_left (has_name names u) _ t)
-        (λ a. or_cases (awaits steps u) (same u w) (sym (awaits-last steps w u) ∙ a)
-        (λ t. or_right (has_name names u) _ t)
-        (λ s. or_left (has_name names u) _ (ap (has_name names) (same_is u w s) ∙ old))) in
+        let still : (u : List ℕ) → (has_name names u || awaits (steps ++ Enter w ∷ []) u) ≡ true → (has_name names u || awaits steps u) ≡ true = λ u h. grind (arith, awaits-last steps w u, same_is u w, old) in
         record {
           begins = λ u h. still u (at.begins u h);
           closed = λ u v h m. still v (at.closed u v h m);
@@ -157,12 +138,7 @@ module _ (sources : Sources) (begun : List (List ℕ)) where
       grows u h = adds u ∙ or_left (has_name names u) _ h
 
       onward : (u : List ℕ) → (has_name names u || awaits (steps ++ Enter w ∷ []) u) ≡ true → (has_name names' u || awaits steps' u) ≡ true
-      onward u h =
-          or_cases (has_name names u) (awaits (steps ++ Enter w ∷ []) u) h
-          (λ t. or_left (has_name names' u) _ (grows u t))
-          (λ a. or_cases (awaits steps u) (same u w) (sym (awaits-last steps w u) ∙ a)
-          (λ t. or_right (has_name names' u) _ (awaits-opened u ∙ or_left (awaits steps u) _ t))
-          (λ s. or_left (has_name names' u) _ (adds u ∙ or_right (has_name names u) _ s)))
+      onward u h = grind (arith, awaits-last steps w u, awaits-opened u, adds u)
 
       pub explored_falls : fuel sources begun names' steps' < fuel sources begun names before
       explored_falls =
@@ -181,8 +157,10 @@ module _ (sources : Sources) (begun : List (List ℕ)) where
             (λ s.
             let unnamed : has_name names u ≡ false = ap (has_name names) (same_is u w s) ∙ new in
             let bare : has_name (edges_at back v) u ≡ false = explored.reverse u v ∙ ap (λ l. has_name l v) (explored.outside u unnamed) in
-            turns v u ∙ ap (λ b. b || (has_name leads v && same u w)) bare ∙ and_true (has_name leads v) (same u w) s ∙ ap (λ l. has_name l v) known ∙ sym (ap (λ l. has_name l v) (here u s)))
-            (λ f. turns v u ∙ ap (λ b. has_name (edges_at back v) u || b) (and_false (has_name leads v) (same u w) f) ∙ or_false (has_name (edges_at back v) u) ∙ explored.reverse u v ∙ sym (ap (λ l. has_name l v) (elsewhere u f)))
+            turns v u ∙ (λ i. bare i || (has_name (known i) v && s i)) ∙ and_true (has_name (parts_at sources w) v) ∙ sym (ap (λ l. has_name l v) (here u s)))
+            (λ f.
+            turns v u ∙ ap (λ b. has_name (edges_at back v) u || (has_name leads v && b)) f ∙ ap (λ b. has_name (edges_at back v) u || b) (and_false (has_name leads v))
+            ∙ or_false (has_name (edges_at back v) u) ∙ explored.reverse u v ∙ sym (ap (λ l. has_name l v) (elsewhere u f)))
 
         pub IsExplored-enter : IsExplored sources begun names' forth' back' steps'
         IsExplored-enter =

@@ -1,8 +1,8 @@
 -- What is found of a unit.
-use Rattle.std.proofs.Common.{ℕ, ◌≡◌, ◌<◌, ◌≤◌, ◌+◌, true, false, List, [], ◌∷◌, ◌++◌, Option, Some, None, Result, Ok, Err, refl, sym, ◌∙◌, ap, subst, arith, length, is_some, take, get_or, add-one}
+use Rattle.std.proofs.Common.{ℕ, ◌≡◌, ◌<◌, ◌≤◌, ◌+◌, true, false, List, [], ◌∷◌, ◌++◌, Option, Some, Result, Ok, Err, sym, ◌∙◌, ap, subst, arith, length, is_some, take, get_or, add-one}
 use Rattle.std.proofs.Math.Seq.{take-suc}
 use Rattle.std.specs.Prelude.{Contains, IfOk, option_map}
-use Rattle.fb_tree.specs.Tree.{DeclTree, block_type, adapter_type, subapplication_type, system_configuration, structure_type}
+use Rattle.fb_tree.specs.Tree.{DeclTree, system_configuration}
 use Rattle.fb_iface.specs.Library.View.{Sources, tree_at}
 use Rattle.fb_network.specs.{declared.count.TheConstants.{INSTANCE_LIMIT}, declared.network.Instance.{Instance}, Network.{View}}
 use Rattle.fb_network.specs.declared.application.FlatApplication.{FlatApplication}
@@ -27,23 +27,14 @@ not_too_large c le = record { held = c.held; holds = c.holds; within = let e = c
 
 -- the instances of a unit that is no system are those of its network
 pub own_of_type : (tree : DeclTree) → is_system_tree tree ≡ false → (network_of tree).instances ≡ own_instances tree
-own_of_type (block_type d) e = refl
-own_of_type (adapter_type d) e = refl
-own_of_type (subapplication_type d) e = refl
-own_of_type (system_configuration s) e = absurd (let no : ⊥ = cc in no)
-own_of_type (structure_type s) e = refl
+own_of_type tree e = grind arith
 
 pub own_of_system : (tree : DeclTree) → is_system_tree tree ≡ true → instances_in (applications_of tree) ≡ own_instances tree
-own_of_system (block_type d) e = absurd (let no : ⊥ = cc in no)
-own_of_system (adapter_type d) e = absurd (let no : ⊥ = cc in no)
-own_of_system (subapplication_type d) e = absurd (let no : ⊥ = cc in no)
-own_of_system (system_configuration s) e = refl
-own_of_system (structure_type s) e = absurd (let no : ⊥ = cc in no)
+own_of_system tree e = grind arith
 
 -- what a map gives something of is something
 pub some_of_map : {X Y : Type 0} (f : X → Y) (o : Option X) (y : Y) → option_map f o ≡ Some y → is_some o ≡ true
-some_of_map f None y e = absurd (let no : ⊥ = cc in no)
-some_of_map f (Some x) y e = refl
+some_of_map f o y e = grind arith
 
 -- one application further
 pub applications_further : {view : View} (applications : List Application) (i : ℕ) (a : Application) (flats : List FlatApplication) → i < length applications → a ≡ get_or applications i a → AreFlatApplications view (take i applications ++ a ∷ []) flats → AreFlatApplications view (take (i + 1) applications) flats
@@ -63,9 +54,6 @@ if_ok (Err e) f h = tt
 
 -- the instances of an application are the unit's own
 pub own_of_application : (tree : DeclTree) (a : Application) (i : Instance) → Contains (applications_of tree) a → Contains a.network.instances i → Contains (own_instances tree) i
-own_of_application (block_type d) a i c h = absurd (contains_nothing a c)
-own_of_application (adapter_type d) a i c h = absurd (contains_nothing a c)
-own_of_application (subapplication_type d) a i c h = absurd (contains_nothing a c)
 own_of_application (system_configuration s) a i c h =
     contains_flat_map (λ (x : Application). x.network.instances) (applications_of (system_configuration s)) a i c h
-own_of_application (structure_type s) a i c h = absurd (contains_nothing a c)
+own_of_application other a i c h = absurd (contains_nothing a c)

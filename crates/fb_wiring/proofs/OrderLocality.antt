@@ -1,5 +1,5 @@
 -- Recursion depends on the texts that a unit rests on alone.
-use Rattle.std.proofs.Common.{◌≡◌, ℕ, List, sym, subst}
+use Rattle.std.proofs.Common.{ℕ, List, sym, subst}
 use Rattle.std.specs.List.{Contains}
 use Rattle.fb_iface.specs.{Library.View.{Sources, parts_at}, Library.Local.{AgreeFar}, Library.Rests.{Rests, itself, through}}
 use Rattle.fb_iface.proofs.Library.Locality.{far_local, part_mention, rests_both, same_parts}

@@ -29,15 +29,6 @@ module _ (next : List ℕ → List (List ℕ)) (unit : List ℕ) where
     pub IsWalk-step : IsWalk next unit seen (pending ++ name ∷ []) → Opens (next name) seen pending seen' pending' → IsWalk next unit seen' pending'
     IsWalk-step walk opens =
         let named : (has_name seen name || same name unit) ≡ true = walk.within name (has-push pending name name ∙ or_right (has_name pending name) (same name name) (same_self name)) in
-        let grows : (q : List ℕ) → has_name seen q ≡ true → has_name seen' q ≡ true = λ q h. opens.marks q ∙ or_left (has_name seen q) _ h in
-        let wide : (q : List ℕ) → (has_name seen q || same q unit) ≡ true → (has_name seen' q || same q unit) ≡ true =
-        λ q h. or_cases (has_name seen q) (same q unit) h (λ l. or_left (has_name seen' q) _ (grows q l)) (λ r. or_right (has_name seen' q) _ r) in
-        let on : (q w : List ℕ) → (has_name seen q || same q unit) ≡ true → has_name pending' q ≡ false → has_name (next q) w ≡ true → has_name seen' w ≡ true =
-        λ q w t o m. by_bool (same q name)
-        (λ is. opens.marks w ∙ or_right (has_name seen w) _ (sym (ap (λ n. has_name (next n) w) (same_is q name is)) ∙ m))
-        (λ other. by_bool (has_name pending q)
-        (λ p. no_both (has_name pending' q) (opens.keeps q p) o)
-        (λ p. grows w (walk.closed q w t (has-push pending name q ∙ ap (λ b. b || same q name) p ∙ other) m))) in
         record {
           sound = λ q h. or_cases (has_name seen q) (has_name (next name) q) (sym (opens.marks q) ∙ h)
               (walk.sound q)
@@ -46,14 +37,13 @@ module _ (next : List ℕ → List (List ℕ)) (unit : List ℕ) where
               or_cases (has_name seen name) (same name unit) named
               (λ l. more (walk.sound name l) leads)
               (λ is. one (subst (λ (n : List ℕ). Contains (next n) q) (same_is name unit is) leads)));
-          within = λ q h. or_cases (has_name pending q) (has_name (next name) q) (opens.only q h)
-              (λ o. wide q (walk.within q (has-push pending name q ∙ or_left (has_name pending q) (same q name) o)))
-              (λ m. or_left (has_name seen' q) _ (opens.marks q ∙ or_right (has_name seen q) _ m));
-          closed = λ q w s o m. by_bool (has_name seen q)
-              (λ t. on q w (or_left (has_name seen q) _ t) o m)
-              (λ f. or_cases (has_name seen' q) (same q unit) s
-              (λ s'. no_both (has_name pending' q) (opens.opened q s' f) o)
-              (λ is. on q w (or_right (has_name seen q) _ is) o m));
+          within = λ q h. let only = opens.only q h in grind (arith, opens.marks q, walk.within q, has-push pending name q);
+          closed = λ q w s o m.
+              let on : same q name ≡ true → has_name (next name) w ≡ true = λ is. sym (ap (λ n. has_name (next n) w) (same_is q name is)) ∙ m in
+              let opened = opens.opened q in
+              let kept = opens.keeps q in
+              let closed = walk.closed q w in
+              grind (arith, opens.marks q, opens.marks w, has-push pending name q);
         }
 
     -- a name that no edge leaves

@@ -1,16 +1,16 @@
 -- The search: what it keeps, and that it ends.
-use Rattle.std.proofs.Common.{◌≡◌, ℕ, ◌+◌, ◌<◌, ◌≤◌, Bool, true, false, cond, ◌||◌, List, [], ◌∷◌, ◌++◌, length, refl, sym, ap, subst, ◌∙◌, arith, length-append, append_assoc}
+use Rattle.std.proofs.Common.{◌≡◌, ℕ, ◌+◌, ◌<◌, ◌≤◌, true, false, cond, ◌||◌, List, [], ◌∷◌, ◌++◌, length, refl, sym, ap, subst, ◌∙◌, arith, length-append, append_assoc}
 use Rattle.std.proofs.lemmas.List.Elements.{Contains-append_left, Contains-append_right}
 use Rattle.std.proofs.{lemmas.Bool.{false≢true, or_left, or_right}, lemmas.List.{map_push, length-map}}
 use Rattle.std.specs.List.{Contains}
-use Rattle.fb_tree.proofs.Text.Tests.{by_bool, or_cases, or_assoc, or_false, no_both}
+use Rattle.fb_tree.proofs.Text.Tests.{or_cases, or_false}
 use Rattle.fb_iface.proofs.{Library.SeenLemmas.{same, same_is, same_self}, Library.WalkLemmas.{Contains-has, has-Contains, has-push, mentioned_somewhere}}
 use Rattle.fb_iface.proofs.Library.Locality.{parts_more}
 use Rattle.fb_iface.specs.{Library.View.{Sources, parts_at, parts_in}, Library.Rests.{PartRests, on_itself, through_part}, Library.Seen.{has_name}}
 use Rattle.fb_iface.specs.Library.Near.{in_all_trees}
 use Rattle.fb_wiring.specs.{Order.{IsOrdered}, Reaches.{SomePartRests, SomePartRestsOnRecursive}, Steps.{enters}, declared.search.Step.{Step}}
 use Rattle.fb_wiring.specs.declared.search.Step.TheVariants.{Enter, Leave}
-use Rattle.fb_wiring.proofs.{NameLemmas.{or_none_right, or_swap}, OrderLemmas.{IsOrdered-none, IsOrdered-push, all_listed, not_recursive}}
+use Rattle.fb_wiring.proofs.{NameLemmas.{or_none_right}, OrderLemmas.{IsOrdered-none, IsOrdered-push, all_listed, not_recursive}}
 use Rattle.fb_wiring.proofs.StackLemmas.{has_step, on_path, has_step-append, on_path-append, has_step-enters, on_path-enters, Stands, enters_stand, skips, opens, leaves, unlisted_last, ready_last, meets}
 
 -- ---- the steps of a list of names
@@ -21,14 +21,6 @@ enters_more before steps names x is =
 -- ---- names of steps
 kept : (steps more : List Step) (q : List ℕ) → has_step steps q ≡ true → has_step (steps ++ more) q ≡ true
 kept steps more q h = has_step-append steps more q ∙ or_left (has_step steps q) _ h
-
-last_enter : {P : Type 0} (steps : List Step) (w q : List ℕ) → has_step (steps ++ Enter w ∷ []) q ≡ true → (has_step steps q ≡ true → P) → (q ≡ w → P) → P
-last_enter steps w q h before here =
-    or_cases (has_step steps q) (same q w || false) (sym (has_step-append steps (Enter w ∷ []) q) ∙ h) before (λ s. here (same_is q w (sym (or_false (same q w)) ∙ s)))
-
-last_leave : {P : Type 0} (steps : List Step) (w q : List ℕ) → has_step (steps ++ Leave w ∷ []) q ≡ true → (has_step steps q ≡ true → P) → (same q w ≡ true → P) → P
-last_leave steps w q h before here =
-    or_cases (has_step steps q) (same q w || false) (sym (has_step-append steps (Leave w ∷ []) q) ∙ h) before (λ s. here (sym (or_false (same q w)) ∙ s))
 
 there_last : (steps : List Step) (w : List ℕ) → has_step (steps ++ Enter w ∷ []) w ≡ true
 there_last steps w = has_step-append steps (Enter w ∷ []) w ∙ or_right (has_step steps w) _ (or_left (same w w) false (same_self w))
@@ -77,14 +69,8 @@ module _ (sources : Sources) (names : List (List ℕ)) where
           stands = skips sources order [] steps w listed s.stands;
           marked = λ q. s.marked q ∙ ap (λ b. has_name order q || b) (path_without steps w q);
           same_left = s.same_left;
-          begun = λ q h. or_cases (has_name order q) (has_step (steps ++ Enter w ∷ []) q) (s.begun q h)
-              (λ l. or_left (has_name order q) _ l)
-              (λ a. last_enter steps w q a
-              (λ b. or_right (has_name order q) _ b)
-              (λ is. or_left (has_name order q) _ (ap (has_name order) is ∙ listed)));
-          sound = λ q h. s.sound q (or_cases (has_name order q) (has_step steps q) h
-              (λ l. or_left (has_name order q) _ l)
-              (λ a. or_right (has_name order q) _ (kept steps (Enter w ∷ []) q a)));
+          begun = λ q h. let was = s.begun q h in grind (arith, has_step-append steps (Enter w ∷ []) q, same_is q w, listed);
+          sound = λ q h. s.sound q (grind (arith, has_step-append steps (Enter w ∷ []) q));
         }
 
     -- a new name is entered
@@ -97,16 +83,9 @@ module _ (sources : Sources) (names : List (List ℕ)) where
         record {
           ordered = s.ordered;
           stands = opens sources order [] steps w unlisted off s.stands;
-          marked = λ q. adds q
-              ∙ ap (λ b. b || same q w) (s.marked q ∙ ap (λ b. has_name order q || b) (path_without steps w q))
-              ∙ sym (or_assoc (has_name order q) (on_path steps q) (same q w))
-              ∙ ap (λ b. has_name order q || b) (sym (path_with steps w (parts_at sources w) q));
+          marked = λ q. grind (arith, adds q, s.marked q, path_without steps w q, path_with steps w (parts_at sources w) q);
           same_left = s.same_left;
-          begun = λ q h. or_cases (has_name order q) (has_step (steps ++ Enter w ∷ []) q) (s.begun q h)
-              (λ l. or_left (has_name order q) _ l)
-              (λ a. or_right (has_name order q) _ (last_enter steps w q a
-              (λ b. kept steps (Leave w ∷ enters (parts_at sources w)) q b)
-              (λ is. has_step-append steps (Leave w ∷ enters (parts_at sources w)) q ∙ or_right (has_step steps q) _ (or_left (same q w) _ (ap (λ n. same n w) is ∙ same_self w)))));
+          begun = λ q h. let was = s.begun q h in grind (arith, has_step-append steps (Enter w ∷ []) q, has_step-append steps (Leave w ∷ enters (parts_at sources w)) q);
           sound = λ q h. or_cases (has_name order q) (has_step (steps ++ Leave w ∷ enters (parts_at sources w)) q) h
               (λ l. s.sound q (or_left (has_name order q) _ l))
               (λ a. or_cases (has_step steps q) (same q w || has_step (enters (parts_at sources w)) q) (sym (has_step-append steps (Leave w ∷ enters (parts_at sources w)) q) ∙ a)
@@ -121,31 +100,17 @@ module _ (sources : Sources) (names : List (List ℕ)) where
     IsSearch-leave left' v s adds = record {
       ordered = IsOrdered-push sources order v s.ordered (unlisted_last sources order [] steps v s.stands) (ready_last sources order [] steps v s.stands);
       stands = leaves sources order [] steps v s.stands;
-      marked = λ q. s.marked q
-          ∙ ap (λ b. has_name order q || b) (path_with steps v [] q)
-          ∙ or_assoc (has_name order q) (on_path steps q) (same q v)
-          ∙ or_swap (has_name order q) (on_path steps q) (same q v)
-          ∙ ap (λ b. b || on_path steps q) (sym (has-push order v q));
+      marked = λ q. grind (arith, s.marked q, path_with steps v [] q, has-push order v q);
       same_left = λ q. adds q ∙ ap (λ b. b || same q v) (s.same_left q) ∙ sym (has-push order v q);
-      begun = λ q h. or_cases (has_name order q) (has_step (steps ++ Leave v ∷ []) q) (s.begun q h)
-          (λ l. or_left (has_name (order ++ v ∷ []) q) _ (has-push order v q ∙ or_left (has_name order q) _ l))
-          (λ a. last_leave steps v q a
-          (λ b. or_right (has_name (order ++ v ∷ []) q) _ b)
-          (λ is. or_left (has_name (order ++ v ∷ []) q) _ (has-push order v q ∙ or_right (has_name order q) _ is)));
-      sound = λ q h. or_cases (has_name (order ++ v ∷ []) q) (has_step steps q) h
-          (λ l. or_cases (has_name order q) (same q v) (sym (has-push order v q) ∙ l)
-          (λ b. s.sound q (or_left (has_name order q) _ b))
-          (λ is. s.sound q (or_right (has_name order q) _ (has_step-append steps (Leave v ∷ []) q ∙ or_right (has_step steps q) _ (or_left (same q v) false is)))))
-          (λ a. s.sound q (or_right (has_name order q) _ (kept steps (Leave v ∷ []) q a)));
+      begun = λ q h. let was = s.begun q h in grind (arith, has_step-append steps (Leave v ∷ []) q, has-push order v q);
+      sound = λ q h. s.sound q (grind (arith, has_step-append steps (Leave v ∷ []) q, has-push order v q));
     }
 
     -- a name that is entered again before it was left reaches itself
     pub found_again : (w : List ℕ) → IsSearch sources names entered left order (steps ++ Enter w ∷ []) → has_name left w ≡ false → has_name entered w ≡ true → SomePartRestsOnRecursive sources names
     found_again w s unleft old =
         let rests : SomePartRests sources names w = s.sound w (or_right (has_name order w) _ (there_last steps w)) in
-        let on : on_path steps w ≡ true = or_cases (has_name order w) (on_path steps w) (sym (s.marked w ∙ ap (λ b. has_name order w || b) (path_without steps w w)) ∙ old)
-        (λ l. no_both (has_name left w) (s.same_left w ∙ l) unleft)
-        (λ p. p) in
+        let on : on_path steps w ≡ true = grind (arith, s.marked w, s.same_left w, path_without steps w w) in
         (w, (rests, meets sources order [] steps w s.stands on))
 
   -- ---- at the end
@@ -165,55 +130,20 @@ module _ (sources : Sources) (names : List (List ℕ)) where
 abbrev weight : Sources → List ℕ → ℕ
 weight sources x = length (parts_at sources x) + 2
 
-part : Bool → ℕ → ℕ
-part b n = cond b 0 n
-
-part-true : (b : Bool) (n : ℕ) → b ≡ true → part b n ≡ 0
-unfolding part
-part-true b n e = ap (λ x. cond x 0 n) e
-
-part-false : (b : Bool) (n : ℕ) → b ≡ false → part b n ≡ n
-unfolding part
-part-false b n e = ap (λ x. cond x 0 n) e
-
-part_falls : (b c : Bool) (n : ℕ) → (b ≡ true → c ≡ true) → part c n ≤ part b n
-part_falls true c n h = let e = part-true c n (h refl) in omega (arith, e)
-part_falls false true n h = let e = part-true true n refl in omega (arith, e)
-part_falls false false n h = omega arith
-
 pub cost : Sources → List (List ℕ) → List (List ℕ) → ℕ
 cost sources entered [] = 0
-cost sources entered (x ∷ xs) = part (has_name entered x) (weight sources x) + cost sources entered xs
-
-no_more : (a b m n : ℕ) → a ≤ b → m ≤ n → a + m ≤ b + n
-no_more a b m n h k = omega arith
-
-here_less : (a b w m n : ℕ) → a ≡ 0 → b ≡ w → m ≤ n → (a + m) + w ≤ b + n
-here_less a b w m n e f h = omega arith
-
-later_less : (a b w m n : ℕ) → a ≤ b → m + w ≤ n → (a + m) + w ≤ b + n
-later_less a b w m n h k = omega arith
+cost sources entered (x ∷ xs) = cond (has_name entered x) 0 (weight sources x) + cost sources entered xs
 
 module _ (sources : Sources) (entered entered' : List (List ℕ)) (grows : (q : List ℕ) → has_name entered q ≡ true → has_name entered' q ≡ true) where
   cost_falls : (all : List (List ℕ)) → cost sources entered' all ≤ cost sources entered all
   unfolding cost
   cost_falls [] = omega arith
-  cost_falls (y ∷ all) = no_more _ _ _ _ (part_falls (has_name entered y) (has_name entered' y) (weight sources y) (grows y)) (cost_falls all)
+  cost_falls (y ∷ all) = grind (arith, cost_falls all, grows y)
 
   cost_less : (x : List ℕ) → has_name entered x ≡ false → has_name entered' x ≡ true → (all : List (List ℕ)) → has_name all x ≡ true → cost sources entered' all + weight sources x ≤ cost sources entered all
   unfolding cost
   cost_less x new now [] there = absurd (false≢true there)
-  cost_less x new now (y ∷ all) there =
-      by_bool (same x y)
-      (λ s.
-      let is = same_is x y s in
-      here_less _ _ _ _ _
-      (part-true (has_name entered' y) (weight sources y) (ap (has_name entered') (sym is) ∙ now))
-      (part-false (has_name entered y) (weight sources y) (ap (has_name entered) (sym is) ∙ new) ∙ ap (weight sources) (sym is))
-      (cost_falls all))
-      (λ f.
-      later_less _ _ _ _ _ (part_falls (has_name entered y) (has_name entered' y) (weight sources y) (grows y))
-      (cost_less x new now all (ap (λ b. b || has_name all x) (sym f) ∙ there)))
+  cost_less x new now (y ∷ all) there = grind (arith, cost_less x new now all, cost_falls all, same_is x y, grows y)
 
 -- ---- the names that can be entered
 abbrev pub all_parts : Sources → List (List ℕ)

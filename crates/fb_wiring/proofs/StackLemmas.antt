@@ -1,5 +1,5 @@
 -- The steps that are left: what a search keeps of them.
-use Rattle.std.proofs.{Common.{◌≡◌, ℕ, Bool, true, false, ◌||◌, List, [], ◌∷◌, ◌++◌, refl, sym, ap, subst, ◌∙◌}, lemmas.Bool.{or_left, or_right}}
+use Rattle.std.proofs.{Common.{◌≡◌, ℕ, Bool, true, false, ◌||◌, List, [], ◌∷◌, ◌++◌, refl, sym, ap, subst, ◌∙◌, arith}, lemmas.Bool.{or_left, or_right}}
 use Rattle.std.specs.List.{Contains}
 use Rattle.fb_tree.proofs.Text.Tests.{or_cases, or_assoc, or_false}
 use Rattle.fb_iface.proofs.{Library.SeenLemmas.{same, same_is, same_self}, Library.WalkLemmas.{Contains-has, has-Contains, has-push}}
@@ -74,12 +74,8 @@ module _ (sources : Sources) where
     record {
       reached = h.0.reached;
       unlisted = h.0.unlisted;
-      once = or_none_left (on_path steps u) false (sym (on_path-append steps (Enter w ∷ []) u) ∙ h.0.once);
-      covered = λ q m. or_cases (has_name order q) (has_step (steps ++ Enter w ∷ []) q) (h.0.covered q m)
-          (λ l. or_left (has_name order q) (has_step steps q) l)
-          (λ a. or_cases (has_step steps q) (same q w || false) (sym (has_step-append steps (Enter w ∷ []) q) ∙ a)
-          (λ b. or_right (has_name order q) (has_step steps q) b)
-          (λ s. or_left (has_name order q) (has_step steps q) (ap (has_name order) (same_is q w (sym (or_false (same q w)) ∙ s)) ∙ listed)));
+      once = let was = h.0.once in grind (arith, on_path-append steps (Enter w ∷ []) u);
+      covered = λ q m. let was = h.0.covered q m in grind (arith, has_step-append steps (Enter w ∷ []) q, same_is q w, listed);
     },
     skips order (u ∷ path) steps w listed h.1,
   )
@@ -105,15 +101,8 @@ module _ (sources : Sources) where
         record {
           reached = h.0.reached;
           unlisted = h.0.unlisted;
-          once = on_path-append steps (Leave w ∷ enters (parts_at sources w)) u
-              ∙ or_none (on_path steps u) _ (or_none_left (on_path steps u) false (sym (on_path-append steps (Enter w ∷ []) u) ∙ h.0.once))
-              (or_none (same u w) _ other (on_path-enters (parts_at sources w) u));
-          covered = λ q m. or_cases (has_name order q) (has_step (steps ++ Enter w ∷ []) q) (h.0.covered q m)
-              (λ l. or_left (has_name order q) _ l)
-              (λ a. or_right (has_name order q) _ (has_step-append steps (Leave w ∷ enters (parts_at sources w)) q
-              ∙ or_cases (has_step steps q) (same q w || false) (sym (has_step-append steps (Enter w ∷ []) q) ∙ a)
-              (λ b. or_left (has_step steps q) _ b)
-              (λ s. or_right (has_step steps q) _ (or_left (same q w) _ (sym (or_false (same q w)) ∙ s)))));
+          once = let was = h.0.once in grind (arith, other, on_path-append steps (Leave w ∷ enters (parts_at sources w)) u, on_path-append steps (Enter w ∷ []) u, on_path-enters (parts_at sources w) u);
+          covered = λ q m. let was = h.0.covered q m in grind (arith, has_step-append steps (Leave w ∷ enters (parts_at sources w)) q, has_step-append steps (Enter w ∷ []) q);
         },
         opens order (u ∷ path) steps w unlisted (or_none_right (same w u) (on_path steps w) off) h.1,
       )
@@ -129,11 +118,7 @@ module _ (sources : Sources) where
           reached = h.0.reached;
           unlisted = has-push order v u ∙ or_none (has_name order u) (same u v) h.0.unlisted other;
           once = or_none_left (on_path steps u) (same u v || false) apart;
-          covered = λ q m. or_cases (has_name order q) (has_step (steps ++ Leave v ∷ []) q) (h.0.covered q m)
-              (λ l. or_left (has_name (order ++ v ∷ []) q) _ (has-push order v q ∙ or_left (has_name order q) (same q v) l))
-              (λ a. or_cases (has_step steps q) (same q v || false) (sym (has_step-append steps (Leave v ∷ []) q) ∙ a)
-              (λ b. or_right (has_name (order ++ v ∷ []) q) _ b)
-              (λ s. or_left (has_name (order ++ v ∷ []) q) _ (has-push order v q ∙ or_right (has_name order q) (same q v) (sym (or_false (same q v)) ∙ s))));
+          covered = λ q m. let was = h.0.covered q m in grind (arith, has_step-append steps (Leave v ∷ []) q, has-push order v q);
         },
         leaves order (u ∷ path) steps v h.1,
       )

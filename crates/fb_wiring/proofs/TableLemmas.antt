@@ -1,12 +1,12 @@
 -- One more name of a table.
-use Rattle.std.proofs.Common.{ℕ, ◌≡◌, ◌<◌, ◌+◌, Bool, true, false, is_some, List, [], ◌∷◌, ◌++◌, Option, Some, None, ◌⊎◌, inl, inr, refl, sym, ◌∙◌, ap, subst, take, get_or, length, add-one}
+use Rattle.std.proofs.Common.{ℕ, ◌≡◌, ◌<◌, ◌+◌, true, false, is_some, List, [], ◌∷◌, ◌++◌, Option, Some, None, inl, inr, sym, ◌∙◌, ap, subst, take, get_or, length, add-one, arith}
 use Rattle.std.proofs.{lemmas.List.Elements.{Contains-push_cases}, Math.Seq.{take-suc}}
-use Rattle.std.specs.{Prelude.{Contains}, BTreeMap.{is_at}}
+use Rattle.std.specs.{BTreeMap.{is_at}}
 use Rattle.fb_tree.specs.Text.Order.{name_cmp}
 use Rattle.fb_iface.specs.Library.View.{Sources}
 use Rattle.fb_network.specs.{declared.network.Port.{Port}, Plain.{PlainNetwork}, Network.{View}}
 use Rattle.fb_network.proofs.Equals.{same_bytes}
-use Rattle.fb_tree.proofs.Text.Members.{contains_nothing}
+use Rattle.fb_tree.proofs.{Text.Members.{contains_nothing}, Text.Tests.{by_bool}}
 use Rattle.fb_wiring.specs.{ByName.{declared}, Tables.{Grows, Has, HasAdapter, HasAdapters, HasType, IsTable, IsTrue}}
 
 pub nothing_true : (sources : Sources) (table : View) → ((name : List ℕ) → table name ≡ None) → IsTrue sources table
@@ -24,11 +24,7 @@ has_none sources table name none network d = absurd (let no : ⊥ = cc in no)
 
 -- a name that is in the table
 pub has_there : (sources : Sources) (table : View) (name : List ℕ) → IsTrue sources table → is_some (table name) ≡ true → Has sources table name
-has_there sources table name is_true some network d = by (table name) refl some
-  where
-    by : (o : Option PlainNetwork) → table name ≡ o → is_some o ≡ true → table name ≡ Some network
-    by None e s = absurd (let no : ⊥ = cc in no)
-    by (Some it) e s = let same = is_true name it e in cc
+has_there sources table name is_true some network d = grind (arith, is_true name)
 
 -- a name whose network is added
 module _ (sources : Sources) (old new : View) (name : List ℕ) (network : PlainNetwork) (d : declared sources name ≡ Some network) (is : new name ≡ Some network) (others : (q : List ℕ) → is_at (name_cmp name) q ≡ false → new q ≡ old q) where
@@ -36,21 +32,14 @@ module _ (sources : Sources) (old new : View) (name : List ℕ) (network : Plain
   put_has it e = is ∙ sym d ∙ e
 
   pub put_grows : IsTrue sources old → Grows sources old new
-  put_grows old_true = record { is_true = is_true; keeps = keeps }
-    where
-      is_true : IsTrue sources new
-      is_true q it e = by_test (is_at (name_cmp name) q) refl
-        where
-          by_test : (b : Bool) → is_at (name_cmp name) q ≡ b → declared sources q ≡ Some it
-          by_test true s = let same = same_bytes name q s in ap (declared sources) (sym same) ∙ d ∙ sym is ∙ ap new same ∙ e
-          by_test false s = old_true q it (sym (others q s) ∙ e)
-
-      keeps : (q : List ℕ) → Has sources old q → Has sources new q
-      keeps q had it e = by_test (is_at (name_cmp name) q) refl
-        where
-          by_test : (b : Bool) → is_at (name_cmp name) q ≡ b → new q ≡ Some it
-          by_test true s = let same = same_bytes name q s in ap new (sym same) ∙ is ∙ sym d ∙ ap (declared sources) same ∙ e
-          by_test false s = others q s ∙ had it e
+  put_grows old_true = record {
+    is_true = λ q it e. by_bool (is_at (name_cmp name) q)
+        (λ s. let same = same_bytes name q s in ap (declared sources) (sym same) ∙ d ∙ sym is ∙ ap new same ∙ e)
+        (λ f. old_true q it (sym (others q f) ∙ e));
+    keeps = λ q had it e. by_bool (is_at (name_cmp name) q)
+        (λ s. let same = same_bytes name q s in ap new (sym same) ∙ is ∙ sym d ∙ ap (declared sources) same ∙ e)
+        (λ f. others q f ∙ had it e);
+  }
 
 -- the adapter of a port
 pub adapter_is : (sources : Sources) (table : View) (adapter : Option (List ℕ)) (name : List ℕ) → adapter ≡ Some name → Has sources table name → HasAdapter sources table adapter
@@ -68,11 +57,8 @@ adapters_kept ports grows has port c name e = grows.keeps name (has port c name 
 
 -- one port further
 pub adapters_more : (sources : Sources) (table : View) (ports : List Port) (port : Port) → HasAdapters sources table ports → HasAdapter sources table port.adapter → HasAdapters sources table (ports ++ port ∷ [])
-adapters_more sources table ports port all one q c name e = by_case (Contains-push_cases ports port q c)
-  where
-    by_case : Contains ports q ⊎ (port ≡ q) → Has sources table name
-    by_case (inl h) = all q h name e
-    by_case (inr s) = one name (ap (λ (p : Port). p.adapter) s ∙ e)
+adapters_more sources table ports port all one q c name e =
+    elim (Contains-push_cases ports port q c) [ inl h ↦ all q h name e | inr s ↦ one name (ap (λ (p : Port). p.adapter) s ∙ e) ]
 
 -- types
 pub type_kept : {sources : Sources} {old new : View} (name : List ℕ) → Grows sources old new → HasType sources old name → HasType sources new name
@@ -91,14 +77,10 @@ table_nothing table is_true = record { is_true = is_true; types = λ name c. abs
 
 -- one type further
 pub table_more : {sources : Sources} {old new : View} (names : List (List ℕ)) (name : List ℕ) → IsTable sources old names → Grows sources old new → HasType sources new name → IsTable sources new (names ++ name ∷ [])
-table_more {sources = sources} {new = new} names name t grows has = record { is_true = grows.is_true; types = types }
-  where
-    types : (q : List ℕ) → Contains (names ++ name ∷ []) q → HasType sources new q
-    types q c = by_case (Contains-push_cases names name q c)
-      where
-        by_case : Contains names q ⊎ (name ≡ q) → HasType sources new q
-        by_case (inl h) = type_kept q grows (t.types q h)
-        by_case (inr s) = subst (λ (n : List ℕ). HasType sources new n) s has
+table_more {sources = sources} {new = new} names name t grows has = record {
+  is_true = grows.is_true;
+  types = λ q c. elim (Contains-push_cases names name q c) [ inl h ↦ type_kept q grows (t.types q h) | inr s ↦ subst (λ (n : List ℕ). HasType sources new n) s has ];
+}
 
 -- one element further
 pub further : {X : Type 0} (list : List X) (i : ℕ) (x : X) → i < length list → x ≡ get_or list i x → take i list ++ x ∷ [] ≡ take (i + 1) list

@@ -8,7 +8,7 @@ use std::process::Abort;
 use std::test::Fail;
 
 // Units with their texts, and what these declare.
-static UNITS: [(&str, &str, &str); 13] = [
+static UNITS: [(&str, &str, &str); 16] = [
     (
         "q",
         "function_block a_1 EVENT_INPUT E:T WITH X,y; END_EVENT VAR_OUTPUT Z:INT; END_VAR EVENT_OUTPUT O; END_EVENT VAR_INPUT X,Y:ARRAY [0..9] OF INT; END_VAR End_Function_Block // done",
@@ -49,6 +49,22 @@ static UNITS: [(&str, &str, &str); 13] = [
         "_",
         "FUNCTION_BLOCK A PLUGS P:AD; END_PLUGS SOCKETS END_SOCKETS EC_TRANSITIONS END_TRANSITIONS END_FUNCTION_BLOCK",
         "_ is block A 15..16; Plug P:AD",
+    ),
+    // each section may come again, and what it holds is appended
+    (
+        "R",
+        "SUBAPPLICATION R FBS A:T; END_FBS SUBAPPS B:S; END_SUBAPPS DATA_CONNECTIONS A.X TO C.X; END_CONNECTIONS FBS C:T; END_FBS SUBAPPS D:S; END_SUBAPPS DATA_CONNECTIONS C.Y TO A.Y; END_CONNECTIONS SERVICE END_SERVICE SERVICE END_SERVICE END_SUBAPPLICATION",
+        "R is subapplication R 15..16; Block A:T; Subapplication B:S; Block C:T; Subapplication D:S; Data A.X TO C.X; Data C.Y TO A.Y; a network",
+    ),
+    (
+        "L",
+        "FUNCTION_BLOCK L EC_TRANSITIONS A TO B := 1; END_TRANSITIONS EC_STATES A; END_STATES EC_TRANSITIONS B TO A := E; END_TRANSITIONS EC_STATES B; END_STATES END_FUNCTION_BLOCK",
+        "L is block L 15..16; A; B; A TO B := 1; B TO A := E; a chart",
+    ),
+    (
+        "Z",
+        "SYSTEM Z MAPPINGS A ON D.R; END_MAPPINGS DEVICE D:T END_DEVICE APPLICATION A END_APPLICATION MAPPINGS B ON D.S; END_MAPPINGS DEVICE E:T END_DEVICE APPLICATION B END_APPLICATION END_SYSTEM",
+        "Z is system Z 7..8; APPLICATION A; APPLICATION B; DEVICE D:T; DEVICE E:T; A ON D.R; B ON D.S",
     ),
     // structures, with fields and without; their words stand in any case
     (

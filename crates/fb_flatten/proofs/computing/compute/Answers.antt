@@ -1,10 +1,10 @@
 -- The names that block, then those that reach themselves, then an order of all.
 use Rattle.std.proofs.{Common.{◌≡◌, true, false, List, [], ℕ, sym, ◌∙◌, ap, subst, is_some}, lemmas.List.Elements.{All-nil, All-same}}
-use Rattle.std.specs.{Prelude.{Contains, ◌↔◌, ◌⊎◌, filter, Some, None}, FinMap.{get}, List.Sorted.{IsStrictlySortedBy}}
+use Rattle.std.specs.{Prelude.{Contains, ◌↔◌, ◌⊎◌, Some}, List.Sorted.{IsStrictlySortedBy}}
 use Rattle.fb_wiring.specs.{Library.Seen.{has_name}, Text.Order.{name_cmp}, Reaches.{IsRecursive, PartRestsOnRecursive, SomePartRestsOnRecursive}}
 use Rattle.fb_wiring.specs.declared.nets.Net.{Net}
 use Rattle.fb_wiring.proofs.FoundUnits.{if_ok}
-use Rattle.fb_flatten.specs.{Blocking.{AreThose, IsBlocking, is_blocking, is_some_name}, Suspects.{AreFinite, is_part_beyond}, Hints.{left_of}}
+use Rattle.fb_flatten.specs.{Blocking.{AreThose, IsBlocking, is_some_name}, Suspects.{AreFinite}, Hints.{left_of}}
 use Rattle.fb_flatten.specs.{Inner.{IsInnerNet}, Net.{plain_net}, Nets.{net_at}, Tables.{IsUnitOrder}}
 use Rattle.fb_flatten.proofs.{ComputedNets.{has_by_text, net_at_is}, NetLemmas.{none_of_not, recursive_those, some_not_none, some_recursive}}
 use Rattle.fb_flatten.proofs.{RestLemmas.{recursive_within, sound_of_finite, unit_order}, SuspectLemmas.{blocking_found, present_of_net}}
@@ -18,11 +18,7 @@ returns-then-has_some g c =
     let found = c.in_ok-found.found.items in
     let known = c.in_ok-suspects.ensures in
     let is_part = has_name c.in_ok-parts.parts.keys in
-    let same_names : c.as_slice-2.result.now ≡ names = c.as_slice-2.ensures.value in
-    let is : found ≡ filter (is_blocking sources is_part) names = c.in_ok-found.ensures ∙ ap (filter (is_blocking sources is_part)) same_names in
-    let told : (v : List ℕ) → Contains names v → get sources v ≡ None → is_part v ≡ is_part_beyond (g.K.Hints.hints c.args.known.now) sources names v =
-    subst (λ (l : List (List ℕ)). (v : List ℕ) → Contains l v → get sources v ≡ None → is_part v ≡ is_part_beyond (g.K.Hints.hints c.args.known.now) sources l v) c.as_slice.ensures.value c.in_ok-parts.ensures in
-    let those = blocking_found (g.K.Hints.hints c.args.known.now) sources unit names found is_part known told is in
+    let those = blocking_found (g.K.Hints.hints c.args.known.now) sources unit names found is_part known (rw c.as_slice.ensures.value at c.in_ok-parts.ensures) (rw c.as_slice-2.ensures.value at c.in_ok-found.ensures) in
     let some : is_some_name found ≡ true = ap is_some_name (sym c.as_slice-3.ensures.value) ∙ sym c.has_some.ensures ∙ c.if-has_some.true in
     record {
       net =
@@ -39,11 +35,7 @@ returns-in-None g c =
     let found = c.in_ok-found.found.items in
     let known = c.in_ok-suspects.ensures in
     let is_part = has_name c.in_ok-parts.parts.keys in
-    let same_names : c.as_slice-2.result.now ≡ names = c.as_slice-2.ensures.value in
-    let is : found ≡ filter (is_blocking sources is_part) names = c.in_ok-found.ensures ∙ ap (filter (is_blocking sources is_part)) same_names in
-    let told : (v : List ℕ) → Contains names v → get sources v ≡ None → is_part v ≡ is_part_beyond (g.K.Hints.hints c.args.known.now) sources names v =
-    subst (λ (l : List (List ℕ)). (v : List ℕ) → Contains l v → get sources v ≡ None → is_part v ≡ is_part_beyond (g.K.Hints.hints c.args.known.now) sources l v) c.as_slice.ensures.value c.in_ok-parts.ensures in
-    let those = blocking_found (g.K.Hints.hints c.args.known.now) sources unit names found is_part known told is in
+    let those = blocking_found (g.K.Hints.hints c.args.known.now) sources unit names found is_part known (rw c.as_slice.ensures.value at c.in_ok-parts.ensures) (rw c.as_slice-2.ensures.value at c.in_ok-found.ensures) in
     let none : is_some_name found ≡ false = ap is_some_name (sym c.as_slice-3.ensures.value) ∙ sym c.has_some.ensures ∙ c.if-has_some.false in
     let whole : AreThose sources unit (IsBlocking sources unit) [] =
     subst (λ (l : List (List ℕ)). AreThose sources unit (IsBlocking sources unit) l) (none_of_not found none) those in
@@ -74,11 +66,7 @@ compute_in_order-requires-clause-order g c =
     let found = c.in_ok-found.found.items in
     let known = c.in_ok-suspects.ensures in
     let is_part = has_name c.in_ok-parts.parts.keys in
-    let same_names : c.as_slice-2.result.now ≡ names = c.as_slice-2.ensures.value in
-    let is : found ≡ filter (is_blocking sources is_part) names = c.in_ok-found.ensures ∙ ap (filter (is_blocking sources is_part)) same_names in
-    let told : (v : List ℕ) → Contains names v → get sources v ≡ None → is_part v ≡ is_part_beyond (g.K.Hints.hints c.args.known.now) sources names v =
-    subst (λ (l : List (List ℕ)). (v : List ℕ) → Contains l v → get sources v ≡ None → is_part v ≡ is_part_beyond (g.K.Hints.hints c.args.known.now) sources l v) c.as_slice.ensures.value c.in_ok-parts.ensures in
-    let those = blocking_found (g.K.Hints.hints c.args.known.now) sources unit names found is_part known told is in
+    let those = blocking_found (g.K.Hints.hints c.args.known.now) sources unit names found is_part known (rw c.as_slice.ensures.value at c.in_ok-parts.ensures) (rw c.as_slice-2.ensures.value at c.in_ok-found.ensures) in
     let none : is_some_name found ≡ false = ap is_some_name (sym c.as_slice-3.ensures.value) ∙ sym c.has_some.ensures ∙ c.if-has_some.false in
     let whole : AreThose sources unit (IsBlocking sources unit) [] =
     subst (λ (l : List (List ℕ)). AreThose sources unit (IsBlocking sources unit) l) (none_of_not found none) those in

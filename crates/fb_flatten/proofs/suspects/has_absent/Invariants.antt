@@ -1,5 +1,5 @@
 -- None of the names passed so far is absent.
-use Rattle.std.proofs.Common.{◌≡◌, ℕ, List, false, take, is_none}
+use Rattle.std.proofs.Common.{◌≡◌, false, take, is_none}
 use Rattle.std.specs.{FinMap.{get}, List.{list_any}}
 use Rattle.fb_flatten.proofs.suspects.has_absent.Given as goal
 

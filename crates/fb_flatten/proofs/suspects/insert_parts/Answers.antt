@@ -1,5 +1,5 @@
 -- What is known to be whole has no part beyond.
-use Rattle.std.proofs.Common.{◌≡◌, ◌||◌, List, [], ℕ, if◌then◌else◌, sym, ap, subst, ◌∙◌}
+use Rattle.std.proofs.Common.{◌||◌, [], if◌then◌else◌, sym, ap, ◌∙◌}
 use Rattle.fb_wiring.proofs.Text.Tests.{or_false}
 use Rattle.fb_wiring.specs.{Library.Seen.{has_name}, Library.View.{parts_at}}
 use Rattle.fb_flatten.proofs.suspects.insert_parts.Goals as goal
