@@ -10,7 +10,7 @@ use Rattle.fb_history.specs.Machine.{after_give_back, give_back_answer, State, C
 use Rattle.fb_history.specs.{declared.answers.Delivered.{Delivered}, declared.answers.Delivered.TheVariants.{Accepted, NoSuchKey, NotPending, Stale}}
 use Rattle.fb_history.specs.{declared.answers.GivenBack.{GivenBack}, declared.answers.GivenBack.TheVariants.{Returned, NothingOut}}
 use Rattle.fb_history.specs.{BenchView.{BenchView, opened, replay, calls_of, state_of}, Laws.{AgreeApartFrom}}
-use Rattle.fb_bench.specs.{Kept.{Agrees}, Outcomes.{answer_at}}
+use Rattle.fb_bench.specs.{Consistent.{Agrees}, Outcomes.{answer_at}}
 use Rattle.fb_history.proofs.Steps.{reply_commit, after_commit_is}
 use Rattle.fb_bench.proofs.{Renewing.{ScratchLocal, held_all_edited}, Renewals.{agrees_done}}
 
@@ -93,8 +93,8 @@ unfolding replay
 replay_most s [] = refl
 replay_most s (c ∷ cs) = replay_most (after s c) cs ∙ after_most s c
 
-pub most_units_of : (story : BenchView) → (state_of story).most_units ≡ story.origin.most_units
-most_units_of story = replay_most (opened story.origin) (calls_of story.log)
+pub most_units_of : (bench : BenchView) → (state_of bench).most_units ≡ bench.origin.most_units
+most_units_of bench = replay_most (opened bench.origin) (calls_of bench.log)
 
 -- ---- the answer
 
@@ -118,8 +118,8 @@ done_at most number T U edits none is few =
     sym (ap (λ b. cond b TooManyUnits (Done number)) test) ∙ (λ i. or_else (none i) (cond (nat_lt most (length (all_edited number edits T))) TooManyUnits (Done number)))
 
 -- what changes of the kept texts come to is the machine's answer
-pub answer_kept : (story : BenchView) (T : Texts) (n : ℕ) (edits : List Edit) → T ≡ (state_of story).units → n ≡ (state_of story).commits → answer_at story.origin.most_units (n + 1) T edits ≡ commit_answer (state_of story) edits
-answer_kept story T n edits same number = λ i. answer_at (sym (most_units_of story) i) (number i + 1) (same i) edits
+pub answer_kept : (bench : BenchView) (T : Texts) (n : ℕ) (edits : List Edit) → T ≡ (state_of bench).units → n ≡ (state_of bench).commits → answer_at bench.origin.most_units (n + 1) T edits ≡ commit_answer (state_of bench) edits
+answer_kept bench T n edits same number = λ i. answer_at (sym (most_units_of bench) i) (number i + 1) (same i) edits
 
 pub commits_is : (s : State) (made edits : List Edit) (answer : Committed) → made ≡ edits → answer ≡ commit_answer s edits → OfCommit answer ≡ reply s (ToCommit made)
 commits_is s made edits answer same is = ap OfCommit (is ∙ ap (λ es. commit_answer s es) (sym same)) ∙ sym (reply_commit s made)

@@ -4,7 +4,7 @@ use Rattle.std.specs.{Map.{lookup}, BTreeMap.{is_at}, List.{list_any}}
 use Rattle.fb_entries.specs.{Keyed.{Keyed}, Library.Texts.{Texts}, Jobs.declared.key.Key.{Key}, Jobs.Keys.{has_key}, Jobs.KeyOrder.{key_cmp}}
 use Rattle.fb_entries.specs.Index.Indexed.{Indexed, nothing_indexed}
 use Rattle.fb_history.specs.BenchView.{BenchView, empty_origin, new_bench, opened, replay, replies}
-use Rattle.fb_bench.specs.Kept.{Agrees, IsConsistent, EntryFits}
+use Rattle.fb_bench.specs.Consistent.{Agrees, IsConsistent, EntryFits}
 use Rattle.fb_entries.proofs.{Indexing.{indexed_none}, Jobs.KindLemmas.{no_kind}}
 use Rattle.fb_history.proofs.AfterCalls.{begins_empty}
 
@@ -24,8 +24,8 @@ kept_start : (most limit : ℕ) (entries : Keyed) (index : Indexed) → entries.
 unfolding replay replies
 kept_start most limit entries index no_entries no_keys empty = record { begins = begins_empty most; agrees = agrees_empty most entries no_entries no_keys; replayed = refl; indexed = indexed_none [] index refl empty; few = omega arith }
 
-pub kept_empty : (most limit : ℕ) (units : Texts) (entries : Keyed) (index : Indexed) (story : BenchView) → units ≡ [] → entries.entries ≡ [] → entries.ready ≡ [] → index ≡ nothing_indexed → story ≡ new_bench most limit → IsConsistent units 0 entries index story
-kept_empty most limit units entries index story no_units no_entries no_keys empty is =
+pub kept_empty : (most limit : ℕ) (units : Texts) (entries : Keyed) (index : Indexed) (bench : BenchView) → units ≡ [] → entries.entries ≡ [] → entries.ready ≡ [] → index ≡ nothing_indexed → bench ≡ new_bench most limit → IsConsistent units 0 entries index bench
+kept_empty most limit units entries index bench no_units no_entries no_keys empty is =
     subst (λ st. IsConsistent units 0 entries index st) (sym is)
     (subst (λ us. IsConsistent us 0 entries index (new_bench most limit)) (sym no_units)
     (kept_start most limit entries index no_entries no_keys empty))

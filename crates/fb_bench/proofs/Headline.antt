@@ -17,27 +17,27 @@ waiting_bits Waits true false d f is e = cc
 waiting_bits (Finds v) true true d f is e = cc
 waiting_bits (Finds v) true false d f is e = is
 
-asked_is : (r : Shown) (story : BenchView) (k : Key) → OfAsk r ≡ reply_at story (ToAsk k) → r ≡ shown (state_of story) k
-asked_is r story k e = cc (e ∙ reply_ask (state_of story) k)
+asked_is : (r : Shown) (bench : BenchView) (k : Key) → OfAsk r ≡ reply_at bench (ToAsk k) → r ≡ shown (state_of bench) k
+asked_is r bench k e = cc (e ∙ reply_ask (state_of bench) k)
 
 -- what is answered to an ask
-pub shows_asked : (r : Shown) (story : BenchView) (k : Key) → IsOrigin story.origin → OfAsk r ≡ reply_at story (ToAsk k) → ShowsEntry story (ToAsk k) (OfAsk r)
-shows_asked r story k begins e =
-    let is = asked_is r story k e in (
-      is ∙ entry_is story.origin (calls_of story.log) k begins,
-      waiting_bits r (has_key (state_of story).units k) ((state_of story).pending k) (due_from (opened story.origin) (calls_of story.log) k) (scratch (state_of story).units k) (pending_is_due story k begins) is,
+pub shows_asked : (r : Shown) (bench : BenchView) (k : Key) → IsOrigin bench.origin → OfAsk r ≡ reply_at bench (ToAsk k) → ShowsEntry bench (ToAsk k) (OfAsk r)
+shows_asked r bench k begins e =
+    let is = asked_is r bench k e in (
+      is ∙ entry_is bench.origin (calls_of bench.log) k begins,
+      waiting_bits r (has_key (state_of bench).units k) ((state_of bench).pending k) (due_from (opened bench.origin) (calls_of bench.log) k) (scratch (state_of bench).units k) (pending_is_due bench k begins) is,
     )
 
-pub shows_entry : (story : BenchView) (call : Call) (answer : Reply) → IsOrigin story.origin → answer ≡ reply_at story call → ShowsEntry story call answer
-shows_entry story (ToAsk k) (OfAsk r) begins e = shows_asked r story k begins e
-shows_entry story (ToAsk k) (OfCommit r) begins e = tt
-shows_entry story (ToAsk k) (OfTake r) begins e = tt
-shows_entry story (ToAsk k) (OfDeliver r) begins e = tt
-shows_entry story (ToAsk k) (OfGiveBack r) begins e = tt
-shows_entry story (ToCommit edits) r begins e = tt
-shows_entry story ToTake r begins e = tt
-shows_entry story (ToDeliver order) r begins e = tt
-shows_entry story (ToGiveBack k) r begins e = tt
+pub shows_entry : (bench : BenchView) (call : Call) (answer : Reply) → IsOrigin bench.origin → answer ≡ reply_at bench call → ShowsEntry bench call answer
+shows_entry bench (ToAsk k) (OfAsk r) begins e = shows_asked r bench k begins e
+shows_entry bench (ToAsk k) (OfCommit r) begins e = tt
+shows_entry bench (ToAsk k) (OfTake r) begins e = tt
+shows_entry bench (ToAsk k) (OfDeliver r) begins e = tt
+shows_entry bench (ToAsk k) (OfGiveBack r) begins e = tt
+shows_entry bench (ToCommit edits) r begins e = tt
+shows_entry bench ToTake r begins e = tt
+shows_entry bench (ToDeliver order) r begins e = tt
+shows_entry bench (ToGiveBack k) r begins e = tt
 
 -- a refusal leaves the state
 pub leaves_state : (old new : BenchView) (caller : ℕ) (call : Call) (answer : Reply) → new ≡ recorded old caller call → answer ≡ reply_at old call → LeavesState old answer new

@@ -9,7 +9,7 @@ use Rattle.fb_text.proofs.OrderLemmas.{in_order-same}
 use Rattle.fb_entries.specs.{Keyed.{Keyed, entry_at}, Library.Texts.{Texts}, Jobs.declared.key.Key.{Key}, Jobs.Keys.{has_key}}
 use Rattle.fb_entries.specs.{Jobs.KeyOrder.{key_cmp, key_cmp_total}, declared.entry.Entry.{Entry}, Marking.{is_handed_out, is_of, is_unkept, keys_with}}
 use Rattle.fb_history.specs.{Machine.{State, keys_of}, BenchView.{BenchView, IsOrigin, state_of}}
-use Rattle.fb_bench.specs.Kept.{EntryFits, Agrees}
+use Rattle.fb_bench.specs.Consistent.{EntryFits, Agrees}
 use Rattle.fb_entries.proofs.Jobs.Order.{exact_key}
 use Rattle.fb_history.proofs.{Least.{of_keys}, Sorted.{keys_rise}}
 
@@ -51,36 +51,36 @@ has_entry : (s : State) (q : Key) (o : Option Entry) → EntryFits s q o → is_
 has_entry s q None fits = sym fits.0
 has_entry s q (Some it) fits = sym fits.0
 
-module _ (story : BenchView) (begins : IsOrigin story.origin) (T : Texts) (commits : ℕ) (entries : Keyed) (agrees : Agrees T commits entries (state_of story)) (rise : IsStrictlySortedBy key_cmp (keys_in entries.entries)) where
+module _ (bench : BenchView) (begins : IsOrigin bench.origin) (T : Texts) (commits : ℕ) (entries : Keyed) (agrees : Agrees T commits entries (state_of bench)) (rise : IsStrictlySortedBy key_cmp (keys_in entries.entries)) where
   -- they are those of the texts, in order
-  pub keys_are : keys_in entries.entries ≡ keys_of (state_of story).units
+  pub keys_are : keys_in entries.entries ≡ keys_of (state_of bench).units
   keys_are =
-      same_rising (keys_in entries.entries) (keys_of (state_of story).units) rise (keys_rise story begins)
-      (λ q. sym (is_some-lookup (is_at (key_cmp q)) entries.entries) ∙ has_entry (state_of story) q (entry_at entries q) (agrees.each q) ∙ sym (of_keys (state_of story).units q))
+      same_rising (keys_in entries.entries) (keys_of (state_of bench).units) rise (keys_rise bench begins)
+      (λ q. sym (is_some-lookup (is_at (key_cmp q)) entries.entries) ∙ has_entry (state_of bench) q (entry_at entries q) (agrees.each q) ∙ sym (of_keys (state_of bench).units q))
 
   -- a key waits exactly where its entry has no value
-  unkept : All (λ (e : Key × Entry). (state_of story).pending e.0 ≡ is_unkept e.1) entries.entries
+  unkept : All (λ (e : Key × Entry). (state_of bench).pending e.0 ≡ is_unkept e.1) entries.entries
   unkept i d below =
       let e = get_or entries.entries i d in
       let at : entry_at entries e.0 ≡ Some e.1 = lookup_from_place (eq_by_cmp_equiv key_cmp_total) entries.entries i e.0 e.1 (IsDistinct-from_sorted key_cmp _ rise) (slice_get-get_or entries.entries i d below) in
-      let fits : EntryFits (state_of story) e.0 (Some e.1) = subst (λ o. EntryFits (state_of story) e.0 o) at (agrees.each e.0) in
+      let fits : EntryFits (state_of bench) e.0 (Some e.1) = subst (λ o. EntryFits (state_of bench) e.0 o) at (agrees.each e.0) in
       fits.1
 
   -- as many entries have no value as keys wait
-  pub pending_are : count_by is_unkept (values_of entries.entries) ≡ count_by (state_of story).pending (keys_of (state_of story).units)
-  pending_are = counts (state_of story).pending is_unkept entries.entries unkept ∙ ap (count_by (state_of story).pending) keys_are
+  pub pending_are : count_by is_unkept (values_of entries.entries) ≡ count_by (state_of bench).pending (keys_of (state_of bench).units)
+  pending_are = counts (state_of bench).pending is_unkept entries.entries unkept ∙ ap (count_by (state_of bench).pending) keys_are
 
   -- the pending keys are those whose entries have no value
-  pub pending_listed : keys_with is_unkept entries.entries ≡ filter (state_of story).pending (keys_of (state_of story).units)
-  pending_listed = listed (state_of story).pending is_unkept entries.entries unkept ∙ ap (filter (state_of story).pending) keys_are
+  pub pending_listed : keys_with is_unkept entries.entries ≡ filter (state_of bench).pending (keys_of (state_of bench).units)
+  pending_listed = listed (state_of bench).pending is_unkept entries.entries unkept ∙ ap (filter (state_of bench).pending) keys_are
 
-  handed : All (λ (e : Key × Entry). (state_of story).out e.0 ≡ is_handed_out e.1) entries.entries
+  handed : All (λ (e : Key × Entry). (state_of bench).out e.0 ≡ is_handed_out e.1) entries.entries
   handed i d below =
       let e = get_or entries.entries i d in
       let at : entry_at entries e.0 ≡ Some e.1 = lookup_from_place (eq_by_cmp_equiv key_cmp_total) entries.entries i e.0 e.1 (IsDistinct-from_sorted key_cmp _ rise) (slice_get-get_or entries.entries i d below) in
-      let fits : EntryFits (state_of story) e.0 (Some e.1) = subst (λ o. EntryFits (state_of story) e.0 o) at (agrees.each e.0) in
+      let fits : EntryFits (state_of bench) e.0 (Some e.1) = subst (λ o. EntryFits (state_of bench) e.0 o) at (agrees.each e.0) in
       fits.2
 
   -- the keys that are handed out are those whose entries say so
-  pub out_listed : keys_with is_handed_out entries.entries ≡ filter (state_of story).out (keys_of (state_of story).units)
-  out_listed = listed (state_of story).out is_handed_out entries.entries handed ∙ ap (filter (state_of story).out) keys_are
+  pub out_listed : keys_with is_handed_out entries.entries ≡ filter (state_of bench).out (keys_of (state_of bench).units)
+  out_listed = listed (state_of bench).out is_handed_out entries.entries handed ∙ ap (filter (state_of bench).out) keys_are

@@ -7,7 +7,7 @@ use Rattle.fb_entries.specs.{Jobs.KeyOrder.{key_cmp, same_key}, declared.entry.E
 use Rattle.fb_entries.specs.Marking.{unless_kept, with_found, with_out, with_value, ChangesEntry, MarksKey, SameKeys}
 use Rattle.fb_history.specs.Machine.{State, is_ready, next, after_take, after_deliver, removed, unless_stale, deliver_answer}
 use Rattle.fb_history.specs.{declared.answers.Delivered.{Delivered}, declared.answers.Delivered.TheVariants.{Accepted, NoSuchKey, NotPending, Stale}}
-use Rattle.fb_bench.specs.Kept.{Agrees, EntryFits, IsScratch}
+use Rattle.fb_bench.specs.Consistent.{Agrees, EntryFits, IsScratch}
 use Rattle.fb_entries.proofs.Jobs.Order.{keys_equal}
 use Rattle.fb_history.proofs.Least.{next_none, next_some}
 

@@ -8,7 +8,7 @@ use Rattle.fb_entries.specs.Renew.{is_own, is_fresh, is_renewed, IsCarriedOut, I
 use Rattle.std.specs.Option.{option_map}
 use Rattle.fb_entries.proofs.{Jobs.SameNeeds.{has_key_local}, Jobs.KindLemmas.{in_all_keys}}
 use Rattle.fb_history.specs.Machine.{State, is_ready, after_done, reaches}
-use Rattle.fb_bench.specs.Kept.{EntryFits, Agrees}
+use Rattle.fb_bench.specs.Consistent.{EntryFits, Agrees}
 use Rattle.fb_bench.proofs.Renewing.{held_all_edited, agree_unreached, ScratchLocal, waiting_fits, kept_fits, gone_fits}
 
 -- ---- a key of no changed unit

@@ -10,7 +10,7 @@ use Rattle.fb_entries.specs.{Jobs.declared.value.Value.{Value}, Jobs.Keys.{has_k
 use Rattle.fb_entries.specs.Marking.{waiting}
 use Rattle.fb_text.specs.Order.{name_cmp}
 use Rattle.fb_history.specs.Machine.{State, after_done, reaches}
-use Rattle.fb_bench.specs.Kept.{EntryFits, IsScratch}
+use Rattle.fb_bench.specs.Consistent.{EntryFits, IsScratch}
 use Rattle.fb_history.proofs.AfterCalls.{or_parts, not_met}
 
 -- ---- names that are not changed

@@ -18,5 +18,5 @@ shown_bits (Value v) true true d f is e = cc
 shown_bits (Value v) true false d f is e = is
 
 -- what is shown as pending is due
-pub due_shown : (r : Shown) (story : BenchView) (k : Key) → IsOrigin story.origin → shown_by r ≡ machine.shown (state_of story) k → is_pending r ≡ is_due story k
-due_shown r story k begins e = shown_bits r (has_key (state_of story).units k) ((state_of story).pending k) (due_from (opened story.origin) (calls_of story.log) k) (scratch (state_of story).units k) (pending_is_due story k begins) e
+pub due_shown : (r : Shown) (bench : BenchView) (k : Key) → IsOrigin bench.origin → shown_by r ≡ machine.shown (state_of bench) k → is_pending r ≡ is_due bench k
+due_shown r bench k begins e = shown_bits r (has_key (state_of bench).units k) ((state_of bench).pending k) (due_from (opened bench.origin) (calls_of bench.log) k) (scratch (state_of bench).units k) (pending_is_due bench k begins) e

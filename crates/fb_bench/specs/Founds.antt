@@ -3,7 +3,7 @@ use Rattle.std.specs.Prelude.{ℕ, List, All}
 use Rattle.fb_entries.specs.{Keyed.{Keyed}, Library.Texts.{Texts}, Jobs.declared.hints.Hint.{Hint}, Jobs.declared.value.Value.{Value}, Jobs.Hints.{IsNetOf}}
 use Rattle.fb_entries.specs.{Jobs.Reads.{PlainJob, read_texts}, Jobs.Work.{IsFoundFor}}
 use Rattle.fb_history.specs.Machine.{State}
-use Rattle.fb_bench.specs.Kept.{Agrees}
+use Rattle.fb_bench.specs.Consistent.{Agrees}
 
 -- the unit and the value of a net, whoever shares it
 abbrev pub said : Hint → List ℕ × Value

@@ -11,8 +11,8 @@ is_waiting (Finds finding) = false
 -- An ask shows what the present texts give from scratch, or that the key is pending: if and only if no current result has come since the last commit that
 -- made or reached it.
 abbrev pub ShowsEntry : BenchView → Call → Reply → Type 0
-ShowsEntry story (ToAsk key) (OfAsk found) = (found ≡ entry_after story.origin (calls_of story.log) key) × (is_waiting found ≡ is_due story key)
-ShowsEntry story _ _ = Unit {0}
+ShowsEntry bench (ToAsk key) (OfAsk found) = (found ≡ entry_after bench.origin (calls_of bench.log) key) × (is_waiting found ≡ is_due bench key)
+ShowsEntry bench _ _ = Unit {0}
 
 -- an answer that refuses its call changes no text, no entry and no handed-out mark
 abbrev pub LeavesState : BenchView → Reply → BenchView → Type 0

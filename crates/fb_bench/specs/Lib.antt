@@ -1,5 +1,5 @@
 pub mod Records
-pub mod Kept
+pub mod Consistent
 pub mod Founds
 pub mod Headline
 pub mod Outcomes

@@ -22,13 +22,13 @@ IsStep caller = Exchanges (IsCallStep caller) IsCheckpointStep
 
 -- memory is wanted for a call only where the history has room for it
 abbrev pub IsOpenCall : {R : Type 0} → BenchView → Result R DeskError → Type 0
-IsOpenCall story (Err refused.Memory) = length story.log.records < story.log.limit
-IsOpenCall story _ = Unit {0}
+IsOpenCall bench (Err refused.Memory) = length bench.log.records < bench.log.limit
+IsOpenCall bench _ = Unit {0}
 
 -- memory is wanted for a checkpoint only where it would be made
 abbrev pub IsOpenCheckpoint : BenchView → Bounds → Result ℕ DeskCheckpointError → Type 0
-IsOpenCheckpoint story limits (Err unmade.Memory) = (before : ℕ) × (checking limits story ≡ KeptUpTo before)
-IsOpenCheckpoint story limits _ = Unit {0}
+IsOpenCheckpoint bench limits (Err unmade.Memory) = (before : ℕ) × (checking limits bench ≡ KeptUpTo before)
+IsOpenCheckpoint bench limits _ = Unit {0}
 
 -- a call or a checkpoint of the workbench that is lent, by the same caller
 abbrev pub SoloCall : Solo → Call → Answer → Solo → Type 0

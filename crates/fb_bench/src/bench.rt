@@ -50,7 +50,7 @@ impl Model for Bench {
 
     ghost Value = { BenchView };
 
-    ghost use Rattle.fb_bench.specs.Kept.{IsConsistent};
+    ghost use Rattle.fb_bench.specs.Consistent.{IsConsistent};
 
     ghost view = { λ it. it.history };
 

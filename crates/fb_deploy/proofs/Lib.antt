@@ -1,7 +1,7 @@
 -- Lemmas of the proofs.
 pub mod PlanLocal
 pub mod ComputedPlans
-pub mod PlanLeft
+pub mod PlanUnchanged
 -- Of the crates below, for the crates above.
 pub use Rattle.fb_mapping.proofs.Parse as Parse
 pub use Rattle.fb_mapping.proofs.Library as Library

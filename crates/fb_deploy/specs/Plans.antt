@@ -1,7 +1,7 @@
 -- The plan of a unit, computed from the texts.
 use Rattle.std.specs.Prelude.{◌≡◌, ◌↔◌, ℕ, Bool, true, if◌then◌else◌, IsTrue, List, Option, Some, None, is_some, option_map}
 use Rattle.fb_mapping.specs.{Tree.Tree.{DeclTree}, Library.View.{Sources, tree_at}, Library.Local.{AgreeFar}, Flatten.Hints.{is_whole_net}}
-use Rattle.fb_mapping.specs.{Flatten.Kept.{LeavesNet}, Flatten.Nets.{net_at}, Flatten.Tables.{is_system_in}, Placed.{IsSystem}}
+use Rattle.fb_mapping.specs.{Flatten.Unchanged.{LeavesNet}, Flatten.Nets.{net_at}, Flatten.Tables.{is_system_in}, Placed.{IsSystem}}
 use Rattle.fb_deploy.specs.Deploy.{PlainDeploy, stopped, faulty, planned, IsPlan, planned_by}
 
 -- whether a unit with this tree, or with none, has a plan
@@ -38,7 +38,7 @@ is_whole_plan (faulty found) = true
 is_whole_plan (planned cuts resources) = true
 
 -- texts that leave the net of a unit as it was leave its plan so
-abbrev pub PlanIsLeft : Type 0
-PlanIsLeft =
+abbrev pub PlanIsUnchanged : Type 0
+PlanIsUnchanged =
     (before now : Sources) (unit : List ℕ) (plan : PlainDeploy)
     → LeavesNet before now unit → is_whole_plan plan ≡ true → plan_at before unit ≡ Some plan → plan_at now unit ≡ Some plan

@@ -1,5 +1,5 @@
 //! Laws of plans.
-ghost use Rattle.fb_deploy.specs.{Laws.{OnePlan, PlanIsLocal}, Plans.{HasPlanByText, PlanAtIsLocal, PlanAtIsPlan, PlanAtOfSystems, PlanIsLeft}};
+ghost use Rattle.fb_deploy.specs.{Laws.{OnePlan, PlanIsLocal}, Plans.{HasPlanByText, PlanAtIsLocal, PlanAtIsPlan, PlanAtOfSystems, PlanIsUnchanged}};
 
 /// A system has one plan only.
 pub fn one_plan()
@@ -33,5 +33,5 @@ pub fn plan_at_is_local()
 
 /// Texts that leave the net of a system unchanged leave its plan so.
 pub fn plan_is_unchanged()
-    ensures { PlanIsLeft }
+    ensures { PlanIsUnchanged }
 {}

@@ -1,7 +1,7 @@
 //! The check of execution control charts (IEC 61499-1, 5.2.1).
 ghost use Rattle.std.specs.Prelude.{◌≡◌, ◌++◌, IfOk, OnOk};
 ghost use Rattle.fb_tree.specs.Tree.{chart_tree, type_tree};
-ghost use Rattle.fb_iface.specs.{Fault.{faults_in_order}, Kept.{scope_in}, Scope.{scope_of_type}};
+ghost use Rattle.fb_iface.specs.{Fault.{faults_in_order}, ScopeTypes.{scope_in}, Scope.{scope_of_type}};
 ghost use Rattle.fb_ecc.specs.Charts.{chart_faults, ecc_faults_of};
 
 use crate::algorithms::report_algorithms;

@@ -2,7 +2,7 @@
 ghost use Rattle.std.specs.{Prelude.{◌≡◌, ◌++◌, OnOk}, List.{flat_map}, Option.{option_copied, option_map}};
 ghost use Rattle.fb_tree.specs.Tree.{chart_tree, condition_tree, state_tree, transition_tree};
 ghost use Rattle.fb_tree.specs.declared.interface.Side.TheVariants as sides;
-ghost use Rattle.fb_iface.specs.Kept.{scope_in};
+ghost use Rattle.fb_iface.specs.ScopeTypes.{scope_in};
 ghost use Rattle.fb_ecc.specs.Events.{event_among, event_behind, event_faults, event_in, event_named, event_of_adapter, event_on, opposite, sent_faults, side_through, span_from, trigger_faults, written_fault};
 
 use fb_iface::{Code, DeclaredInstance, Fault, Ports, Scope, is_same_side};

@@ -1,7 +1,7 @@
 -- What the names of expressions stand for: names of the unit and of its plugs and sockets, and fields of structures.
 use Rattle.std.specs.Prelude.{ℕ, List}
 use Rattle.fb_tree.specs.Tree.{TypeTree}
-use Rattle.fb_iface.specs.{Library.View.{Sources}, Fields.{Fields, fields_near}, Kept.{scope_in}, KeptFields.{structures_in}, Scope.{Scope, scope_of_type}}
+use Rattle.fb_iface.specs.{Library.View.{Sources}, Fields.{Fields, fields_near}, ScopeTypes.{scope_in}, CachedFields.{structures_in}, Scope.{Scope, scope_of_type}}
 use Rattle.fb_expr.specs.declared.names.Names as kept
 
 pub record Names : Type 0 where

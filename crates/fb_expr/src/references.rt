@@ -1,7 +1,7 @@
 //! What references mean (IEC 61499-1, 5.2.2: algorithms; 5.5: adapters).
 ghost use Rattle.std.specs.{Prelude.{◌≡◌, [], ◌∷◌, ◌++◌, IfOk, IfSome, OnOk, Some, is_some}, Option.{option_copied}};
 ghost use Rattle.fb_tree.specs.Expression.{reference_tree};
-ghost use Rattle.fb_iface.specs.{KeptFields.{fields_shown, structures_in}, Names.{stands_for}, Kept.{scope_in}, Scope.{instance_ports}};
+ghost use Rattle.fb_iface.specs.{CachedFields.{fields_shown, structures_in}, Names.{stands_for}, ScopeTypes.{scope_in}, Scope.{instance_ports}};
 ghost use Rattle.fb_expr.specs.{Names.{names_in}, Spans.{names_span}};
 ghost use Rattle.fb_expr.specs.References.{
   class_of_element,

@@ -2,19 +2,19 @@
 use Rattle.std.proofs.Common.{◌≡◌, ℕ, ◌<◌, true, false, ◌&&◌, List, [], ◌∷◌, ◌++◌, map, Option, Some, None, option_map, refl, sym, ap, ◌∙◌, subst, inl, inr, arith}
 use Rattle.std.proofs.lemmas.List.Elements.{All-contains, All-head, Contains-append_left, Contains-append_right}
 use Rattle.std.specs.{List.{All, Contains, filter_map, find, flat_map, slice_get}, Option.{option_and_then}}
-use Rattle.fb_wiring.specs.Text.declared.name.NameUse.{NameUse}
-use Rattle.fb_wiring.specs.Tree.Tree.{ApplicationTree, DeclTree, InstanceTree, NetworkTree, SystemTree, subapplication_type, system_configuration}
-use Rattle.fb_wiring.specs.Iface.Declarations.{declaration_faults, duplicate_faults, literal_faults_of, mixed_faults, name_faults, with_faults_of}
-use Rattle.fb_wiring.specs.Iface.Ports.{events_in, instances_in, meanings_in_type, variables_in}
-use Rattle.fb_wiring.specs.Iface.Spaces.{chart_spaces, interface_spaces, network_spaces, resource_names, spaces_of}
-use Rattle.fb_wiring.specs.declared.systems.Application.{Application}
-use Rattle.fb_wiring.specs.{Tree.declared.network.Sort.{Sort}, Library.View.{Sources, tree_at}}
-use Rattle.fb_wiring.specs.{Iface.Recursion.{recursion_faults}, Iface.Names.{first_ones, is_same, stands_for}}
-use Rattle.fb_wiring.specs.{Iface.Types.{instance_faults, instances_of, type_faults}, Iface.declared.ports.DeclaredInstance.{DeclaredInstance}}
-use Rattle.fb_wiring.specs.{Network.Plain.{PlainNetwork}, Network.declared.network.End.TheVariants.{Own}, Network.declared.network.Port.{Port}}
-use Rattle.fb_wiring.specs.{Applications.{applications_of, plain_application}, Networks.{end_named, network_of, plain_network}, Ports.{plain_ports}}
-use Rattle.fb_wiring.specs.Tree.declared.kinds.UnitKind.TheVariants as kinds
-use Rattle.fb_wiring.proofs.Text.Members.{contains_cases, contains_flat_map, contains_here, contains_later, contains_map, contains_nothing, got_in_map, map_gets, origin_in_map}
+use Rattle.fb_types.specs.Text.declared.name.NameUse.{NameUse}
+use Rattle.fb_types.specs.Tree.Tree.{ApplicationTree, DeclTree, InstanceTree, NetworkTree, SystemTree, subapplication_type, system_configuration}
+use Rattle.fb_types.specs.Iface.Declarations.{declaration_faults, duplicate_faults, literal_faults_of, mixed_faults, name_faults, with_faults_of}
+use Rattle.fb_types.specs.Iface.Ports.{events_in, instances_in, meanings_in_type, variables_in}
+use Rattle.fb_types.specs.Iface.Spaces.{chart_spaces, interface_spaces, network_spaces, resource_names, spaces_of}
+use Rattle.fb_types.specs.declared.systems.Application.{Application}
+use Rattle.fb_types.specs.{Tree.declared.network.Sort.{Sort}, Library.View.{Sources, tree_at}}
+use Rattle.fb_types.specs.{Iface.Recursion.{recursion_faults}, Iface.Names.{first_ones, is_same, stands_for}}
+use Rattle.fb_types.specs.{Iface.Types.{instance_faults, instances_of, type_faults}, Iface.declared.ports.DeclaredInstance.{DeclaredInstance}}
+use Rattle.fb_types.specs.{Network.Plain.{PlainNetwork}, Network.declared.network.End.TheVariants.{Own}, Network.declared.network.Port.{Port}}
+use Rattle.fb_types.specs.{Applications.{applications_of, plain_application}, Networks.{end_named, network_of, plain_network}, Ports.{plain_ports}}
+use Rattle.fb_types.specs.Tree.declared.kinds.UnitKind.TheVariants as kinds
+use Rattle.fb_types.proofs.Text.Members.{contains_cases, contains_flat_map, contains_here, contains_later, contains_map, contains_nothing, got_in_map, map_gets, origin_in_map}
 use Rattle.fb_faults.specs.{Netcheck.Networks.{application_place, networks_in, type_place}, Netcheck.Clean.{AreRight, IsCleanConnection, IsCleanNetwork}}
 use Rattle.fb_faults.specs.{Netcheck.Ends.{adapter_port, port_in, target, target_named}, Netcheck.Settings.{NetworkPlace}}
 use Rattle.fb_faults.specs.{Netcheck.Sides.{is_own_port}, Netcheck.declared.ends.Position.TheVariants.{Source, Destination}}

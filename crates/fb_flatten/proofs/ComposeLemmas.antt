@@ -1,15 +1,15 @@
 -- What can be composed by a table that has the networks of types and of the adapters of their ports.
 use Rattle.std.proofs.Common.{ℕ, ◌≡◌, List, Option, Some, None, refl, sym, ◌∙◌, ap, subst, length, arith}
 use Rattle.std.specs.{Prelude.{Contains, ◌&&◌}, Option.{option_and_then}, BTreeMap.{is_at}}
-use Rattle.fb_wiring.specs.{Text.Order.{name_cmp}, Tree.Tree.{DeclTree}, Tree.declared.network.Sort.TheVariants.{Adapter}}
-use Rattle.fb_wiring.specs.{Library.View.{Sources, parts_at, tree_at}, Network.Sorts.{same_sort}, Network.declared.network.Port.{Port}}
-use Rattle.fb_wiring.specs.{Network.declared.network.Instance.{Instance}, Network.declared.network.End.TheVariants.{Own, Of}, Network.Plain.{PlainNetwork}}
-use Rattle.fb_wiring.specs.{Network.Network.{View, instance_named}, Network.Clean.{port_named}, ByName.{declared}, Applications.{applications_of}}
-use Rattle.fb_wiring.specs.{declared.systems.Application.{Application}, Network.Part.{SameAdapters}, Network.Ready.{Nets, AreFinished}}
+use Rattle.fb_types.specs.{Text.Order.{name_cmp}, Tree.Tree.{DeclTree}, Tree.declared.network.Sort.TheVariants.{Adapter}}
+use Rattle.fb_types.specs.{Library.View.{Sources, parts_at, tree_at}, Network.Sorts.{same_sort}, Network.declared.network.Port.{Port}}
+use Rattle.fb_types.specs.{Network.declared.network.Instance.{Instance}, Network.declared.network.End.TheVariants.{Own, Of}, Network.Plain.{PlainNetwork}}
+use Rattle.fb_types.specs.{Network.Network.{View, instance_named}, Network.Clean.{port_named}, ByName.{declared}, Applications.{applications_of}}
+use Rattle.fb_types.specs.{declared.systems.Application.{Application}, Network.Part.{SameAdapters}, Network.Ready.{Nets, AreFinished}}
 use Rattle.fb_flatten.proofs.{CleanUnits.{applications_clean}, ComputedFlats.{clean_with}, ComputedNets.{done_part, unit_faultless}, FlatLocality.{found}}
 use Rattle.fb_flatten.proofs.{MentionLemmas.{applications_within, declared_within}, SoundLemmas.{clean_network, sound_part, sound_network}}
 use Rattle.fb_flatten.specs.{Far.{far_of}, Net.{PlainNet}, Tables.{IsComposable, IsSoundOrder, IsTable}}
-use Rattle.fb_wiring.proofs.FoundUnits.{system_applications}
+use Rattle.fb_types.proofs.FoundUnits.{system_applications}
 
 module _ (table view : View) where
   -- both have the same adapters of these ports

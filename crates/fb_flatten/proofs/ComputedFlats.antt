@@ -1,16 +1,16 @@
 -- Through enough depths flat networks and instances are found.
 use Rattle.std.proofs.Common.{Ordering, ◌≡◌, ℕ, suc, List, [], ◌∷◌, ◌++◌, Some, None, refl, sym, ap, subst}
 use Rattle.std.specs.{Prelude.{Contains, ◌≢◌, option_map}, FinMap.{get}, Cmp.{IsTotalOrder}, Ordering.{is_eq}, declared.cmp.Ordering.TheVariants.{Equal}}
-use Rattle.fb_wiring.specs.{Text.Order.{in_order}, Library.View.{Sources, parts_at}, Library.Rests.{PartRests, on_itself, through_part}}
-use Rattle.fb_wiring.specs.{Network.declared.network.InstanceKind.{InstanceKind}, Network.declared.network.InstanceKind.TheVariants.{Block, Subapplication}}
-use Rattle.fb_wiring.specs.{Network.declared.network.Instance.{Instance}, Network.declared.flat.Link.{Link}, Network.declared.flat.Border.{Border}}
-use Rattle.fb_wiring.specs.{Network.Plain.{PlainNetwork}, Network.LinkOrder.{link_cmp, link_cmp_total, border_cmp, border_cmp_total}}
-use Rattle.fb_wiring.specs.{Network.Network.{View, instance_named}, Network.Clean.{IsClean, IsCleanThroughout, CleanThroughout}}
-use Rattle.fb_wiring.specs.{Network.Instances.{Held, held_as, AreInstances, NoInstance, ThenBlock, ThenSubapplication}, Network.FlatNet.{IsFlat}}
-use Rattle.fb_wiring.specs.{Network.Composed.{composed_blocks, composed_borders, composed_links}, Network.Ready.{Nets, IsFinished, AreFinished}}
-use Rattle.fb_wiring.specs.{ByName.{declared}, Networks.{network_of}}
-use Rattle.fb_wiring.proofs.{Text.OrderLemmas.{in_order-members, in_order-sorted}, Text.Members.{contains_here, contains_later}}
-use Rattle.fb_wiring.proofs.{Network.Composing.{found_by_name}, Network.Equals.{exact_border, exact_link}, Network.FlatLemmas.{IsOrderOf, flat_of}}
+use Rattle.fb_types.specs.{Text.Order.{in_order}, Library.View.{Sources, parts_at}, Library.Rests.{PartRests, on_itself, through_part}}
+use Rattle.fb_types.specs.{Network.declared.network.InstanceKind.{InstanceKind}, Network.declared.network.InstanceKind.TheVariants.{Block, Subapplication}}
+use Rattle.fb_types.specs.{Network.declared.network.Instance.{Instance}, Network.declared.flat.Link.{Link}, Network.declared.flat.Border.{Border}}
+use Rattle.fb_types.specs.{Network.Plain.{PlainNetwork}, Network.LinkOrder.{link_cmp, link_cmp_total, border_cmp, border_cmp_total}}
+use Rattle.fb_types.specs.{Network.Network.{View, instance_named}, Network.Clean.{IsClean, IsCleanThroughout, CleanThroughout}}
+use Rattle.fb_types.specs.{Network.Instances.{Held, held_as, AreInstances, NoInstance, ThenBlock, ThenSubapplication}, Network.FlatNet.{IsFlat}}
+use Rattle.fb_types.specs.{Network.Composed.{composed_blocks, composed_borders, composed_links}, Network.Ready.{Nets, IsFinished, AreFinished}}
+use Rattle.fb_types.specs.{ByName.{declared}, Networks.{network_of}}
+use Rattle.fb_types.proofs.{Text.OrderLemmas.{in_order-members, in_order-sorted}, Text.Members.{contains_here, contains_later}}
+use Rattle.fb_types.proofs.{Network.Composing.{found_by_name}, Network.Equals.{exact_border, exact_link}, Network.FlatLemmas.{IsOrderOf, flat_of}}
 use Rattle.fb_faults.specs.Faults.{faults_of}
 use Rattle.fb_flatten.proofs.{CleanUnits.{networks_clean}, MentionLemmas.{declared_within}, OrderLemmas.{tree_of_faultless}, Depths.{Deep, deep}}
 use Rattle.fb_flatten.specs.Nets.{composed, composed_at, flats_of, held_inside, held_by, held_at, held_of}

@@ -2,21 +2,21 @@
 use Rattle.std.proofs.Common.{◌≡◌, ℕ, Bool, true, false, cond, if◌then◌else◌, List, [], ◌∷◌, length, ◌⊎◌, inl, inr, Option, Some, None, refl, sym, ap, subst, ◌∙◌, arith}
 use Rattle.std.proofs.{lemmas.Bool.{false≢true}, lemmas.Bool.Decides.{nat_tests}, lemmas.List.Kept.{IsStrictlySortedBy-filter}}
 use Rattle.std.specs.{Prelude.{Contains, ◌≢◌, nat_lt, map, filter, option_map}, List.{flat_map}, Option.{option_and_then}, FinMap.{get}}
-use Rattle.fb_wiring.specs.Text.Order.{name_cmp, in_order}
-use Rattle.fb_wiring.specs.Tree.Tree.{DeclTree, subapplication_type, system_configuration}
-use Rattle.fb_wiring.specs.declared.systems.Application.{Application}
-use Rattle.fb_wiring.specs.Units.{HasNet, has_net_tree, own_instances, AreFlatApplications, NoApplication, ThenApplication, Holds, IsUnitFlat, OfSubapplication, OfSystem}
-use Rattle.fb_wiring.specs.Library.Seen.{has_name}
-use Rattle.fb_wiring.specs.{Tree.Mentions.{unit_kind_of}, Library.View.{Sources, parts_at, tree_at, tree_of}}
-use Rattle.fb_wiring.specs.{Library.Rests.{Rests, itself, PartRests, on_itself, through_part}, Library.Local.{AgreeFar}}
-use Rattle.fb_wiring.specs.{Reaches.{IsRecursive}, Network.declared.count.TheConstants.{INSTANCE_LIMIT}, Network.PlainFlat.{PlainFlat}}
-use Rattle.fb_wiring.specs.{Network.LinkOrder.{link_cmp, link_cmp_total}, Network.Network.{View}, Network.FlatNet.{IsFlat}, Network.Instances.{Held}}
-use Rattle.fb_wiring.specs.{Network.SystemFlat.{IsSystemFlat, application_links}, Network.declared.application.FlatApplication.{FlatApplication}}
-use Rattle.fb_wiring.specs.{Applications.{applications_of}, ByName.{applications_at, declared}, Networks.{network_of}}
-use Rattle.fb_wiring.proofs.{Text.OrderLemmas.{in_order-sorted}, Library.Locality.{far_local, part_mention, parts_both, parts_rest, rests_more}}
-use Rattle.fb_wiring.proofs.Text.Members.{contains_nothing, contains_filter, passes_in_filter, contains_here, contains_later}
-use Rattle.fb_wiring.proofs.{Network.SystemLemmas.{system_links_are}, Library.WalkLemmas.{Contains-has, has-Contains}}
-use Rattle.fb_wiring.specs.Tree.declared.kinds.UnitKind.TheVariants as kinds
+use Rattle.fb_types.specs.Text.Order.{name_cmp, in_order}
+use Rattle.fb_types.specs.Tree.Tree.{DeclTree, subapplication_type, system_configuration}
+use Rattle.fb_types.specs.declared.systems.Application.{Application}
+use Rattle.fb_types.specs.Units.{HasNet, has_net_tree, own_instances, AreFlatApplications, NoApplication, ThenApplication, Holds, IsUnitFlat, OfSubapplication, OfSystem}
+use Rattle.fb_types.specs.Library.Seen.{has_name}
+use Rattle.fb_types.specs.{Tree.Mentions.{unit_kind_of}, Library.View.{Sources, parts_at, tree_at, tree_of}}
+use Rattle.fb_types.specs.{Library.Rests.{Rests, itself, PartRests, on_itself, through_part}, Library.Local.{AgreeFar}}
+use Rattle.fb_types.specs.{Reaches.{IsRecursive}, Network.declared.count.TheConstants.{INSTANCE_LIMIT}, Network.PlainFlat.{PlainFlat}}
+use Rattle.fb_types.specs.{Network.LinkOrder.{link_cmp, link_cmp_total}, Network.Network.{View}, Network.FlatNet.{IsFlat}, Network.Instances.{Held}}
+use Rattle.fb_types.specs.{Network.SystemFlat.{IsSystemFlat, application_links}, Network.declared.application.FlatApplication.{FlatApplication}}
+use Rattle.fb_types.specs.{Applications.{applications_of}, ByName.{applications_at, declared}, Networks.{network_of}}
+use Rattle.fb_types.proofs.{Text.OrderLemmas.{in_order-sorted}, Library.Locality.{far_local, part_mention, parts_both, parts_rest, rests_more}}
+use Rattle.fb_types.proofs.Text.Members.{contains_nothing, contains_filter, passes_in_filter, contains_here, contains_later}
+use Rattle.fb_types.proofs.{Network.SystemLemmas.{system_links_are}, Library.WalkLemmas.{Contains-has, has-Contains}}
+use Rattle.fb_types.specs.Tree.declared.kinds.UnitKind.TheVariants as kinds
 use Rattle.fb_faults.specs.Faults.{faults_of}
 use Rattle.fb_flatten.proofs.{CleanUnits.{applications_clean, networks_clean}, MentionLemmas.{applications_within, declared_within, own_within}}
 use Rattle.fb_flatten.proofs.{NetLemmas.{blocking_those, recursive_those}, OrderLemmas.{present_of_tree}, NetLocality.{net_local}, OneNet.{one_net_only}}

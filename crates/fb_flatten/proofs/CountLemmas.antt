@@ -2,20 +2,20 @@
 use Rattle.std.proofs.Common.{ℕ, ◌≡◌, ◌<◌, ◌≤◌, true, false, arith, length, is_some, ◌+◌, List, [], ◌∷◌, ◌++◌, Option, Some, inl, inr, sym, ◌∙◌, ap, subst, take, get_or, length-append}
 use Rattle.std.proofs.{lemmas.List.{get_or_default, length-map}, lemmas.List.Elements.{Contains-push_cases}}
 use Rattle.std.specs.{Prelude.{Contains, map, option_map}, BTreeMap.{is_at}}
-use Rattle.fb_wiring.specs.{Text.Order.{name_cmp}, Tree.Tree.{DeclTree, subapplication_type, system_configuration}}
-use Rattle.fb_wiring.specs.{Tree.Mentions.{unit_kind_of}, Library.View.{Sources, parts_at, tree_at}, Network.declared.count.TheConstants.{INSTANCE_LIMIT}}
-use Rattle.fb_wiring.specs.{Network.declared.network.InstanceKind.TheVariants.{Subapplication}, Network.declared.network.Instance.{Instance}}
-use Rattle.fb_wiring.specs.{Network.Plain.{PlainNetwork}, Network.Network.{View}}
-use Rattle.fb_wiring.specs.{Network.Instances.{Held, held_within, AreInstances, NoInstance, ThenBlock, ThenSubapplication}, ByName.{declared, kind_at}}
-use Rattle.fb_wiring.specs.{Networks.{network_of}, Applications.{applications_of}, declared.systems.Application.{Application}}
-use Rattle.fb_wiring.specs.{Counts.{IsCounted, AreCounted, CountsAll, HasCount}, Order.{IsOrdered}, Holders.{holders_of, is_holder}}
-use Rattle.fb_wiring.specs.Units.{has_net_in, own_instances}
-use Rattle.fb_wiring.specs.Tree.declared.kinds.UnitKind.TheVariants as kinds
+use Rattle.fb_types.specs.{Text.Order.{name_cmp}, Tree.Tree.{DeclTree, subapplication_type, system_configuration}}
+use Rattle.fb_types.specs.{Tree.Mentions.{unit_kind_of}, Library.View.{Sources, parts_at, tree_at}, Network.declared.count.TheConstants.{INSTANCE_LIMIT}}
+use Rattle.fb_types.specs.{Network.declared.network.InstanceKind.TheVariants.{Subapplication}, Network.declared.network.Instance.{Instance}}
+use Rattle.fb_types.specs.{Network.Plain.{PlainNetwork}, Network.Network.{View}}
+use Rattle.fb_types.specs.{Network.Instances.{Held, held_within, AreInstances, NoInstance, ThenBlock, ThenSubapplication}, ByName.{declared, kind_at}}
+use Rattle.fb_types.specs.{Networks.{network_of}, Applications.{applications_of}, declared.systems.Application.{Application}}
+use Rattle.fb_types.specs.{Counts.{IsCounted, AreCounted, CountsAll, HasCount}, Order.{IsOrdered}, Holders.{holders_of, is_holder}}
+use Rattle.fb_types.specs.Units.{has_net_in, own_instances}
+use Rattle.fb_types.specs.Tree.declared.kinds.UnitKind.TheVariants as kinds
 use Rattle.fb_flatten.specs.{Clean.{wanted_kind}, Net.{PlainNet, IsSound}}
 use Rattle.fb_flatten.specs.Tables.{AllCounted, AreRightCounts, IsSmallType, IsSoundOrder, IsTable, IsUnitCount, SameOthers, is_subapplication_in, is_subapplication_tree}
-use Rattle.fb_wiring.proofs.Text.Tests.{by_bool}
-use Rattle.fb_wiring.proofs.{Text.Members.{contains_cases, contains_nothing, origin_in_flat_map}, Network.Equals.{same_bytes, at_not}, LeftLemmas.{get_holder}}
-use Rattle.fb_wiring.proofs.KindLemmas.{subapplication_by_tree, subapplication_told}
+use Rattle.fb_types.proofs.Text.Tests.{by_bool}
+use Rattle.fb_types.proofs.{Text.Members.{contains_cases, contains_nothing, origin_in_flat_map}, Network.Equals.{same_bytes, at_not}, UncachedLemmas.{get_holder}}
+use Rattle.fb_types.proofs.KindLemmas.{subapplication_by_tree, subapplication_told}
 use Rattle.fb_flatten.proofs.{CleanUnits.{applications_clean, networks_clean}, KeptLemmas.{part_kept}, ComputedNets.{has_by_text, unit_faultless}}
 use Rattle.fb_flatten.proofs.{MentionLemmas.{own_within}, SoundLemmas.{sound_network, sound_tree}}
 

@@ -2,10 +2,10 @@
 use Rattle.std.proofs.Common.{◌≡◌, ℕ, zero, suc, ◌≤◌, Bool, true, false, List, [], ◌∷◌, length, refl, sym, subst, arith}
 use Rattle.std.proofs.{lemmas.Bool.{false≢true, or_right}}
 use Rattle.std.specs.{Prelude.{Contains, ◌↔◌}, List.{list_any}}
-use Rattle.fb_wiring.proofs.{Text.Tests.{by_bool, or_cases}, Library.WalkLemmas.{Contains-has, has-Contains}, StackLemmas.{reaches_more}}
-use Rattle.fb_wiring.proofs.{Text.Members.{contains_here}, Library.SeenLemmas.{same, same_is, one_fewer, some_unseen, all_unseen}, Library.Locality.{part_mention, rests_more}}
-use Rattle.fb_wiring.specs.{Library.View.{Sources, parts_at}, Library.Rests.{Rests, PartRests, on_itself, through_part}}
-use Rattle.fb_wiring.specs.{Library.Seen.{has_name, unseen}, Reaches.{Reaches, directly, onward, IsRecursive}}
+use Rattle.fb_types.proofs.{Text.Tests.{by_bool, or_cases}, Library.WalkLemmas.{Contains-has, has-Contains}, StackLemmas.{reaches_more}}
+use Rattle.fb_types.proofs.{Text.Members.{contains_here}, Library.SeenLemmas.{same, same_is, one_fewer, some_unseen, all_unseen}, Library.Locality.{part_mention, rests_more}}
+use Rattle.fb_types.specs.{Library.View.{Sources, parts_at}, Library.Rests.{Rests, PartRests, on_itself, through_part}}
+use Rattle.fb_types.specs.{Library.Seen.{has_name, unseen}, Reaches.{Reaches, directly, onward, IsRecursive}}
 use Rattle.fb_flatten.specs.{Far.{far_of, part_far_of}, Nets.{is_recursive}}
 use Rattle.fb_flatten.proofs.FarNames.{far_is_all, part_far_is_all}
 

@@ -1,10 +1,10 @@
 -- What opening finds is all that a unit rests on.
 use Rattle.std.proofs.Common.{ℕ, List, [], ◌∷◌, refl, sym, subst}
 use Rattle.std.specs.Prelude.{Contains, ◌↔◌}
-use Rattle.fb_wiring.specs.{Library.View.{Sources, mentions_at, mentions_in, parts_at, parts_in}, Library.Rests.{PartRests, itself}}
-use Rattle.fb_wiring.specs.{Library.Near.{in_all_trees}, Library.Opened.{Leads}}
-use Rattle.fb_wiring.proofs.{Library.FarLemmas.{leads_part_rests, leads_rests, one_list, part_rests_leads, rests_leads}, Library.Locality.{far_local}}
-use Rattle.fb_wiring.proofs.{Library.Opening.{led_from_is_all}, Library.WalkLemmas.{mentioned_somewhere}, Text.Members.{contains_here, contains_single}}
+use Rattle.fb_types.specs.{Library.View.{Sources, mentions_at, mentions_in, parts_at, parts_in}, Library.Rests.{PartRests, itself}}
+use Rattle.fb_types.specs.{Library.Near.{in_all_trees}, Library.Opened.{Leads}}
+use Rattle.fb_types.proofs.{Library.FarLemmas.{leads_part_rests, leads_rests, one_list, part_rests_leads, rests_leads}, Library.Locality.{far_local}}
+use Rattle.fb_types.proofs.{Library.Opening.{led_from_is_all}, Library.WalkLemmas.{mentioned_somewhere}, Text.Members.{contains_here, contains_single}}
 use Rattle.fb_flatten.specs.Far.{far_of, part_far_of, FarIsAll, FarOfIsLocal}
 
 pub far_is_all : FarIsAll

@@ -1,15 +1,15 @@
 -- The flat network of a network is found by the networks alone that it rests on.
 use Rattle.std.proofs.Common.{ℕ, ◌≡◌, Bool, List, [], ◌∷◌, Option, Some, inl, inr, sym, ◌∙◌, ap, arith}
-use Rattle.fb_wiring.proofs.Text.Members.{contains_here, contains_later, passes_in_find}
+use Rattle.fb_types.proofs.Text.Members.{contains_here, contains_later, passes_in_find}
 use Rattle.std.specs.{Prelude.{Contains, find, ◌&&◌, option_and_then}, BTreeMap.{is_at}}
-use Rattle.fb_wiring.specs.{Text.Order.{name_cmp}, Tree.declared.network.Sort.{Sort}, Tree.declared.network.Sort.TheVariants.{Adapter}}
-use Rattle.fb_wiring.specs.{Network.Sorts.{same_sort}, Network.declared.network.Port.{Port}, Network.declared.network.Instance.{Instance}}
-use Rattle.fb_wiring.specs.{Network.Plain.{PlainNetwork}, Network.PlainFlat.{PlainFlat}, Network.declared.flat.Link.{Link}}
-use Rattle.fb_wiring.specs.Network.declared.flat.Border.{Border}
-use Rattle.fb_wiring.specs.Network.Network.{View, Place, instance_named, IsInner, Step, Holds, Within as Inside, IsBorderPlace, OwnPort, PortWithin, IsLeafPlace, BlockPort, LeafWithin, Chain, One, More, IsLink, IsBorder}
-use Rattle.fb_wiring.specs.{Network.Flat.{AreLinks, AreBorders}, Network.FlatNet.{IsFlat}}
-use Rattle.fb_wiring.specs.{Network.Clean.{port_named, type_of, adapter_name_at, adapter_at}, Network.NetLink.{IsNetLink, Direct, FromPlug, ToPlug}}
-use Rattle.fb_wiring.specs.{Network.Instances.{Held, AreInstances, NoInstance, ThenBlock, ThenSubapplication}, Network.Count.{IsCount}}
+use Rattle.fb_types.specs.{Text.Order.{name_cmp}, Tree.declared.network.Sort.{Sort}, Tree.declared.network.Sort.TheVariants.{Adapter}}
+use Rattle.fb_types.specs.{Network.Sorts.{same_sort}, Network.declared.network.Port.{Port}, Network.declared.network.Instance.{Instance}}
+use Rattle.fb_types.specs.{Network.Plain.{PlainNetwork}, Network.PlainFlat.{PlainFlat}, Network.declared.flat.Link.{Link}}
+use Rattle.fb_types.specs.Network.declared.flat.Border.{Border}
+use Rattle.fb_types.specs.Network.Network.{View, Place, instance_named, IsInner, Step, Holds, Within as Inside, IsBorderPlace, OwnPort, PortWithin, IsLeafPlace, BlockPort, LeafWithin, Chain, One, More, IsLink, IsBorder}
+use Rattle.fb_types.specs.{Network.Flat.{AreLinks, AreBorders}, Network.FlatNet.{IsFlat}}
+use Rattle.fb_types.specs.{Network.Clean.{port_named, type_of, adapter_name_at, adapter_at}, Network.NetLink.{IsNetLink, Direct, FromPlug, ToPlug}}
+use Rattle.fb_types.specs.{Network.Instances.{Held, AreInstances, NoInstance, ThenBlock, ThenSubapplication}, Network.Count.{IsCount}}
 use Rattle.fb_flatten.specs.Locality.{Within, IsClosed, SameNetworks, SameFlats}
 
 -- what a search finds stands in the list

@@ -2,17 +2,17 @@
 use Rattle.std.proofs.Common.{ℕ, zero, suc, ◌≡◌, ◌<◌, true, false, not, List, [], ◌∷◌, ◌++◌, Option, Some, inl, inr, sym, ◌∙◌, ap, subst, take, get_or, length, arith}
 use Rattle.std.proofs.{lemmas.Bool.{and_parts}, lemmas.List.Elements.{Contains-push_cases}}
 use Rattle.std.specs.{Prelude.{Contains, ◌≢◌, option_map}, Option.{option_or}, BTreeMap.{is_at}}
-use Rattle.fb_wiring.proofs.{Text.Tests.{by_bool, not_true}, Text.Members.{contains_cases, contains_here, contains_later, contains_nothing}}
-use Rattle.fb_wiring.proofs.{Network.Equals.{same_bytes, not_at, at_not}, KindLemmas.{subapplication_told}}
-use Rattle.fb_wiring.proofs.FoundUnits.{own_of_application, own_of_type, system_applications}
-use Rattle.fb_wiring.specs.{Text.Order.{name_cmp}, Tree.Mentions.{unit_kind_of}}
-use Rattle.fb_wiring.specs.Tree.Tree.{DeclTree}
-use Rattle.fb_wiring.specs.{Library.View.{Sources, parts_at, tree_at}}
-use Rattle.fb_wiring.specs.{Network.declared.network.InstanceKind.TheVariants.{Subapplication}, Network.declared.network.Instance.{Instance}}
-use Rattle.fb_wiring.specs.{Network.Plain.{PlainNetwork}, Network.PlainFlat.{PlainFlat}, Network.Network.{View}, Network.Instances.{AreInstances}}
-use Rattle.fb_wiring.specs.{Applications.{applications_of}, ByName.{declared, kind_at}, Networks.{network_of}}
-use Rattle.fb_wiring.specs.{Network.Ready.{Nets, IsFinished, AreFinished}, Units.{HasNet, IsUnitFlat, IsWithinLimit, OfSubapplication, OfSystem, own_instances}}
-use Rattle.fb_wiring.specs.Tree.declared.kinds.UnitKind.TheVariants as kinds
+use Rattle.fb_types.proofs.{Text.Tests.{by_bool, not_true}, Text.Members.{contains_cases, contains_here, contains_later, contains_nothing}}
+use Rattle.fb_types.proofs.{Network.Equals.{same_bytes, not_at, at_not}, KindLemmas.{subapplication_told}}
+use Rattle.fb_types.proofs.FoundUnits.{own_of_application, own_of_type, system_applications}
+use Rattle.fb_types.specs.{Text.Order.{name_cmp}, Tree.Mentions.{unit_kind_of}}
+use Rattle.fb_types.specs.Tree.Tree.{DeclTree}
+use Rattle.fb_types.specs.{Library.View.{Sources, parts_at, tree_at}}
+use Rattle.fb_types.specs.{Network.declared.network.InstanceKind.TheVariants.{Subapplication}, Network.declared.network.Instance.{Instance}}
+use Rattle.fb_types.specs.{Network.Plain.{PlainNetwork}, Network.PlainFlat.{PlainFlat}, Network.Network.{View}, Network.Instances.{AreInstances}}
+use Rattle.fb_types.specs.{Applications.{applications_of}, ByName.{declared, kind_at}, Networks.{network_of}}
+use Rattle.fb_types.specs.{Network.Ready.{Nets, IsFinished, AreFinished}, Units.{HasNet, IsUnitFlat, IsWithinLimit, OfSubapplication, OfSystem, own_instances}}
+use Rattle.fb_types.specs.Tree.declared.kinds.UnitKind.TheVariants as kinds
 use Rattle.fb_flatten.specs.{Hints.{AreRightHints, flat_of_hint, is_whole_hint}, Net.{PlainNet}}
 use Rattle.fb_flatten.specs.Tables.{AllFinished, AreComposedTogether, AreMissing, IsAdded, IsComposed, IsSmallType, IsTable, IsUnitOrder, SameOthers, is_missing, is_system_tree, known_flats}
 use Rattle.fb_flatten.proofs.{ComposeLemmas.{application_composable, type_composable}, CountLemmas.{inner_kind, inner_small, own_kind}}

@@ -1,13 +1,13 @@
 -- What kept nets tell of their units.
 use Rattle.std.proofs.{Common.{ℕ, ◌≡◌, Bool, true, false, arith, length, List, Option, Some, None, ap, subst}, lemmas.Bool.{false≢true}}
 use Rattle.std.specs.{Prelude.{is_none, option_map}, FinMap.{get}, Option.{option_or}}
-use Rattle.fb_wiring.specs.Tree.Mentions.{unit_kind_of}
-use Rattle.fb_wiring.specs.Tree.Tree.{DeclTree, subapplication_type}
-use Rattle.fb_wiring.specs.Units.{IsTooLarge, IsUnitFlat, OfSubapplication, OfSystem, own_instances}
-use Rattle.fb_wiring.specs.{Library.View.{Sources, tree_at}, Network.Plain.{PlainNetwork}, Network.PlainFlat.{PlainFlat}}
-use Rattle.fb_wiring.specs.{Network.Instances.{Held, AreInstances}, ByName.{declared, kind_at}, Networks.{network_of}, Network.Ready.{Nets, IsFinished}}
-use Rattle.fb_wiring.specs.Tree.declared.kinds.UnitKind.TheVariants as kinds
-use Rattle.fb_wiring.proofs.Network.BlockLemmas.{same_instances}
+use Rattle.fb_types.specs.Tree.Mentions.{unit_kind_of}
+use Rattle.fb_types.specs.Tree.Tree.{DeclTree, subapplication_type}
+use Rattle.fb_types.specs.Units.{IsTooLarge, IsUnitFlat, OfSubapplication, OfSystem, own_instances}
+use Rattle.fb_types.specs.{Library.View.{Sources, tree_at}, Network.Plain.{PlainNetwork}, Network.PlainFlat.{PlainFlat}}
+use Rattle.fb_types.specs.{Network.Instances.{Held, AreInstances}, ByName.{declared, kind_at}, Networks.{network_of}, Network.Ready.{Nets, IsFinished}}
+use Rattle.fb_types.specs.Tree.declared.kinds.UnitKind.TheVariants as kinds
+use Rattle.fb_types.proofs.Network.BlockLemmas.{same_instances}
 use Rattle.fb_flatten.specs.{Blocking.{is_absent_or_faulty, is_blocking}, Hints.{AreRightHints, flat_of_hint, is_whole_hint, is_whole_net}}
 use Rattle.fb_flatten.specs.{Net.{PlainNet, too_large, flat_net, IsNet, IsSound}, Tables.{IsSmallType, known_flats}}
 use Rattle.fb_flatten.proofs.ComputedNets.{net_at_is, unit_faultless}

@@ -1,18 +1,18 @@
 -- The applications of a text have no plugs and no sockets.
 use Rattle.std.proofs.Common.{◌≡◌, ℕ, Bool, true, false, List, [], ◌∷◌, ◌++◌, length, Option, Some, None, Result, Ok, Err, sym, ap, ◌∙◌, subst, inl, inr}
 use Rattle.std.specs.{FinMap.{get}, Option.{option_and_then}}
-use Rattle.fb_wiring.specs.{Text.declared.token.Span.{Span}, Text.declared.name.NameUse.{NameUse}, Forms.Lexemes.{lexemes_of}, Forms.declared.kind.Kind.{Kind}, Forms.declared.lexeme.Lexeme.{Lexeme}}
-use Rattle.fb_wiring.specs.{Forms.Form.{Form, Spells, both, many, as_value}, Forms.Words.{before, behind, key, name}}
-use Rattle.fb_wiring.specs.{Sections.Network.{blocks, instance, inner_subapplication, subapplications}, Sections.Sections.{section}}
-use Rattle.fb_wiring.specs.Tree.Tree.{ApplicationTree, DeclTree, InstanceTree, SystemTree, system_configuration}
-use Rattle.fb_wiring.specs.Parse.Grammar.{application, application_of, application_section, network_section, system, system_of, system_section, unit}
-use Rattle.fb_wiring.specs.Parse.SystemContents.{SystemContentsTree, system_joined}
-use Rattle.fb_wiring.specs.Library.View.{Sources, tree_at, tree_in, tree_of}
-use Rattle.fb_wiring.specs.{Tree.declared.network.Role.{Role}}
-use Rattle.fb_wiring.specs.{Parse.Body.{BodyTree, Whole, BrokenAt, IsBodyIn, body_of}, Parse.Contents.{ContentsTree, joined}}
-use Rattle.fb_wiring.specs.Forms.declared.kind.Kind.TheVariants as kinds
-use Rattle.fb_wiring.specs.Tree.declared.network.Role.TheVariants as roles
-use Rattle.fb_wiring.proofs.Parse.Bodies.{told}
+use Rattle.fb_types.specs.{Text.declared.token.Span.{Span}, Text.declared.name.NameUse.{NameUse}, Forms.Lexemes.{lexemes_of}, Forms.declared.kind.Kind.{Kind}, Forms.declared.lexeme.Lexeme.{Lexeme}}
+use Rattle.fb_types.specs.{Forms.Form.{Form, Spells, both, many, as_value}, Forms.Words.{before, behind, key, name}}
+use Rattle.fb_types.specs.{Sections.Network.{blocks, instance, inner_subapplication, subapplications}, Sections.Sections.{section}}
+use Rattle.fb_types.specs.Tree.Tree.{ApplicationTree, DeclTree, InstanceTree, SystemTree, system_configuration}
+use Rattle.fb_types.specs.Parse.Grammar.{application, application_of, application_section, network_section, system, system_of, system_section, unit}
+use Rattle.fb_types.specs.Parse.SystemContents.{SystemContentsTree, system_joined}
+use Rattle.fb_types.specs.Library.View.{Sources, tree_at, tree_in, tree_of}
+use Rattle.fb_types.specs.{Tree.declared.network.Role.{Role}}
+use Rattle.fb_types.specs.{Parse.Body.{BodyTree, Whole, BrokenAt, IsBodyIn, body_of}, Parse.Contents.{ContentsTree, joined}}
+use Rattle.fb_types.specs.Forms.declared.kind.Kind.TheVariants as kinds
+use Rattle.fb_types.specs.Tree.declared.network.Role.TheVariants as roles
+use Rattle.fb_types.proofs.Parse.Bodies.{told}
 use Rattle.fb_faults.proofs.Netcheck.Locality.{Each}
 
 -- each value that tokens spell by the form has the fact

@@ -1,13 +1,13 @@
 -- What is composed for a unit is the net of its type, where that is counted within the limit.
 use Rattle.std.proofs.{Common.{ℕ, ◌≡◌, ◌≤◌, arith, true, not, List, Option, Some, inl, sym, ◌∙◌, ap, subst}, lemmas.Bool.{and_parts, false≢true}}
 use Rattle.std.specs.{Prelude.{Contains, ◌≢◌, option_map}, Option.{option_or}, BTreeMap.{is_at}}
-use Rattle.fb_wiring.specs.{Text.Order.{name_cmp}}
-use Rattle.fb_wiring.specs.Tree.Tree.{TypeTree, subapplication_type}
-use Rattle.fb_wiring.specs.{Library.View.{Sources, tree_at}, Network.declared.count.TheConstants.{INSTANCE_LIMIT}, Network.Plain.{PlainNetwork}}
-use Rattle.fb_wiring.specs.{Network.PlainFlat.{PlainFlat}, Network.Instances.{Held, AreInstances}, Network.FlatNet.{IsFlat}, Counts.{IsCounted}}
-use Rattle.fb_wiring.specs.{Network.Ready.{Nets}, ByName.{declared, kind_at}, Networks.{network_of}, Units.{Holds, IsUnitFlat, IsWithinLimit, OfSubapplication}}
-use Rattle.fb_wiring.specs.Tree.declared.kinds.UnitKind.TheVariants as kinds
-use Rattle.fb_wiring.proofs.{Text.Tests.{not_true}, KindLemmas.{subapplication_by_tree}, Network.Equals.{bytes_same}, Library.Locality.{parts_rest}}
+use Rattle.fb_types.specs.{Text.Order.{name_cmp}}
+use Rattle.fb_types.specs.Tree.Tree.{TypeTree, subapplication_type}
+use Rattle.fb_types.specs.{Library.View.{Sources, tree_at}, Network.declared.count.TheConstants.{INSTANCE_LIMIT}, Network.Plain.{PlainNetwork}}
+use Rattle.fb_types.specs.{Network.PlainFlat.{PlainFlat}, Network.Instances.{Held, AreInstances}, Network.FlatNet.{IsFlat}, Counts.{IsCounted}}
+use Rattle.fb_types.specs.{Network.Ready.{Nets}, ByName.{declared, kind_at}, Networks.{network_of}, Units.{Holds, IsUnitFlat, IsWithinLimit, OfSubapplication}}
+use Rattle.fb_types.specs.Tree.declared.kinds.UnitKind.TheVariants as kinds
+use Rattle.fb_types.proofs.{Text.Tests.{not_true}, KindLemmas.{subapplication_by_tree}, Network.Equals.{bytes_same}, Library.Locality.{parts_rest}}
 use Rattle.fb_flatten.specs.{Hints.{is_whole_hint}, Inner.{IsCountedFlat, IsCountedWithin, IsInnerNet}, Net.{PlainNet, flat_net}, Nets.{net_at}}
 use Rattle.fb_flatten.specs.{Tables.{AllFinished, AreRightCounts, AreMissing, IsSmallType, IsUnitOrder, is_missing, known_flats}, declared.inner.Inner.{Inner}}
 use Rattle.fb_flatten.proofs.{ComputedNets.{net_at_is}, HintLemmas.{no_flat}}

@@ -1,9 +1,9 @@
 -- What rests on what by parts in a part of the sources.
 use Rattle.std.proofs.Common.{ℕ, ◌≡◌, Bool, true, false, cond, List, None, sym, ◌∙◌, ap, subst}
 use Rattle.std.specs.{Prelude.{Contains}, Option.{option_and_then}, FinMap.{get}}
-use Rattle.fb_wiring.proofs.{Text.Tests.{by_bool}, Text.Members.{contains_nothing}}
-use Rattle.fb_wiring.specs.{Library.View.{Sources, tree_of, parts_at, parts_in}, Library.Rests.{PartRests, on_itself, through_part}}
-use Rattle.fb_wiring.specs.Reaches.{Reaches, directly, onward}
+use Rattle.fb_types.proofs.{Text.Tests.{by_bool}, Text.Members.{contains_nothing}}
+use Rattle.fb_types.specs.{Library.View.{Sources, tree_of, parts_at, parts_in}, Library.Rests.{PartRests, on_itself, through_part}}
+use Rattle.fb_types.specs.Reaches.{Reaches, directly, onward}
 
 module _ (sources kept : Sources) (keeps : List ℕ → Bool) (is : (n : List ℕ) → get kept n ≡ cond (keeps n) (get sources n) None) where
   parts_by : (n : List ℕ) (b : Bool) → keeps n ≡ b → parts_at kept n ≡ parts_in (option_and_then tree_of (cond b (get sources n) None))

@@ -16,7 +16,7 @@ pub mod FarNames
 pub mod Depths
 pub mod ComputedFlats
 pub mod ComputedNets
-pub mod NetLeft
+pub mod NetUnchanged
 pub mod HintLemmas
 pub mod SoundLemmas
 pub mod KeptLemmas
@@ -27,7 +27,7 @@ pub mod FlatsLemmas
 pub mod InnerNets
 pub mod SuspectLemmas
 -- Of the crates below, for the crates above.
-pub use Rattle.fb_wiring.proofs.Parse as Parse
-pub use Rattle.fb_wiring.proofs.Library as Library
-pub use Rattle.fb_wiring.proofs.Iface as Iface
+pub use Rattle.fb_types.proofs.Parse as Parse
+pub use Rattle.fb_types.proofs.Library as Library
+pub use Rattle.fb_types.proofs.Iface as Iface
 pub use Rattle.fb_faults.proofs as Faults

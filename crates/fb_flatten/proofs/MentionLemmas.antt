@@ -3,19 +3,19 @@ use Rattle.std.proofs.Common.{ℕ, ◌≡◌, ◌+◌, List, [], ◌∷◌, ◌+
 use Rattle.std.proofs.lemmas.List.Elements.{Contains-append_cases}
 use Rattle.std.specs.{Prelude.{Contains, map, filter, is_none, take}, List.{filter_map, enumerate_from}}
 use Rattle.std.specs.{Cmp.Lexicographic.{nat_list_cmp_total}, FinMap.{slice_cmp-IsAntisymmetric, nat_cmp-IsAntisymmetric}}
-use Rattle.fb_wiring.specs.{Text.Order.{name_cmp}, Text.declared.name.NameUse.{NameUse}}
-use Rattle.fb_wiring.specs.Tree.Tree.{ApplicationTree, DeclTree, InstanceTree, TypeTree, block_type, adapter_type, subapplication_type, system_configuration}
-use Rattle.fb_wiring.specs.Iface.Ports.{meanings_in_type, events_on, data_on, instances_as, instances_in as declared_instances, same_role}
-use Rattle.fb_wiring.specs.{Tree.Mentions.{instance_types, parts_of, types_in}, Tree.declared.interface.Side.{Side}}
-use Rattle.fb_wiring.specs.{Tree.declared.interface.Side.TheVariants.{Input, Output}, Tree.declared.network.Role.{Role}}
-use Rattle.fb_wiring.specs.{Library.View.{Sources, tree_at, parts_at, parts_in}, Iface.Names.{first_ones, stands_for}}
-use Rattle.fb_wiring.specs.{Iface.declared.ports.DeclaredInstance.{DeclaredInstance}, Network.declared.network.Instance.{Instance}}
-use Rattle.fb_wiring.specs.{Network.declared.network.Port.{Port}, Network.Plain.{PlainNetwork}, Applications.{applications_of, plain_application}}
-use Rattle.fb_wiring.specs.{ByName.{applications_at, declared}, Networks.{instance_in_role, plain_instance, network_of, leaf}}
-use Rattle.fb_wiring.specs.{Ports.{plain_ports, plain_event, plain_data, plain_adapter}, declared.systems.Application.{Application}, Units.{own_instances}}
-use Rattle.fb_wiring.proofs.Text.OrderLemmas.{in_order-members}
-use Rattle.fb_wiring.proofs.Text.Members.{contains_nothing, contains_here, contains_later, contains_cases, contains_map, origin_in_map, contains_flat_map, origin_in_flat_map, passes_in_filter}
-use Rattle.fb_wiring.specs.Tree.declared.network.Role.TheVariants as roles
+use Rattle.fb_types.specs.{Text.Order.{name_cmp}, Text.declared.name.NameUse.{NameUse}}
+use Rattle.fb_types.specs.Tree.Tree.{ApplicationTree, DeclTree, InstanceTree, TypeTree, block_type, adapter_type, subapplication_type, system_configuration}
+use Rattle.fb_types.specs.Iface.Ports.{meanings_in_type, events_on, data_on, instances_as, instances_in as declared_instances, same_role}
+use Rattle.fb_types.specs.{Tree.Mentions.{instance_types, parts_of, types_in}, Tree.declared.interface.Side.{Side}}
+use Rattle.fb_types.specs.{Tree.declared.interface.Side.TheVariants.{Input, Output}, Tree.declared.network.Role.{Role}}
+use Rattle.fb_types.specs.{Library.View.{Sources, tree_at, parts_at, parts_in}, Iface.Names.{first_ones, stands_for}}
+use Rattle.fb_types.specs.{Iface.declared.ports.DeclaredInstance.{DeclaredInstance}, Network.declared.network.Instance.{Instance}}
+use Rattle.fb_types.specs.{Network.declared.network.Port.{Port}, Network.Plain.{PlainNetwork}, Applications.{applications_of, plain_application}}
+use Rattle.fb_types.specs.{ByName.{applications_at, declared}, Networks.{instance_in_role, plain_instance, network_of, leaf}}
+use Rattle.fb_types.specs.{Ports.{plain_ports, plain_event, plain_data, plain_adapter}, declared.systems.Application.{Application}, Units.{own_instances}}
+use Rattle.fb_types.proofs.Text.OrderLemmas.{in_order-members}
+use Rattle.fb_types.proofs.Text.Members.{contains_nothing, contains_here, contains_later, contains_cases, contains_map, origin_in_map, contains_flat_map, origin_in_flat_map, passes_in_filter}
+use Rattle.fb_types.specs.Tree.declared.network.Role.TheVariants as roles
 use Rattle.fb_flatten.specs.Locality.{Within}
 use Rattle.fb_flatten.proofs.NameLemmas.{mapped, origin_in_filter_map}
 

@@ -1,11 +1,11 @@
 -- Names of declarations: first ones, what is found by name, and lists without duplicates.
 use Rattle.std.proofs.Common.{◌≡◌, suc, ℕ, ◌<◌, Bool, true, false, cond, List, [], ◌∷◌, ◌++◌, map, Option, Some, None, option_map, is_some, refl, sym, ap, ◌∙◌, subst, arith, inl, inr}
 use Rattle.std.specs.{List.{Contains, cons_option, filter_map, find, slice_get}, Option.{option_and_then}}
-use Rattle.fb_wiring.specs.{Text.declared.name.NameUse.{NameUse}, Tree.Tree.{DeclTree}, Library.View.{Sources, tree_at}, Iface.Declarations.{iface_faults_of}}
-use Rattle.fb_wiring.specs.{Iface.Names.{first_ones, is_same, stands_for, with_first, with_firsts}, Iface.Spaces.{spaces_of}}
-use Rattle.fb_wiring.specs.{Iface.declared.code.Code.TheVariants.{Duplicate}, Iface.declared.fault.Fault.{Fault}}
-use Rattle.fb_wiring.proofs.{Text.Tests.{by_bool}, Text.Members.{contains_cases, contains_here, contains_later, contains_nothing}, Iface.NameLemmas.{same_exact, same_itself}}
-use Rattle.fb_wiring.proofs.{Iface.TableLemmas.{firsts_all}, Iface.DuplicateLemmas.{duplicate_in_whole, duplicate_reported}, Iface.EarlierLemmas.{IsEarlier}}
+use Rattle.fb_types.specs.{Text.declared.name.NameUse.{NameUse}, Tree.Tree.{DeclTree}, Library.View.{Sources, tree_at}, Iface.Declarations.{iface_faults_of}}
+use Rattle.fb_types.specs.{Iface.Names.{first_ones, is_same, stands_for, with_first, with_firsts}, Iface.Spaces.{spaces_of}}
+use Rattle.fb_types.specs.{Iface.declared.code.Code.TheVariants.{Duplicate}, Iface.declared.fault.Fault.{Fault}}
+use Rattle.fb_types.proofs.{Text.Tests.{by_bool}, Text.Members.{contains_cases, contains_here, contains_later, contains_nothing}, Iface.NameLemmas.{same_exact, same_itself}}
+use Rattle.fb_types.proofs.{Iface.TableLemmas.{firsts_all}, Iface.DuplicateLemmas.{duplicate_in_whole, duplicate_reported}, Iface.EarlierLemmas.{IsEarlier}}
 
 -- ---- first declarations
 other_way : (a b : List ℕ) → is_same b a ≡ false → is_same a b ≡ false

@@ -2,9 +2,9 @@
 use Rattle.std.proofs.Common.{ℕ, ◌≡◌, Bool, true, false, List, [], None, sym, subst, arith}
 use Rattle.std.proofs.{lemmas.List.Kept.{IsStrictlySortedBy-filter}}
 use Rattle.std.specs.{Prelude.{Contains, ◌≢◌, ◌↔◌, filter}, FinMap.{get}, List.Sorted.{IsStrictlySortedBy}}
-use Rattle.fb_wiring.specs.{Text.Order.{name_cmp}, Library.View.{Sources}, Library.Rests.{Rests}}
-use Rattle.fb_wiring.specs.Reaches.{IsRecursive, RestsOnRecursive}
-use Rattle.fb_wiring.proofs.Text.Members.{contains_nothing, contains_filter, passes_in_filter}
+use Rattle.fb_types.specs.{Text.Order.{name_cmp}, Library.View.{Sources}, Library.Rests.{Rests}}
+use Rattle.fb_types.specs.Reaches.{IsRecursive, RestsOnRecursive}
+use Rattle.fb_types.proofs.Text.Members.{contains_nothing, contains_filter, passes_in_filter}
 use Rattle.fb_flatten.specs.Blocking.{AreThose, IsBlocking, IsPartBelow, is_blocking, is_some_name}
 
 pub blocking_is : (sources : Sources) (unit v : List ℕ) (is_part : List ℕ → Bool) → (get sources v ≡ None → is_part v ≡ true → IsPartBelow sources unit v) → is_blocking sources is_part v ≡ true → IsBlocking sources unit v

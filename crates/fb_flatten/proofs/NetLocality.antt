@@ -1,17 +1,17 @@
 -- The net of a unit depends on the texts alone that the unit rests on.
 use Rattle.std.proofs.Common.{ℕ, ◌≡◌, List, [], inl, inr, sym, ◌∙◌, ap, option_map}
 use Rattle.std.specs.{Prelude.{Contains, Option}, Option.{option_and_then}}
-use Rattle.fb_wiring.specs.{Library.View.{Sources, parts_in, tree_at, tree_of, values_in}, Library.Near.{near_of}, Library.Rests.{Rests, itself}}
-use Rattle.fb_wiring.specs.{Library.Local.{AgreeFar}, Tree.Mentions.{unit_kind_of}, Applications.{applications_of}, Local.{SaysSame}, Networks.{network_of}}
-use Rattle.fb_wiring.specs.Tree.Tree.{DeclTree}
-use Rattle.fb_wiring.proofs.Library.Locality.{near_far, rests_both}
+use Rattle.fb_types.specs.{Library.View.{Sources, parts_in, tree_at, tree_of, values_in}, Library.Near.{near_of}, Library.Rests.{Rests, itself}}
+use Rattle.fb_types.specs.{Library.Local.{AgreeFar}, Tree.Mentions.{unit_kind_of}, Applications.{applications_of}, Local.{HasSameInterface}, Networks.{network_of}}
+use Rattle.fb_types.specs.Tree.Tree.{DeclTree}
+use Rattle.fb_types.proofs.Library.Locality.{near_far, rests_both}
 use Rattle.fb_faults.specs.Faults.{faults_of}
 use Rattle.fb_faults.proofs.Locality.{faults_local}
 use Rattle.fb_flatten.specs.{Blocking.{AreThose, IsBlocking}, Laws.{NetIsLocal}, Net.{PlainNet, blocked, recursive, too_large, flat_net, IsNet, IsSound}}
 use Rattle.fb_flatten.proofs.SaidFar.{SaysSameFar, far_back, far_there, large_there, part_back, part_there, recursive_those_there, unit_flat_there, within_there}
 
 -- one tree says what it says
-pub says_itself : (x y : Option DeclTree) → x ≡ y → SaysSame x y
+pub says_itself : (x y : Option DeclTree) → x ≡ y → HasSameInterface x y
 says_itself x y e = record {
   parts = ap parts_in e;
   values = ap values_in e;

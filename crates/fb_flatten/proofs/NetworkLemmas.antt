@@ -2,21 +2,21 @@
 use Rattle.std.proofs.Common.{◌≡◌, ℕ, Bool, true, false, cond, ◌&&◌, List, [], map, Option, Some, None, option_map, refl, sym, ap, ◌∙◌, subst, true≢false, arith}
 use Rattle.std.proofs.lemmas.List.Elements.{All-contains}
 use Rattle.std.specs.{List.{All, Contains}, Option.{option_and_then}}
-use Rattle.fb_wiring.specs.{Text.declared.name.NameUse.{NameUse}, Tree.Mentions.{unit_kind_of}, Tree.Tree.{DeclTree, InstanceTree, NetworkTree}}
-use Rattle.fb_wiring.specs.{Tree.declared.interface.TypeUse.{TypeUse}, Tree.declared.kinds.UnitKind.{UnitKind}}
-use Rattle.fb_wiring.specs.{Tree.declared.network.Connection.{Connection as ConnectionTree}, Tree.declared.network.End.{End as EndTree}}
-use Rattle.fb_wiring.specs.{Tree.declared.network.Role.{Role}, Tree.declared.network.Sort.{Sort}, Library.View.{Sources, tree_at}}
-use Rattle.fb_wiring.specs.{Iface.Names.{first_ones, has_name, is_same, stands_for}, Iface.Ports.{Meanings, instances_in, meanings_in}}
-use Rattle.fb_wiring.specs.{Iface.Scope.{ports_of, type_ports_of, usable}, Iface.Types.{instance_faults, suits, type_fault}}
-use Rattle.fb_wiring.specs.Iface.declared.ports.DeclaredInstance.{DeclaredInstance}
-use Rattle.fb_wiring.specs.Network.Clean.{IsDeclared, IsDestination, IsSource, adapter_name_at, port_named, side_at, type_of}
-use Rattle.fb_wiring.specs.Networks.{end_named, instance_in_role, network_of, plain_connection, plain_end, plain_instance, plain_network}
-use Rattle.fb_wiring.specs.{Network.Network.{IsConnected, View, instance_named, place_of}, Network.Plain.{PlainNetwork}, Network.declared.network.End.{End}}
-use Rattle.fb_wiring.specs.{Network.declared.network.End.TheVariants.{Own, Of}, Network.declared.network.Instance.{Instance}}
-use Rattle.fb_wiring.specs.{Network.declared.network.Port.{Port}, ByName.{declared, kind_at}}
-use Rattle.fb_wiring.specs.Tree.declared.network.Role.TheVariants as roles
-use Rattle.fb_wiring.specs.Tree.declared.network.Sort.TheVariants as sorts
-use Rattle.fb_wiring.proofs.{Text.Members.{origin_in_map}, Iface.NameLemmas.{same_exact}, Iface.TableLemmas.{stands_for-first_ones}}
+use Rattle.fb_types.specs.{Text.declared.name.NameUse.{NameUse}, Tree.Mentions.{unit_kind_of}, Tree.Tree.{DeclTree, InstanceTree, NetworkTree}}
+use Rattle.fb_types.specs.{Tree.declared.interface.TypeUse.{TypeUse}, Tree.declared.kinds.UnitKind.{UnitKind}}
+use Rattle.fb_types.specs.{Tree.declared.network.Connection.{Connection as ConnectionTree}, Tree.declared.network.End.{End as EndTree}}
+use Rattle.fb_types.specs.{Tree.declared.network.Role.{Role}, Tree.declared.network.Sort.{Sort}, Library.View.{Sources, tree_at}}
+use Rattle.fb_types.specs.{Iface.Names.{first_ones, has_name, is_same, stands_for}, Iface.Ports.{Meanings, instances_in, meanings_in}}
+use Rattle.fb_types.specs.{Iface.Scope.{ports_of, type_ports_of, usable}, Iface.Types.{instance_faults, suits, type_fault}}
+use Rattle.fb_types.specs.Iface.declared.ports.DeclaredInstance.{DeclaredInstance}
+use Rattle.fb_types.specs.Network.Clean.{IsDeclared, IsDestination, IsSource, adapter_name_at, port_named, side_at, type_of}
+use Rattle.fb_types.specs.Networks.{end_named, instance_in_role, network_of, plain_connection, plain_end, plain_instance, plain_network}
+use Rattle.fb_types.specs.{Network.Network.{IsConnected, View, instance_named, place_of}, Network.Plain.{PlainNetwork}, Network.declared.network.End.{End}}
+use Rattle.fb_types.specs.{Network.declared.network.End.TheVariants.{Own, Of}, Network.declared.network.Instance.{Instance}}
+use Rattle.fb_types.specs.{Network.declared.network.Port.{Port}, ByName.{declared, kind_at}}
+use Rattle.fb_types.specs.Tree.declared.network.Role.TheVariants as roles
+use Rattle.fb_types.specs.Tree.declared.network.Sort.TheVariants as sorts
+use Rattle.fb_types.proofs.{Text.Members.{origin_in_map}, Iface.NameLemmas.{same_exact}, Iface.TableLemmas.{stands_for-first_ones}}
 use Rattle.fb_faults.specs.Netcheck.Clean.{AreRight, IsCleanConnection, IsCleanNetwork}
 use Rattle.fb_faults.specs.Netcheck.Ends.{holder_of, is_right, port_in, right_side, target, target_held, target_in, target_named, target_of, target_of_instance}
 use Rattle.fb_faults.specs.{Netcheck.Settings.{NetworkPlace}, Netcheck.Sides.{is_own_port}, Netcheck.Types.{flows_agree, same_at_ends, targets_agree}}

@@ -1,8 +1,8 @@
 -- Without faults, no check reports any.
 use Rattle.std.proofs.Common.{◌≡◌, List, [], ◌∷◌, ◌++◌, refl, subst}
 use Rattle.std.specs.List.{Contains}
-use Rattle.fb_wiring.proofs.Text.Members.{contains_here, contains_nothing}
-use Rattle.fb_wiring.specs.{Iface.Declarations.{iface_faults_of}, Iface.declared.fault.Fault.{Fault}}
+use Rattle.fb_types.proofs.Text.Members.{contains_here, contains_nothing}
+use Rattle.fb_types.specs.{Iface.Declarations.{iface_faults_of}, Iface.declared.fault.Fault.{Fault}}
 use Rattle.fb_faults.specs.{Expr.Charts.{expr_faults_of}, Ecc.Charts.{ecc_faults_of}, Netcheck.Networks.{net_faults_of}, Faults.{reported_of, syntax_faults_of}}
 use Rattle.fb_faults.specs.Mappings.{mapping_faults_of}
 use Rattle.fb_faults.proofs.{Netcheck.CleanLemmas.{left_none, right_none}, OrderLemmas.{those_reported}}

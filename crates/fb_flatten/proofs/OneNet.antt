@@ -1,12 +1,12 @@
 -- A unit has one net only.
 use Rattle.std.proofs.Common.{ℕ, ◌≡◌, List, [], ◌∷◌, refl, sym, ◌∙◌, ap, subst, arith, length}
 use Rattle.std.specs.Cmp.Lexicographic.{nat_list_cmp_total}
-use Rattle.fb_wiring.specs.{Tree.Tree.{DeclTree}, Library.View.{Sources}, Network.Plain.{PlainNetwork}}
-use Rattle.fb_wiring.specs.{Network.PlainFlat.{PlainFlat}, Network.Network.{View}, Network.Instances.{Held, AreInstances}, Network.FlatNet.{IsFlat}}
-use Rattle.fb_wiring.specs.{Network.SystemFlat.{IsSystemFlat}, Network.declared.application.FlatApplication.{FlatApplication}, ByName.{declared}}
-use Rattle.fb_wiring.specs.declared.systems.Application.{Application}
-use Rattle.fb_wiring.specs.Units.{AreFlatApplications, NoApplication, ThenApplication, Holds, IsTooLarge, IsWithinLimit, IsUnitFlat, OfSubapplication, OfSystem, own_instances}
-use Rattle.fb_wiring.proofs.{Network.BlockLemmas.{same_instances}, Network.OneFlat.{same_flat}, Network.SystemLemmas.{same_system}, Network.SameSorted.{same_sorted}}
+use Rattle.fb_types.specs.{Tree.Tree.{DeclTree}, Library.View.{Sources}, Network.Plain.{PlainNetwork}}
+use Rattle.fb_types.specs.{Network.PlainFlat.{PlainFlat}, Network.Network.{View}, Network.Instances.{Held, AreInstances}, Network.FlatNet.{IsFlat}}
+use Rattle.fb_types.specs.{Network.SystemFlat.{IsSystemFlat}, Network.declared.application.FlatApplication.{FlatApplication}, ByName.{declared}}
+use Rattle.fb_types.specs.declared.systems.Application.{Application}
+use Rattle.fb_types.specs.Units.{AreFlatApplications, NoApplication, ThenApplication, Holds, IsTooLarge, IsWithinLimit, IsUnitFlat, OfSubapplication, OfSystem, own_instances}
+use Rattle.fb_types.proofs.{Network.BlockLemmas.{same_instances}, Network.OneFlat.{same_flat}, Network.SystemLemmas.{same_system}, Network.SameSorted.{same_sorted}}
 use Rattle.fb_flatten.specs.{Blocking.{AreThose}, Net.{PlainNet, blocked, recursive, too_large, flat_net, IsNet}, Laws.{OneNet}}
 
 same_names : {sources : Sources} {unit : List ℕ} {property : List ℕ → Type 0} (xs ys : List (List ℕ)) → AreThose sources unit property xs → AreThose sources unit property ys → xs ≡ ys

@@ -1,9 +1,9 @@
 -- What rests on what, and the tree of a text without faults.
 use Rattle.std.proofs.Common.{ℕ, ◌≡◌, List, [], Some, None, ap, arith}
 use Rattle.std.specs.{Prelude.{Contains, ◌≢◌}, Option.{option_and_then}, FinMap.{get}}
-use Rattle.fb_wiring.specs.{Tree.Tree.{DeclTree}, Library.View.{Sources, tree_at, tree_of, parts_at}}
-use Rattle.fb_wiring.specs.{Library.Rests.{PartRests, on_itself, through_part}}
-use Rattle.fb_wiring.specs.{Reaches.{Reaches, directly, onward}}
+use Rattle.fb_types.specs.{Tree.Tree.{DeclTree}, Library.View.{Sources, tree_at, tree_of, parts_at}}
+use Rattle.fb_types.specs.{Library.Rests.{PartRests, on_itself, through_part}}
+use Rattle.fb_types.specs.{Reaches.{Reaches, directly, onward}}
 use Rattle.fb_faults.specs.Faults.{faults_of, syntax_faults_of}
 use Rattle.fb_flatten.proofs.NothingLemmas.{nothing_reported}
 

@@ -2,18 +2,18 @@
 use Rattle.std.proofs.Common.{◌≡◌, ℕ, Bool, false, cond, ◌&&◌, List, [], ◌∷◌, ◌++◌, map, Option, Some, None, option_map, refl, sym, ap, ◌∙◌, subst, arith}
 use Rattle.std.proofs.lemmas.List.Folds.{find-append}
 use Rattle.std.specs.{List.{filter, filter_map, find}, Option.{option_and_then, option_or}}
-use Rattle.fb_wiring.specs.Tree.Tree.{DeclTree, block_type, adapter_type, subapplication_type}
-use Rattle.fb_wiring.specs.Iface.Names.{is_same, stands_for}
-use Rattle.fb_wiring.specs.Iface.Ports.{Meanings, events_in, instances_in, meanings_in, same_role, same_side, variables_in}
-use Rattle.fb_wiring.specs.Ports.{plain_adapter, plain_data, plain_event, plain_ports}
-use Rattle.fb_wiring.specs.{Tree.declared.interface.Side.{Side}}
-use Rattle.fb_wiring.specs.{Tree.declared.interface.Side.TheVariants.{Input, Output}, Tree.declared.network.Role.{Role}, Tree.declared.network.Sort.{Sort}}
-use Rattle.fb_wiring.specs.{Iface.Sides.{is_data_on}, Iface.declared.ports.DeclaredEvent.{DeclaredEvent}}
-use Rattle.fb_wiring.specs.{Iface.declared.ports.DeclaredInstance.{DeclaredInstance}, Iface.declared.ports.DeclaredVariable.{DeclaredVariable}}
-use Rattle.fb_wiring.specs.{Network.Clean.{port_named}, Network.Sorts.{same_sort}, Network.declared.network.Port.{Port}, Networks.{network_of}}
-use Rattle.fb_wiring.specs.Tree.declared.network.Role.TheVariants as roles
-use Rattle.fb_wiring.specs.Tree.declared.network.Sort.TheVariants as sorts
-use Rattle.fb_wiring.proofs.Iface.TreeLemmas.{map_itself}
+use Rattle.fb_types.specs.Tree.Tree.{DeclTree, block_type, adapter_type, subapplication_type}
+use Rattle.fb_types.specs.Iface.Names.{is_same, stands_for}
+use Rattle.fb_types.specs.Iface.Ports.{Meanings, events_in, instances_in, meanings_in, same_role, same_side, variables_in}
+use Rattle.fb_types.specs.Ports.{plain_adapter, plain_data, plain_event, plain_ports}
+use Rattle.fb_types.specs.{Tree.declared.interface.Side.{Side}}
+use Rattle.fb_types.specs.{Tree.declared.interface.Side.TheVariants.{Input, Output}, Tree.declared.network.Role.{Role}, Tree.declared.network.Sort.{Sort}}
+use Rattle.fb_types.specs.{Iface.Sides.{is_data_on}, Iface.declared.ports.DeclaredEvent.{DeclaredEvent}}
+use Rattle.fb_types.specs.{Iface.declared.ports.DeclaredInstance.{DeclaredInstance}, Iface.declared.ports.DeclaredVariable.{DeclaredVariable}}
+use Rattle.fb_types.specs.{Network.Clean.{port_named}, Network.Sorts.{same_sort}, Network.declared.network.Port.{Port}, Networks.{network_of}}
+use Rattle.fb_types.specs.Tree.declared.network.Role.TheVariants as roles
+use Rattle.fb_types.specs.Tree.declared.network.Sort.TheVariants as sorts
+use Rattle.fb_types.proofs.Iface.TreeLemmas.{map_itself}
 use Rattle.fb_faults.specs.{Netcheck.Ends.{adapter_port, data_port, event_port, port_in}, Netcheck.declared.ends.Flow.{Flow}}
 use Rattle.fb_faults.specs.Netcheck.declared.ends.Port.{Port as JudgedPort}
 use Rattle.fb_faults.specs.Netcheck.declared.ends.Flow.TheVariants as flows

@@ -1,18 +1,18 @@
 -- What nets take of the texts that a unit rests on, but for faults: what these mention, and what they say to networks.
 use Rattle.std.proofs.Common.{ℕ, ◌≡◌, List, sym, ◌∙◌, ◌++◌, subst}
 use Rattle.std.specs.Prelude.{Contains}
-use Rattle.fb_wiring.specs.{Library.View.{Sources, mentions_at, parts_at, tree_at}, Library.Rests.{Rests, itself, through}}
-use Rattle.fb_wiring.specs.{Reaches.{IsRecursive, Reaches, directly, onward}, Network.PlainFlat.{PlainFlat}, Network.Instances.{Held}}
-use Rattle.fb_wiring.specs.{Network.declared.application.FlatApplication.{FlatApplication}, ByName.{declared}, Local.{SaysSame}}
-use Rattle.fb_wiring.specs.declared.systems.Application.{Application}
-use Rattle.fb_wiring.specs.Units.{AreFlatApplications, NoApplication, ThenApplication, Holds, IsTooLarge, IsWithinLimit, IsUnitFlat, OfSubapplication, OfSystem}
-use Rattle.fb_wiring.proofs.{Library.Locality.{part_mention, rests_more}, Text.Members.{contains_here, contains_later}}
+use Rattle.fb_types.specs.{Library.View.{Sources, mentions_at, parts_at, tree_at}, Library.Rests.{Rests, itself, through}}
+use Rattle.fb_types.specs.{Reaches.{IsRecursive, Reaches, directly, onward}, Network.PlainFlat.{PlainFlat}, Network.Instances.{Held}}
+use Rattle.fb_types.specs.{Network.declared.application.FlatApplication.{FlatApplication}, ByName.{declared}, Local.{HasSameInterface}}
+use Rattle.fb_types.specs.declared.systems.Application.{Application}
+use Rattle.fb_types.specs.Units.{AreFlatApplications, NoApplication, ThenApplication, Holds, IsTooLarge, IsWithinLimit, IsUnitFlat, OfSubapplication, OfSystem}
+use Rattle.fb_types.proofs.{Library.Locality.{part_mention, rests_more}, Text.Members.{contains_here, contains_later}}
 use Rattle.fb_flatten.specs.{Blocking.{AreThose, IsPartBelow}, Locality.{Within, IsClosed, SameNetworks}}
 use Rattle.fb_flatten.proofs.{FlatLocality.{instances_there, same_flats}, MentionLemmas.{applications_within, declared_within, own_within}}
 
 -- under each name that the unit rests on both say the same
 abbrev pub SaysSameFar : Sources → Sources → List ℕ → Type 0
-SaysSameFar a b unit = (v : List ℕ) → Rests a unit v → SaysSame (tree_at a v) (tree_at b v)
+SaysSameFar a b unit = (v : List ℕ) → Rests a unit v → HasSameInterface (tree_at a v) (tree_at b v)
 
 module _ (a b : Sources) (unit : List ℕ) (says : SaysSameFar a b unit) where
   mentions_same : (v : List ℕ) → Rests a unit v → mentions_at a v ≡ mentions_at b v

@@ -1,9 +1,9 @@
 -- What is known of a unit that nothing blocks, and of which none of what it rests on reaches itself.
 use Rattle.std.proofs.Common.{ℕ, ◌≡◌, List, [], Some, None, inl, inr, subst, length}
 use Rattle.std.specs.{Prelude.{Contains, ◌≢◌}, FinMap.{get}, List.Sorted.{IsStrictlySortedBy}}
-use Rattle.fb_wiring.specs.{Text.Order.{name_cmp}, Library.View.{Sources, parts_at}, Library.Rests.{Rests, itself, PartRests, on_itself, through_part}}
-use Rattle.fb_wiring.specs.{Reaches.{IsRecursive}, Network.Plain.{PlainNetwork}, Network.Clean.{IsCleanThroughout}, ByName.{declared}}
-use Rattle.fb_wiring.proofs.{Library.Locality.{parts_rest, rests_both}, Text.Members.{contains_nothing}}
+use Rattle.fb_types.specs.{Text.Order.{name_cmp}, Library.View.{Sources, parts_at}, Library.Rests.{Rests, itself, PartRests, on_itself, through_part}}
+use Rattle.fb_types.specs.{Reaches.{IsRecursive}, Network.Plain.{PlainNetwork}, Network.Clean.{IsCleanThroughout}, ByName.{declared}}
+use Rattle.fb_types.proofs.{Library.Locality.{parts_rest, rests_both}, Text.Members.{contains_nothing}}
 use Rattle.fb_flatten.specs.{Far.{far_of}, Blocking.{AreThose, IsBlocking}, Net.{IsSound, IsWhole}}
 use Rattle.fb_flatten.proofs.{ComputedFlats.{IsDone}, ComputedNets.{done, present_below, unit_faultless}, OrderLemmas.{HasTree, reaches_part, tree_of_faultless}}
 

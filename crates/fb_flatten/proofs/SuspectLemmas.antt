@@ -2,12 +2,12 @@
 use Rattle.std.proofs.Common.{◌≡◌, ℕ, ◌+◌, ◌<◌, Bool, true, false, if◌then◌else◌, inl, inr, List, [], ◌∷◌, ◌++◌, length, Option, None, refl, sym, ap, subst, ◌∙◌, arith}
 use Rattle.std.proofs.lemmas.Bool.{or_left, or_right}
 use Rattle.std.specs.{Prelude.{Contains, ◌≢◌, filter}, FinMap.{get}}
-use Rattle.fb_wiring.proofs.{Text.Tests.{no_both, by_bool, or_cases, or_false}, Text.Members.{contains_nothing}, Library.Locality.{part_mention, rests_more}}
-use Rattle.fb_wiring.proofs.Library.SeenLemmas.{same, same_is, same_self}
-use Rattle.fb_wiring.proofs.Library.WalkLemmas.{Contains-has, has-Contains, has-push, longer, mentioned_somewhere}
-use Rattle.fb_wiring.specs.{Library.View.{Sources, mentions_at, mentions_in, parts_at, tree_at}, Library.Near.{in_all_trees}}
-use Rattle.fb_wiring.specs.{Library.Rests.{Rests, itself, through}, Library.Seen.{Opens, has_name, unseen}, Reaches.{IsRecursive}}
-use Rattle.fb_wiring.specs.Units.{has_net_in}
+use Rattle.fb_types.proofs.{Text.Tests.{no_both, by_bool, or_cases, or_false}, Text.Members.{contains_nothing}, Library.Locality.{part_mention, rests_more}}
+use Rattle.fb_types.proofs.Library.SeenLemmas.{same, same_is, same_self}
+use Rattle.fb_types.proofs.Library.WalkLemmas.{Contains-has, has-Contains, has-push, longer, mentioned_somewhere}
+use Rattle.fb_types.specs.{Library.View.{Sources, mentions_at, mentions_in, parts_at, tree_at}, Library.Near.{in_all_trees}}
+use Rattle.fb_types.specs.{Library.Rests.{Rests, itself, through}, Library.Seen.{Opens, has_name, unseen}, Reaches.{IsRecursive}}
+use Rattle.fb_types.specs.Units.{has_net_in}
 use Rattle.fb_faults.specs.Faults.{faults_of}
 use Rattle.fb_flatten.specs.{Blocking.{AreThose, IsBlocking, IsPartBelow, is_blocking}, Hints.{AreRightHints, is_whole_hint}, Net.{PlainNet}}
 use Rattle.fb_flatten.specs.Suspects.{AreSuspects, mentions_beyond, parts_beyond, is_part_beyond}

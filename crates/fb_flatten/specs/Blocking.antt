@@ -1,8 +1,8 @@
 -- What keeps a unit from having a flat network.
 use Rattle.std.specs.{Prelude.{ℕ, ◌≡◌, ◌≢◌, ◌↔◌, ◌⊎◌, Bool, true, false, ◌||◌, ◌&&◌, List, [], ◌∷◌, None, is_none, Contains}, List.{list_any}, FinMap.{get}}
 use Rattle.std.specs.List.Sorted.{IsStrictlySortedBy}
-use Rattle.fb_wiring.specs.{Text.Order.{name_cmp}, Library.Seen.{has_name}, Library.View.{Sources, parts_at}, Library.Rests.{Rests}}
-use Rattle.fb_wiring.specs.Iface.declared.fault.Fault.{Fault}
+use Rattle.fb_types.specs.{Text.Order.{name_cmp}, Library.Seen.{has_name}, Library.View.{Sources, parts_at}, Library.Rests.{Rests}}
+use Rattle.fb_types.specs.Iface.declared.fault.Fault.{Fault}
 use Rattle.fb_faults.specs.Faults.{faults_of}
 
 -- the name is a part of something that the unit rests on

@@ -1,10 +1,10 @@
 -- What units without faults keep of their networks.
 use Rattle.std.specs.Prelude.{◌≡◌, ℕ, ◌<◌, List, [], Option, Some, Contains, find, slice_get}
-use Rattle.fb_wiring.specs.{Tree.declared.kinds.UnitKind.{UnitKind}, Library.View.{Sources}, Iface.Names.{is_same}, Network.Clean.{IsClean}}
-use Rattle.fb_wiring.specs.{Network.Plain.{PlainNetwork}, Network.declared.network.Instance.{Instance}, Network.declared.network.InstanceKind.{InstanceKind}}
-use Rattle.fb_wiring.specs.{Network.declared.network.InstanceKind.TheVariants.{Block, Subapplication}, ByName.{applications_at, declared, kind_at}}
-use Rattle.fb_wiring.specs.declared.systems.Application.{Application}
-use Rattle.fb_wiring.specs.Tree.declared.kinds.UnitKind.TheVariants as kinds
+use Rattle.fb_types.specs.{Tree.declared.kinds.UnitKind.{UnitKind}, Library.View.{Sources}, Iface.Names.{is_same}, Network.Clean.{IsClean}}
+use Rattle.fb_types.specs.{Network.Plain.{PlainNetwork}, Network.declared.network.Instance.{Instance}, Network.declared.network.InstanceKind.{InstanceKind}}
+use Rattle.fb_types.specs.{Network.declared.network.InstanceKind.TheVariants.{Block, Subapplication}, ByName.{applications_at, declared, kind_at}}
+use Rattle.fb_types.specs.declared.systems.Application.{Application}
+use Rattle.fb_types.specs.Tree.declared.kinds.UnitKind.TheVariants as kinds
 use Rattle.fb_faults.specs.Faults.{faults_of}
 
 -- the kind that an instance wants of its type

@@ -1,7 +1,7 @@
 -- What a unit rests on, as a list.
 use Rattle.std.specs.Prelude.{◌≡◌, ℕ, List, [], ◌∷◌}
-use Rattle.fb_wiring.specs.{Library.View.{Sources, mentions_at, mentions_in, parts_at, parts_in}, Library.Near.{in_all_trees}, Library.Opened.{led_from}}
-use Rattle.fb_wiring.specs.Library.Local.{AgreeFar, IsFar}
+use Rattle.fb_types.specs.{Library.View.{Sources, mentions_at, mentions_in, parts_at, parts_in}, Library.Near.{in_all_trees}, Library.Opened.{led_from}}
+use Rattle.fb_types.specs.Library.Local.{AgreeFar, IsFar}
 
 -- the names that the unit rests on, in order, each once
 unfoldable pub far_of : Sources → List ℕ → List (List ℕ)

@@ -1,7 +1,7 @@
 -- Nets that are kept from before.
 use Rattle.std.specs.Prelude.{◌≡◌, ℕ, Bool, true, false, List, Option, Some}
-use Rattle.fb_wiring.specs.Library.View.{Sources}
-pub use Rattle.fb_wiring.specs.Hints.{flat_of_net, flat_of_hint, is_whole_net, is_whole_hint, is_left, left_of}
+use Rattle.fb_types.specs.Library.View.{Sources}
+pub use Rattle.fb_types.specs.Hints.{flat_of_net, flat_of_hint, is_whole_net, is_whole_hint, is_uncached, uncached_of}
 use Rattle.fb_flatten.specs.{Blocking.{is_absent_or_faulty}, Net.{PlainNet}, Nets.{net_at}}
 
 -- each net that is kept is that of the unit of its name

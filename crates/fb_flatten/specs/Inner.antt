@@ -1,7 +1,7 @@
 -- Nets of units that others rest on.
 use Rattle.std.specs.Prelude.{ℕ, ◌≡◌, ◌≤◌, List, Option, Some}
-use Rattle.fb_wiring.specs.{Library.View.{Sources}, Library.Rests.{Rests}, Network.declared.count.TheConstants.{INSTANCE_LIMIT}, Network.PlainFlat.{PlainFlat}}
-use Rattle.fb_wiring.specs.Network.Ready.{Nets}
+use Rattle.fb_types.specs.{Library.View.{Sources}, Library.Rests.{Rests}, Network.declared.count.TheConstants.{INSTANCE_LIMIT}, Network.PlainFlat.{PlainFlat}}
+use Rattle.fb_types.specs.Network.Ready.{Nets}
 use Rattle.fb_flatten.specs.{Net.{flat_net, plain_net}, Nets.{net_at}, declared.inner.Inner.{Inner}}
 
 -- the net of a unit that the unit rests on

@@ -1,6 +1,6 @@
 -- Laws of nets.
 use Rattle.std.specs.Prelude.{ℕ, ◌≡◌, List}
-use Rattle.fb_wiring.specs.{Library.View.{Sources}, Library.Local.{AgreeFar}}
+use Rattle.fb_types.specs.{Library.View.{Sources}, Library.Local.{AgreeFar}}
 use Rattle.fb_flatten.specs.Net.{PlainNet, IsNet}
 
 -- a unit has one net only

@@ -11,10 +11,10 @@ pub mod Nets
 pub mod Hints
 pub mod Suspects
 pub mod Inner
-pub mod Kept
+pub mod Unchanged
 -- Of the crates below, for the crates above.
-pub use Rattle.fb_wiring.specs.Parse as Parse
-pub use Rattle.fb_wiring.specs.Library as Library
-pub use Rattle.fb_wiring.specs.Iface as Iface
+pub use Rattle.fb_types.specs.Parse as Parse
+pub use Rattle.fb_types.specs.Library as Library
+pub use Rattle.fb_types.specs.Iface as Iface
 pub use Rattle.fb_faults.specs as Faults
-pub use Rattle.fb_wiring.specs as Wiring
+pub use Rattle.fb_types.specs as Wiring

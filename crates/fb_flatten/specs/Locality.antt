@@ -1,8 +1,8 @@
 -- What the flat network of a network depends on.
 use Rattle.std.specs.Prelude.{ℕ, ◌≡◌, ◌↔◌, List, Some, Contains}
-use Rattle.fb_wiring.specs.{Network.declared.network.Port.{Port}, Network.declared.network.Instance.{Instance}, Network.Plain.{PlainNetwork}}
-use Rattle.fb_wiring.specs.{Network.PlainFlat.{PlainFlat}, Network.Network.{View}, Network.Instances.{Held, AreInstances}, Network.Count.{IsCount}}
-use Rattle.fb_wiring.specs.Network.FlatNet.{IsFlat}
+use Rattle.fb_types.specs.{Network.declared.network.Port.{Port}, Network.declared.network.Instance.{Instance}, Network.Plain.{PlainNetwork}}
+use Rattle.fb_types.specs.{Network.PlainFlat.{PlainFlat}, Network.Network.{View}, Network.Instances.{Held, AreInstances}, Network.Count.{IsCount}}
+use Rattle.fb_types.specs.Network.FlatNet.{IsFlat}
 
 -- each instance has its type, and each plug or socket its adapter, among those names
 pub record Within (known : List ℕ → Type 0) (network : PlainNetwork) : Type 0 where

@@ -1,7 +1,7 @@
 -- The net of a unit: its flat network, or why it has none.
 use Rattle.std.specs.{Prelude.{ℕ, ◌≢◌, List, [], None}, FinMap.{get}}
-use Rattle.fb_wiring.specs.{Library.View.{Sources}, Reaches.{IsRecursive}, Network.PlainFlat.{PlainFlat}, Units.{IsTooLarge, IsWithinLimit, IsUnitFlat}}
-pub use Rattle.fb_wiring.specs.Net.{PlainNet, blocked, recursive, too_large, flat_net, plain_net}
+use Rattle.fb_types.specs.{Library.View.{Sources}, Reaches.{IsRecursive}, Network.PlainFlat.{PlainFlat}, Units.{IsTooLarge, IsWithinLimit, IsUnitFlat}}
+pub use Rattle.fb_types.specs.Net.{PlainNet, blocked, recursive, too_large, flat_net, plain_net}
 use Rattle.fb_flatten.specs.Blocking.{IsBlocking, AreThose}
 
 -- nothing blocks the unit: all that it rests on is without faults, and all parts of that are present

@@ -1,8 +1,8 @@
 -- Names among which those that block a unit, or reach themselves, are looked for.
 use Rattle.std.specs.{Prelude.{◌≡◌, ℕ, Bool, true, false, if◌then◌else◌, List, [], Option, None, Contains}, List.{list_any}, FinMap.{get}}
 use Rattle.std.specs.List.Sorted.{IsStrictlySortedBy}
-use Rattle.fb_wiring.specs.{Text.Order.{name_cmp}, Library.Seen.{has_name}, Library.View.{Sources, mentions_at, parts_at}, Library.Rests.{Rests}}
-use Rattle.fb_wiring.specs.Reaches.{IsRecursive, SomePartRestsOnRecursive}
+use Rattle.fb_types.specs.{Text.Order.{name_cmp}, Library.Seen.{has_name}, Library.View.{Sources, mentions_at, parts_at}, Library.Rests.{Rests}}
+use Rattle.fb_types.specs.Reaches.{IsRecursive, SomePartRestsOnRecursive}
 use Rattle.fb_flatten.specs.{Blocking.{IsBlocking, IsPartBelow}, Hints.{is_whole_hint}, Net.{PlainNet}}
 
 -- what the name mentions; nothing where its kept net tells that nothing blocks it and none of what it rests on reaches itself

@@ -1,17 +1,17 @@
 //! What keeps a unit from having a flat network.
 ghost use Rattle.std.specs.Prelude.{◌≡◌, IfOk, filter};
-ghost use Rattle.fb_wiring.specs.Library.Seen.{has_name};
+ghost use Rattle.fb_types.specs.Library.Seen.{has_name};
 ghost use Rattle.fb_flatten.specs.{Blocking.{is_blocking, is_some_name}, Hints.{AreFaultless, AreRightHints}};
 
 use fb_faults::faults;
-use fb_wiring::library::View;
-use fb_wiring::text::Name;
-use fb_wiring::{Hints, Known, is_known_whole};
+use fb_types::library::View;
+use fb_types::text::Name;
+use fb_types::{Hints, KnownFaultless, is_known_whole};
 use std::alloc::{AllocError, Global};
 use std::collections::BTreeSet;
 
 /// Whether the name is that of a unit with faults, or of none and among the parts.
-fn blocks<V: View, K: Hints + Known>(
+fn blocks<V: View, K: Hints + KnownFaultless>(
     alloc: Global,
     view: &V,
     known: &K,
@@ -36,7 +36,7 @@ fn blocks<V: View, K: Hints + Known>(
 }
 
 /// The names among these that are those of a unit with faults, or of none and among the parts, in the same order.
-pub(crate) fn blocking<V: View, K: Hints + Known>(
+pub(crate) fn blocking<V: View, K: Hints + KnownFaultless>(
     alloc: Global,
     view: &V,
     known: &K,

@@ -1,7 +1,7 @@
 //! The nets of units, with those that are found on the way.
 ghost use Rattle.std.specs.Prelude.{◌≡◌, ℕ, List, true, All, [], IfOk, IfSome, IsNone, Some, Contains, ◌↔◌, ◌⊎◌};
-ghost use Rattle.fb_wiring.specs.{Library.Rests.{PartRests}, Order.{IsOrdered}, Reaches.{PartRestsOnRecursive, SomePartRestsOnRecursive}};
-ghost use Rattle.fb_wiring.specs.{Library.View.{tree_at}, Units.{HasNet, has_net_in}};
+ghost use Rattle.fb_types.specs.{Library.Rests.{PartRests}, Order.{IsOrdered}, Reaches.{PartRestsOnRecursive, SomePartRestsOnRecursive}};
+ghost use Rattle.fb_types.specs.{Library.View.{tree_at}, Units.{HasNet, has_net_in}};
 ghost use Rattle.fb_flatten.specs.{Hints.{AreFaultless, AreRightHints}, Inner.{IsInnerNet}, Net.{IsNet, plain_net}, Nets.{net_at}, Suspects.{AreFinite}};
 ghost use Rattle.fb_flatten.specs.Tables.{IsUnitOrder};
 
@@ -10,10 +10,10 @@ use crate::counts::counts_below;
 use crate::inner::{Inner, inner_nets};
 use crate::suspects::{parts_where_absent, suspects};
 use crate::units::{Composed, flat_of_unit, instances_of_unit};
-use fb_wiring::library::{View, far};
-use fb_wiring::plain::INSTANCE_LIMIT;
-use fb_wiring::text::Name;
-use fb_wiring::{Hints, Known, Net, Rest, all_inner_first, inner_first, networks_of, recursive};
+use fb_types::library::{View, far};
+use fb_types::plain::INSTANCE_LIMIT;
+use fb_types::text::Name;
+use fb_types::{Hints, KnownFaultless, Net, Uncached, all_inner_first, inner_first, networks_of, recursive};
 use std::alloc::{AllocError, Global};
 
 /// The net of a unit, and nets of other units that were composed on the way.
@@ -35,7 +35,7 @@ fn alone(alloc: Global, net: Net) -> Computed
 
 /// The net of a unit, where the nets of some units are kept and some units are known to be there without faults, and nets of units that it
 /// rests on. Nothing is checked or composed of what a unit rests on whose kept net is flat or too large.
-pub fn compute<V: View, K: Hints + Known>(
+pub fn compute<V: View, K: Hints + KnownFaultless>(
     alloc: Global,
     view: &V,
     unit: Name,
@@ -53,7 +53,7 @@ pub fn compute<V: View, K: Hints + Known>(
     if has_some(found.as_slice()) {
         return Ok(alone(alloc, Net::Blocked(found)));
     }
-    let rest = Rest {
+    let rest = Uncached {
         view,
         hints: known,
         unit,

@@ -1,11 +1,11 @@
 //! Counts of what a unit rests on.
 ghost use Rattle.std.specs.{Prelude.{ℕ, List, Contains, IfOk}, BTreeMap.{get}};
-ghost use Rattle.fb_wiring.specs.{Holders.{holders_of}, Library.View.{parts_at}, Order.{IsOrdered}, Text.Order.{name_cmp}, Units.{HasNet}};
+ghost use Rattle.fb_types.specs.{Holders.{holders_of}, Library.View.{parts_at}, Order.{IsOrdered}, Text.Order.{name_cmp}, Units.{HasNet}};
 ghost use Rattle.fb_flatten.specs.{Net.{IsSound}, Tables.{AllCounted, AreRightCounts}};
 
-use fb_wiring::library::View;
-use fb_wiring::text::Name;
-use fb_wiring::{Counts, Holders, add_count, inner_first};
+use fb_types::library::View;
+use fb_types::text::Name;
+use fb_types::{Counts, Holders, add_count, inner_first};
 use std::alloc::{AllocError, Global};
 use std::collections::BTreeMap;
 

@@ -2,8 +2,8 @@
 ghost use Rattle.std.specs.Prelude.{◌≡◌, IfOk};
 ghost use Rattle.fb_flatten.specs.Far.{far_of};
 
-use fb_wiring::library::{View, far};
-use fb_wiring::text::Name;
+use fb_types::library::{View, far};
+use fb_types::text::Name;
 use std::alloc::{AllocError, Global};
 
 /// All names that the unit rests on, itself and absent ones included, in order, each once.

@@ -1,12 +1,12 @@
 //! The flat networks of types whose inner types come first in an order.
 ghost use Rattle.std.specs.{Prelude.{IfOk}, BTreeMap.{get}};
-ghost use Rattle.fb_wiring.specs.Text.Order.{name_cmp};
+ghost use Rattle.fb_types.specs.Text.Order.{name_cmp};
 ghost use Rattle.fb_flatten.specs.{Hints.{AreRightHints}, Tables.{AllFinished, AreMissing, IsTable, IsUnitOrder, known_flats}};
 
-use fb_wiring::library::View;
-use fb_wiring::plain::Flat;
-use fb_wiring::text::Name;
-use fb_wiring::{Hints, Table, add_flat, is_missing};
+use fb_types::library::View;
+use fb_types::plain::Flat;
+use fb_types::text::Name;
+use fb_types::{Hints, Table, add_flat, is_missing};
 use std::alloc::{AllocError, Global};
 use std::collections::BTreeMap;
 

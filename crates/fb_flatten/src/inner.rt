@@ -1,11 +1,11 @@
 //! Nets of units that others rest on.
 ghost use Rattle.std.specs.{Prelude.{◌≡◌, true, All, IfOk}, BTreeMap.{get}};
-ghost use Rattle.fb_wiring.specs.Text.Order.{name_cmp};
+ghost use Rattle.fb_types.specs.Text.Order.{name_cmp};
 ghost use Rattle.fb_flatten.specs.Inner.{IsCountedFlat, IsCountedWithin};
 
-use fb_wiring::plain::{Flat, INSTANCE_LIMIT};
-use fb_wiring::text::Name;
-use fb_wiring::{Counts, Net};
+use fb_types::plain::{Flat, INSTANCE_LIMIT};
+use fb_types::text::Name;
+use fb_types::{Counts, Net};
 use std::alloc::{AllocError, Global};
 use std::collections::BTreeMap;
 

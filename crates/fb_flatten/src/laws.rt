@@ -1,5 +1,5 @@
 //! Laws of flat networks of units.
-ghost use Rattle.fb_flatten.specs.{Far.{FarIsAll, FarOfIsLocal}, Kept.{NetIsLeft}, Laws.{NetIsLocal, OneNet}, Locality.{FlatNetworksAreLocal}};
+ghost use Rattle.fb_flatten.specs.{Far.{FarIsAll, FarOfIsLocal}, Unchanged.{NetIsUnchanged}, Laws.{NetIsLocal, OneNet}, Locality.{FlatNetworksAreLocal}};
 ghost use Rattle.fb_flatten.specs.Nets.{HasNetByText, NetAtIsLocal, NetAtIsNet};
 
 /// The flat network of a network, and the number of its instances, depend only on the networks that it rests on.
@@ -45,5 +45,5 @@ pub fn net_at_is_local()
 /// A net that is neither blocked nor recursive stays the same if the new texts show networks the same and mention the same, and
 /// all that its unit rests on is without faults.
 pub fn net_is_unchanged()
-    ensures { NetIsLeft }
+    ensures { NetIsUnchanged }
 {}

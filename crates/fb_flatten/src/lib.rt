@@ -18,8 +18,8 @@ pub use clean_laws::{
 };
 pub use computing::{Computed, compute};
 pub use far::all_far;
-pub use fb_wiring::{
-    Hints, Known, Net, NetsAlone, NoHints, has_net, has_same_interface, is_of_system,
+pub use fb_types::{
+    Hints, KnownFaultless, Net, HintsOnly, NoHints, has_net, has_same_interface, is_of_system,
     is_subapplication,
 };
 pub use inner::Inner;
@@ -31,22 +31,22 @@ pub use nets::{net, net_with};
 
 /// Of `fb_text`, for the crates above.
 pub mod text {
-    pub use fb_wiring::text::Name;
+    pub use fb_types::text::Name;
 }
 
 /// Of `fb_parse`, for the crates above.
 pub mod parse {
-    pub use fb_wiring::parse::Source;
+    pub use fb_types::parse::Source;
 }
 
 /// Of `fb_library`, for the crates above.
 pub mod library {
-    pub use fb_wiring::library::{Change, Library, Version, View, near, tree_by_name};
+    pub use fb_types::library::{Change, Library, Version, View, near, tree_by_name};
 }
 
 /// Of `fb_iface`, for the crates above.
 pub mod iface {
-    pub use fb_wiring::iface::Fault;
+    pub use fb_types::iface::Fault;
 }
 
 /// Of `fb_faults`, for the crates above.

@@ -2,13 +2,13 @@
 //! Composition follows parts, blocking follows mentions of both sorts: so there are two searches for an order. The call has a file of its own, since
 //! Rattle makes a module for each file and item, and `net` would meet the type `Net` there.
 ghost use Rattle.std.specs.Prelude.{◌≡◌, IfOk, Some};
-ghost use Rattle.fb_wiring.specs.Units.{HasNet};
+ghost use Rattle.fb_types.specs.Units.{HasNet};
 ghost use Rattle.fb_flatten.specs.{Hints.{AreRightHints}, Net.{IsNet, plain_net}, Nets.{net_at}};
 
 use crate::computing::{Computed, compute};
-use fb_wiring::library::View;
-use fb_wiring::text::Name;
-use fb_wiring::{Hints, Net, NetsAlone, NoHints};
+use fb_types::library::View;
+use fb_types::text::Name;
+use fb_types::{Hints, Net, HintsOnly, NoHints};
 use std::alloc::{AllocError, Global};
 
 /// The flat network of a subapplication or a system, or the first reason why it has none: units that it rests on have faults, or an absent one is a
@@ -34,6 +34,6 @@ pub fn net_with<V: View, H: Hints>(
     ensures is { IfOk result (λ net. IsNet (V.sources view.now) unit (plain_net net)) }
     ensures at { IfOk result (λ net. net_at (V.sources view.now) unit ≡ Some (plain_net net)) }
 {
-    let Computed { net, inner: _ } = compute(alloc, view, unit, &NetsAlone { hints })?;
+    let Computed { net, inner: _ } = compute(alloc, view, unit, &HintsOnly { hints })?;
     Ok(net)
 }

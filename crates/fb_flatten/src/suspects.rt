@@ -1,11 +1,11 @@
 //! The names that can block a unit or reach themselves.
 ghost use Rattle.std.specs.{Prelude.{◌≡◌, ℕ, List, None, ◌||◌, Contains, IfOk, OnOk, is_none}, FinMap.{get}, List.{list_any}};
-ghost use Rattle.fb_wiring.specs.Library.Seen.{has_name, Opens};
+ghost use Rattle.fb_types.specs.Library.Seen.{has_name, Opens};
 ghost use Rattle.fb_flatten.specs.{Hints.{AreFaultless, AreRightHints}, Suspects.{AreSuspects, is_part_beyond, mentions_beyond, parts_beyond}};
 
-use fb_wiring::library::{View, names_of, open_new, part_mentions, value_mentions};
-use fb_wiring::text::Name;
-use fb_wiring::{Hints, Known, is_known_whole};
+use fb_types::library::{View, names_of, open_new, part_mentions, value_mentions};
+use fb_types::text::Name;
+use fb_types::{Hints, KnownFaultless, is_known_whole};
 use std::alloc::{AllocError, Global};
 use std::collections::BTreeSet;
 
@@ -52,7 +52,7 @@ fn open<V: View, H: Hints>(
 
 /// If one of these names is absent, the parts of all of them that no kept net shows to be whole. If none is absent, they
 /// are not wanted.
-pub(crate) fn parts_where_absent<V: View, K: Hints + Known>(
+pub(crate) fn parts_where_absent<V: View, K: Hints + KnownFaultless>(
     alloc: Global,
     view: &V,
     known: &K,
@@ -71,7 +71,7 @@ pub(crate) fn parts_where_absent<V: View, K: Hints + Known>(
 }
 
 /// Whether one of the names is that of no unit.
-fn has_absent<V: View, K: Hints + Known>(view: &V, known: &K, names: &[Name]) -> bool
+fn has_absent<V: View, K: Hints + KnownFaultless>(view: &V, known: &K, names: &[Name]) -> bool
     requires right { AreRightHints (V.sources view.now) (K.hints known.now) }
     requires faultless { AreFaultless (V.sources view.now) (K.faultless known.now) }
     ensures { result ≡ list_any (λ n. is_none (get (V.sources view.now) n)) names.now }
@@ -84,7 +84,7 @@ fn has_absent<V: View, K: Hints + Known>(view: &V, known: &K, names: &[Name]) ->
     false
 }
 
-fn is_absent<V: View, K: Hints + Known>(view: &V, known: &K, name: &Name) -> bool
+fn is_absent<V: View, K: Hints + KnownFaultless>(view: &V, known: &K, name: &Name) -> bool
     requires right { AreRightHints (V.sources view.now) (K.hints known.now) }
     requires faultless { AreFaultless (V.sources view.now) (K.faultless known.now) }
     ensures { result ≡ is_none (get (V.sources view.now) name.now) }

@@ -1,15 +1,15 @@
 //! The instances and the flat networks of units whose inner types come first in an order.
 ghost use Rattle.std.specs.{Prelude.{IfOk}, BTreeMap.{get}};
-ghost use Rattle.fb_wiring.specs.{Library.View.{parts_at}, Text.Order.{name_cmp}, Units.{HasNet, IsUnitFlat, IsWithinLimit}};
+ghost use Rattle.fb_types.specs.{Library.View.{parts_at}, Text.Order.{name_cmp}, Units.{HasNet, IsUnitFlat, IsWithinLimit}};
 ghost use Rattle.fb_flatten.specs.{Hints.{AreRightHints}, Net.{IsSound}};
 ghost use Rattle.fb_flatten.specs.Tables.{AllCounted, AllFinished, AreMissing, IsTable, IsUnitCount, IsUnitOrder, known_flats};
 
 use crate::flats::missing_flats;
-use fb_wiring::library::{View, tree_by_name};
-use fb_wiring::plain::Flat;
-use fb_wiring::text::Name;
-use fb_wiring::{
-    Counts, Hints, KnownFlats, Table, applications, count_of_unit, flat_of_applications,
+use fb_types::library::{View, tree_by_name};
+use fb_types::plain::Flat;
+use fb_types::text::Name;
+use fb_types::{
+    Counts, Hints, CachedFlats, Table, applications, count_of_unit, flat_of_applications,
     flat_of_type, is_of_system,
 };
 use std::alloc::{AllocError, Global};
@@ -57,7 +57,7 @@ pub(crate) fn flat_of_unit<V: View, H: Hints>(
 {
     let decl = tree_by_name(view, unit).unwrap();
     let flats = missing_flats(alloc, view, hints, table, order, unit)?;
-    let nets = KnownFlats {
+    let nets = CachedFlats {
         hints,
         composed: &flats,
     };

@@ -3,19 +3,19 @@ use Rattle.std.proofs.Common.{◌≡◌, List, [], ◌∷◌, ◌++◌, map, ref
 use Rattle.fb_wire.specs.Conversations.{Runs}
 use Rattle.fb_locked.specs.{Bench.Calls.{Replied, FullHistory, BehindHistory, Exchange, AskedCall, AskedCheckpoint}, Runs.{IsRun}}
 use Rattle.fb_locked.specs.Seats.{SeatView, ReceiptView}
-use Rattle.fb_shared.specs.Sitting.{SeatedView, SitterStep}
+use Rattle.fb_shared.specs.Seated.{SeatedView, SeatedStep}
 use Rattle.fb_serve.specs.{AddedReceipts.{AddsRun}, Sessions.{answered_in, call_shown}}
 use Rattle.fb_serve.proofs.{AddedReceipts.{run_append}, Sessions.{session_shown}}
 use Rattle.fb_host.specs.HostSessions.{LeadsTo, HostStep}
 
 -- each is a step of a desk with a seat
-sits : (old : SeatedView) (exchange : Exchange) (new : SeatedView) → HostStep old exchange new → SitterStep old exchange new
+sits : (old : SeatedView) (exchange : Exchange) (new : SeatedView) → HostStep old exchange new → SeatedStep old exchange new
 sits old (AskedCall call (Replied reply)) new step = step
 sits old (AskedCall call FullHistory) new step = absurd step
 sits old (AskedCall call BehindHistory) new step = step
 sits old (AskedCheckpoint limits answer) new step = step
 
-all_sit : (pairs : List Exchange) (old new : SeatedView) → Runs HostStep old pairs new → Runs SitterStep old pairs new
+all_sit : (pairs : List Exchange) (old new : SeatedView) → Runs HostStep old pairs new → Runs SeatedStep old pairs new
 all_sit [] old new runs = runs
 all_sit (p ∷ ps) old new runs = (runs.0, sits old p runs.0 runs.1, all_sit ps runs.0 new runs.2)
 

@@ -24,7 +24,7 @@ pub struct SessionDesk<'a, R: Wait> {
 }
 
 impl<'a, R: Wait> Model for SessionDesk<'a, R> {
-    ghost use Rattle.fb_shared.specs.Sitting.{SeatedView};
+    ghost use Rattle.fb_shared.specs.Seated.{SeatedView};
 
     ghost Value = { SeatedView };
 
@@ -61,12 +61,12 @@ impl<'a, R: Wait> SessionDesk<'a, R> {
 }
 
 impl<R: Wait> Desk for SessionDesk<'_, R> {
-    ghost use Rattle.fb_shared.specs.Sitting.{IsCheckpointSitting};
+    ghost use Rattle.fb_shared.specs.Seated.{IsCheckpointSeated};
     ghost use Rattle.fb_host.specs.HostSessions.{IsHostCall};
 
     ghost step = { IsHostCall };
 
-    ghost checkpoint_step = { IsCheckpointSitting };
+    ghost checkpoint_step = { IsCheckpointSeated };
 
     fn perform(&mut self, request: &Request<'_>) -> Result<Answered, DeskError> {
         if self.held.reserve(1).is_err() {

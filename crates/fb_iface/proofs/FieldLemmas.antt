@@ -4,7 +4,7 @@ use Rattle.std.specs.{Cmp.{eq_by_cmp_equiv}, Cmp.Lexicographic.{nat_list_cmp_tot
 use Rattle.fb_tree.proofs.Text.OrderLemmas.{same_name}
 use Rattle.fb_library.specs.{Seen.{has_name}, View.{Sources, tree_at}}
 use Rattle.fb_library.proofs.SeenLemmas.{has-push, same, same_is}
-use Rattle.fb_iface.specs.{Fields.{NoFields, fields_among, fields_of_tree}, KeptFields.{kept_fields}, declared.structures.KeptFields.{KeptFields}}
+use Rattle.fb_iface.specs.{Fields.{NoFields, fields_among, fields_of_tree}, CachedFields.{kept_fields}, declared.structures.CachedFields.{CachedFields}}
 
 -- the equality of names is that by their order
 same_here : (x q : List ℕ) → pointwise nat_eq x q ≡ same q x
@@ -13,9 +13,9 @@ same_here x q = same_name x q ∙ (eq_by_cmp_equiv nat_list_cmp_total).symm x q
 pub found_among : (names : List (List ℕ)) (q : List ℕ) → list_any (λ x. pointwise nat_eq x q) names ≡ has_name names q
 found_among names q = λ i. list_any (λ x. same_here x q i) names
 
-module _ (sources : Sources) (names : List (List ℕ)) (x q : List ℕ) (old : Option KeptFields) where
+module _ (sources : Sources) (names : List (List ℕ)) (x q : List ℕ) (old : Option CachedFields) where
   -- the table with one more type, where something is kept of it
-  pub kept-more : (kept : KeptFields) (new : Option KeptFields) → kept_fields (Some kept) ≡ fields_of_tree (tree_at sources x) → kept_fields old ≡ fields_among sources names q → new ≡ cond (pointwise nat_eq x q) (Some kept) old → kept_fields new ≡ fields_among sources (names ++ x ∷ []) q
+  pub kept-more : (kept : CachedFields) (new : Option CachedFields) → kept_fields (Some kept) ≡ fields_of_tree (tree_at sources x) → kept_fields old ≡ fields_among sources names q → new ≡ cond (pointwise nat_eq x q) (Some kept) old → kept_fields new ≡ fields_among sources (names ++ x ∷ []) q
   kept-more kept new known before updates =
       ap kept_fields updates
       ∙ (λ i. kept_fields (cond (same_here x q i) (Some kept) old))

@@ -6,7 +6,7 @@ use Rattle.fb_tree.proofs.Text.OrderLemmas.{same_name}
 use Rattle.fb_tree.specs.{Text.declared.name.NameUse.{NameUse}, Tree.{DeclTree, instance_tree}, declared.network.Instance.{Instance}}
 use Rattle.fb_tree.specs.declared.network.Role.{Role}
 use Rattle.fb_iface.proofs.TableLemmas.{is_it, none}
-use Rattle.fb_iface.specs.{Kept.{kept_of, kept_ports, with_type}, Names.{has_name, is_same}, Scope.{usable}, declared.scope.TypePorts.{TypePorts}}
+use Rattle.fb_iface.specs.{ScopeTypes.{kept_of, kept_ports, with_type}, Names.{has_name, is_same}, Scope.{usable}, declared.scope.TypePorts.{TypePorts}}
 
 or-false : (b : Bool) → b || false ≡ b
 or-false true = refl

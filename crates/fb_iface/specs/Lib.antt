@@ -10,10 +10,10 @@ pub mod Class
 pub mod Literals
 pub mod Types
 pub mod Scope
-pub mod Kept
+pub mod ScopeTypes
 pub mod Recursion
 pub mod Fields
-pub mod KeptFields
+pub mod CachedFields
 pub mod Declarations
 -- Of the crates below, for the crates above.
 pub use Rattle.fb_library.specs.Forms as Forms

@@ -3,7 +3,7 @@ ghost use Rattle.std.specs.{Prelude.{◌≡◌, IfOk, List, map, ℕ, nat_eq, On
 ghost use Rattle.fb_tree.specs.Tree.{instance_tree, network_tree, type_tree};
 ghost use Rattle.fb_library.specs.View.{tree_at};
 ghost use Rattle.fb_iface.specs.Scope.{instance_ports, mentioned_type, ports_of, scope_of_network, scope_of_type, type_ports_of};
-ghost use Rattle.fb_iface.specs.Kept.{kept_of, scope_in, with_type};
+ghost use Rattle.fb_iface.specs.ScopeTypes.{kept_of, scope_in, with_type};
 
 use crate::instances::is_suited;
 use crate::interfaces;

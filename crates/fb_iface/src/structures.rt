@@ -2,7 +2,7 @@
 ghost use Rattle.std.specs.{Prelude.{◌≡◌, IfOk, List, ℕ, nat_eq}, Cmp.Lexicographic.{pointwise}, HashMap.{get}};
 ghost use Rattle.fb_tree.specs.Tree.{structure_tree};
 ghost use Rattle.fb_library.specs.{Near.{bases_at}, View.{tree_at}};
-ghost use Rattle.fb_iface.specs.{Fields.{fields_among, fields_in, fields_near, fields_of_tree}, KeptFields.{fields_shown, kept_fields, structures_in}};
+ghost use Rattle.fb_iface.specs.{Fields.{fields_among, fields_in, fields_near, fields_of_tree}, CachedFields.{fields_shown, kept_fields, structures_in}};
 ghost use Rattle.fb_iface.specs.Names.{first_ones};
 
 use crate::ports::{DeclaredVariable, variable_table};
@@ -59,7 +59,7 @@ impl FieldTable {
 
 /// What is kept of a carried type that a further name may be after.
 #[derive(Drop)]
-enum KeptFields {
+enum CachedFields {
     /// The type is absent or broken.
     NotJudged,
     /// The fields of a structure.
@@ -79,7 +79,7 @@ pub enum Behind<'a> {
 /// The types of values that a unit and its parts carry: structures with their fields, and those that are absent or broken. The fields
 /// of each structure are read once.
 pub struct Structures {
-    by_name: HashMap<Name, KeptFields>,
+    by_name: HashMap<Name, CachedFields>,
 }
 
 impl Drop for Structures {
@@ -106,8 +106,8 @@ impl Structures {
     {
         match self.by_name.get(name) {
             None => Behind::NoFields,
-            Some(KeptFields::NotJudged) => Behind::NotJudged,
-            Some(KeptFields::Known(fields)) => Behind::Fields(fields),
+            Some(CachedFields::NotJudged) => Behind::NotJudged,
+            Some(CachedFields::Known(fields)) => Behind::Fields(fields),
         }
     }
 }
@@ -127,7 +127,7 @@ fn kept_types<V: View>(
     alloc: Global,
     view: &V,
     names: &[Name],
-) -> Result<HashMap<Name, KeptFields>, AllocError>
+) -> Result<HashMap<Name, CachedFields>, AllocError>
     ensures { IfOk result
         (λ types. (name : List ℕ) → kept_fields (get (pointwise nat_eq) types name)
         ≡ fields_among (V.sources view.now) names.now name) }
@@ -146,15 +146,15 @@ fn kept_type<V: View>(
     alloc: Global,
     view: &V,
     name: &Name,
-) -> Result<Option<KeptFields>, AllocError>
+) -> Result<Option<CachedFields>, AllocError>
     ensures { IfOk result
         (λ kept. kept_fields kept ≡ fields_of_tree (tree_at (V.sources view.now) name.now)) }
 {
     match tree_by_name(view, name) {
-        None => Ok(Some(KeptFields::NotJudged)),
+        None => Ok(Some(CachedFields::NotJudged)),
         Some(Decl::Structure(structure)) => {
             let fields = FieldTable::of_structure(alloc, structure)?;
-            Ok(Some(KeptFields::Known(fields)))
+            Ok(Some(CachedFields::Known(fields)))
         }
         Some(_) => Ok(None),
     }

@@ -5,11 +5,11 @@ use Rattle.std.specs.{FinMap.{get}, List.{Contains}, List.Sorted.{IsStrictlySort
 use Rattle.fb_text.specs.Order.{name_cmp}
 use Rattle.fb_deploy.specs.{Deploy.{PlainDeploy, plain_deploy}, Plans.{is_whole_plan, plan_at}, Iface.declared.fault.Fault.{Fault}, Faults.Faults.{faults_of}}
 use Rattle.fb_deploy.specs.{Library.Place.{IsAt}, Library.Rests.{Rests, itself}, Library.Texts.{Held, Texts, sources_of, text_in}, Library.View.{tree_of}}
-use Rattle.fb_deploy.specs.{Flatten.Blocking.{is_some_fault}, Flatten.Far.{far_of}, Flatten.Hints.{is_whole_net}, Flatten.Kept.{IsStill, LeavesNet}}
-use Rattle.fb_deploy.specs.{Flatten.Net.{PlainNet, plain_net}, Flatten.Nets.{net_at}, Flatten.Wiring.ByName.{kind_at}, Flatten.Wiring.Local.{SaysSame}}
+use Rattle.fb_deploy.specs.{Flatten.Blocking.{is_some_fault}, Flatten.Far.{far_of}, Flatten.Hints.{is_whole_net}, Flatten.Unchanged.{IsStill, LeavesNet}}
+use Rattle.fb_deploy.specs.{Flatten.Net.{PlainNet, plain_net}, Flatten.Nets.{net_at}, Flatten.Wiring.ByName.{kind_at}, Flatten.Wiring.Local.{HasSameInterface}}
 use Rattle.fb_deploy.specs.{Flatten.Wiring.Tree.Mentions.{unit_kind_of}, Flatten.Wiring.Tree.declared.kinds.UnitKind.TheVariants.{Block}}
-use Rattle.fb_deploy.proofs.{Flatten.FarNames.{far_is_all}, Flatten.NetLocality.{says_itself}, Flatten.NetLeft.{net_left, no_faults_of_nothing}}
-use Rattle.fb_deploy.proofs.PlanLeft.{plan_left}
+use Rattle.fb_deploy.proofs.{Flatten.FarNames.{far_is_all}, Flatten.NetLocality.{says_itself}, Flatten.NetUnchanged.{net_left, no_faults_of_nothing}}
+use Rattle.fb_deploy.proofs.PlanUnchanged.{plan_left}
 use Rattle.fb_jobs.specs.{declared.key.Kind.{Kind}, declared.key.Key.{Key}, declared.value.Value.{Value}}
 use Rattle.fb_jobs.specs.{declared.value.Value.TheVariants.{Faults, Net, Deploy}, Hints.{net_key}}
 use Rattle.fb_jobs.specs.{Keys.{DeployFound, NetFound, needs, net_finding, plan_finding, scratch, scratch_of}, Cached.{AreWithoutFaults}}
@@ -26,7 +26,7 @@ module _ (unit : List ℕ) (faultless : List ℕ → Bool) (name : List ℕ) whe
   text_of (Some a) (Some b) (inl same, known) = inl (ap (λ (t : List ℕ). Some t) same)
   text_of (Some a) (Some b) (inr (other, alike), known) = inr alike.block
 
-  says_of : (a b : Option Held) → IsStillFound unit faultless name a b → SaysSame (option_and_then tree_of (option_map text_in a)) (option_and_then tree_of (option_map text_in b))
+  says_of : (a b : Option Held) → IsStillFound unit faultless name a b → HasSameInterface (option_and_then tree_of (option_map text_in a)) (option_and_then tree_of (option_map text_in b))
   says_of None None still = says_itself None None refl
   says_of None (Some b) still = absurd still
   says_of (Some a) None still = absurd still
@@ -116,8 +116,8 @@ module _ (unit : List ℕ) (before now : List Seen) (faultless : List ℕ → Bo
   still_there : (name : List ℕ) → IsPair name → IsStill (sources_of (read_texts before)) (sources_of (read_texts now)) name
   still_there name it = record {
     text = text_there name it (text_of unit faultless it.is.name it.was.found it.is.found it.reads.found);
-    says = subst (λ (o : Option (List ℕ)). SaysSame (option_and_then tree_of o) (option_and_then tree_of (get (sources_of (read_texts now)) name))) (sym it.text_was)
-        (subst (λ (o : Option (List ℕ)). SaysSame (option_and_then tree_of (seen_text it.was)) (option_and_then tree_of o)) (sym it.text_is) (says_of unit faultless it.is.name it.was.found it.is.found it.reads.found));
+    says = subst (λ (o : Option (List ℕ)). HasSameInterface (option_and_then tree_of o) (option_and_then tree_of (get (sources_of (read_texts now)) name))) (sym it.text_was)
+        (subst (λ (o : Option (List ℕ)). HasSameInterface (option_and_then tree_of (seen_text it.was)) (option_and_then tree_of o)) (sym it.text_is) (says_of unit faultless it.is.name it.was.found it.is.found it.reads.found));
     faultless = no_faults name it.is it.text_is (sym it.reads.name ∙ it.named) (known_of unit faultless it.is.name it.was.found it.is.found it.reads.found);
     absent = λ none. it.text_was ∙ absent_of unit faultless it.is.name it.was.found it.is.found it.reads.found (sym it.text_is ∙ none);
   }

@@ -1,7 +1,7 @@
 -- What is read now, beside what gave a value before.
 use Rattle.std.specs.{Prelude.{◌≡◌, ◌⊎◌, ⊤, ℕ, Bool, true, false, List, Option, None, Some}, List.{AllZip}, Option.{option_and_then, option_map}}
 use Rattle.fb_deploy.specs.{Deploy.{plain_deploy}, Plans.{is_whole_plan}, Flatten.Hints.{is_whole_net}, Flatten.Net.{plain_net}, Library.Texts.{Held, text_in}}
-use Rattle.fb_deploy.specs.{Library.View.{mentions_of_tree, tree_of}, Flatten.Wiring.Local.{AreAlikeBlocks}}
+use Rattle.fb_deploy.specs.{Library.View.{mentions_of_tree, tree_of}, Flatten.Wiring.Local.{AreInterchangeableBlocks}}
 use Rattle.fb_jobs.specs.{declared.key.Key.{Key}, declared.value.Value.{Value}, declared.value.Value.TheVariants.{Faults, Net, Deploy}, Keys.{scratch}}
 use Rattle.fb_jobs.specs.{Reads.{IsRight, Seen, read_texts}, Values.{finding_of}}
 
@@ -25,7 +25,7 @@ MentionsTheSame before now = mentions_of_tree (option_and_then tree_of (seen_tex
 
 -- the text of a name on which the unit rests is the same, or it is of another unit, a block type still that says the same
 abbrev pub IsStillText : List ℕ → List ℕ → List ℕ → List ℕ → Type 0
-IsStillText unit name before now = (before ≡ now) ⊎ ((name ≡ unit → ⊥) × AreAlikeBlocks (tree_of before) (tree_of now))
+IsStillText unit name before now = (before ≡ now) ⊎ ((name ≡ unit → ⊥) × AreInterchangeableBlocks (tree_of before) (tree_of now))
 
 -- and the unit of that name is known to be without faults; or there was no text, and there is none
 abbrev pub IsStillFound : List ℕ → (List ℕ → Bool) → List ℕ → Option Held → Option Held → Type 0

@@ -14,7 +14,7 @@ use crate::hints::{Hint, hints_among, net_key};
 use crate::key::{Key, Kind};
 use crate::read::Read;
 use crate::value::Value;
-use fb_deploy::flatten::{Hints, Known, Net};
+use fb_deploy::flatten::{Hints, KnownFaultless, Net};
 use fb_text::Name;
 use std::alloc::{AllocError, Global};
 use std::collections::{BTreeMap, BTreeSet};
@@ -87,7 +87,7 @@ impl Hints for CachedNets<'_> {
     }
 }
 
-impl Known for CachedNets<'_> {
+impl KnownFaultless for CachedNets<'_> {
     ghost faultless = { λ it name. set.contains name_cmp it.faultless.now name };
 
     fn is_faultless(&self, name: &Name) -> bool {

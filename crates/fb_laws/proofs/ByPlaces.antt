@@ -116,8 +116,8 @@ due_by_places s cs k = (forth (due s cs k) refl, back) where
   back (inl it) = or_right (s.pending k && not (settled s cs k)) _ (due_if_marked s cs k it.place it.marked it.unsettled)
   back (inr it) = or_left _ (due s cs k) (and_from (s.pending k) (not (settled s cs k)) it.pending (ap not (open_if s cs k it.unsettled)))
 
-pub due_goes_on : (limits : Bounds) (story : BenchView) → IsOrigin story.origin → DueGoesOn limits story
-due_goes_on limits story begins key =
-    sym (pending_is_due (checkpointed limits story) key (goes_on limits story begins))
-    ∙ ap (λ s. s.pending key) (unseen limits story begins)
-    ∙ pending_is_due story key begins
+pub due_goes_on : (limits : Bounds) (bench : BenchView) → IsOrigin bench.origin → DueGoesOn limits bench
+due_goes_on limits bench begins key =
+    sym (pending_is_due (checkpointed limits bench) key (goes_on limits bench begins))
+    ∙ ap (λ s. s.pending key) (unseen limits bench begins)
+    ∙ pending_is_due bench key begins

@@ -109,19 +109,19 @@ pub use Rattle.fb_tree.specs.Expression.{Expression, Expressions, Operands, Refe
 pub use Rattle.fb_tree.specs.Mentions.{instance_types, types_in, unit_kind_of, value_types, variable_types}
 pub use Rattle.fb_tree.specs.Statement.{Arms, Statement, Statements, arm_then, arms_of, assignment, choice, count, no_arms, no_statements, repeat_loop, selection, statement_then, statements_of, while_loop}
 pub use Rattle.fb_tree.specs.declared.interface.TypeForm.{TypeForm}
-pub use Rattle.fb_wiring.proofs.Network.NearestLemmas.{is_nearest}
-pub use Rattle.fb_wiring.specs.{Applications.{applications_of, plain_application}, ByName.{applications_at, declared, kind_at}}
-pub use Rattle.fb_wiring.specs.{Network.Clean.{IsClean, IsCleanThroughout, side_at}, Network.Composed.{block_within}, Network.FlatNet.{IsFlat}}
-pub use Rattle.fb_wiring.specs.Network.Prefixes.{IsPrefix, IsNearest, nearest}
-pub use Rattle.fb_wiring.specs.Network.Instances.{AreBlocks, AreInstances, Held, NoInstance, ThenBlock, ThenSubapplication, held_as, held_within, leaf_first, leaves_of}
-pub use Rattle.fb_wiring.specs.Network.LinkOrder.{link_cmp}
-pub use Rattle.fb_wiring.specs.Network.Network.{BlockPort, Chain, IsBorderPlace, IsConnected, IsInner, IsLeafPlace, LeafWithin, More, One, Place, Step, View, Within}
-pub use Rattle.fb_wiring.specs.{Network.Places.{dotted}, Network.Plain.{PlainNetwork}, Network.Printed.{printed}}
-pub use Rattle.fb_wiring.specs.{Network.SystemFlat.{IsSystemFlat, application_blocks}, Network.declared.application.FlatApplication.{FlatApplication}}
-pub use Rattle.fb_wiring.specs.{Network.declared.network.Instance.{Instance}, Network.declared.network.InstanceKind.{InstanceKind}}
-pub use Rattle.fb_wiring.specs.Networks.{instance_in_role, network_of, plain_instance}
-pub use Rattle.fb_wiring.specs.Units.{AreFlatApplications, Holds, IsFlatApplication, IsUnitFlat, IsWithinLimit, NoApplication, OfSubapplication, OfSystem, ThenApplication, own_instances}
-pub use Rattle.fb_wiring.specs.declared.systems.Application.{Application}
+pub use Rattle.fb_types.proofs.Network.NearestLemmas.{is_nearest}
+pub use Rattle.fb_types.specs.{Applications.{applications_of, plain_application}, ByName.{applications_at, declared, kind_at}}
+pub use Rattle.fb_types.specs.{Network.Clean.{IsClean, IsCleanThroughout, side_at}, Network.Composed.{block_within}, Network.FlatNet.{IsFlat}}
+pub use Rattle.fb_types.specs.Network.Prefixes.{IsPrefix, IsNearest, nearest}
+pub use Rattle.fb_types.specs.Network.Instances.{AreBlocks, AreInstances, Held, NoInstance, ThenBlock, ThenSubapplication, held_as, held_within, leaf_first, leaves_of}
+pub use Rattle.fb_types.specs.Network.LinkOrder.{link_cmp}
+pub use Rattle.fb_types.specs.Network.Network.{BlockPort, Chain, IsBorderPlace, IsConnected, IsInner, IsLeafPlace, LeafWithin, More, One, Place, Step, View, Within}
+pub use Rattle.fb_types.specs.{Network.Places.{dotted}, Network.Plain.{PlainNetwork}, Network.Printed.{printed}}
+pub use Rattle.fb_types.specs.{Network.SystemFlat.{IsSystemFlat, application_blocks}, Network.declared.application.FlatApplication.{FlatApplication}}
+pub use Rattle.fb_types.specs.{Network.declared.network.Instance.{Instance}, Network.declared.network.InstanceKind.{InstanceKind}}
+pub use Rattle.fb_types.specs.Networks.{instance_in_role, network_of, plain_instance}
+pub use Rattle.fb_types.specs.Units.{AreFlatApplications, Holds, IsFlatApplication, IsUnitFlat, IsWithinLimit, NoApplication, OfSubapplication, OfSystem, ThenApplication, own_instances}
+pub use Rattle.fb_types.specs.declared.systems.Application.{Application}
 pub use Rattle.std.proofs.Common.{Bool, Err, IsUtf8, List, None, Ok, Option, Result, Some, [], ap, append-nil, append_assoc, ap₂, arith, cond, drop, false, if◌then◌else◌, inl, inr, length, length-append, length-drop, length-take-le, map, not, refl, subst, suc, sym, take, take-append-drop, true, true≢false, unwrap_or, zero, ℕ, ◌&&◌, ◌++◌, ◌+◌, ◌-◌, ◌<◌, ◌==◌, ◌||◌, ◌↔◌, ◌∙◌, ◌∷◌, ◌≡◌, ◌≢◌, ◌≤◌, ◌⊎◌}
 pub use Rattle.std.proofs.Math.Seq.{drop-append-add, take-append_seam}
 pub use Rattle.std.proofs.lemmas.Bool.{and_from, and_parts, cases_lt, cases_order, eqb-false, eqb-true, false_from_ne_true, false≢true, ltb-false, not-false, not-true, or_cases, or_from, or_left, or_parts, or_right, true_from_ne_false}

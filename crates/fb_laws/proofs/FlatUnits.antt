@@ -5,7 +5,7 @@ use Rattle.fb_tree.specs.declared.kinds.UnitKind.TheVariants as kinds
 use Rattle.fb_deploy.specs.Flatten.Far.{far_of}
 use Rattle.fb_deploy.proofs.{Flatten.CleanUnits.{applications_clean, networks_clean}, Flatten.ComputedFlats.{IsDone, clean_with}}
 use Rattle.fb_deploy.proofs.{Flatten.CountLemmas.{inner_small, own_kind}, Flatten.MentionLemmas.{own_within}}
-use Rattle.fb_wiring.proofs.Network.Composing.{found_by_name}
+use Rattle.fb_types.proofs.Network.Composing.{found_by_name}
 use Rattle.fb_laws.specs.Chains.{of_application, of_subapplication}
 
 -- the instances of the network of a subapplication are its own

@@ -3,7 +3,7 @@ use Rattle.fb_laws.proofs.Common.{arith, ◌≡◌, ℕ, List, [], ◌∷◌, �
 use Rattle.fb_laws.proofs.{PathHolders.{within}, Joined.{given, gives_member}, PlanEnds.{instance_held, leaf_listed, application_of, flat_of}}
 use Rattle.fb_laws.proofs.PathTexts.{same_print}
 use Rattle.fb_tree.specs.declared.network.Role.TheVariants as roles
-use Rattle.fb_wiring.specs.Network.declared.network.InstanceKind.TheVariants.{Block, Subapplication}
+use Rattle.fb_types.specs.Network.declared.network.InstanceKind.TheVariants.{Block, Subapplication}
 
 -- ---- instances in plain
 

@@ -1,9 +1,9 @@
 -- Each end of a link of a flat network is that of a block.
 use Rattle.fb_laws.proofs.Common.{arith, ℕ, ◌≡◌, List, [], ◌∷◌, ◌++◌, Some, ◌⊎◌, inl, inr, sym, ◌∙◌, ap, subst, map, append_assoc, Contains-append_left, Contains-append_right, name_cmp, contains_cases, contains_flat_map, contains_here, contains_later, contains_map, contains_nothing, passes_in_find, Sources, Sort, FlatBlock, Link, Instance, InstanceKind, IsFlat, AreBlocks, AreInstances, Held, NoInstance, ThenBlock, ThenSubapplication, held_as, held_within, leaf_first, leaves_of, BlockPort, IsLeafPlace, LeafWithin, Place, View, dotted, PlainNetwork, PlainFlat, printed, HasFlat, AreFlatApplications, IsUnitFlat, NoApplication, OfSubapplication, OfSystem, ThenApplication, Application, block_within, IsSystemFlat, application_blocks, FlatApplication, IsPrefix, Contains, IsFlatApplication}
 use Rattle.std.specs.BTreeMap.{is_at}
-use Rattle.fb_wiring.proofs.Network.Equals.{same_bytes}
+use Rattle.fb_types.proofs.Network.Equals.{same_bytes}
 use Rattle.fb_placing.proofs.NameLemmas.{printed-push}
-use Rattle.fb_wiring.specs.{Network.declared.network.InstanceKind.TheVariants.{Block, Subapplication}, Network.NetLink.{IsNetLink}}
+use Rattle.fb_types.specs.{Network.declared.network.InstanceKind.TheVariants.{Block, Subapplication}, Network.NetLink.{IsNetLink}}
 
 -- ---- blocks at ports
 

@@ -27,4 +27,4 @@ pub use Rattle.fb_tree.specs.{declared.interface.Side.TheVariants.{Input, Output
 pub use Rattle.fb_tree.specs.{declared.network.Connection.{Connection}, declared.network.End.{End}, declared.network.Role.{Role}}
 pub use Rattle.fb_tree.specs.{declared.network.Role.TheVariants.{Block, Plug, Socket, Subapplication}, declared.network.Sort.{Sort}}
 pub use Rattle.fb_tree.specs.declared.reference.Member.{Member}
-pub use Rattle.fb_wiring.specs.{Network.PlainFlat.{PlainFlat}, Network.declared.flat.FlatBlock.{FlatBlock}, Network.declared.flat.Link.{Link}}
+pub use Rattle.fb_types.specs.{Network.PlainFlat.{PlainFlat}, Network.declared.flat.FlatBlock.{FlatBlock}, Network.declared.flat.Link.{Link}}

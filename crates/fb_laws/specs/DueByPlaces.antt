@@ -32,4 +32,4 @@ IsDueByPlaces state calls key = (due_from state calls key ≡ true) ↔ (IsMarke
 
 -- a key waits after a checkpoint exactly where it waits before
 abbrev pub DueGoesOn : Bounds → BenchView → Type 0
-DueGoesOn limits story = (key : Key) → is_due (checkpointed limits story) key ≡ is_due story key
+DueGoesOn limits bench = (key : Key) → is_due (checkpointed limits bench) key ≡ is_due bench key

@@ -1,7 +1,7 @@
 -- Systems with a plan, and where their blocks and the ends of their links stand.
 use Rattle.std.specs.Prelude.{◌≡◌, ◌≤◌, ℕ, false, List, length, Some, Contains}
 use Rattle.fb_laws.specs.Common.{MappingTree, Sources, tree_at, FlatBlock, Link, PlainFlat, HasFlat, leads_nowhere, applications_in, mappings_in, planned, PlainResource, plan_at}
-use Rattle.fb_wiring.specs.Network.Prefixes.{IsPrefix, IsNearest}
+use Rattle.fb_types.specs.Network.Prefixes.{IsPrefix, IsNearest}
 use Rattle.fb_placing.specs.Mappings.{names_used, resource_at}
 
 -- the system has this flat network, and its plan has these cut links and these resources with their commands

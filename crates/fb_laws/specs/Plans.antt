@@ -2,7 +2,7 @@
 use Rattle.std.specs.{Prelude.{◌≡◌, ◌≢◌, ◌↔◌, ◌⊎◌, ℕ, List, [], ◌∷◌, ◌++◌, map, Some, Contains, codes}, List.{flat_map}, List.Sorted.{IsStrictlySortedBy}}
 use Rattle.fb_laws.specs.Common.{ParameterTree, SystemTree, system_configuration, Sources, text_or_empty, tree_at, FlatBlock, Link, PlainFlat, HasFlat, PlainResolved, path_names, resolved_at, applications_in, PlainResource}
 use Rattle.fb_laws.specs.Planned.{HasCommands, IsHome, IsPlacedWhole, IsPlanned, StandsOn}
-use Rattle.fb_wiring.specs.{Network.LinkOrder.{link_cmp}, Network.Places.{dotted}}
+use Rattle.fb_types.specs.{Network.LinkOrder.{link_cmp}, Network.Places.{dotted}}
 use Rattle.fb_deploy.specs.Mapping.Placed.{IsSystem}
 use Rattle.fb_placing.specs.{PlacedCommands.{create_text, command_cmp, write_text}, SystemCommands.{connection_text}, ConstantTexts.{written}}
 use Rattle.fb_placing.specs.declared.plan.write_commands.PlacedCommand.{PlacedCommand}

@@ -8,5 +8,5 @@ ghost use Rattle.fb_laws.specs.DueByPlaces.{IsDueByPlaces, DueGoesOn};
 /// at the beginning and no place marks or settles it; and it still waits after a checkpoint.
 pub fn keys_wait_by_places()
     ensures places { (state : State) (calls : List Call) (key : Key) → IsDueByPlaces state calls key }
-    ensures goes_on { (limits : Bounds) (story : BenchView) → IsOrigin story.origin → DueGoesOn limits story }
+    ensures goes_on { (limits : Bounds) (bench : BenchView) → IsOrigin bench.origin → DueGoesOn limits bench }
 {}

@@ -3,7 +3,7 @@ pub mod CarriedLemmas
 pub mod Counts
 pub mod EntryLemmas
 pub mod Halves
-pub mod Kept
+pub mod ShelfRows
 pub mod Mentioned
 pub mod Names
 pub mod Places

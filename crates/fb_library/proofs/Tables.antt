@@ -5,7 +5,7 @@ use Rattle.std.specs.{List.{slice_get}, Option.{option_map, is_some}, Map.{looku
 use Rattle.std.specs.declared.cmp.Ordering.TheVariants.{Less, Equal, Greater}
 use Rattle.fb_parse.specs.Text.Order.{name_cmp}
 use Rattle.fb_library.specs.Shelves.{names_of, lasts_of, all_on, AreShelves, IsShelfFor, reaches}
-use Rattle.fb_library.proofs.{Appended.{lookup_behind}, Kept.{row_there}, OnShelves.{Row, entries_at, below_shelf, lookup_on}, Places.{less}}
+use Rattle.fb_library.proofs.{Appended.{lookup_behind}, ShelfRows.{row_there}, OnShelves.{Row, entries_at, below_shelf, lookup_on}, Places.{less}}
 
 module _ {A B : Type 0} (f : A → B) where
   pub some_found : (o : Option A) (l : Option B) → option_map f o ≡ l → true ≡ is_some o → (v : B) × (l ≡ Some v)

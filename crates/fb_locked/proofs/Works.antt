@@ -2,7 +2,7 @@
 use Rattle.std.proofs.Common.{◌≡◌, ℕ, ◌+◌, ◌*◌, ◌≤◌, inr, List, [], ◌∷◌, ◌++◌, Option, Some, None, Result, Ok, Err, option_map, sym, ap, ◌∙◌, subst, arith, append_assoc, append-nil, length-append, refl}
 use Rattle.fb_bench.specs.{Jobs.Reads.{PlainJob}, History.Machine.{Call, ToGiveBack}, declared.answers.Answered.{Answered}}
 use Rattle.fb_locked.specs.{declared.locked.SharedRefused.{SharedRefused}, declared.look.WorkEnd.{WorkEnd}, declared.look.WorkEnd.TheVariants.{Memory}}
-use Rattle.fb_locked.specs.{Seats.{LockedView, SeatView, ReceiptView, IsReceiptOf, seat_after}, Refusals.{IsRefusalOf, RefusedAs}, Calls.{AnswersKept, Stays}}
+use Rattle.fb_locked.specs.{Seats.{LockedView, SeatView, ReceiptView, IsReceiptOf, seat_after}, Refusals.{IsRefusalOf, RefusedAs}, Calls.{AnswersInto, Stays}}
 use Rattle.fb_locked.specs.Ends.{NamesSeat, EndsAs, GivesUp, end_of}
 use Rattle.fb_locked.specs.Runs.{Hand, Empty, Holds, Gave, hand_after, IsRun, IsWork, Follows, AddsWork, Works, IsRefusal}
 use Rattle.fb_locked.specs.declared.locked.SharedRefused.TheVariants as refused
@@ -75,15 +75,15 @@ refusal_names seat refused.Memory named = tt
 -- ---- how a job is settled
 
 -- its key is given back, if it can be
-pub gives_up : (order : PlainJob) (seat after : SeatView) (old new : List ReceiptView) (answer : Result Answered SharedRefused) → AnswersKept seat (ToGiveBack order.key) answer old after new → Works (Holds order) 1 seat old new after (Some Memory)
+pub gives_up : (order : PlainJob) (seat after : SeatView) (old new : List ReceiptView) (answer : Result Answered SharedRefused) → AnswersInto seat (ToGiveBack order.key) answer old after new → Works (Holds order) 1 seat old new after (Some Memory)
 gives_up order seat after old new (Ok answer) kept = (Gave, adds_call (Holds order) seat after old new (ToGiveBack order.key) kept.0 kept.2 refl kept.1 kept.4, refl)
 gives_up order seat after old new (Err cause) kept = (Holds order, adds_nothing (Holds order) 1 seat after old new kept.1 kept.2, tt)
 
 -- its delivery is refused
-pub ends_refused : (order : PlainJob) (seat after : SeatView) (old new : List ReceiptView) (call : Call) (cause : SharedRefused) → AnswersKept seat call (Err cause) old after new → Works (Holds order) 1 seat old new after (Some (end_of cause))
+pub ends_refused : (order : PlainJob) (seat after : SeatView) (old new : List ReceiptView) (call : Call) (cause : SharedRefused) → AnswersInto seat call (Err cause) old after new → Works (Holds order) 1 seat old new after (Some (end_of cause))
 ends_refused order seat after old new call cause kept = (Holds order, adds_nothing (Holds order) 1 seat after old new kept.1 kept.2, refusal_ends cause)
 
-pub refused_names : (seat after : SeatView) (old new : List ReceiptView) (call : Call) (cause : SharedRefused) → AnswersKept seat call (Err cause) old after new → NamesSeat after (end_of cause)
+pub refused_names : (seat after : SeatView) (old new : List ReceiptView) (call : Call) (cause : SharedRefused) → AnswersInto seat call (Err cause) old after new → NamesSeat after (end_of cause)
 refused_names seat after old new call cause kept = subst (λ (s : SeatView). NamesSeat s (end_of cause)) (sym kept.2) (refusal_names seat cause kept.0)
 
 -- a refusal ends a worker under its name

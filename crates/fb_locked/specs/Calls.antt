@@ -37,12 +37,12 @@ Stays locked seat old locked' seat' new = (locked' ≡ locked) × (seat' ≡ sea
 
 -- The call is made and its receipt kept, and the answer is the machine's. Or the first cause refuses it, want of memory where there is none,
 -- and nothing changes.
-abbrev pub PerformsKept : LockedView → SeatView → Call → Result Answered SharedRefused → List ReceiptView → LockedView → SeatView → List ReceiptView → Type 0
-PerformsKept locked seat call (Ok answer) old locked' seat' new = (reply_in answer ≡ reply_at locked.bench call) × Keeps locked seat call old locked' seat' new
-PerformsKept locked seat call (Err refused) old locked' seat' new = RefusedAs (refusal_of locked seat) refused × Stays locked seat old locked' seat' new
+abbrev pub PerformsInto : LockedView → SeatView → Call → Result Answered SharedRefused → List ReceiptView → LockedView → SeatView → List ReceiptView → Type 0
+PerformsInto locked seat call (Ok answer) old locked' seat' new = (reply_in answer ≡ reply_at locked.bench call) × Keeps locked seat call old locked' seat' new
+PerformsInto locked seat call (Err refused) old locked' seat' new = RefusedAs (refusal_of locked seat) refused × Stays locked seat old locked' seat' new
 
 -- one receipt more, which is of the call, with its answer, and which the seat has then seen; or a refusal, and all as it was
-abbrev pub AnswersKept : SeatView → Call → Result Answered SharedRefused → List ReceiptView → SeatView → List ReceiptView → Type 0
-AnswersKept seat call (Ok answer) old seat' new =
+abbrev pub AnswersInto : SeatView → Call → Result Answered SharedRefused → List ReceiptView → SeatView → List ReceiptView → Type 0
+AnswersInto seat call (Ok answer) old seat' new =
     (receipt : ReceiptView) × (new ≡ old ++ receipt ∷ []) × IsReceiptOf seat call receipt × (receipt.entry.reply ≡ reply_in answer) × (seat' ≡ seat_after seat receipt)
-AnswersKept seat call (Err refused) old seat' new = IsRefusalOf seat refused × (new ≡ old) × (seat' ≡ seat)
+AnswersInto seat call (Err refused) old seat' new = IsRefusalOf seat refused × (new ≡ old) × (seat' ≡ seat)

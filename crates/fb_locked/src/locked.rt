@@ -2,7 +2,7 @@
 ghost use Rattle.std.specs.Prelude.{◌≡◌, ◌≤◌, ◌+◌, true, false, IfOk, IfErr, OnOk, OnErr, None, Some, vec_len, vec_capacity};
 ghost use Rattle.fb_bench.specs.{History.Machine.{ToCommit, ToTake, ToDeliver, ToGiveBack, ToAsk}, Records.{listed}, Requests.{call_for, reply_in, job_of}};
 ghost use Rattle.fb_bench.specs.History.BenchView.{IsOrigin, IsReplay, all_turns, new_bench};
-ghost use Rattle.fb_locked.specs.{Book.{SeatFits}, Calls.{Answers, AnswersKept, Performs, PerformsKept}, Refusals.{refusal_of, IsRefusalOf}};
+ghost use Rattle.fb_locked.specs.{Book.{SeatFits}, Calls.{Answers, AnswersInto, Performs, PerformsInto}, Refusals.{refusal_of, IsRefusalOf}};
 ghost use Rattle.fb_locked.specs.Seats.{locked_after, next_receipt, AreFirstSeats, AreSeatsAt};
 
 use crate::seat::{Receipt, Seat};
@@ -179,9 +179,9 @@ impl Locked {
         receipts: &mut Vec<Receipt>,
         request: &Request<'_>,
     ) -> Result<Answered, SharedRefused>
-        ensures performs { PerformsKept self.old seat.old (call_for request.now) result
+        ensures performs { PerformsInto self.old seat.old (call_for request.now) result
             receipts.old.items self.new seat.new receipts.new.items }
-        ensures answers { AnswersKept seat.old (call_for request.now) result
+        ensures answers { AnswersInto seat.old (call_for request.now) result
             receipts.old.items seat.new receipts.new.items }
         ensures one { OnOk result (vec_len receipts.new ≡ vec_len receipts.old + 1) }
         ensures room { vec_capacity receipts.old ≤ vec_capacity receipts.new }

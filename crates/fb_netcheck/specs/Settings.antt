@@ -1,7 +1,7 @@
 -- Where a network stands.
 use Rattle.std.specs.Prelude.{ℕ, List}
 use Rattle.fb_tree.specs.declared.kinds.UnitKind.{UnitKind}
-use Rattle.fb_iface.specs.{Kept.{scope_in}, Scope.{Scope}}
+use Rattle.fb_iface.specs.{ScopeTypes.{scope_in}, Scope.{Scope}}
 use Rattle.fb_netcheck.specs.declared.setting.Setting.{Setting}
 
 -- the unit, what it is, and what names mean in the network

@@ -1,6 +1,6 @@
 //! What the ends of connections name (IEC 61499-1, 5.3: composite types; 5.4: subapplication types; 5.5: adapters).
 ghost use Rattle.std.specs.{Prelude.{◌≡◌}, Option.{option_and_then, option_copied, option_map}};
-ghost use Rattle.fb_iface.specs.{Kept.{scope_in}, Names.{stands_for}, Scope.{instance_ports}};
+ghost use Rattle.fb_iface.specs.{ScopeTypes.{scope_in}, Names.{stands_for}, Scope.{instance_ports}};
 ghost use Rattle.fb_netcheck.specs.Settings.{place_in};
 ghost use Rattle.fb_netcheck.specs.Ends.{adapter_port, data_port, end_span, event_port, holder_of, is_right, last_name, port_in, right_side, target, target_in, target_of, target_of_instance};
 

@@ -1,7 +1,7 @@
 //! Parameters of block instances.
 ghost use Rattle.std.specs.{Prelude.{◌≡◌, ◌++◌, None, OnOk, map}, List.{flat_map}, Option.{option_copied, option_map}};
 ghost use Rattle.fb_tree.specs.Tree.{instance_tree, parameter_tree};
-ghost use Rattle.fb_iface.specs.{Names.{stands_for}, Kept.{scope_in}};
+ghost use Rattle.fb_iface.specs.{Names.{stands_for}, ScopeTypes.{scope_in}};
 ghost use Rattle.fb_netcheck.specs.Parameters.{instance_parameters, parameter_faults, typed_parameters};
 
 use fb_iface::{Code, DeclaredVariable, Fault, Ports, Scope, report_constant};

@@ -35,7 +35,7 @@ impl Draft {
 }
 
 /// Adds prefixes of an inner network, inside the instance of that name.
-fn push_fronts_within(
+fn push_prefixes_within(
     alloc: Global,
     prefixes: &mut Vec<Prefix>,
     name: &Name,
@@ -69,7 +69,7 @@ pub fn take_in(
 {
     let tables = &*inner.tables;
     let before = count_of(&draft.prefixes)?;
-    push_fronts_within(alloc, &mut draft.prefixes, name, &tables.prefixes)?;
+    push_prefixes_within(alloc, &mut draft.prefixes, name, &tables.prefixes)?;
     push_leaves_moved(&mut draft.leaves, before, &tables.leaves)?;
     push_joins_moved(&mut draft.joins, before, &tables.joins)?;
     edges_moved(alloc, before, &tables.edges)

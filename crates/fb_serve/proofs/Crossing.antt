@@ -10,7 +10,7 @@ use Rattle.std.specs.contracts.impls.GlobalAllocator.TheImpl.{ghosts}
 use Rattle.fb_serve.specs.contracts.callers.NewSeat as NewSeat
 use Rattle.fb_serve.specs.contracts.callers.ThreadResult as ThreadResult
 use Rattle.fb_serve.specs.contracts.callers.Results as Results
-use Rattle.fb_serve.specs.contracts.callers.SessionFault as SessionFault
+use Rattle.fb_serve.specs.contracts.callers.SessionError as SessionError
 use Rattle.fb_serve.specs.contracts.caller_state.Held as Held
 use Rattle.fb_serve.specs.contracts.caller_state.CallerState as CallerState
 use Rattle.fb_wire.specs.contracts.run_error.RunError as RunError
@@ -48,16 +48,16 @@ caller_state_send = search (caller_state_field_send, crosses, sendable) depth 60
 fault_field_send : IsSend (RunError.the_field).row
 fault_field_send = search (crosses, sendable) depth 60 fits 20000
 
-pub session_fault_field_send : IsSend (SessionFault.the_field).row
+pub session_fault_field_send : IsSend (SessionError.the_field).row
 session_fault_field_send = search (fault_field_send, crosses, sendable) depth 60 fits 20000
 
-pub session_fault_send : IsSend SessionFault.the_row
+pub session_fault_send : IsSend SessionError.the_row
 session_fault_send = search (session_fault_field_send, crosses, sendable) depth 60 fits 20000
 
-pub sender_sync : IsSync (Sender.the_row SessionFault.the_row Heap.the_row ghosts)
+pub sender_sync : IsSync (Sender.the_row SessionError.the_row Heap.the_row ghosts)
 sender_sync = search (session_fault_send, crosses, sendable) depth 60 fits 20000
 
-pub sender_send : IsSend (Sender.the_row SessionFault.the_row Heap.the_row ghosts)
+pub sender_send : IsSend (Sender.the_row SessionError.the_row Heap.the_row ghosts)
 sender_send = search (session_fault_send, crosses, sendable) depth 60 fits 20000
 
 pub listener_sync : IsSync TcpListener.the_row

@@ -22,7 +22,7 @@ pub const TURNS: u64 = 1_000_000_000;
 
 /// A session that did not reach the end of its input.
 #[derive(Clone, Copy)]
-pub(crate) struct SessionFault {
+pub(crate) struct SessionError {
     pub(crate) caller: u32,
     pub(crate) error: RunError,
 }
@@ -114,8 +114,8 @@ pub(crate) fn run_callers<R: Threads + Wait + Clock + Sync, E: Write>(
     shared: &Shared,
     sessions: Vec<NewSeat>,
     workers: Vec<NewSeat>,
-    faults: Sender<SessionFault>,
-    reported: &Receiver<SessionFault>,
+    faults: Sender<SessionError>,
+    reported: &Receiver<SessionError>,
     errors: &mut E,
 ) -> Results {
     thread::scope(thread::scope_env(), rt, |scope| {
@@ -142,9 +142,9 @@ fn seats_beside(working: &Started, seats: Vec<NewSeat>) -> Vec<NewSeat>
 }
 
 /// Reports the faults of the sessions as they come, until all have ended.
-fn report_faults<R: Wait, E: Write>(rt: &R, reported: &Receiver<SessionFault>, errors: &mut E) {
+fn report_faults<R: Wait, E: Write>(rt: &R, reported: &Receiver<SessionError>, errors: &mut E) {
     for it in reported.iter(rt) {
-        let SessionFault { caller, error } = it;
+        let SessionError { caller, error } = it;
         say_error(errors, caller, error);
     }
 }
@@ -157,7 +157,7 @@ fn start_accepting<'s, E, R: Threads + Wait + Sync>(
     listener: &'s TcpListener,
     shared: &'s Shared,
     seats: Vec<NewSeat>,
-    faults: Sender<SessionFault>,
+    faults: Sender<SessionError>,
 ) -> Option<JoinHandle<Results>> {
     scope
         .spawn(move || run_sessions(rt, alloc, listener, shared, seats, faults))
@@ -183,7 +183,7 @@ fn run_sessions<R: Threads + Wait + Sync>(
     listener: &TcpListener,
     shared: &Shared,
     seats: Vec<NewSeat>,
-    faults: Sender<SessionFault>,
+    faults: Sender<SessionError>,
 ) -> Results {
     let faults = &faults;
     thread::scope(thread::scope_env(), rt, |scope| {
@@ -227,7 +227,7 @@ fn start_sessions<'s, E, R: Threads + Wait + Sync>(
     listener: &TcpListener,
     shared: &'s Shared,
     seats: Vec<NewSeat>,
-    faults: &'s Sender<SessionFault>,
+    faults: &'s Sender<SessionError>,
 ) -> Started {
     let mut threads = Vec::new(alloc);
     let mut is_whole = true;
@@ -276,7 +276,7 @@ fn session_thread<R: Wait>(
     shared: &Shared,
     seat: NewSeat,
     stream: TcpStream,
-    faults: &Sender<SessionFault>,
+    faults: &Sender<SessionError>,
 ) -> ThreadResult {
     let NewSeat { seat } = seat;
     let caller = seat.caller();
@@ -288,7 +288,7 @@ fn session_thread<R: Wait>(
         receipts,
     } = run_session(rt, alloc, shared, seat, &mut reader, &mut writer, TURNS);
     if let Some(error) = error_of(end) {
-        let _ = faults.send(rt, SessionFault { caller, error });
+        let _ = faults.send(rt, SessionError { caller, error });
     }
     ThreadResult::of(seat, receipts)
 }

@@ -1,7 +1,7 @@
 //! One session.
 ghost use Rattle.std.specs.Prelude.{◌≡◌, [], false, map};
 ghost use Rattle.fb_wire.specs.{Ends.{IsConversation, streams}, Conversations.{Runs}};
-ghost use Rattle.fb_shared.specs.{Locked.Runs.{IsRun}, Sitting.{SitterStep}};
+ghost use Rattle.fb_shared.specs.{Locked.Runs.{IsRun}, Seated.{SeatedStep}};
 ghost use Rattle.fb_serve.specs.Sessions.{answered_in, call_shown};
 
 use fb_shared::{Receipt, Seat, Seated, Shared};
@@ -37,7 +37,7 @@ pub fn run_session<R: Wait, F: Feed, S: Sink>(
         (streams F.given F.left F.reads F.has_failed S.held S.is_flushed S.has_failed reader.new
         writer.new))
         × (answered_in conversation.pairs ≡ map call_shown result.receipts.items)
-        × Runs SitterStep (record { seat = seat; receipts = [] }) conversation.pairs
+        × Runs SeatedStep (record { seat = seat; receipts = [] }) conversation.pairs
         (record { seat = result.seat; receipts = result.receipts.items }) }
     // The receipts are of calls with this seat, one after another.
     ensures run { IsRun seat result.receipts.items result.seat }

@@ -1,3 +1,3 @@
-pub mod Sitting
+pub mod Seated
 -- Of the crates below, for the crates above.
 pub use Rattle.fb_locked.specs as Locked

@@ -15,7 +15,7 @@ pub struct Seated<'a, R: Wait> {
 }
 
 impl<'a, R: Wait> Model for Seated<'a, R> {
-    ghost use Rattle.fb_shared.specs.Sitting.{SeatedView};
+    ghost use Rattle.fb_shared.specs.Seated.{SeatedView};
 
     ghost Value = { SeatedView };
 
@@ -25,11 +25,11 @@ impl<'a, R: Wait> Model for Seated<'a, R> {
 impl<R: Wait> Desk for Seated<'_, R> {
     ghost use Rattle.std.specs.Prelude.{◌≡◌, Err};
     ghost use Rattle.fb_locked.specs.Bench.Calls.{ServesCheckpoint};
-    ghost use Rattle.fb_shared.specs.Sitting.{IsCallSeated, IsCheckpointSitting};
+    ghost use Rattle.fb_shared.specs.Seated.{IsCallSeated, IsCheckpointSeated};
 
     ghost step = { IsCallSeated };
 
-    ghost checkpoint_step = { IsCheckpointSitting };
+    ghost checkpoint_step = { IsCheckpointSeated };
 
     fn perform(&mut self, request: &Request<'_>) -> Result<Answered, DeskError> {
         let shared = self.shared;
@@ -44,7 +44,7 @@ impl<R: Wait> Desk for Seated<'_, R> {
 
     /// A seat is not alone at its workbench: others may hold receipts of the records that would go at a checkpoint.
     fn checkpoint(&mut self, _limits: Limits) -> Result<u64, DeskCheckpointError>
-        ensures step { ServesCheckpoint IsCheckpointSitting self.old _limits result self.new }
+        ensures step { ServesCheckpoint IsCheckpointSeated self.old _limits result self.new }
         ensures alone { result ≡ Err DeskCheckpointError.NotAlone }
     {
         Err(DeskCheckpointError::NotAlone)

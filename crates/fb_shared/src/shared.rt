@@ -1,7 +1,7 @@
 //! The workbench that threads share, under its lock.
 ghost use Rattle.std.specs.Prelude.{◌≡◌, None, IfErr, IfOk, OnOk};
 ghost use Rattle.fb_locked.specs.{History.Machine.{ToCommit, ToTake, ToDeliver, ToGiveBack, ToAsk}, Bench.Records.{listed}, Bench.Requests.{call_for, job_of}};
-ghost use Rattle.fb_locked.specs.{Calls.{Answers, AnswersKept}, Closing.{IsCloseOf, IsFaultOf, IsLeast}, Resuming.{is_left_out, IsResumeFault}};
+ghost use Rattle.fb_locked.specs.{Calls.{Answers, AnswersInto}, Closing.{IsCloseOf, IsFaultOf, IsLeast}, Resuming.{is_left_out, IsResumeFault}};
 ghost use Rattle.fb_locked.specs.{Rolling.{MayReturn}, Seats.{AreFirstSeats, AreSeatsAt}};
 
 use fb_locked::bench::{Answered, Bench, Limits, Request};
@@ -55,7 +55,7 @@ impl Hold<'_> {
 }
 
 impl Model for Shared {
-    ghost use Rattle.fb_shared.specs.Sitting.{SharedView};
+    ghost use Rattle.fb_shared.specs.Seated.{SharedView};
 
     ghost Value = { SharedView };
 
@@ -220,7 +220,7 @@ impl Shared {
         receipts: &mut Vec<Receipt>,
         request: &Request<'_>,
     ) -> Result<Answered, SharedRefused>
-        ensures { AnswersKept seat.old (call_for request.now) result
+        ensures { AnswersInto seat.old (call_for request.now) result
             receipts.old.items seat.new receipts.new.items }
     {
         let mut hold = self.hold(rt);

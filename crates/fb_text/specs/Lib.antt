@@ -4,7 +4,7 @@ pub mod Spelling
 pub mod Name
 pub mod Stored
 pub mod ShortName
-pub mod Kept
+pub mod CompactNames
 pub mod Forms
 pub mod Scan
 pub mod Tokens

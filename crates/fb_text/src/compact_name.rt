@@ -31,7 +31,7 @@ impl Model for CompactName {
 
     ghost Value = { List ℕ };
 
-    ghost use Rattle.fb_text.specs.Kept.{compact_name};
+    ghost use Rattle.fb_text.specs.CompactNames.{compact_name};
 
     ghost view = { λ n. compact_name n.stored };
 }

@@ -8,11 +8,11 @@ use Rattle.fb_bench.specs.declared.desk.DeskCheckpointError.{DeskCheckpointError
 use Rattle.fb_bench.specs.{declared.desk.DeskError.{DeskError}, declared.desk.DeskError.TheVariants.{Behind, HistoryFull, Memory}}
 use Rattle.fb_bench.specs.declared.desk.DeskCheckpointError.TheVariants as checkpoint
 use Rattle.fb_library.specs.{Texts.{Edit}, Changes.{edit_of, edits_of}, declared.change.Change.{Change}}
-use Rattle.fb_wire.specs.{declared.change.ChangeFault.{ChangeFault}, Lines.{Fits, IsTooLong, is_blank, lines_of}, Ends.{IsNothing, IsPrefixOfReply, OutputAt}}
+use Rattle.fb_wire.specs.{declared.change.ChangeError.{ChangeError}, Lines.{Fits, IsTooLong, is_blank, lines_of}, Ends.{IsNothing, IsPrefixOfReply, OutputAt}}
 use Rattle.fb_wire.specs.declared.end.RunEnd.{RunEnd}
 use Rattle.fb_wire.specs.{Conversations.{AnswersLine, AnswersLines, Jobs, Leads, Plan, Runs, after_take, asks, held_after, plan_of, says}, Said.{said_to}}
 use Rattle.fb_wire.specs.{declared.answer.Round.{Round}, declared.answer.Taking.{Taking}, declared.answer.Taking.TheVariants.{Ended, Job}}
-use Rattle.fb_wire.specs.declared.change.ChangeFault.TheVariants as fault
+use Rattle.fb_wire.specs.declared.change.ChangeError.TheVariants as fault
 use Rattle.fb_messages.specs.{Requests.{request_of}, Replies.{work_done, work_refused}, ReplyView.{data_of, refusal_text}, declared.reply.Reply.{Reply}}
 use Rattle.fb_messages.specs.declared.reply.Refusal.{Refusal}
 use Rattle.fb_wire.specs.declared.end.RunEnd.TheVariants as end
@@ -128,12 +128,12 @@ StopsInside _ = ⊥
 -- ---- the changes of a commit
 
 -- the change is the edit that was asked for, or the refusal is its; or memory ran out
-abbrev pub ChangeMade : Result Edit (List ℕ) → Result Change ChangeFault → Type 0
+abbrev pub ChangeMade : Result Edit (List ℕ) → Result Change ChangeError → Type 0
 ChangeMade asked (Ok change) = asked ≡ Ok (edit_of change)
 ChangeMade asked (Err (fault.Refused refusal)) = asked ≡ Err (refusal_text refusal)
 ChangeMade asked (Err fault.Memory) = Unit {0}
 
-abbrev pub ChangesMade : Result (List Edit) (List ℕ) → Result (Vec Change Global) ChangeFault → Type 0
+abbrev pub ChangesMade : Result (List Edit) (List ℕ) → Result (Vec Change Global) ChangeError → Type 0
 ChangesMade asked (Ok changes) = asked ≡ Ok (edits_of changes.items)
 ChangesMade asked (Err (fault.Refused refusal)) = asked ≡ Err (refusal_text refusal)
 ChangesMade asked (Err fault.Memory) = Unit {0}

@@ -8,7 +8,7 @@ ghost use Rattle.fb_wire.specs.Said.{checkpoint_said, commit_said, deliver_said,
 ghost use Rattle.fb_wire.specs.Progress.{KeepsTaken, Progress, RoundProgress, Takes, answer_in, checked_in, data_in, left_after, refusal_for, unrecorded};
 ghost use Rattle.fb_wire.specs.Conversations.{Jobs, Plan, after_deliver, call_once, checkpoint_once, commit_plan, deliver_plan, edits_in, job_at, plan_of, take_plan, with_name, work_plan};
 
-use crate::change::{ChangeFault, changes_of};
+use crate::change::{ChangeError, changes_of};
 use fb_bench::{
     Answered, Asked, Committed, Delivered, Desk, DeskCheckpointError, DeskError, GivenBack, Limits,
     Taken,
@@ -130,8 +130,8 @@ fn answer_commit<D: Desk>(
     let _finished: Option<&Finished> = None;
     match changes_of(alloc, asked) {
         Ok(changes) => answer_call(desk, &fb_bench::Request::Commit(&changes)),
-        Err(ChangeFault::Refused(refusal)) => Ok(Reply::Refused(refusal)),
-        Err(ChangeFault::Memory) => Err(AllocError),
+        Err(ChangeError::Refused(refusal)) => Ok(Reply::Refused(refusal)),
+        Err(ChangeError::Memory) => Err(AllocError),
     }
 }
 

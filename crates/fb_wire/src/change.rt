@@ -11,34 +11,34 @@ use std::alloc::Global;
 
 /// Why a change was not made.
 #[derive(Clone, Copy)]
-pub(crate) enum ChangeFault {
+pub(crate) enum ChangeError {
     Refused(Refusal),
     Memory,
 }
 
-fn put_of(alloc: Global, unit: &str, base: u64, text: &str) -> Result<Change, ChangeFault>
+fn put_of(alloc: Global, unit: &str, base: u64, text: &str) -> Result<Change, ChangeError>
     ensures { ChangeMade (edit_in (puts unit.now base text.now)) result }
 {
     let Ok(unit) = Name::read(unit) else {
-        return Err(ChangeFault::Refused(Refusal::BadName));
+        return Err(ChangeError::Refused(Refusal::BadName));
     };
     match Source::read(alloc, unit, text) {
         Ok(source) => Ok(Change::Put { base, source }),
-        Err(ReadFault::TextTooLong) => Err(ChangeFault::Refused(Refusal::TextTooLong)),
-        Err(ReadFault::Memory) => Err(ChangeFault::Memory),
+        Err(ReadFault::TextTooLong) => Err(ChangeError::Refused(Refusal::TextTooLong)),
+        Err(ReadFault::Memory) => Err(ChangeError::Memory),
     }
 }
 
-fn remove_of(unit: &str, base: u64) -> Result<Change, ChangeFault>
+fn remove_of(unit: &str, base: u64) -> Result<Change, ChangeError>
     ensures { ChangeMade (edit_in (removes unit.now base)) result }
 {
     match Name::read(unit) {
         Ok(unit) => Ok(Change::Remove { unit, base }),
-        Err(_) => Err(ChangeFault::Refused(Refusal::BadName)),
+        Err(_) => Err(ChangeError::Refused(Refusal::BadName)),
     }
 }
 
-fn change_of(alloc: Global, asked: &AskedChange<'_>) -> Result<Change, ChangeFault>
+fn change_of(alloc: Global, asked: &AskedChange<'_>) -> Result<Change, ChangeError>
     ensures { ChangeMade (edit_in (change_view asked.now)) result }
 {
     match asked {
@@ -51,7 +51,7 @@ fn change_of(alloc: Global, asked: &AskedChange<'_>) -> Result<Change, ChangeFau
 pub(crate) fn changes_of(
     alloc: Global,
     asked: &[AskedChange<'_>],
-) -> Result<Vec<Change>, ChangeFault>
+) -> Result<Vec<Change>, ChangeError>
     ensures { ChangesMade (edits_in (map change_view asked.now)) result }
 {
     let mut changes = Vec::new(alloc);
@@ -62,7 +62,7 @@ pub(crate) fn changes_of(
         };
         match changes.push(change) {
             Ok(()) => {}
-            Err(_) => return Err(ChangeFault::Memory),
+            Err(_) => return Err(ChangeError::Memory),
         }
     }
     Ok(changes)

@@ -2,7 +2,7 @@
 ghost use Rattle.std.specs.Prelude.{◌≡◌, true, Some, IfOk};
 ghost use Rattle.fb_library.specs.{Texts.{sources_of}, View.{tree_at}};
 ghost use Rattle.fb_flatten.specs.{Net.{plain_net}, Nets.{has_net_in, net_at}};
-ghost use Rattle.network_tests.specs.Kept.{hint_of};
+ghost use Rattle.network_tests.specs.OneHint.{hint_of};
 
 use crate::nets::{ADAPTERS, B, CYCLE, FAULTY, TWO_APPLICATIONS, TWO_TARGETS, VALUES, chain};
 use crate::told::{library_of, net_told, unit_net_told};

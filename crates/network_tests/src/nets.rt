@@ -1,6 +1,6 @@
 //! The nets of units.
 use crate::told::{between, library_of, name_net_told, names_told, net_told, put, unit_net_told};
-use fb_flatten::{Inner, NetsAlone, NoHints, all_far, compute, has_net};
+use fb_flatten::{Inner, HintsOnly, NoHints, all_far, compute, has_net};
 use fb_library::{Change, Library};
 use fb_tree::text::Name;
 use std::alloc::Global;
@@ -123,7 +123,7 @@ fn compare_computed(
     if !has_net(library, &name) {
         return Ok(());
     }
-    let known = NetsAlone { hints: &NoHints };
+    let known = HintsOnly { hints: &NoHints };
     let computed = compute(alloc, library, name, &known)?;
     assert_eq!(rt; net_told(alloc, &computed.net)?.as_str(), net, "{unit}");
     let told = inner_told(rt, alloc, library, computed.inner.as_slice())?;

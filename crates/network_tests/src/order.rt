@@ -2,7 +2,7 @@
 use crate::told::{library_of, names_in, names_told, order_told, put};
 use fb_library::{Change, Library, far};
 use fb_tree::text::Name;
-use fb_wiring::{inner_first, recursive};
+use fb_types::{inner_first, recursive};
 use std::alloc::Global;
 use std::process::Abort;
 use std::test::Fail;

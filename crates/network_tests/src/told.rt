@@ -6,7 +6,7 @@ use fb_library::{Change, Library, tree_by_name};
 use fb_mapping::{Home, Misplaced, Placed, is_system, place};
 use fb_network::{Border, End, Flat, FlatBlock, Link, Network};
 use fb_tree::text::Name;
-use fb_wiring::{applications, inner_first, network};
+use fb_types::{applications, inner_first, network};
 use std::alloc::{AllocError, Global};
 use std::test::Fail;
 

@@ -1,7 +1,7 @@
 use Rattle.std.specs.Prelude.{ℕ, All}
 use Rattle.fb_entries.specs.{Library.Texts.{Texts}, Jobs.Hints.{IsNetOf}}
 use Rattle.fb_history.specs.Machine.{State}
-use Rattle.fb_bench.specs.Kept.{Agrees}
+use Rattle.fb_bench.specs.Consistent.{Agrees}
 use Rattle.fb_bench.proofs.found.keep_all.Given as goal
 
 abbrev pub invariant-loop-it : goal.invariant-loop-it

@@ -1,7 +1,7 @@
 use Rattle.std.proofs.{Common.{◌≡◌, ◌++◌, ◌∙◌, ap, append_assoc}, lemmas.Result.{on_ok_weaker}}
 use Rattle.std.specs.List.{flat_map}
 use Rattle.fb_tree.specs.Tree.{state_tree, transition_tree}
-use Rattle.fb_iface.specs.Kept.{scope_in}
+use Rattle.fb_iface.specs.ScopeTypes.{scope_in}
 use Rattle.fb_ecc.specs.Events.{sent_faults, trigger_faults}
 use Rattle.fb_ecc.proofs.TreeLemmas.{events_joined}
 use Rattle.fb_ecc.proofs.events.report_events.Goals as goal

@@ -1,6 +1,6 @@
 use Rattle.std.proofs.Common.{◌≡◌, ◌++◌, take}
 use Rattle.std.specs.List.{flat_map}
-use Rattle.fb_iface.specs.Kept.{scope_in}
+use Rattle.fb_iface.specs.ScopeTypes.{scope_in}
 use Rattle.fb_ecc.specs.Events.{sent_faults}
 use Rattle.fb_ecc.proofs.events.report_sent_by.Given as goal
 

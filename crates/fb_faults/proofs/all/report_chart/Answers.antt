@@ -1,6 +1,6 @@
 use Rattle.std.proofs.{Common.{◌≡◌, ◌++◌, ◌∙◌, ap, append_assoc}, lemmas.Result.{on_ok_weaker}}
 use Rattle.fb_tree.specs.Tree.{chart_tree}
-use Rattle.fb_netcheck.specs.{Settings.{place_in}, Iface.KeptFields.{structures_in}}
+use Rattle.fb_netcheck.specs.{Settings.{place_in}, Iface.CachedFields.{structures_in}}
 use Rattle.fb_expr.specs.Charts.{expression_faults}
 use Rattle.fb_ecc.specs.Charts.{chart_faults}
 use Rattle.fb_faults.specs.Faults.{names_here}

@@ -1,6 +1,6 @@
 use Rattle.std.proofs.Common.{◌≡◌, ◌∙◌}
 use Rattle.fb_tree.specs.Tree.{type_tree}
-use Rattle.fb_netcheck.specs.{Iface.Kept.{scope_in}, Iface.Scope.{scope_of_type, type_ports_of}}
+use Rattle.fb_netcheck.specs.{Iface.ScopeTypes.{scope_in}, Iface.Scope.{scope_of_type, type_ports_of}}
 use Rattle.fb_faults.proofs.all.setting_of.Goals as goal
 
 pub returns : goal.returns

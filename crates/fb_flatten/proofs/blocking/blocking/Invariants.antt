@@ -1,7 +1,7 @@
 -- The names passed so far are told apart.
 use Rattle.std.proofs.Common.{◌≡◌, take}
 use Rattle.std.specs.Prelude.{filter}
-use Rattle.fb_wiring.specs.Library.Seen.{has_name}
+use Rattle.fb_types.specs.Library.Seen.{has_name}
 use Rattle.fb_flatten.specs.Blocking.{is_blocking}
 use Rattle.fb_flatten.proofs.blocking.blocking.Given as goal
 

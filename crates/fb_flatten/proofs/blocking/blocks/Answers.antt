@@ -1,6 +1,6 @@
 -- What is known to be whole does not block, nor what is known to be without faults.
 use Rattle.std.proofs.Common.{sym, ◌∙◌}
-use Rattle.fb_wiring.specs.Library.Seen.{has_name}
+use Rattle.fb_types.specs.Library.Seen.{has_name}
 use Rattle.fb_flatten.proofs.HintLemmas.{known_whole, not_blocking}
 use Rattle.fb_flatten.proofs.blocking.blocks.Goals as goal
 

@@ -1,10 +1,10 @@
 -- The names that block, then those that reach themselves, then an order of all.
 use Rattle.std.proofs.{Common.{◌≡◌, true, false, List, [], ℕ, sym, ◌∙◌, ap, subst, is_some}, lemmas.List.Elements.{All-nil, All-same}}
 use Rattle.std.specs.{Prelude.{Contains, ◌↔◌, ◌⊎◌, Some}, List.Sorted.{IsStrictlySortedBy}}
-use Rattle.fb_wiring.specs.{Library.Seen.{has_name}, Text.Order.{name_cmp}, Reaches.{IsRecursive, PartRestsOnRecursive, SomePartRestsOnRecursive}}
-use Rattle.fb_wiring.specs.declared.nets.Net.{Net}
-use Rattle.fb_wiring.proofs.FoundUnits.{if_ok}
-use Rattle.fb_flatten.specs.{Blocking.{AreThose, IsBlocking, is_some_name}, Suspects.{AreFinite}, Hints.{left_of}}
+use Rattle.fb_types.specs.{Library.Seen.{has_name}, Text.Order.{name_cmp}, Reaches.{IsRecursive, PartRestsOnRecursive, SomePartRestsOnRecursive}}
+use Rattle.fb_types.specs.declared.nets.Net.{Net}
+use Rattle.fb_types.proofs.FoundUnits.{if_ok}
+use Rattle.fb_flatten.specs.{Blocking.{AreThose, IsBlocking, is_some_name}, Suspects.{AreFinite}, Hints.{uncached_of}}
 use Rattle.fb_flatten.specs.{Inner.{IsInnerNet}, Net.{plain_net}, Nets.{net_at}, Tables.{IsUnitOrder}}
 use Rattle.fb_flatten.proofs.{ComputedNets.{has_by_text, net_at_is}, NetLemmas.{none_of_not, recursive_those, some_not_none, some_recursive}}
 use Rattle.fb_flatten.proofs.{RestLemmas.{recursive_within, sound_of_finite, unit_order}, SuspectLemmas.{blocking_found, present_of_net}}
@@ -51,7 +51,7 @@ returns-in-None g c =
       net =
           subst (λ (n : Net). net_at sources unit ≡ Some (plain_net n)) (sym c.alone-in-None.ensures.net)
           ((net_at_is sources unit _).1
-          ((has_by_text sources unit).0 c.requires.net, (whole, loops, some_recursive back loops (recursive_within (g.K.Hints.hints c.args.known.now) sources unit names known.sound (subst (λ (l : List (List ℕ)). SomePartRestsOnRecursive (left_of (g.K.Hints.hints c.args.known.now) sources unit) l ⊎ PartRestsOnRecursive (left_of (g.K.Hints.hints c.args.known.now) sources unit) unit) c.as_slice-4.ensures.value (c.in_ok-order_of.ensures.recursive (ap is_some c.in-None.is)))))));
+          ((has_by_text sources unit).0 c.requires.net, (whole, loops, some_recursive back loops (recursive_within (g.K.Hints.hints c.args.known.now) sources unit names known.sound (subst (λ (l : List (List ℕ)). SomePartRestsOnRecursive (uncached_of (g.K.Hints.hints c.args.known.now) sources unit) l ⊎ PartRestsOnRecursive (uncached_of (g.K.Hints.hints c.args.known.now) sources unit) unit) c.as_slice-4.ensures.value (c.in_ok-order_of.ensures.recursive (ap is_some c.in-None.is)))))));
       inner = All-same (IsInnerNet sources unit) c.alone-in-None.result.inner.items [] c.alone-in-None.ensures.inner (All-nil (IsInnerNet sources unit));
     }
 
@@ -71,7 +71,7 @@ compute_in_order-requires-clause-order g c =
     let whole : AreThose sources unit (IsBlocking sources unit) [] =
     subst (λ (l : List (List ℕ)). AreThose sources unit (IsBlocking sources unit) l) (none_of_not found none) those in
     let hints = g.K.Hints.hints c.args.known.now in
-    let finite : AreFinite (left_of hints sources unit) names = subst (AreFinite (left_of hints sources unit)) c.as_slice-4.ensures.value (rw c.in-Some.is at c.in_ok-order_of.ensures.finite) in
+    let finite : AreFinite (uncached_of hints sources unit) names = subst (AreFinite (uncached_of hints sources unit)) c.as_slice-4.ensures.value (rw c.in-Some.is at c.in_ok-order_of.ensures.finite) in
     let sound = sound_of_finite hints sources unit c.requires.right names (present_of_net sources unit c.requires.net) whole known.recursive finite in
     subst (λ (l : List (List ℕ)). IsUnitOrder sources hints unit l) (sym c.as_slice-in-Some.ensures.value)
     (unit_order hints sources unit c.requires.right c.in-Some.order.items sound (rw c.in-Some.is at c.in_ok-order_of.ensures.ordered) (rw c.in-Some.is at c.in_ok-order_of.ensures.whole))

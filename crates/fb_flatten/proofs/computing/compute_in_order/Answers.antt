@@ -1,8 +1,8 @@
 -- The count tells whether there is a flat network.
 use Rattle.std.proofs.{Common.{[], sym, subst}, lemmas.List.Elements.{All-nil, All-same, All-weaker}}
 use Rattle.std.specs.BTreeMap.{get}
-use Rattle.fb_wiring.proofs.FoundUnits.{not_too_large, too_large}
-use Rattle.fb_wiring.specs.{Text.Order.{name_cmp}, declared.nets.Net.{Net}}
+use Rattle.fb_types.proofs.FoundUnits.{not_too_large, too_large}
+use Rattle.fb_types.specs.{Text.Order.{name_cmp}, declared.nets.Net.{Net}}
 use Rattle.fb_flatten.specs.{Inner.{IsCountedFlat, IsInnerNet}, Net.{IsNet, plain_net}}
 use Rattle.fb_flatten.proofs.InnerNets.{inner_net}
 use Rattle.fb_flatten.proofs.computing.compute_in_order.Goals as goal

@@ -1,9 +1,9 @@
 -- None of what the unit rests on reaches itself, so that there is an order.
 use Rattle.std.proofs.{Common.{◌≡◌, ℕ, true, false, List, Option, Some, None, is_some, refl, subst, sym}, lemmas.Result.{IfOk-weaker}}
 use Rattle.std.specs.Prelude.{Contains}
-use Rattle.fb_wiring.specs.{Holders.{holders_of, is_holder}, Library.Rests.{PartRests, on_itself, through_part}, Library.View.{Sources}, Order.{IsOrdered}}
-use Rattle.fb_wiring.specs.Reaches.{Reaches}
-use Rattle.fb_wiring.proofs.{LeftLemmas.{get_holder}, Library.Locality.{parts_rest}, Text.Members.{contains_nothing}}
+use Rattle.fb_types.specs.{Holders.{holders_of, is_holder}, Library.Rests.{PartRests, on_itself, through_part}, Library.View.{Sources}, Order.{IsOrdered}}
+use Rattle.fb_types.specs.Reaches.{Reaches}
+use Rattle.fb_types.proofs.{UncachedLemmas.{get_holder}, Library.Locality.{parts_rest}, Text.Members.{contains_nothing}}
 use Rattle.fb_flatten.proofs.{ComputedNets.{has_by_text}, CountLemmas.{holder_part}, KeptLemmas.{reaches_within, rests_within}, SoundLemmas.{sound_below}}
 use Rattle.fb_flatten.proofs.counts.counts_below.Goals as goal
 

@@ -1,10 +1,10 @@
 -- The next name is counted by the counts of those before it.
 use Rattle.std.proofs.{Common.{◌≡◌, List, ℕ, None, subst, sym, take}, lemmas.List.{take_all}}
 use Rattle.std.specs.BTreeMap.{get}
-use Rattle.fb_wiring.specs.Text.Order.{name_cmp}
+use Rattle.fb_types.specs.Text.Order.{name_cmp}
 use Rattle.fb_flatten.specs.Tables.{AllCounted}
 use Rattle.fb_flatten.proofs.CountLemmas.{counted_more, counted_nothing, next_counted, right_more}
-use Rattle.fb_wiring.proofs.{TableLemmas.{further}, Network.EmptyMaps.{nothing_at}}
+use Rattle.fb_types.proofs.{TableLemmas.{further}, Network.EmptyMaps.{nothing_at}}
 use Rattle.fb_flatten.proofs.counts.counts_in_order.Goals as goal
 
 pub loop-name-init : goal.loop-name-init

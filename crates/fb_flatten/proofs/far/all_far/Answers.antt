@@ -1,7 +1,7 @@
 -- There is one list of all that the unit rests on.
 use Rattle.std.proofs.Common.{Result, Ok, Err}
 use Rattle.std.specs.Prelude.{IfOk}
-use Rattle.fb_wiring.proofs.Library.FarLemmas.{one_list}
+use Rattle.fb_types.proofs.Library.FarLemmas.{one_list}
 use Rattle.fb_flatten.specs.Far.{far_of}
 use Rattle.fb_flatten.proofs.FarNames.{far_is_all}
 use Rattle.fb_flatten.proofs.far.all_far.Goals as goal

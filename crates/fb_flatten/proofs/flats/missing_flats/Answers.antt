@@ -1,11 +1,11 @@
 -- The next name is finished, by what is composed or by what is kept.
 use Rattle.std.proofs.{Common.{◌≡◌, List, ℕ, None, subst, sym, take, ◌∙◌}, lemmas.List.{take_all}}
 use Rattle.std.specs.BTreeMap.{get}
-use Rattle.fb_wiring.specs.Text.Order.{name_cmp}
+use Rattle.fb_types.specs.Text.Order.{name_cmp}
 use Rattle.fb_flatten.specs.Tables.{AllFinished, known_flats}
 use Rattle.fb_flatten.proofs.{CountLemmas.{in_table}, FlatsLemmas.{added_finished, finished_more, finished_nothing, finished_skip, missing_more}}
 use Rattle.fb_flatten.proofs.flats.missing_flats.Goals.{then-is_missing+in_ok-add_flat, else-is_missing}
-use Rattle.fb_wiring.proofs.{TableLemmas.{further}, Network.EmptyMaps.{nothing_at}}
+use Rattle.fb_types.proofs.{TableLemmas.{further}, Network.EmptyMaps.{nothing_at}}
 use Rattle.fb_flatten.proofs.flats.missing_flats.Goals as goal
 
 pub loop-name-init : goal.loop-name-init

@@ -1,7 +1,7 @@
 -- The names passed so far are finished, and what is composed was missing.
 use Rattle.std.proofs.Common.{take}
 use Rattle.std.specs.BTreeMap.{get}
-use Rattle.fb_wiring.specs.Text.Order.{name_cmp}
+use Rattle.fb_types.specs.Text.Order.{name_cmp}
 use Rattle.fb_flatten.proofs.FlatsLemmas.{AreComposed}
 use Rattle.fb_flatten.proofs.flats.missing_flats.Given as goal
 

@@ -1,7 +1,7 @@
 -- What is taken of the map was found there.
 use Rattle.std.proofs.{Common.{All, refl, subst, sym, List, ℕ}, lemmas.List.Elements.{All-push}, lemmas.Map.Iter.{btree_map_turn}}
 use Rattle.std.specs.{BTreeMap.{get}, Cmp.Lexicographic.{nat_list_cmp_total}}
-use Rattle.fb_wiring.specs.{Network.PlainFlat.{PlainFlat}, Text.Order.{name_cmp}, declared.nets.Net.TheVariants.{Flat}}
+use Rattle.fb_types.specs.{Network.PlainFlat.{PlainFlat}, Text.Order.{name_cmp}, declared.nets.Net.TheVariants.{Flat}}
 use Rattle.fb_flatten.specs.{Inner.{IsCountedFlat}, declared.inner.Inner.{Inner}}
 use Rattle.fb_flatten.proofs.inner.inner_nets.Goals as goal
 

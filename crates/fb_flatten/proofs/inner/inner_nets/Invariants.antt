@@ -1,6 +1,6 @@
 -- What is pushed so far is counted.
 use Rattle.std.specs.{Prelude.{All}, BTreeMap.{get}}
-use Rattle.fb_wiring.specs.Text.Order.{name_cmp}
+use Rattle.fb_types.specs.Text.Order.{name_cmp}
 use Rattle.fb_flatten.specs.Inner.{IsCountedFlat}
 use Rattle.fb_flatten.proofs.inner.inner_nets.Given as goal
 

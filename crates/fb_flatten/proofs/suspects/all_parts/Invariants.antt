@@ -1,6 +1,6 @@
 -- The parts of the names passed so far are there.
 use Rattle.std.proofs.Common.{◌≡◌, ℕ, List, take}
-use Rattle.fb_wiring.specs.Library.Seen.{has_name}
+use Rattle.fb_types.specs.Library.Seen.{has_name}
 use Rattle.fb_flatten.specs.Suspects.{is_part_beyond}
 use Rattle.fb_flatten.proofs.suspects.all_parts.Given as goal
 

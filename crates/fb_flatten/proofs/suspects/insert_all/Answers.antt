@@ -1,7 +1,7 @@
 -- One more part.
 use Rattle.std.proofs.{Common.{◌≡◌, ◌+◌, ◌||◌, ℕ, List, ◌∷◌, [], ◌++◌, arith, take, sym, ap, ◌∙◌}, lemmas.Grind.{common_steps}}
-use Rattle.fb_wiring.proofs.{Text.Tests.{or_assoc, or_false}, Library.SeenLemmas.{same}, Library.WalkLemmas.{has-push, has-updates}}
-use Rattle.fb_wiring.specs.Library.Seen.{has_name}
+use Rattle.fb_types.proofs.{Text.Tests.{or_assoc, or_false}, Library.SeenLemmas.{same}, Library.WalkLemmas.{has-push, has-updates}}
+use Rattle.fb_types.specs.Library.Seen.{has_name}
 use Rattle.fb_flatten.proofs.suspects.insert_all.Goals as goal
 
 pub loop-name-init : goal.loop-name-init

@@ -1,6 +1,6 @@
 -- The parts passed so far are inserted.
 use Rattle.std.proofs.Common.{◌≡◌, ℕ, List, ◌||◌, take}
-use Rattle.fb_wiring.specs.Library.Seen.{has_name}
+use Rattle.fb_types.specs.Library.Seen.{has_name}
 use Rattle.fb_flatten.proofs.suspects.insert_all.Given as goal
 
 abbrev pub invariant-loop-name : goal.invariant-loop-name

@@ -1,7 +1,7 @@
 -- What is known to be whole has no part beyond.
 use Rattle.std.proofs.Common.{◌||◌, [], if◌then◌else◌, sym, ap, ◌∙◌}
-use Rattle.fb_wiring.proofs.Text.Tests.{or_false}
-use Rattle.fb_wiring.specs.{Library.Seen.{has_name}, Library.View.{parts_at}}
+use Rattle.fb_types.proofs.Text.Tests.{or_false}
+use Rattle.fb_types.specs.{Library.Seen.{has_name}, Library.View.{parts_at}}
 use Rattle.fb_flatten.proofs.suspects.insert_parts.Goals as goal
 
 pub returns-then-is_known_whole : goal.returns-then-is_known_whole

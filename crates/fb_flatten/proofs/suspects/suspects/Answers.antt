@@ -1,8 +1,8 @@
 -- Each name that is taken opens what it mentions, and at the end all that block are seen.
 use Rattle.std.proofs.{Common.{◌≡◌, ◌∷◌, [], ◌++◌, List, ℕ, ap, sym, subst, ◌∙◌, arith}, lemmas.Result.{IfOk-weaker}, lemmas.List.{nil_from_length}}
 use Rattle.std.specs.List.Sorted.{IsStrictlySortedBy}
-use Rattle.fb_wiring.specs.{Text.Order.{name_cmp}, Library.Seen.{has_name}}
-use Rattle.fb_wiring.proofs.Library.WalkLemmas.{begun, one_pushed, Contains-has, has-Contains}
+use Rattle.fb_types.specs.{Text.Order.{name_cmp}, Library.Seen.{has_name}}
+use Rattle.fb_types.proofs.Library.WalkLemmas.{begun, one_pushed, Contains-has, has-Contains}
 use Rattle.fb_flatten.proofs.SuspectLemmas.{IsSearch, IsSearch-begin, IsSearch-step, all_seen, part_seen, recursive_seen, search_falls}
 use Rattle.fb_flatten.proofs.suspects.suspects.Goals as goal
 

@@ -1,6 +1,6 @@
 -- What a search keeps, and how it ends.
 use Rattle.std.proofs.Common.{◌+◌, length}
-use Rattle.fb_wiring.specs.Library.Seen.{unseen}
+use Rattle.fb_types.specs.Library.Seen.{unseen}
 use Rattle.fb_flatten.proofs.SuspectLemmas.{IsSearch, all_mentions}
 use Rattle.fb_flatten.proofs.suspects.suspects.Given as goal
 

@@ -1,12 +1,12 @@
 -- What is composed by the table is the flat network by the texts.
 use Rattle.std.proofs.Common.{◌≡◌, List, Some, sym, subst, ◌∙◌}
 use Rattle.std.specs.BTreeMap.{get}
-use Rattle.fb_wiring.specs.{Text.Order.{name_cmp}, Tree.Tree.{decl_tree}, Library.View.{tree_at}, Units.{IsUnitFlat}}
-use Rattle.fb_wiring.specs.declared.systems.Application.{Application}
+use Rattle.fb_types.specs.{Text.Order.{name_cmp}, Tree.Tree.{decl_tree}, Library.View.{tree_at}, Units.{IsUnitFlat}}
+use Rattle.fb_types.specs.declared.systems.Application.{Application}
 use Rattle.fb_flatten.specs.Tables.{AreComposedTogether, known_flats}
 use Rattle.fb_flatten.proofs.{CountLemmas.{in_table}, FlatsLemmas.{flat_of_system_is, flat_of_type_is}, SoundLemmas.{sound_tree}}
 use Rattle.fb_flatten.proofs.units.flat_of_unit.Goals.{then-is_of_system+in_ok-found+in_ok-flat, else-is_of_system+in_ok-flat-2}
-use Rattle.fb_wiring.proofs.FoundUnits.{present_of, some_of_map}
+use Rattle.fb_types.proofs.FoundUnits.{present_of, some_of_map}
 use Rattle.fb_flatten.proofs.units.flat_of_unit.Goals as goal
 
 pub unwrap-decl-requires : goal.unwrap-decl-requires

@@ -1,8 +1,8 @@
 -- The unit is there, and what it rests on is counted.
 use Rattle.std.proofs.Common.{◌≡◌, Some, ◌∙◌}
-use Rattle.fb_wiring.specs.{Tree.Tree.{decl_tree}, Library.View.{tree_at}}
+use Rattle.fb_types.specs.{Tree.Tree.{decl_tree}, Library.View.{tree_at}}
 use Rattle.fb_flatten.proofs.{CountLemmas.{unit_counted}, SoundLemmas.{sound_tree}}
-use Rattle.fb_wiring.proofs.FoundUnits.{present_of, some_of_map}
+use Rattle.fb_types.proofs.FoundUnits.{present_of, some_of_map}
 use Rattle.fb_flatten.proofs.units.instances_of_unit.Goals as goal
 
 pub unwrap-decl-requires : goal.unwrap-decl-requires

@@ -1,5 +1,5 @@
 use Rattle.std.proofs.Common.{ap, ◌∙◌}
-use Rattle.fb_shared.specs.Sitting.{SeatedView}
+use Rattle.fb_shared.specs.Seated.{SeatedView}
 use Rattle.fb_host.proofs.SessionLemmas.{desk_runs, desk_shown}
 use Rattle.fb_host.proofs.session.run_host_session.Goals as goal
 

@@ -3,7 +3,7 @@ use Rattle.std.proofs.lemmas.Grind.{common_steps}
 use Rattle.std.specs.{Cmp.Lexicographic.{pointwise}, HashMap.{get}}
 use Rattle.fb_library.specs.View.{tree_at}
 use Rattle.fb_iface.proofs.ScopeLemmas.{type_names, type_names-more, with_type-more}
-use Rattle.fb_iface.specs.{Kept.{kept_of, with_type}, Names.{has_name}}
+use Rattle.fb_iface.specs.{ScopeTypes.{kept_of, with_type}, Names.{has_name}}
 use Rattle.fb_iface.proofs.scope.types_of.Goals as goal
 
 pub loop-instance-preserved : goal.loop-instance-preserved

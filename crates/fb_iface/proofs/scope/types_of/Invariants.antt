@@ -1,7 +1,7 @@
 use Rattle.std.proofs.Common.{◌≡◌, ℕ, List, map, take, nat_eq, option_map}
 use Rattle.std.specs.{Cmp.Lexicographic.{pointwise}, HashMap.{get}}
 use Rattle.fb_tree.specs.Tree.{instance_tree}
-use Rattle.fb_iface.specs.{Scope.{mentioned_type}, Kept.{kept_of}}
+use Rattle.fb_iface.specs.{Scope.{mentioned_type}, ScopeTypes.{kept_of}}
 use Rattle.fb_iface.proofs.scope.types_of.Given as goal
 
 abbrev pub invariant-loop-instance : goal.invariant-loop-instance

@@ -1,7 +1,7 @@
 use Rattle.std.proofs.{Common.{◌≡◌, ◌+◌, ◌<◌, ℕ, List, ◌∷◌, [], ◌++◌, length, take, sym, ap, ◌∙◌, nat_eq, arith}, lemmas.Grind.{common_steps}}
 use Rattle.std.specs.{Cmp.Lexicographic.{pointwise}, HashMap.{get}}
 use Rattle.fb_library.specs.View.{tree_at}
-use Rattle.fb_iface.specs.{Fields.{fields_among, fields_of_tree}, KeptFields.{kept_fields}}
+use Rattle.fb_iface.specs.{Fields.{fields_among, fields_of_tree}, CachedFields.{kept_fields}}
 use Rattle.fb_iface.proofs.FieldLemmas.{kept-more, none-more}
 use Rattle.fb_iface.proofs.structures.kept_types.Goals.{in-Some+in_ok-insert+in-Some+in-Known-1, in-Some+in_ok-insert+in-Some+in-NotJudged-1, in-Some+in_ok-insert+in-None-1, in_default}
 use Rattle.fb_iface.proofs.structures.kept_types.Goals as goal

@@ -1,6 +1,6 @@
 use Rattle.std.proofs.Common.{◌≡◌, ℕ, List, nat_eq, take}
 use Rattle.std.specs.{Cmp.Lexicographic.{pointwise}, HashMap.{get}}
-use Rattle.fb_iface.specs.{Fields.{fields_among}, KeptFields.{kept_fields}}
+use Rattle.fb_iface.specs.{Fields.{fields_among}, CachedFields.{kept_fields}}
 use Rattle.fb_iface.proofs.structures.kept_types.Given as goal
 
 abbrev pub invariant-loop-name : goal.invariant-loop-name

@@ -2,7 +2,7 @@
 use Rattle.std.proofs.Common.{◌≡◌, ◌+◌, ◌-◌, ◌<◌, ◌++◌, suc, [], length, take, drop, get_or, set, refl, ap, ◌∙◌, arith, slice_get, Some}
 use Rattle.std.proofs.lemmas.List.{length-append}
 use Rattle.fb_library.specs.{Entries.{shelf_of, shelves_of}, Shelves.{names_of}}
-use Rattle.fb_library.proofs.{Halves.{joined_lower, joined_upper, joined_last, last_counts}, Kept.{split_wider}, Wider.{IsWider}}
+use Rattle.fb_library.proofs.{Halves.{joined_lower, joined_upper, joined_last, last_counts}, ShelfRows.{split_wider}, Wider.{IsWider}}
 use Rattle.fb_library.proofs.shelves.halve.Goals.{After-drop-index_mut}
 use Rattle.fb_library.proofs.shelves.halve.Goals as goal
 

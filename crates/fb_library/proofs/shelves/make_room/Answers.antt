@@ -1,7 +1,7 @@
 -- What is reached has a shelf.
 use Rattle.std.proofs.Common.{List, subst}
 use Rattle.fb_library.specs.{Entries.{lasts_on, shelf_of}, Shelves.{IsShelfFor}, declared.shelves.Shelf.{Shelf}}
-use Rattle.fb_library.proofs.Kept.{at_reached}
+use Rattle.fb_library.proofs.ShelfRows.{at_reached}
 use Rattle.fb_library.proofs.shelves.make_room.Goals as goal
 
 pub returns-clause-room : goal.returns-clause-room

@@ -3,7 +3,7 @@ use Rattle.std.proofs.Common.{rules, ◌≡◌, ◌+◌, ◌-◌, refl, sym, ap,
 use Rattle.std.specs.BTreeMap.{insert_entry}
 use Rattle.fb_parse.specs.Text.Order.{name_cmp}
 use Rattle.fb_library.specs.{Entries.{shelf_of}, declared.shelves.Shelf.{Shelf}}
-use Rattle.fb_library.proofs.{Counts.{length_shelf, length_changed}, Kept.{shelf_put, entries_put}, shelves.put.Goals.{After-drop-index_mut}}
+use Rattle.fb_library.proofs.{Counts.{length_shelf, length_changed}, ShelfRows.{shelf_put, entries_put}, shelves.put.Goals.{After-drop-index_mut}}
 use Rattle.fb_library.proofs.shelves.put.Goals as goal
 
 abbrev now : (g : _) (c : After-drop-index_mut g) → Shelf g.row.E.Denot

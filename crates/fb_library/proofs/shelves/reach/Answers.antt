@@ -1,7 +1,7 @@
 -- The last shelf is longer, or there is one more.
 use Rattle.std.proofs.Common.{◌≡◌, List, [], ◌∷◌, ◌++◌, ◌-◌, suc, length, refl, ap, ◌∙◌, arith}
 use Rattle.fb_library.specs.{Entries.{shelf_of}, declared.shelves.Shelf.{Shelf}}
-use Rattle.fb_library.proofs.Kept.{ended_kept, ended_same, ended_room, more_kept, more_same, more_room}
+use Rattle.fb_library.proofs.ShelfRows.{ended_kept, ended_same, ended_room, more_kept, more_same, more_room}
 use Rattle.fb_library.proofs.shelves.reach.Goals as goal
 
 pub returns-then-not-is_full-clause-order : goal.returns-then-not-is_full-clause-order

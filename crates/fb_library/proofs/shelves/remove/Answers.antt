@@ -3,7 +3,7 @@ use Rattle.std.proofs.Common.{◌≡◌, ◌<◌, List, length, refl, ap, ◌∙
 use Rattle.std.specs.{Map.{remove_entry}, BTreeMap.{is_at}}
 use Rattle.fb_parse.specs.Text.Order.{name_cmp}
 use Rattle.fb_library.specs.{Entries.{lasts_on, shelf_of}, Shelves.{IsShelfFor}, declared.shelves.Shelf.{Shelf}}
-use Rattle.fb_library.proofs.{Kept.{at_reached, shelf_removed, entries_removed}, shelves.remove.Goals.{After-shelf_for-at, After-drop-index_mut}}
+use Rattle.fb_library.proofs.{ShelfRows.{at_reached, shelf_removed, entries_removed}, shelves.remove.Goals.{After-shelf_for-at, After-drop-index_mut}}
 use Rattle.fb_library.proofs.shelves.remove.Goals as goal
 
 is_for : (g : _) (c : After-shelf_for-at g) → IsShelfFor (lasts_on g.E.Entries.entries c.args.shelves.now.items) c.args.name.now c.shelf_for-at.result

@@ -1,7 +1,7 @@
 -- The closure gives a shelf's last name, and these rise.
 use Rattle.std.proofs.{Common.{rules}, lemmas.List.Sorted.{answers_always}}
 use Rattle.fb_library.specs.Entries.{shelf_of}
-use Rattle.fb_library.proofs.Kept.{shelf_found, shelf_missed}
+use Rattle.fb_library.proofs.ShelfRows.{shelf_found, shelf_missed}
 use Rattle.fb_library.proofs.shelves.shelf_for.Goals as goal
 
 pub returns-in-Ok : goal.returns-in-Ok

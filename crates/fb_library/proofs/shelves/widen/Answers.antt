@@ -1,7 +1,7 @@
 -- The shelf that does not end below the name is still there once it is two.
 use Rattle.std.proofs.Common.{arith}
 use Rattle.fb_library.specs.Entries.{shelf_of}
-use Rattle.fb_library.proofs.Kept.{reached_at, always}
+use Rattle.fb_library.proofs.ShelfRows.{reached_at, always}
 use Rattle.fb_library.proofs.shelves.widen.Goals as goal
 
 pub returns-then-at-len-clause-room : goal.returns-then-at-len-clause-room

@@ -1,7 +1,7 @@
 use Rattle.std.proofs.Common.{◌≡◌, ◌++◌, take}
 use Rattle.std.specs.List.{flat_map}
 use Rattle.fb_tree.specs.Tree.{instance_tree}
-use Rattle.fb_iface.specs.Kept.{scope_in}
+use Rattle.fb_iface.specs.ScopeTypes.{scope_in}
 use Rattle.fb_netcheck.specs.Parameters.{instance_parameters}
 use Rattle.fb_netcheck.proofs.parameters.report_parameters.Given as goal
 

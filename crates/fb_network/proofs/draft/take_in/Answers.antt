@@ -14,7 +14,7 @@ returns c =
     (λ edges is.
     taken_in draft _ c.args.name.now c.args.inner.now edges.items by c.inner.inside.tables.value.prefixes.items c.inner.inside.tables.value.leaves.items c.inner.inside.tables.value.joins.items c.inner.inside.tables.value.edges.items
     (c.in_ok-before.ensures ∙ ap length c.deref.ensures.value)
-    (c.in_ok-push_fronts_within.ensures ∙ ap (λ (fs : List PlainPrefix). draft.prefixes.items ++ map (prefix_within c.args.name.now) fs) (c.deref-2.ensures.value ∙ ap (λ (t : Tables). t.prefixes.items) held))
+    (c.in_ok-push_prefixes_within.ensures ∙ ap (λ (fs : List PlainPrefix). draft.prefixes.items ++ map (prefix_within c.args.name.now) fs) (c.deref-2.ensures.value ∙ ap (λ (t : Tables). t.prefixes.items) held))
     (c.in_ok-push_leaves_moved.ensures ∙ ap (λ (ls : List Leaf). draft.leaves.items ++ map (leaf_moved by) ls) (c.deref-3.ensures.value ∙ ap (λ (t : Tables). t.leaves.items) held))
     (c.in_ok-push_joins_moved.ensures ∙ ap (λ (js : List Join). draft.joins.items ++ map (join_moved by) js) (c.deref-4.ensures.value ∙ ap (λ (t : Tables). t.joins.items) held))
     (is ∙ ap (λ (es : List Edge). map (edge_moved by) es) (c.deref-5.ensures.value ∙ ap (λ (t : Tables). t.edges.items) held))

@@ -5,7 +5,7 @@ use Rattle.fb_tree.specs.Text.Order.{name_cmp}
 use Rattle.fb_library.specs.{View.{Sources}, Texts.{sources_of}}
 use Rattle.fb_flatten.specs.{Net.{PlainNet, plain_net}, Nets.{net_at}, Hints.{AreRightHints}}
 use Rattle.fb_network.proofs.Equals.{same_bytes}
-use Rattle.network_tests.specs.Kept.{hint_of}
+use Rattle.network_tests.specs.OneHint.{hint_of}
 use Rattle.network_tests.proofs.kept.net_beside.Goals as goal
 
 by_name : (sources : Sources) (unit name : List ℕ) (kept net : PlainNet) (same : Bool) → is_at (name_cmp unit) name ≡ same → net_at sources unit ≡ Some kept → cond same (Some kept) None ≡ Some net → net_at sources name ≡ Some net

@@ -8,8 +8,8 @@ use Rattle.fb_bench.proofs.bench.Bench.job_for.Goals as goal
 
 pub for_kept-requires-clause-has : goal.for_kept-requires-clause-has
 for_kept-requires-clause-has c =
-    let story : BenchView = c.self.inside.history in
-    let s : State = state_of story in
+    let bench : BenchView = c.self.inside.history in
+    let s : State = state_of bench in
     let key = c.args.key in
     let some : Some key ≡ next s = c.requires ∙ ap (λ st. next (state_of st)) (sym c.self.view_is) in
     let has = ready_has s key _ (c.self.invariant.agrees.each key) (next_passes s key some) in
@@ -23,8 +23,8 @@ for_kept-requires-clause-found c = all_found (c.self.invariant.agrees)
 
 pub returns-clause-job : goal.returns-clause-job
 returns-clause-job c =
-    let story : BenchView = c.self.inside.history in
-    let s : State = state_of story in
+    let bench : BenchView = c.self.inside.history in
+    let s : State = state_of bench in
     let key = c.args.key in
     let some : Some key ≡ next s = c.requires ∙ ap (λ st. next (state_of st)) (sym c.self.view_is) in
     take_some s c.self.inside.library key c.in_ok-job.job _ _ c.self.invariant.agrees.units_are c.in_ok-job.ensures refl refl some
@@ -32,8 +32,8 @@ returns-clause-job c =
 
 pub returns-clause-answer : goal.returns-clause-answer
 returns-clause-answer c =
-    let story : BenchView = c.self.inside.history in
-    let s : State = state_of story in
+    let bench : BenchView = c.self.inside.history in
+    let s : State = state_of bench in
     let key = c.args.key in
     let some : Some key ≡ next s = c.requires ∙ ap (λ st. next (state_of st)) (sym c.self.view_is) in
     c.in_ok-answer.ensures

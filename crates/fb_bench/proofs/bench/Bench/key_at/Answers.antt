@@ -9,13 +9,13 @@ use Rattle.fb_bench.proofs.bench.Bench.key_at.Goals as goal
 
 pub returns-clause-key : goal.returns-clause-key
 returns-clause-key c =
-    let story : BenchView = c.self.inside.history in
+    let bench : BenchView = c.self.inside.history in
     let kept = c.self.inside in
     c.key_at.ensures.key
-    ∙ ap (λ keys. slice_get keys c.args.place) (keys_are story c.self.invariant.begins kept.library kept.commits kept.entries c.self.invariant.agrees c.key_at.ensures.ordered)
+    ∙ ap (λ keys. slice_get keys c.args.place) (keys_are bench c.self.invariant.begins kept.library kept.commits kept.entries c.self.invariant.agrees c.key_at.ensures.ordered)
     ∙ ap (λ st. slice_get (keys_of (state_of st).units) c.args.place) c.self.view_is
 
 pub returns-clause-ordered : goal.returns-clause-ordered
 returns-clause-ordered c =
-    let story : BenchView = c.self.inside.history in
-    subst (λ (it : BenchView). IsStrictlySortedBy key_cmp (keys_of (state_of it).units)) c.self.view_is (keys_rise story c.self.invariant.begins)
+    let bench : BenchView = c.self.inside.history in
+    subst (λ (it : BenchView). IsStrictlySortedBy key_cmp (keys_of (state_of it).units)) c.self.view_is (keys_rise bench c.self.invariant.begins)

@@ -6,8 +6,8 @@ use Rattle.fb_bench.proofs.bench.Bench.key_count.Goals as goal
 
 pub returns : goal.returns
 returns c =
-    let story : BenchView = c.self.inside.history in
+    let bench : BenchView = c.self.inside.history in
     let kept = c.self.inside in
     c.len.ensures.len ∙ sym (length-keys_of kept.entries.entries)
-    ∙ ap length (keys_are story c.self.invariant.begins kept.library kept.commits kept.entries c.self.invariant.agrees c.len.ensures.ordered)
+    ∙ ap length (keys_are bench c.self.invariant.begins kept.library kept.commits kept.entries c.self.invariant.agrees c.len.ensures.ordered)
     ∙ ap (λ st. length (keys_of (state_of st).units)) c.self.view_is

@@ -6,8 +6,8 @@ use Rattle.fb_bench.proofs.bench.Bench.pending_count.Goals as goal
 
 pub returns : goal.returns
 returns c =
-    let story : BenchView = c.self.inside.history in
+    let bench : BenchView = c.self.inside.history in
     let kept = c.self.inside in
     c.pending_count.ensures.count
-    ∙ pending_are story c.self.invariant.begins kept.library kept.commits kept.entries c.self.invariant.agrees c.pending_count.ensures.ordered
+    ∙ pending_are bench c.self.invariant.begins kept.library kept.commits kept.entries c.self.invariant.agrees c.pending_count.ensures.ordered
     ∙ ap (λ st. count_by (state_of st).pending (keys_of (state_of st).units)) c.self.view_is

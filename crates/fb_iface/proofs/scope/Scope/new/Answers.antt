@@ -2,7 +2,7 @@ use Rattle.std.proofs.Common.{◌≡◌, ℕ, List, ap, map, ◌∙◌, option_m
 use Rattle.std.specs.{Cmp.Lexicographic.{pointwise}, HashMap.{get}}
 use Rattle.fb_tree.specs.Tree.{instance_tree}
 use Rattle.fb_iface.proofs.ScopeLemmas.{kept_usable}
-use Rattle.fb_iface.specs.{Kept.{kept_of, kept_ports}, Scope.{mentioned_type}}
+use Rattle.fb_iface.specs.{ScopeTypes.{kept_of, kept_ports}, Scope.{mentioned_type}}
 use Rattle.fb_iface.proofs.scope.Scope.new.Goals as goal
 
 pub returns : goal.returns

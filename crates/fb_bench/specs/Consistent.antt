@@ -1,0 +1,31 @@
+-- What a workbench keeps beside its history agrees with where the history has led.
+use Rattle.std.specs.{Prelude.{◌≡◌, ℕ, ◌≤◌, true, false, Option, Some, None, is_none}, declared.sync.Arc.{Arc}, declared.alloc.Global.{Global}}
+use Rattle.fb_entries.specs.{Keyed.{Keyed, can_take, entry_at}, Library.Texts.{Texts}, Jobs.declared.key.Key.{Key}, Jobs.declared.value.Value.{Value}}
+use Rattle.fb_entries.specs.{Jobs.Keys.{has_key, scratch}, Jobs.Values.{finding_of}, declared.entry.Entry.{Entry}, Index.Indexed.{Indexed}, Indexed.{IsIndexOf}}
+use Rattle.fb_history.specs.{Machine.{State, is_ready}, BenchView.{BenchView, IsOrigin, last_number, state_of, IsReplay}}
+
+-- a kept value is the key's value from scratch
+abbrev pub IsScratch : Texts → Key → Option (Arc Value Global) → Type 0
+IsScratch texts key None = Unit {0}
+IsScratch texts key (Some value) = finding_of value.value ≡ scratch texts key
+
+-- an entry for each key of the texts, and for no other, with its marks, its value and what was found for it
+abbrev pub EntryFits : State → Key → Option Entry → Type 0
+EntryFits state key None = (has_key state.units key ≡ false) × (state.pending key ≡ false) × (state.out key ≡ false)
+EntryFits state key (Some it) =
+    (has_key state.units key ≡ true) × (state.pending key ≡ is_none it.value) × (state.out key ≡ it.out) × IsScratch state.units key it.value × IsScratch state.units key it.found
+
+-- what is kept agrees with a state
+pub record Agrees (units : Texts) (commits : ℕ) (entries : Keyed) (state : State) : Type 0 where
+  pub units_are : units ≡ state.units
+  pub commits_are : commits ≡ state.commits
+  pub each : (key : Key) → EntryFits state key (entry_at entries key)
+  pub ready_are : (key : Key) → can_take entries key ≡ is_ready state key
+
+-- and so does the history: each stored answer is the machine's. The index is that of the texts
+pub record IsConsistent (units : Texts) (commits : ℕ) (entries : Keyed) (index : Indexed) (bench : BenchView) : Type 0 where
+  pub begins : IsOrigin bench.origin
+  pub agrees : Agrees units commits entries (state_of bench)
+  pub replayed : IsReplay bench
+  pub indexed : IsIndexOf units index
+  pub few : commits ≤ last_number bench

@@ -1,0 +1,29 @@
+-- A shared workbench as the desk of one seat. Nothing is known of the workbench but what the seat and its receipts tell.
+use Rattle.std.specs.Prelude.{◌≡◌, ◌++◌, ◌∷◌, [], List, ℕ}
+use Rattle.fb_locked.specs.{History.Machine.{Call}, History.Limits.{Bounds}}
+use Rattle.fb_locked.specs.Bench.Calls.{Answer, Replied, FullHistory, BehindHistory, CheckpointAnswer, Checked, SharedHistory, Exchange, Exchanges}
+use Rattle.fb_locked.specs.Seats.{SeatView, ReceiptView, IsReceiptOf, seat_after}
+
+-- a workbench behind its lock: for how many callers seats were made. What lies there is known to nobody without the lock
+pub record SharedView : Type 0 where
+  pub callers : ℕ
+
+-- a seat with the receipts of its calls
+pub record SeatedView : Type 0 where
+  pub seat : SeatView
+  pub receipts : List ReceiptView
+
+-- An answered call adds one receipt, which is of the call, with the reply, and which the seat has then seen. A refused one changes neither.
+abbrev pub IsCallSeated : SeatedView → Call → Answer → SeatedView → Type 0
+IsCallSeated old call (Replied reply) new =
+    (receipt : ReceiptView) × (new.receipts ≡ old.receipts ++ receipt ∷ []) × IsReceiptOf old.seat call receipt × (receipt.entry.reply ≡ reply) × (new.seat ≡ seat_after old.seat receipt)
+IsCallSeated old call FullHistory new = new ≡ old
+IsCallSeated old call BehindHistory new = new ≡ old
+
+-- a checkpoint is refused, since others may share the workbench, and changes neither
+abbrev pub IsCheckpointSeated : SeatedView → Bounds → CheckpointAnswer → SeatedView → Type 0
+IsCheckpointSeated old limits SharedHistory new = new ≡ old
+IsCheckpointSeated old limits (Checked checking) new = ⊥
+
+abbrev pub SeatedStep : SeatedView → Exchange → SeatedView → Type 0
+SeatedStep = Exchanges IsCallSeated IsCheckpointSeated

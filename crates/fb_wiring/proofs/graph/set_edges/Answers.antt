@@ -1,5 +1,0 @@
-use Rattle.fb_wiring.proofs.ExploreLemmas.{edges-updates}
-use Rattle.fb_wiring.proofs.graph.set_edges.Goals as goal
-
-pub returns : goal.returns
-returns c = edges-updates c.args.edges.now c.insert.new.self c.args.from c.args.to c.in_ok-insert.ensures.updates

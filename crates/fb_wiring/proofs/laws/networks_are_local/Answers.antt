@@ -1,5 +1,0 @@
-use Rattle.fb_wiring.proofs.Locality.{networks_local}
-use Rattle.fb_wiring.proofs.laws.networks_are_local.Goals as goal
-
-pub returns : goal.returns
-returns c = networks_local

@@ -1,5 +1,0 @@
-use Rattle.fb_wiring.proofs.OrderLocality.{recursion_local}
-use Rattle.fb_wiring.proofs.order_laws.recursion_is_local.Goals as goal
-
-pub returns : goal.returns
-returns c = recursion_local

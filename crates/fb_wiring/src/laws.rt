@@ -1,7 +1,0 @@
-//! Laws of networks in plain.
-ghost use Rattle.fb_wiring.specs.Local.{NetworksAreLocal};
-
-/// The network, the applications and the kind of a unit depend only on its text.
-pub fn networks_are_local()
-    ensures { NetworksAreLocal }
-{}
