@@ -84,7 +84,7 @@ after_most : (s : State) (call : Call) → (after s call).most_units ≡ s.most_
 unfolding after
 after_most s (ToCommit edits) = done_most (commit_answer s edits) edits s
 after_most s ToTake = take_most (next s) s
-after_most s (ToDeliver order) = deliver_most (deliver_answer s order) order.key s
+after_most s (ToDeliver job) = deliver_most (deliver_answer s job) job.key s
 after_most s (ToGiveBack k) = give_back_most (give_back_answer s k) k s
 after_most s (ToAsk k) = refl
 

@@ -36,7 +36,7 @@ shows_entry bench (ToAsk k) (OfDeliver r) begins e = tt
 shows_entry bench (ToAsk k) (OfGiveBack r) begins e = tt
 shows_entry bench (ToCommit edits) r begins e = tt
 shows_entry bench ToTake r begins e = tt
-shows_entry bench (ToDeliver order) r begins e = tt
+shows_entry bench (ToDeliver job) r begins e = tt
 shows_entry bench (ToGiveBack k) r begins e = tt
 
 -- a refusal leaves the state

@@ -31,8 +31,8 @@ Exchanges Step CheckpointStep old (AskedCheckpoint limits answer) new = Checkpoi
 -- a reply of the call's kind
 abbrev pub Fits : Call → Reply → Type 0
 Fits (ToCommit edits) (OfCommit answer) = Unit {0}
-Fits ToTake (OfTake order) = Unit {0}
-Fits (ToDeliver order) (OfDeliver answer) = Unit {0}
+Fits ToTake (OfTake job) = Unit {0}
+Fits (ToDeliver job) (OfDeliver answer) = Unit {0}
 Fits (ToGiveBack key) (OfGiveBack answer) = Unit {0}
 Fits (ToAsk key) (OfAsk shown) = Unit {0}
 Fits _ _ = ⊥

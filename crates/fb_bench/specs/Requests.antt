@@ -23,7 +23,7 @@ reply_in (answer.Ask given) = OfAsk (shown_in given)
 
 -- the job that an answer hands out
 abbrev pub job_of : Reply → Option PlainJob
-job_of (OfTake order) = order
+job_of (OfTake job) = job
 job_of (OfCommit answer) = None
 job_of (OfDeliver answer) = None
 job_of (OfGiveBack answer) = None

@@ -7,7 +7,7 @@ ghost use Rattle.fb_bench.specs.{Outcomes.{IsOutcome}, Records.{call_of, reply_o
 
 use fb_entries::index::Index;
 use fb_entries::library::{Change, Library};
-use fb_entries::{Entries, Found, Renewal};
+use fb_entries::{CommitEffects, Entries, Renewal};
 use fb_history::{Call, Committed, History, Record, Reply};
 use fb_text::{Name, same_name};
 use std::alloc::{AllocError, Global};
@@ -107,7 +107,7 @@ pub(crate) fn refusal(library: &Library, changes: &[Change]) -> Option<Committed
 pub(crate) enum Outcome {
     Refused(Committed),
     /// The texts after it, and what else it leaves.
-    Done { library: Library, found: Found },
+    Done { library: Library, found: CommitEffects },
 }
 
 /// The result of the changes; `number` is that of the commit, if it is done.

@@ -49,7 +49,7 @@ pub struct Marks {
 
 /// What a good commit leaves, found before anything is written.
 #[derive(Drop)]
-pub struct Found {
+pub struct CommitEffects {
     /// The index of the texts after the commit.
     pub index: Index,
     pub renewal: Renewal,
@@ -148,7 +148,7 @@ impl Entries {
         before: &Library,
         after: &Library,
         changes: &[Change],
-    ) -> Result<Found, AllocError>
+    ) -> Result<CommitEffects, AllocError>
         requires known { IsIndexOf before.now index.now }
         requires once { first_repeated (units_of changes.now) ≡ None }
         requires others { AgreeApartFrom (units_of changes.now) before.now after.now }
@@ -159,7 +159,7 @@ impl Entries {
         let units = changed_units(alloc, changes)?;
         let index = reindexed(alloc, index, before, after, &units)?;
         let renewal = self.find(alloc, &index, after, &units)?;
-        Ok(Found { index, renewal })
+        Ok(CommitEffects { index, renewal })
     }
 
     /// What changes of these units alter; `library` is the library after them, and `index` is that of its texts.
@@ -211,11 +211,11 @@ impl Entries {
     }
 
     /// Writes what was found, and gives the index back. Nothing here can fail.
-    pub fn carry_out(&mut self, found: Found) -> Index
+    pub fn carry_out(&mut self, found: CommitEffects) -> Index
         ensures entries { IsCarriedOut found.renewal self.old self.new }
         ensures index { result ≡ found.index }
     {
-        let Found { index, renewal } = found;
+        let CommitEffects { index, renewal } = found;
         take_out(&mut self.by_key, &renewal.gone);
         leave_all(&mut self.ready, &renewal.gone);
         renew_all(&mut self.by_key, &renewal.renewed);

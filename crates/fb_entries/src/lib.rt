@@ -8,7 +8,7 @@ mod laws;
 mod reach;
 mod renewal;
 
-pub use entries::{Entries, Found, Marks};
+pub use entries::{CommitEffects, Entries, Marks};
 pub use entry::Entry;
 pub use laws::an_index_finds_what_is_reached;
 pub use renewal::Renewal;

@@ -2,7 +2,7 @@
 use Rattle.std.specs.Prelude.{◌≡◌, ℕ, ◌<◌, true, false, List, Option, Some, Contains, length, take, slice_index_or}
 use Rattle.fb_types.specs.{Library.View.{Sources, parts_at}, Library.Rests.{PartRests}, Network.PlainFlat.{PlainFlat}, Network.Ready.{Nets}}
 use Rattle.fb_types.specs.{Counts.{IsCounted}, ByName.{declared}}
-pub use Rattle.fb_types.specs.Tables.{IsTrue, Has, HasAdapter, HasAdapters, Grows, HasType, IsTable, AllCounted, SameOthers, IsUnitCount, IsSmallType, known_flats, IsComposed, IsAdded, AllFinished, is_subapplication_tree, is_subapplication_in, is_missing, IsComposable, AreComposable, IsComposedApplication, AreComposedApplications, IsFlatTogether, AreComposedTogether, is_system_tree, is_system_in}
+pub use Rattle.fb_types.specs.Tables.{IsDeclaredIn, Has, HasAdapter, HasAdapters, Grows, HasType, IsTable, AllCounted, SameOthers, IsUnitCount, IsSmallType, known_flats, IsComposed, IsAdded, AllFinished, is_subapplication_tree, is_subapplication_in, is_missing, IsComposable, AreComposable, IsComposedApplication, AreComposedApplications, IsFlatTogether, AreComposedTogether, is_system_tree, is_system_in}
 use Rattle.fb_flatten.specs.{Hints.{is_whole_hint}, Net.{PlainNet, IsSound}}
 
 -- Names with inner types first, as far as kept nets do not tell that they are whole. Each of them is sound.

@@ -45,7 +45,7 @@ pub refused_stays : (s : State) (call : Call) → is_refusal (reply s call) ≡ 
 unfolding reply after
 refused_stays s (ToCommit edits) refused = commit_refused (commit_answer s edits) edits s refused
 refused_stays s ToTake refused = cc
-refused_stays s (ToDeliver order) refused = result_refused (deliver_answer s order) order.key s refused
+refused_stays s (ToDeliver job) refused = result_refused (deliver_answer s job) job.key s refused
 refused_stays s (ToGiveBack key) refused = return_refused (give_back_answer s key) key s refused
 refused_stays s (ToAsk key) refused = refl
 

@@ -70,7 +70,7 @@ step : (s : State) (c : Call) (k : Key) (d : Bool) → IsWaiting s k d → IsWai
 unfolding after
 step s (ToCommit edits) k d waits = commit_step (commit_answer s edits) s edits k d waits
 step s ToTake k d waits = take_step (next s) s k d waits
-step s (ToDeliver order) k d waits = deliver_bits s order.key k (same_key order.key k) (has_key s.units order.key) (s.pending order.key) (stale s.units order.reads) d refl refl refl waits
+step s (ToDeliver job) k d waits = deliver_bits s job.key k (same_key job.key k) (has_key s.units job.key) (s.pending job.key) (stale s.units job.reads) d refl refl refl waits
 step s (ToGiveBack q) k d waits = give_back_step (give_back_answer s q) s q k d waits
 step s (ToAsk q) k d waits = kept s k d waits
 

@@ -59,7 +59,7 @@ within_after : (s : State) (call : Call) → IsWithin s → IsWithin (after s ca
 unfolding after
 within_after s (ToCommit edits) within = within_commit (commit_answer s edits) edits s within
 within_after s ToTake within = within_take (next s) s refl within
-within_after s (ToDeliver order) within = within_deliver (deliver_answer s order) order.key s within
+within_after s (ToDeliver job) within = within_deliver (deliver_answer s job) job.key s within
 within_after s (ToGiveBack key) within = within_give_back (give_back_answer s key) key s within
 within_after s (ToAsk key) within = within
 

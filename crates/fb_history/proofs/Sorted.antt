@@ -98,7 +98,7 @@ rise_after : (s : State) (call : Call) → Rise s.units → Rise (after s call).
 unfolding after
 rise_after s (ToCommit edits) rise = rise_commit (commit_answer s edits) edits s rise
 rise_after s ToTake rise = rise_take (next s) s rise
-rise_after s (ToDeliver order) rise = rise_deliver (deliver_answer s order) order.key s rise
+rise_after s (ToDeliver job) rise = rise_deliver (deliver_answer s job) job.key s rise
 rise_after s (ToGiveBack key) rise = rise_give_back (give_back_answer s key) key s rise
 rise_after s (ToAsk key) rise = rise
 

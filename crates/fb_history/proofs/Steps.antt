@@ -71,13 +71,13 @@ take_some s units k job key reads same is at read some =
 pub stays_some : (s : State) (k : Key) → Some k ≡ next s → after s ToTake ≡ after_take (Some k) s
 stays_some s k some = after_take_is s ∙ ap (λ o. after_take o s) (sym some)
 
-pub reply_deliver : (s : State) (order : PlainJob) → reply s (ToDeliver order) ≡ OfDeliver (deliver_answer s order)
+pub reply_deliver : (s : State) (job : PlainJob) → reply s (ToDeliver job) ≡ OfDeliver (deliver_answer s job)
 unfolding reply
-reply_deliver s order = refl
+reply_deliver s job = refl
 
-pub after_deliver_is : (s : State) (order : PlainJob) → after s (ToDeliver order) ≡ after_deliver (deliver_answer s order) order.key s
+pub after_deliver_is : (s : State) (job : PlainJob) → after s (ToDeliver job) ≡ after_deliver (deliver_answer s job) job.key s
 unfolding after
-after_deliver_is s order = refl
+after_deliver_is s job = refl
 
 pub reply_give_back : (s : State) (key : Key) → reply s (ToGiveBack key) ≡ OfGiveBack (give_back_answer s key)
 unfolding reply
@@ -108,12 +108,12 @@ out_returned s key out = give_back_is s key Returned (sym (ap (λ b. cond b Retu
 pub nothing_out : (s : State) (key : Key) → s.out key ≡ false → OfGiveBack NothingOut ≡ reply s (ToGiveBack key)
 nothing_out s key free = give_back_is s key NothingOut (sym (ap (λ b. cond b Returned NothingOut) free))
 
-pub delivers_is : (s : State) (order now : PlainJob) (answer : Delivered) → order ≡ now → answer ≡ deliver_answer s now → OfDeliver answer ≡ reply s (ToDeliver order)
-delivers_is s order now answer same is = ap OfDeliver (is ∙ ap (λ o. deliver_answer s o) (sym same)) ∙ sym (reply_deliver s order)
+pub delivers_is : (s : State) (job now : PlainJob) (answer : Delivered) → job ≡ now → answer ≡ deliver_answer s now → OfDeliver answer ≡ reply s (ToDeliver job)
+delivers_is s job now answer same is = ap OfDeliver (is ∙ ap (λ o. deliver_answer s o) (sym same)) ∙ sym (reply_deliver s job)
 
-pub delivered_is : (s : State) (order now : PlainJob) (key : Key) (answer : Delivered) → order ≡ now → key ≡ now.key → answer ≡ deliver_answer s now → after s (ToDeliver order) ≡ after_deliver answer key s
-delivered_is s order now key answer same at is =
-    after_deliver_is s order
+pub delivered_is : (s : State) (job now : PlainJob) (key : Key) (answer : Delivered) → job ≡ now → key ≡ now.key → answer ≡ deliver_answer s now → after s (ToDeliver job) ≡ after_deliver answer key s
+delivered_is s job now key answer same at is =
+    after_deliver_is s job
     ∙ ap (λ o. after_deliver (deliver_answer s o) o.key s) same
     ∙ (λ i. after_deliver (sym is i) (sym at i) s)
 

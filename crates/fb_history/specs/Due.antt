@@ -16,7 +16,7 @@ marks state _ key = false
 
 -- a delivery for the key whose reads are current there
 abbrev pub settles : State → Call → Key → Bool
-settles state (ToDeliver order) key = same_key order.key key && is_none (stale state.units order.reads)
+settles state (ToDeliver job) key = same_key job.key key && is_none (stale state.units job.reads)
 settles state _ key = false
 
 -- some place settles the key

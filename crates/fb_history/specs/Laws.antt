@@ -36,7 +36,7 @@ refuses_question (Finds finding) = false
 -- whether a reply refuses its call. That there is nothing to do is no refusal
 abbrev pub is_refusal : Reply → Bool
 is_refusal (OfCommit answer) = refuses_commit answer
-is_refusal (OfTake order) = false
+is_refusal (OfTake job) = false
 is_refusal (OfDeliver answer) = refuses_result answer
 is_refusal (OfGiveBack answer) = refuses_return answer
 is_refusal (OfAsk shown) = refuses_question shown

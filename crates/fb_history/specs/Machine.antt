@@ -21,7 +21,7 @@ pub record State : Type 0 where
 pub data Call : Type 0 where
   ToCommit : (edits : List Edit) → Call
   ToTake : Call
-  ToDeliver : (order : PlainJob) → Call
+  ToDeliver : (job : PlainJob) → Call
   ToGiveBack : (key : Key) → Call
   ToAsk : (key : Key) → Call
 
@@ -34,7 +34,7 @@ pub data Shown : Type 0 where
 -- what it replies
 pub data Reply : Type 0 where
   OfCommit : (answer : Committed) → Reply
-  OfTake : (order : Option PlainJob) → Reply
+  OfTake : (job : Option PlainJob) → Reply
   OfDeliver : (answer : Delivered) → Reply
   OfGiveBack : (answer : GivenBack) → Reply
   OfAsk : (shown : Shown) → Reply
@@ -144,10 +144,10 @@ unless_stale None = Accepted
 unless_stale (Some name) = Stale name
 
 abbrev pub deliver_answer : State → PlainJob → Delivered
-deliver_answer state order =
-    if not (has_key state.units order.key) then NoSuchKey
-    else (if not (state.pending order.key) then NotPending
-    else unless_stale (stale state.units order.reads))
+deliver_answer state job =
+    if not (has_key state.units job.key) then NoSuchKey
+    else (if not (state.pending job.key) then NotPending
+    else unless_stale (stale state.units job.reads))
 
 abbrev pub after_deliver : Delivered → Key → State → State
 after_deliver Accepted key state = record state { pending = removed state.pending key; out = removed state.out key }
@@ -171,7 +171,7 @@ shown state key =
 unfoldable pub reply : State → Call → Reply
 reply state (ToCommit edits) = OfCommit (commit_answer state edits)
 reply state ToTake = OfTake (taken (next state) state)
-reply state (ToDeliver order) = OfDeliver (deliver_answer state order)
+reply state (ToDeliver job) = OfDeliver (deliver_answer state job)
 reply state (ToGiveBack key) = OfGiveBack (give_back_answer state key)
 reply state (ToAsk key) = OfAsk (shown state key)
 
@@ -179,6 +179,6 @@ reply state (ToAsk key) = OfAsk (shown state key)
 unfoldable pub after : State → Call → State
 after state (ToCommit edits) = after_commit (commit_answer state edits) edits state
 after state ToTake = after_take (next state) state
-after state (ToDeliver order) = after_deliver (deliver_answer state order) order.key state
+after state (ToDeliver job) = after_deliver (deliver_answer state job) job.key state
 after state (ToGiveBack key) = after_give_back (give_back_answer state key) key state
 after state (ToAsk key) = state

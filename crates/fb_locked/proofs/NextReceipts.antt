@@ -9,7 +9,7 @@ pub fits_reply : (state : State) (call : Call) → Fits call (reply state call)
 unfolding reply
 fits_reply state (ToCommit edits) = tt
 fits_reply state ToTake = tt
-fits_reply state (ToDeliver order) = tt
+fits_reply state (ToDeliver job) = tt
 fits_reply state (ToGiveBack key) = tt
 fits_reply state (ToAsk key) = tt
 

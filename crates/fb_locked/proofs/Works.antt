@@ -75,13 +75,13 @@ refusal_names seat refused.Memory named = tt
 -- ---- how a job is settled
 
 -- its key is given back, if it can be
-pub gives_up : (order : PlainJob) (seat after : SeatView) (old new : List ReceiptView) (answer : Result Answered SharedRefused) → AnswersInto seat (ToGiveBack order.key) answer old after new → Works (Holds order) 1 seat old new after (Some Memory)
-gives_up order seat after old new (Ok answer) kept = (Gave, adds_call (Holds order) seat after old new (ToGiveBack order.key) kept.0 kept.2 refl kept.1 kept.4, refl)
-gives_up order seat after old new (Err cause) kept = (Holds order, adds_nothing (Holds order) 1 seat after old new kept.1 kept.2, tt)
+pub gives_up : (job : PlainJob) (seat after : SeatView) (old new : List ReceiptView) (answer : Result Answered SharedRefused) → AnswersInto seat (ToGiveBack job.key) answer old after new → Works (Holds job) 1 seat old new after (Some Memory)
+gives_up job seat after old new (Ok answer) kept = (Gave, adds_call (Holds job) seat after old new (ToGiveBack job.key) kept.0 kept.2 refl kept.1 kept.4, refl)
+gives_up job seat after old new (Err cause) kept = (Holds job, adds_nothing (Holds job) 1 seat after old new kept.1 kept.2, tt)
 
 -- its delivery is refused
-pub ends_refused : (order : PlainJob) (seat after : SeatView) (old new : List ReceiptView) (call : Call) (cause : SharedRefused) → AnswersInto seat call (Err cause) old after new → Works (Holds order) 1 seat old new after (Some (end_of cause))
-ends_refused order seat after old new call cause kept = (Holds order, adds_nothing (Holds order) 1 seat after old new kept.1 kept.2, refusal_ends cause)
+pub ends_refused : (job : PlainJob) (seat after : SeatView) (old new : List ReceiptView) (call : Call) (cause : SharedRefused) → AnswersInto seat call (Err cause) old after new → Works (Holds job) 1 seat old new after (Some (end_of cause))
+ends_refused job seat after old new call cause kept = (Holds job, adds_nothing (Holds job) 1 seat after old new kept.1 kept.2, refusal_ends cause)
 
 pub refused_names : (seat after : SeatView) (old new : List ReceiptView) (call : Call) (cause : SharedRefused) → AnswersInto seat call (Err cause) old after new → NamesSeat after (end_of cause)
 refused_names seat after old new call cause kept = subst (λ (s : SeatView). NamesSeat s (end_of cause)) (sym kept.2) (refusal_names seat cause kept.0)
@@ -91,8 +91,8 @@ pub ends_as : (first : Option SharedRefused) (cause : SharedRefused) → Refused
 ends_as None cause is = ap end_of is
 ends_as (Some other) cause is = ap end_of is
 
-pub stays_gives : (cause : SharedRefused) (locked locked' : LockedView) (seat seat' : SeatView) (order : PlainJob) (old new : List ReceiptView) → Stays locked seat old locked' seat' new → GivesUp (end_of cause) locked seat order old locked' seat' new
-stays_gives (refused.SeatDiffers turns book) locked locked' seat seat' order old new stays = stays
-stays_gives (refused.Behind seen len) locked locked' seat seat' order old new stays = stays
-stays_gives refused.HistoryFull locked locked' seat seat' order old new stays = stays
-stays_gives refused.Memory locked locked' seat seat' order old new stays = inr stays
+pub stays_gives : (cause : SharedRefused) (locked locked' : LockedView) (seat seat' : SeatView) (job : PlainJob) (old new : List ReceiptView) → Stays locked seat old locked' seat' new → GivesUp (end_of cause) locked seat job old locked' seat' new
+stays_gives (refused.SeatDiffers turns book) locked locked' seat seat' job old new stays = stays
+stays_gives (refused.Behind seen len) locked locked' seat seat' job old new stays = stays
+stays_gives refused.HistoryFull locked locked' seat seat' job old new stays = stays
+stays_gives refused.Memory locked locked' seat seat' job old new stays = inr stays

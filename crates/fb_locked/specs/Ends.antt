@@ -53,13 +53,13 @@ calls_workers locked = locked.stopped || (is_some (next (state_of locked.bench))
 
 -- Where memory was wanting, the key of the job is given back, or nothing changes where this is refused too. At another end nothing changes.
 abbrev pub GivesUp : WorkEnd → LockedView → SeatView → PlainJob → List ReceiptView → LockedView → SeatView → List ReceiptView → Type 0
-GivesUp Memory locked seat order old locked' seat' new = Keeps locked seat (ToGiveBack order.key) old locked' seat' new ⊎ Stays locked seat old locked' seat' new
-GivesUp end locked seat order old locked' seat' new = Stays locked seat old locked' seat' new
+GivesUp Memory locked seat job old locked' seat' new = Keeps locked seat (ToGiveBack job.key) old locked' seat' new ⊎ Stays locked seat old locked' seat' new
+GivesUp end locked seat job old locked' seat' new = Stays locked seat old locked' seat' new
 
 -- What a worker does with a job that it holds, under the lock. Its result, if it has one, is delivered, and then the worker goes on, whether or not
 -- it was accepted. Where the delivery is refused it ends under the name of the first cause; where memory was wanting, for the result or for its
 -- delivery, for want of memory.
 abbrev pub SettlesJob : LockedView → SeatView → PlainJob → Bool → Option WorkEnd → List ReceiptView → LockedView → SeatView → List ReceiptView → Type 0
-SettlesJob locked seat order has_result None old locked' seat' new = (has_result ≡ true) × Keeps locked seat (ToDeliver order) old locked' seat' new
-SettlesJob locked seat order has_result (Some end) old locked' seat' new =
-    EndsAs (if has_result then option_map end_of (refusal_of locked seat) else None) end × GivesUp end locked seat order old locked' seat' new
+SettlesJob locked seat job has_result None old locked' seat' new = (has_result ≡ true) × Keeps locked seat (ToDeliver job) old locked' seat' new
+SettlesJob locked seat job has_result (Some end) old locked' seat' new =
+    EndsAs (if has_result then option_map end_of (refusal_of locked seat) else None) end × GivesUp end locked seat job old locked' seat' new

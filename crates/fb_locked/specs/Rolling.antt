@@ -21,7 +21,7 @@ MakesRoom limits old (Err refused) new = IsFull old.bench.log × ChecksAs (check
 
 abbrev pub hands_out : Key → Option PlainJob → Bool
 hands_out key None = false
-hands_out key (Some order) = same_key order.key key
+hands_out key (Some job) = same_key job.key key
 
 -- the record hands the key out
 abbrev pub takes : Key → Record → Bool

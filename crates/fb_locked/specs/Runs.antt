@@ -18,13 +18,13 @@ pub data Hand : Type 0 where
 
 abbrev pub hand_with : Option PlainJob → Hand
 hand_with None = Empty
-hand_with (Some order) = Holds order
+hand_with (Some job) = Holds job
 
 -- what it holds after a call with this reply
 abbrev pub hand_after : Call → Reply → Hand
 hand_after ToTake answer = hand_with (job_of answer)
 hand_after (ToGiveBack key) answer = Gave
-hand_after (ToDeliver order) answer = Empty
+hand_after (ToDeliver job) answer = Empty
 hand_after (ToCommit edits) answer = Empty
 hand_after (ToAsk key) answer = Empty
 
@@ -34,14 +34,14 @@ IsTake _ = ⊥
 
 -- the result of the job, or its key given back
 abbrev pub Settles : PlainJob → Call → Type 0
-Settles order (ToDeliver result) = result ≡ order
-Settles order (ToGiveBack key) = key ≡ order.key
-Settles order _ = ⊥
+Settles job (ToDeliver result) = result ≡ job
+Settles job (ToGiveBack key) = key ≡ job.key
+Settles job _ = ⊥
 
 -- the calls that a worker makes: if it holds nothing it takes, and a job that it holds it settles before it takes the next one
 abbrev pub Follows : Hand → Call → Type 0
 Follows Empty call = IsTake call
-Follows (Holds order) call = Settles order call
+Follows (Holds job) call = Settles job call
 Follows Gave call = ⊥
 
 -- the receipts are of a worker's calls, which lead from what it held to what it holds now
@@ -69,7 +69,7 @@ IsRefusal Memory = Unit {0}
 -- What a worker may hold at its end: a job only if a call was refused, and it has given one back only for lack of memory.
 abbrev pub EndsWith : Hand → WorkEnd → Type 0
 EndsWith Empty end = Unit {0}
-EndsWith (Holds order) end = IsRefusal end
+EndsWith (Holds job) end = IsRefusal end
 EndsWith Gave end = end ≡ Memory
 
 -- a worker that continues holds nothing

@@ -7,12 +7,12 @@ use Rattle.fb_iface.specs.Library.View.{Sources}
 use Rattle.fb_network.specs.{declared.network.Port.{Port}, Plain.{PlainNetwork}, Network.{View}}
 use Rattle.fb_network.proofs.Equals.{same_bytes}
 use Rattle.fb_tree.proofs.{Text.Members.{contains_nothing}, Text.Tests.{by_bool}}
-use Rattle.fb_types.specs.{ByName.{declared}, Tables.{Grows, Has, HasAdapter, HasAdapters, HasType, IsTable, IsTrue}}
+use Rattle.fb_types.specs.{ByName.{declared}, Tables.{Grows, Has, HasAdapter, HasAdapters, HasType, IsTable, IsDeclaredIn}}
 
-pub nothing_true : (sources : Sources) (table : View) → ((name : List ℕ) → table name ≡ None) → IsTrue sources table
+pub nothing_true : (sources : Sources) (table : View) → ((name : List ℕ) → table name ≡ None) → IsDeclaredIn sources table
 nothing_true sources table none name network e = let n = none name in absurd (let no : ⊥ = cc in no)
 
-pub grows_none : {sources : Sources} {table : View} → IsTrue sources table → Grows sources table table
+pub grows_none : {sources : Sources} {table : View} → IsDeclaredIn sources table → Grows sources table table
 grows_none is_true = record { is_true = is_true; keeps = λ q h. h }
 
 pub grows_both : {sources : Sources} {a b c : View} → Grows sources a b → Grows sources b c → Grows sources a c
@@ -23,7 +23,7 @@ pub has_none : (sources : Sources) (table : View) (name : List ℕ) → declared
 has_none sources table name none network d = absurd (let no : ⊥ = cc in no)
 
 -- a name that is in the table
-pub has_there : (sources : Sources) (table : View) (name : List ℕ) → IsTrue sources table → is_some (table name) ≡ true → Has sources table name
+pub has_there : (sources : Sources) (table : View) (name : List ℕ) → IsDeclaredIn sources table → is_some (table name) ≡ true → Has sources table name
 has_there sources table name is_true some network d = grind (arith, is_true name)
 
 -- a name whose network is added
@@ -31,7 +31,7 @@ module _ (sources : Sources) (old new : View) (name : List ℕ) (network : Plain
   pub put_has : Has sources new name
   put_has it e = is ∙ sym d ∙ e
 
-  pub put_grows : IsTrue sources old → Grows sources old new
+  pub put_grows : IsDeclaredIn sources old → Grows sources old new
   put_grows old_true = record {
     is_true = λ q it e. by_bool (is_at (name_cmp name) q)
         (λ s. let same = same_bytes name q s in ap (declared sources) (sym same) ∙ d ∙ sym is ∙ ap new same ∙ e)
@@ -72,7 +72,7 @@ pub type_is : {sources : Sources} {table : View} (name : List ℕ) (network : Pl
 type_is {sources = sources} {table = table} name network d has adapters =
     record { network = has; adapters = λ it e. let same : network ≡ it = cc in subst (λ (n : PlainNetwork). HasAdapters sources table n.ports) same adapters }
 
-pub table_nothing : {sources : Sources} (table : View) → IsTrue sources table → IsTable sources table []
+pub table_nothing : {sources : Sources} (table : View) → IsDeclaredIn sources table → IsTable sources table []
 table_nothing table is_true = record { is_true = is_true; types = λ name c. absurd (contains_nothing name c) }
 
 -- one type further

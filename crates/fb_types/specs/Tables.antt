@@ -13,8 +13,8 @@ use Rattle.fb_types.specs.{Net.{PlainNet}, Units.{AreFlatApplications, Holds, Is
 -- ---- networks
 
 -- what the table has is what the texts say
-abbrev pub IsTrue : Sources → View → Type 0
-IsTrue sources table = (name : List ℕ) (network : PlainNetwork) → table name ≡ Some network → declared sources name ≡ Some network
+abbrev pub IsDeclaredIn : Sources → View → Type 0
+IsDeclaredIn sources table = (name : List ℕ) (network : PlainNetwork) → table name ≡ Some network → declared sources name ≡ Some network
 
 -- the table has the network of the name
 abbrev pub Has : Sources → View → List ℕ → Type 0
@@ -30,7 +30,7 @@ HasAdapters sources table ports = (port : Port) → Contains ports port → HasA
 
 -- more is in the table, and no less
 pub record Grows (sources : Sources) (old new : View) : Type 0 where
-  pub is_true : IsTrue sources new
+  pub is_true : IsDeclaredIn sources new
   pub keeps : (name : List ℕ) → Has sources old name → Has sources new name
 
 -- the table has the network of the type, and those of the adapters of its ports
@@ -39,7 +39,7 @@ pub record HasType (sources : Sources) (table : View) (name : List ℕ) : Type 0
   pub adapters : (network : PlainNetwork) → declared sources name ≡ Some network → HasAdapters sources table network.ports
 
 pub record IsTable (sources : Sources) (table : View) (names : List (List ℕ)) : Type 0 where
-  pub is_true : IsTrue sources table
+  pub is_true : IsDeclaredIn sources table
   pub types : (name : List ℕ) → Contains names name → HasType sources table name
 
 -- ---- counts

@@ -11,17 +11,17 @@ use Rattle.fb_messages.specs.{Jobs.Reads.{PlainJob}, Replies.{refused, work_done
 use Rattle.fb_messages.specs.{declared.reply.Refusal.{Refusal}, declared.reply.Reply.{Reply}}
 use Rattle.fb_wire.specs.{declared.answer.Round.{Round}, Lines.{is_blank}, Said.{checkpoint_said, said_to}}
 use Rattle.fb_wire.specs.Progress.{KeepsTaken, LineSaid, Progress, ProgressTo, RoundProgress, answer_in, checked_in, data_in, left_after, refusal_for, unrecorded}
-use Rattle.fb_wire.specs.Conversations.{Jobs, Leads, Plan, Runs, after_deliver, after_take, asks, call_once, checkpoint_once, checks, held_after, says, take_plan, work_plan}
+use Rattle.fb_wire.specs.Conversations.{Jobs, BeginsWith, Plan, Runs, after_deliver, after_take, asks, call_once, checkpoint_once, checks, held_after, says, take_plan, work_plan}
 use Rattle.fb_bench.specs.declared.desk.DeskCheckpointError.TheVariants as checkpoint
 use Rattle.serde_json.specs.Data.{Data}
 
-pub Leads-append : (plan mid rest : Plan) (ps qs : List Exchange) → Leads plan ps mid → Leads mid qs rest → Leads plan (ps ++ qs) rest
-Leads-append plan mid rest [] qs first more = let P : Plan → Type 0 = λ q. Leads q qs rest in subst P first more
-Leads-append (says reply jobs) mid rest (p ∷ ps) qs first more = absurd first
-Leads-append (asks call next) mid rest (AskedCall made answer ∷ ps) qs first more = (first.0, Leads-append (next answer) mid rest ps qs first.1 more)
-Leads-append (asks call next) mid rest (AskedCheckpoint made answer ∷ ps) qs first more = absurd first
-Leads-append (checks limits next) mid rest (AskedCall made answer ∷ ps) qs first more = absurd first
-Leads-append (checks limits next) mid rest (AskedCheckpoint made answer ∷ ps) qs first more = (first.0, Leads-append (next answer) mid rest ps qs first.1 more)
+pub BeginsWith-append : (plan mid rest : Plan) (ps qs : List Exchange) → BeginsWith plan ps mid → BeginsWith mid qs rest → BeginsWith plan (ps ++ qs) rest
+BeginsWith-append plan mid rest [] qs first more = let P : Plan → Type 0 = λ q. BeginsWith q qs rest in subst P first more
+BeginsWith-append (says reply jobs) mid rest (p ∷ ps) qs first more = absurd first
+BeginsWith-append (asks call next) mid rest (AskedCall made answer ∷ ps) qs first more = (first.0, BeginsWith-append (next answer) mid rest ps qs first.1 more)
+BeginsWith-append (asks call next) mid rest (AskedCheckpoint made answer ∷ ps) qs first more = absurd first
+BeginsWith-append (checks limits next) mid rest (AskedCall made answer ∷ ps) qs first more = absurd first
+BeginsWith-append (checks limits next) mid rest (AskedCheckpoint made answer ∷ ps) qs first more = (first.0, BeginsWith-append (next answer) mid rest ps qs first.1 more)
 
 -- ---- calls that are not recorded
 
@@ -66,7 +66,7 @@ module _ {S : Type 0} (Step : S → Exchange → S → Type 0) where
 
   pub reaches_on : (plan mid rest : Plan) (old between new : S) → ProgressTo Step plan old mid between → ProgressTo Step mid between rest new → ProgressTo Step plan old rest new
   reaches_on plan mid rest old between new first more =
-      (first.0 ++ more.0, Leads-append plan mid rest first.0 more.0 first.1 more.1, Runs-append old between new first.0 more.0 first.2 more.2)
+      (first.0 ++ more.0, BeginsWith-append plan mid rest first.0 more.0 first.1 more.1, Runs-append old between new first.0 more.0 first.2 more.2)
 
   -- memory ran out before any call
   pub none_served : (plan : Plan) (old : S) (e : AllocError) (held : Jobs) → Progress Step plan old (Err e) held old
@@ -202,20 +202,20 @@ module _ {S : Type 0} (CallStep : S → Call → Answer → S → Type 0) (Check
       subst P open_plan (by_any old new ToTake next take_reply r step)
 
   -- a round whose job was taken, run and delivered
-  pub round_served : (old mid new : S) (held : Jobs) (count : ℕ) (more : ℕ → Plan) (order : PlainJob) (taken : Result Taken DeskError) (r : Result Delivered DeskError) (round : Result Round AllocError)
-      → Serves CallStep old ToTake take_reply taken mid → answer_in take_reply taken ≡ Some (Replied (OfTake (Some order)))
-      → Serves CallStep mid (ToDeliver order) OfDeliver r new
+  pub round_served : (old mid new : S) (held : Jobs) (count : ℕ) (more : ℕ → Plan) (job : PlainJob) (taken : Result Taken DeskError) (r : Result Delivered DeskError) (round : Result Round AllocError)
+      → Serves CallStep old ToTake take_reply taken mid → answer_in take_reply taken ≡ Some (Replied (OfTake (Some job)))
+      → Serves CallStep mid (ToDeliver job) OfDeliver r new
       → option_map (after_deliver held count more) (answer_in OfDeliver r) ≡ option_map (left_after held count more) (result_ok round)
       → RoundProgress Step held count more old round new
-  round_served old mid new held count more order taken r (Ok round) first is second ends =
-      reaches_on Step (asks ToTake (after_take held count more)) (asks (ToDeliver order) (after_deliver held count more)) (left_after held count more round) old mid new
-      (reaches_by old mid ToTake (after_take held count more) (Replied (OfTake (Some order))) (serves_some old mid ToTake take_reply taken (Replied (OfTake (Some order))) first is))
-      (by_answer mid new (ToDeliver order) (after_deliver held count more) OfDeliver r (left_after held count more round) second ends)
-  round_served old mid new held count more order taken r (Err e) first is second ends =
-      let far = by_any mid new (ToDeliver order) (after_deliver held count more) OfDeliver r second in (
+  round_served old mid new held count more job taken r (Ok round) first is second ends =
+      reaches_on Step (asks ToTake (after_take held count more)) (asks (ToDeliver job) (after_deliver held count more)) (left_after held count more round) old mid new
+      (reaches_by old mid ToTake (after_take held count more) (Replied (OfTake (Some job))) (serves_some old mid ToTake take_reply taken (Replied (OfTake (Some job))) first is))
+      (by_answer mid new (ToDeliver job) (after_deliver held count more) OfDeliver r (left_after held count more round) second ends)
+  round_served old mid new held count more job taken r (Err e) first is second ends =
+      let far = by_any mid new (ToDeliver job) (after_deliver held count more) OfDeliver r second in (
         far.0,
-        reaches_on Step (asks ToTake (after_take held count more)) (asks (ToDeliver order) (after_deliver held count more)) far.0 old mid new
-            (reaches_by old mid ToTake (after_take held count more) (Replied (OfTake (Some order))) (serves_some old mid ToTake take_reply taken (Replied (OfTake (Some order))) first is)) far.1,
+        reaches_on Step (asks ToTake (after_take held count more)) (asks (ToDeliver job) (after_deliver held count more)) far.0 old mid new
+            (reaches_by old mid ToTake (after_take held count more) (Replied (OfTake (Some job))) (serves_some old mid ToTake take_reply taken (Replied (OfTake (Some job))) first is)) far.1,
       )
 
 -- a run on a lent workbench

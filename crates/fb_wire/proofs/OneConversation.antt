@@ -4,7 +4,7 @@ use Rattle.serde_json.specs.Data.{Data}
 use Rattle.fb_bench.specs.{History.Limits.{Bounds}, History.Machine.{Call}, Calls.{Answer, AskedCall, AskedCheckpoint, CheckpointAnswer, Exchange}}
 use Rattle.fb_bench.specs.{Solo.{IsCallStep, IsCheckpointStep, IsStep}, History.BenchView.{BenchView}}
 use Rattle.fb_wire.specs.{Lines.{Fits, IsTooLong, is_blank, lines_of}, Ends.{AnsweredAll, AnsweredEnded, IsBetweenLines, OutputAt}}
-use Rattle.fb_wire.specs.{Conversations.{AnswersLines, Jobs, Leads, Plan, Runs, answers_of, asks, checks, plan_of, says}, declared.end.RunEnd.{RunEnd}}
+use Rattle.fb_wire.specs.{Conversations.{AnswersLines, Jobs, BeginsWith, Plan, Runs, answers_of, asks, checks, plan_of, says}, declared.end.RunEnd.{RunEnd}}
 use Rattle.fb_messages.specs.{Requests.{request_of}, Replies.{reply_line}}
 use Rattle.fb_wire.specs.declared.end.RunEnd.TheVariants as end
 use Rattle.fb_wire.proofs.Scripts.{call_is, checkpoint_is}
@@ -13,7 +13,7 @@ use Rattle.fb_wire.proofs.Scripts.{call_is, checkpoint_is}
 module _ (Agrees : List Exchange → List Exchange → Type 0)
     (first_call : (call : Call) (a b : Answer) (ps qs : List Exchange) → Agrees (AskedCall call a ∷ ps) (AskedCall call b ∷ qs) → (a ≡ b) × Agrees ps qs)
     (first_checkpoint : (limits : Bounds) (a b : CheckpointAnswer) (ps qs : List Exchange) → Agrees (AskedCheckpoint limits a ∷ ps) (AskedCheckpoint limits b ∷ qs) → (a ≡ b) × Agrees ps qs) where
-  same_plan : (plan : Plan) (ps qs more others : List Exchange) (r s : Data) (a b : Jobs) → Leads plan ps (says r a) → Leads plan qs (says s b)
+  same_plan : (plan : Plan) (ps qs more others : List Exchange) (r s : Data) (a b : Jobs) → BeginsWith plan ps (says r a) → BeginsWith plan qs (says s b)
       → Agrees (ps ++ more) (qs ++ others) → (ps ≡ qs) × (r ≡ s) × (a ≡ b) × Agrees more others
   same_plan (says d jobs) [] [] more others r s a b l k e = let both : says r a ≡ says s b = l ∙ sym k in (refl, cc, cc, e)
   same_plan (says d jobs) [] (q ∷ qs) more others r s a b l k e = absurd k
@@ -24,7 +24,7 @@ module _ (Agrees : List Exchange → List Exchange → Type 0)
       let P : Call → Type 0 = λ z. Agrees (AskedCall z x ∷ (ps ++ more)) (AskedCall d y ∷ (qs ++ others)) in
       let calls : c ≡ d = l.0 ∙ sym k.0 in
       let step = first_call d x y (ps ++ more) (qs ++ others) (subst P calls e) in
-      let Q : Answer → Type 0 = λ z. Leads (next z) qs (says s b) in
+      let Q : Answer → Type 0 = λ z. BeginsWith (next z) qs (says s b) in
       let rest = same_plan (next x) ps qs more others r s a b l.1 (subst Q (sym step.0) k.1) step.1 in
       (λ i. AskedCall (calls i) (step.0 i) ∷ rest.0 i, rest.1, rest.2, rest.3)
   same_plan (asks call next) (AskedCall c x ∷ ps) (AskedCheckpoint d y ∷ qs) more others r s a b l k e = absurd k
@@ -35,15 +35,15 @@ module _ (Agrees : List Exchange → List Exchange → Type 0)
       let P : Bounds → Type 0 = λ z. Agrees (AskedCheckpoint z x ∷ (ps ++ more)) (AskedCheckpoint d y ∷ (qs ++ others)) in
       let same : c ≡ d = l.0 ∙ sym k.0 in
       let step = first_checkpoint d x y (ps ++ more) (qs ++ others) (subst P same e) in
-      let Q : CheckpointAnswer → Type 0 = λ z. Leads (next z) qs (says s b) in
+      let Q : CheckpointAnswer → Type 0 = λ z. BeginsWith (next z) qs (says s b) in
       let rest = same_plan (next x) ps qs more others r s a b l.1 (subst Q (sym step.0) k.1) step.1 in
       (λ i. AskedCheckpoint (same i) (step.0 i) ∷ rest.0 i, rest.1, rest.2, rest.3)
   same_plan (checks limits next) (AskedCheckpoint c x ∷ ps) (AskedCall d y ∷ qs) more others r s a b l k e = absurd k
   same_plan (checks limits next) (AskedCall c x ∷ ps) (q ∷ qs) more others r s a b l k e = absurd l
 
   same_line_by : (blank : Bool) (plan : Plan) (held : Jobs) (ps qs more others : List Exchange) (out written : List ℕ) (after last : Jobs)
-      → MatchBool blank ((ps ≡ []) × (out ≡ []) × (after ≡ held)) ((reply : Data) × Leads plan ps (says reply after) × (out ≡ reply_line reply))
-      → MatchBool blank ((qs ≡ []) × (written ≡ []) × (last ≡ held)) ((reply : Data) × Leads plan qs (says reply last) × (written ≡ reply_line reply))
+      → MatchBool blank ((ps ≡ []) × (out ≡ []) × (after ≡ held)) ((reply : Data) × BeginsWith plan ps (says reply after) × (out ≡ reply_line reply))
+      → MatchBool blank ((qs ≡ []) × (written ≡ []) × (last ≡ held)) ((reply : Data) × BeginsWith plan qs (says reply last) × (written ≡ reply_line reply))
       → Agrees (ps ++ more) (qs ++ others) → (ps ≡ qs) × (out ≡ written) × (after ≡ last) × Agrees more others
   same_line_by true plan held ps qs more others out written after last t u e =
       let P : List Exchange → Type 0 = λ xs. Agrees (xs ++ more) (qs ++ others) in

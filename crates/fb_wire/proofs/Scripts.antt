@@ -7,7 +7,7 @@ use Rattle.fb_bench.specs.Calls.{Answer, AskedCall, AskedCheckpoint, BehindHisto
 use Rattle.fb_bench.specs.{Solo.{IsCallStep, IsCheckpointStep, IsStep}, History.BenchView.{BenchView}}
 use Rattle.fb_wire.specs.{Ends.{IsNothing, IsPrefixOfReply, OutputAt}, Lines.{is_blank, lines_of}}
 use Rattle.fb_wire.specs.Script.{IsPrefixOf, SaysBy, Script, answer_from, bench_after, bench_anew, checkpoint_from, line_result, reply_before, script, script_from}
-use Rattle.fb_wire.specs.{Conversations.{AnswersLines, Jobs, Leads, Plan, Runs, asks, checks, plan_of, says}, declared.end.RunEnd.{RunEnd}}
+use Rattle.fb_wire.specs.{Conversations.{AnswersLines, Jobs, BeginsWith, Plan, Runs, asks, checks, plan_of, says}, declared.end.RunEnd.{RunEnd}}
 use Rattle.fb_messages.specs.{Replies.{reply_line}, Requests.{request_of}}
 use Rattle.fb_wire.specs.declared.end.RunEnd.TheVariants as end
 
@@ -33,7 +33,7 @@ checkpoint_is bench limits (Checked checking) new step = (ap Checked step.0, ste
 checkpoint_is bench limits SharedHistory new step = absurd step
 
 -- what a plan asks leads to what it is told
-told_is : (caller : ℕ) (plan : Plan) (pairs : List Exchange) (reply : Data) (held : Jobs) (bench new : BenchView) → Leads plan pairs (says reply held) → Runs (IsStep caller) bench pairs new
+told_is : (caller : ℕ) (plan : Plan) (pairs : List Exchange) (reply : Data) (held : Jobs) (bench new : BenchView) → BeginsWith plan pairs (says reply held) → Runs (IsStep caller) bench pairs new
     → line_result caller plan bench ≡ record { reply = reply; held = held; bench = new }
 unfolding line_result
 told_is caller (says d jobs) [] reply held bench new l r =
@@ -69,7 +69,7 @@ abbrev pub said_before : List ℕ → Script → Script
 said_before out script = record { out = out ++ script.out; bench = script.bench }
 
 one_line : (caller : ℕ) (blank : Bool) (plan : Plan) (held after : Jobs) (ps : List Exchange) (out : List ℕ) (bench new : BenchView) (more : Jobs → BenchView → Script)
-    → MatchBool blank ((ps ≡ []) × (out ≡ []) × (after ≡ held)) ((reply : Data) × Leads plan ps (says reply after) × (out ≡ reply_line reply)) → Runs (IsStep caller) bench ps new
+    → MatchBool blank ((ps ≡ []) × (out ≡ []) × (after ≡ held)) ((reply : Data) × BeginsWith plan ps (says reply after) × (out ≡ reply_line reply)) → Runs (IsStep caller) bench ps new
     → cond blank (more held bench) (reply_before (line_result caller plan bench) more) ≡ said_before out (more after new)
 one_line caller true plan held after ps out bench new more t r =
     let P : List Exchange → Type 0 = λ xs. Runs (IsStep caller) bench xs new in
@@ -97,19 +97,19 @@ lines_said caller (line ∷ lines) more held after ps out bench new t r =
 
 -- a prefix of what is said to a line
 line_prefix : (caller : ℕ) (blank : Bool) (plan : Plan) (held : Jobs) (begun : List Exchange) (part : List ℕ) (bench new : BenchView) (more : Jobs → BenchView → Script)
-    → MatchBool blank ((begun ≡ []) × (part ≡ [])) ((rest : Plan) × Leads plan begun rest × IsPrefixOfReply rest part) → Runs (IsStep caller) bench begun new
+    → MatchBool blank ((begun ≡ []) × (part ≡ [])) ((rest : Plan) × BeginsWith plan begun rest × IsPrefixOfReply rest part) → Runs (IsStep caller) bench begun new
     → IsPrefixOf part (cond blank (more held bench) (reply_before (line_result caller plan bench) more)).out
 line_prefix caller true plan held begun part bench new more t r = ((more held bench).out, rw t.1 refl)
 line_prefix caller false plan held begun part bench new more t r =
     let reply = t.2.0 in
-    let P : Plan → Type 0 = λ q. Leads plan begun q in
+    let P : Plan → Type 0 = λ q. BeginsWith plan begun q in
     let is = told_is caller plan begun reply t.2.1 bench new (subst P t.2.3 t.1) r in
     let all : reply_line reply ≡ part ++ drop t.2.2 (reply_line reply) = rw t.2.4 (sym (take-append-drop t.2.2 (reply_line reply))) in
     let rest = (more t.2.1 new).out in
     (drop t.2.2 (reply_line reply) ++ rest, rw is (ap (λ xs. xs ++ rest) all ∙ append_assoc part (drop t.2.2 (reply_line reply)) rest))
 
 nothing_more : (blank : Bool) (plan : Plan) (begun : List Exchange) (part : List ℕ)
-    → MatchBool blank ((begun ≡ []) × (part ≡ [])) ((rest : Plan) × Leads plan begun rest × IsNothing rest part) → part ≡ []
+    → MatchBool blank ((begun ≡ []) × (part ≡ [])) ((rest : Plan) × BeginsWith plan begun rest × IsNothing rest part) → part ≡ []
 nothing_more true plan begun part t = t.1
 nothing_more false plan begun part t = t.2
 

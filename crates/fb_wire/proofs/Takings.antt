@@ -3,7 +3,7 @@ use Rattle.std.proofs.{Math.Seq.{take-add}, lemmas.List.{take-append-drop, take_
 use Rattle.std.proofs.Common.{◌-◌, ◌≡◌, ◌+◌, ℕ, [], ◌∷◌, ◌++◌, ◌∙◌, Bool, Err, List, MatchBool, Ok, Result, ap, append-nil, append_assoc, arith, drop, false, length, refl, subst, sym, take, true}
 use Rattle.fb_bench.specs.Calls.{Exchange}
 use Rattle.fb_wire.specs.{Lines.{Fits, IsLine, is_blank, lines_of}, Ends.{AnsweredEnded, IsNothing, OutputAt}}
-use Rattle.fb_wire.specs.{Progress.{ConversationAt, Extends, LineSaid, PieceTaken}, Conversations.{AnswersLine, AnswersLines, Jobs, Leads, Plan, Runs, plan_of}}
+use Rattle.fb_wire.specs.{Progress.{ConversationAt, Extends, LineSaid, PieceTaken}, Conversations.{AnswersLine, AnswersLines, Jobs, BeginsWith, Plan, Runs, plan_of}}
 use Rattle.fb_wire.specs.declared.end.RunEnd.{RunEnd}
 use Rattle.fb_messages.specs.Requests.{request_of}
 use Rattle.fb_wire.specs.declared.end.RunEnd.TheVariants as end
@@ -31,7 +31,7 @@ AnswersLines-snoc (l ∷ ls) line held mid after ps qs out more t fits last = (
 )
 
 -- of a line that was not looked at nothing was asked or said
-nothing_yet : (blank : Bool) (plan : Plan) → MatchBool blank ((◌≡◌ {A = List Exchange} [] []) × (◌≡◌ {A = List ℕ} [] [])) ((rest : Plan) × Leads plan [] rest × IsNothing rest [])
+nothing_yet : (blank : Bool) (plan : Plan) → MatchBool blank ((◌≡◌ {A = List Exchange} [] []) × (◌≡◌ {A = List ℕ} [] [])) ((rest : Plan) × BeginsWith plan [] rest × IsNothing rest [])
 nothing_yet true plan = (refl, refl)
 nothing_yet false plan = (plan, refl, refl)
 

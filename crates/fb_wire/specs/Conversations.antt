@@ -31,11 +31,11 @@ pub data Plan : Type 0 where
   checks : Bounds → (CheckpointAnswer → Plan) → Plan
 
 -- These calls and checkpoints with these answers are the plan's first ones, and this is what is left of it.
-abbrev pub Leads : Plan → List Exchange → Plan → Type 0
-Leads plan [] rest = rest ≡ plan
-Leads (asks call next) (AskedCall made answer ∷ more) rest = (made ≡ call) × Leads (next answer) more rest
-Leads (checks limits next) (AskedCheckpoint made answer ∷ more) rest = (made ≡ limits) × Leads (next answer) more rest
-Leads plan (exchange ∷ more) rest = ⊥
+abbrev pub BeginsWith : Plan → List Exchange → Plan → Type 0
+BeginsWith plan [] rest = rest ≡ plan
+BeginsWith (asks call next) (AskedCall made answer ∷ more) rest = (made ≡ call) × BeginsWith (next answer) more rest
+BeginsWith (checks limits next) (AskedCheckpoint made answer ∷ more) rest = (made ≡ limits) × BeginsWith (next answer) more rest
+BeginsWith plan (exchange ∷ more) rest = ⊥
 
 -- ---- the plan of each request
 
@@ -88,7 +88,7 @@ most_held = 64
 
 -- what a taken job adds to those that are held
 abbrev pub held_after : Jobs → Answer → Jobs
-held_after held (Replied (OfTake (Some order))) = held ++ order ∷ []
+held_after held (Replied (OfTake (Some job))) = held ++ job ∷ []
 held_after held _ = held
 
 abbrev pub take_plan : Jobs → Plan
@@ -98,7 +98,7 @@ take_plan held =
 
 abbrev pub deliver_held : Jobs → Option PlainJob → Plan
 deliver_held held None = says (refused (refusal_text because.NoSuchJob)) held
-deliver_held held (Some order) = call_once held (ToDeliver order)
+deliver_held held (Some job) = call_once held (ToDeliver job)
 
 -- jobs are numbered from 1
 abbrev pub job_at : Jobs → ℕ → Option PlainJob
@@ -117,7 +117,7 @@ after_deliver held count more BehindHistory = says (work_refused count (refusal_
 
 -- after an answer to a take: the job is delivered, or the work is done or refused
 abbrev pub after_take : Jobs → ℕ → (ℕ → Plan) → Answer → Plan
-after_take held count more (Replied (OfTake (Some order))) = asks (ToDeliver order) (after_deliver held count more)
+after_take held count more (Replied (OfTake (Some job))) = asks (ToDeliver job) (after_deliver held count more)
 after_take held count more (Replied _) = says (work_done count) held
 after_take held count more FullHistory = says (work_refused count (refusal_text because.HistoryFull)) held
 after_take held count more BehindHistory = says (work_refused count (refusal_text because.Behind)) held
@@ -143,13 +143,13 @@ plan_of held (Some (asked.checkpoint limits)) = checkpoint_once held limits
 abbrev pub AnswersLine : List ℕ → Jobs → List Exchange → List ℕ → Jobs → Type 0
 AnswersLine line held pairs out after =
     MatchBool (is_blank line) ((pairs ≡ []) × (out ≡ []) × (after ≡ held))
-    ((reply : Data) × Leads (plan_of held (request_of line)) pairs (says reply after) × (out ≡ reply_line reply))
+    ((reply : Data) × BeginsWith (plan_of held (request_of line)) pairs (says reply after) × (out ≡ reply_line reply))
 
 -- some of what one line asks, and the part of its reply that was written; a blank line asks and gets nothing
 abbrev pub LinePart : (Plan → List ℕ → Type 0) → List ℕ → Jobs → List Exchange → List ℕ → Type 0
 LinePart IsPart line held begun part =
     MatchBool (is_blank line) ((begun ≡ []) × (part ≡ []))
-    ((rest : Plan) × Leads (plan_of held (request_of line)) begun rest × IsPart rest part)
+    ((rest : Plan) × BeginsWith (plan_of held (request_of line)) begun rest × IsPart rest part)
 
 -- the lines, one after another; none of them is too long
 abbrev pub AnswersLines : List (List ℕ) → Jobs → List Exchange → List ℕ → Jobs → Type 0

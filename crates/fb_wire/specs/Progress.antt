@@ -10,7 +10,7 @@ use Rattle.fb_bench.specs.declared.desk.DeskCheckpointError.TheVariants as check
 use Rattle.fb_library.specs.{Texts.{Edit}, Changes.{edit_of, edits_of}, declared.change.Change.{Change}}
 use Rattle.fb_wire.specs.{declared.change.ChangeError.{ChangeError}, Lines.{Fits, IsTooLong, is_blank, lines_of}, Ends.{IsNothing, IsPrefixOfReply, OutputAt}}
 use Rattle.fb_wire.specs.declared.end.RunEnd.{RunEnd}
-use Rattle.fb_wire.specs.{Conversations.{AnswersLine, AnswersLines, Jobs, Leads, Plan, Runs, after_take, asks, held_after, plan_of, says}, Said.{said_to}}
+use Rattle.fb_wire.specs.{Conversations.{AnswersLine, AnswersLines, Jobs, BeginsWith, Plan, Runs, after_take, asks, held_after, plan_of, says}, Said.{said_to}}
 use Rattle.fb_wire.specs.{declared.answer.Round.{Round}, declared.answer.Taking.{Taking}, declared.answer.Taking.TheVariants.{Ended, Job}}
 use Rattle.fb_wire.specs.declared.change.ChangeError.TheVariants as fault
 use Rattle.fb_messages.specs.{Requests.{request_of}, Replies.{work_done, work_refused}, ReplyView.{data_of, refusal_text}, declared.reply.Reply.{Reply}}
@@ -21,7 +21,7 @@ use Rattle.fb_messages.specs.declared.reply.Refusal.TheVariants as because
 
 -- some calls and checkpoints of the plan lead the desk from old to new, and this is left of it
 abbrev pub ProgressTo : {S : Type 0} → (S → Exchange → S → Type 0) → Plan → S → Plan → S → Type 0
-ProgressTo Step plan old rest new = (pairs : List Exchange) × Leads plan pairs rest × Runs Step old pairs new
+ProgressTo Step plan old rest new = (pairs : List Exchange) × BeginsWith plan pairs rest × Runs Step old pairs new
 
 -- the plan came to its reply, or memory ran out on the way
 abbrev pub Progress : {S : Type 0} → (S → Exchange → S → Type 0) → Plan → S → Result Reply AllocError → Jobs → S → Type 0
@@ -93,7 +93,7 @@ abbrev pub LineSaid : {S : Type 0} → (S → Exchange → S → Type 0) → Lis
 LineSaid Step line old_jobs old old_held (Ok u) jobs new held =
     (pairs : List Exchange) × (out : List ℕ) × AnswersLine line old_jobs pairs out jobs × Runs Step old pairs new × (held ≡ old_held ++ out)
 LineSaid Step line old_jobs old old_held (Err stop) jobs new held =
-    (pairs : List Exchange) × (part : List ℕ) × (rest : Plan) × (is_blank line ≡ false) × Leads (plan_of old_jobs (request_of line)) pairs rest
+    (pairs : List Exchange) × (part : List ℕ) × (rest : Plan) × (is_blank line ≡ false) × BeginsWith (plan_of old_jobs (request_of line)) pairs rest
     × Runs Step old pairs new × (held ≡ old_held ++ part) × IsPartAt stop rest part
 
 -- ---- bytes

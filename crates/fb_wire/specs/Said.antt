@@ -26,7 +26,7 @@ commit_said TooManyUnits = refused (refusal_text because.TooManyUnits)
 -- a job gets this number
 abbrev pub take_said : ℕ → Option PlainJob → Data
 take_said n None = no_job
-take_said n (Some order) = job_given n order.key
+take_said n (Some job) = job_given n job.key
 
 abbrev pub deliver_said : Delivered → Data
 deliver_said Accepted = delivered
@@ -45,7 +45,7 @@ ask_said Unknown = refused (refusal_text because.NoSuchKey)
 
 abbrev pub reply_said : ℕ → Reply → Data
 reply_said n (OfCommit answer) = commit_said answer
-reply_said n (OfTake order) = take_said n order
+reply_said n (OfTake job) = take_said n job
 reply_said n (OfDeliver answer) = deliver_said answer
 reply_said n (OfGiveBack answer) = give_back_said answer
 reply_said n (OfAsk shown) = ask_said shown
