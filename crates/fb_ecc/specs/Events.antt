@@ -7,7 +7,7 @@ use Rattle.fb_tree.specs.declared.interface.Side.TheVariants as sides
 use Rattle.fb_tree.specs.declared.network.Role.TheVariants as roles
 use Rattle.fb_iface.specs.{declared.code.Code.TheVariants.{EventUnknown}, declared.fault.Fault.{Fault}, declared.ports.DeclaredEvent.{DeclaredEvent}}
 use Rattle.fb_iface.specs.{declared.ports.DeclaredInstance.{DeclaredInstance}, Names.{stands_for}, Ports.{Meanings, same_side}, Scope.{Scope, instance_ports}}
-use Rattle.fb_ecc.specs.{declared.events.EventTarget.{EventTarget}, declared.events.EventTarget.TheVariants.{Found, Unknown, NotJudged}}
+use Rattle.fb_ecc.specs.{declared.events.EventTarget.{EventTarget}, declared.events.EventTarget.TheVariants.{Found, Unknown, NotChecked}}
 
 abbrev pub opposite : Side → Side
 opposite sides.Input = sides.Output
@@ -30,7 +30,7 @@ event_among side ports name = event_on side (stands_for ports.events name)
 
 -- the same at an adapter; one whose type is not usable is not checked
 abbrev pub event_of_adapter : Option Meanings → List ℕ → Side → EventTarget
-event_of_adapter None name side = NotJudged
+event_of_adapter None name side = NotChecked
 event_of_adapter (Some ports) name side = event_among side ports name
 
 -- the same at a plug or socket, where an event that comes in, or goes out, is wanted
@@ -50,7 +50,7 @@ span_from first (Some port) = record { start = first.start; end = port.span.end 
 
 abbrev pub target_faults : EventTarget → Span → List Fault
 target_faults Found span = []
-target_faults NotJudged span = []
+target_faults NotChecked span = []
 target_faults Unknown span = record { code = EventUnknown; span = span } ∷ []
 
 abbrev pub end_event_faults : Scope → Side → End → List Fault

@@ -18,7 +18,7 @@ pub enum EventTarget {
     /// No such event.
     Unknown,
     /// A port of a plug or socket whose type is absent, broken or of the wrong kind.
-    NotJudged,
+    NotChecked,
 }
 
 /// Reports the events of transitions that do not come in, and those of actions that do not go out.
@@ -101,7 +101,7 @@ fn report_written(
                 code: Code::EventUnknown,
                 span: span_of(event),
             })?,
-            EventTarget::Found | EventTarget::NotJudged => {}
+            EventTarget::Found | EventTarget::NotChecked => {}
         }
     }
     Ok(())
@@ -163,7 +163,7 @@ fn target_of_adapter(ports: Option<&Ports>, side: Side, name: &Name) -> EventTar
 {
     match ports {
         Some(ports) => target_among(ports, side, name),
-        None => EventTarget::NotJudged,
+        None => EventTarget::NotChecked,
     }
 }
 

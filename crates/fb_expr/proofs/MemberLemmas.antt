@@ -1,7 +1,7 @@
 -- What references stand for with more and more further names, and which of their names is no field.
 use Rattle.std.proofs.Common.{◌≡◌, ℕ, Bool, true, false, true≢false, cond, List, [], ◌∷◌, ◌++◌, Option, Some, None, refl, sym, ap, subst, ◌∙◌}
 use Rattle.fb_tree.specs.{Text.declared.token.Span.{Span}, Expression.{ReferenceTree}, declared.reference.Member.{Member}}
-use Rattle.fb_iface.specs.{Fields.{Fields, NotJudged, NoFields, HasFields}, Names.{stands_for}, Ports.{Meanings}, Scope.{ports_of}}
+use Rattle.fb_iface.specs.{Fields.{Fields, NotChecked, NoFields, HasFields}, Names.{stands_for}, Ports.{Meanings}, Scope.{ports_of}}
 use Rattle.fb_iface.specs.declared.ports.DeclaredVariable.{DeclaredVariable}
 use Rattle.fb_expr.specs.{Demands.{is_field, referent_through}, Names.{Names}}
 use Rattle.fb_expr.specs.References.{data_referent, field_referent, fields_behind, is_before_port, is_data, is_some_count, member_among, own_referent, port_named, port_referent, step, variable_named, walk}
@@ -34,7 +34,7 @@ found_next used is None m = fails is refl
 found_next used is (Some field) m = goes_on is refl
 
 among_next : (used : Referent) → is_field used ≡ true → (fields : Fields) (m : Member) → Next used (member_among fields m) m
-among_next used is NotJudged m = goes_on is refl
+among_next used is NotChecked m = goes_on is refl
 among_next used is NoFields m = fails is refl
 among_next used is (HasFields found) m = found_next used is (stands_for found m.name.name) m
 

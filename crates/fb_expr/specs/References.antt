@@ -5,7 +5,7 @@ use Rattle.fb_tree.specs.{declared.interface.TypeUse.{TypeUse}, declared.network
 use Rattle.fb_tree.specs.declared.interface.Section.TheVariants as sections
 use Rattle.fb_tree.specs.declared.interface.TypeForm.TheVariants as forms
 use Rattle.fb_tree.specs.declared.network.Role.TheVariants as roles
-use Rattle.fb_iface.specs.{Class.{class_of_name, class_of_type, is_free}, Fields.{Fields, NotJudged, NoFields, HasFields}, Names.{stands_for}, Ports.{Meanings}}
+use Rattle.fb_iface.specs.{Class.{class_of_name, class_of_type, is_free}, Fields.{Fields, NotChecked, NoFields, HasFields}, Names.{stands_for}, Ports.{Meanings}}
 use Rattle.fb_iface.specs.{Scope.{Scope, ports_of}, declared.classes.Class.{Class}, declared.classes.Class.TheVariants.{O, Free}}
 use Rattle.fb_iface.specs.{declared.code.Code.TheVariants.{MemberUnknown, VariableUnknown}, declared.fault.Fault.{Fault}}
 use Rattle.fb_iface.specs.{declared.ports.DeclaredInstance.{DeclaredInstance}, declared.ports.DeclaredVariable.{DeclaredVariable}}
@@ -59,11 +59,11 @@ port_named scope name m = port_referent (ports_of scope name) m.name.name (is_so
 
 -- after a plain type of this name; after one of class Free no name is checked
 abbrev pub fields_named : (List ℕ → Fields) → List ℕ → Fields
-fields_named fields name = if is_free (class_of_name name) then NotJudged else fields name
+fields_named fields name = if is_free (class_of_name name) then NotChecked else fields name
 
 -- with a subscript on what is no array: where names are checked there are no fields
 abbrev pub unless_judged : Fields → Fields
-unless_judged NotJudged = NotJudged
+unless_judged NotChecked = NotChecked
 unless_judged NoFields = NoFields
 unless_judged (HasFields found) = NoFields
 
@@ -81,7 +81,7 @@ field_referent None m = NoMember m.name.span
 field_referent (Some field) m = Variable field.type_use (is_some_count m.subscripts)
 
 abbrev pub member_among : Fields → Member → Referent
-member_among NotJudged m = Unjudged
+member_among NotChecked m = Unjudged
 member_among NoFields m = NoMember m.name.span
 member_among (HasFields found) m = field_referent (stands_for found m.name.name) m
 

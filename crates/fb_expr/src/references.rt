@@ -235,7 +235,7 @@ fn behind_named<'a>(structures: &'a Structures, name: &Name) -> Behind<'a>
     ensures { fields_shown result ≡ fields_named (structures_in structures.now) name.now }
 {
     if class_by_name(name).is_free() {
-        Behind::NotJudged
+        Behind::NotChecked
     } else {
         structures.get(name)
     }
@@ -246,7 +246,7 @@ fn without_fields(behind: Behind<'_>) -> Behind<'_>
     ensures { fields_shown result ≡ unless_judged (fields_shown behind.entry) }
 {
     match behind {
-        Behind::NotJudged => Behind::NotJudged,
+        Behind::NotChecked => Behind::NotChecked,
         Behind::NoFields | Behind::Fields(_) => Behind::NoFields,
     }
 }
@@ -256,7 +256,7 @@ fn referred_field(behind: Behind<'_>, member: &Member) -> Referent
     ensures { result ≡ member_among (fields_shown behind.entry) member.now }
 {
     match behind {
-        Behind::NotJudged => Referent::Unjudged,
+        Behind::NotChecked => Referent::Unjudged,
         Behind::NoFields => Referent::NoMember(member.name.span.span()),
         Behind::Fields(fields) => field_referent(fields.field(&member.name.name.name()), member),
     }

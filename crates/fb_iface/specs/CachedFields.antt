@@ -1,6 +1,6 @@
 -- The types of values that are kept for references.
 use Rattle.std.specs.{Prelude.{ℕ, List, Option, Some, None, nat_eq}, Cmp.Lexicographic.{pointwise}, HashMap.{get}}
-use Rattle.fb_iface.specs.{Fields.{Fields, NotJudged, NoFields, HasFields}, declared.structures.Behind.{Behind}, declared.structures.CachedFields.{CachedFields}}
+use Rattle.fb_iface.specs.{Fields.{Fields, NotChecked, NoFields, HasFields}, declared.structures.Behind.{Behind}, declared.structures.CachedFields.{CachedFields}}
 use Rattle.fb_iface.specs.declared.structures.Structures.{Structures}
 use Rattle.fb_iface.specs.declared.structures.Behind.TheVariants as behind
 use Rattle.fb_iface.specs.declared.structures.CachedFields.TheVariants as kept
@@ -8,7 +8,7 @@ use Rattle.fb_iface.specs.declared.structures.CachedFields.TheVariants as kept
 -- what may be named behind a type of which this is kept; nothing where nothing is kept
 abbrev pub kept_fields : Option CachedFields → Fields
 kept_fields None = NoFields
-kept_fields (Some kept.NotJudged) = NotJudged
+kept_fields (Some kept.NotChecked) = NotChecked
 kept_fields (Some (kept.Known fields)) = HasFields fields
 
 -- what may be named behind each type by what is kept
@@ -17,6 +17,6 @@ structures_in s name = kept_fields (get (pointwise nat_eq) s.by_name name)
 
 -- the same by reference
 abbrev pub fields_shown : Behind → Fields
-fields_shown behind.NotJudged = NotJudged
+fields_shown behind.NotChecked = NotChecked
 fields_shown behind.NoFields = NoFields
 fields_shown (behind.Fields fields) = HasFields fields.now

@@ -6,7 +6,7 @@ use Rattle.fb_iface.specs.{Names.{first_ones}, Ports.{variables_together}, decla
 
 -- what a further name may name after a plain type
 pub data Fields : Type 0 where
-  NotJudged : Fields
+  NotChecked : Fields
   NoFields : Fields
   HasFields : List (List ℕ × DeclaredVariable) → Fields
 
@@ -16,7 +16,7 @@ fields_in s = flat_map variables_together s.fields
 
 -- a type that is absent or broken is not checked
 abbrev pub fields_of_tree : Option DeclTree → Fields
-fields_of_tree None = NotJudged
+fields_of_tree None = NotChecked
 fields_of_tree (Some (block_type d)) = NoFields
 fields_of_tree (Some (adapter_type d)) = NoFields
 fields_of_tree (Some (subapplication_type d)) = NoFields

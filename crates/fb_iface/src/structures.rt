@@ -61,7 +61,7 @@ impl FieldTable {
 #[derive(Drop)]
 enum CachedFields {
     /// The type is absent or broken.
-    NotJudged,
+    NotChecked,
     /// The fields of a structure.
     Known(FieldTable),
 }
@@ -69,7 +69,7 @@ enum CachedFields {
 /// What a further name may name after a plain type.
 pub enum Behind<'a> {
     /// Nothing is known of the type, so no name is checked.
-    NotJudged,
+    NotChecked,
     /// The type is known and has no fields.
     NoFields,
     /// The fields of a structure.
@@ -106,7 +106,7 @@ impl Structures {
     {
         match self.by_name.get(name) {
             None => Behind::NoFields,
-            Some(CachedFields::NotJudged) => Behind::NotJudged,
+            Some(CachedFields::NotChecked) => Behind::NotChecked,
             Some(CachedFields::Known(fields)) => Behind::Fields(fields),
         }
     }
@@ -151,7 +151,7 @@ fn kept_type<V: View>(
         (λ kept. kept_fields kept ≡ fields_of_tree (tree_at (V.sources view.now) name.now)) }
 {
     match tree_by_name(view, name) {
-        None => Ok(Some(CachedFields::NotJudged)),
+        None => Ok(Some(CachedFields::NotChecked)),
         Some(Decl::Structure(structure)) => {
             let fields = FieldTable::of_structure(alloc, structure)?;
             Ok(Some(CachedFields::Known(fields)))

@@ -4,7 +4,7 @@ use Rattle.fb_laws.proofs.{ItemRows.{same_sides, side_itself}, UsableTypes.{know
 use Rattle.fb_laws.proofs.Joined.{iff, of_either, in_joined}
 use Rattle.fb_tree.specs.declared.chart.Action.{Action}
 use Rattle.fb_ecc.specs.{Algorithms.{algorithm_fault, algorithm_faults, algorithm_names, run_faults}, declared.events.EventTarget.{EventTarget}}
-use Rattle.fb_ecc.specs.declared.events.EventTarget.TheVariants.{Found, Unknown, NotJudged}
+use Rattle.fb_ecc.specs.declared.events.EventTarget.TheVariants.{Found, Unknown, NotChecked}
 use Rattle.fb_ecc.specs.Events.{end_event_faults, event_among, event_behind, event_faults, event_in, event_named, event_of_adapter, opposite, sent_faults, side_through, span_from, target_faults, trigger_faults, written_fault}
 use Rattle.fb_ecc.specs.States.{transition_faults, state_fault, state_faults, state_names}
 use Rattle.fb_laws.specs.Charts.{AlgorithmsAreDeclared, EventsAreKnown, HasUnknownAlgorithm, HasUnknownEvent, HasUnknownState, IsEventOf, IsNoEventOf, StandsForEvent, StatesAreListed, own_event, of_plug, of_socket}
@@ -65,7 +65,7 @@ event_stands : (side : Side) (ports : Meanings) (name : List ℕ) → StandsForE
 event_stands side ports name s = grind (arith, side_itself)
 
 -- ports that are known are judged
-judged_among : (side : Side) (ports : Meanings) (name : List ℕ) → event_among side ports name ≢ NotJudged
+judged_among : (side : Side) (ports : Meanings) (name : List ℕ) → event_among side ports name ≢ NotChecked
 judged_among side ports name e = grind arith
 
 module _ (sources : Sources) (d : TypeTree) (side : Side) where
@@ -105,15 +105,15 @@ module _ (sources : Sources) (d : TypeTree) (side : Side) where
       by_role i is Socket r h = through_socket i is r (instance_ports scope i) (sym (own_type sources d p.name i is)) h
       by_role i is o r h = absurd (true≢false (sym (ap is_found h)))
 
-  not_judged_behind : (p X : NameUse) → event_named scope side p (Some X) ≡ NotJudged → IsUnjudged p (Some X)
+  not_judged_behind : (p X : NameUse) → event_named scope side p (Some X) ≡ NotChecked → IsUnjudged p (Some X)
   not_judged_behind p X e =
-      (elim (stands_for own.instances p.name) as (λ o. stands_for own.instances p.name ≡ o → event_behind scope side o X.name ≡ NotJudged → IsUnjudged p (Some X)) [ None ↦ λ g h. absurd (true≢false (ap is_unknown h)) | Some i ↦ λ g h. by_role i g i.role refl h ]) refl e
+      (elim (stands_for own.instances p.name) as (λ o. stands_for own.instances p.name ≡ o → event_behind scope side o X.name ≡ NotChecked → IsUnjudged p (Some X)) [ None ↦ λ g h. absurd (true≢false (ap is_unknown h)) | Some i ↦ λ g h. by_role i g i.role refl h ]) refl e
     where
-      at_adapter : (i : DeclaredInstance) → stands_for own.instances p.name ≡ Some i → IsAdapter i → (wanted : Side) (ports : Option Meanings) → usable i.role (tree_at sources i.type_name.name) ≡ ports → event_of_adapter ports X.name wanted ≡ NotJudged → IsUnjudged p (Some X)
+      at_adapter : (i : DeclaredInstance) → stands_for own.instances p.name ≡ Some i → IsAdapter i → (wanted : Side) (ports : Option Meanings) → usable i.role (tree_at sources i.type_name.name) ≡ ports → event_of_adapter ports X.name wanted ≡ NotChecked → IsUnjudged p (Some X)
       at_adapter i is adapter wanted None g h = of_unusable i is adapter (no_type sources i.type_name.name i.role g)
       at_adapter i is adapter wanted (Some ports) g h = absurd (judged_among wanted ports X.name h)
 
-      by_role : (i : DeclaredInstance) → stands_for own.instances p.name ≡ Some i → (role : Role) → i.role ≡ role → option_map_or (event_of_adapter (instance_ports scope i) X.name) (side_through role side) Unknown ≡ NotJudged → IsUnjudged p (Some X)
+      by_role : (i : DeclaredInstance) → stands_for own.instances p.name ≡ Some i → (role : Role) → i.role ≡ role → option_map_or (event_of_adapter (instance_ports scope i) X.name) (side_through role side) Unknown ≡ NotChecked → IsUnjudged p (Some X)
       by_role i is Plug r h = at_adapter i is (inl r) side (instance_ports scope i) (sym (own_type sources d p.name i is)) h
       by_role i is Socket r h = at_adapter i is (inr r) (opposite side) (instance_ports scope i) (sym (own_type sources d p.name i is)) h
       by_role i is o r h = absurd (true≢false (ap is_unknown h))
@@ -121,7 +121,7 @@ module _ (sources : Sources) (d : TypeTree) (side : Side) where
   event_found : (name : NameUse) (port : Option NameUse) → event_named scope side name port ≡ Found → IsEvent name port
   event_found name port e = grind (arith, own_event, stands_for_event, found_behind)
 
-  not_judged : (name : NameUse) (port : Option NameUse) → event_named scope side name port ≡ NotJudged → IsUnjudged name port
+  not_judged : (name : NameUse) (port : Option NameUse) → event_named scope side name port ≡ NotChecked → IsUnjudged name port
   not_judged name port e = grind (arith, judged_among, not_judged_behind)
 
   told_found : (name : NameUse) (port : Option NameUse) → IsEvent name port → event_named scope side name port ≡ Found
@@ -129,7 +129,7 @@ module _ (sources : Sources) (d : TypeTree) (side : Side) where
   told_found p (Some X) (of_plug i ports is plug u s) = behind p X i Plug (Some ports) is plug (told_type sources i.type_name.name i.role ports u) ∙ event_stands side ports X.name s
   told_found p (Some X) (of_socket i ports is socket u s) = behind p X i Socket (Some ports) is socket (told_type sources i.type_name.name i.role ports u) ∙ event_stands (opposite side) ports X.name s
 
-  told_not_judged : (name : NameUse) (port : Option NameUse) → IsUnjudged name port → event_named scope side name port ≡ NotJudged
+  told_not_judged : (name : NameUse) (port : Option NameUse) → IsUnjudged name port → event_named scope side name port ≡ NotChecked
   told_not_judged name port none = grind (arith, of_unusable, type_missing)
 
   unknown_event : (event : End) → event_named scope side event.name event.port ≡ Unknown → IsNoEventOf sources own side event

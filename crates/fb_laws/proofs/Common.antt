@@ -64,7 +64,7 @@ pub use Rattle.fb_netcheck.specs.Paths.{Path, PathUse, fault_at_path, has_path, 
 pub use Rattle.fb_netcheck.specs.Repeats.{adapter_ends, all_adapter_ends, data_destination, data_destinations, end_path, path_named, second_adapters, second_sources}
 pub use Rattle.fb_netcheck.specs.{Settings.{NetworkPlace}, Sides.{connection_span, end_faults, fault_of, is_own, is_own_port, pass_through_faults}}
 pub use Rattle.fb_netcheck.specs.Types.{flows_agree, home_of, joined_types, same_at_ends, targets_agree}
-pub use Rattle.fb_netcheck.specs.{declared.ends.Target.TheVariants.{Found, NotJudged, Unknown}, declared.ends.Target.{Target}}
+pub use Rattle.fb_netcheck.specs.{declared.ends.Target.TheVariants.{Found, NotChecked, Unknown}, declared.ends.Target.{Target}}
 pub use Rattle.fb_placing.specs.{Cuts.{cuts_of, home_at, is_cut, same_home}, FirstEntry.{first_at}}
 pub use Rattle.fb_placing.specs.Homes.{unmatched, block_home, block_homes, homeless, misplaced, unless_faulty}
 pub use Rattle.fb_placing.specs.PlacedCommands.{create_command, create_commands, create_text, home_commands, command_cmp, command_cmp_total, commands_at, write_command, write_commands, write_text}

@@ -1,5 +1,5 @@
 -- Ends that name no port, or one of the wrong side, by what the list of faults has.
-use Rattle.fb_laws.proofs.Common.{arith, ◌≡◌, ℕ, List, [], ◌++◌, refl, sym, ◌∙◌, subst, Contains, Contains-append_left, Contains-append_right, false_from_ne_true, Span, NetworkTree, Connection, End, Sources, first_ones, instances_in, same_side, Code, PortSide, PortUnknown, Fault, contains_flat_map, contains_here, contains_nothing, contains_single, in_unless, origin_in_flat_map, unless, Position, Source, Destination, Target, Unknown, NotJudged, Found, connection_faults, right_side, target, net_faults_of, NetworkPlace, end_faults, fault_of, IsEndOf, IsNetworkOf, Site, place_of, source, destination, HasUnknownPort, HasWrongSide, PortsAreKnown, PortsAreOfRightSides}
+use Rattle.fb_laws.proofs.Common.{arith, ◌≡◌, ℕ, List, [], ◌++◌, refl, sym, ◌∙◌, subst, Contains, Contains-append_left, Contains-append_right, false_from_ne_true, Span, NetworkTree, Connection, End, Sources, first_ones, instances_in, same_side, Code, PortSide, PortUnknown, Fault, contains_flat_map, contains_here, contains_nothing, contains_single, in_unless, origin_in_flat_map, unless, Position, Source, Destination, Target, Unknown, NotChecked, Found, connection_faults, right_side, target, net_faults_of, NetworkPlace, end_faults, fault_of, IsEndOf, IsNetworkOf, Site, place_of, source, destination, HasUnknownPort, HasWrongSide, PortsAreKnown, PortsAreOfRightSides}
 use Rattle.fb_laws.proofs.NetworkEnds.{known_names, known_right, known_unknown, told_names, told_right, unknown_judged, unknown_names}
 use Rattle.fb_laws.proofs.Joined.{iff, of_either}
 use Rattle.fb_laws.proofs.NetworkLemmas.{at_both, at_destination, at_source, end_place, network_origin, own_instances, part, place_at, reported}
@@ -39,7 +39,7 @@ module _ (sources : Sources) (unit : List ℕ) (here : Site) (n : NetworkTree) (
             judged = unknown_judged sources here n own c.sort end.name end.port e;
             place = end_place end;
           })
-      by NotJudged e h = absurd (contains_nothing f h)
+      by NotChecked e h = absurd (contains_nothing f h)
       by (Found holder port) e h =
           let fails = in_unless (same_side port.side (right_side position holder)) (fault_of PortSide end) f h in
           let named = known_names sources here n own c.sort end.name end.port holder port e in

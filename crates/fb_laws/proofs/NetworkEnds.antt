@@ -1,5 +1,5 @@
 -- What ends name, by the tests of the check.
-use Rattle.fb_laws.proofs.Common.{◌≡◌, ◌≢◌, ℕ, true, List, Option, Some, None, refl, sym, ap, ◌∙◌, subst, true≢false, option_map, option_and_then, and_from, and_parts, NameUse, NetworkTree, Section, Side, Input, Output, UnitKind, End, Role, Sort, Sources, tree_at, DeclaredEvent, DeclaredInstance, DeclaredVariable, first_ones, stands_for, Meanings, instances_in, same_side, instance_ports, usable, Own, OfInstance, OfPlug, OfSocket, Position, Source, Destination, Target, Unknown, NotJudged, Found, adapter_port, data_port, event_port, holder_of, is_right, port_in, port_in_role, port_in_section, right_side, target, target_held, target_in, target_named, target_of, target_of_instance, NetworkPlace, is_own, is_own_port, home_of, IsPort, IsReached, IsReachedBy, IsRightSide, NamesRight, Site, event, socket, plug, of_block_instance, of_subapplication_instance, of_plug, of_socket, own_port, port_of, own_source, own_destination, instance_source, instance_destination, plug_source, plug_destination, socket_source, socket_destination, IsNotJudged, of_unusable, arith}
+use Rattle.fb_laws.proofs.Common.{◌≡◌, ◌≢◌, ℕ, true, List, Option, Some, None, refl, sym, ap, ◌∙◌, subst, true≢false, option_map, option_and_then, and_from, and_parts, NameUse, NetworkTree, Section, Side, Input, Output, UnitKind, End, Role, Sort, Sources, tree_at, DeclaredEvent, DeclaredInstance, DeclaredVariable, first_ones, stands_for, Meanings, instances_in, same_side, instance_ports, usable, Own, OfInstance, OfPlug, OfSocket, Position, Source, Destination, Target, Unknown, NotChecked, Found, adapter_port, data_port, event_port, holder_of, is_right, port_in, port_in_role, port_in_section, right_side, target, target_held, target_in, target_named, target_of, target_of_instance, NetworkPlace, is_own, is_own_port, home_of, IsPort, IsReached, IsReachedBy, IsRightSide, NamesRight, Site, event, socket, plug, of_block_instance, of_subapplication_instance, of_plug, of_socket, own_port, port_of, own_source, own_destination, instance_source, instance_destination, plug_source, plug_destination, socket_source, socket_destination, IsNotJudged, of_unusable, arith}
 use Rattle.fb_laws.proofs.{ItemRows.{same_sides}, NetworkLemmas.{place_at}, UsableTypes.{declared_type, known_type, no_type, told_type, type_missing}}
 use Rattle.fb_tree.specs.declared.interface.Section.TheVariants as sections
 use Rattle.fb_tree.specs.declared.kinds.UnitKind.TheVariants as kinds
@@ -72,7 +72,7 @@ module _ (here : Site) (sort : Sort) (i : DeclaredInstance) where
 
 pub data IsTarget (sources : Sources) (here : Site) (sort : Sort) (name : NameUse) (port : Option NameUse) : Target → Type 0 where
   is_found : {holder : Holder} {p : Port} (unit : List ℕ) → Names sources here sort name port holder unit p → IsTarget sources here sort name port (Found holder p)
-  is_not_judged : IsNotJudged sources here.own (IsReachedBy here sort) name port → IsTarget sources here sort name port NotJudged
+  is_not_judged : IsNotJudged sources here.own (IsReachedBy here sort) name port → IsTarget sources here sort name port NotChecked
   is_unknown : IsTarget sources here sort name port Unknown
 
 module _ (sources : Sources) (here : Site) (n : NetworkTree) (own : here.own.instances ≡ first_ones (instances_in n)) (sort : Sort) where
@@ -111,7 +111,7 @@ module _ (sources : Sources) (here : Site) (n : NetworkTree) (own : here.own.ins
   told_names name None holder unit p (own_port q) = ap (target_of Own) (told_port here.own name.name sort p q)
   told_names I (Some X) holder unit p (port_of i m g r u q) = behind I X i holder (Some m) g r (told_type sources i.type_name.name i.role m u) ∙ ap (target_of holder) (told_port m X.name sort p q)
 
-  pub told_not_judged : (name : NameUse) (port : Option NameUse) → IsNotJudged sources here.own (IsReachedBy here sort) name port → target_named at sort name.name port ≡ NotJudged
+  pub told_not_judged : (name : NameUse) (port : Option NameUse) → IsNotJudged sources here.own (IsReachedBy here sort) name port → target_named at sort name.name port ≡ NotChecked
   told_not_judged I None q = elim q [ ]
   told_not_judged I (Some X) (of_unusable i g r u) = behind I X i r.0 None g r.1 (type_missing sources i.type_name.name i.role u)
 
@@ -123,7 +123,7 @@ module _ (sources : Sources) (here : Site) (n : NetworkTree) (own : here.own.ins
   unknown_names name port e holder unit p n = let both : Found holder p ≡ Unknown = sym (told_names name port holder unit p n) ∙ e in let fails : ⊥ = cc in fails
 
   pub unknown_judged : (name : NameUse) (port : Option NameUse) → target_named at sort name.name port ≡ Unknown → ¬ IsNotJudged sources here.own (IsReachedBy here sort) name port
-  unknown_judged name port e n = let both : NotJudged ≡ Unknown = sym (told_not_judged name port n) ∙ e in let fails : ⊥ = cc in fails
+  unknown_judged name port e n = let both : NotChecked ≡ Unknown = sym (told_not_judged name port n) ∙ e in let fails : ⊥ = cc in fails
 
   pub known_unknown : (name : NameUse) (port : Option NameUse) → ((holder : Holder) (unit : List ℕ) (p : Port) → ¬ Names sources here sort name port holder unit p) → ¬ IsNotJudged sources here.own (IsReachedBy here sort) name port → target_named at sort name.name port ≡ Unknown
   known_unknown name port none judged = by (target_named at sort name.name port) (is_target name port)

@@ -1,5 +1,5 @@
 -- The faults of a unit's networks, network by network and code by code.
-use Rattle.fb_laws.proofs.Common.{arith, ◌≡◌, ℕ, ◌&&◌, List, [], ◌∷◌, ◌++◌, map, Option, Some, None, refl, sym, ap, subst, Contains, flat_map, slice_get, Contains-append_left, Contains-append_right, Span, DeclTree, InstanceTree, NetworkTree, ParameterTree, block_type, subapplication_type, system_configuration, TypeUse, UnitKind, Connection, End, Role, Sources, tree_at, fault_at, first_ones, stands_for, Meanings, instances_in, same_side, type_ports_of, Code, DataType, Literal, ParameterUnknown, PassThrough, PortSide, PortUnknown, SecondAdapter, SecondSource, Fault, DeclaredVariable, contains_flat_map, contains_nothing, contains_single, in_unless, origin_in_flat_map, origin_in_map, Position, Source, Destination, Target, Unknown, NotJudged, Found, connection_faults, end_span, right_side, target, application_network, net_faults_of, network_faults, tree_faults, all_parameters, instance_parameters, judged_parameters, parameter_faults, typed_parameters, value_faults, fault_at_path, repeated, all_adapter_ends, data_destinations, end_path, second_adapters, second_sources, NetworkPlace, connection_span, end_faults, fault_of, is_own_port, pass_through_faults, joined_types, IsNetworkOf, Site, place_of}
+use Rattle.fb_laws.proofs.Common.{arith, ◌≡◌, ℕ, ◌&&◌, List, [], ◌∷◌, ◌++◌, map, Option, Some, None, refl, sym, ap, subst, Contains, flat_map, slice_get, Contains-append_left, Contains-append_right, Span, DeclTree, InstanceTree, NetworkTree, ParameterTree, block_type, subapplication_type, system_configuration, TypeUse, UnitKind, Connection, End, Role, Sources, tree_at, fault_at, first_ones, stands_for, Meanings, instances_in, same_side, type_ports_of, Code, DataType, Literal, ParameterUnknown, PassThrough, PortSide, PortUnknown, SecondAdapter, SecondSource, Fault, DeclaredVariable, contains_flat_map, contains_nothing, contains_single, in_unless, origin_in_flat_map, origin_in_map, Position, Source, Destination, Target, Unknown, NotChecked, Found, connection_faults, end_span, right_side, target, application_network, net_faults_of, network_faults, tree_faults, all_parameters, instance_parameters, judged_parameters, parameter_faults, typed_parameters, value_faults, fault_at_path, repeated, all_adapter_ends, data_destinations, end_path, second_adapters, second_sources, NetworkPlace, connection_span, end_faults, fault_of, is_own_port, pass_through_faults, joined_types, IsNetworkOf, Site, place_of}
 use Rattle.fb_laws.proofs.{DeclarationRows.{misfit_origin}, Joined.{in_joined, in_where, of_either}}
 use Rattle.fb_tree.specs.declared.interface.Section.TheVariants as sections
 use Rattle.fb_tree.specs.declared.kinds.UnitKind.TheVariants as kinds
@@ -73,7 +73,7 @@ module _ (sources : Sources) (here : NetworkPlace) (n : NetworkTree) where
   end_part : (c : Connection) → Contains n.connections c → (position : Position) (end : End) (t : Target) (f : Fault) → Contains (at_source c ++ at_destination c) f → Contains (end_faults position end t) f → Contains (part f.code) f
   end_part c among position end Unknown f both h =
       moved f PortUnknown (code_of _ f (contains_single (fault_of PortUnknown end) f h)) (contains_flat_map (λ (x : Connection). at_source x ++ at_destination x) n.connections c f among both)
-  end_part c among position end NotJudged f both h = absurd (contains_nothing f h)
+  end_part c among position end NotChecked f both h = absurd (contains_nothing f h)
   end_part c among position end (Found holder port) f both h =
       moved f PortSide (code_of _ f (in_unless (same_side port.side (right_side position holder)) (fault_of PortSide end) f h).1) (contains_flat_map (λ (x : Connection). at_source x ++ at_destination x) n.connections c f among both)
 

@@ -5,7 +5,7 @@ use Rattle.fb_text.specs.declared.elementary.TypeClass.{TypeClass}
 use Rattle.fb_text.specs.declared.elementary.TypeClass.TheVariants as types
 use Rattle.fb_tree.specs.declared.interface.Section.TheVariants.{Input, Output}
 use Rattle.fb_tree.specs.declared.interface.TypeForm.TheVariants as forms
-use Rattle.fb_deploy.specs.Iface.Fields.{NotJudged}
+use Rattle.fb_deploy.specs.Iface.Fields.{NotChecked}
 use Rattle.fb_expr.specs.declared.references.Referent.TheVariants.{Unknown}
 use Rattle.fb_laws.specs.Variables.{of_adapter}
 
@@ -24,7 +24,7 @@ abbrev shown : Bool → Fields → Fields
 shown false fields = fields
 shown true fields = unless_judged fields
 
-open_shown : (on : Bool) → shown on NotJudged ≡ NotJudged
+open_shown : (on : Bool) → shown on NotChecked ≡ NotChecked
 open_shown on = grind arith
 
 none_shown : (on : Bool) → shown on NoFields ≡ NoFields
@@ -72,7 +72,7 @@ module _ (sources : Sources) (unit : List ℕ) (d : TypeTree) (declared : tree_a
   declared_fields name = cond (is_elementary name) NoFields (fields_of_tree (tree_at sources name))
 
   named_known : (name : List ℕ) → IsKnown sources unit name → fields_named names.fields name ≡ fields_named declared_fields name
-  named_known name known = ap (λ fields. cond (is_free (class_of_name name)) NotJudged fields) (known_fields sources unit name known)
+  named_known name known = ap (λ fields. cond (is_free (class_of_name name)) NotChecked fields) (known_fields sources unit name known)
 
   behind_shown : (used : TypeUse) (s on : Bool) → Shows used s on → fields_behind names.fields used.form used.name.name s ≡ shown on (fields_named names.fields used.name.name)
   behind_shown used false false (plain is) = ap (λ form. fields_behind names.fields form used.name.name false) is
@@ -99,7 +99,7 @@ module _ (sources : Sources) (unit : List ℕ) (d : TypeTree) (declared : tree_a
     no_field : (s on : Bool) → Looks used s m (member_among (shown on NoFields) m)
     no_field s on = subst (λ fields. Looks used s m (member_among fields m)) (sym (none_shown on)) is_none
 
-    not_judged : (s on : Bool) → IsOpen sources used s → Looks used s m (member_among (shown on NotJudged) m)
+    not_judged : (s on : Bool) → IsOpen sources used s → Looks used s m (member_among (shown on NotChecked) m)
     not_judged s on o = subst (λ fields. Looks used s m (member_among fields m)) (sym (open_shown on)) (is_open o)
 
     by_tree : (s on : Bool) → Shows used s on → is_elementary name ≡ false → (o : Option DeclTree) → tree_at sources name ≡ o → Looks used s m (member_among (shown on (fields_of_tree o)) m)
@@ -115,7 +115,7 @@ module _ (sources : Sources) (unit : List ℕ) (d : TypeTree) (declared : tree_a
     by_elementary : (s on : Bool) → Shows used s on → (b : Bool) → is_elementary name ≡ b → Looks used s m (member_among (shown on (cond b NoFields (fields_of_tree (tree_at sources name)))) m)
     by_elementary s on shows b e = grind (arith, no_field, by_tree)
 
-    by_free : (s on : Bool) → Shows used s on → (b : Bool) → is_free (class_of_name name) ≡ b → Looks used s m (member_among (shown on (cond b NotJudged (declared_fields name))) m)
+    by_free : (s on : Bool) → Shows used s on → (b : Bool) → is_free (class_of_name name) ≡ b → Looks used s m (member_among (shown on (cond b NotChecked (declared_fields name))) m)
     by_free s on shows true e = not_judged s on (generic on shows e)
     by_free s on shows false e = by_elementary s on shows (is_elementary name) refl
 

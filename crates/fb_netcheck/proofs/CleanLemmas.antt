@@ -7,7 +7,7 @@ use Rattle.fb_tree.specs.{declared.kinds.UnitKind.{UnitKind}, declared.kinds.Uni
 use Rattle.fb_tree.specs.{declared.network.Connection.{Connection}, declared.network.End.{End}}
 use Rattle.fb_iface.specs.{Library.View.{Sources, tree_at}, Ports.{same_side}, declared.fault.Fault.{Fault}}
 use Rattle.fb_netcheck.specs.{declared.ends.Position.{Position}, declared.ends.Position.TheVariants.{Source, Destination}, declared.ends.Target.{Target}}
-use Rattle.fb_netcheck.specs.declared.ends.Target.TheVariants.{Unknown, NotJudged, Found}
+use Rattle.fb_netcheck.specs.declared.ends.Target.TheVariants.{Unknown, NotChecked, Found}
 use Rattle.fb_netcheck.specs.{Clean.{IsCleanConnection, IsCleanEnd, IsCleanNetwork, FaultlessNetworksAreClean, PassesNothing}, Connections.{connection_faults}}
 use Rattle.fb_netcheck.specs.{Ends.{is_right, right_side, target}, Networks.{application_place, network_faults, networks_in, tree_faults}}
 use Rattle.fb_netcheck.specs.{Parameters.{all_parameters}, Paths.{repeated}}
@@ -37,7 +37,7 @@ no_fault false fault e = absurd (let no : ⊥ = cc in no)
 
 clean_end : (position : Position) (end : End) (t : Target) → end_faults position end t ≡ [] → IsCleanEnd position t
 clean_end position end Unknown e = absurd (let no : ⊥ = cc in no)
-clean_end position end NotJudged e = tt
+clean_end position end NotChecked e = tt
 clean_end position end (Found holder port) e = no_fault (same_side port.side (right_side position holder)) _ e
 
 no_pass : (b : Bool) (fault : Fault) → cond b (fault ∷ []) [] ≡ [] → b ≡ false

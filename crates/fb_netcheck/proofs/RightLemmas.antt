@@ -14,7 +14,7 @@ use Rattle.fb_iface.specs.{Scope.{instance_ports, mentioned_type, ports_of, type
 use Rattle.fb_iface.specs.{declared.fault.Fault.{Fault}, declared.ports.DeclaredInstance.{DeclaredInstance}}
 use Rattle.fb_netcheck.specs.{declared.ends.Holder.{Holder}, declared.ends.Holder.TheVariants.{Own}, declared.ends.Port.{Port}}
 use Rattle.fb_netcheck.specs.{declared.ends.Position.{Position}, declared.ends.Position.TheVariants.{Source, Destination}, declared.ends.Target.{Target}}
-use Rattle.fb_netcheck.specs.{declared.ends.Target.TheVariants.{Unknown, NotJudged, Found}, Clean.{AreRight, ConnectionsAreRight, IsCleanEnd}}
+use Rattle.fb_netcheck.specs.{declared.ends.Target.TheVariants.{Unknown, NotChecked, Found}, Clean.{AreRight, ConnectionsAreRight, IsCleanEnd}}
 use Rattle.fb_netcheck.specs.Ends.{holder_of, is_right, port_in, target_held, target_named, target_of, target_of_instance}
 use Rattle.fb_netcheck.specs.{Networks.{application_network, application_place, network_faults, networks_in, tree_faults, type_place}, Settings.{NetworkPlace}}
 use Rattle.fb_netcheck.proofs.{CleanLemmas.{clean_network, left_none, none_of_each, right_none}, Locality.{Each, instance_stands}}
@@ -40,20 +40,20 @@ each_usable sources all (x ∷ xs) among none =
       each_usable sources all xs (λ q h. among q (or_right (is_same name q) (has_name others q) h)) (right_none first rest none),
     )
 
-clean_is_right : (position : Position) (t : Target) → IsCleanEnd position t → (t ≡ NotJudged → ⊥) → is_right position t ≡ true
+clean_is_right : (position : Position) (t : Target) → IsCleanEnd position t → (t ≡ NotChecked → ⊥) → is_right position t ≡ true
 clean_is_right position Unknown fine judged = absurd fine
-clean_is_right position NotJudged fine judged = absurd (judged refl)
+clean_is_right position NotChecked fine judged = absurd (judged refl)
 clean_is_right position (Found holder port) fine judged = fine
 
-port_is_judged : (holder : Holder) (port : Option Port) → target_of holder port ≡ NotJudged → ⊥
+port_is_judged : (holder : Holder) (port : Option Port) → target_of holder port ≡ NotChecked → ⊥
 port_is_judged holder None e = let no : ⊥ = cc in no
 port_is_judged holder (Some port) e = let no : ⊥ = cc in no
 
-is_judged : (kind : UnitKind) (sort : Sort) (o : Option DeclaredInstance) (m : Option Meanings) (name : List ℕ) → ((i : DeclaredInstance) → o ≡ Some i → is_some m ≡ true) → target_of_instance kind sort o m name ≡ NotJudged → ⊥
+is_judged : (kind : UnitKind) (sort : Sort) (o : Option DeclaredInstance) (m : Option Meanings) (name : List ℕ) → ((i : DeclaredInstance) → o ≡ Some i → is_some m ≡ true) → target_of_instance kind sort o m name ≡ NotChecked → ⊥
 is_judged kind sort None m name there e = let no : ⊥ = cc in no
 is_judged kind sort (Some i) m name there e = by (holder_of kind sort i.role) m (there i refl) e
   where
-    by : (h : Option Holder) (m : Option Meanings) → is_some m ≡ true → target_held h sort m name ≡ NotJudged → ⊥
+    by : (h : Option Holder) (m : Option Meanings) → is_some m ≡ true → target_held h sort m name ≡ NotChecked → ⊥
     by None m there e = let no : ⊥ = cc in no
     by (Some holder) None there e = let no : ⊥ = cc in no
     by (Some holder) (Some m) there e = port_is_judged holder (port_in sort m name) e
@@ -66,7 +66,7 @@ module _ (sources : Sources) (here : NetworkPlace) (n : NetworkTree) (own : here
       ∙ (λ k. is_some (types k i.role i.type_name.name))
       ∙ instance_stands P n (each_usable sources n.instances n.instances (λ q h. h) none) name i (ap (λ l. stands_for l name) (sym own) ∙ e)
 
-  end_is_judged : (sort : Sort) (name : List ℕ) (port : Option NameUse) → target_named here sort name port ≡ NotJudged → ⊥
+  end_is_judged : (sort : Sort) (name : List ℕ) (port : Option NameUse) → target_named here sort name port ≡ NotChecked → ⊥
   end_is_judged sort name None e = port_is_judged Own (port_in sort here.scope.own name) e
   end_is_judged sort name (Some port) e = is_judged here.kind sort (stands_for here.scope.own.instances name) (ports_of here.scope name) port.name (ports_there name) e
 

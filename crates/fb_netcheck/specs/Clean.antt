@@ -4,14 +4,14 @@ use Rattle.fb_tree.specs.{Tree.{NetworkTree}, declared.interface.TypeUse.{TypeUs
 use Rattle.fb_tree.specs.{declared.kinds.UnitKind.TheVariants.{Subapplication}, declared.network.Connection.{Connection}}
 use Rattle.fb_iface.specs.{Library.View.{Sources, tree_at}, Declarations.{iface_faults_of}, Ports.{same_side}}
 use Rattle.fb_netcheck.specs.{declared.ends.Position.{Position}, declared.ends.Position.TheVariants.{Source, Destination}, declared.ends.Target.{Target}}
-use Rattle.fb_netcheck.specs.{declared.ends.Target.TheVariants.{Unknown, NotJudged, Found}, Ends.{is_right, right_side, target}}
+use Rattle.fb_netcheck.specs.{declared.ends.Target.TheVariants.{Unknown, NotChecked, Found}, Ends.{is_right, right_side, target}}
 use Rattle.fb_netcheck.specs.{Networks.{net_faults_of, networks_in}, Paths.{repeated}, Repeats.{all_adapter_ends, data_destinations, end_path}}
 use Rattle.fb_netcheck.specs.{Settings.{NetworkPlace}, Sides.{is_own_port}, Types.{same_at_ends, targets_agree}}
 
 -- an end names a port of the right side, or one of a type that is not usable
 abbrev pub IsCleanEnd : Position → Target → Type 0
 IsCleanEnd position Unknown = ⊥
-IsCleanEnd position NotJudged = Unit {0}
+IsCleanEnd position NotChecked = Unit {0}
 IsCleanEnd position (Found holder port) = same_side port.side (right_side position holder) ≡ true
 
 -- in a subapplication, these are not two own ports of the right sides

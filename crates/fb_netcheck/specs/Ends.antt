@@ -12,7 +12,7 @@ use Rattle.fb_iface.specs.{declared.ports.DeclaredVariable.{DeclaredVariable}, N
 use Rattle.fb_netcheck.specs.declared.ends.Flow.TheVariants as flows
 use Rattle.fb_netcheck.specs.{declared.ends.Holder.{Holder}, declared.ends.Holder.TheVariants.{Own, OfInstance, OfPlug, OfSocket}, declared.ends.Port.{Port}}
 use Rattle.fb_netcheck.specs.{declared.ends.Position.{Position}, declared.ends.Position.TheVariants.{Source, Destination}, declared.ends.Target.{Target}}
-use Rattle.fb_netcheck.specs.{Settings.{NetworkPlace}, declared.ends.Target.TheVariants.{Unknown, NotJudged, Found}}
+use Rattle.fb_netcheck.specs.{Settings.{NetworkPlace}, declared.ends.Target.TheVariants.{Unknown, NotChecked, Found}}
 
 -- The side of the port at an end, by whose port it is. What comes in at an own input, or through a plug, is a source inside.
 -- Among adapters a socket is an input and a plug an output.
@@ -70,7 +70,7 @@ target_of holder (Some port) = Found holder port
 
 -- a port of a type; what rests on a type that is not usable is not checked
 abbrev pub target_in : Holder → Sort → Option Meanings → List ℕ → Target
-target_in holder sort None name = NotJudged
+target_in holder sort None name = NotChecked
 target_in holder sort (Some m) name = target_of holder (port_in sort m name)
 
 abbrev pub target_held : Option Holder → Sort → Option Meanings → List ℕ → Target
@@ -92,7 +92,7 @@ target here sort end = target_named here sort end.name.name end.port
 -- whether it is a port of the right side
 abbrev pub is_right : Position → Target → Bool
 is_right position Unknown = false
-is_right position NotJudged = false
+is_right position NotChecked = false
 is_right position (Found holder port) = same_side port.side (right_side position holder)
 
 -- the name after the point, or else the one before it

@@ -7,7 +7,7 @@ use Rattle.fb_iface.specs.{Ports.{same_side}, declared.code.Code.{Code}, declare
 use Rattle.fb_iface.specs.declared.fault.Fault.{Fault}
 use Rattle.fb_netcheck.specs.{declared.ends.Holder.{Holder}, declared.ends.Holder.TheVariants.{Own, OfInstance, OfPlug, OfSocket}}
 use Rattle.fb_netcheck.specs.{declared.ends.Position.{Position}, declared.ends.Position.TheVariants.{Source, Destination}, declared.ends.Target.{Target}}
-use Rattle.fb_netcheck.specs.{declared.ends.Target.TheVariants.{Unknown, NotJudged, Found}, Ends.{end_span, right_side}}
+use Rattle.fb_netcheck.specs.{declared.ends.Target.TheVariants.{Unknown, NotChecked, Found}, Ends.{end_span, right_side}}
 
 -- a fault at an end
 abbrev pub fault_of : Code → End → Fault
@@ -16,7 +16,7 @@ fault_of code end = record { code = code; span = end_span end }
 -- an end names a port, and one of the right side
 abbrev pub end_faults : Position → End → Target → List Fault
 end_faults position end Unknown = fault_of PortUnknown end ∷ []
-end_faults position end NotJudged = []
+end_faults position end NotChecked = []
 end_faults position end (Found holder port) = if same_side port.side (right_side position holder) then [] else fault_of PortSide end ∷ []
 
 -- from the start of the source through the destination
@@ -32,7 +32,7 @@ is_own OfSocket = false
 -- whether an end names an own port of the right side
 abbrev pub is_own_port : Position → Target → Bool
 is_own_port position Unknown = false
-is_own_port position NotJudged = false
+is_own_port position NotChecked = false
 is_own_port position (Found holder port) = is_own holder && same_side port.side (right_side position holder)
 
 -- a connection of a subapplication does not join two of its own ports

@@ -46,7 +46,7 @@ pub enum Target {
     /// No port of the connection's sort.
     Unknown,
     /// A port of a type that is absent, broken or of the wrong kind.
-    NotJudged,
+    NotChecked,
     Found(Holder, Port),
 }
 
@@ -67,7 +67,7 @@ pub fn is_right_target(position: Position, target: &Target) -> bool
     ensures { result ≡ is_right position target.now }
 {
     match target {
-        Target::Unknown | Target::NotJudged => false,
+        Target::Unknown | Target::NotChecked => false,
         Target::Found(holder, port) => is_same_side(port.side, side_at(position, *holder)),
     }
 }
@@ -142,7 +142,7 @@ fn target_at_type(holder: Holder, sort: Sort, ports: Option<&Ports>, name: &Name
     ensures { result ≡ target_in holder sort (option_map (λ p. p.now) ports.entry) name.now }
 {
     match ports {
-        None => Target::NotJudged,
+        None => Target::NotChecked,
         Some(ports) => found(holder, port_by_name(sort, ports, name)),
     }
 }

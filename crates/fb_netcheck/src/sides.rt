@@ -20,7 +20,7 @@ pub fn report_end(
 {
     match target {
         Target::Unknown => found.push(fault_at(Code::PortUnknown, end))?,
-        Target::NotJudged => {}
+        Target::NotChecked => {}
         Target::Found(_, _) => {
             if !is_right_target(position, target) {
                 found.push(fault_at(Code::PortSide, end))?;
@@ -72,7 +72,7 @@ fn is_own_target(position: Position, target: &Target) -> bool
     ensures { result ≡ is_own_port position target.now }
 {
     match target {
-        Target::Unknown | Target::NotJudged => false,
+        Target::Unknown | Target::NotChecked => false,
         Target::Found(holder, _) => is_own_holder(*holder) && is_right_target(position, target),
     }
 }

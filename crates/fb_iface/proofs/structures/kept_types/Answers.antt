@@ -3,7 +3,7 @@ use Rattle.std.specs.{Cmp.Lexicographic.{pointwise}, HashMap.{get}}
 use Rattle.fb_library.specs.View.{tree_at}
 use Rattle.fb_iface.specs.{Fields.{fields_among, fields_of_tree}, CachedFields.{kept_fields}}
 use Rattle.fb_iface.proofs.FieldLemmas.{kept-more, none-more}
-use Rattle.fb_iface.proofs.structures.kept_types.Goals.{in-Some+in_ok-insert+in-Some+in-Known-1, in-Some+in_ok-insert+in-Some+in-NotJudged-1, in-Some+in_ok-insert+in-None-1, in_default}
+use Rattle.fb_iface.proofs.structures.kept_types.Goals.{in-Some+in_ok-insert+in-Some+in-Known-1, in-Some+in_ok-insert+in-Some+in-NotChecked-1, in-Some+in_ok-insert+in-None-1, in_default}
 use Rattle.fb_iface.proofs.structures.kept_types.Goals as goal
 
 pub loop-name-preserved : goal.loop-name-preserved
@@ -21,7 +21,7 @@ loop-name-preserved g c =
       | in-Some+in_ok-insert+in-Some+in-Known-1 w ↦
           ap (λ t. kept_fields (get (pointwise nat_eq) t q)) w.types-is
           ∙ kept-more sources (take i names) x q (old q) w.in-Some.kept (get (pointwise nat_eq) w.insert.new.self q) (ap kept_fields (sym w.in-Some.is) ∙ known) (c.loop-name.invariant q) (w.in_ok-insert.ensures.updates.0 q)
-      | in-Some+in_ok-insert+in-Some+in-NotJudged-1 w ↦
+      | in-Some+in_ok-insert+in-Some+in-NotChecked-1 w ↦
           ap (λ t. kept_fields (get (pointwise nat_eq) t q)) w.types-is
           ∙ kept-more sources (take i names) x q (old q) w.in-Some.kept (get (pointwise nat_eq) w.insert.new.self q) (ap kept_fields (sym w.in-Some.is) ∙ known) (c.loop-name.invariant q) (w.in_ok-insert.ensures.updates.0 q)
       | in-Some+in_ok-insert+in-None-1 w ↦
