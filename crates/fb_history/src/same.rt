@@ -4,8 +4,7 @@ ghost use Rattle.fb_history.specs.Records.{wanted_job, text_edit, text_edits, ca
 
 use crate::answers::{Committed, Delivered, GivenBack};
 use crate::record::{Call, Reply, TextChange, Wanted};
-use fb_jobs::{Key, is_same_value};
-use fb_text::{Name, same_name};
+use fb_jobs::{Key, is_one_name, is_same_value};
 
 /// The same call.
 pub(crate) fn is_same_call(a: &Call, b: &Call) -> bool
@@ -39,12 +38,6 @@ pub(crate) fn is_same_reply(a: &Reply, b: &Reply) -> bool
         (Reply::NoSuchKey, Reply::NoSuchKey) => true,
         _ => false,
     }
-}
-
-fn is_one_name(a: &Name, b: &Name) -> bool
-    ensures { IsTrue result ↔ (a.now ≡ b.now) }
-{
-    same_name(a, b)
 }
 
 fn is_one_key(a: &Key, b: &Key) -> bool

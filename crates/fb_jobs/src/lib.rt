@@ -30,7 +30,7 @@ pub use laws::{
 pub use read::{Read, has_key};
 pub use reads::needed;
 pub use result::Finished;
-pub use same::is_same_value;
+pub use same::{is_one_name, is_same_value};
 pub use texts::{TextRead, TextReads};
 pub use value::Value;
 

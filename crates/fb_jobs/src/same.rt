@@ -11,7 +11,8 @@ use fb_deploy::{Deploy, Plan};
 use fb_text::{Name, same_name};
 use std::sync::Arc;
 
-fn is_one_name(a: &Name, b: &Name) -> bool
+/// Whether two names are one, by content.
+pub fn is_one_name(a: &Name, b: &Name) -> bool
     ensures { IsTrue result ↔ (a.now ≡ b.now) }
 {
     same_name(a, b)
