@@ -57,8 +57,8 @@ MayReturn seat key (Err refused) old seat' new = IsRefusalOf seat refused × (ne
 
 -- ---- laws
 
--- Behind a roll the state is the one before it, as are numbers and books; there is no record; and a seat against which nothing but a full history
--- was is one against which nothing is.
+-- After such a checkpoint the state, the numbers and the callers' turns are as before, and there is no record; a seat whose call only a full history
+-- refused is no longer refused.
 pub record IsRollUnseen (limits : Bounds) (locked : LockedView) : Type 0 where
   pub state : state_of (locked_rolled limits locked).bench ≡ state_of locked.bench
   pub last : last_number (locked_rolled limits locked).bench ≡ last_number locked.bench
