@@ -22,7 +22,7 @@ abbrev pub AreApplications : List ApplicationTree → (List ℕ → Option Insta
 AreApplications applications table =
     (name : List ℕ) → option_map instance_at (table name) ≡ instances_called applications name
 
--- what there is under the name of a unit is a table of its instances
+-- each table under the name of a unit is one of that unit's instances
 abbrev pub AreUnits : Sources → (List ℕ → Option Instances) → Type 0
 AreUnits sources units =
     (unit : List ℕ) (table : Instances) → units unit ≡ Some table

@@ -41,7 +41,7 @@ type_class_of word =
     else if is_generic_type word then class.Free
     else class.Other
 
--- it is the class of nothing but elementary and generic types
+-- only elementary and generic types have the class
 abbrev pub has_own_class : TypeClass → Bool
 has_own_class class.Truth = true
 has_own_class class.Integer = true
