@@ -40,7 +40,7 @@ fn plan_flat<V: View>(
     }
 }
 
-/// The names once more.
+/// A copy of the names.
 fn copied(alloc: Global, names: &[Name]) -> Result<Vec<Name>, AllocError>
     ensures { IfOk result (λ copy. copy.items ≡ names.now) }
 {

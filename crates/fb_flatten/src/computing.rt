@@ -33,7 +33,7 @@ fn alone(alloc: Global, net: Net) -> Computed
     }
 }
 
-/// The net of a unit, where the nets of some units are kept and some units are known to be there without faults, and nets of units that it
+/// The net of a unit, if the nets of some units are kept and some units are known to be present and without faults, and nets of units that it
 /// rests on. Nothing is checked or composed of what a unit rests on whose kept net is flat or too large.
 pub fn compute<V: View, K: Hints + KnownFaultless>(
     alloc: Global,

@@ -158,7 +158,7 @@ fn plan_work<V: View>(
     })
 }
 
-/// The key's value, computed afresh, but for what is known already.
+/// The key's value, computed from scratch except for what is known already.
 pub(crate) fn work_of<V: View>(
     alloc: Global,
     view: &V,

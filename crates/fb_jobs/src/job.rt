@@ -34,7 +34,7 @@ pub struct Job {
     reads: Arc<Vec<Read>>,
     texts: Arc<TextReads>,
     cached: Cached,
-    // a value that the key had once, with the reads that gave it, to be shared where it comes out again
+    // a value that the key had once, with the reads that gave it, to be shared by a result that equals it
     previous: Option<Derivation>,
 }
 

@@ -112,7 +112,7 @@ impl TextReads {
     }
 }
 
-/// How many of these there are not.
+/// How many of these are absent.
 fn absent_count(versions: &[Option<Arc<Version>>]) -> usize
     ensures { result ≡ count_by is_none versions.now }
 {

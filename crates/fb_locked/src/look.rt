@@ -15,13 +15,13 @@ use fb_bench::library::Change;
 pub enum WorkEnd {
     /// All its turns are used. A turn of a worker is one look for a job.
     TurnsOver,
-    /// The workers are to stop.
+    /// The workers must stop.
     Stopped,
     /// Its seat's number of calls is not that of its caller's book.
     SeatDiffers { turns: u64, book: u64 },
     /// Its seat has seen a number beyond that of the last call, which is `len`.
     Behind { seen: u64, len: u64 },
-    /// As many calls are recorded as the limits allow.
+    /// The history has the number of calls that the limits allow.
     HistoryFull,
     Memory,
 }

@@ -49,7 +49,7 @@ impl Locked {
         }
     }
 
-    /// Whether the key is handed out, and no record since the start that is behind this number hands it out.
+    /// Whether the key is handed out, and no record since the start that is after this number hands it out.
     pub fn is_out_since(&self, key: &Key, since: u64) -> bool
         ensures { IsTrue result ↔ IsOutSince self.now.bench key.now since }
     {

@@ -49,7 +49,7 @@ pub struct BinaryUse {
 /// An expression.
 pub enum Expr {
     Literal(Literal),
-    /// A variable that is a name alone. Most are.
+    /// A variable that is only a name. Most are.
     Name(NameUse),
     /// Any other variable, with its subscripts.
     Reference(Box<Reference>, Vec<Expr>),

@@ -48,7 +48,7 @@ pub enum TypeForm {
     Array,
 }
 
-/// A type at the place where it is used. If it is an array, the name is that of the elements.
+/// A type at the place of its use. If it is an array, the name is that of the elements.
 #[derive(Debug)]
 pub struct TypeUse {
     pub name: NameUse,

@@ -60,7 +60,7 @@ fn values(alloc: Global, decl: &Decl) -> Result<Vec<Name>, AllocError>
     sorted_names(alloc, names.as_slice())
 }
 
-/// The same in the order of the text.
+/// The names of the types of all variables or fields, elementary ones apart, in the order of the text.
 #[tactic(auto, using(crate::proofs::MentionLemmas::types_of_variables))]
 fn declared_types(alloc: Global, decl: &Decl) -> Result<Vec<Name>, AllocError>
     ensures { IfOk result (λ names. names.items

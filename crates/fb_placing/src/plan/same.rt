@@ -17,7 +17,7 @@ pub(crate) struct Subject<'a> {
     pub writes: &'a [Command],
 }
 
-/// The order of the paths at which two links begin, each of a flat network of its own.
+/// The order of the paths at which two links begin, each of its own flat network.
 fn compare_froms(flat: &Flat, a: u32, other: &Flat, b: u32) -> Ordering
     ensures { result
         ≡ name_cmp (link_numbered flat.now a).from (link_numbered other.now b).from }
@@ -27,7 +27,7 @@ fn compare_froms(flat: &Flat, a: u32, other: &Flat, b: u32) -> Ordering
     compare_parts(start, end, other_start, other_end)
 }
 
-/// The order of the paths at which two links end, each of a flat network of its own.
+/// The order of the paths at which two links end, each of its own flat network.
 fn compare_tos(flat: &Flat, a: u32, other: &Flat, b: u32) -> Ordering
     ensures { result ≡ name_cmp (link_numbered flat.now a).to (link_numbered other.now b).to }
 {
@@ -36,7 +36,7 @@ fn compare_tos(flat: &Flat, a: u32, other: &Flat, b: u32) -> Ordering
     compare_parts(start, end, other_start, other_end)
 }
 
-/// The order of two links, each of a flat network of its own.
+/// The order of two links, each of its own flat network.
 fn compare_links(flat: &Flat, a: u32, other: &Flat, b: u32) -> Ordering
     ensures { result ≡ link_cmp (link_numbered flat.now a) (link_numbered other.now b) }
 {
@@ -45,14 +45,14 @@ fn compare_links(flat: &Flat, a: u32, other: &Flat, b: u32) -> Ordering
     froms.then_with(|| compare_tos(flat, a, other, b))
 }
 
-/// The same link, each of a flat network of its own.
+/// The same link, each of its own flat network.
 fn is_same_link(flat: &Flat, a: u32, other: &Flat, b: u32) -> bool
     ensures { IsTrue result ↔ (link_numbered flat.now a ≡ link_numbered other.now b) }
 {
     compare_links(flat, a, other, b).is_eq()
 }
 
-/// The same links, each list of a flat network of its own.
+/// The same links, each list of its own flat network.
 pub(crate) fn are_same_links(flat: &Flat, a: &[u32], other: &Flat, b: &[u32]) -> bool
     ensures { IsTrue result
         ↔ (map (link_numbered flat.now) a.now ≡ map (link_numbered other.now) b.now) }
