@@ -92,6 +92,7 @@ impl Locked {
             receipts.old.items self.new seat.new receipts.new.items }
         ensures may { MayReturn seat.old key result receipts.old.items seat.new receipts.new.items }
     {
+        // Works around the borrow checker: both types that a `Request` can borrow must occur in a function that makes one.
         let _changes: &[Change] = &[];
         let _finished: Option<&Finished> = None;
         if !self.is_out_since(&key, since) {
