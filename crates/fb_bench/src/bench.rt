@@ -319,6 +319,7 @@ impl Bench {
         ensures job { IfOk result (λ made. OfTake (Some made.0) ≡ reply_at self.now ToTake) }
         ensures answer { IfOk result (λ made. reply_of made.1 ≡ reply_at self.now ToTake) }
     {
+        // For the proof: the key is named before the call gets it.
         let wanted = key;
         let job = Job::for_kept(self.alloc, &self.library, wanted, &self.entries)?;
         let answer = reply_of_job(self.alloc, &job)?;

@@ -91,7 +91,7 @@ fn order_of<V: View>(
     inner_first(alloc, view, unit)
 }
 
-/// The same if nothing blocks the unit, and what is left to look at is in an order with inner types first.
+/// The net of a unit that nothing blocks, with the nets that are found on the way. What must still be read is in an order with inner types first.
 fn compute_in_order<V: View, H: Hints>(
     alloc: Global,
     view: &V,

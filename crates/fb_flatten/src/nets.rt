@@ -21,7 +21,7 @@ pub fn net<V: View>(alloc: Global, view: &V, unit: Name) -> Result<Net, AllocErr
     net_with(alloc, view, unit, &NoHints)
 }
 
-/// The same, if the nets of some units are kept. What a unit rests on whose kept net is flat or too large is neither
+/// As `net`, if the nets of some units are kept. What a unit rests on whose kept net is flat or too large is neither
 /// checked nor composed.
 pub fn net_with<V: View, H: Hints>(
     alloc: Global,

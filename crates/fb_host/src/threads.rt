@@ -240,6 +240,7 @@ fn run_worker<R: Wait + Clock>(
             WorkEnd::Stopped | WorkEnd::SeatDiffers { .. } | WorkEnd::Behind { .. } => return state,
         }
     }
+    // `forever` never ends.
     unreachable!()
 }
 
@@ -262,6 +263,7 @@ fn run_sessions<R: Wait, E: Write>(
         give_back_all(rt, &host.shared, &host.receipts, &mut state);
         host.seats.add_idle(rt);
     }
+    // `forever` never ends.
     unreachable!()
 }
 

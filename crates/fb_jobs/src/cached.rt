@@ -253,7 +253,7 @@ pub(crate) fn faultless_of<K: Cache>(
     Ok(flags)
 }
 
-/// The same, but for a new key whose own net is known, which has no use for it.
+/// Of each read, by its place, whether its unit is known to be present and without faults; nothing for a new key whose own net is known: it needs none of this.
 fn faultless_unless<K: Cache>(
     alloc: Global,
     kept: &K,

@@ -119,6 +119,7 @@ pub(crate) fn reads_of(
 ) -> Result<(Vec<Read>, TextReads), AllocError>
     ensures { IfOk result (λ made. AreReads library.now key made.0.items made.1) }
 {
+    // For the proof: the key is named before the call gets it.
     let wanted = key;
     match reads_as_before(alloc, library, wanted, previous)? {
         Some(made) => Ok(made),

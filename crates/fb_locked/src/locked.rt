@@ -111,7 +111,7 @@ impl Locked {
         ensures begins { IsOrigin self.now.bench.origin }
         ensures replayed { IsReplay self.now.bench }
     {
-        // That each recorded answer is the machine's, from a start that a workbench may have.
+        // For the proof: each recorded answer is the machine's, from a start that a workbench may have.
         self.bench.start();
         self.bench.len();
         let turns = seat.turns();

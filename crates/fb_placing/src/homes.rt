@@ -121,7 +121,7 @@ fn homeless(alloc: Global, table: &PathTable, blocks: &[FlatBlock]) -> Result<Ve
     Ok(paths)
 }
 
-/// The same of a flat network whose blocks have this number of homes. If each has one, no home is looked up.
+/// The paths of blocks without a home, in a flat network whose blocks have this number of homes. If each has one, no home is looked up.
 fn homeless_blocks(
     alloc: Global,
     table: &PathTable,
