@@ -53,7 +53,7 @@ is_at_adapter (Some instance) = is_adapter instance.role
 abbrev pub variable_named : Scope → List ℕ → Bool → Referent
 variable_named scope name subscripted = own_referent (stands_for scope.own.variables name) subscripted
 
--- `p.X` is data of the type of an own plug or socket p
+-- `p.X` is data of the type of a plug or socket p of the unit
 abbrev pub port_named : Scope → List ℕ → Member → Referent
 port_named scope name m = port_referent (ports_of scope name) m.name.name (is_some_count m.subscripts)
 
@@ -97,7 +97,7 @@ abbrev pub walk : Names → Referent → List Member → Referent
 walk names base [] = base
 walk names base (m ∷ ms) = walk names (step names base m) ms
 
--- whether a name, with this number of subscripts after it and a further name after these, is that of an own plug or socket
+-- whether a name, with this number of subscripts after it and a further name after these, is that of a plug or socket of the unit
 abbrev pub is_before_port : Scope → List ℕ → ℕ → Bool
 is_before_port scope name count = not (is_some_count count) && is_at_adapter (stands_for scope.own.instances name)
 

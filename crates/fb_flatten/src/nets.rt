@@ -1,5 +1,5 @@
 //! The nets of units, without those that are found on the way.
-//! Composition follows parts, blocking follows mentions of both sorts: so there are two searches for an order. The call has a file of its own, since
+//! Composition follows parts, blocking follows mentions of both sorts: so there are two searches for an order. The call has its own file, since
 //! Rattle makes a module for each file and item, and `net` would meet the type `Net` there.
 ghost use Rattle.std.specs.Prelude.{◌≡◌, IfOk, Some};
 ghost use Rattle.fb_types.specs.Units.{HasNet};

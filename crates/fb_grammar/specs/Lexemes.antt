@@ -11,7 +11,7 @@ use Rattle.fb_grammar.specs.declared.kind.Kind.{Kind}
 use Rattle.fb_grammar.specs.declared.kind.Kind.TheVariants.{NameIn, NameOn, NameSt, Name, Zero, One, Number, RealNumber, TypedTruth, TypedInteger, TypedBits, TypedFree, TypedOther, Text, Other}
 use Rattle.fb_grammar.specs.{declared.lexeme.Lexeme.{Lexeme}, ReservedWords.{keyword, symbol}}
 
--- a name of at most 64 bytes, with kinds of its own for those spelled IN, ON and ST in any case; no name if the word is longer
+-- a name of at most 64 bytes; IN, ON and ST in any case have their own kinds; a longer word is no name
 unfoldable pub name_kind : List ℕ → Kind
 name_kind word =
     if nat_lt 64 (length word) then Other

@@ -64,7 +64,7 @@ mentioned_at sources unit = mentions_of_tree (tree_at sources unit)
 abbrev pub parts_at : Sources → List ℕ → List (List ℕ)
 parts_at sources unit = parts_in (tree_at sources unit)
 
--- the types of its variables or fields, elementary ones apart
+-- the types of its variables or fields, except elementary ones
 abbrev pub values_at : Sources → List ℕ → List (List ℕ)
 values_at sources unit = values_in (tree_at sources unit)
 

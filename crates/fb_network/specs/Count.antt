@@ -1,4 +1,4 @@
--- The number of instances of a network, of all depths, as far as it is looked at.
+-- The number of instances of a network, of all depths, up to one past the limit.
 use Rattle.std.specs.Prelude.{ℕ, ◌≡◌, ◌+◌, List, length, min}
 use Rattle.fb_network.specs.{declared.network.Instance.{Instance}, declared.count.TheConstants.{INSTANCE_LIMIT}, Network.{View}, Instances.{Held, AreInstances}}
 

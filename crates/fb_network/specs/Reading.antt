@@ -34,7 +34,7 @@ Grows old new = (more : List PlainPrefix) × (new ≡ old ++ more)
 abbrev pub border_within : List ℕ → Border → Border
 border_within name b = record { sort = b.sort; port = b.port; place = dotted name b.place }
 
--- the draft has taken in what the instance of that name holds; these are the instance's borders
+-- the draft also has what the instance of that name holds; these are the instance's borders
 pub record TakesIn (old new : Draft) (name : List ℕ) (inner : PlainFlat) (edges : List Edge) : Type 0 where
   pub grows : Grows old.prefixes.items new.prefixes.items
   pub blocks :

@@ -45,7 +45,7 @@ inner_borders_of_kind Subapplication nets name type = borders_of name (nets type
 abbrev pub inner_borders : Nets → Instance → List Border
 inner_borders nets i = inner_borders_of_kind i.kind nets i.name i.type_name
 
--- the draft has taken in the instance, which has these borders
+-- the draft also has what the instance holds; these are the instance's borders
 pub record TakesInstance (nets : Nets) (old new : Draft) (i : Instance) (edges : List Edge) : Type 0 where
   pub grows : Grows old.prefixes.items new.prefixes.items
   pub blocks :

@@ -15,7 +15,7 @@ abbrev pub signed_form : LiteralForm → LiteralForm
 signed_form Bit = Whole
 signed_form form = form
 
--- a number with its sign, which the span takes in
+-- a number with its sign, which the span includes
 abbrev pub number_with : Option Lexeme → Lexeme → Literal
 number_with None token = literal_use token
 number_with (Some sign) token = record { form = signed_form (literal_form token.kind); span = across sign.span token.span }

@@ -58,7 +58,7 @@ pub enum Expr {
     Pair(Box<(Expr, BinaryUse, Expr)>),
     /// An operand, and two or more operators of one strength that follow it, each with its operand.
     Row(Box<Expr>, Vec<(BinaryUse, Expr)>),
-    /// In parentheses, which the span takes in.
+    /// In parentheses, which the span includes.
     Parentheses(Box<Expr>, Place),
 }
 

@@ -3,7 +3,7 @@
 use crate::constant::Constant;
 use fb_text::{NameUse, Place};
 
-/// Whether an event comes in or goes out.
+/// Whether an event is an event input or an event output.
 #[derive(Clone, Copy, Debug, PartialEq, Eq)]
 pub enum Side {
     Input,

@@ -53,7 +53,7 @@ AllCounted sources counts names =
 abbrev pub SameOthers : {X : Type 0} → (List ℕ → Option X) → (List ℕ → Option X) → List ℕ → Type 0
 SameOthers old new name = (other : List ℕ) → other ≢ name → new other ≡ old other
 
--- the number of instances of a unit, of all depths, as far as it is looked at
+-- the number of instances of a unit, of all depths, up to one past the limit
 pub record IsUnitCount (sources : Sources) (unit : List ℕ) (count : ℕ) : Type 0 where
   pub held : List Held
   pub holds : Holds sources unit held
@@ -79,7 +79,7 @@ pub record IsComposed (table : View) (nets : Nets) (name : List ℕ) (flat : Pla
   pub there : table name ≡ Some network
   pub whole : IsFlatInWhole table network nets flat
 
--- a flat network that is composed so is under the name
+-- under the name there is a flat network that is composed so
 pub record IsAdded (table : View) (nets new : Nets) (name : List ℕ) : Type 0 where
   pub flat : PlainFlat
   pub found : new name ≡ Some flat
