@@ -12,10 +12,10 @@ abbrev pub Gives : {X A : Type 0} → (X → A) → Result X Stop → List Lexem
 Gives view (Ok x) rest outcome = outcome ≡ Ok (view x, rest)
 Gives view (Err stop) rest outcome = Fails stop rest outcome
 
--- What was returned, several values each as view sees it, and the tokens that are left are what reading gives, unless memory ran out.
+-- As `Gives`, for several values, each as view sees it.
 abbrev pub GivesEach : {X A : Type 0} → (X → A) → Result (Vec X Global) Stop → List Lexeme → Outcome (List A) → Type 0
 GivesEach view result rest outcome = Gives (λ values. map view values.items) result rest outcome
 
--- If no value is kept, the tokens that are left are those that reading leaves, unless memory ran out.
+-- As `Gives`, if no value is kept.
 abbrev pub Passes : Result (Unit {0}) Stop → List Lexeme → Outcome (Unit {0}) → Type 0
 Passes result rest outcome = Gives (λ nothing. tt) result rest outcome

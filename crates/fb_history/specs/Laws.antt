@@ -60,6 +60,6 @@ RefusalsStay state = (call : Call) → is_refusal (reply state call) ≡ true �
 abbrev pub ReachAlike : List (List ℕ) → Texts → Texts → Type 0
 ReachAlike changed texts others = (key : Key) → reaches changed texts key ≡ reaches changed others key
 
--- and so in all texts that differ from these only under the changed names
+-- the changed names reach the same keys in any two texts that differ only under these names
 abbrev pub ReachAnywhere : List (List ℕ) → Type 0
 ReachAnywhere changed = (texts others : Texts) → AgreeApartFrom changed texts others → ReachAlike changed texts others

@@ -239,7 +239,7 @@ fn make_room<V: Drop, E: Entries<V>>(
     Ok(shelf_for(shelves.as_slice(), name))
 }
 
-/// Ensures that there is a shelf for the name. Now `at` is the index of that shelf, or the number of the shelves if there is none.
+/// Ensures that there is a shelf for the name; before, `at` is the index of that shelf, or the number of the shelves if there is none.
 fn widen<V: Drop, E: Entries<V>>(
     shelves: &mut Vec<Shelf<E>>,
     at: usize,

@@ -114,7 +114,7 @@ IsFirstFault callers bench seats receipts (ReceiptTwice number) =
     AreSeated callers bench seats × AreSeatsRight bench seats × ((k : ℕ) × IsFirstTwice bench receipts k number)
 IsFirstFault callers bench seats receipts Memory = AgreesWith callers bench seats receipts
 
--- all seats and receipts are right, and these are the counts; or this is the first fault of them
+-- all seats and receipts are right, and these are the counts; or this is the first fault
 abbrev pub ChecksAll : ℕ → BenchView → List SeatView → List ReceiptView → Result (BTreeMap ℕ ℕ) CloseError → Type 0
 ChecksAll callers bench seats receipts (Ok counts) = AgreesWith callers bench seats receipts × IsBookOf counts callers bench
 ChecksAll callers bench seats receipts (Err fault) = IsFirstFault callers bench seats receipts fault

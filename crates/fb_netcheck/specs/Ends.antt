@@ -26,7 +26,7 @@ right_side Destination OfPlug = Output
 right_side Source OfSocket = Output
 right_side Destination OfSocket = Input
 
--- Whose port `I.X` is. Only the events and data of a block type can reach the ports of its own plugs and sockets.
+-- Whose port `I.X` is. Only event and data connections of a block type reach the ports of its own plugs and sockets.
 abbrev pub holder_of : UnitKind → Sort → Role → Option Holder
 holder_of kind sort roles.Block = Some OfInstance
 holder_of kind sort roles.Subapplication = Some OfInstance
