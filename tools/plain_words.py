@@ -1,7 +1,7 @@
 """Words and phrases that hand-written documents do without, each with a plainer one.
 
 tools/plain_words.py FILE..     prints what it finds in these files; the status is 1 if it finds anything
-tools/plain_words.py --crates   the same of the `//!` and `///` lines of all crates
+tools/plain_words.py --crates   the same of the `//!` and `///` lines of all crates, and of the comments of their specs
 
 tools/check-docs asks for the pages of PAGES and those of wrong bodies, and for the lines of crates if READS_CRATES is set. Code, quoted output, the targets
 of links and what tools make are not read. A page is added to PAGES once it has none of these words."""
@@ -10,6 +10,8 @@ import os
 import re
 import sys
 
+TOP = os.path.dirname(os.path.dirname(os.path.abspath(__file__)))
+COMMENTS = {"src/**/*.rt": re.compile(r"^\s*//[/!] ?(.*)$"), "specs/**/*.antt": re.compile(r"(?:^|\s)--+ (.*)$")}
 READS_CRATES = False
 PAGES = {
     "README.md",
@@ -105,23 +107,24 @@ def faults(page, text):
 
 
 def lines_of_crates():
-    """The `//!` and `///` lines of the code of each crate, by file, with blanks in the place of all other lines."""
-    top = os.path.dirname(os.path.dirname(os.path.abspath(__file__)))
-    for path in sorted(glob.glob(f"{top}/crates/*/src/**/*.rt", recursive=True)):
-        with open(path, encoding="utf-8") as it:
-            yield os.path.relpath(path, top), "\n".join((re.findall(r"^\s*//[/!] ?(.*)$", line) or [""])[0] for line in it.read().split("\n"))
+    """The comments of the code and of the specs of each crate, by file, with blanks in the place of all else."""
+    for files, comment in COMMENTS.items():
+        for path in sorted(glob.glob(f"{TOP}/crates/*/{files}", recursive=True)):
+            with open(path, encoding="utf-8") as it:
+                yield os.path.relpath(path, TOP), "\n".join((comment.findall(line) or [""])[0] for line in it.read().split("\n"))
 
 
 def faults_of_crates():
-    """What check-docs prints of the lines of crates."""
+    """What check-docs prints of the comments of crates."""
     return [words for path, text in lines_of_crates() for _, words in sorted(found_in(path, text))]
 
 
 def main(paths):
     count = 0
     if paths == ["--crates"]:
-        print(*faults_of_crates(), sep="\n")
-        return 1 if faults_of_crates() else 0
+        found = faults_of_crates()
+        print(*found, sep="\n", end="\n" if found else "")
+        return 1 if found else 0
     for path in paths:
         with open(path, encoding="utf-8") as it:
             found = sorted(found_in(path, it.read()))

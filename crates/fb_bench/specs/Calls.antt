@@ -1,4 +1,4 @@
--- What a call or a checkpoint on a desk says of the desk before and after.
+-- How a call or a checkpoint relates a desk before it and after it.
 use Rattle.std.specs.Prelude.{◌≡◌, ℕ, Result, Ok, Err}
 use Rattle.fb_history.specs.{Checkpoints.{Checking, KeptUpTo, OverUnits, OverNumbers}, Limits.{Bounds}}
 use Rattle.fb_history.specs.Machine.{Call, ToCommit, ToTake, ToDeliver, ToGiveBack, ToAsk, Reply, OfCommit, OfTake, OfDeliver, OfGiveBack, OfAsk}
@@ -37,7 +37,7 @@ Fits (ToGiveBack key) (OfGiveBack answer) = Unit {0}
 Fits (ToAsk key) (OfAsk shown) = Unit {0}
 Fits _ _ = ⊥
 
--- ---- what is said of the desk
+-- ---- a desk before and after a call or a checkpoint
 
 abbrev pub take_reply : Taken → Reply
 take_reply taken = OfTake (job_in taken)
@@ -45,14 +45,14 @@ take_reply taken = OfTake (job_in taken)
 abbrev pub ask_reply : Asked → Reply
 ask_reply asked = OfAsk (shown_in asked)
 
--- The call was answered, or refused as an answer says. For lack of memory nothing changed.
+-- The call was answered, or refused as the answer states. For lack of memory nothing changed.
 abbrev pub Serves : {D R : Type 0} → (D → Call → Answer → D → Type 0) → D → Call → (R → Reply) → Result R DeskError → D → Type 0
 Serves Step old call reply_of (Ok answer) new = Step old call (Replied (reply_of answer)) new
 Serves Step old call reply_of (Err HistoryFull) new = Step old call FullHistory new
 Serves Step old call reply_of (Err Behind) new = Step old call BehindHistory new
 Serves Step old call reply_of (Err Memory) new = new ≡ old
 
--- The checkpoint was made, or refused as an answer says. For lack of memory nothing changed.
+-- The checkpoint was made, or refused as the answer states. For lack of memory nothing changed.
 abbrev pub ServesCheckpoint : {D : Type 0} → (D → Bounds → CheckpointAnswer → D → Type 0) → D → Bounds → Result ℕ DeskCheckpointError → D → Type 0
 ServesCheckpoint Step old limits (Ok before) new = Step old limits (Checked (KeptUpTo before)) new
 ServesCheckpoint Step old limits (Err (refused.UnitsOver count)) new = Step old limits (Checked (OverUnits count)) new

@@ -22,7 +22,7 @@ pub record Agrees (units : Texts) (commits : ℕ) (entries : Keyed) (state : Sta
   pub each : (key : Key) → EntryFits state key (entry_at entries key)
   pub ready_are : (key : Key) → can_take entries key ≡ is_ready state key
 
--- and so does the history: each stored answer is the machine's. The index is that of the texts
+-- What is kept agrees with the state, and each stored answer of the history is the machine's. The index is that of the texts.
 pub record IsConsistent (units : Texts) (commits : ℕ) (entries : Keyed) (index : Indexed) (bench : BenchView) : Type 0 where
   pub begins : IsOrigin bench.origin
   pub agrees : Agrees units commits entries (state_of bench)

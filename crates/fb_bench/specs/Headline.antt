@@ -1,4 +1,4 @@
--- What an answer says by the texts and the calls alone, and what a refusal leaves.
+-- What an answer shows, which depends only on the texts and the calls, and what a refusal leaves unchanged.
 use Rattle.std.specs.Prelude.{◌≡◌, Bool, true, false}
 use Rattle.fb_history.specs.{Machine.{Call, ToAsk, Reply, OfAsk, Shown, Finds, Waits, Unknown}, BenchView.{BenchView, calls_of, state_of}, Due.{is_due}}
 use Rattle.fb_history.specs.Laws.{entry_after, is_refusal}

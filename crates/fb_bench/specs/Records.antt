@@ -1,4 +1,4 @@
--- Records of the program as what they say, and the jobs that are handed out.
+-- Records of the program as contracts see them, and the jobs that are handed out.
 use Rattle.std.specs.Prelude.{Option, Some, None}
 use Rattle.fb_entries.specs.Jobs.Reads.{PlainJob}
 pub use Rattle.fb_history.specs.Records.{wanted_job, text_edit, text_edits, call_of, shown_in, reply_of, records_in, listed, commit_of}

@@ -12,7 +12,7 @@ IsCallStep caller old call (Replied answer) new = (length old.log.records < old.
 IsCallStep caller old call FullHistory new = (old.log.limit ≤ length old.log.records) × (new ≡ old)
 IsCallStep caller old call BehindHistory new = ⊥
 
--- A checkpoint as the workbench has to answer it, and what it leaves. The caller is alone at the workbench.
+-- A checkpoint with the answer that it must have, and the workbench after it. Nobody else uses the workbench.
 abbrev pub IsCheckpointStep : BenchView → Bounds → CheckpointAnswer → BenchView → Type 0
 IsCheckpointStep old limits (Checked it) new = (it ≡ checking limits old) × (new ≡ bench_checked it limits old)
 IsCheckpointStep old limits SharedHistory new = ⊥
@@ -20,12 +20,12 @@ IsCheckpointStep old limits SharedHistory new = ⊥
 abbrev pub IsStep : ℕ → BenchView → Exchange → BenchView → Type 0
 IsStep caller = Exchanges (IsCallStep caller) IsCheckpointStep
 
--- memory is wanted for a call only where the history has room for it
+-- memory can run out for a call only if the history has room for it
 abbrev pub IsOpenCall : {R : Type 0} → BenchView → Result R DeskError → Type 0
 IsOpenCall bench (Err refused.Memory) = length bench.log.records < bench.log.limit
 IsOpenCall bench _ = Unit {0}
 
--- memory is wanted for a checkpoint only where it would be made
+-- memory can run out for a checkpoint only if the checkpoint would otherwise be made
 abbrev pub IsOpenCheckpoint : BenchView → Bounds → Result ℕ DeskCheckpointError → Type 0
 IsOpenCheckpoint bench limits (Err unmade.Memory) = (before : ℕ) × (checking limits bench ≡ KeptUpTo before)
 IsOpenCheckpoint bench limits _ = Unit {0}

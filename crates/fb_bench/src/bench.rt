@@ -22,7 +22,7 @@ use std::collections::BTreeMap;
 use std::marker::Model;
 use std::sync::Arc;
 
-/// The workbench of one thread. All that it is follows from its history, with what that begins from.
+/// The workbench of one thread. All of its state follows from its history and from what that begins with.
 pub struct Bench {
     alloc: Global,
     history: History,
@@ -115,7 +115,7 @@ impl Bench {
         self.history.last_number()
     }
 
-    /// Whether as many calls are recorded as the limits allow.
+    /// Whether the history has the number of calls that the limits allow.
     pub fn is_full(&self) -> bool
         ensures { IsTrue result ↔ IsFull self.now.log }
     {
@@ -129,7 +129,7 @@ impl Bench {
         self.next().is_some()
     }
 
-    /// The record of this number, counted over all calls from 1: None up to those before the start, and past the end.
+    /// The record of this number, counted over all calls from 1: None for a call before the start, and past the end.
     pub fn record(&self, number: u64) -> Option<&Record>
         ensures { option_map (λ it. it.now) result ≡ record_numbered self.now number }
     {
@@ -319,6 +319,7 @@ impl Bench {
         ensures job { IfOk result (λ made. OfTake (Some made.0) ≡ reply_at self.now ToTake) }
         ensures answer { IfOk result (λ made. reply_of made.1 ≡ reply_at self.now ToTake) }
     {
+        // For the proof: the key is named before the call gets it.
         let wanted = key;
         let job = Job::for_kept(self.alloc, &self.library, wanted, &self.entries)?;
         let answer = reply_of_job(self.alloc, &job)?;
@@ -339,7 +340,7 @@ impl Bench {
         Ok(share)
     }
 
-    /// Changes the texts, or says what is first against it. More than sixteen changes are too many,
+    /// Changes the texts, or gives the first reason against that. More than sixteen changes are too many,
     /// and only the first seventeen are recorded then.
     #[tactic(auto, using(crate::proofs::Headline::leaves_state))]
     pub fn commit(&mut self, caller: u32, changes: &[Change]) -> Result<Committed, Refused>
@@ -412,7 +413,7 @@ impl Bench {
         }
     }
 
-    /// Takes a result in, if its key waits for one and all that it has read is unchanged.
+    /// Accepts a result, if its key waits for one and all that it has read is unchanged.
     #[tactic(auto, using(crate::proofs::Headline::leaves_state))]
     pub fn deliver(&mut self, caller: u32, finished: &Finished) -> Result<Delivered, Refused>
         ensures step { OnOk result (self.new ≡ recorded self.old caller (ToDeliver finished.now)) }
@@ -612,7 +613,7 @@ impl Bench {
     }
 
     /// Makes the present state what the history begins from, with new limits, and gives the number of all calls so far. Texts, values, pending
-    /// keys and handed-out marks stay as they are; the records go, and their memory is given back to the allocator. It is no call itself,
+    /// keys and handed-out marks stay unchanged; the records go, and their memory is given back to the allocator. It is no call itself,
     /// and is not recorded.
     pub fn checkpoint(&mut self, limits: Limits) -> Result<u64, CheckpointError>
         ensures answer { ChecksAs (checking limits self.old) result }
@@ -628,7 +629,7 @@ impl Bench {
         }
     }
 
-    /// As `checkpoint`, with the records that were made since the last start, so that who holds a lock can drop them later.
+    /// As `checkpoint`, with the records that were made since the last start, so that the holder of a lock can drop them later.
     pub fn begin_anew(&mut self, limits: Limits) -> Result<(u64, Vec<Arc<Record>>), CheckpointError>
         ensures before { IfOk result (λ made. ChecksAs (checking limits self.old) (Ok made.0)) }
         ensures refused { IfErr result
@@ -704,7 +705,7 @@ impl Bench {
         let _history = &self.history;
     }
 
-    /// Whether a result is taken in, by what the library has now.
+    /// Whether a result is accepted, by what the library has now.
     fn judged(&self, key: Key, reads: &[Read]) -> Delivered
         ensures { result ≡ deliver_answer (state_of self.now)
             (record { key = key; reads = all_seen reads.now }) }

@@ -16,7 +16,7 @@ use std::sync::Arc;
 /// The most changes of a commit.
 const MOST_CHANGES: usize = 16;
 
-/// As many changes as are recorded: one more than a commit may have.
+/// The changes that are recorded: at most one more than a commit may have.
 pub(crate) fn first_changes(changes: &[Change]) -> &[Change]
     ensures { result.now ≡ take (most_changes + 1) changes.now }
 {
@@ -39,7 +39,7 @@ fn is_changed(changes: &[Change], unit: Name) -> bool
     false
 }
 
-/// The unit of the first change whose unit came before.
+/// The unit of the first change whose unit an earlier change has.
 fn repeated(changes: &[Change]) -> Option<Name>
     ensures { result ≡ first_repeated (map unit_of (edits_of changes.now)) }
 {
@@ -106,7 +106,7 @@ pub(crate) fn refusal(library: &Library, changes: &[Change]) -> Option<Committed
 #[derive(Drop)]
 pub(crate) enum Outcome {
     Refused(Committed),
-    /// The texts after it, and what else it leaves.
+    /// The texts after the commit, and what else it changes.
     Done { library: Library, found: CommitEffects },
 }
 

@@ -11,7 +11,7 @@ use fb_history::{Asked, CheckpointError, Committed, Delivered, GivenBack, Limits
 /// Why a desk does not record a call.
 #[derive(Clone, Copy, PartialEq, Eq, Debug)]
 pub enum DeskError {
-    /// As many calls are recorded as the limits allow.
+    /// The history has the number of calls that the limits allow.
     HistoryFull,
     /// The history is not the one that this desk has seen: it is shorter, or has another number of calls of the desk's caller.
     Behind,
@@ -32,7 +32,7 @@ pub enum DeskCheckpointError {
     Memory,
 }
 
-/// The recorded calls and the checkpoint, as one session makes them. A desk says how it makes any call and a checkpoint; the calls by name are that.
+/// The recorded calls and the checkpoint, as one session makes them. A desk defines how it makes any call and a checkpoint; the calls by name follow from that.
 // Works around the borrow checker: both types that a `Request` can borrow must occur in a function that makes one.
 pub trait Desk {
     ghost use Rattle.std.specs.Prelude.{IfOk};
@@ -40,10 +40,10 @@ pub trait Desk {
     ghost use Rattle.fb_bench.specs.{Records.{listed}, Requests.{call_for, reply_in}};
     ghost use Rattle.fb_bench.specs.Calls.{Answer, CheckpointAnswer, Fits, Serves, ServesCheckpoint, take_reply, ask_reply};
 
-    /// From the first desk the call may be answered so, and leave the second.
+    /// In the first state of a desk the call may get this answer, and the second state is the one after it.
     ghost step: { Self → Call → Answer → Self → Type 0 };
 
-    /// From the first desk the checkpoint may be answered so, and leave the second.
+    /// In the first state of a desk the checkpoint may get this answer, and the second state is the one after it.
     ghost checkpoint_step: { Self → Bounds → CheckpointAnswer → Self → Type 0 };
 
     /// Makes any call. The answer is of the call's kind.
@@ -55,7 +55,7 @@ pub trait Desk {
     fn checkpoint(&mut self, limits: Limits) -> Result<u64, DeskCheckpointError>
         ensures step { ServesCheckpoint checkpoint_step self.old limits result self.new };
 
-    /// Changes the texts, or says what is first against it.
+    /// Changes the texts, or gives the first reason against that.
     fn commit(&mut self, changes: &[Change]) -> Result<Committed, DeskError>
         ensures { Serves step self.old (ToCommit (listed changes.now)) OfCommit result self.new }
     {
@@ -78,7 +78,7 @@ pub trait Desk {
         }
     }
 
-    /// Takes a result in, if its key waits for one and all that it has read is unchanged.
+    /// Accepts a result, if its key waits for one and all that it has read is unchanged.
     fn deliver(&mut self, finished: &Finished) -> Result<Delivered, DeskError>
         ensures { Serves step self.old (ToDeliver finished.now) OfDeliver result self.new }
     {

@@ -1,4 +1,4 @@
--- The plan of a system: what is to be done on each of its resources (IEC 61499-1, clause 7: system configurations).
+-- The plan of a system: the commands for each of its resources (IEC 61499-1, clause 7: system configurations).
 use Rattle.std.specs.Prelude.{ℕ, ◌≡◌, List, Option}
 use Rattle.fb_mapping.specs.{Tree.Tree.{DeclTree}, Library.View.{Sources, tree_at}, Network.PlainFlat.{PlainFlat}, Network.declared.flat.Link.{Link}}
 use Rattle.fb_mapping.specs.{Flatten.Net.{PlainNet, IsNet, blocked, recursive, too_large, flat_net, plain_net}, Placing.Cuts.{cuts_of, home_at}}
@@ -8,13 +8,13 @@ use Rattle.fb_mapping.specs.{Placing.PlainResource.{PlainResource}, Placing.Reso
 use Rattle.fb_deploy.specs.declared.planning.Deploy.{Deploy}
 use Rattle.fb_deploy.specs.declared.planning.Deploy.TheVariants as deploy
 
--- a plan in plain: why there is no flat network, what is misplaced, or cut links and the commands of each resource
+-- a plan as a plain value: why there is no flat network, what is misplaced, or cut links and the commands of each resource
 pub data PlainDeploy : Type 0 where
   stopped : PlainNet → PlainDeploy
   faulty : List Misplaced → PlainDeploy
   planned : List Link → List PlainResource → PlainDeploy
 
--- the same without its place in memory
+-- the plan of the program as a plain value, without its place in memory
 abbrev pub plain_deploy : Deploy → PlainDeploy
 plain_deploy (deploy.Stopped net) = stopped (plain_net net)
 plain_deploy (deploy.Faulty found) = faulty found.items

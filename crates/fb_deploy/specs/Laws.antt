@@ -7,7 +7,7 @@ use Rattle.fb_deploy.specs.Deploy.{PlainDeploy, IsPlan}
 abbrev pub OnePlan : Type 0
 OnePlan = (sources : Sources) (system : List ℕ) (a b : PlainDeploy) → IsPlan sources system a → IsPlan sources system b → a ≡ b
 
--- the plan of a system depends on the texts alone that the system rests on
+-- the plan of a system depends only on the texts that the system rests on
 abbrev pub PlanIsLocal : Type 0
 PlanIsLocal =
     (a b : Sources) (system : List ℕ) → AgreeFar system a b

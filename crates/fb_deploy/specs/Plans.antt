@@ -15,29 +15,29 @@ plan_in sources unit tree = if has_plan_in tree then option_map (planned_by sour
 unfoldable pub plan_at : Sources → List ℕ → Option PlainDeploy
 plan_at sources unit = plan_in sources unit (tree_at sources unit)
 
--- a unit has its plan by its own text
+-- whether a unit is a system, and so has a plan, is known from its own text
 abbrev pub HasPlanByText : Type 0
 HasPlanByText = (sources : Sources) (unit : List ℕ) → (has_plan_in (tree_at sources unit) ≡ true) ↔ IsSystem sources unit
 
--- systems have a plan, and they alone
+-- systems have a plan, and nothing else has one
 abbrev pub PlanAtOfSystems : Type 0
 PlanAtOfSystems = (sources : Sources) (unit : List ℕ) → IsTrue (is_some (plan_at sources unit)) ↔ IsSystem sources unit
 
--- it is the one plan of the system
+-- the plan is the one plan of the system
 abbrev pub PlanAtIsPlan : Type 0
 PlanAtIsPlan = (sources : Sources) (unit : List ℕ) (plan : PlainDeploy) → (plan_at sources unit ≡ Some plan) ↔ (IsSystem sources unit × IsPlan sources unit plan)
 
--- it depends on the texts alone that the unit rests on
+-- the plan depends only on the texts that the unit rests on
 abbrev pub PlanAtIsLocal : Type 0
 PlanAtIsLocal = (a b : Sources) (unit : List ℕ) → AgreeFar unit a b → plan_at a unit ≡ plan_at b unit
 
--- a plan by a net to which nothing was in the way
+-- whether a plan comes from a net that nothing blocked and in which no type reaches itself
 abbrev pub is_whole_plan : PlainDeploy → Bool
 is_whole_plan (stopped net) = is_whole_net net
 is_whole_plan (faulty found) = true
 is_whole_plan (planned cuts resources) = true
 
--- texts that leave the net of a unit as it was leave its plan so
+-- texts that leave the net of a unit unchanged leave its plan unchanged
 abbrev pub PlanIsUnchanged : Type 0
 PlanIsUnchanged =
     (before now : Sources) (unit : List ℕ) (plan : PlainDeploy)

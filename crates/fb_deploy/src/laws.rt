@@ -16,7 +16,7 @@ pub fn has_plan_by_text()
     ensures { HasPlanByText }
 {}
 
-/// A plan is computed for systems, and for them alone.
+/// A plan is computed for systems, and for nothing else.
 pub fn plan_at_of_systems()
     ensures { PlanAtOfSystems }
 {}
@@ -26,12 +26,12 @@ pub fn plan_at_is_plan()
     ensures { PlanAtIsPlan }
 {}
 
-/// It depends only on the texts that the unit rests on.
+/// The computed plan depends only on the texts that the unit rests on.
 pub fn plan_at_is_local()
     ensures { PlanAtIsLocal }
 {}
 
-/// Texts that leave the net of a system unchanged leave its plan so.
+/// Texts that leave the net of a system unchanged leave its plan unchanged.
 pub fn plan_is_unchanged()
     ensures { PlanIsUnchanged }
 {}

@@ -40,7 +40,7 @@ fn plan_flat<V: View>(
     }
 }
 
-/// The names once more.
+/// A copy of the names.
 fn copied(alloc: Global, names: &[Name]) -> Result<Vec<Name>, AllocError>
     ensures { IfOk result (λ copy. copy.items ≡ names.now) }
 {
@@ -86,7 +86,7 @@ pub fn plan<V: View>(alloc: Global, view: &V, system: Name) -> Result<Deploy, Al
     plan_with(alloc, view, system, &NoHints)
 }
 
-/// The same, where the nets of some units are kept.
+/// As `plan`, if the nets of some units are kept.
 pub fn plan_with<V: View, H: Hints>(
     alloc: Global,
     view: &V,

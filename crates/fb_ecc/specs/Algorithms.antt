@@ -7,11 +7,11 @@ use Rattle.fb_iface.specs.{declared.code.Code.TheVariants.{AlgorithmUnknown}, de
 abbrev pub algorithm_names : ChartTree → List NameUse
 algorithm_names chart = map (λ a. a.name) chart.algorithms
 
--- an algorithm that is not declared, by which names are
+-- the fault of an algorithm whose name is not declared
 abbrev pub algorithm_fault : (List ℕ → Bool) → NameUse → List Fault
 algorithm_fault declared name = if declared name.name then [] else fault_at AlgorithmUnknown name ∷ []
 
--- an action runs an algorithm that is declared, or none
+-- an action runs a declared algorithm, or none
 abbrev pub run_faults : (List ℕ → Bool) → Action → List Fault
 run_faults declared a = option_map_or (algorithm_fault declared) a.algorithm []
 

@@ -7,7 +7,7 @@ use Rattle.fb_ecc.specs.{Algorithms.{algorithm_faults}, Events.{event_faults}, S
 abbrev pub chart_faults : Scope → ChartTree → List Fault
 chart_faults scope chart = state_faults chart ++ event_faults scope chart ++ algorithm_faults chart
 
--- block types alone have a chart
+-- only block types have a chart
 abbrev pub chart_faults_in : Sources → Option DeclTree → List Fault
 chart_faults_in sources None = []
 chart_faults_in sources (Some (block_type d)) = chart_faults (scope_of_type sources d) d.chart

@@ -13,7 +13,7 @@ abbrev pub opposite : Side → Side
 opposite sides.Input = sides.Output
 opposite sides.Output = sides.Input
 
--- the events of an adapter that come in, or go out: those of the same side through a plug, those of the other through a socket
+-- the side that events of this side have in an adapter type: the same for a plug, the opposite for a socket
 abbrev pub side_through : Role → Side → Option Side
 side_through roles.Plug side = Some side
 side_through roles.Socket side = Some (opposite side)
@@ -24,26 +24,26 @@ abbrev pub event_on : Side → Option DeclaredEvent → EventTarget
 event_on side None = Unknown
 event_on side (Some event) = if same_side event.side side then Found else Unknown
 
--- what a name means among ports, where an event of this side is wanted
+-- what a name means among ports, if it must be an event of this side
 abbrev pub event_among : Side → Meanings → List ℕ → EventTarget
 event_among side ports name = event_on side (stands_for ports.events name)
 
--- the same at an adapter; one whose type is not usable is not checked
+-- what a name means among the ports of an adapter; an adapter whose type is not usable is not checked
 abbrev pub event_of_adapter : Option Meanings → List ℕ → Side → EventTarget
 event_of_adapter None name side = NotChecked
 event_of_adapter (Some ports) name side = event_among side ports name
 
--- the same at a plug or socket, where an event that comes in, or goes out, is wanted
+-- what a name means at a plug or socket, if it must be an event of this side
 abbrev pub event_behind : Scope → Side → Option DeclaredInstance → List ℕ → EventTarget
 event_behind scope side None name = Unknown
 event_behind scope side (Some p) name = option_map_or (event_of_adapter (instance_ports scope p) name) (side_through p.role side) Unknown
 
--- what a reference `X` or `p.X` names, where an event that comes in, or goes out, is wanted
+-- what a reference `X` or `p.X` names, if it must be an event of this side
 abbrev pub event_named : Scope → Side → NameUse → Option NameUse → EventTarget
 event_named scope side name None = event_among side scope.own name.name
 event_named scope side name (Some port) = event_behind scope side (stands_for scope.own.instances name.name) port.name
 
--- from the first name to the end of the last
+-- the span from the first name to the end of the last
 abbrev pub span_from : Span → Option NameUse → Span
 span_from first None = first
 span_from first (Some port) = record { start = first.start; end = port.span.end }
@@ -56,7 +56,7 @@ target_faults Unknown span = record { code = EventUnknown; span = span } ∷ []
 abbrev pub end_event_faults : Scope → Side → End → List Fault
 end_event_faults scope side e = target_faults (event_named scope side e.name e.port) (span_from e.name.span e.port)
 
--- an event that is written and doesn't come in, or go out
+-- the fault of an event that is written and is not of this side
 abbrev pub written_fault : Scope → Side → Option End → List Fault
 written_fault scope side event = option_map_or (end_event_faults scope side) event []
 
@@ -66,11 +66,11 @@ event_in (on_event event) = Some event
 event_in (guarded event test) = Some event
 event_in (guard test) = None
 
--- the events of transitions come in
+-- the events of transitions are event inputs
 abbrev pub trigger_faults : Scope → TransitionTree → List Fault
 trigger_faults scope t = written_fault scope sides.Input (event_in t.condition)
 
--- the events of actions go out
+-- the events of actions are event outputs
 abbrev pub sent_faults : Scope → Action → List Fault
 sent_faults scope a = written_fault scope sides.Output a.event
 

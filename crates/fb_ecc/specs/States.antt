@@ -7,11 +7,11 @@ use Rattle.fb_iface.specs.{declared.code.Code.TheVariants.{StateUnknown}, declar
 abbrev pub state_names : ChartTree → List NameUse
 state_names chart = map (λ s. s.name) chart.states
 
--- a state that is not listed, by which names are
+-- the fault of a state that is not listed
 abbrev pub state_fault : (List ℕ → Bool) → NameUse → List Fault
 state_fault listed name = if listed name.name then [] else fault_at StateUnknown name ∷ []
 
--- a transition goes from a state that is listed to such a state
+-- a transition goes from a listed state to a listed state
 abbrev pub transition_faults : (List ℕ → Bool) → TransitionTree → List Fault
 transition_faults listed t = state_fault listed t.source ++ state_fault listed t.destination
 

@@ -13,7 +13,7 @@ use std::alloc::AllocError;
 /// What an event that is written names.
 #[derive(Clone, Copy, Debug)]
 pub enum EventTarget {
-    /// An event that comes in, or goes out, as is wanted there.
+    /// An event of the side that is required there.
     Found,
     /// No such event.
     Unknown,
@@ -21,7 +21,7 @@ pub enum EventTarget {
     NotChecked,
 }
 
-/// Reports the events of transitions that do not come in, and those of actions that do not go out.
+/// Reports the events of transitions that are no event inputs, and those of actions that are no event outputs.
 pub fn report_events(scope: &Scope, chart: &Chart, found: &mut Vec<Fault>) -> Result<(), AllocError>
     ensures { OnOk result
         (found.new.items
@@ -31,7 +31,7 @@ pub fn report_events(scope: &Scope, chart: &Chart, found: &mut Vec<Fault>) -> Re
     report_sent(scope, chart.states.as_slice(), found)
 }
 
-/// Reports the events of transitions that do not come in.
+/// Reports the events of transitions that are no event inputs.
 fn report_triggers(
     scope: &Scope,
     transitions: &[Transition],
@@ -57,7 +57,7 @@ fn event_of(condition: &Condition) -> Option<&End>
     }
 }
 
-/// Reports the events of actions that do not go out.
+/// Reports the events of actions that are no event outputs.
 fn report_sent(scope: &Scope, states: &[State], found: &mut Vec<Fault>) -> Result<(), AllocError>
     ensures { OnOk result (found.new.items ≡ found.old.items
         ++ flat_map
@@ -85,7 +85,7 @@ fn report_sent_by(
     Ok(())
 }
 
-/// Reports an event that is written and does not come in, or go out.
+/// Reports an event that is written and is not of this side.
 fn report_written(
     scope: &Scope,
     side: Side,
@@ -117,7 +117,7 @@ fn span_of(event: &End) -> Span
     }
 }
 
-/// What a reference names, where an event that comes in, or goes out, is wanted.
+/// What a reference names, if it must be an event of this side.
 fn target_of(scope: &Scope, side: Side, event: &End) -> EventTarget
     ensures { result ≡ event_named (scope_in scope.now) side event.now.name event.now.port }
 {
@@ -167,7 +167,7 @@ fn target_of_adapter(ports: Option<&Ports>, side: Side, name: &Name) -> EventTar
     }
 }
 
-/// The side of an adapter's events that come in, or go out, through a plug or socket.
+/// The side that events of this side have in the type of a plug or socket.
 fn through(role: Role, side: Side) -> Option<Side>
     ensures { result ≡ side_through role side }
 {

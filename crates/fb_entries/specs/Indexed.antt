@@ -14,10 +14,10 @@ abbrev pub IsReachedFrom : Indexed → List (List ℕ) → Bool → List ℕ →
 IsReachedFrom index changed false unit = NearSome index unit changed
 IsReachedFrom index changed true unit = ReachesSome index unit changed
 
--- the unit rests on one where keys of the kind need all that their units rest on, otherwise one is near it
+-- whether the changed names reach keys of the kind: if such keys need all that their units rest on, the unit rests on one; otherwise one is near it
 abbrev pub IsReached : Indexed → List (List ℕ) → Kind → List ℕ → Type 0
 IsReached index changed kind unit = IsReachedFrom index changed (needs_all kind) unit
 
--- of each key of the texts: the changed names reach it if and only if they do by the index
+-- the changed names reach a key of the texts if and only if they reach it by the index
 abbrev pub FindsReached : Texts → Indexed → List (List ℕ) → Type 0
 FindsReached texts index changed = (key : Key) → has_key texts key ≡ true → (reaches changed texts key ≡ true) ↔ IsReached index changed key.kind key.unit

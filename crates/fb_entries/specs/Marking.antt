@@ -47,11 +47,11 @@ with_found found it = record it { found = unless_kept it.value found }
 abbrev pub waiting : Entry → Entry
 waiting it = record it { value = None; out = false; found = None }
 
--- the entry of a key that is to wait for a result or not
+-- the entry of a key, which waits for a result again if it is renewed
 abbrev pub waiting_if : Bool → Option Entry → Option Entry
 waiting_if renewed it = if renewed then option_map waiting it else it
 
--- ---- what becomes of entries and of sets of keys, key by key
+-- ---- how entries and sets of keys change, key by key
 
 -- the entry of each key
 abbrev pub Entries : Type 0
@@ -70,11 +70,11 @@ ChangesEntry key change old new =
 abbrev pub RenewsEntry : Key → Entries → Entries → Type 0
 RenewsEntry key old new = (other : Key) → new other ≡ waiting_if (same_key key other) (old other)
 
--- the same for each of these keys
+-- the entry of each of these keys, if there is one, waits for a result, and no other is changed
 abbrev pub RenewsEntries : List Key → Entries → Entries → Type 0
 RenewsEntries keys old new = (other : Key) → new other ≡ waiting_if (is_of other keys) (old other)
 
--- these keys have no entry any more, and no other entry is changed
+-- these keys no longer have an entry, and no other entry is changed
 abbrev pub LosesEntries : List Key → Entries → Entries → Type 0
 LosesEntries keys old new = (other : Key) → new other ≡ (if is_of other keys then None else old other)
 
@@ -92,11 +92,11 @@ HasEntries keys entries = (other : Key) → is_of other keys ≡ true → is_non
 abbrev pub SameKeys : Keys → Keys → Type 0
 SameKeys old new = (other : Key) → new other ≡ old other
 
--- the key is in the set now or not, and all else is as it was
+-- the key is in the set now or not, and nothing else changes
 abbrev pub MarksKey : Key → Bool → Keys → Keys → Type 0
 MarksKey key mark old new = (other : Key) → new other ≡ (if same_key key other then mark else old other)
 
--- these keys are no longer in the set, and all else is as it was
+-- these keys are no longer in the set, and nothing else changes
 abbrev pub LosesKeys : List Key → Keys → Keys → Type 0
 LosesKeys keys old new = (other : Key) → new other ≡ (if is_of other keys then false else old other)
 

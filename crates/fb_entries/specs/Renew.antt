@@ -24,18 +24,18 @@ pub record IsRenewal (texts : Texts) (changed : List (List ℕ)) (old : Keyed) (
   pub renewed_are : (key : Key) → is_of key it.renewed.items ≡ is_renewed texts changed key
   pub unready_are : (key : Key) → is_of key it.unready.items ≡ (is_renewed texts changed key && not (can_take old key))
 
--- there is an entry for each new key, the keys have joined the set, and all else is as it was
+-- there is an entry for each new key, the unready keys have joined the set, and nothing else changes
 pub record HasRoom (it : Renewal) (old new : Keyed) : Type 0 where
   pub others : KeepsOtherEntries it.fresh.items (entry_at old) (entry_at new)
   pub there : HasEntries it.fresh.items (entry_at new)
   pub readies : (key : Key) → can_take new key ≡ (is_of key it.unready.items || can_take old key)
 
--- there is none of them
+-- the new keys have no entries, and the unready keys have left the set
 pub record IsTakenBack (it : Renewal) (old new : Keyed) : Type 0 where
   pub entries : LosesEntries it.fresh.items (entry_at old) (entry_at new)
   pub readies : LosesKeys it.unready.items (can_take old) (can_take new)
 
--- the gone keys have no entry any more and can't be taken, and the renewed ones wait for a result
+-- the gone keys no longer have an entry and can't be taken, and the renewed ones wait for a result
 pub record IsCarriedOut (it : Renewal) (old new : Keyed) : Type 0 where
   pub entries : (key : Key) → entry_at new key ≡ waiting_if (is_of key it.renewed.items) (if is_of key it.gone.items then None else entry_at old key)
   pub readies : LosesKeys it.gone.items (can_take old) (can_take new)

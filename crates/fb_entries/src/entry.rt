@@ -19,7 +19,7 @@ pub struct Entry {
     pub value: Option<Arc<Value>>,
     /// Whether it is handed out.
     pub out: bool,
-    /// Of a pending key its value, where a job for another key computed it on the way.
+    /// The value of a pending key, if a job for another key computed it on the way.
     pub found: Option<Arc<Value>>,
     /// The value that it had last, with the texts that gave it: a result that equals it shares it.
     pub previous: Option<Derivation>,

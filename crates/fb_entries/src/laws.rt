@@ -1,4 +1,4 @@
-//! The law of the index: what it finds is what the texts say.
+//! The law of the index: what it finds is what follows from the texts.
 ghost use Rattle.std.specs.Prelude.{ℕ, List};
 ghost use Rattle.fb_index.specs.{Indexed.{Indexed}, Library.Texts.{Texts}};
 ghost use Rattle.fb_entries.specs.Indexed.{FindsReached, IsIndexOf};

@@ -12,7 +12,7 @@ use fb_text::Name;
 use fb_tree::Mentions;
 use std::alloc::{AllocError, Global};
 
-/// The index of the library after, which has other texts than the one before under these names alone.
+/// The index of the library after, which has other texts than the one before only under these names.
 pub(crate) fn reindexed(
     alloc: Global,
     index: &Index,

@@ -20,9 +20,9 @@ pub struct Renewal {
     pub fresh: Vec<Key>,
     /// Keys of changed units that the new texts don't have.
     pub gone: Vec<Key>,
-    /// New and reached keys, which are to wait for a result.
+    /// New and reached keys, which will wait for a result.
     pub renewed: Vec<Key>,
-    /// Those of them that are to join the set of the keys that can be taken.
+    /// Those of them that will join the set of the keys that can be taken.
     pub unready: Vec<Key>,
 }
 

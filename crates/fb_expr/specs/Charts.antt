@@ -15,15 +15,15 @@ guard_faults names (guard test) = faults_at_place Condition names test
 abbrev pub transition_faults : Names → TransitionTree → List Fault
 transition_faults names t = guard_faults names t.condition
 
--- the statements of an algorithm in Structured Text; of another one none are kept
+-- the faults of the statements of an algorithm; statements are kept only of one in Structured Text
 abbrev pub algorithm_faults : Names → AlgorithmTree → List Fault
 algorithm_faults names a = statements_faults names (statements_of a.statements)
 
--- all transitions and all algorithms, later ones of a name too
+-- the faults of all transitions and all algorithms, also of later ones with the same name
 abbrev pub expression_faults : Names → ChartTree → List Fault
 expression_faults names c = flat_map (transition_faults names) c.transitions ++ flat_map (algorithm_faults names) c.algorithms
 
--- a block type alone has a chart and algorithms
+-- only a block type has a chart and algorithms
 abbrev pub faults_in_unit : Sources → List ℕ → Option DeclTree → List Fault
 faults_in_unit sources unit None = []
 faults_in_unit sources unit (Some (block_type d)) = expression_faults (names_of_type sources unit d) d.chart
@@ -36,6 +36,6 @@ faults_in_unit sources unit (Some (structure_type s)) = []
 abbrev pub expr_faults_of : Sources → List ℕ → List Fault
 expr_faults_of sources unit = faults_in_unit sources unit (tree_at sources unit)
 
--- these faults depend on the texts of what is near the unit alone
+-- these faults depend only on the texts of what is near the unit
 abbrev pub ExprFaultsAreLocal : Type 0
 ExprFaultsAreLocal = (a b : Sources) (unit : List ℕ) → Agree (near_of a unit) a b → expr_faults_of a unit ≡ expr_faults_of b unit

@@ -5,7 +5,7 @@ use Rattle.fb_tree.specs.declared.expression.BinaryOperator.TheVariants.{Or, Xor
 use Rattle.fb_tree.specs.{declared.expression.UnaryOperator.{UnaryOperator}, declared.expression.UnaryOperator.TheVariants.{Plus, Minus, Not}}
 use Rattle.fb_iface.specs.{declared.classes.Class.{Class}, declared.classes.Class.TheVariants.{B, I, W, O, Free, Num, Any}}
 
--- the join of two classes, where they have one
+-- the join of two classes, if they have one
 abbrev pub join : Class → Class → Option Class
 join Free right = Some Free
 join left Free = Some Free
@@ -26,7 +26,7 @@ join I O = Some O
 join O I = Some O
 join left right = None
 
--- What an operation makes of a class, where its rule holds; a class that is not judged meets every rule.
+-- What an operation makes of a class, if its rule holds; a class that is not checked meets every rule.
 
 -- truth values, strings of bits, and numbers that may be such
 abbrev pub logical : Class → Option Class
@@ -46,7 +46,7 @@ arithmetical Any = Some Num
 arithmetical Free = Some Free
 arithmetical other = None
 
--- whole numbers alone
+-- only whole numbers
 abbrev pub whole : Class → Option Class
 whole I = Some I
 whole Num = Some Num
@@ -58,13 +58,13 @@ whole other = None
 abbrev pub compared : Class → Option Class
 compared joined = Some B
 
--- the class of one operator before an operand of this class, where its rule holds
+-- the class of one operator before an operand of this class, if its rule holds
 abbrev pub change : UnaryOperator → Class → Option Class
 change Not operand = logical operand
 change Plus operand = arithmetical operand
 change Minus operand = arithmetical operand
 
--- the class of an operator between operands that join to this class, where its rule holds
+-- the class of an operator between operands that join to this class, if its rule holds
 abbrev pub operation : BinaryOperator → Class → Option Class
 operation Or joined = logical joined
 operation Xor joined = logical joined
@@ -82,11 +82,11 @@ operation Divide joined = arithmetical joined
 operation Modulo joined = whole joined
 operation Power joined = arithmetical joined
 
--- the class of an operator between two operands, where they join and its rule holds
+-- the class of an operator between two operands, if they join and its rule holds
 abbrev pub combined : BinaryOperator → Class → Class → Option Class
 combined operator left right = option_and_then (operation operator) (join left right)
 
--- the class of an operation that breaks its rule: a comparison is a truth value still
+-- the class of an operation that breaks its rule: a comparison is still a truth value
 abbrev pub class_of_broken : BinaryOperator → Class
 class_of_broken Equal = B
 class_of_broken NotEqual = B

@@ -1,4 +1,4 @@
--- What the expressions and statements of a unit demand: the rules by which they are judged, each with the place of its fault.
+-- What the expressions and statements of a unit demand: the rules by which they are checked, each with the place of its fault.
 use Rattle.std.specs.{Prelude.{◌≡◌, ℕ, Bool, true, false, not, ◌||◌, List, [], ◌∷◌, ◌++◌, Option, Some, is_some, ◌↔◌}, List.{Contains, flat_map}}
 use Rattle.std.specs.Option.{option_map_or}
 use Rattle.fb_tree.specs.{Text.declared.name.NameUse.{NameUse}, Text.declared.token.Span.{Span}}
@@ -16,11 +16,11 @@ use Rattle.fb_expr.specs.declared.rules.ClassPlace.TheVariants.{Condition, Count
 pub data Demand : Type 0 where
   -- a reference begins at a variable
   names_variable : ReferenceTree → Demand
-  -- a further name of a reference, behind these further ones, is a field
+  -- a further name of a reference, after these further names, is a field
   names_field : ReferenceTree → List Member → Member → Demand
   -- an operator suits its operand
   suits_operand : UnaryUse → Expression → Demand
-  -- an operator suits the class of what stands before it and the operand behind it
+  -- an operator suits the class of what is before it and the operand after it
   suits_operands : BinaryUse → ValueClass → Expression → Demand
   -- an expression suits its place
   suits_place : ClassPlace → Expression → Demand
@@ -39,13 +39,13 @@ is_field Unjudged = true
 is_field Unknown = true
 is_field (NoMember span) = false
 
--- what a reference would stand for with these further names alone
+-- what a reference would mean with only these further names
 abbrev pub referent_through : Names → ReferenceTree → List Member → Referent
 referent_through names r members = referent_from names r.name.name r.subscripts members
 
 abbrev pub is_met : Names → Demand → Bool
 is_met names (names_variable r) = is_known (referent_of names r)
--- where a name before it is no field nothing more is asked
+-- after a name that is no field nothing more is required
 is_met names (names_field r before m) = is_field (referent_through names r (before ++ m ∷ [])) || not (is_field (referent_through names r before))
 is_met names (suits_operand used e) = is_some (change used.operator (class_in names e))
 is_met names (suits_operands used left e) = is_some (combined used.operator left (class_in names e))
@@ -72,7 +72,7 @@ place_of (assigns variable place value) = place
 abbrev pub fault_of : Demand → Fault
 fault_of demand = record { code = code_of_demand demand; span = place_of demand }
 
--- each of these further names is a field, behind those before
+-- each of these further names is a field, after those before it
 abbrev pub field_demands : ReferenceTree → List Member → List Member → List Demand
 field_demands r before [] = []
 field_demands r before (m ∷ ms) = names_field r before m ∷ field_demands r (before ++ m ∷ []) ms
@@ -101,7 +101,7 @@ abbrev mutual
 abbrev pub demands_at : ClassPlace → Names → Expression → List Demand
 demands_at place names e = demands_in names e ++ suits_place place e ∷ []
 
--- the variable of a FOR is one, and a whole number
+-- the variable of a FOR is a variable, and a whole number
 abbrev pub counter_demands : NameUse → List Demand
 counter_demands name = names_variable (alone_tree name) ∷ suits_place Counter (reference_expression (alone_tree name) no_expressions) ∷ []
 
@@ -150,10 +150,10 @@ algorithm_demands names a = statements_demands names (statements_of a.statements
 abbrev pub chart_demands : Names → ChartTree → List Demand
 chart_demands names c = flat_map (transition_demands names) c.transitions ++ flat_map (algorithm_demands names) c.algorithms
 
--- it is a fault of a demand that is not met
+-- the fault is that of a demand that is not met
 abbrev pub IsUnmet : Names → List Demand → Fault → Type 0
 IsUnmet names demands f = (demand : Demand) × Contains demands demand × (is_met names demand ≡ false) × (f ≡ fault_of demand)
 
--- a block type has exactly the faults of what it demands that is not met
+-- the faults of a block type are exactly those of its unmet demands
 abbrev pub FaultsAreUnmet : Type 0
 FaultsAreUnmet = (sources : Sources) (unit : List ℕ) (d : TypeTree) → tree_at sources unit ≡ Some (block_type d) → (f : Fault) → Contains (expr_faults_of sources unit) f ↔ IsUnmet (names_of_type sources unit d) (chart_demands (names_of_type sources unit d) d.chart) f

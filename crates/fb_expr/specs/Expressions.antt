@@ -21,7 +21,7 @@ abbrev mutual
   row_class names left (operand_then used e operands) = row_class names (pair_class used.operator left (class_in names e)) operands
 
 abbrev mutual
-  -- names that are no variables or fields, operations that break their rule, and subscripts that are no whole numbers
+  -- the faults of an expression: names that are no variables or fields, operations that break their rule, and subscripts that are no whole numbers
   pub faults_in : Names → Expression → List Fault
   faults_in names (literal_expression l) = []
   faults_in names (reference_expression r subscripts) = reference_faults (referent_of names r) (names_span r) ++ subscript_faults names subscripts
@@ -29,7 +29,7 @@ abbrev mutual
   faults_in names (row_expression e operands) = faults_in names e ++ row_faults names (class_in names e) operands
   faults_in names (parentheses e span) = faults_in names e
 
-  -- those after the first operand of a row, by the class of what is before
+  -- the faults after the first operand of a row, by the class of what is before
   pub row_faults : Names → Class → Operands → List Fault
   row_faults names left no_operands = []
   row_faults names left (operand_then used e operands) =

@@ -1,4 +1,4 @@
--- What references stand for (IEC 61499-1, 5.2.2: algorithms; 5.5: adapters).
+-- What references mean (IEC 61499-1, 5.2.2: algorithms; 5.5: adapters).
 use Rattle.std.specs.Prelude.{ℕ, nat_lt, Bool, true, false, not, ◌&&◌, List, [], ◌∷◌, Option, Some, None, if◌then◌else◌}
 use Rattle.fb_tree.specs.{Text.declared.token.Span.{Span}, declared.interface.Section.{Section}, declared.interface.TypeForm.{TypeForm}}
 use Rattle.fb_tree.specs.{declared.interface.TypeUse.{TypeUse}, declared.network.Role.{Role}, declared.reference.Member.{Member}, Expression.{ReferenceTree}}
@@ -12,7 +12,7 @@ use Rattle.fb_iface.specs.{declared.ports.DeclaredInstance.{DeclaredInstance}, d
 use Rattle.fb_expr.specs.{Names.{Names}, declared.references.Referent.{Referent}}
 use Rattle.fb_expr.specs.declared.references.Referent.TheVariants.{Variable, Unjudged, Unknown, NoMember}
 
--- whether subscripts are there
+-- whether there are subscripts
 abbrev pub is_some_count : ℕ → Bool
 is_some_count count = nat_lt 0 count
 
@@ -33,7 +33,7 @@ abbrev pub data_referent : Option DeclaredVariable → Bool → Referent
 data_referent None subscripted = Unknown
 data_referent (Some variable) subscripted = if is_data variable.section then Variable variable.type_use subscripted else Unknown
 
--- what a name means at a plug or a socket, by the ports of its type; not checked where the type is not usable
+-- what a name means at a plug or a socket, by the ports of its type; it is not checked if the type is not usable
 abbrev pub port_referent : Option Meanings → List ℕ → Bool → Referent
 port_referent None name subscripted = Unjudged
 port_referent (Some ports) name subscripted = data_referent (stands_for ports.variables name) subscripted
@@ -53,21 +53,21 @@ is_at_adapter (Some instance) = is_adapter instance.role
 abbrev pub variable_named : Scope → List ℕ → Bool → Referent
 variable_named scope name subscripted = own_referent (stands_for scope.own.variables name) subscripted
 
--- `p.X` is data of the type of an own plug or socket p
+-- `p.X` is data of the type of a plug or socket p of the unit
 abbrev pub port_named : Scope → List ℕ → Member → Referent
 port_named scope name m = port_referent (ports_of scope name) m.name.name (is_some_count m.subscripts)
 
--- after a plain type of this name; after one of class Free no name is checked
+-- the fields after a plain type of this name; after a type of class Free no name is checked
 abbrev pub fields_named : (List ℕ → Fields) → List ℕ → Fields
 fields_named fields name = if is_free (class_of_name name) then NotChecked else fields name
 
--- with a subscript on what is no array: where names are checked there are no fields
+-- the fields after a subscript on what is no array: none, if names are checked there
 abbrev pub unless_judged : Fields → Fields
 unless_judged NotChecked = NotChecked
 unless_judged NoFields = NoFields
 unless_judged (HasFields found) = NoFields
 
--- after a type of this form and name, without or with a subscript
+-- the fields after a type of this form and name, without or with a subscript
 abbrev pub fields_behind : (List ℕ → Fields) → TypeForm → List ℕ → Bool → Fields
 fields_behind fields forms.Plain name false = fields_named fields name
 fields_behind fields forms.Plain name true = unless_judged (fields_named fields name)
@@ -97,12 +97,12 @@ abbrev pub walk : Names → Referent → List Member → Referent
 walk names base [] = base
 walk names base (m ∷ ms) = walk names (step names base m) ms
 
--- whether a name, with this number of subscripts after it and a further name after these, is that of an own plug or socket
+-- whether a name, with this number of subscripts after it and a further name after these, is that of a plug or socket of the unit
 abbrev pub is_before_port : Scope → List ℕ → ℕ → Bool
 is_before_port scope name count = not (is_some_count count) && is_at_adapter (stands_for scope.own.instances name)
 
--- What a name means with this number of subscripts and these further names after it: they begin at data of a plug or a socket where the second name
--- directly follows that of one, or else at the first name alone.
+-- What a name means with this number of subscripts and these further names after it. If the second name directly follows that of a plug or socket, both
+-- name data of its type; otherwise the first name means a variable of the unit.
 abbrev pub referent_from : Names → List ℕ → ℕ → List Member → Referent
 referent_from names name count [] = variable_named names.scope name (is_some_count count)
 referent_from names name count (m ∷ ms) =
@@ -114,7 +114,7 @@ referent_from names name count (m ∷ ms) =
 abbrev pub referent_of : Names → ReferenceTree → Referent
 referent_of names r = referent_from names r.name.name r.subscripts r.members
 
--- with a subscript: the class of the elements of an array; a type that is no array has none
+-- the class with a subscript: that of the elements of an array; a type that is no array has the class O
 abbrev pub class_of_element : TypeForm → List ℕ → Class
 class_of_element forms.Plain name = O
 class_of_element forms.Sized name = O
@@ -132,7 +132,7 @@ class_of_referent Unjudged = Free
 class_of_referent Unknown = Free
 class_of_referent (NoMember span) = Free
 
--- a name that is no variable, or a further one that is no field
+-- the fault of a name that is no variable, or of a further name that is no field
 abbrev pub reference_faults : Referent → Span → List Fault
 reference_faults (Variable used subscripted) span = []
 reference_faults Unjudged span = []

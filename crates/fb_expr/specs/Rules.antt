@@ -1,4 +1,4 @@
--- The classes that each place of an algorithm asks for; one that is not judged meets every rule.
+-- The classes that each place of an algorithm requires; a class that is not checked meets every rule.
 use Rattle.std.specs.Prelude.{Bool, true, false, List, [], ◌∷◌, if◌then◌else◌}
 use Rattle.fb_tree.specs.Text.declared.token.Span.{Span}
 use Rattle.fb_iface.specs.{declared.classes.Class.{Class as ValueClass}, declared.classes.Class.TheVariants.{B, I, Free, Num, Any}}
@@ -18,6 +18,6 @@ allows Selector B = false
 allows Selector class = true
 allows place class = false
 
--- a fault where a rule of classes is not met
+-- a fault if a rule of classes is not met
 abbrev pub class_faults : Bool → Span → List Fault
 class_faults is_met span = if is_met then [] else record { code = Class; span = span } ∷ []

@@ -1,4 +1,4 @@
--- Where references and expressions stand.
+-- The spans of references and expressions.
 use Rattle.std.specs.Prelude.{ℕ, zero, suc, List, [], ◌∷◌}
 use Rattle.fb_tree.specs.{Text.declared.token.Span.{Span}, declared.reference.Member.{Member}}
 use Rattle.fb_tree.specs.Expression.{ReferenceTree, Expression, literal_expression, reference_expression, unary_expression, row_expression, parentheses, Operands, no_operands, operand_then}
@@ -26,7 +26,7 @@ abbrev mutual
   span_of (row_expression e operands) = span_through (span_of e) operands
   span_of (parentheses e span) = span
 
-  -- from there through the last of these operands
+  -- from a span through the last of these operands
   pub span_through : Span → Operands → Span
   span_through span no_operands = span
   span_through span (operand_then operator e operands) = span_through (across span (span_of e)) operands

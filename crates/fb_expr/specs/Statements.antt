@@ -7,7 +7,7 @@ use Rattle.fb_expr.specs.{Classes.{join}, Expressions.{class_in, faults_in}, Nam
 use Rattle.fb_expr.specs.{References.{class_of_referent, reference_faults, variable_named}, Rules.{allows, class_faults}}
 use Rattle.fb_expr.specs.{declared.rules.ClassPlace.{ClassPlace}, declared.rules.ClassPlace.TheVariants.{Condition, Count, Counter, Selector}}
 
--- an expression in a place that asks for certain classes
+-- an expression in a place that requires certain classes
 abbrev pub faults_at_place : ClassPlace → Names → Expression → List Fault
 faults_at_place place names e = faults_in names e ++ class_faults (allows place (class_in names e)) (span_of e)
 

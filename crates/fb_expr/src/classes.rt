@@ -5,7 +5,7 @@ ghost use Rattle.fb_expr.specs.Classes.{arithmetical, change, class_of_broken, c
 use fb_iface::Class;
 use fb_tree::{BinaryOperator, UnaryOperator};
 
-/// The join of two classes, where they have one.
+/// The join of two classes, if they have one.
 pub fn joined(left: Class, right: Class) -> Option<Class>
     ensures { result ≡ join left right }
 {
@@ -22,7 +22,7 @@ pub fn joined(left: Class, right: Class) -> Option<Class>
     }
 }
 
-/// The class of an operator before an operand, where its rule holds.
+/// The class of an operator before an operand, if its rule holds.
 pub fn changed(operator: UnaryOperator, operand: Class) -> Option<Class>
     ensures { result ≡ change operator operand }
 {
@@ -32,7 +32,7 @@ pub fn changed(operator: UnaryOperator, operand: Class) -> Option<Class>
     }
 }
 
-/// The class of an operator between two operands, where they join and its rule holds.
+/// The class of an operator between two operands, if they join and its rule holds.
 pub fn operated(operator: BinaryOperator, left: Class, right: Class) -> Option<Class>
     ensures { result ≡ combined operator left right }
 {
@@ -42,7 +42,7 @@ pub fn operated(operator: BinaryOperator, left: Class, right: Class) -> Option<C
     }
 }
 
-/// The class of an operator between operands that join to this class, where its rule holds.
+/// The class of an operator between operands that join to this class, if its rule holds.
 fn applied(operator: BinaryOperator, class: Class) -> Option<Class>
     ensures { result ≡ operation operator class }
 {

@@ -47,7 +47,7 @@ pub fn judge(names: Names<'_>, expr: &Expr, found: &mut Vec<Fault>) -> Result<Cl
     }
 }
 
-/// The class of a variable that is a name alone.
+/// The class of a variable that is only a name.
 pub fn judge_name(
     names: Names<'_>,
     used: &NameUse,

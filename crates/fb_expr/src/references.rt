@@ -126,7 +126,7 @@ fn referred_from(names: Names<'_>, name: &Name, subscripted: bool, members: &[Me
     referred_behind(names, variable, members)
 }
 
-/// What a name means alone: a variable of the unit.
+/// What a name means by itself: a variable of the unit.
 fn referred_variable(scope: &Scope, name: &Name, subscripted: bool) -> Referent
     ensures { result ≡ variable_named (scope_in scope.now) name.now subscripted }
 {
@@ -241,7 +241,7 @@ fn behind_named<'a>(structures: &'a Structures, name: &Name) -> Behind<'a>
     }
 }
 
-/// The same with a subscript on what is no array.
+/// What may be named after a subscript on what is no array: nothing, if names are checked there.
 fn without_fields(behind: Behind<'_>) -> Behind<'_>
     ensures { fields_shown result ≡ unless_judged (fields_shown behind.entry) }
 {

@@ -82,7 +82,7 @@ fn report_statement(
     }
 }
 
-/// Reports the faults of an assignment to a name alone. `place` is that of `:=`.
+/// Reports the faults of an assignment to a variable that is only a name. `place` is that of `:=`.
 fn report_set(
     names: Names<'_>,
     name: &NameUse,

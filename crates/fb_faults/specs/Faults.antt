@@ -43,28 +43,28 @@ faults_of sources unit = faults_in_order (reported_of sources unit)
 abbrev pub reported_in : Sources → List ℕ → BodyTree → List Fault
 reported_in sources unit body = all_reported sources unit (body_faults body) (tree_in body)
 
--- what the names of expressions stand for, where the network of the unit stands here
+-- what the names of expressions mean in a unit whose network is at this place
 abbrev pub names_here : Sources → NetworkPlace → Names
 names_here sources here = record { scope = here.scope; fields = fields_near sources here.unit }
 
--- what the checks of expressions and charts report of a chart, where the network of its type stands here
+-- what the checks of expressions and charts report of a chart, in a type whose network is at this place
 abbrev pub chart_here : Sources → NetworkPlace → ChartTree → List Fault
 chart_here sources here chart = expression_faults (names_here sources here) chart ++ chart_faults here.scope chart
 
--- what the checks of expressions, charts and networks report of a type, where its network stands here
+-- what the checks of expressions, charts and networks report of a type whose network is at this place
 abbrev pub faults_here : Sources → NetworkPlace → TypeTree → List Fault
 faults_here sources here d =
     expression_faults (names_here sources here) d.chart ++ chart_faults here.scope d.chart ++ network_faults sources here d.network
 
--- the same of a block type
+-- what these checks report of a block type
 abbrev pub block_faults : Sources → List ℕ → TypeTree → List Fault
 block_faults sources unit d = faults_here sources (type_place sources unit Block d).0 d
 
--- the faults of a unit depend on the texts of what is near it alone
+-- the faults of a unit depend only on the texts of what is near it
 abbrev pub FaultsAreLocal : Type 0
 FaultsAreLocal = (a b : Sources) (unit : List ℕ) → Agree (near_of a unit) a b → faults_of a unit ≡ faults_of b unit
 
--- each fault stands below those after it
+-- each fault is below those after it
 abbrev pub FaultsAreInOrder : Type 0
 FaultsAreInOrder = (sources : Sources) (unit : List ℕ) → IsStrictlySortedBy fault_cmp (faults_of sources unit)
 

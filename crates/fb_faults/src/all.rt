@@ -79,7 +79,7 @@ fn report_declared<V: View>(
     }
 }
 
-/// Where the network of a type of this kind is, by the ports of the type.
+/// The place of the network of a type of this kind, by the ports of the type.
 fn setting_of<V: View>(
     alloc: Global,
     view: &V,
@@ -114,7 +114,7 @@ fn report_block<V: View>(
     report_here(alloc, view, &here, declared, found)
 }
 
-/// Reports the faults of the chart and of the network of a type, where the network is here.
+/// Reports the faults of the chart and of the network of a type, whose network is at this place.
 fn report_here<V: View>(
     alloc: Global,
     view: &V,

@@ -9,7 +9,7 @@ use Rattle.fb_faults.specs.Faults.{faults_of}
 abbrev pub IsPartBelow : Sources → List ℕ → List ℕ → Type 0
 IsPartBelow sources unit name = (holder : List ℕ) × Rests sources unit holder × Contains (parts_at sources holder) name
 
--- The name is that of a unit with faults, or of none and a part of something that the unit rests on. The type of a value may be absent.
+-- The name is that of a unit with faults; or no unit has it, and it is a part of something that the unit rests on. The type of a value may be absent.
 abbrev pub IsBlocking : Sources → List ℕ → List ℕ → Type 0
 IsBlocking sources unit name = (faults_of sources name ≢ []) ⊎ ((get sources name ≡ None) × IsPartBelow sources unit name)
 
@@ -21,7 +21,7 @@ abbrev pub is_some_name : List (List ℕ) → Bool
 is_some_name [] = false
 is_some_name (x ∷ xs) = true
 
--- the same as a test, where `is_part` shows which names are parts of what the unit rests on
+-- whether a name blocks a unit, where `is_part` shows which names are parts of what the unit rests on
 abbrev pub is_blocking : Sources → (List ℕ → Bool) → List ℕ → Bool
 is_blocking sources is_part name = is_some_fault (faults_of sources name) || (is_none (get sources name) && is_part name)
 
@@ -29,7 +29,7 @@ is_blocking sources is_part name = is_some_fault (faults_of sources name) || (is
 abbrev pub is_part_among : Sources → List (List ℕ) → List ℕ → Bool
 is_part_among sources names name = list_any (λ holder. has_name (parts_at sources holder) name) names
 
--- the name is that of no unit, or of one with faults
+-- no unit has the name, or the one that has it has faults
 abbrev pub is_absent_or_faulty : Sources → List ℕ → Bool
 is_absent_or_faulty sources name = is_none (get sources name) || is_some_fault (faults_of sources name)
 

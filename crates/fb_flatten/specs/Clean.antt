@@ -7,17 +7,17 @@ use Rattle.fb_types.specs.declared.systems.Application.{Application}
 use Rattle.fb_types.specs.Tree.declared.kinds.UnitKind.TheVariants as kinds
 use Rattle.fb_faults.specs.Faults.{faults_of}
 
--- the kind that an instance wants of its type
+-- the kind that the type of an instance must have
 abbrev pub wanted_kind : InstanceKind → UnitKind
 wanted_kind Block = kinds.Block
 wanted_kind Subapplication = kinds.Subapplication
 
--- the network is clean, and the type of each instance is of the kind that this wants
+-- the network is clean, and the type of each instance has the kind that it must have
 pub record IsCleanWithKinds (sources : Sources) (network : PlainNetwork) : Type 0 where
   pub clean : IsClean (declared sources) network
   pub kinds : (i : Instance) → Contains network.instances i → kind_at sources i.type_name ≡ Some (wanted_kind i.kind)
 
--- without faults, the network of a unit is clean
+-- the network of a unit without faults is clean
 abbrev pub NetworksAreClean : Type 0
 NetworksAreClean =
     (sources : Sources) (unit : List ℕ) (network : PlainNetwork)
@@ -27,7 +27,7 @@ NetworksAreClean =
 abbrev pub application_named : List Application → List ℕ → Option Application
 application_named applications name = find (λ a. is_same a.name name) applications
 
--- each application has a name of its own and a clean network
+-- each application has its own name and a clean network
 pub record AreCleanWithKinds (sources : Sources) (applications : List Application) : Type 0 where
   pub apart :
       (i j : ℕ) (a b : Application)
@@ -35,7 +35,7 @@ pub record AreCleanWithKinds (sources : Sources) (applications : List Applicatio
   pub named : (a : Application) → Contains applications a → application_named applications a.name ≡ Some a
   pub sound : (a : Application) → Contains applications a → IsCleanWithKinds sources a.network
 
--- without faults, the networks of the applications of a system are clean
+-- the networks of the applications of a system without faults are clean
 abbrev pub ApplicationsAreClean : Type 0
 ApplicationsAreClean =
     (sources : Sources) (unit : List ℕ) (applications : List Application)

@@ -9,6 +9,6 @@ abbrev pub AreRightHints : Sources → (List ℕ → Option PlainNet) → Type 0
 AreRightHints sources hints =
     (name : List ℕ) (net : PlainNet) → hints name ≡ Some net → net_at sources name ≡ Some net
 
--- each unit that is known to be without faults is there and has none
+-- each unit that is known to be without faults is present and has none
 abbrev pub AreFaultless : Sources → (List ℕ → Bool) → Type 0
 AreFaultless sources faultless = (name : List ℕ) → faultless name ≡ true → is_absent_or_faulty sources name ≡ false

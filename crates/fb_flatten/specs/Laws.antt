@@ -7,6 +7,6 @@ use Rattle.fb_flatten.specs.Net.{PlainNet, IsNet}
 abbrev pub OneNet : Type 0
 OneNet = (sources : Sources) (unit : List ℕ) (a b : PlainNet) → IsNet sources unit a → IsNet sources unit b → a ≡ b
 
--- the net of a unit depends on the texts alone that the unit rests on
+-- the net of a unit depends only on the texts that the unit rests on
 abbrev pub NetIsLocal : Type 0
 NetIsLocal = (a b : Sources) (unit : List ℕ) → AgreeFar unit a b → (net : PlainNet) → IsNet a unit net → IsNet b unit net

@@ -23,7 +23,7 @@ pub record SameFlats (a b : View) (network : PlainNetwork) : Type 0 where
   pub instances : (held : List Held) → AreInstances a network.instances held ↔ AreInstances b network.instances held
   pub counts : (count : ℕ) → IsCount a network.instances count ↔ IsCount b network.instances count
 
--- a network within some names has its flat network by the networks of these names alone
+-- the flat network of a network within some names depends only on the networks of these names
 abbrev pub FlatNetworksAreLocal : Type 0
 FlatNetworksAreLocal =
     (a b : View) (names : List (List ℕ)) (network : PlainNetwork)

@@ -98,7 +98,7 @@ net_of_tree sources unit tree =
     let names = far_of sources unit in
     first_net (filter (is_blocking sources (is_part_among sources names)) names) (filter (is_recursive sources) names) (finite_net (length names) sources tree)
 
--- a unit has its net by its own text
+-- whether a unit has a net is known from its own text
 abbrev pub HasNetByText : Type 0
 HasNetByText = (sources : Sources) (unit : List ℕ) → (has_net_in (tree_at sources unit) ≡ true) ↔ HasNet sources unit
 
@@ -110,10 +110,10 @@ net_in sources unit (Some tree) = if has_net_tree tree then Some (net_of_tree so
 unfoldable pub net_at : Sources → List ℕ → Option PlainNet
 net_at sources unit = net_in sources unit (tree_at sources unit)
 
--- it is the one net of the unit
+-- this is the one net of the unit
 abbrev pub NetAtIsNet : Type 0
 NetAtIsNet = (sources : Sources) (unit : List ℕ) (net : PlainNet) → (net_at sources unit ≡ Some net) ↔ (HasNet sources unit × IsNet sources unit net)
 
--- it depends on the texts alone that the unit rests on
+-- this net depends only on the texts that the unit rests on
 abbrev pub NetAtIsLocal : Type 0
 NetAtIsLocal = (a b : Sources) (unit : List ℕ) → AgreeFar unit a b → net_at a unit ≡ net_at b unit

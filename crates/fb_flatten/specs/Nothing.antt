@@ -1,4 +1,4 @@
--- A unit without faults is one of which no check reports any.
+-- Units without faults: no check reports one.
 use Rattle.std.specs.Prelude.{◌≡◌, ℕ, List, []}
 use Rattle.fb_types.specs.{Library.View.{Sources}, Iface.Declarations.{iface_faults_of}}
 use Rattle.fb_faults.specs.{Expr.Charts.{expr_faults_of}, Ecc.Charts.{ecc_faults_of}, Netcheck.Networks.{net_faults_of}, Faults.{faults_of, syntax_faults_of}}

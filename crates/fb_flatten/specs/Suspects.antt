@@ -1,15 +1,15 @@
--- Names among which those that block a unit, or reach themselves, are looked for.
+-- Lists that have all names that block a unit or reach themselves.
 use Rattle.std.specs.{Prelude.{◌≡◌, ℕ, Bool, true, false, if◌then◌else◌, List, [], Option, None, Contains}, List.{list_any}, FinMap.{get}}
 use Rattle.std.specs.List.Sorted.{IsStrictlySortedBy}
 use Rattle.fb_types.specs.{Text.Order.{name_cmp}, Library.Seen.{has_name}, Library.View.{Sources, mentions_at, parts_at}, Library.Rests.{Rests}}
 use Rattle.fb_types.specs.Reaches.{IsRecursive, SomePartRestsOnRecursive}
 use Rattle.fb_flatten.specs.{Blocking.{IsBlocking, IsPartBelow}, Hints.{is_whole_hint}, Net.{PlainNet}}
 
--- what the name mentions; nothing where its kept net tells that nothing blocks it and none of what it rests on reaches itself
+-- the names that it mentions; none if its kept net shows that nothing blocks it and none of what it rests on reaches itself
 abbrev pub mentions_beyond : (List ℕ → Option PlainNet) → Sources → List ℕ → List (List ℕ)
 mentions_beyond hints sources name = if is_whole_hint (hints name) then [] else mentions_at sources name
 
--- its parts alone
+-- its parts, and none in the same case
 abbrev pub parts_beyond : (List ℕ → Option PlainNet) → Sources → List ℕ → List (List ℕ)
 parts_beyond hints sources name = if is_whole_hint (hints name) then [] else parts_at sources name
 

@@ -5,7 +5,7 @@ use Rattle.fb_types.specs.{Counts.{IsCounted}, ByName.{declared}}
 pub use Rattle.fb_types.specs.Tables.{IsDeclaredIn, Has, HasAdapter, HasAdapters, Grows, HasType, IsTable, AllCounted, SameOthers, IsUnitCount, IsSmallType, known_flats, IsComposed, IsAdded, AllFinished, is_subapplication_tree, is_subapplication_in, is_missing, IsComposable, AreComposable, IsComposedApplication, AreComposedApplications, IsFlatTogether, AreComposedTogether, is_system_tree, is_system_in}
 use Rattle.fb_flatten.specs.{Hints.{is_whole_hint}, Net.{PlainNet, IsSound}}
 
--- Names with inner types first, as far as kept nets do not tell that they are whole. Each of them is sound.
+-- Names with inner types first, except inside a type whose kept net shows that it is whole. Each of them is sound.
 pub record IsSoundOrder (sources : Sources) (hints : List ℕ → Option PlainNet) (order : List (List ℕ)) : Type 0 where
   pub inner_first :
       (k : ℕ) (name w : List ℕ)
@@ -13,19 +13,19 @@ pub record IsSoundOrder (sources : Sources) (hints : List ℕ → Option PlainNe
       → Contains (take k order) w
   pub sound : (name : List ℕ) → Contains order name → IsSound sources name
 
--- the same of names that the unit rests on by parts, among them the unit and its parts
+-- such an order of names that the unit rests on by parts, among them the unit and its parts
 pub record IsUnitOrder (sources : Sources) (hints : List ℕ → Option PlainNet) (unit : List ℕ) (order : List (List ℕ)) : Type 0 where
   pub names : IsSoundOrder sources hints order
   pub own : Contains order unit
   pub parts : (w : List ℕ) → Contains (parts_at sources unit) w → Contains order w
   pub below : (name : List ℕ) → Contains order name → PartRests sources unit name
 
--- what is composed is that of names of the order that are missing for the unit
+-- each composed flat network is that of a name of the order that is missing for the unit
 abbrev pub AreMissing : Sources → (List ℕ → Option PlainNet) → List ℕ → List (List ℕ) → Nets → Type 0
 AreMissing sources hints unit order composed =
     (name : List ℕ) (flat : PlainFlat)
     → composed name ≡ Some flat → Contains order name × (is_missing sources hints unit name ≡ true)
 
--- each count is that of the type under whose name it stands
+-- each count is that of the type of its name
 abbrev pub AreRightCounts : Sources → (List ℕ → Option ℕ) → Type 0
 AreRightCounts sources counts = (name : List ℕ) (count : ℕ) → counts name ≡ Some count → IsCounted (declared sources) counts name

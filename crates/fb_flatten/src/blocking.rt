@@ -10,7 +10,7 @@ use fb_types::{Hints, KnownFaultless, is_known_whole};
 use std::alloc::{AllocError, Global};
 use std::collections::BTreeSet;
 
-/// Whether the name is that of a unit with faults, or of none and among the parts.
+/// Whether the name is that of a unit with faults, or no unit has it and it is among the parts.
 fn blocks<V: View, K: Hints + KnownFaultless>(
     alloc: Global,
     view: &V,
@@ -35,7 +35,7 @@ fn blocks<V: View, K: Hints + KnownFaultless>(
     Ok(!found.is_empty())
 }
 
-/// The names among these that are those of a unit with faults, or of none and among the parts, in the same order.
+/// The names among these that are those of units with faults, or of no unit and among the parts, in the same order.
 pub(crate) fn blocking<V: View, K: Hints + KnownFaultless>(
     alloc: Global,
     view: &V,

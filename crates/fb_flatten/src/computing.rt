@@ -33,7 +33,7 @@ fn alone(alloc: Global, net: Net) -> Computed
     }
 }
 
-/// The net of a unit, where the nets of some units are kept and some units are known to be there without faults, and nets of units that it
+/// The net of a unit, if the nets of some units are kept and some units are known to be present and without faults, and nets of units that it
 /// rests on. Nothing is checked or composed of what a unit rests on whose kept net is flat or too large.
 pub fn compute<V: View, K: Hints + KnownFaultless>(
     alloc: Global,
@@ -91,7 +91,7 @@ fn order_of<V: View>(
     inner_first(alloc, view, unit)
 }
 
-/// The same if nothing blocks the unit, and what is left to look at is in an order with inner types first.
+/// The net of a unit that nothing blocks, with the nets that are found on the way. What must still be read is in an order with inner types first.
 fn compute_in_order<V: View, H: Hints>(
     alloc: Global,
     view: &V,

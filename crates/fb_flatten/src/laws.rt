@@ -22,7 +22,7 @@ pub fn far_is_all()
     ensures { FarIsAll }
 {}
 
-/// They depend only on the texts that the unit rests on.
+/// The names that a unit rests on depend only on the texts that it rests on.
 pub fn far_of_is_local()
     ensures { FarOfIsLocal }
 {}
@@ -37,7 +37,7 @@ pub fn net_at_is_net()
     ensures { NetAtIsNet }
 {}
 
-/// It depends only on the texts that the unit rests on.
+/// The computed net depends only on the texts that the unit rests on.
 pub fn net_at_is_local()
     ensures { NetAtIsLocal }
 {}

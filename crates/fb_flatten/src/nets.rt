@@ -1,5 +1,5 @@
 //! The nets of units, without those that are found on the way.
-//! Composition follows parts, blocking follows mentions of both sorts: so there are two searches for an order. The call has a file of its own, since
+//! Composition follows parts, blocking follows mentions of both sorts: so there are two searches for an order. The call has its own file, since
 //! Rattle makes a module for each file and item, and `net` would meet the type `Net` there.
 ghost use Rattle.std.specs.Prelude.{◌≡◌, IfOk, Some};
 ghost use Rattle.fb_types.specs.Units.{HasNet};
@@ -21,7 +21,7 @@ pub fn net<V: View>(alloc: Global, view: &V, unit: Name) -> Result<Net, AllocErr
     net_with(alloc, view, unit, &NoHints)
 }
 
-/// The same, if the nets of some units are kept. What a unit rests on whose kept net is flat or too large is neither
+/// As `net`, if the nets of some units are kept. What a unit rests on whose kept net is flat or too large is neither
 /// checked nor composed.
 pub fn net_with<V: View, H: Hints>(
     alloc: Global,

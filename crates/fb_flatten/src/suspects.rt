@@ -51,7 +51,7 @@ fn open<V: View, H: Hints>(
 }
 
 /// If one of these names is absent, the parts of all of them that no kept net shows to be whole. If none is absent, they
-/// are not wanted.
+/// are not needed.
 pub(crate) fn parts_where_absent<V: View, K: Hints + KnownFaultless>(
     alloc: Global,
     view: &V,
@@ -70,7 +70,7 @@ pub(crate) fn parts_where_absent<V: View, K: Hints + KnownFaultless>(
     }
 }
 
-/// Whether one of the names is that of no unit.
+/// Whether no unit has one of the names.
 fn has_absent<V: View, K: Hints + KnownFaultless>(view: &V, known: &K, names: &[Name]) -> bool
     requires right { AreRightHints (V.sources view.now) (K.hints known.now) }
     requires faultless { AreFaultless (V.sources view.now) (K.faultless known.now) }

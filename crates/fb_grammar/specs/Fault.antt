@@ -7,6 +7,6 @@ abbrev pub IsStuck : {A : Type 0} → Form A → List Lexeme → List Lexeme →
 IsStuck x prefix [] = Unit {0}
 IsStuck x prefix (token ∷ rest) = Prefix x (prefix ++ token ∷ []) → ⊥
 
--- The rest begins at the first token such that the tokens up to it are no prefix of the form, and is empty where there is none.
+-- The rest begins at the first token such that the tokens up to it are no prefix of the form; it is empty if there is no such token.
 abbrev pub IsFault : {A : Type 0} → Form A → List Lexeme → List Lexeme → Type 0
 IsFault x tokens rest = (prefix : List Lexeme) × (tokens ≡ prefix ++ rest) × ((us vs : List Lexeme) → prefix ≡ us ++ vs → Prefix x us) × IsStuck x prefix rest

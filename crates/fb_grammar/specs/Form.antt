@@ -2,7 +2,7 @@
 use Rattle.std.specs.Prelude.{◌≡◌, true, ◌⊎◌, List, [], ◌∷◌, ◌++◌, Option, Some, None}
 use Rattle.fb_grammar.specs.{declared.kind.Kind.{Kind}, declared.lexeme.Lexeme.{Lexeme}, Kind.{is_among}}
 
--- A form whose spellings stand for values of A.
+-- A form, each of whose spellings has a value of A.
 pub data Form : Type 0 → Type 1 where
   -- one token of one of these kinds
   one : List Kind → Form Lexeme
@@ -14,7 +14,7 @@ pub data Form : Type 0 → Type 1 where
   option : {A : Type 0} → Form A → Form (Option A)
   -- {x}
   many : {A : Type 0} → Form A → Form (List A)
-  -- x, whose values are read as others
+  -- x, whose values a function changes
   as_value : {A B : Type 0} → (A → B) → Form A → Form B
 
 abbrev pub SpellsOption : {A : Type 0} → (List Lexeme → A → Type 0) → List Lexeme → Option A → Type 0

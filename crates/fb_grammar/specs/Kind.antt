@@ -1,4 +1,4 @@
--- The kinds of tokens that the grammar tells apart, each with a number of its own.
+-- The kinds of tokens that the grammar distinguishes, each with its own number.
 use Rattle.std.specs.{Prelude.{ℕ, Bool, List, [], ◌∷◌, nat_eq}, List.{list_any}}
 use Rattle.fb_grammar.specs.declared.kind.Kind.{Kind}
 use Rattle.fb_grammar.specs.declared.kind.Kind.TheVariants.{FunctionBlock, EndFunctionBlock, Adapter, EndAdapter, Subapplication, EndSubapplication, System, EndSystem, Application, EndApplication, Device, EndDevice, Resource, EndResource, Mappings, EndMappings, EventInput, EventOutput, EndEvent, Var, VarInput, VarOutput, EndVar, Plugs, EndPlugs, Sockets, EndSockets, Fbs, EndFbs, Subapps, EndSubapps, EventConnections, DataConnections, AdapterConnections, EndConnections, EcStates, EndStates, EcTransitions, EndTransitions, Algorithm, EndAlgorithm, Service, EndService, With, To, Array, Of, If, Then, Elsif, Else, EndIf, Case, EndCase, For, By, Do, EndFor, While, EndWhile, Repeat, Until, EndRepeat, Exit, Return, And, Or, Xor, Not, Mod, True, False, NameIn, NameOn, NameSt, Name, Zero, One, Number, RealNumber, TypedTruth, TypedInteger, TypedBits, TypedFree, TypedOther, Text, Assign, LessEqual, GreaterEqual, NotEqual, Power, Arrow, Range, Semicolon, Colon, Comma, Point, OpenParenthesis, CloseParenthesis, OpenBracket, CloseBracket, Equal, Less, Greater, Plus, Minus, Times, Divide, Ampersand, Other, TypeWord, EndType, Struct, EndStruct, End, NeverClosed}
@@ -124,7 +124,7 @@ code_of NeverClosed = 115
 abbrev pub same_kind : Kind → Kind → Bool
 same_kind a b = nat_eq (code_of a) (code_of b)
 
--- a kind is one of these
+-- whether a kind is one of these
 abbrev pub is_among : List Kind → Kind → Bool
 is_among kinds kind = list_any (λ k. same_kind k kind) kinds
 

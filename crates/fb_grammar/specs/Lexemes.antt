@@ -11,7 +11,7 @@ use Rattle.fb_grammar.specs.declared.kind.Kind.{Kind}
 use Rattle.fb_grammar.specs.declared.kind.Kind.TheVariants.{NameIn, NameOn, NameSt, Name, Zero, One, Number, RealNumber, TypedTruth, TypedInteger, TypedBits, TypedFree, TypedOther, Text, Other}
 use Rattle.fb_grammar.specs.{declared.lexeme.Lexeme.{Lexeme}, ReservedWords.{keyword, symbol}}
 
--- a name of at most 64 bytes, those spelled IN, ON and ST in any case apart; no name where the word is longer
+-- a name of at most 64 bytes; IN, ON and ST in any case have their own kinds; a longer word is no name
 unfoldable pub name_kind : List ℕ → Kind
 name_kind word =
     if nat_lt 64 (length word) then Other
@@ -36,7 +36,7 @@ number_kind number =
     else if list_any (λ b. b == point) number then RealNumber
     else Number
 
--- what stands before the first `#`
+-- what comes before the first `#`
 abbrev pub type_name : List ℕ → List ℕ
 type_name bytes = take (prefix_len (λ b. not (b == hash)) bytes) bytes
 
@@ -67,7 +67,7 @@ abbrev pub name_or : {E : Type 0} → Result (List ℕ) E → List ℕ → List 
 name_or (Ok name) other = name
 name_or (Err e) other = other
 
--- the name that the bytes spell, `_` where they spell none
+-- the name that the bytes spell, `_` if they spell none
 abbrev pub spelled_name : List ℕ → List ℕ
 spelled_name bytes = name_or (name_of bytes) (codes "_")
 
@@ -92,6 +92,6 @@ abbrev pub place : ℕ → List Lexeme → Span
 place end [] = record { start = end; end = end }
 place end (lexeme ∷ lexemes) = lexeme.span
 
--- the name where it stands
+-- the name with its span
 abbrev pub name_use : Lexeme → NameUse
 name_use lexeme = record { name = lexeme.name; span = lexeme.span }

@@ -19,7 +19,7 @@ typed_kinds = TypedTruth ∷ TypedInteger ∷ TypedBits ∷ TypedFree ∷ TypedO
 abbrev pub literal_kinds : List Kind
 literal_kinds = number_kinds ++ (typed_kinds ++ (Text ∷ True ∷ False ∷ []))
 
--- stands where no literal is: its body stays closed to proofs, so that nothing is known of it
+-- used for a token that is no literal: its body stays closed to proofs, so that nothing is known of it
 pub no_literal : LiteralForm
 no_literal = form.Text
 
@@ -46,6 +46,6 @@ literal_at kind span = record { form = literal_form kind; span = span }
 abbrev pub literal_use : Lexeme → Literal
 literal_use token = record { form = literal_form token.kind; span = token.span }
 
--- from the start of one to the end of the other
+-- the span from the start of one to the end of the other
 abbrev pub across : Span → Span → Span
 across a b = record { start = a.start; end = b.end }

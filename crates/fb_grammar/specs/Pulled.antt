@@ -15,7 +15,7 @@ pub record IsSpelling (bytes spelled : List ℕ) : Type 0 where
   pub name : str_to_ascii_uppercase bytes ≡ spelled
 
 -- The first of what is pulled from where a span begins has this kind and this span. What is pulled from its end on is what
--- follows it, and nothing follows what is behind all tokens.
+-- follows it, and nothing follows what comes after all tokens.
 pub record IsFront (text : List ℕ) (found : Kind) (span : Span) : Type 0 where
   pub some : 0 < length (pulled_at text span.start)
   pub kind : (front (pulled_at text span.start)).kind ≡ found

@@ -22,7 +22,7 @@ first (option x) = first x
 first (many x) = first x
 first (as_value f x) = first x
 
--- the kinds of token that may go on behind a spelling of the form, as a prefix of it
+-- the kinds of token that may continue a spelling of the form, as a prefix of it
 abbrev pub after : {A : Type 0} → Form A → List Kind
 after (one kinds) = []
 after (both x y) = if is_nullable y then after x ++ after y else after y
@@ -34,7 +34,7 @@ after (as_value f x) = after x
 abbrev pub are_apart : List Kind → List Kind → Bool
 are_apart kinds others = list_all (λ kind. not (is_among others kind)) kinds
 
--- One token tells how to go on.
+-- One token decides how reading continues.
 abbrev pub is_predictive : {A : Type 0} → Form A → Bool
 is_predictive (one kinds) = true
 is_predictive (both x y) = is_predictive x && (is_predictive y && are_apart (after x) (first y))
@@ -43,7 +43,7 @@ is_predictive (option x) = is_predictive x && not (is_nullable x)
 is_predictive (many x) = is_predictive x && (not (is_nullable x) && are_apart (after x) (first x))
 is_predictive (as_value f x) = is_predictive x
 
--- a value and the tokens behind it, or the tokens from the first that does not go on
+-- a value and the tokens after it, or the tokens from the first that does not continue the form
 abbrev pub Outcome : Type 0 → Type 0
 Outcome A = Result (A × List Lexeme) (List Lexeme)
 
@@ -61,7 +61,7 @@ abbrev pub read_one : List Kind → List Lexeme → Outcome Lexeme
 read_one kinds [] = Err []
 read_one kinds (token ∷ tokens) = if is_among kinds token.kind then Ok (token, tokens) else Err (token ∷ tokens)
 
--- at most so many values, as long as the next token begins one
+-- at most this number of values, as long as the next token begins one
 abbrev pub read_each : {A : Type 0} → (List Lexeme → Outcome A) → List Kind → ℕ → List Lexeme → Outcome (List A)
 read_each read kinds zero tokens = Ok ([], tokens)
 read_each read kinds (suc n) tokens =

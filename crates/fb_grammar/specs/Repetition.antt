@@ -6,7 +6,7 @@ use Rattle.fb_grammar.specs.{declared.kind.Kind.{Kind}, declared.lexeme.Lexeme.{
 abbrev pub with_prefix : {A : Type 0} → List A → Outcome (List A) → Outcome (List A)
 with_prefix prefix outcome = outcome >>= λ x. Ok (prefix ++ x.0, x.1)
 
--- one behind the other
+-- one after the other
 abbrev pub read_both : {A B : Type 0} → (List Lexeme → Outcome A) → (List Lexeme → Outcome B) → List Lexeme → Outcome (A × B)
 read_both reads then_reads tokens = reads tokens >>= λ a. then_reads a.1 >>= λ b. Ok ((a.0, b.0), b.1)
 

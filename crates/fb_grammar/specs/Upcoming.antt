@@ -13,11 +13,11 @@ is_lone b = list_any (λ s. s == b) (codes ";,)[]=+&")
 abbrev pub lone_symbol : ℕ → Option Kind
 lone_symbol b = if is_lone b then symbol (b ∷ []) else None
 
--- what is behind all tokens, from a place up to the end of the text
+-- what comes after all tokens, from a place up to the end of the text
 abbrev pub closing_at : Kind → ℕ → ℕ → Lexeme
 closing_at kind start end = record { kind = kind; span = record { start = start; end = end }; name = codes "_" }
 
--- the piece at a place before what follows it
+-- the piece at a place, and then what follows it
 abbrev pub pulled_before : List ℕ → ℕ → Piece → (ℕ → List Lexeme) → List Lexeme
 pulled_before text place (Gap n) following = following n
 pulled_before text place Unclosed following = closing_at NeverClosed place (length text) ∷ []
@@ -38,7 +38,7 @@ abbrev pub front : List Lexeme → Lexeme
 front [] = closing_at End 0 0
 front (token ∷ tokens) = token
 
--- kinds of tokens alone, and not of what is behind all tokens
+-- only kinds of tokens, and none of what comes after all tokens
 abbrev pub are_tokens : List Kind → Type 0
 are_tokens kinds = (is_among kinds End ≡ false) × (is_among kinds NeverClosed ≡ false)
 
@@ -55,7 +55,7 @@ abbrev pub with_lexeme : Lexeme → Result (List Lexeme) Span → Result (List L
 with_lexeme token (Ok tokens) = Ok (token ∷ tokens)
 with_lexeme token (Err bad) = Err bad
 
--- The tokens without what is behind them, or the comment that is never closed. Of all that is pulled of a text this is `lexemes_of` of the text.
+-- The tokens without what comes after them, or the comment that is never closed. For all that is pulled of a text this is `lexemes_of` of the text.
 abbrev pub unended : List Lexeme → Result (List Lexeme) Span
 unended [] = Ok []
 unended (token ∷ tokens) =

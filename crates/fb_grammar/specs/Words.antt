@@ -24,7 +24,7 @@ abbrev pub or_none : {A : Type 0} → Option (List A) → List A
 or_none None = []
 or_none (Some values) = values
 
--- [x], which gives no values where it is not written
+-- [x], which gives no values if it is not written
 abbrev pub optional_list : {A : Type 0} → Form (List A) → Form (List A)
 optional_list x = as_value or_none (option x)
 

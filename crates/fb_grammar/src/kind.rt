@@ -131,7 +131,7 @@ pub enum Kind {
     EndType,
     Struct,
     EndStruct,
-    // behind all tokens: the end of the text, or a comment that is never closed
+    // after all tokens: the end of the text, or a comment that is never closed
     End,
     NeverClosed,
 }
@@ -152,7 +152,7 @@ impl Kind {
     }
 }
 
-/// Each kind has a number of its own, so `is_among` finds exactly the members of a list.
+/// Each kind has its own number, so `is_among` finds exactly the members of a list.
 pub fn own_numbers()
     ensures own { (a b : Kind) → code_of a ≡ code_of b → a ≡ b }
     ensures members { (kinds : List Kind) (kind : Kind) → (is_among kinds kind ≡ true)

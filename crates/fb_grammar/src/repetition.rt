@@ -14,7 +14,7 @@ use std::alloc::Global;
 pub trait Reader {
     type Item: Drop;
 
-    // what a value stands for in the grammar
+    // what a value is in the grammar
     ghost Tree: { Type 0 };
 
     ghost view: { Self.Item → Tree };

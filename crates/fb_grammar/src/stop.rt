@@ -5,7 +5,7 @@ ghost use Rattle.std.specs.Prelude.{◌≡◌};
 
 use std::alloc::{AllocError, AllocFailed};
 
-/// Memory ran out, or the tokens from the next one on don't continue as the grammar wants.
+/// Memory ran out, or the tokens from the next one on don't continue as the grammar requires.
 #[derive(Clone, Copy, Debug)]
 pub enum Stop {
     Memory,

@@ -45,7 +45,7 @@ impl<'t> Tokens<'t> {
         Tokens { text, next, quotes }
     }
 
-    /// The kind of the next token. There is always one, or what is behind all tokens.
+    /// The kind of the next token. There is always one, or what comes after all tokens.
     pub fn kind(&self) -> Kind
         ensures kind { result ≡ (front self.now).kind }
         ensures some { 0 < length self.now }
@@ -85,7 +85,7 @@ impl<'t> Tokens<'t> {
         self.next = next_front(self.text, self.next.place.end() as usize, &mut self.quotes);
     }
 
-    /// The comment that is never closed, if there is one, behind all tokens that are left.
+    /// The comment that is never closed, if there is one, after all tokens that are left.
     pub fn unclosed(mut self) -> Option<Place>
         ensures { result ≡ closing self.entry }
     {
@@ -99,7 +99,7 @@ impl<'t> Tokens<'t> {
     }
 }
 
-/// A token, or what is behind all tokens: its kind and its place.
+/// A token, or what comes after all tokens: its kind and its place.
 #[derive(Clone, Copy)]
 struct Front {
     kind: Kind,
@@ -151,7 +151,7 @@ fn word_at(text: &str, place: usize) -> Front
     front_at(kind, place, place + end)
 }
 
-/// The token at a place or the first after it, or what is behind all tokens.
+/// The token at a place or the first after it, or what comes after all tokens.
 fn next_front(text: &str, from: usize, quotes: &mut OpenQuotes) -> Front
     requires boundary { IsCharBoundary text.now from }
     requires short { length text.now < 4294967296 }
@@ -182,7 +182,7 @@ fn next_front(text: &str, from: usize, quotes: &mut OpenQuotes) -> Front
     front_at(Kind::End, bytes.len(), bytes.len())
 }
 
-/// What is pulled of a text are its tokens, and then its end or a comment that is never closed. All of this lies in the text.
+/// What is pulled of a text are its tokens, and then its end or a comment that is never closed. All of this is inside the text.
 pub fn tokens_are_pulled()
     ensures tokens { (text : List ℕ) → unended (tokens_to_end text) ≡ lexemes_of text }
     ensures within { (text : List ℕ) → IsUtf8 text

@@ -23,7 +23,7 @@ pub record Log : Type 0 where
 abbrev pub on_page : List (ℕ × ℕ) → ℕ → ℕ
 on_page pages caller = unwrap_or (lookup (is_at (nat_cmp caller)) pages) 0
 
--- one call more on the page of its caller
+-- one more call on the page of its caller
 abbrev pub page_more : List (ℕ × ℕ) → ℕ → List (ℕ × ℕ)
 page_more pages caller = insert_entry nat_cmp pages caller (on_page pages caller + 1)
 
@@ -55,7 +55,7 @@ opened origin =
       out = λ key. list_any (same_key key) origin.out;
     }
 
--- its texts are by rising names, and no key is pending or handed out but theirs
+-- the texts are by rising names, and only their keys are pending or handed out
 pub record IsOrigin (origin : Origin) : Type 0 where
   pub rise : IsStrictlySortedBy name_cmp (names_of origin.units)
   pub waiting : (key : Key) → has_key origin.units key ≡ false → (opened origin).pending key ≡ false
@@ -65,7 +65,7 @@ pub record IsOrigin (origin : Origin) : Type 0 where
 abbrev pub empty_origin : ℕ → Origin
 empty_origin most_units = record { most_units = most_units; units = []; commits = 0; pending = []; out = []; before = 0; pages = [] }
 
--- a workbench: all else follows from what it begins from and its history
+-- a workbench: all else follows from its origin and its history
 pub record BenchView : Type 0 where
   pub origin : Origin
   pub log : Log
@@ -98,7 +98,7 @@ record_at records (suc place) = slice_get records place
 abbrev pub last_number : BenchView → ℕ
 last_number bench = bench.origin.before + length bench.log.records
 
--- the record of this number: none up to the calls before the history begins
+-- the record of this number; calls from before the history begins have none
 abbrev pub record_numbered : BenchView → ℕ → Option Record
 record_numbered bench number = record_at bench.log.records (number - bench.origin.before)
 
@@ -128,15 +128,15 @@ logged bench caller call answer =
 abbrev pub new_bench : ℕ → ℕ → BenchView
 new_bench most_units limit = record { origin = empty_origin most_units; log = record { limit = limit; records = [] } }
 
--- as many calls are recorded as may be
+-- the history has the number of calls that it may have
 abbrev pub IsFull : Log → Type 0
 IsFull log = log.limit ≤ length log.records
 
--- where the history has led to
+-- the state to which the history has led
 abbrev pub state_of : BenchView → State
 state_of bench = replay (opened bench.origin) (calls_of bench.log)
 
--- what the machine answers to a call there
+-- what the machine answers to a call in that state
 abbrev pub reply_at : BenchView → Call → Reply
 reply_at bench call = reply (state_of bench) call
 

@@ -41,18 +41,18 @@ is_refusal (OfDeliver answer) = refuses_result answer
 is_refusal (OfGiveBack answer) = refuses_return answer
 is_refusal (OfAsk shown) = refuses_question shown
 
--- What is known of a key after some calls: nothing where the present texts don't have it; that it is pending while no current
+-- What is known of a key after some calls: nothing if the present texts don't have it; that it is pending while no current
 -- result has come since the last commit that made or reached it; otherwise the value of the present texts, from scratch.
 abbrev pub entry_after : Origin → List Call → Key → Shown
 entry_after origin calls key =
     let texts = (replay (opened origin) calls).units in
     if not (has_key texts key) then Unknown else (if due_from (opened origin) calls key then Waits else Finds (scratch texts key))
 
--- after any calls, what is known of each key is what the calls and the present texts say
+-- after any calls, what is known of each key is what the calls and the present texts determine
 abbrev pub EntriesFollow : Origin → Type 0
 EntriesFollow origin = (calls : List Call) (key : Key) → shown (replay (opened origin) calls) key ≡ entry_after origin calls key
 
--- a call that is refused there changes nothing
+-- a call that is refused in this state changes nothing
 abbrev pub RefusalsStay : State → Type 0
 RefusalsStay state = (call : Call) → is_refusal (reply state call) ≡ true → after state call ≡ state
 
@@ -60,6 +60,6 @@ RefusalsStay state = (call : Call) → is_refusal (reply state call) ≡ true �
 abbrev pub ReachAlike : List (List ℕ) → Texts → Texts → Type 0
 ReachAlike changed texts others = (key : Key) → reaches changed texts key ≡ reaches changed others key
 
--- and so in all texts that are the same but for them
+-- the changed names reach the same keys in any two texts that differ only under these names
 abbrev pub ReachAnywhere : List (List ℕ) → Type 0
 ReachAnywhere changed = (texts others : Texts) → AgreeApartFrom changed texts others → ReachAlike changed texts others

@@ -17,7 +17,7 @@ pub record State : Type 0 where
   pub pending : Key → Bool
   pub out : Key → Bool
 
--- what is asked of the machine. A job or a result counts by its key and its reads
+-- a call of the machine. Of a job or a result only its key and its reads matter
 pub data Call : Type 0 where
   ToCommit : (edits : List Edit) → Call
   ToTake : Call
@@ -31,7 +31,7 @@ pub data Shown : Type 0 where
   Waits : Shown
   Unknown : Shown
 
--- what it replies
+-- what the machine replies
 pub data Reply : Type 0 where
   OfCommit : (answer : Committed) → Reply
   OfTake : (job : Option PlainJob) → Reply

@@ -1,4 +1,4 @@
--- Records of the program as what they say.
+-- Records of the program as contracts see them.
 use Rattle.std.specs.{Prelude.{◌+◌, List, map, take, Some, None, string_bytes}, declared.sync.Arc.{Arc}, declared.alloc.Global.{Global}}
 use Rattle.fb_jobs.specs.{Library.Texts.{Edit, Puts, Removes}, Library.declared.change.Change.{Change}, Library.Changes.{edits_of}, Reads.{PlainJob}}
 use Rattle.fb_jobs.specs.Values.{finding_of}

@@ -16,7 +16,7 @@ pub enum Committed {
     NoChange,
     /// More than sixteen.
     TooManyChanges,
-    /// The unit of the first change whose unit came before.
+    /// The unit of the first change whose unit an earlier change has.
     SameUnitTwice(Name),
     /// `current` is the unit's revision, 0 if it is absent.
     StaleBase { unit: Name, current: u64 },

@@ -13,12 +13,12 @@ pub fn entries_follow_the_texts()
     ensures refused { (state : State) → RefusalsStay state }
 {}
 
-/// Changed names reach a key in the texts before the change exactly where they reach it in those after it.
+/// Changed names reach a key in the texts before the change if and only if they reach it in those after it.
 pub fn reach_before_and_after()
     ensures { (changed : List (List ℕ)) → ReachAnywhere changed }
 {}
 
-/// A checkpoint is not seen by later calls, but for its limits; two in a row are the second alone; numbers and turns continue.
+/// Later calls don't notice a checkpoint, except for its limits; two in a row do what the second one does; numbers and turns continue.
 pub fn checkpoints_are_unseen()
     ensures unseen { (limits : Bounds) (bench : BenchView) → IsOrigin bench.origin → IsUnseen limits bench }
     ensures one { (first second : Bounds) (bench : BenchView) → IsOrigin bench.origin → AreOne first second bench }

@@ -24,7 +24,7 @@ impl Model for Limits {
 }
 
 impl Limits {
-    /// None where a number is out of its range.
+    /// None if a number is out of its range.
     pub fn new(units: u64, history: u64) -> Option<Limits>
         ensures { SomeIff result (AreLimits units history)
             (record { units = units; history = history }) }

@@ -110,7 +110,7 @@ impl History {
         self.limit <= self.records.len() as u64
     }
 
-    /// The record of this number, counted over all calls from 1: None up to those before the start.
+    /// The record of this number, counted over all calls from 1: None for a call before the start.
     pub fn record(&self, number: u64) -> Option<&Record>
         ensures { option_map (λ it. it.now) result ≡ record_numbered self.now number }
     {

@@ -115,7 +115,7 @@ pub enum Reply {
     Job(Box<Wanted>),
     /// There is no job to hand out.
     Nothing,
-    /// The result is taken in.
+    /// The result is accepted.
     Accepted,
     NotAccepted(Box<Delivered>),
     GivenBack(GivenBack),
@@ -150,7 +150,7 @@ impl Reply {
         Ok(Reply::Committed(Box::new(alloc, answer)?))
     }
 
-    /// Whether a result was taken in.
+    /// Whether a result was accepted.
     pub fn of_delivery(alloc: Global, answer: Delivered) -> Result<Reply, AllocError>
         ensures { IfOk result (λ it. reply_of it ≡ OfDeliver answer) }
     {

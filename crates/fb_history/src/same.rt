@@ -6,7 +6,7 @@ use crate::answers::{Committed, Delivered, GivenBack};
 use crate::record::{Call, Reply, TextChange, Wanted};
 use fb_jobs::{Key, is_one_name, is_same_value};
 
-/// The same call.
+/// Whether both are the same call.
 pub(crate) fn is_same_call(a: &Call, b: &Call) -> bool
     ensures { IsTrue result ↔ (call_of a.now ≡ call_of b.now) }
 {
@@ -20,7 +20,7 @@ pub(crate) fn is_same_call(a: &Call, b: &Call) -> bool
     }
 }
 
-/// The same answer.
+/// Whether both are the same answer.
 pub(crate) fn is_same_reply(a: &Reply, b: &Reply) -> bool
     ensures { IsTrue result ↔ (reply_of a.now ≡ reply_of b.now) }
 {

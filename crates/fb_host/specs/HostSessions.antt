@@ -4,7 +4,7 @@ use Rattle.fb_locked.specs.{History.Machine.{Call}, Bench.Calls.{Answer, Replied
 use Rattle.fb_locked.specs.Seats.{SeatView, ReceiptView}
 use Rattle.fb_shared.specs.Seated.{SeatedView, IsCallSeated, IsCheckpointSeated}
 
--- as a desk with a seat makes it, which here never says that the history is full
+-- a call as a desk with a seat makes it; it never answers here that the history is full
 abbrev pub IsHostCall : SeatedView → Call → Answer → SeatedView → Type 0
 IsHostCall old call (Replied reply) new = IsCallSeated old call (Replied reply) new
 IsHostCall old call FullHistory new = ⊥

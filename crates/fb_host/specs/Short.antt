@@ -1,4 +1,4 @@
--- Receipts that are not all there.
+-- Callers of which receipts are missing.
 use Rattle.std.specs.Prelude.{ℕ, List, Bool, nat_lt}
 use Rattle.fb_locked.specs.{History.BenchView.{BenchView, turns_of}, Closing.{receipts_of}, Seats.{ReceiptView}}
 

@@ -31,6 +31,7 @@ pub(crate) fn admit_connections<R: Wait + Clock>(rt: &R, host: &HostState, secre
         );
         host.admission.add_idle(rt);
     }
+    // `forever` never ends.
     unreachable!()
 }
 

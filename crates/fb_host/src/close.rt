@@ -13,7 +13,7 @@ use fb_shared::{Receipt, Shared};
 use std::alloc::Global;
 use std::sync::Wait;
 
-/// Closes with all that the threads left, and with the receipts since the start. These have to be of all records since then.
+/// Closes with all that the threads left, and with the receipts since the start. These must be of all records since then.
 pub(crate) fn close<R: Wait>(
     rt: &R,
     alloc: Global,

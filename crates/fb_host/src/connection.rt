@@ -4,7 +4,7 @@ use std::io;
 use std::io::{ErrorKind, Read};
 use std::net::TcpStream;
 
-/// A connection, and the bytes that were read of it and not yet given on.
+/// A connection, and the bytes that were read of it and not yet passed on.
 #[derive(Drop)]
 pub(crate) struct Connection {
     pub(crate) stream: TcpStream,

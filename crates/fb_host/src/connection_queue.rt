@@ -86,6 +86,7 @@ impl ConnectionQueue {
             }
             state = self.changed.wait(rt, state);
         }
+        // `forever` never ends.
         unreachable!()
     }
 

@@ -2,7 +2,7 @@
 ghost use Rattle.std.specs.Prelude.{◌≡◌, ◌↔◌, IsTrue};
 ghost use Rattle.fb_host.specs.Heads.{SpeaksHttp};
 
-/// Whether the line is the secret. How long it takes follows from the length of the line alone.
+/// Whether the line is the secret. How long it takes depends only on the length of the line.
 pub fn is_secret(line: &[u8], secret: &[u8]) -> bool
     ensures { IsTrue result ↔ (line.now ≡ secret.now) }
 {

@@ -75,7 +75,7 @@ pub fn run_host_session<R: Wait, F: Feed, S: Sink>(
     }
 }
 
-/// Gives back the keys that are still out since they were taken, as far as memory reaches; the others stay held. The receipts go to the store.
+/// Gives back the keys that are still out since they were taken, as far as there is memory; the others stay held. The receipts go to the store.
 #[tactic(auto, using(crate::proofs::SessionLemmas::leads))]
 pub fn give_back_all<R: Wait>(
     rt: &R,

@@ -13,7 +13,7 @@ use fb_shared::{Seated, Shared};
 use std::marker::Model;
 use std::sync::Wait;
 
-/// A shared workbench as the desk of one seat, whose receipts go to the store. It never says that the history is full: lack of memory alone keeps
+/// A shared workbench as the desk of one seat, whose receipts go to the store. It never answers that the history is full: only lack of memory keeps
 /// a full one from beginning again.
 #[derive(Drop)]
 pub struct SessionDesk<'a, R: Wait> {
@@ -94,7 +94,7 @@ impl<R: Wait> Desk for SessionDesk<'_, R> {
     }
 }
 
-/// Keeps in mind which keys are held after a call of this number.
+/// Notes which keys are held after a call of this number.
 fn note(held: &mut Vec<Held>, request: &Request<'_>, answer: &Answered, number: u64) {
     match answer {
         Answered::Take(Taken::Job(job)) => {

@@ -21,7 +21,7 @@ use std::time::{Clock, Duration};
 /// How many looks a worker makes before its receipts go to the store.
 const BATCH: u64 = 64;
 
-/// How many first lines are looked at at once.
+/// How many first lines are read at once.
 pub(crate) const ADMISSION_THREADS: u64 = 32;
 
 /// How often in a row a listener may fail.
@@ -77,7 +77,7 @@ struct Started<T> {
     is_whole: bool,
 }
 
-/// Runs the workers, the sessions and the admission of a host, and accepts connections. It comes back when all sessions have ended after the last connection.
+/// Runs the workers, the sessions and the admission of a host, and accepts connections. It returns when all sessions have ended after the last connection.
 pub(crate) fn run_threads<R: Threads + Wait + Clock + Sync, E: Write + Send>(
     rt: &R,
     alloc: Global,
@@ -240,6 +240,7 @@ fn run_worker<R: Wait + Clock>(
             WorkEnd::Stopped | WorkEnd::SeatDiffers { .. } | WorkEnd::Behind { .. } => return state,
         }
     }
+    // `forever` never ends.
     unreachable!()
 }
 
@@ -262,6 +263,7 @@ fn run_sessions<R: Wait, E: Write>(
         give_back_all(rt, &host.shared, &host.receipts, &mut state);
         host.seats.add_idle(rt);
     }
+    // `forever` never ends.
     unreachable!()
 }
 

@@ -5,17 +5,17 @@ use Rattle.fb_iface.specs.declared.structures.Structures.{Structures}
 use Rattle.fb_iface.specs.declared.structures.Behind.TheVariants as behind
 use Rattle.fb_iface.specs.declared.structures.CachedFields.TheVariants as kept
 
--- what may be named behind a type of which this is kept; nothing where nothing is kept
+-- what may be named after a type of which this is kept; nothing for a type of which nothing is kept
 abbrev pub kept_fields : Option CachedFields → Fields
 kept_fields None = NoFields
 kept_fields (Some kept.NotChecked) = NotChecked
 kept_fields (Some (kept.Known fields)) = HasFields fields
 
--- what may be named behind each type by what is kept
+-- what may be named after each type, by what is kept
 abbrev pub structures_in : Structures → List ℕ → Fields
 structures_in s name = kept_fields (get (pointwise nat_eq) s.by_name name)
 
--- the same by reference
+-- what may be named after a type, lent by reference
 abbrev pub fields_shown : Behind → Fields
 fields_shown behind.NotChecked = NotChecked
 fields_shown behind.NoFields = NoFields

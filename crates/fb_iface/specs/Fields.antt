@@ -23,10 +23,10 @@ fields_of_tree (Some (subapplication_type d)) = NoFields
 fields_of_tree (Some (system_configuration s)) = NoFields
 fields_of_tree (Some (structure_type s)) = HasFields (first_ones (fields_in s))
 
--- after one of these types; there is nothing after any other
+-- what a further name may name after one of these types; nothing after any other
 abbrev pub fields_among : Sources → List (List ℕ) → List ℕ → Fields
 fields_among sources types name = if has_name types name then fields_of_tree (tree_at sources name) else NoFields
 
--- after the types that the unit and its parts carry
+-- what a further name may name after the types that the unit and its parts carry
 abbrev pub fields_near : Sources → List ℕ → List ℕ → Fields
 fields_near sources unit = fields_among sources (carried_of sources (bases_at sources unit))

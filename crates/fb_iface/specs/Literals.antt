@@ -13,7 +13,7 @@ literal_fault span = record { code = Literal; span = span }
 abbrev pub misfits : Class → List Simple → List Fault
 misfits class values = map (λ v. literal_fault (value_span v)) (filter (λ v. not (takes class (class_of_simple v))) values)
 
--- an array takes no constant that is alone, but one that is not checked
+-- an array takes no single constant, except one that is not checked
 abbrev pub fits_alone : TypeForm → Class → Class → Bool
 fits_alone forms.Plain class constant = takes class constant
 fits_alone forms.Sized class constant = takes class constant

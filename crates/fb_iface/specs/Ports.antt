@@ -1,4 +1,4 @@
--- What the names of a unit stand for.
+-- What the names of a unit mean.
 use Rattle.std.specs.{Prelude.{ℕ, Bool, true, false, List, [], map, filter, Option, option_map}, List.{flat_map}}
 use Rattle.fb_tree.specs.Text.declared.name.NameUse.{NameUse}
 use Rattle.fb_tree.specs.Tree.{DeclTree, InterfaceTree, NetworkTree, TypeTree, VariablesTree, block_type, adapter_type, subapplication_type, system_configuration, structure_type}
@@ -38,7 +38,7 @@ meanings_in_type d = record {
   instances = first_ones (instances_in d.network);
 }
 
--- a network of an application has instances alone
+-- a network of an application has only instances
 abbrev pub meanings_in_network : NetworkTree → Meanings
 meanings_in_network n = record { events = []; variables = []; instances = first_ones (instances_in n) }
 
@@ -50,7 +50,7 @@ meanings_in (subapplication_type d) = meanings_in_type d
 meanings_in (system_configuration s) = record { events = []; variables = []; instances = [] }
 meanings_in (structure_type s) = record { events = []; variables = []; instances = [] }
 
--- what the names of a text stand for; nothing where it is broken
+-- what the names of a text mean; nothing if the text is broken
 abbrev pub meanings_of : List ℕ → Option Meanings
 meanings_of text = option_map meanings_in (tree_of text)
 

@@ -16,7 +16,7 @@ instances_of (subapplication_type d) = d.network.instances
 instances_of (system_configuration s) = flat_map (λ a. a.network.instances) s.applications
 instances_of (structure_type s) = []
 
--- plugs and sockets are of adapter types, the others of what their section says
+-- a plug or a socket has an adapter type, and any other instance a type of the kind that its section requires
 abbrev pub suits : Role → UnitKind → Bool
 suits roles.Plug kinds.Adapter = true
 suits roles.Socket kinds.Adapter = true
@@ -24,7 +24,7 @@ suits roles.Block kinds.Block = true
 suits roles.Subapplication kinds.Subapplication = true
 suits role kind = false
 
--- the type of an instance, if this is declared under its name
+-- the fault of an instance's type, if this is declared under its name
 abbrev pub type_fault : Role → NameUse → Option DeclTree → List Fault
 type_fault role name None = fault_at UnknownType name ∷ []
 type_fault role name (Some decl) = if suits role (unit_kind_of decl) then [] else fault_at WrongKind name ∷ []
@@ -32,6 +32,6 @@ type_fault role name (Some decl) = if suits role (unit_kind_of decl) then [] els
 abbrev pub instance_faults : Sources → InstanceTree → List Fault
 instance_faults sources i = type_fault i.role i.type_name (tree_at sources i.type_name.name)
 
--- each type is present, not broken, and of the kind that its section wants
+-- each type is present, not broken, and of the kind that its section requires
 abbrev pub type_faults : Sources → DeclTree → List Fault
 type_faults sources decl = flat_map (instance_faults sources) (instances_of decl)

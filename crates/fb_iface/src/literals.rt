@@ -26,7 +26,7 @@ pub fn report_constant(
     }
 }
 
-/// Reports a constant that is alone.
+/// Reports a single constant.
 fn report_alone(
     used: &WideTypeUse,
     value: &Simple,
@@ -41,7 +41,7 @@ fn report_alone(
     Ok(())
 }
 
-/// Whether a constant of the second class fits a type of the first alone.
+/// Whether a single constant of the second class fits a type of the first.
 fn is_fit(form: TypeForm, class: Class, constant: Class) -> bool
     ensures { result ≡ fits_alone form class constant }
 {

@@ -1,4 +1,4 @@
-//! Declarations by name, where a name may be declared more than once.
+//! Declarations by name, in which a name may be declared more than once.
 ghost use Rattle.std.specs.{Prelude.{◌≡◌, ℕ, IfOk, OnOk, List, nat_eq}, Cmp.Lexicographic.{pointwise}};
 ghost use Rattle.indexmap.specs.IndexMap.{get};
 ghost use Rattle.fb_iface.specs.Names.{first_ones, stands_for, with_first};

@@ -69,7 +69,7 @@ fn report_in_interface(
     report_variables(alloc, own.variables().len(), interface, found)
 }
 
-/// Reports those among the events, where so many have different names.
+/// Reports those among the events, of which this number have different names.
 fn report_events(
     alloc: Global,
     different: usize,
@@ -87,7 +87,7 @@ fn report_events(
     }
 }
 
-/// Reports those among the variables, where so many have different names.
+/// Reports those among the variables, of which this number have different names.
 fn report_variables(
     alloc: Global,
     different: usize,
@@ -177,7 +177,7 @@ fn report_in_network(
     report_in_instances(alloc, network, found)
 }
 
-/// The same of the network of a type with these ports.
+/// Reports those among the instances of the network of a type with these ports, and among the parameters of each.
 fn report_in_own_network(
     alloc: Global,
     own: &Ports,

@@ -88,7 +88,7 @@ impl Scope {
     }
 
     /// The ports of a type that an instance of the network has, if it is usable in this role: present, not broken and of the
-    /// kind that the section of the instance wants.
+    /// kind that the section of the instance requires.
     pub fn type_ports(&self, role: Role, type_name: &Name) -> Option<&Ports>
         ensures { option_map (λ p. p.now) result
             ≡ (scope_in self.now).type_ports role type_name.now }
@@ -99,7 +99,7 @@ impl Scope {
         }
     }
 
-    /// The ports of an instance, a plug or a socket, where its type is usable.
+    /// The ports of an instance, a plug or a socket, if its type is usable.
     pub fn instance_ports(&self, instance: &DeclaredInstance) -> Option<&Ports>
         ensures { option_map (λ p. p.now) result ≡ instance_ports (scope_in self.now) instance.now }
     {

@@ -8,7 +8,7 @@ pub data Carries (it : Indexed) : List ℕ → List ℕ → Type 0 where
   directly : {u v : List ℕ} → uses it.of_values u v ≡ true → Carries it u v
   onward : {u w v : List ℕ} → Carries it u w → is_structure_in it w ≡ true → uses it.of_values w v ≡ true → Carries it u v
 
--- v is near u: it is u, where that is indexed, or a part of it, or one of these carries it
+-- v is near u: it is u, if that is indexed, or a part of it, or one of these carries it
 pub data IsNear (it : Indexed) : List ℕ → List ℕ → Type 0 where
   own : {u : List ℕ} → is_indexed it u ≡ true → IsNear it u u
   part : {u p : List ℕ} → uses it.parts u p ≡ true → IsNear it u p
@@ -19,17 +19,17 @@ pub data IsNear (it : Indexed) : List ℕ → List ℕ → Type 0 where
 abbrev pub mentions : Indexed → List ℕ → List ℕ → Bool
 mentions it u v = uses it.parts u v || uses it.of_values u v
 
--- whoever mentions a name is an indexed unit
+-- each unit that mentions a name is indexed
 abbrev pub AreUnits : Indexed → Type 0
 AreUnits it = (unit name : List ℕ) → mentions it unit name ≡ true → is_indexed it unit ≡ true
 
--- u rests on v: v is u, where that is indexed, or a mention of u, or some mention of u rests on it
+-- u rests on v: v is u, if that is indexed, or a mention of u, or some mention of u rests on it
 pub data Reaches (it : Indexed) : List ℕ → List ℕ → Type 0 where
   itself : {u : List ℕ} → is_indexed it u ≡ true → Reaches it u u
   mention : {u v : List ℕ} → mentions it u v ≡ true → Reaches it u v
   through : {u w v : List ℕ} → mentions it u w ≡ true → Reaches it w v → Reaches it u v
 
--- one of these names stands so to the unit
+-- one of these names has the property
 pub record OneOf (names : List (List ℕ)) (stands : List ℕ → Type 0) : Type 0 where
   pub name : List ℕ
   pub among : has_name names name ≡ true
@@ -48,6 +48,6 @@ CarriesSome it unit names = OneOf names (Carries it unit)
 abbrev pub mentioning : Indexed → List ℕ → List (List ℕ)
 mentioning it name = users_of it.parts name ++ users_of it.of_values name
 
--- the units that carry on what the name carries: where it is a structure, its users
+-- the units that also carry what the name carries: its users, if it is a structure
 abbrev pub carrying_on : Indexed → List ℕ → List (List ℕ)
 carrying_on it name = if is_structure_in it name then users_of it.of_values name else []

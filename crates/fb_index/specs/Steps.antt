@@ -5,7 +5,7 @@ use Rattle.fb_text.specs.Order.{name_cmp}
 use Rattle.fb_library.specs.Seen.{has_name}
 use Rattle.fb_index.specs.Users.{UsersByName, users_of, uses}
 
--- whether a name is one of these and none of the set
+-- whether a name is one of these and is not in the set
 abbrev pub is_only_in : List (List ℕ) → BTreeSet (List ℕ) → List ℕ → Bool
 is_only_in names others name = has_name names name && not (set.contains name_cmp others name)
 

@@ -12,8 +12,8 @@ use fb_tree::Mentions;
 use std::alloc::{AllocError, Global};
 use std::marker::Model;
 
-/// Which units mention a name, directly or through others. A unit stays indexed from its first `replace` on, and whoever mentions a name is such a
-/// unit.
+/// Which units mention a name, directly or through others. A unit stays indexed from its first `replace` on, and each unit that mentions a name is
+/// indexed.
 pub struct Index {
     tables: Tables,
 }
@@ -96,7 +96,7 @@ impl Index {
         self.tables.far_of(alloc, names)
     }
 
-    /// Whoever mentions a name is an indexed unit.
+    /// Each unit that mentions a name is indexed.
     pub fn users_are_indexed(&self)
         ensures { AreUnits self.now }
     {

@@ -56,7 +56,7 @@ impl Tables {
         }
     }
 
-    /// Tables that say the same, and share nearly all with these.
+    /// Tables with the same content, which share nearly all with these.
     pub(crate) fn copy(&self) -> Result<Tables, AllocError>
         ensures { IfOk result (λ copy. copy ≡ self.now) }
     {

@@ -10,7 +10,7 @@ pub record AreReads (library : Texts) (key : Key) (reads : List Read) (texts : L
   pub own : All IsOwn reads
   pub kept : texts ≡ all_seen reads
 
--- the same under the names of earlier reads, each of which mentions what it mentioned
+-- what is read again under the names of earlier reads, and each text mentions what the earlier one mentioned
 pub record AreReadAgain (library : Texts) (before : List Seen) (reads : List Read) (texts : List Seen) : Type 0 where
   pub seen : all_seen reads ≡ reads_under library (read_names before)
   pub own : All IsOwn reads

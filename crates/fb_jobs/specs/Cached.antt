@@ -25,13 +25,13 @@ abbrev pub hint_in : Option (Arc Value Global) → Option PlainNet
 hint_in None = None
 hint_in (Some value) = net_in value.value
 
--- each stands among the hints
+-- each net is that of a hint
 abbrev pub AreNetsOf : List Hint → Nets → Type 0
 AreNetsOf hints nets =
     (name : List ℕ) (value : Arc Value Global) → tree.get name_cmp nets name ≡ Some value
     → (hint : Hint) × Contains hints hint × (hint.unit ≡ name) × (hint.value.value ≡ value.value)
 
--- nothing is added but the hint's
+-- nothing is added but the net of the hint
 abbrev pub AddsNet : Hint → Nets → Nets → Type 0
 AddsNet hint old new =
     (name : List ℕ) (value : Arc Value Global) → tree.get name_cmp new name ≡ Some value
@@ -56,11 +56,11 @@ faults_key unit = record { kind = kind.Faults; unit = unit }
 abbrev pub IsKeptFaultless : (Key → Option Finding) → List ℕ → Type 0
 IsKeptFaultless kept unit = kept (faults_key unit) ≡ Some (FaultsFound [])
 
--- the unit is there
+-- the unit is present
 abbrev pub IsThere : Texts → List ℕ → Type 0
 IsThere texts unit = has_key texts (faults_key unit) ≡ true
 
--- whether some read of this name is flagged; the flags stand in the order of the reads
+-- whether some read of this name is flagged; the flags are in the order of the reads
 abbrev pub is_flagged : List Seen → List Bool → List ℕ → Bool
 is_flagged [] flags name = false
 is_flagged (it ∷ reads) [] name = false
@@ -74,20 +74,20 @@ some_faults (Some (DeployFound plan)) = None
 some_faults (Some NothingFound) = None
 some_faults None = None
 
--- whether a unit that is there has faults, if that is kept
+-- whether a unit that is present has faults, if that is kept
 abbrev pub judged : (Key → Option Finding) → Seen → Option Bool
 judged kept it = if is_some it.found then some_faults (kept (faults_key it.name)) else None
 
--- what is flagged is there, and kept without faults
+-- what is flagged is present, and kept without faults
 abbrev pub IsFlag : (Key → Option Finding) → Seen → Bool → Type 0
 IsFlag kept it flag = flag ≡ true → judged kept it ≡ Some false
 
--- each is read, there, and kept without faults
+-- each is read, present, and kept without faults
 abbrev pub AreFaultlessAmong : Texts → (Key → Option Finding) → List Seen → (List ℕ → Bool) → Type 0
 AreFaultlessAmong texts kept reads faultless =
     (name : List ℕ) → faultless name ≡ true → (is_among name (read_names reads) ≡ true) × IsThere texts name × IsKeptFaultless kept name
 
--- each is there and has no faults
+-- each is present and has no faults
 abbrev pub AreWithoutFaults : Texts → (List ℕ → Bool) → Type 0
 AreWithoutFaults texts faultless =
     (name : List ℕ) → faultless name ≡ true → IsThere texts name × (scratch texts (faults_key name) ≡ FaultsFound [])
@@ -97,7 +97,7 @@ AreWithoutFaults texts faultless =
 abbrev pub named_if : Bool → List ℕ → List (List ℕ) → List (List ℕ)
 named_if has name names = if has then name ∷ names else names
 
--- of each read it is known whether its unit has faults, and these are the names of those that have
+-- for each read it is known whether its unit has faults, and these are the names of those that have
 abbrev pub AreBlocking : (Key → Option Finding) → List Seen → List (List ℕ) → Type 0
 AreBlocking kept [] names = names ≡ []
 AreBlocking kept (it ∷ reads) names = (has : Bool) × (rest : List (List ℕ)) × (judged kept it ≡ Some has) × AreBlocking kept reads rest × (names ≡ named_if has it.name rest)

@@ -7,13 +7,13 @@ use Rattle.fb_jobs.specs.declared.value.Value.{Value}
 abbrev pub plain_job : Key → List Read → PlainJob
 plain_job key reads = record { key = key; reads = all_seen reads }
 
--- the reads are right in themselves, each source is of the name that it was read under, and the texts are theirs
+-- the reads are right for the key, each source is of the name that it was read under, and the texts are those of the reads
 pub record IsJob (key : Key) (reads : List Read) (texts : List Seen) : Type 0 where
   pub right : IsRight (plain_job key reads)
   pub own : All IsOwn reads
   pub texts_are : texts ≡ all_seen reads
 
--- and what is known beside them is what the reads give
+-- a job, and what it knows beside its reads is what they give
 pub record IsGiven (key : Key) (reads : List Read) (texts : List Seen) (cached : Cached) : Type 0 where
   pub job : IsJob key reads texts
   pub known : IsCached (all_seen reads) key cached

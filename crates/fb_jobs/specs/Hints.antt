@@ -1,4 +1,4 @@
--- The nets of other subapplications that a job is given along.
+-- The nets of other subapplications that are passed to a job.
 use Rattle.std.specs.{Prelude.{◌≡◌, ◌≢◌, ℕ, Bool, true, false, not, ◌&&◌, is_some, List, [], ◌∷◌, ◌++◌, map, filter, Option, Some, All}, List.{AllPairs}}
 use Rattle.std.specs.BTreeMap.{is_at}
 use Rattle.fb_text.specs.Order.{name_cmp}
@@ -16,7 +16,7 @@ net_key unit = record { kind = kind.Net; unit = unit }
 abbrev pub is_other_subapplication : Texts → List ℕ → List ℕ → Bool
 is_other_subapplication texts unit name = not (is_at (name_cmp unit) name) && is_subapplication_in (tree_at (sources_of texts) name)
 
--- it is the net of its unit
+-- the hint is the net of its unit
 abbrev pub IsNetOf : Texts → Hint → Type 0
 IsNetOf texts hint = finding_of hint.value.value ≡ scratch texts (net_key hint.unit)
 
@@ -26,13 +26,13 @@ pub record IsHint (texts : Texts) (key : Key) (hint : Hint) : Type 0 where
   pub needed : is_among hint.unit (needs texts key) ≡ true
   pub net_is : IsNetOf texts hint
 
--- what a job for the key can be given along: nets of other subapplications that the key needs, no unit twice; for faults nothing
+-- what can be passed to a job for the key: nets of other subapplications that the key needs, no unit twice; for faults nothing
 pub record AreHints (texts : Texts) (key : Key) (hints : List Hint) : Type 0 where
   pub none : needs_all key.kind ≡ false → hints ≡ []
   pub each : All (IsHint texts key) hints
   pub once : AllPairs (λ (a b : Hint). a.unit ≢ b.unit) hints
 
--- ---- which of the kept nets `for_kept` takes along
+-- ---- which of the kept nets `for_kept` passes to a job
 
 abbrev pub is_chosen : Texts → (Key → Option Finding) → List ℕ → List ℕ → Bool
 is_chosen texts kept unit name = is_other_subapplication texts unit name && is_some (kept (net_key name))
@@ -40,7 +40,7 @@ is_chosen texts kept unit name = is_other_subapplication texts unit name && is_s
 abbrev pub units_of : List Hint → List (List ℕ)
 units_of hints = map (λ (hint : Hint). hint.unit) hints
 
--- it is what is kept of the net of its unit
+-- the hint is what is kept of the net of its unit
 abbrev pub IsKeptHint : (Key → Option Finding) → Hint → Type 0
 IsKeptHint kept hint = kept (net_key hint.unit) ≡ Some (finding_of hint.value.value)
 

@@ -46,6 +46,6 @@ scratch_of Faults sources unit = FaultsFound (faults_of sources unit)
 scratch_of Net sources unit = net_finding (net_at sources unit)
 scratch_of Deploy sources unit = plan_finding (plan_at sources unit)
 
--- the key's value, computed afresh from the texts
+-- the key's value from scratch: computed only from the texts
 unfoldable pub scratch : Texts → Key → Finding
 scratch texts key = scratch_of key.kind (sources_of texts) key.unit

@@ -11,7 +11,7 @@ keys_of texts = filter (has_key texts) (all_keys (names_of texts))
 abbrev pub reaches : List (List ℕ) → Texts → Key → Bool
 reaches changed texts key = list_any (λ name. is_among name (needs texts key)) changed
 
--- the texts are the same but for the changed names
+-- the texts are the same, except under the changed names
 abbrev pub AgreeApartFrom : List (List ℕ) → Texts → Texts → Type 0
 AgreeApartFrom changed texts others = (name : List ℕ) → is_among name changed ≡ false → text_at texts name ≡ text_at others name
 

@@ -54,7 +54,7 @@ same_found (Some a) (Some b) = same_held a b
 abbrev pub is_current : Texts → Seen → Bool
 is_current texts it = same_found (held texts it.name) it.found
 
--- the first read that is not current; the least one, where the reads are by rising name
+-- the first read that is not current; the least one, if the reads are by rising name
 abbrev pub stale : Texts → List Seen → Option (List ℕ)
 stale texts reads = option_map (λ (it : Seen). it.name) (find (λ it. not (is_current texts it)) reads)
 
@@ -63,7 +63,7 @@ pub record PlainJob : Type 0 where
   pub key : Key
   pub reads : List Seen
 
--- in the texts that were read there is the key, and these are exactly the names that it needs there
+-- the texts that were read have the key, and the reads are under exactly the names that it needs there
 pub record IsRight (it : PlainJob) : Type 0 where
   pub has : has_key (read_texts it.reads) it.key ≡ true
   pub names : read_names it.reads ≡ needs (read_texts it.reads) it.key

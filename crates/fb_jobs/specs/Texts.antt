@@ -1,4 +1,4 @@
--- What is kept of reads: the text that was there under each name, and beside these the names where none was.
+-- What is kept of reads: the text under each name that has one, and beside these the names without a text.
 use Rattle.std.specs.{Prelude.{◌≡◌, ℕ, List, [], ◌∷◌, suc, map, length, Option, Some, None}, declared.sync.Arc.{Arc}, declared.alloc.Global.{Global}}
 use Rattle.fb_deploy.specs.{Library.Texts.{FiledText}, Library.Filed.{filed_text}, Library.declared.filed.Version.{Version}}
 use Rattle.fb_jobs.specs.Reads.{Seen}
@@ -13,7 +13,7 @@ there it = record { name = it.unit; found = Some it.held }
 abbrev pub nothing : List ℕ → Seen
 nothing name = record { name = name; found = None }
 
--- a text is read under its own name, and none under the next of the names
+-- each text is read under its own name, and each absence under the next of the names
 abbrev pub seen_in : List (Option FiledText) → List (List ℕ) → List Seen
 seen_in [] names = []
 seen_in (Some it ∷ texts) names = there it ∷ seen_in texts names

@@ -1,4 +1,4 @@
--- Reads and values of the program as what they say.
+-- Reads and values of the program as contracts see them.
 use Rattle.std.specs.{Prelude.{◌≡◌, ℕ, List, map, Option, Some, None}, Option.{MatchOption, option_map, option_copied}, declared.sync.Arc.{Arc}}
 use Rattle.std.specs.declared.alloc.Global.{Global}
 use Rattle.fb_deploy.specs.{Library.Texts.{Held}, Library.Filed.{filed_text}, Library.declared.filed.Version.{Version}, Parse.Source.{Written}}

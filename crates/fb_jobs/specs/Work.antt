@@ -24,7 +24,7 @@ pub record IsFoundIn (sources : Sources) (unit : List ℕ) (hint : Hint) : Type 
   pub below : Rests sources unit hint.unit
   pub net_is : finding_of hint.value.value ≡ net_finding (net_at sources hint.unit)
 
--- the value of the kind, and nets of what the unit rests on, none where not all of that is read
+-- the value of the kind, and nets of what the unit rests on; no nets for a kind that does not need all of that
 pub record IsWork (kind : Kind) (sources : Sources) (unit : List ℕ) (worked : Worked) : Type 0 where
   pub value_is : finding_of worked.value.value ≡ scratch_of kind sources unit
   pub none : needs_all kind ≡ false → worked.found.items ≡ []

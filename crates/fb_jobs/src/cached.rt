@@ -20,17 +20,17 @@ use std::alloc::{AllocError, Global};
 use std::collections::{BTreeMap, BTreeSet};
 use std::sync::Arc;
 
-/// What a job knows beside its reads: nets of other subapplications, its unit's own net, and units that are there without faults.
+/// What a job knows beside its reads: nets of other subapplications, its unit's own net, and units that are present and without faults.
 #[derive(Drop)]
 pub(crate) struct Cached {
     pub(crate) hints: Vec<Hint>,
     pub(crate) own: Option<Arc<Value>>,
-    /// Of each read, by its place, whether its unit is known to be there without faults. Past the end of the list nothing is known.
+    /// Of each read, by its place, whether its unit is known to be present and without faults. Past the end of the list nothing is known.
     pub(crate) faultless: Vec<bool>,
 }
 
 impl Cached {
-    /// Hints alone.
+    /// Only hints.
     pub(crate) fn of_hints(alloc: Global, hints: Vec<Hint>) -> Cached
         ensures hints { result.hints ≡ hints }
         ensures own { result.own ≡ None }
@@ -69,7 +69,7 @@ impl Cached {
     }
 }
 
-/// Nets by the names of their units, and the units that are there without faults.
+/// Nets by the names of their units, and the units that are present and without faults.
 #[derive(Clone, Copy)]
 pub(crate) struct CachedNets<'a> {
     pub(crate) nets: &'a BTreeMap<Name, Arc<Value>>,
@@ -167,7 +167,7 @@ fn has_kept_faults<K: Cache>(kept: &K, unit: &Name) -> Option<bool>
     }
 }
 
-/// Whether a unit that was read and is there has faults, if that is kept.
+/// Whether a unit that was read and is present has faults, if that is kept.
 fn has_faults<K: Cache>(kept: &K, read: &Read) -> Option<bool>
     ensures { result ≡ judged (K.kept kept.now) (seen_of read.now) }
 {
@@ -177,7 +177,7 @@ fn has_faults<K: Cache>(kept: &K, read: &Read) -> Option<bool>
     has_kept_faults(kept, &read.name)
 }
 
-/// Whether what was read is there, and kept without faults.
+/// Whether what was read is present, and kept without faults.
 fn is_faultless<K: Cache>(kept: &K, read: &Read) -> bool
     ensures { IsFlag (K.kept kept.now) (seen_of read.now) result }
 {
@@ -237,7 +237,7 @@ fn blocked_net<K: Cache>(
     }
 }
 
-/// Of each read, by its place, whether it is known that its unit is there without faults.
+/// Of each read, by its place, whether it is known that its unit is present and without faults.
 pub(crate) fn faultless_of<K: Cache>(
     alloc: Global,
     kept: &K,
@@ -253,7 +253,7 @@ pub(crate) fn faultless_of<K: Cache>(
     Ok(flags)
 }
 
-/// The same, but for a new key whose own net is known, which has no use for it.
+/// Of each read, by its place, whether its unit is known to be present and without faults; nothing for a new key whose own net is known: it needs none of this.
 fn faultless_unless<K: Cache>(
     alloc: Global,
     kept: &K,

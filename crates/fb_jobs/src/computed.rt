@@ -27,7 +27,7 @@ pub(crate) struct Worked {
     pub(crate) found: Vec<Hint>,
 }
 
-/// The previous value where the new one says the same, or else the new one.
+/// The previous value if the new one equals it, or else the new one.
 fn previous_or(
     alloc: Global,
     previous: &Option<Derivation>,
@@ -41,7 +41,7 @@ fn previous_or(
     }
 }
 
-/// The same of a net that is known already.
+/// The previous value if the net that is known already equals it, or else that net.
 fn previous_or_own(
     previous: &Option<Derivation>,
     own: &Arc<Value>,
@@ -158,7 +158,7 @@ fn plan_work<V: View>(
     })
 }
 
-/// The key's value, computed afresh, but for what is known already.
+/// The key's value, computed from scratch except for what is known already.
 pub(crate) fn work_of<V: View>(
     alloc: Global,
     view: &V,

@@ -9,7 +9,7 @@ use std::alloc::AllocError;
 use std::marker::Model;
 use std::sync::Arc;
 
-/// A value of a key, with the reads that give it. Both are shared with whoever else keeps them.
+/// A value of a key, with the reads that give it. Both are shared with all others that keep them.
 pub struct Derivation {
     key: Key,
     reads: Arc<Vec<Read>>,

@@ -15,7 +15,7 @@ use fb_tree::Decl;
 use std::alloc::{AllocError, Global};
 use std::sync::Arc;
 
-/// A net that is kept of a unit.
+/// A net of a unit that is kept, or that was computed on the way to another value.
 #[derive(Drop)]
 pub struct Hint {
     pub unit: Name,

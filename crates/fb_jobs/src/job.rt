@@ -34,7 +34,7 @@ pub struct Job {
     reads: Arc<Vec<Read>>,
     texts: Arc<TextReads>,
     cached: Cached,
-    // a value that the key had once, with the reads that gave it, to be shared where it comes out again
+    // a value that the key had once, with the reads that gave it, to be shared by a result that equals it
     previous: Option<Derivation>,
 }
 
@@ -76,13 +76,14 @@ impl Job {
         ensures { IfOk result
             (λ job. job ≡ record { key = key; reads = reads_for library.now key }) }
     {
+        // For the proof: the key is named before the call gets it.
         let wanted = key;
         let (reads, texts) = reads_anew(alloc, library, wanted)?;
         let cached = Cached::of_hints(alloc, hints);
         Job::of_reads(alloc, key, reads, texts, cached, None)
     }
 
-    /// The same with all that is kept: as hints the nets of other subapplications among the reads; the net of the unit itself, if it is
+    /// A job with all that is kept: as hints the nets of other subapplications among the reads; the net of the unit itself, if it is
     /// kept, was found by a job for another key or is blocked by units whose faults are kept; which of the reads are without faults; and
     /// the value that the key had before.
     pub fn for_kept<K: Cache>(
@@ -97,6 +98,7 @@ impl Job {
         ensures { IfOk result
             (λ job. job ≡ record { key = key; reads = reads_for library.now key }) }
     {
+        // For the proof: the key is named before the call gets it.
         let wanted = key;
         let previous = match kept.previous(&key) {
             Some(derivation) => Some(derivation.share()?),

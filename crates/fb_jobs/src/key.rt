@@ -6,7 +6,7 @@ ghost use Rattle.fb_jobs.specs.{KeyOrder.{kind_number, key_cmp, key_cmp_total}, 
 use fb_text::Name;
 use std::cmp::Ordering;
 
-/// What an entry says of its unit.
+/// What an entry shows of its unit.
 #[derive(Clone, Copy, Debug, PartialEq, Eq)]
 pub enum Kind {
     Faults,

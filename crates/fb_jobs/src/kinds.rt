@@ -25,7 +25,7 @@ fn add_keys(keys: &mut Vec<Key>, names: &[Name], kind: Kind) -> Result<(), Alloc
     Ok(())
 }
 
-/// For each kind these names with it: the far ones where its keys need all that their units rest on, otherwise the near ones.
+/// For each kind these names with it: the far ones if its keys need all that their units rest on, otherwise the near ones.
 pub fn keys_near_and_far(
     alloc: Global,
     nears: &[Name],

@@ -22,7 +22,7 @@ pub fn locality()
         → scratch others key ≡ scratch texts key }
 {}
 
-/// Reads that are right in themselves and current have the value of the present texts.
+/// Reads that are right for their key and current have the value of the present texts.
 pub fn current_reads()
     ensures { (texts : Texts) (it : PlainJob) → IsRight it → stale texts it.reads ≡ None
         → scratch texts it.key ≡ scratch (read_texts it.reads) it.key }
@@ -41,7 +41,7 @@ pub fn needs_in_order()
         → IsStrictlySortedBy name_cmp (read_names it.reads) }
 {}
 
-/// Of reads that are right in themselves the first that is not current is the least.
+/// Of reads that are right for their key, the first that is not current is the least.
 pub fn least_stale()
     ensures { (texts : Texts) (it : PlainJob) (name : List ℕ) → IsRight it
         → stale texts it.reads ≡ Some name → IsLeastStale texts it.reads name }

@@ -90,8 +90,8 @@ fn read_again(
     Ok(Some((reads, texts)))
 }
 
-/// What a job for the key reads, and what is kept of that, where each name that was read for it before mentions what it mentioned: then
-/// the key needs the same names still.
+/// What a job for the key reads, and what is kept of that, if each name that was read for it before mentions what it mentioned: then
+/// the key still needs the same names.
 fn reads_as_before(
     alloc: Global,
     library: &Library,
@@ -110,7 +110,7 @@ fn reads_as_before(
     read_again(alloc, library, derivation.reads())
 }
 
-/// What a job for the key reads, and what is kept of that. What was read for it before spares the walk where its mentions are unchanged.
+/// What a job for the key reads, and what is kept of that. What was read for it before saves the walk if its mentions are unchanged.
 pub(crate) fn reads_of(
     alloc: Global,
     library: &Library,
@@ -119,6 +119,7 @@ pub(crate) fn reads_of(
 ) -> Result<(Vec<Read>, TextReads), AllocError>
     ensures { IfOk result (λ made. AreReads library.now key made.0.items made.1) }
 {
+    // For the proof: the key is named before the call gets it.
     let wanted = key;
     match reads_as_before(alloc, library, wanted, previous)? {
         Some(made) => Ok(made),

@@ -36,7 +36,7 @@ pub(crate) fn mentions_the_same(before: &Read, now: &Read) -> bool
     }
 }
 
-/// Whether the text of a unit on which `unit` rests is the text before, or is of another unit, a block type that says the same to networks.
+/// Whether the text of a unit on which `unit` rests is the text before, or is of another unit and still a block type with the same interface.
 fn is_still_text(
     alloc: Global,
     unit: &Name,
@@ -80,7 +80,7 @@ fn is_still_read(
     }
 }
 
-/// The same at each place. `faultless` says of each read, by its place, whether its unit is known to be without faults.
+/// Whether this holds at each place. `faultless` shows for each read, by its place, whether its unit is known to be without faults.
 pub(crate) fn are_still_read(
     alloc: Global,
     unit: &Name,
@@ -113,7 +113,7 @@ fn is_whole(net: &Net) -> bool
     }
 }
 
-/// Whether a value is a net to which nothing was in the way, or a plan by such a net.
+/// Whether a value is a net that nothing blocked and in which no type reaches itself, or a plan by such a net.
 pub(crate) fn is_whole_value(value: &Value) -> bool
     ensures { result ≡ is_whole_value value.now }
 {

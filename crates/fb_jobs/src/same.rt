@@ -18,7 +18,7 @@ pub fn is_one_name(a: &Name, b: &Name) -> bool
     same_name(a, b)
 }
 
-/// The same items, where items that compare equal are one.
+/// Whether both lists have the same items, if items that compare equal are the same.
 pub(crate) fn are_equal<T: PartialEq>(a: &[T], b: &[T]) -> bool
     requires { (x y : T) → IsTrue (T.eq x y) ↔ (x ≡ y) }
     ensures { IsTrue result ↔ (a.now ≡ b.now) }
@@ -80,7 +80,7 @@ fn is_same_deploy(a: &Deploy, b: &Deploy) -> bool
     }
 }
 
-/// The same value.
+/// Whether both are the same value.
 pub fn is_same_value(a: &Value, b: &Value) -> bool
     ensures { IsTrue result ↔ (finding_of a.now ≡ finding_of b.now) }
 {
@@ -98,7 +98,7 @@ fn is_same_version(a: &Version, b: &Version) -> bool
     is_one_name(&a.unit, &b.unit) && a.revision == b.revision && a.text.as_str() == b.text.as_str()
 }
 
-/// The same text of the same unit with the same revision, or none.
+/// Whether both are the same text of the same unit with the same revision, or none.
 fn is_same_text(a: &Option<Arc<Version>>, b: &Option<Arc<Version>>) -> bool
     ensures { IsTrue result ↔ (text_of a.now ≡ text_of b.now) }
 {
@@ -109,7 +109,7 @@ fn is_same_text(a: &Option<Arc<Version>>, b: &Option<Arc<Version>>) -> bool
     }
 }
 
-/// The same texts, one after the other.
+/// Whether both lists have the same texts, one after the other.
 pub(crate) fn are_same_texts(a: &[Option<Arc<Version>>], b: &[Option<Arc<Version>>]) -> bool
     ensures { IsTrue result ↔ (map text_of a.now ≡ map text_of b.now) }
 {

@@ -1,5 +1,5 @@
 //! What a history keeps of reads.
-//! Absent names are a list of their own, so that thousands of them take no allocation each.
+//! Absent names are in a separate list, so that thousands of them take no allocation each.
 ghost use Rattle.std.specs.Prelude.{◌≡◌, count_by, is_none};
 
 use crate::same::{are_equal, are_same_texts};
@@ -16,7 +16,7 @@ pub struct TextRead<'a> {
     pub version: Option<&'a Version>,
 }
 
-/// The texts of reads, in their order, without the trees that they spell. Each is shared with whoever else keeps it, so that a read of a text takes 16 bytes here.
+/// The texts of reads, in their order, without the trees that they spell. Each is shared with all that keep it, so that a read of a text takes 16 bytes here.
 pub struct TextReads {
     versions: Vec<Option<Arc<Version>>>,
     // the names of the reads without a text, in the same order
@@ -112,7 +112,7 @@ impl TextReads {
     }
 }
 
-/// How many of these there are not.
+/// How many of these are absent.
 fn absent_count(versions: &[Option<Arc<Version>>]) -> usize
     ensures { result ≡ count_by is_none versions.now }
 {

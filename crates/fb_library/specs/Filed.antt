@@ -6,7 +6,7 @@ use Rattle.fb_library.specs.{Texts.{Texts, FiledText}, declared.filed.Version.{V
 abbrev pub filed_text : Version → FiledText
 filed_text it = record { unit = it.unit; held = record { revision = it.revision; text = string_bytes it.text.value } }
 
--- the source says the same
+-- the source has the same unit and text
 pub record IsOfSource (source : Written) (it : FiledText) : Type 0 where
   pub unit : source.unit ≡ it.unit
   pub text : source.text ≡ it.held.text
@@ -14,6 +14,6 @@ pub record IsOfSource (source : Written) (it : FiledText) : Type 0 where
 abbrev pub texts_of : List (List ℕ × FiledText) → Texts
 texts_of units = map (λ e. (e.0, e.1.held)) units
 
--- each is of its own unit
+-- each text is of the unit that it is under
 abbrev pub AreOwn : List (List ℕ × FiledText) → Type 0
 AreOwn units = AllByRecursion (λ e. e.1.unit ≡ e.0) units

@@ -7,7 +7,7 @@ use Rattle.fb_library.specs.{View.{Sources}, Near.{SomeCarries, IsNear, carried_
 abbrev pub Agree : List (List ℕ) → Sources → Sources → Type 0
 Agree names a b = (name : List ℕ) → Contains names name → get a name ≡ get b name
 
--- the same under each name that the unit rests on
+-- both have the same text, or none, under each name that the unit rests on
 abbrev pub AgreeFar : List ℕ → Sources → Sources → Type 0
 AgreeFar unit a b = (name : List ℕ) → Rests a unit name → get a name ≡ get b name
 
@@ -17,20 +17,20 @@ CarriedIsAll =
     (sources : Sources) (units : List (List ℕ))
     → IsStrictlySortedBy name_cmp (carried_of sources units) × ((v : List ℕ) → Contains (carried_of sources units) v ↔ SomeCarries sources units v)
 
--- and so is that of what is near a unit
+-- so is the list of what is near a unit
 abbrev pub NearIsAll : Type 0
 NearIsAll =
     (sources : Sources) (unit : List ℕ) → IsStrictlySortedBy name_cmp (near_of sources unit) × ((v : List ℕ) → Contains (near_of sources unit) v ↔ IsNear sources unit v)
 
--- what some units carry depends on the texts of these and of what they carry alone
+-- what some units carry depends only on the texts of these and of what they carry
 abbrev pub CarriedIsLocal : Type 0
 CarriedIsLocal = (a b : Sources) (units : List (List ℕ)) → Agree units a b → Agree (carried_of a units) a b → carried_of a units ≡ carried_of b units
 
--- the names near a unit depend on the texts under these names alone
+-- the names near a unit depend only on the texts under these names
 abbrev pub NearIsLocal : Type 0
 NearIsLocal = (a b : Sources) (unit : List ℕ) → Agree (near_of a unit) a b → near_of a unit ≡ near_of b unit
 
--- what a unit rests on depends on the texts that it rests on alone
+-- what a unit rests on depends only on the texts that it rests on
 abbrev pub FarIsLocal : Type 0
 FarIsLocal = (a b : Sources) (unit : List ℕ) → AgreeFar unit a b → (name : List ℕ) → Rests a unit name ↔ Rests b unit name
 

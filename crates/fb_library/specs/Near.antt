@@ -19,7 +19,7 @@ pub data IsNear (sources : Sources) (u : List ℕ) : List ℕ → Type 0 where
   carried : {v : List ℕ} → Carries sources u v → IsNear sources u v
   carried_by_part : {p v : List ℕ} → Contains (parts_at sources u) p → Carries sources p v → IsNear sources u v
 
--- the value mentions of a structure; nothing else carries on
+-- the value mentions of a structure; any other unit gives none
 abbrev pub carried_on : Sources → List ℕ → List (List ℕ)
 carried_on sources name = if is_structure_at sources name then values_at sources name else []
 

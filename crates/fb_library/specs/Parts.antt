@@ -6,6 +6,6 @@ use Rattle.fb_parse.specs.Text.declared.token.Span.{Span}
 abbrev pub is_boundary : List ℕ → ℕ → Bool
 is_boundary text i = nat_le i (length text) && (nat_le (length text) i || nat_lt (slice_index text i) 128 || nat_le 192 (slice_index text i))
 
--- the part of a text, empty where the span is none of it
+-- the part of a text, empty if the span is none of it
 abbrev pub part : List ℕ → Span → List ℕ
 part text span = if nat_le span.start span.end && is_boundary text span.start && is_boundary text span.end then slice_range text span.start span.end else []

@@ -1,4 +1,4 @@
--- Where a name stands among names in order, or where it would go.
+-- The place of a name among names in order, or where to insert it.
 use Rattle.std.specs.{Prelude.{◌≡◌, ℕ, ◌<◌, ◌≤◌, List, [], length, slice_index_or}, declared.cmp.Ordering.TheVariants.{Less}}
 use Rattle.fb_parse.specs.Text.Order.{name_cmp}
 

@@ -1,4 +1,4 @@
--- How a walk along the mentions goes on: which names it has seen, and which of them are still pending.
+-- How a walk along the mentions continues: which names it has seen, and which of them are still pending.
 use Rattle.std.specs.{Prelude.{◌≡◌, ℕ, ◌+◌, ◌≤◌, Bool, true, false, ◌||◌, List, [], ◌∷◌, length, if◌then◌else◌}, List.{list_any}, Ordering.{eq_by_cmp}}
 use Rattle.fb_parse.specs.Text.Order.{name_cmp}
 

@@ -26,12 +26,12 @@ module _ {V : Type 0} where
   AreShelves [] = Unit {0}
   AreShelves (s ∷ shelves) = IsShelf s shelves × AreShelves shelves
 
-  -- shelves in order, with so many entries
+  -- shelves in order, with this number of entries
   pub record AreCounted (shelves : List (List ℕ × List (List ℕ × V))) (len : ℕ) : Type 0 where
     pub order : AreShelves shelves
     pub counted : len ≡ length (all_on shelves)
 
--- the shelves before it end below the name, and it does not
+-- the shelves before this one end below the name, and this one does not
 pub record IsShelfFor (lasts : List (List ℕ)) (name : List ℕ) (i : ℕ) : Type 0 where
   pub in_range : i ≤ length lasts
   pub below : (j : ℕ) → j < i → name_cmp (slice_index_or lasts j []) name ≡ Less

@@ -9,7 +9,7 @@ pub record Held : Type 0 where
   pub revision : ℕ
   pub text : List ℕ
 
--- the same with the name of the unit
+-- a unit's text with its revision and the name of the unit
 pub record FiledText : Type 0 where
   pub unit : List ℕ
   pub held : Held
@@ -29,11 +29,11 @@ text_in it = it.text
 abbrev pub text_at : Texts → List ℕ → Option (List ℕ)
 text_at texts name = option_map text_in (held texts name)
 
--- the texts alone, without their revisions
+-- only the texts, without their revisions
 abbrev pub sources_of : Texts → Sources
 sources_of texts = from_entries (map (λ e. (e.0, text_in e.1)) texts)
 
--- the number of the commit that put a unit, 0 where it is absent
+-- the number of the commit that put a unit, 0 if it is absent
 abbrev pub revision_of : Option Held → ℕ
 revision_of None = 0
 revision_of (Some it) = it.revision

@@ -24,7 +24,7 @@ tree_of text = tree_in (body_of text)
 abbrev pub tree_at : Sources → List ℕ → Option DeclTree
 tree_at sources unit = option_and_then tree_of (get sources unit)
 
--- the type that is declared; none where it is a system or a structure
+-- the type that is declared; none for a system or a structure
 abbrev pub type_in : DeclTree → Option TypeTree
 type_in (block_type d) = Some d
 type_in (adapter_type d) = Some d
@@ -41,7 +41,7 @@ abbrev pub mentions_of_tree : Option DeclTree → Mentioned
 mentions_of_tree None = nothing_mentioned
 mentions_of_tree (Some decl) = all_mentions_of decl
 
--- the same of what was found under a name
+-- what is mentioned, or nothing if nothing was found
 abbrev pub or_nothing : Option Mentioned → Mentioned
 or_nothing None = nothing_mentioned
 or_nothing (Some found) = found
@@ -52,7 +52,7 @@ parts_in tree = (mentions_of_tree tree).parts
 abbrev pub values_in : Option DeclTree → List (List ℕ)
 values_in tree = (mentions_of_tree tree).of_values
 
--- of both sorts
+-- what a declaration mentions, of both sorts
 abbrev pub mentions_in : Option DeclTree → List (List ℕ)
 mentions_in tree = parts_in tree ++ values_in tree
 
@@ -64,11 +64,11 @@ mentioned_at sources unit = mentions_of_tree (tree_at sources unit)
 abbrev pub parts_at : Sources → List ℕ → List (List ℕ)
 parts_at sources unit = parts_in (tree_at sources unit)
 
--- the types of its variables or fields, elementary ones apart
+-- the types of its variables or fields, except elementary ones
 abbrev pub values_at : Sources → List ℕ → List (List ℕ)
 values_at sources unit = values_in (tree_at sources unit)
 
--- both
+-- all that a unit mentions
 abbrev pub mentions_at : Sources → List ℕ → List (List ℕ)
 mentions_at sources unit = mentions_in (tree_at sources unit)
 

@@ -7,7 +7,7 @@ use fb_parse::text::Name;
 use std::alloc::{AllocError, Global};
 use std::sync::Arc;
 
-/// One change of a commit. `base` is the revision that the change was written against, 0 where the
+/// One change of a commit. `base` is the revision that the change was written against, 0 if the
 /// unit was absent.
 pub enum Change {
     Put { base: u64, source: Arc<Source> },

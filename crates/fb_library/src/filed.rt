@@ -91,7 +91,7 @@ impl Filed {
         &self.source
     }
 
-    /// The text with its revision, to be shared by whoever keeps it without the tree.
+    /// The text with its revision, to be shared by all that keep it without the tree.
     pub fn version(&self) -> &Arc<Version>
         ensures { filed_text result.now.value ≡ self.now }
     {

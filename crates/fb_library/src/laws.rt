@@ -26,7 +26,7 @@ pub fn far_is_local()
     ensures { FarIsLocal }
 {}
 
-/// What `far` says of its names leaves one list alone.
+/// Only one list has the properties that `far` ensures of its names.
 pub fn far_is_one_list()
     ensures { FarIsOneList }
 {}

@@ -142,7 +142,7 @@ impl Library {
         }
     }
 
-    /// The library after a commit's changes. This one stays as it is.
+    /// The library after a commit's changes. This one stays unchanged.
     pub fn edited(&self, commit: u64, changes: &[Change]) -> Result<Library, AllocError>
         ensures { IfOk result (λ after. after ≡ all_edited commit (edits_of changes.now) self.now) }
     {

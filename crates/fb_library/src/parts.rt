@@ -4,7 +4,7 @@ ghost use Rattle.fb_library.specs.Parts.{is_boundary, part};
 
 use fb_parse::text::Span;
 
-/// The part of a text, empty where the span is none of it.
+/// The part of a text, empty if the span is none of it.
 pub fn part_of(text: &str, span: Span) -> &str
     ensures { result.now ≡ part text.now span }
 {

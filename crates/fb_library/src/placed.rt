@@ -10,7 +10,7 @@ use std::marker::Model;
 use std::sync::Arc;
 
 // A full list becomes two halves, so it has about 24 names. A change copies one list, with a
-// count for each of its names: each has memory of its own, which is seldom in the cache.
+// count for each of its names: each has its own memory, which is seldom in the cache.
 const FULL: usize = 32;
 
 /// A value under its name.

@@ -170,7 +170,7 @@ fn shelf_for<V, E: Entries<V>>(shelves: &[Shelf<E>], name: &Name) -> usize
     }
 }
 
-/// Puts a value under a name, in place of what was there. There are `len` entries, and the answer says how many there are then.
+/// Puts a value under a name, in place of what was there. There are `len` entries, and the result is how many there are then.
 fn put<V: Drop, E: Entries<V>>(
     shelves: &mut Vec<Shelf<E>>,
     len: usize,
@@ -219,7 +219,7 @@ fn remove<V: Drop, E: Entries<V>>(
     Ok(())
 }
 
-/// Has a shelf for the name, which is not full, and gives its index.
+/// Ensures that there is a shelf for the name, which is not full, and gives its index.
 fn make_room<V: Drop, E: Entries<V>>(
     shelves: &mut Vec<Shelf<E>>,
     name: &Name,
@@ -239,7 +239,7 @@ fn make_room<V: Drop, E: Entries<V>>(
     Ok(shelf_for(shelves.as_slice(), name))
 }
 
-/// Has a shelf for the name, where `at` is the index of the one for it, or no shelf is.
+/// Ensures that there is a shelf for the name; before, `at` is the index of that shelf, or the number of the shelves if there is none.
 fn widen<V: Drop, E: Entries<V>>(
     shelves: &mut Vec<Shelf<E>>,
     at: usize,

@@ -24,12 +24,12 @@ pub record IsBookOf (book : BTreeMap ℕ ℕ) (callers : ℕ) (bench : BenchView
 abbrev pub CountsOne : ℕ → BenchView → BTreeMap ℕ ℕ → BTreeMap ℕ ℕ → Type 0
 CountsOne caller bench old new = (q : ℕ) → get nat_cmp new q ≡ (if caller == q then Some (all_turns bench caller) else get nat_cmp old q)
 
--- the same, where the caller has made a call. Otherwise no page is changed
+-- the number of the caller's calls is noted if it has made one, and no other page is changed
 abbrev pub CountsCalls : ℕ → BenchView → BTreeMap ℕ ℕ → BTreeMap ℕ ℕ → Type 0
 CountsCalls caller bench old new =
     (q : ℕ) → get nat_cmp new q ≡ (if caller == q && nat_lt 0 (all_turns bench caller) then Some (all_turns bench caller) else get nat_cmp old q)
 
--- it is one of those that were seen, and has made a call
+-- the caller is one of those that were seen, and has made a call
 abbrev pub has_called : List ℕ → BenchView → ℕ → Bool
 has_called seen bench q = list_any (λ k. k == q) seen && nat_lt 0 (all_turns bench q)
 
@@ -38,6 +38,6 @@ abbrev pub HasCounts : BTreeMap ℕ ℕ → ℕ → List ℕ → BenchView → T
 HasCounts book callers seen bench =
     (q : ℕ) → get nat_cmp book q ≡ (if is_first callers q || has_called seen bench q then Some (all_turns bench q) else None)
 
--- as many calls are recorded of the seat's caller as with the seat, and it has seen no more than there are
+-- the number of the caller's recorded calls is the seat's, and the seat has seen no number beyond the last
 abbrev pub SeatFits : LockedView → SeatView → Type 0
 SeatFits locked seat = (all_turns locked.bench seat.caller ≡ seat.turns) × (seat.seen ≤ last_number locked.bench)

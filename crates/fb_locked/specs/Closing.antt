@@ -25,7 +25,7 @@ AreSeated callers bench seats = (q : ℕ) → is_missing callers bench seats q �
 abbrev pub AreSeatsRight : BenchView → List SeatView → Type 0
 AreSeatsRight bench seats = (q : ℕ) → has_wrong_seat bench seats q ≡ false
 
--- the record of the receipt's number is the receipt's. A call from before the history begins has no record any more
+-- the record of the receipt's number is the receipt's. A call from before the history begins no longer has a record
 abbrev pub IsReceiptRight : BenchView → ReceiptView → Type 0
 IsReceiptRight bench receipt = record_numbered bench receipt.number ≡ Some receipt.entry
 
@@ -69,7 +69,7 @@ abbrev pub AreShown : ℕ → BenchView → List ReceiptView → Type 0
 AreShown caller bench receipts =
     (number : ℕ) (it : Record) → record_numbered bench number ≡ Some it → it.caller ≡ caller → Contains receipts (record { number = number; entry = it })
 
--- a caller whose receipts are as many as its records has shown them all
+-- a caller with the same number of receipts and of records has shown all its records
 abbrev pub EnoughShowAll : BenchView → List ReceiptView → Type 0
 EnoughShowAll bench receipts = (caller : ℕ) → receipts_of caller receipts ≡ turns_of caller bench.log.records → AreShown caller bench receipts
 
@@ -114,7 +114,7 @@ IsFirstFault callers bench seats receipts (ReceiptTwice number) =
     AreSeated callers bench seats × AreSeatsRight bench seats × ((k : ℕ) × IsFirstTwice bench receipts k number)
 IsFirstFault callers bench seats receipts Memory = AgreesWith callers bench seats receipts
 
--- all seats and receipts are right, and these are the counts; or this is what stands first against it
+-- all seats and receipts are right, and these are the counts; or this is the first fault
 abbrev pub ChecksAll : ℕ → BenchView → List SeatView → List ReceiptView → Result (BTreeMap ℕ ℕ) CloseError → Type 0
 ChecksAll callers bench seats receipts (Ok counts) = AgreesWith callers bench seats receipts × IsBookOf counts callers bench
 ChecksAll callers bench seats receipts (Err fault) = IsFirstFault callers bench seats receipts fault

@@ -7,7 +7,7 @@ use Rattle.fb_locked.specs.{declared.look.Look.TheVariants.{Ended, Nothing, Take
 use Rattle.fb_locked.specs.Calls.{Keeps, Stays}
 use Rattle.fb_locked.specs.declared.locked.SharedRefused.TheVariants as refused
 
--- a refusal under its name
+-- the end of a worker whose call was refused for this cause
 abbrev pub end_of : SharedRefused → WorkEnd
 end_of (refused.SeatDiffers turns book) = SeatDiffers turns book
 end_of (refused.Behind seen len) = Behind seen len
@@ -33,12 +33,12 @@ LookNames seat (Ended end) = NamesSeat seat end
 LookNames seat Nothing = Unit {0}
 LookNames seat (Taken job) = Unit {0}
 
--- the cause where there is one, and otherwise want of memory
+-- the cause if there is one, and otherwise lack of memory
 abbrev pub EndsAs : Option WorkEnd → WorkEnd → Type 0
 EndsAs None end = end ≡ Memory
 EndsAs (Some cause) end = end ≡ cause
 
--- A look for a job, under the lock. What ends the worker is asked first, whether or not there is a job. Want of memory ends it only where there is one. A
+-- A look for a job, under the lock. What ends the worker is asked first, whether or not there is a job. Lack of memory ends it only if there is one. A
 -- look that takes one is a take whose receipt is kept, and one that takes none changes nothing.
 abbrev pub Looks : LockedView → SeatView → Look → List ReceiptView → LockedView → SeatView → List ReceiptView → Type 0
 Looks locked seat (Ended end) old locked' seat' new =
@@ -51,14 +51,14 @@ Looks locked seat (Taken job) old locked' seat' new =
 abbrev pub calls_workers : LockedView → Bool
 calls_workers locked = locked.stopped || (is_some (next (state_of locked.bench)) || nat_le locked.bench.log.limit (length locked.bench.log.records))
 
--- Where memory was wanting, the key of the job is given back, or nothing changes where this is refused too. At another end nothing changes.
+-- If memory ran out, the key of the job is given back, or nothing changes if this is refused too. At another end nothing changes.
 abbrev pub GivesUp : WorkEnd → LockedView → SeatView → PlainJob → List ReceiptView → LockedView → SeatView → List ReceiptView → Type 0
 GivesUp Memory locked seat job old locked' seat' new = Keeps locked seat (ToGiveBack job.key) old locked' seat' new ⊎ Stays locked seat old locked' seat' new
 GivesUp end locked seat job old locked' seat' new = Stays locked seat old locked' seat' new
 
--- What a worker does with a job that it holds, under the lock. Its result, if it has one, is delivered, and then the worker goes on, whether or not
--- it was accepted. Where the delivery is refused it ends under the name of the first cause; where memory was wanting, for the result or for its
--- delivery, for want of memory.
+-- What a worker does with a job that it holds, under the lock. Its result, if it has one, is delivered, and then the worker continues, whether or not
+-- it was accepted. If the delivery is refused, the worker ends with the first cause; if memory ran out, for the result or for its
+-- delivery, it ends with lack of memory.
 abbrev pub SettlesJob : LockedView → SeatView → PlainJob → Bool → Option WorkEnd → List ReceiptView → LockedView → SeatView → List ReceiptView → Type 0
 SettlesJob locked seat job has_result None old locked' seat' new = (has_result ≡ true) × Keeps locked seat (ToDeliver job) old locked' seat' new
 SettlesJob locked seat job has_result (Some end) old locked' seat' new =

@@ -4,7 +4,7 @@ use Rattle.fb_locked.specs.{declared.locked.SharedRefused.{SharedRefused}, decla
 use Rattle.fb_locked.specs.Seats.{LockedView, SeatView}
 use Rattle.fb_bench.specs.History.BenchView.{all_turns, last_number}
 
--- the first cause, want of memory apart
+-- the first cause, apart from lack of memory
 abbrev pub refusal_of : LockedView → SeatView → Option SharedRefused
 refusal_of locked seat =
     if all_turns locked.bench seat.caller == seat.turns then (
@@ -12,12 +12,12 @@ refusal_of locked seat =
     else if nat_le locked.bench.log.limit (length locked.bench.log.records) then Some HistoryFull else None
     ) else Some (SeatDiffers seat.turns (all_turns locked.bench seat.caller))
 
--- the cause where there is one, and otherwise want of memory
+-- the cause if there is one, and otherwise lack of memory
 abbrev pub RefusedAs : Option SharedRefused → SharedRefused → Type 0
 RefusedAs None refused = refused ≡ Memory
 RefusedAs (Some cause) refused = refused ≡ cause
 
--- what a refusal says of the seat
+-- what a refusal states about the seat
 abbrev pub IsRefusalOf : SeatView → SharedRefused → Type 0
 IsRefusalOf seat (SeatDiffers turns book) = (turns ≡ seat.turns) × (book ≢ turns)
 IsRefusalOf seat (Behind seen len) = (seen ≡ seat.seen) × (len < seen)

@@ -1,4 +1,4 @@
--- A history under a lock that begins anew where it is full, and keys that are out since a take.
+-- Checkpoints of a full history under a lock, and keys that are out since a take.
 use Rattle.std.specs.Prelude.{◌≡◌, ◌<◌, ◌⊎◌, ◌++◌, ◌∷◌, [], ℕ, Bool, true, false, List, Option, Some, None, Result, Ok, Err}
 use Rattle.fb_bench.specs.{Jobs.declared.key.Key.{Key}, Jobs.KeyOrder.{same_key}, Jobs.Reads.{PlainJob}, History.Checkpoints.{checking, checkpointed, ChecksAs}}
 use Rattle.fb_bench.specs.{History.Limits.{Bounds}, History.Machine.{ToGiveBack}}
@@ -8,11 +8,11 @@ use Rattle.fb_locked.specs.{Calls.{Keeps, Stays}, Refusals.{refusal_of, RefusedA
 use Rattle.fb_locked.specs.{Seats.{LockedView, SeatView, ReceiptView, IsReceiptOf, seat_after}, declared.locked.SharedRefused.{SharedRefused}}
 use Rattle.fb_locked.specs.declared.locked.SharedRefused.TheVariants.{HistoryFull}
 
--- the same, with a history that begins where it has led to
+-- the locked workbench, with a history that begins from the state to which it has led
 abbrev pub locked_rolled : Bounds → LockedView → LockedView
 locked_rolled limits locked = record locked { bench = checkpointed limits locked.bench }
 
--- A full history begins anew, and any other one stays as it is. A full one stays where the checkpoint is refused.
+-- A full history begins again from the state to which it has led, and any other one stays unchanged. A full one stays if the checkpoint is refused.
 abbrev pub MakesRoom : {T : Type 0} → Bounds → LockedView → Result T CheckpointError → LockedView → Type 0
 MakesRoom limits old (Ok done) new = (IsFull old.bench.log × (new ≡ locked_rolled limits old)) ⊎ ((IsFull old.bench.log → ⊥) × (new ≡ old))
 MakesRoom limits old (Err refused) new = IsFull old.bench.log × ChecksAs (checking limits old.bench) (Err refused) × (new ≡ old)
@@ -35,11 +35,11 @@ takes_in key (Some it) = takes key it
 abbrev pub takes_at : BenchView → Key → ℕ → Bool
 takes_at bench key number = takes_in key (record_numbered bench number)
 
--- a record behind that of this number hands the key out
+-- a record after that of this number hands the key out
 abbrev pub IsTakenAfter : BenchView → Key → ℕ → Type 0
 IsTakenAfter bench key since = (number : ℕ) × (since < number) × (takes_at bench key number ≡ true)
 
--- it is handed out, and no record since the start that is behind this number hands it out
+-- the key is handed out, and no record since the start that is after this number hands it out
 abbrev pub IsOutSince : BenchView → Key → ℕ → Type 0
 IsOutSince bench key since = ((state_of bench).out key ≡ true) × (IsTakenAfter bench key since → ⊥)
 
@@ -49,7 +49,7 @@ Returns since locked seat key (Ok done) old locked' seat' new =
     (IsOutSince locked.bench key since × Keeps locked seat (ToGiveBack key) old locked' seat' new) ⊎ ((IsOutSince locked.bench key since → ⊥) × Stays locked seat old locked' seat' new)
 Returns since locked seat key (Err refused) old locked' seat' new = IsOutSince locked.bench key since × RefusedAs (refusal_of locked seat) refused × Stays locked seat old locked' seat' new
 
--- what is said of the seat and its receipts alone: one receipt more, of the key given back; or nothing changes
+-- what this does to the seat and its receipts: one receipt more, of the key given back; or nothing changes
 abbrev pub MayReturn : {T : Type 0} → SeatView → Key → Result T SharedRefused → List ReceiptView → SeatView → List ReceiptView → Type 0
 MayReturn seat key (Ok done) old seat' new =
     ((receipt : ReceiptView) × (new ≡ old ++ receipt ∷ []) × IsReceiptOf seat (ToGiveBack key) receipt × (seat' ≡ seat_after seat receipt)) ⊎ ((new ≡ old) × (seat' ≡ seat))
@@ -57,8 +57,8 @@ MayReturn seat key (Err refused) old seat' new = IsRefusalOf seat refused × (ne
 
 -- ---- laws
 
--- Behind a roll the state is the one before it, as are numbers and books; there is no record; and a seat against which nothing but a full history
--- was is one against which nothing is.
+-- After such a checkpoint the state, the numbers and the callers' turns are as before, and there is no record; a seat whose call only a full history
+-- refused is no longer refused.
 pub record IsRollUnseen (limits : Bounds) (locked : LockedView) : Type 0 where
   pub state : state_of (locked_rolled limits locked).bench ≡ state_of locked.bench
   pub last : last_number (locked_rolled limits locked).bench ≡ last_number locked.bench

@@ -81,13 +81,13 @@ GoesOnWith hand (Some end) = EndsWith hand end
 abbrev pub Works : Hand → ℕ → SeatView → List ReceiptView → List ReceiptView → SeatView → Option WorkEnd → Type 0
 Works hand most seat old new after end = (now : Hand) × AddsWork hand most seat old new after now × GoesOnWith now end
 
--- What a look for a job adds: the receipt of the take where it takes one, and otherwise nothing.
+-- What a look for a job adds: the receipt of the take if it takes one, and otherwise nothing.
 abbrev pub AddsLook : Look → SeatView → List ReceiptView → List ReceiptView → SeatView → Type 0
 AddsLook (Taken job) seat old new after = AddsWork Empty 1 seat old new after (Holds job)
 AddsLook Nothing seat old new after = (new ≡ old) × (after ≡ seat)
 AddsLook (Ended end) seat old new after = (new ≡ old) × (after ≡ seat)
 
--- Where a look takes a job, so many receipts have room for one more.
+-- If a look takes a job, there is room for one more after this number of receipts.
 abbrev pub LeavesRoom : Look → ℕ → ℕ → Type 0
 LeavesRoom (Taken job) count capacity = count < capacity
 LeavesRoom Nothing count capacity = ⊤

@@ -1,4 +1,4 @@
--- What contracts see of a seat, of a receipt and of what lies under the lock.
+-- What contracts see of a seat, of a receipt and of the workbench under a lock.
 use Rattle.std.specs.Prelude.{◌≡◌, ℕ, ◌+◌, ◌<◌, List, Bool, Some, length, slice_get}
 use Rattle.fb_bench.specs.{Calls.{Fits}, History.Machine.{Call}}
 use Rattle.fb_bench.specs.History.BenchView.{Record, BenchView, all_turns, last_number, recorded, record_of, IsOrigin, IsReplay}
@@ -20,7 +20,7 @@ pub record LockedView : Type 0 where
   pub callers : ℕ
   pub stopped : Bool
 
--- after one recorded call
+-- the locked workbench after one recorded call
 abbrev pub locked_after : LockedView → ℕ → Call → LockedView
 locked_after locked caller call = record locked { bench = recorded locked.bench caller call }
 
@@ -51,7 +51,7 @@ pub record IsReceiptOf (seat : SeatView) (call : Call) (receipt : ReceiptView) :
 abbrev pub seat_at : BenchView → ℕ → SeatView
 seat_at bench caller = record { caller = caller; turns = all_turns bench caller; seen = last_number bench }
 
--- the seats of callers 1 to n there, in order
+-- the seats of callers 1 to n as a history leaves them, in order
 abbrev pub AreSeatsAt : BenchView → ℕ → List SeatView → Type 0
 AreSeatsAt bench n seats = (length seats ≡ n) × ((k : ℕ) → k < n → slice_get seats k ≡ Some (seat_at bench (k + 1)))
 

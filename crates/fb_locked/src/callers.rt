@@ -79,7 +79,7 @@ fn is_beyond(bench: &Bench, callers: u32, caller: u32) -> bool
     0 < bench.turns_of(caller) && (caller == 0 || callers < caller)
 }
 
-/// The caller, if it is wrong and below the one that was found, and else that one.
+/// The caller, if it is wrong and below the one that was found, and otherwise that one.
 pub fn lesser(least: Option<u32>, caller: u32, wrong: bool) -> Option<u32>
     ensures { result ≡ lesser_of least caller wrong }
 {

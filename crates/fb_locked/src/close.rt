@@ -100,7 +100,7 @@ pub fn close_for(
     }
 }
 
-/// The counts of the calls, or what is first against seats and receipts. Lack of memory comes last.
+/// The counts of the calls, or the first fault of seats and receipts. Lack of memory comes last.
 fn check(
     alloc: Global,
     bench: &Bench,

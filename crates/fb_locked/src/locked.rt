@@ -20,7 +20,7 @@ pub enum SharedRefused {
     SeatDiffers { turns: u64, book: u64 },
     /// The seat has seen a number beyond that of the last call, which is `len`.
     Behind { seen: u64, len: u64 },
-    /// As many calls are recorded as the limits allow.
+    /// The history has the number of calls that the limits allow.
     HistoryFull,
     Memory,
 }
@@ -111,7 +111,7 @@ impl Locked {
         ensures begins { IsOrigin self.now.bench.origin }
         ensures replayed { IsReplay self.now.bench }
     {
-        // That each recorded answer is the machine's, from a start that a workbench may have.
+        // For the proof: each recorded answer is the machine's, from a start that a workbench may have.
         self.bench.start();
         self.bench.len();
         let turns = seat.turns();
@@ -195,7 +195,7 @@ impl Locked {
         Ok(answer)
     }
 
-    /// Changes the texts, or says what is first against it.
+    /// Changes the texts, or gives the first reason against that.
     pub fn commit(&mut self, seat: &mut Seat, changes: &[Change]) -> Result<Receipt, SharedRefused>
         ensures performs { Performs self.old seat.old (ToCommit (listed changes.now))
             (λ receipt. receipt) result self.new seat.new }
@@ -219,7 +219,7 @@ impl Locked {
         Ok((receipt, job_from(answer)))
     }
 
-    /// Takes a result in, if its key waits for one and all that it has read is unchanged.
+    /// Accepts a result, if its key waits for one and all that it has read is unchanged.
     pub fn deliver(
         &mut self,
         seat: &mut Seat,

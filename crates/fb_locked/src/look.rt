@@ -15,13 +15,13 @@ use fb_bench::library::Change;
 pub enum WorkEnd {
     /// All its turns are used. A turn of a worker is one look for a job.
     TurnsOver,
-    /// The workers are to stop.
+    /// The workers must stop.
     Stopped,
     /// Its seat's number of calls is not that of its caller's book.
     SeatDiffers { turns: u64, book: u64 },
     /// Its seat has seen a number beyond that of the last call, which is `len`.
     Behind { seen: u64, len: u64 },
-    /// As many calls are recorded as the limits allow.
+    /// The history has the number of calls that the limits allow.
     HistoryFull,
     Memory,
 }
@@ -70,6 +70,7 @@ impl Locked {
         ensures names { LookNames seat.new result }
         ensures room { LeavesRoom result (vec_len receipts.new) (vec_capacity receipts.new) }
     {
+        // Works around the borrow checker: both types that a `Request` can borrow must occur in a function that makes one.
         let _changes: &[Change] = &[];
         let _finished: Option<&Finished> = None;
         if let Some(end) = self.end_of_work(seat) {
@@ -106,6 +107,7 @@ impl Locked {
             seat.old receipts.old.items receipts.new.items seat.new result }
         ensures names { IfSome result (NamesSeat seat.new) }
     {
+        // As above.
         let _changes: &[Change] = &[];
         match finished {
             None => Some(self.give_up(seat, receipts, job)),
@@ -128,6 +130,7 @@ impl Locked {
         ensures works { Works (Holds job.now) 1
             seat.old receipts.old.items receipts.new.items seat.new (Some Memory) }
     {
+        // As above.
         let _changes: &[Change] = &[];
         let _finished: Option<&Finished> = None;
         let _answer = self.perform_into(seat, receipts, &Request::GiveBack(job.key()));

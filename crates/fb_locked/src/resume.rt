@@ -1,4 +1,4 @@
-//! A workbench that comes under a lock with the calls that it has.
+//! A workbench that is put under a lock with the calls that it has.
 ghost use Rattle.std.specs.Prelude.{◌≡◌, false, None, IfErr, IfOk, OnOk};
 ghost use Rattle.fb_locked.specs.{Closing.{IsLeast}, Resuming.{is_left_out, IsResumeFault}, Seats.{AreSeatsAt}};
 
@@ -8,7 +8,7 @@ use crate::seat::Seat;
 use fb_bench::Bench;
 use std::alloc::Global;
 
-/// Why a workbench does not come under a lock.
+/// Why a workbench is not put under a lock.
 #[derive(Clone, Copy, PartialEq, Eq, Debug)]
 pub enum ResumeError {
     /// The least caller that has made a call and would get no seat.
@@ -17,7 +17,7 @@ pub enum ResumeError {
     Memory,
 }
 
-/// What is handed back if a workbench does not come under a lock.
+/// What is handed back if a workbench is not put under a lock.
 #[derive(Drop)]
 pub struct NotResumed {
     pub fault: ResumeError,

@@ -49,7 +49,7 @@ impl Locked {
         }
     }
 
-    /// Whether the key is handed out, and no record since the start that is behind this number hands it out.
+    /// Whether the key is handed out, and no record since the start that is after this number hands it out.
     pub fn is_out_since(&self, key: &Key, since: u64) -> bool
         ensures { IsTrue result ↔ IsOutSince self.now.bench key.now since }
     {
@@ -92,6 +92,7 @@ impl Locked {
             receipts.old.items self.new seat.new receipts.new.items }
         ensures may { MayReturn seat.old key result receipts.old.items seat.new receipts.new.items }
     {
+        // Works around the borrow checker: both types that a `Request` can borrow must occur in a function that makes one.
         let _changes: &[Change] = &[];
         let _finished: Option<&Finished> = None;
         if !self.is_out_since(&key, since) {

@@ -7,7 +7,7 @@ use Rattle.fb_mapping.specs.Placed.{PlainPlaced, IsPlaced}
 abbrev pub OnePlace : Type 0
 OnePlace = (sources : Sources) (system : List ℕ) (a b : PlainPlaced) → IsPlaced sources system a → IsPlaced sources system b → a ≡ b
 
--- the placement of a system depends on the texts alone that the system rests on
+-- the placement of a system depends only on the texts that the system rests on
 abbrev pub PlaceIsLocal : Type 0
 PlaceIsLocal =
     (a b : Sources) (system : List ℕ) → AgreeFar system a b

@@ -11,13 +11,13 @@ use Rattle.fb_mapping.specs.declared.placement.Placed.TheVariants as placed
 abbrev pub IsSystem : Sources → List ℕ → Type 0
 IsSystem sources unit = kind_at sources unit ≡ Some System
 
--- a placement in plain: why there is no flat network, what is misplaced, or homes and cuts
+-- a placement as a plain value: why there is no flat network, what is misplaced, or homes and cuts
 pub data PlainPlaced : Type 0 where
   stopped : PlainNet → PlainPlaced
   faulty : List Misplaced → PlainPlaced
   on : List Home → List Link → PlainPlaced
 
--- the same without its place in memory
+-- the placement of the program as a plain value, without its place in memory
 abbrev pub plain_placed : Placed → PlainPlaced
 plain_placed (placed.Stopped net) = stopped (plain_net net)
 plain_placed (placed.Faulty found) = faulty found.items

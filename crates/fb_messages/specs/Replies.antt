@@ -1,4 +1,4 @@
--- The replies, as JSON. Members stand in the order of their names' bytes.
+-- The replies, as JSON. Members are in the order of their names' bytes.
 use Rattle.std.specs.Prelude.{ℕ, [], ◌∷◌, ◌++◌, Bool, List, codes, map}
 use Rattle.serde_json.specs.{Data.{Data, Items, array, boolean, item, member, no_items, no_members, number, object, string, unsigned}, View.{items_of}}
 use Rattle.serde_json.specs.Written.{compact_text}

@@ -46,7 +46,7 @@ put_in d =
 abbrev pub remove_in : Data → Option Change
 remove_in d = option_and_then (λ unit. option_map (removes unit) (number_at (codes "base") d)) (member_text (codes "remove") d)
 
--- by what is under `put` and under `remove`: one of them alone
+-- by what is under `put` and under `remove`: only one of them may be there
 abbrev pub change_by : Option Data → Option Data → Data → Option Change
 change_by None None d = None
 change_by None (Some removed) d = remove_in d

@@ -6,7 +6,7 @@ use Rattle.serde_json.specs.{Data.{Data}, Written.{outline}}
 abbrev pub tokens_of : Data → List Token
 tokens_of d = json_tokens (outline d)
 
--- behind what was there the writer has these tokens, unless memory ran out
+-- after what was there the writer has these tokens, unless memory ran out
 abbrev pub Adds : {E : Type 0} → Result (Unit {0}) E → Written → Written → List Token → Type 0
 Adds result old new tokens = OnOk result ((new.before ≡ old.before) × (new.tokens ≡ old.tokens ++ tokens))
 

@@ -3,7 +3,7 @@ ghost use Rattle.std.specs.{Prelude.{ℕ}, Option.{SomeIff}};
 ghost use Rattle.fb_history.specs.Limits.{AreLimits};
 ghost use Rattle.fb_messages.specs.Requests.{limits_of};
 
-/// Two numbers are the limits of a checkpoint exactly where a workbench may have these limits.
+/// Two numbers are the limits of a checkpoint if and only if a workbench may have these limits.
 pub fn limits_are_read()
     ensures { (units history : ℕ)
         → SomeIff (limits_of units history) (AreLimits units history)

@@ -23,7 +23,7 @@ brings_of_sort sorts.Adapter names destination = false
 abbrev pub brings : Path → Connection → Bool
 brings names c = brings_of_sort c.sort names c.destination
 
--- a fault at a data connection's destination, where one before brings data there
+-- a fault at a data connection's destination, if an earlier connection brings data there
 abbrev pub faults_of_sort : Sort → List Connection → End → List Fault
 faults_of_sort sorts.Data before destination = if list_any (brings (end_path destination).names) before then fault_at_path SecondSource (end_path destination) ∷ [] else []
 faults_of_sort sorts.Event before destination = []

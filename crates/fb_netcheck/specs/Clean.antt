@@ -1,4 +1,4 @@
--- What networks without faults are like.
+-- What holds of networks without faults.
 use Rattle.std.specs.{Prelude.{◌≡◌, ℕ, Bool, true, false, ◌&&◌, List, [], map}, List.{All}}
 use Rattle.fb_tree.specs.{Tree.{NetworkTree}, declared.interface.TypeUse.{TypeUse}, declared.kinds.UnitKind.{UnitKind}}
 use Rattle.fb_tree.specs.{declared.kinds.UnitKind.TheVariants.{Subapplication}, declared.network.Connection.{Connection}}
@@ -19,7 +19,7 @@ abbrev pub PassesNothing : UnitKind → Target → Target → Type 0
 PassesNothing Subapplication source destination = (is_own_port Source source && is_own_port Destination destination) ≡ false
 PassesNothing kind source destination = Unit {0}
 
--- a connection whose ends name these, where types are compared by the test
+-- a connection whose ends name these; the test compares types
 pub record IsClean (kind : UnitKind) (same : TypeUse → TypeUse → Bool) (source destination : Target) : Type 0 where
   pub source_side : IsCleanEnd Source source
   pub destination_side : IsCleanEnd Destination destination
@@ -36,7 +36,7 @@ pub record IsCleanNetwork (sources : Sources) (here : NetworkPlace) (n : Network
   pub one_source : repeated (map end_path (data_destinations n.connections)) ≡ []
   pub one_adapter : repeated (map end_path (all_adapter_ends n.connections)) ≡ []
 
--- without faults, the networks of a unit are clean
+-- the networks of a unit without faults are clean
 abbrev pub FaultlessNetworksAreClean : Type 0
 FaultlessNetworksAreClean =
     (sources : Sources) (unit : List ℕ) → net_faults_of sources unit ≡ []
@@ -46,7 +46,7 @@ FaultlessNetworksAreClean =
 abbrev pub AreRight : NetworkPlace → Connection → Type 0
 AreRight here c = (is_right Source (target here c.sort c.source) ≡ true) × (is_right Destination (target here c.sort c.destination) ≡ true)
 
--- without faults of what the unit declares, each type is usable, and each end names a port of the right side
+-- if no check of declarations and of networks reports a fault, each type is usable, and each end names a port of the right side
 abbrev pub ConnectionsAreRight : Type 0
 ConnectionsAreRight =
     (sources : Sources) (unit : List ℕ) → iface_faults_of sources unit ≡ [] → net_faults_of sources unit ≡ []

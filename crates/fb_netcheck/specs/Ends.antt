@@ -26,7 +26,7 @@ right_side Destination OfPlug = Output
 right_side Source OfSocket = Output
 right_side Destination OfSocket = Input
 
--- Whose port `I.X` is. The ports of own plugs and sockets are within reach of the events and data of a block type alone.
+-- Whose port `I.X` is. Only event and data connections of a block type reach the ports of its own plugs and sockets.
 abbrev pub holder_of : UnitKind → Sort → Role → Option Holder
 holder_of kind sort roles.Block = Some OfInstance
 holder_of kind sort roles.Subapplication = Some OfInstance
@@ -68,7 +68,7 @@ abbrev pub target_of : Holder → Option Port → Target
 target_of holder None = Unknown
 target_of holder (Some port) = Found holder port
 
--- a port of a type; what rests on a type that is not usable is not checked
+-- a port of a type; what depends on a type that is not usable is not checked
 abbrev pub target_in : Holder → Sort → Option Meanings → List ℕ → Target
 target_in holder sort None name = NotChecked
 target_in holder sort (Some m) name = target_of holder (port_in sort m name)

@@ -11,7 +11,7 @@ abbrev pub network_faults : Sources → NetworkPlace → NetworkTree → List Fa
 network_faults sources here n =
     flat_map (connection_faults here) n.connections ++ flat_map (joined_types sources here) n.connections ++ second_sources n.connections ++ second_adapters n.connections ++ all_parameters here.scope n.instances
 
--- the network of a type, with its setting
+-- the network of a type, with its place
 abbrev pub type_place : Sources → List ℕ → UnitKind → TypeTree → NetworkPlace × NetworkTree
 type_place sources unit kind d = (record { unit = unit; kind = kind; scope = scope_of_type sources d }, d.network)
 
@@ -19,7 +19,7 @@ type_place sources unit kind d = (record { unit = unit; kind = kind; scope = sco
 abbrev pub application_place : Sources → List ℕ → ApplicationTree → NetworkPlace × NetworkTree
 application_place sources unit a = (record { unit = unit; kind = System; scope = scope_of_network sources a.network }, a.network)
 
--- the networks of a declaration, each where it stands
+-- the networks of a declaration, each with its place
 abbrev pub networks_in : Sources → List ℕ → Option DeclTree → List (NetworkPlace × NetworkTree)
 networks_in sources unit None = []
 networks_in sources unit (Some (block_type d)) = type_place sources unit Block d ∷ []
@@ -28,7 +28,7 @@ networks_in sources unit (Some (subapplication_type d)) = type_place sources uni
 networks_in sources unit (Some (system_configuration s)) = map (application_place sources unit) s.applications
 networks_in sources unit (Some (structure_type s)) = []
 
--- the faults of a network, with its setting
+-- the faults of a network at its place
 abbrev pub placed_faults : Sources → NetworkPlace × NetworkTree → List Fault
 placed_faults sources placed = network_faults sources placed.0 placed.1
 

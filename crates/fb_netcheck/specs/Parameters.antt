@@ -19,12 +19,12 @@ abbrev pub parameter_faults : Option DeclaredVariable → ParameterTree → List
 parameter_faults None p = fault_at ParameterUnknown p.name ∷ []
 parameter_faults (Some v) p = value_faults v.section v.type_use p
 
--- the parameters of an instance of a type with these ports; what rests on a type that is not usable is not checked
+-- the parameters of an instance of a type with these ports; what depends on a type that is not usable is not checked
 abbrev pub typed_parameters : Option Meanings → List ParameterTree → List Fault
 typed_parameters None parameters = []
 typed_parameters (Some m) parameters = flat_map (λ p. parameter_faults (stands_for m.variables p.name.name) p) parameters
 
--- those of plugs, sockets and subapplication instances are not checked
+-- only the parameters of block instances are checked, not those of plugs, sockets and subapplication instances
 abbrev pub judged_parameters : Scope → Role → InstanceTree → List Fault
 judged_parameters scope roles.Block i = typed_parameters (scope.type_ports roles.Block i.type_name.name) i.parameters
 judged_parameters scope role i = []

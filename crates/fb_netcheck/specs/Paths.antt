@@ -1,4 +1,4 @@
--- Paths that stand twice.
+-- Paths that occur twice.
 use Rattle.std.specs.{Prelude.{ℕ, ◌-◌, Bool, List, length, slice_get, map}, BTreeMap.{is_at}, Cmp.Lexicographic.{slice_cmp}, List.{list_any}}
 use Rattle.std.specs.Option.{option_map_or}
 use Rattle.fb_tree.specs.{Text.declared.name.NameUse.{NameUse}, Text.declared.token.Span.{Span}, Text.Order.{name_cmp}}
@@ -31,7 +31,7 @@ same_path a b = is_at (slice_cmp name_cmp a) b
 abbrev pub has_path : List PathUse → Path → Bool
 has_path paths path = list_any (λ p. same_path p.names path) paths
 
--- whether a path stands before its place too
+-- whether a path also occurs before its place
 abbrev pub is_repeated : List PathUse → ℕ × PathUse → Bool
 is_repeated paths = passes_there (λ before p. has_path before p.names) paths
 
@@ -43,6 +43,6 @@ repeated paths = passing_there (λ before p. has_path before p.names) paths
 abbrev pub fault_at_path : Code → PathUse → Fault
 fault_at_path code path = record { code = code; span = path.span }
 
--- a fault at each path that is before its place too
+-- a fault at each path that also occurs before its place
 abbrev pub repeated_faults : Code → List PathUse → List Fault
 repeated_faults code paths = map (fault_at_path code) (repeated paths)

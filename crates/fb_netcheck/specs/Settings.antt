@@ -1,4 +1,4 @@
--- Where a network stands.
+-- The place of a network.
 use Rattle.std.specs.Prelude.{ℕ, List}
 use Rattle.fb_tree.specs.declared.kinds.UnitKind.{UnitKind}
 use Rattle.fb_iface.specs.{ScopeTypes.{scope_in}, Scope.{Scope}}

@@ -21,11 +21,11 @@ words text = words_of text (tokens_of text)
 abbrev pub words_at : Sources → List ℕ → Span → List ℕ
 words_at sources unit span = words (part (text_or_empty sources unit) span)
 
--- types with a length and arrays are the same where their tokens are
+-- types with a length and arrays are the same if their tokens are
 abbrev pub same_words : Sources → List ℕ → Span → List ℕ → Span → Bool
 same_words sources unit a other b = pointwise nat_eq (words_at sources unit a) (words_at sources other b)
 
--- plain types are the same where their names are
+-- plain types are the same if their names are
 abbrev pub same_by_form : TypeForm → TypeForm → Bool → Bool → Bool
 same_by_form Plain Plain names tokens = names
 same_by_form Sized Sized names tokens = tokens

@@ -16,7 +16,7 @@ home_of here name (Some port) = option_map_or (λ i. i.type_name.name) (stands_f
 abbrev pub home : NetworkPlace → End → List ℕ
 home here end = home_of here end.name end.port
 
--- whether what flows is of one type, if two types are compared by the test; a type that is not checked goes with each
+-- whether what flows is of one type, if the test compares two types; a type that is not checked agrees with each
 abbrev pub flows_agree : (TypeUse → TypeUse → Bool) → Flow → Flow → Bool
 flows_agree same (Data a) (Data b) = is_free (class_of_type a) || is_free (class_of_type b) || same a b
 flows_agree same (Adapter a) (Adapter b) = is_same a.name b.name
@@ -26,7 +26,7 @@ abbrev pub targets_agree : (TypeUse → TypeUse → Bool) → Target → Target 
 targets_agree same (Found holder port) (Found other_holder other) = flows_agree same port.flow other.flow
 targets_agree same a b = true
 
--- the ports at both ends are of one type, where they are of the right sides
+-- the ports at both ends are of one type, if they are of the right sides
 abbrev pub flow_faults : (TypeUse → TypeUse → Bool) → Connection → Target → Target → List Fault
 flow_faults same c source destination =
     if is_right Source source && is_right Destination destination && not (targets_agree same source destination) then fault_of DataType c.destination ∷ [] else []

@@ -6,14 +6,14 @@ pub fn net_faults_are_local()
     ensures { NetFaultsAreLocal }
 {}
 
-/// Where the networks of a unit have no faults, each connection joins ports of the right sides that are of one type, no own port of a
-/// subapplication is joined to another, each data destination has one source and each adapter end one other end. What rests on a type
+/// If the networks of a unit have no faults, each connection joins ports of the right sides that are of one type, no own port of a
+/// subapplication is joined to another, each data destination has one source and each adapter end one other end. What depends on a type
 /// that is not usable is not checked.
 pub fn faultless_networks_are_clean()
     ensures { FaultlessNetworksAreClean }
 {}
 
-/// Where a unit has no faults of what it declares either, each type of an instance is usable, and each end of a connection is a port of
+/// If a unit has no faults in what it declares either, each type of an instance is usable, and each end of a connection is a port of
 /// the right side.
 pub fn connections_are_right()
     ensures { ConnectionsAreRight }

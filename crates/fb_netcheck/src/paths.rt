@@ -20,7 +20,7 @@ pub trait Placed {
         ensures { result ≡ (path_of self.now).span };
 }
 
-/// Reports each path that is before its place too.
+/// Reports each path that also occurs before its place.
 pub fn report_repeated<T: Placed>(
     alloc: Global,
     code: Code,

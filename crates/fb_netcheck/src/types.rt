@@ -115,7 +115,7 @@ fn is_flow_agreed<V: View>(
     }
 }
 
-/// Whether two types, each at an end of a connection, are spelled alike. Where they are declared is looked up for texts alone.
+/// Whether two types, each at an end of a connection, are spelled alike. The units that declare them are looked up only if texts are compared.
 fn is_same_at_ends<V: View>(
     alloc: Global,
     view: &V,

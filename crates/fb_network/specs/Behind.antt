@@ -25,7 +25,7 @@ abbrev pub places_of_found : Sort → List ℕ → Place → Option Standing →
 places_of_found sort port own None = []
 places_of_found sort port own (Some s) = places_of_standing sort port own s
 
--- the places behind an end of a connection, which is itself at the place `own`
+-- the places of blocks to which an end of a connection leads; the end itself is at the place `own`
 abbrev pub places_behind : (List ℕ → Option Standing) → Sort → Place → End → List Place
 places_behind table sort own (Own port) = []
 places_behind table sort own (Of name port) = places_of_found sort port own (table name)
@@ -40,14 +40,14 @@ abbrev pub edges_of_end : Sort → End → List Place → List Edge
 edges_of_end sort (Own port) places = map (λ place. record { sort = sort; port = port; place = place }) places
 edges_of_end sort (Of name port) places = []
 
--- the prefix behind a plug or socket, whose ends are the names of the adapter's ports
+-- the prefix of a plug or socket, whose ends are the names of the adapter's ports
 abbrev pub prefix_behind : List (List ℕ) → List ℕ → PlainPrefix
 prefix_behind names text = record { start = dotted text []; ends = names }
 
 abbrev pub IsMember : List PlainPrefix → List (List ℕ) → ℕ → List ℕ → Type 0
 IsMember prefixes names number text = slice_get prefixes number ≡ Some (prefix_behind names text)
 
--- under these numbers stand the prefixes behind these plugs or sockets
+-- these numbers are those of the prefixes of these plugs or sockets
 abbrev pub AreMembers : List PlainPrefix → List (List ℕ) → List ℕ → List (List ℕ) → Type 0
 AreMembers prefixes names = AllZip (IsMember prefixes names)
 

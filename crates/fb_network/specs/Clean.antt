@@ -1,4 +1,4 @@
--- What a network without faults keeps (IEC 61499-1, 5.4: subapplication types; 5.5: adapters).
+-- What holds of a network without faults (IEC 61499-1, 5.4: subapplication types; 5.5: adapters).
 use Rattle.std.specs.{Prelude.{ℕ, ◌≡◌, List, [], ◌∷◌, Option, Some, None, Contains, ◌&&◌, find, option_map, option_and_then}, BTreeMap.{is_at}}
 use Rattle.fb_tree.specs.{Text.Order.{name_cmp}, declared.network.Sort.{Sort}, declared.network.Sort.TheVariants.{Adapter}, declared.interface.Side.{Side}}
 use Rattle.fb_tree.specs.declared.interface.Side.TheVariants.{Input, Output}
@@ -14,7 +14,7 @@ port_named ports sort name = find (λ p. same_sort p.sort sort && is_at (name_cm
 abbrev pub type_of : View → PlainNetwork → List ℕ → Option PlainNetwork
 type_of view network name = option_and_then (λ i. view i.type_name) (instance_named network.instances name)
 
--- the side of the port at a place, by the declaration of what stands there
+-- the side of the port at a place, by the declaration of the type that has it
 abbrev pub side_at : View → Sort → PlainNetwork → Place → Option Side
 side_at view sort network [] = None
 side_at view sort network (port ∷ []) = option_map (λ p. p.side) (port_named network.ports sort port)
@@ -47,7 +47,7 @@ pub record IsDeclared (view : View) (name : List ℕ) : Type 0 where
   pub type : PlainNetwork
   pub declared : view name ≡ Some type
 
--- each instance has a name of its own and a declared type, each connection has its ends on the right sides,
+-- each instance has its own name and a declared type, each connection has its ends on the right sides,
 -- those of adapters join plugs and sockets of one adapter type, and none joins two own ports
 pub record IsClean (view : View) (network : PlainNetwork) : Type 0 where
   pub named :

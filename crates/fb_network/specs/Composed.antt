@@ -34,7 +34,7 @@ abbrev pub behind_found : Nets → Sort → List ℕ → List ℕ → Option Ins
 behind_found nets sort name port None = []
 behind_found nets sort name port (Some i) = behind_instance nets sort name port i
 
--- the places of blocks behind an end of a connection
+-- the places of blocks to which an end of a connection leads
 abbrev pub behind_of : Instances → Nets → Sort → End → List (List ℕ)
 behind_of instances nets sort (Own port) = []
 behind_of instances nets sort (Of name port) = behind_found nets sort name port (instances name)

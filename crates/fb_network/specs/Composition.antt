@@ -4,7 +4,7 @@ use Rattle.fb_tree.specs.declared.network.Sort.{Sort}
 use Rattle.fb_network.specs.{declared.network.End.{End}, declared.network.End.TheVariants.{Own, Of}, Plain.{PlainNetwork}}
 use Rattle.fb_network.specs.Network.{View, Place, place_of, IsInner, IsBlock, IsConnected, Chain, IsLink, IsBorder}
 
--- both places and the chain lie inside one subapplication instance
+-- both places and the chain are inside one subapplication instance
 pub record LiesInside (view : View) (sort : Sort) (network : PlainNetwork) (a b : Place) : Type 0 where
   pub inner : PlainNetwork
   pub name : List ℕ
@@ -49,7 +49,7 @@ pub record Crosses (view : View) (sort : Sort) (network : PlainNetwork) (a b : P
 abbrev pub IsComposed : View → Sort → PlainNetwork → Place → Place → Type 0
 IsComposed view sort network a b = LiesInside view sort network a b ⊎ Crosses view sort network a b
 
--- a block's port is behind itself; behind a subapplication's port stand the places that its borders name
+-- a block's port leads to itself, and a subapplication's port to the places that its borders name
 pub data IsBehind (view : View) (sort : Sort) (network : PlainNetwork) : End → Place → Type 0 where
   BlockItself : {end : End} {place : Place} (name type port : List ℕ) → IsBlock network name type → end ≡ Of name port → place ≡ name ∷ port ∷ [] → IsBehind view sort network end place
   BehindBorder : {end : End} {place : Place} (inner : PlainNetwork) (name port : List ℕ) (to : Place) → IsInner view network name inner → end ≡ Of name port → place ≡ name ∷ to → IsBorder view inner sort port to → IsBehind view sort network end place

@@ -32,7 +32,7 @@ border_at prefixes edge = record { sort = edge.sort; port = edge.port; place = p
 abbrev pub flat_at : List PlainPrefix → List Leaf → List Join → List Edge → PlainFlat
 flat_at prefixes leaves joins edges = record { blocks = map (block_at prefixes) leaves; links = map (link_at prefixes) joins; borders = map (border_at prefixes) edges }
 
--- each place that is named has a prefix among so many
+-- each place that is named has one of this number of prefixes
 abbrev pub IsLeafBelow : ℕ → Leaf → Type 0
 IsLeafBelow count leaf = leaf.place.prefix < count
 
@@ -51,7 +51,7 @@ pub record IsLaid (count : ℕ) (leaves : List Leaf) (joins : List Join) (edges 
 abbrev pub prefix_within : List ℕ → PlainPrefix → PlainPrefix
 prefix_within name prefix = record { start = dotted name prefix.start; ends = prefix.ends }
 
--- the place among prefixes that stand so many further
+-- the place after this number is added to the number of its prefix
 abbrev pub place_moved : ℕ → Place → Place
 place_moved by place = record { prefix = place.prefix + by; end = place.end }
 

@@ -1,4 +1,4 @@
--- Networks in plain and their flat networks, as contracts see them.
+-- Networks as plain values and their flat networks, as contracts see them.
 pub mod Sorts
 pub mod Plain
 pub mod Places

@@ -1,4 +1,4 @@
--- The links of a flat network: chains of adapters stand for links of the adapter's events and data (IEC 61499-1, 5.5: adapters).
+-- The links of a flat network: a chain of adapters gives links of the adapter's events and data (IEC 61499-1, 5.5: adapters).
 use Rattle.std.specs.Prelude.{◌≡◌, [], ◌∷◌, ◌++◌, Some, Contains}
 use Rattle.fb_tree.specs.{declared.network.Sort.{Sort}, declared.network.Sort.TheVariants.{Adapter}, declared.interface.Side.TheVariants.{Input, Output}}
 use Rattle.fb_network.specs.{declared.network.Port.{Port}, Plain.{PlainNetwork}, Network.{View, Place, IsLink}, Clean.{adapter_at}}

@@ -1,4 +1,4 @@
--- What is composed where a part of a view is seen.
+-- What is composed from a part of a view.
 use Rattle.std.specs.Prelude.{◌≡◌}
 use Rattle.fb_network.specs.{declared.network.End.{End}, Plain.{PlainNetwork}, PlainFlat.{PlainFlat}, Network.{View, place_of}}
 use Rattle.fb_network.specs.{Clean.{IsCleanThroughout, adapter_at}, FlatNet.{IsFlat}, Ready.{Nets, AreFinished}}

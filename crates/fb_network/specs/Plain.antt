@@ -1,4 +1,4 @@
--- Networks in plain (IEC 61499-1, 5.4: subapplication types; 5.5: adapters).
+-- Networks as plain values (IEC 61499-1, 5.4: subapplication types; 5.5: adapters).
 use Rattle.std.specs.Prelude.{List}
 use Rattle.fb_network.specs.{declared.network.Port.{Port}, declared.network.Instance.{Instance}, declared.network.Connection.{Connection}}
 

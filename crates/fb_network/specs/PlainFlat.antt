@@ -1,4 +1,4 @@
--- Flat networks in plain.
+-- Flat networks as plain values.
 use Rattle.std.specs.Prelude.{List}
 use Rattle.fb_network.specs.{declared.flat.FlatBlock.{FlatBlock}, declared.flat.Link.{Link}, declared.flat.Border.{Border}}
 

@@ -1,7 +1,7 @@
--- Paths in front of a path.
+-- Prefixes of a path.
 use Rattle.std.specs.{Prelude.{ℕ, ◌≡◌, ◌<◌, ◌⊎◌, ◌==◌, if◌then◌else◌, List, [], ◌∷◌, ◌++◌, length, map, Option, Some, None}, Option.{option_or}}
 
--- the first path is the other one, or stands in front of it by whole names
+-- the first path is the other one, or a prefix of it by whole names
 abbrev pub IsPrefix : List ℕ → List ℕ → Type 0
 IsPrefix prefix path = (path ≡ prefix) ⊎ ((rest : List ℕ) × (path ≡ prefix ++ 46 ∷ rest))
 
@@ -19,7 +19,7 @@ last_there (o ∷ os) = option_or (last_there os) o
 unfoldable pub nearest : {X : Type 0} → (List ℕ → Option X) → List ℕ → Option X
 nearest at path = last_there (map at (prefixes path))
 
--- the longest prefix of the path that has something has this, and none has anything where this is nothing
+-- the longest prefix of the path that has something has this; if there is nothing, no prefix has anything
 abbrev pub IsNearest : {X : Type 0} → (List ℕ → Option X) → List ℕ → Option X → Type 0
 IsNearest at path None = (prefix : List ℕ) → IsPrefix prefix path → at prefix ≡ None
 IsNearest at path (Some x) =

@@ -1,4 +1,4 @@
--- Entries of a flat network that is being composed, and what they say in plain.
+-- Entries of a flat network that is being composed, and the plain values that they mean.
 use Rattle.std.specs.{Prelude.{ℕ, ◌<◌, ◌≡◌, List, ◌++◌, Some, map, length}, List.{All, Contains}, List.Sorted.{IsStrictlySortedBy}}
 use Rattle.std.specs.declared.cmp.Ordering.{Ordering}
 use Rattle.fb_network.specs.{LinkOrder.{border_cmp, link_cmp}, Places.{dotted}, Composed.{blocks_of, links_of}, PlainFlat.{PlainFlat}}
@@ -6,7 +6,7 @@ use Rattle.fb_network.specs.{PlainPrefix.{PlainPrefix}, Laid.{IsEdgeBelow, IsJoi
 use Rattle.fb_network.specs.{declared.flat.FlatBlock.{FlatBlock}, declared.flat.Link.{Link}, declared.flat.Border.{Border}, declared.place.Place.{Place}}
 use Rattle.fb_network.specs.{declared.entries.Leaf.{Leaf}, declared.entries.Join.{Join}, declared.entries.Edge.{Edge}, declared.draft.Draft.{Draft}}
 
--- the entries name prefixes that there are, and by these they say what the plain ones say
+-- the entries name prefixes of the list, and by these they mean the plain ones
 pub record IsReading {E X : Type 0} (below : ℕ → E → Type 0) (at : List PlainPrefix → E → X) (prefixes : List PlainPrefix) (entries : List E) (plain : List X) : Type 0 where
   pub in_range : All (below (length prefixes)) entries
   pub is : map (at prefixes) entries ≡ plain
@@ -26,7 +26,7 @@ AreJoins = IsReading IsJoinBelow link_at
 abbrev pub AreEdges : List PlainPrefix → List Edge → List Border → Type 0
 AreEdges = IsReading IsEdgeBelow border_at
 
--- there are the old prefixes, and perhaps more behind them
+-- there are the old prefixes, and perhaps more after them
 abbrev pub Grows : List PlainPrefix → List PlainPrefix → Type 0
 Grows old new = (more : List PlainPrefix) × (new ≡ old ++ more)
 
@@ -34,7 +34,7 @@ Grows old new = (more : List PlainPrefix) × (new ≡ old ++ more)
 abbrev pub border_within : List ℕ → Border → Border
 border_within name b = record { sort = b.sort; port = b.port; place = dotted name b.place }
 
--- the draft has taken in what the instance of that name holds; these are the instance's borders
+-- the draft also has what the instance of that name holds; these are the instance's borders
 pub record TakesIn (old new : Draft) (name : List ℕ) (inner : PlainFlat) (edges : List Edge) : Type 0 where
   pub grows : Grows old.prefixes.items new.prefixes.items
   pub blocks :
@@ -45,13 +45,13 @@ pub record TakesIn (old new : Draft) (name : List ℕ) (inner : PlainFlat) (edge
       → AreJoins new.prefixes.items new.joins.items (links ++ links_of name (Some inner))
   pub borders : AreEdges new.prefixes.items edges (map (border_within name) inner.borders)
 
--- what is in order has the members that there were
+-- the ordered list has the same members as the other one
 pub record IsInOrder {X : Type 0} (cmp : X → X → Ordering) (made ordered : List X) : Type 0 where
   pub sorted : IsStrictlySortedBy cmp ordered
   pub kept : (x : X) → Contains made x → Contains ordered x
   pub added : (x : X) → Contains ordered x → Contains made x
 
--- the flat network says what the draft and the borders say, links and borders in order
+-- the flat network has what the draft and the borders mean, links and borders in order
 pub record IsFinish (draft : Draft) (edges : List Edge) (flat : PlainFlat) : Type 0 where
   pub blocks : flat.blocks ≡ map (block_at draft.prefixes.items) draft.leaves.items
   pub links : IsInOrder link_cmp (map (link_at draft.prefixes.items) draft.joins.items) flat.links

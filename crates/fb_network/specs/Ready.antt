@@ -7,7 +7,7 @@ use Rattle.fb_network.specs.{PlainFlat.{PlainFlat}, Network.{View}, FlatNet.{IsF
 abbrev pub Nets : Type 0
 Nets = List ℕ → Option PlainFlat
 
--- under the name stands the flat network of that type
+-- the name has the flat network of that type
 pub record IsFinished (view : View) (nets : Nets) (name : List ℕ) : Type 0 where
   pub inner : PlainNetwork
   pub declared : view name ≡ Some inner

@@ -1,4 +1,4 @@
--- What stands under each name of a network that is being composed.
+-- What each name means in a network that is being composed.
 use Rattle.std.specs.Prelude.{ℕ, ◌<◌, ◌≡◌, cond, List, [], ◌++◌, Option, Some, None, ⊤, length, map, flat_map, option_map, slice_get, slice_index_or}
 use Rattle.std.specs.BTreeMap.{is_at}
 use Rattle.fb_tree.specs.Text.Order.{name_cmp}
@@ -20,7 +20,7 @@ abbrev pub own_texts : PlainNetwork → List (List ℕ)
 own_texts network =
     (map (λ i. i.name) network.instances ++ map (λ c. end_text c.source) network.connections) ++ map (λ c. end_text c.destination) network.connections
 
--- there is a prefix for the place, and it says the text
+-- there is a prefix for the place, and the place has the text
 pub record Says (prefixes : List PlainPrefix) (place : Place) (text : List ℕ) : Type 0 where
   pub in_range : place.prefix < length prefixes
   pub is : path_at prefixes place ≡ text
@@ -45,7 +45,7 @@ inner_borders_of_kind Subapplication nets name type = borders_of name (nets type
 abbrev pub inner_borders : Nets → Instance → List Border
 inner_borders nets i = inner_borders_of_kind i.kind nets i.name i.type_name
 
--- the draft has taken in the instance, which has these borders
+-- the draft also has what the instance holds; these are the instance's borders
 pub record TakesInstance (nets : Nets) (old new : Draft) (i : Instance) (edges : List Edge) : Type 0 where
   pub grows : Grows old.prefixes.items new.prefixes.items
   pub blocks :
@@ -56,18 +56,18 @@ pub record TakesInstance (nets : Nets) (old new : Draft) (i : Instance) (edges :
       → AreJoins new.prefixes.items new.joins.items (links ++ inner_links nets i)
   pub borders : AreEdges new.prefixes.items edges (inner_borders nets i)
 
--- the instance stands there with its borders
+-- the table has the instance with its borders
 abbrev pub StandsFor : List PlainPrefix → Nets → Option Standing → Option Instance → Type 0
 StandsFor prefixes nets None None = ⊤
 StandsFor prefixes nets None (Some i) = ⊥
 StandsFor prefixes nets (Some s) None = ⊥
 StandsFor prefixes nets (Some s) (Some i) = (s.instance ≡ i) × AreEdges prefixes s.borders.items (inner_borders nets i)
 
--- the first instance of each name stands there
+-- the table has the first instance of each name
 abbrev pub IsTable : List PlainPrefix → Nets → (List ℕ → Option Standing) → List Instance → Type 0
 IsTable prefixes nets table instances = (name : List ℕ) → StandsFor prefixes nets (table name) (instance_named instances name)
 
--- what stands under a name, or else the new one if it has that name
+-- what a name means, or else the new one if it has that name
 abbrev pub or_alone : Standing → List ℕ → Option Standing → Option Standing
 or_alone s name None = cond (is_at (name_cmp s.instance.name) name) (Some s) None
 or_alone s name (Some t) = Some t
@@ -83,7 +83,7 @@ pub record HoldsInstances (nets : Nets) (old new : Draft) (table : List ℕ → 
   pub links : AreJoins new.prefixes.items new.joins.items (flat_map (inner_links nets) instances)
   pub standing : IsTable new.prefixes.items nets table instances
 
--- the first instance of each name stands in the table
+-- the table has the first instance of each name, without its borders
 abbrev pub HasInstances : (List ℕ → Option Standing) → List Instance → Type 0
 HasInstances table instances = (name : List ℕ) → option_map (λ (s : Standing). s.instance) (table name) ≡ instance_named instances name
 
@@ -91,7 +91,7 @@ HasInstances table instances = (name : List ℕ) → option_map (λ (s : Standin
 abbrev pub HasOwn : List PlainPrefix → PlainNetwork → Type 0
 HasOwn prefixes network = slice_get prefixes 0 ≡ Some (record { start = []; ends = own_texts network })
 
--- the draft has these links more, and no other blocks
+-- the draft has these further links, and no other blocks
 pub record AddsLinks (old new : Draft) (more : List Link) : Type 0 where
   pub grows : Grows old.prefixes.items new.prefixes.items
   pub same_blocks : new.leaves.items ≡ old.leaves.items
@@ -99,13 +99,13 @@ pub record AddsLinks (old new : Draft) (more : List Link) : Type 0 where
       (links : List Link) → AreJoins old.prefixes.items old.joins.items links
       → AreJoins new.prefixes.items new.joins.items (links ++ more)
 
--- where the table is that of the network's instances, the draft has the links of connections more
+-- if the table is that of the network's instances, the draft has the further links of connections
 abbrev pub AddsConnections : View → PlainNetwork → (List ℕ → Option Standing) → Draft → Draft → List Connection → Type 0
 AddsConnections view network table old new connections =
     (nets : Nets) → IsTable old.prefixes.items nets table network.instances
     → AddsLinks old new (flat_map (connection_links view network (instance_named network.instances) nets) connections)
 
--- where the table is that of the network's instances, the entries say the borders of connections
+-- if the table is that of the network's instances, the entries are the borders of connections
 abbrev pub AreEdgesOf : PlainNetwork → (List ℕ → Option Standing) → List Edge → List Connection → Type 0
 AreEdgesOf network table edges connections =
     (prefixes : List PlainPrefix) (nets : Nets) → IsTable prefixes nets table network.instances → HasOwn prefixes network

@@ -48,7 +48,7 @@ fn compare_shorter(start: &[u8], end: &[u8], other_start: &[u8], other_end: &[u8
     compare_then_whole(start, first, end, rest, other_end)
 }
 
-/// The order of a text in one part and a text in two. Texts are compared faster than bytes, but are cut between characters alone.
+/// The order of a text in one part and a text in two. Texts are compared faster than bytes, but can be cut only between characters.
 fn compare_text(text: &str, start: &str, end: &str) -> Ordering
     ensures { result ≡ name_cmp text.now (start.now ++ end.now) }
 {

@@ -96,7 +96,7 @@ pub fn compare_edges(prefixes: &[Prefix], a: &Edge, b: &Edge) -> Ordering
     ports.then_with(|| compare_places(prefixes, &a.place, &b.place))
 }
 
-/// Whether two links, each among prefixes of its own, say the same. Links in order differ more often in where they end.
+/// Whether two links, each among its own prefixes, are equal. Links in order differ more often in where they end.
 #[tactic(auto, using(crate::proofs::Tellings::tellings))]
 pub fn is_equal_join(prefixes: &[Prefix], a: &Join, others: &[Prefix], b: &Join) -> bool
     ensures { result
@@ -107,7 +107,7 @@ pub fn is_equal_join(prefixes: &[Prefix], a: &Join, others: &[Prefix], b: &Join)
         && is_same_place(prefixes, &a.from, others, &b.from)
 }
 
-/// Whether two borders, each among prefixes of its own, say the same.
+/// Whether two borders, each among its own prefixes, are equal.
 #[tactic(auto, using(crate::proofs::Tellings::tellings))]
 pub fn is_equal_edge(prefixes: &[Prefix], a: &Edge, others: &[Prefix], b: &Edge) -> bool
     ensures { result
@@ -118,7 +118,7 @@ pub fn is_equal_edge(prefixes: &[Prefix], a: &Edge, others: &[Prefix], b: &Edge)
         && same_name(&a.port, &b.port)
 }
 
-/// The blocks in plain.
+/// The blocks as plain values.
 pub fn plain_blocks(
     alloc: Global,
     prefixes: &[Prefix],
@@ -136,7 +136,7 @@ pub fn plain_blocks(
     Ok(blocks)
 }
 
-/// The links in plain.
+/// The links as plain values.
 pub fn plain_links(
     alloc: Global,
     prefixes: &[Prefix],
@@ -155,7 +155,7 @@ pub fn plain_links(
     Ok(links)
 }
 
-/// The borders in plain.
+/// The borders as plain values.
 pub fn plain_borders(
     alloc: Global,
     prefixes: &[Prefix],

@@ -166,28 +166,28 @@ impl Flat {
         Ok(Flat { tables })
     }
 
-    /// The blocks in plain, in the order of the text.
+    /// The blocks as plain values, in the order of the text.
     pub fn plain_blocks(&self, alloc: Global) -> Result<Vec<FlatBlock>, AllocError>
         ensures { IfOk result (λ blocks. blocks.items ≡ self.now.blocks) }
     {
         plain_blocks(alloc, &self.tables.prefixes, &self.tables.leaves)
     }
 
-    /// The links in plain, in order.
+    /// The links as plain values, in order.
     pub fn plain_links(&self, alloc: Global) -> Result<Vec<Link>, AllocError>
         ensures { IfOk result (λ links. links.items ≡ self.now.links) }
     {
         plain_links(alloc, &self.tables.prefixes, &self.tables.joins)
     }
 
-    /// The borders in plain, in order.
+    /// The borders as plain values, in order.
     pub fn plain_borders(&self, alloc: Global) -> Result<Vec<Border>, AllocError>
         ensures { IfOk result (λ borders. borders.items ≡ self.now.borders) }
     {
         plain_borders(alloc, &self.tables.prefixes, &self.tables.edges)
     }
 
-    /// Whether both say the same. It takes no memory.
+    /// Whether both have the same content. It takes no memory.
     pub fn is_same(&self, other: &Flat) -> bool
         ensures { IsTrue result ↔ (self.now ≡ other.now) }
     {

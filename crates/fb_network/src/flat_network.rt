@@ -29,7 +29,7 @@ fn own_draft(alloc: Global, network: &Network) -> Result<Draft, AllocError>
     Ok(draft)
 }
 
-/// The flat network of a network, composed of the flat networks of its subapplications. Of the view it needs a part alone: the types of the
+/// The flat network of a network, composed of the flat networks of its subapplications. Of the view it needs only a part: the types of the
 /// network's instances and the adapters of ports, its own and theirs.
 pub fn compose_by_part<V: Networks, N: Nets>(
     alloc: Global,

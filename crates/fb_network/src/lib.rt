@@ -1,4 +1,4 @@
-//! Networks in plain, and flat networks: blocks, links and borders (IEC 61499-1, 5.4: subapplication types; 5.5: adapters; 7: systems).
+//! Networks as plain values, and flat networks: blocks, links and borders (IEC 61499-1, 5.4: subapplication types; 5.5: adapters; 7: systems).
 //!
 //! A flat network is composed of the flat networks of the inner types, and a system's of those of its applications.
 #![tactic(auto)]

@@ -1,4 +1,4 @@
-//! Networks in plain: ports, instances and connections.
+//! Networks as plain values: ports, instances and connections.
 ghost use Rattle.std.specs.Prelude.{◌≡◌};
 ghost use Rattle.fb_network.specs.Sorts.{number_of, same_sort};
 
@@ -69,7 +69,7 @@ pub struct Connection {
     pub destination: End,
 }
 
-/// The ports, instances and connections of a type, each list in the order of the text. A block type or an adapter type has ports alone,
+/// The ports, instances and connections of a type, each list in the order of the text. A block type or an adapter type has only ports,
 /// an application has no ports.
 #[derive(Debug)]
 pub struct Network {

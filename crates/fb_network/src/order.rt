@@ -18,7 +18,7 @@ fn joins_rise(prefixes: &[Prefix], joins: &[Join]) -> bool
     true
 }
 
-/// Sorts links by what they say, and leaves each once. Those of a network inside one instance are in order already.
+/// Sorts links by their texts and removes duplicates. Those of a network inside one instance are in order already.
 pub fn sort_joins(prefixes: &[Prefix], joins: &mut Vec<Join>) -> Result<(), AllocError>
     ensures { OnOk result (IsOnce (link_at prefixes.now) link_cmp joins.old.items joins.new.items) }
 {
@@ -29,7 +29,7 @@ pub fn sort_joins(prefixes: &[Prefix], joins: &mut Vec<Join>) -> Result<(), Allo
     Ok(())
 }
 
-/// Sorts borders by what they say, and leaves each once.
+/// Sorts borders by their texts and removes duplicates.
 pub fn sort_edges(prefixes: &[Prefix], edges: &mut Vec<Edge>) -> Result<(), AllocError>
     ensures { OnOk result
         (IsOnce (border_at prefixes.now) border_cmp edges.old.items edges.new.items) }

@@ -34,7 +34,7 @@ pub fn path_of(alloc: Global, prefixes: &[Prefix], place: &Place) -> Result<Path
     Path::of_parts(alloc, start, end)
 }
 
-/// The order of the paths at two places. Those of one prefix differ in their ends alone.
+/// The order of the paths at two places. Those of one prefix differ only in their ends.
 pub fn compare_places(prefixes: &[Prefix], a: &Place, b: &Place) -> Ordering
     ensures { result ≡ name_cmp (path_at prefixes.now a.now) (path_at prefixes.now b.now) }
 {
@@ -49,7 +49,7 @@ pub fn compare_places(prefixes: &[Prefix], a: &Place, b: &Place) -> Ordering
     compare_parts(start, end, other_start, other_end)
 }
 
-/// Whether the paths at two places, each among prefixes of its own, are equal.
+/// Whether the paths at two places, each among its own prefixes, are equal.
 pub fn is_same_place(prefixes: &[Prefix], a: &Place, others: &[Prefix], b: &Place) -> bool
     ensures { result ≡ eq_by_cmp name_cmp (path_at prefixes.now a.now) (path_at others.now b.now) }
 {

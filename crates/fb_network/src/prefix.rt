@@ -33,7 +33,7 @@ impl Prefix {
         Prefix { start, ends }
     }
 
-    /// The text of an end. An end that the prefix has not is no text.
+    /// The text of an end, which is empty if the prefix doesn't have the end.
     fn end_text(&self, end: u32) -> &str
         ensures { result.now ≡ text_or_nothing (slice_get self.now.ends end) }
     {

@@ -1,4 +1,4 @@
-//! Whether entries of two flat networks say the same. It takes no memory.
+//! Whether entries of two flat networks are the same. It takes no memory.
 ghost use Rattle.std.specs.Prelude.{◌≡◌, ◌↔◌, IsTrue, map};
 ghost use Rattle.fb_network.specs.Laid.{block_at, border_at, link_at};
 
@@ -25,7 +25,7 @@ fn is_same_edge(prefixes: &[Prefix], a: &Edge, others: &[Prefix], b: &Edge) -> b
     is_equal_edge(prefixes, a, others, b)
 }
 
-/// The same blocks, each list among prefixes of its own.
+/// Whether both lists have the same blocks, each list among its own prefixes.
 pub fn are_same_leaves(prefixes: &[Prefix], a: &[Leaf], others: &[Prefix], b: &[Leaf]) -> bool
     ensures { IsTrue result ↔ (map (block_at prefixes.now) a.now ≡ map (block_at others.now) b.now) }
 {
@@ -40,7 +40,7 @@ pub fn are_same_leaves(prefixes: &[Prefix], a: &[Leaf], others: &[Prefix], b: &[
     true
 }
 
-/// The same links, each list among prefixes of its own.
+/// Whether both lists have the same links, each list among its own prefixes.
 pub fn are_same_joins(prefixes: &[Prefix], a: &[Join], others: &[Prefix], b: &[Join]) -> bool
     ensures { IsTrue result ↔ (map (link_at prefixes.now) a.now ≡ map (link_at others.now) b.now) }
 {
@@ -55,7 +55,7 @@ pub fn are_same_joins(prefixes: &[Prefix], a: &[Join], others: &[Prefix], b: &[J
     true
 }
 
-/// The same borders, each list among prefixes of its own.
+/// Whether both lists have the same borders, each list among its own prefixes.
 pub fn are_same_edges(prefixes: &[Prefix], a: &[Edge], others: &[Prefix], b: &[Edge]) -> bool
     ensures { IsTrue result
         ↔ (map (border_at prefixes.now) a.now ≡ map (border_at others.now) b.now) }

@@ -3,7 +3,7 @@ ghost use Rattle.std.specs.{Prelude.{◌≡◌, true, Contains, OnOk}, List.Sort
 
 use std::alloc::AllocError;
 
-/// Sorts the list and leaves each item once.
+/// Sorts the list and removes duplicates.
 pub fn sort_once<T: Ord + Drop>(items: &mut Vec<T>) -> Result<(), AllocError>
     requires { (x y : T) → T.eq x y ≡ true → x ≡ y }
     ensures sorted { OnOk result (IsStrictlySortedBy T.cmp items.new.items) }

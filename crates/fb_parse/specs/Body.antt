@@ -6,7 +6,7 @@ use Rattle.fb_structured_text.specs.{Forms.Reading.{Outcome, read}, Forms.Upcomi
 use Rattle.fb_structured_text.specs.Forms.declared.kind.Kind.TheVariants.{End}
 use Rattle.fb_parse.specs.{declared.body.Body.{Body}, declared.body.Body.TheVariants.{Tree as IsTree, Broken}, Grammar.{unit}}
 
--- a body without where it lies in memory
+-- a body without its place in memory
 pub data BodyTree : Type 0 where
   Whole : DeclTree → BodyTree
   BrokenAt : Span → BodyTree
@@ -15,13 +15,13 @@ abbrev pub body_tree : Body → BodyTree
 body_tree (IsTree decl) = Whole (decl_tree decl)
 body_tree (Broken span) = BrokenAt span
 
--- what the declaration mentions; nothing where the text is broken
+-- what the declaration mentions; nothing if the text is broken
 abbrev pub mentions_in_body : BodyTree → Mentioned
 mentions_in_body (Whole decl) = all_mentions_of decl
 mentions_in_body (BrokenAt span) = nothing_mentioned
 
--- By the tokens of a text of so many bytes. The tree that they spell; where they spell none, the place of the first token such
--- that the tokens up to it are no prefix of a unit, or the end. Where there is a comment that is never closed, its span.
+-- By the tokens of a text of this number of bytes. The tree that they spell; if they spell none, the place of the first token such
+-- that the tokens up to it are no prefix of a unit, or the end. If a comment is never closed, its span.
 abbrev pub IsBodyIn : ℕ → Result (List Lexeme) Span → BodyTree → Type 0
 IsBodyIn end (Err bad) body = body ≡ BrokenAt bad
 IsBodyIn end (Ok lexemes) (Whole tree) = Spells unit lexemes tree
@@ -44,11 +44,11 @@ abbrev pub body_in : ℕ → Result (List Lexeme) Span → BodyTree
 body_in end (Err bad) = BrokenAt bad
 body_in end (Ok lexemes) = body_read end (read unit lexemes)
 
--- the same, computed
+-- the body of the text, computed
 unfoldable pub body_of : List ℕ → BodyTree
 body_of text = body_in (length text) (lexemes_of text)
 
--- By all that is pulled of a text, from the first token that does not go on: a comment that is never closed, or else this token.
+-- By all that is pulled of a text, from the first token that can't follow those before it: a comment that is never closed, or else this token.
 abbrev pub broken_at : List Lexeme → BodyTree
 broken_at tokens = elim (closing tokens) [ Some comment ↦ BrokenAt comment | None ↦ BrokenAt (front tokens).span ]
 

@@ -47,7 +47,7 @@ impl Body {
         }
     }
 
-    /// What the declaration mentions; nothing where the text is broken.
+    /// What the declaration mentions; nothing if the text is broken.
     pub(crate) fn mentions(&self, alloc: Global) -> Result<Mentions, AllocError>
         ensures { IfOk result (λ m. mentioned m ≡ mentions_in_body (body_tree self.now)) }
     {
@@ -61,7 +61,7 @@ impl Body {
         }
     }
 
-    /// The declaration, unless tokens or a comment that is never closed are left behind it.
+    /// The declaration, unless tokens or a comment that is never closed are left after it.
     fn whole_or_broken(decl: Decl, tokens: Tokens<'_>) -> Body
         ensures { body_tree result ≡ whole_if_over (decl_tree decl) tokens.entry }
     {

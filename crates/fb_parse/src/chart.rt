@@ -132,14 +132,14 @@ pub fn transitions(alloc: Global, tokens: &mut Tokens<'_>) -> Result<Vec<Transit
     )
 }
 
-/// The language of an algorithm, and its statements where they are kept.
+/// The language of an algorithm, and its statements if they are kept.
 #[derive(Drop)]
 struct AlgorithmBody {
     language: NameUse,
     statements: Vec<Stmt>,
 }
 
-/// Passes over a colon, where there is one.
+/// Passes over a colon, if there is one.
 #[tactic(auto, unfolding(crate::specs::Chart::optional_colon))]
 fn optional_colon(tokens: &mut Tokens<'_>)
     ensures { read optional_colon tokens.old ≡ Ok (tt, tokens.new) }

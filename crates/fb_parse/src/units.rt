@@ -155,7 +155,7 @@ fn structure(alloc: Global, tokens: &mut Tokens<'_>) -> Result<Structure, Stop>
     Ok(structure)
 }
 
-/// A unit at the front of the tokens.
+/// A unit at the start of the tokens.
 #[tactic(auto, unfolding(crate::specs::Grammar::unit, crate::specs::Grammar::block, crate::specs::Grammar::adapter, crate::specs::Grammar::subapplication, crate::specs::Grammar::system))]
 pub fn unit(alloc: Global, tokens: &mut Tokens<'_>) -> Result<Decl, Stop>
     ensures { Gives decl_tree result tokens.new (read unit tokens.old) }

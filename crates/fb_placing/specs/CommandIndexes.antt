@@ -31,6 +31,6 @@ plain_resource flat writes r = record { name = r.name; commands = command_texts_
 abbrev pub plain_plan : PlainFlat → List (List ℕ) → List ℕ → List ResourceCommands → PlainPlan
 plain_plan flat writes cuts resources = record { cuts = map (link_numbered flat) cuts; resources = map (plain_resource flat writes) resources }
 
--- an item and the resource that it is for, in plain
+-- an item and the resource that it is for, as plain values
 abbrev pub plain_command : PlainFlat → List (List ℕ) → AssignedCommand → ResourceCommand
 plain_command flat writes n = record { resource = n.resource.now; command = command_text flat writes n.resource.now n.index }

@@ -1,4 +1,4 @@
--- What texts stand for, where the first of several counts.
+-- What texts mean: of several entries for a text the first counts.
 use Rattle.std.specs.{Prelude.{ℕ, List, Option, option_map, find}, Str.{bytes_eq}}
 
 -- what a text means: the value of the first item that has the text as its key

@@ -13,7 +13,7 @@ pub data PlainHomes : Type 0 where
   faulty_homes : List Misplaced → PlainHomes
   all_homes : List Home → PlainHomes
 
--- the same without its place in memory
+-- the homes of the program as plain values, without their place in memory
 abbrev pub plain_homes : Homes → PlainHomes
 plain_homes (homes.Faulty found) = faulty_homes found.items
 plain_homes (homes.On list) = all_homes list.items
@@ -21,7 +21,7 @@ plain_homes (homes.On list) = all_homes list.items
 abbrev pub block_home : (List ℕ → Option (List ℕ)) → FlatBlock → Option Home
 block_home resources block = option_map (λ r. record { path = block.path; resource = r }) (nearest resources block.path)
 
--- the homes of blocks, in the order of the blocks, where these resources are mapped to
+-- the homes of blocks, in the order of the blocks, by the resources to which paths are mapped
 abbrev pub block_homes : (List ℕ → Option (List ℕ)) → List FlatBlock → List Home
 block_homes resources blocks = filter_map (block_home resources) blocks
 
@@ -29,7 +29,7 @@ block_homes resources blocks = filter_map (block_home resources) blocks
 abbrev pub homeless : (List ℕ → Option (List ℕ)) → List FlatBlock → List (List ℕ)
 homeless resources blocks = map (λ b. b.path) (filter (λ b. is_none (nearest resources b.path)) blocks)
 
--- the paths of mappings that are of nothing
+-- the paths of mappings that lead nowhere
 abbrev pub unmatched : Sources → List ℕ → List ApplicationTree → List MappingTree → List (List ℕ)
 unmatched sources system applications mappings =
     map mapping_path (filter (λ m. leads_nowhere sources system applications (names_used m.path)) mappings)

@@ -19,6 +19,6 @@ mapping_home m = dotted m.device.name m.resource.name
 abbrev pub resource_at : List MappingTree → List ℕ → Option (List ℕ)
 resource_at mappings path = first_at mapping_path mapping_home mappings path
 
--- the home of what stands at a path: the resource of the mapping with the longest path that is this path or stands in front of it
+-- the home of a path: the resource of the mapping with the longest path that is this path or a prefix of it
 abbrev pub home_of : List MappingTree → List ℕ → Option (List ℕ)
 home_of mappings path = nearest (resource_at mappings) path

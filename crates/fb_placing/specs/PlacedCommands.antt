@@ -1,4 +1,4 @@
--- Commands in the order of the places that they are about.
+-- Commands in the order of the places that they change.
 use Rattle.std.specs.{Prelude.{ℕ, List, [], ◌∷◌, ◌++◌, map, Option, Some, None, option_map, codes}, declared.cmp.Ordering.{Ordering}}
 use Rattle.std.specs.{List.{filter_map, flat_map}, Ordering.{on, then_cmp}, Cmp.{IsTotalOrder, then_total, on_total}, Cmp.Lexicographic.{nat_list_cmp_total}}
 use Rattle.fb_tree.specs.{Text.Order.{in_order, name_cmp}, Tree.{ApplicationTree, ParameterTree}}

@@ -1,4 +1,4 @@
--- Plans in plain.
+-- Plans as plain values.
 use Rattle.std.specs.Prelude.{List}
 use Rattle.fb_network.specs.declared.flat.Link.{Link}
 use Rattle.fb_placing.specs.PlainResource.{PlainResource}

@@ -1,4 +1,4 @@
--- A resource with its commands, in plain.
+-- A resource with its commands, as a plain value.
 use Rattle.std.specs.Prelude.{ℕ, List}
 
 pub record PlainResource : Type 0 where

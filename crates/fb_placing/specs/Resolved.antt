@@ -1,4 +1,4 @@
--- What stands at a path of a system: an application, a block or a subapplication instance.
+-- What is at a path of a system: an application, a block or a subapplication instance.
 use Rattle.std.specs.Prelude.{ℕ, ◌==◌, Bool, true, false, not, if◌then◌else◌, List, [], ◌∷◌, Option, Some, None, is_none, option_and_then}
 use Rattle.std.specs.Option.{option_map_or}
 use Rattle.fb_tree.specs.Tree.{ApplicationTree, DeclTree, InstanceTree, block_type, adapter_type, subapplication_type, system_configuration, structure_type, instance_tree}
@@ -21,7 +21,7 @@ pub record PlainResolved : Type 0 where
   pub unit : List ℕ
   pub instance : InstanceTree
 
--- the same without its place in memory
+-- the instance of the program as a plain value, without its place in memory
 abbrev pub plain_resolved : Resolved → PlainResolved
 plain_resolved s = record { unit = s.unit; instance = instance_tree s.instance.now }
 
@@ -34,7 +34,7 @@ inner_instances (Some (subapplication_type d)) = d.network.instances
 inner_instances (Some (system_configuration s)) = []
 inner_instances (Some (structure_type s)) = []
 
--- the instance of that name among these, the first one
+-- the first instance of that name among these
 abbrev pub instance_called : List InstanceTree → List ℕ → Option InstanceTree
 instance_called instances name = first_at (λ i. i.name.name) (λ i. i) instances name
 
@@ -42,7 +42,7 @@ instance_called instances name = first_at (λ i. i.name.name) (λ i. i) instance
 abbrev pub resolved_in : List ℕ → InstanceTree → PlainResolved
 resolved_in unit i = record { unit = unit; instance = i }
 
--- the same of the instance of that name, the first one
+-- the first instance of that name among these, with the unit that declares it
 abbrev pub resolved_among : List ℕ → List InstanceTree → List ℕ → Option PlainResolved
 resolved_among unit instances name = first_at (λ i. i.name.name) (λ i. record { unit = unit; instance = i }) instances name
 

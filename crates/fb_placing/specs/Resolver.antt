@@ -22,7 +22,7 @@ resolver_code =
 abbrev pub resolved : ResolverView → List (List ℕ) → Option PlainResolved
 resolved r names = resolved_at r.sources r.system (applications_in (tree_at r.sources r.system)) names
 
--- the tables have the instances of the applications and of units, and what was looked at last stands at its path
+-- the tables have the instances of the applications and of units, and what was looked up last is what its path leads to
 pub record IsResolver (r : ResolverView) (by_application by_unit : List ℕ → Option Instances) (path : List ℕ) (found : Option Resolved) : Type 0 where
   pub applications : AreApplications (applications_in (tree_at r.sources r.system)) by_application
   pub units : AreUnits r.sources by_unit

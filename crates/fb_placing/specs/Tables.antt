@@ -17,12 +17,12 @@ abbrev pub instances_called : List ApplicationTree → List ℕ → Option (List
 instances_called applications name =
     first_at (λ a. a.name.name) (λ a. instance_called a.network.instances) applications name
 
--- under the name of each application stands a table of its instances
+-- under the name of each application there is a table of its instances
 abbrev pub AreApplications : List ApplicationTree → (List ℕ → Option Instances) → Type 0
 AreApplications applications table =
     (name : List ℕ) → option_map instance_at (table name) ≡ instances_called applications name
 
--- what stands under the name of a unit is a table of its instances
+-- each table under the name of a unit is one of that unit's instances
 abbrev pub AreUnits : Sources → (List ℕ → Option Instances) → Type 0
 AreUnits sources units =
     (unit : List ℕ) (table : Instances) → units unit ≡ Some table

@@ -1,4 +1,4 @@
-//! Tables of what texts mean, where the first of several counts.
+//! Tables of what texts mean: of several entries for a text the first counts.
 ghost use Rattle.std.specs.{Prelude.{◌≡◌, ℕ, List, Some, None, if◌then◌else◌, OnOk, string_bytes}, HashMap.{get_by_text}, Option.{option_or}, Str.{bytes_eq}};
 
 use std::alloc::AllocError;

@@ -43,7 +43,7 @@ impl Drop for Home {
 pub enum Misplaced {
     /// A block that no mapping places.
     Unmapped(Path),
-    /// A mapping that is of no application, block or subapplication instance.
+    /// A mapping of what is no application, block or subapplication instance.
     NoSuchBlock(Path),
 }
 
@@ -72,7 +72,7 @@ fn mappings_of<'a, V: View>(view: &'a V, system: &Name) -> &'a [Mapping]
     }
 }
 
-/// The home of a block, where the table has what is mapped.
+/// The home of a block, by a table of what is mapped.
 fn block_home(
     alloc: Global,
     table: &PathTable,
@@ -93,7 +93,7 @@ fn block_home(
     }
 }
 
-/// The homes of the blocks, where the table has what is mapped.
+/// The homes of the blocks, by a table of what is mapped.
 fn block_homes(alloc: Global, table: &PathTable, flat: &Flat) -> Result<Vec<Home>, AllocError>
     ensures { IfOk result
         (λ homes. homes.items ≡ block_homes (get_by_text table.now) flat.now.blocks) }
@@ -121,7 +121,7 @@ fn homeless(alloc: Global, table: &PathTable, blocks: &[FlatBlock]) -> Result<Ve
     Ok(paths)
 }
 
-/// The same of a flat network whose blocks have this number of homes. If each has one, no home is looked up.
+/// The paths of blocks without a home, in a flat network whose blocks have this number of homes. If each has one, no home is looked up.
 fn homeless_blocks(
     alloc: Global,
     table: &PathTable,
@@ -150,7 +150,7 @@ fn names_of(alloc: Global, names: &[NameUse]) -> Result<Vec<&str>, AllocError>
     Ok(texts)
 }
 
-/// Adds the path of a mapping if it is of nothing.
+/// Adds the path of a mapping if it leads nowhere.
 fn push_unmatched<V: View>(
     alloc: Global,
     resolver: &mut Resolver<'_, V>,
@@ -174,7 +174,7 @@ fn push_unmatched<V: View>(
     Ok(())
 }
 
-/// The paths of mappings that are of nothing.
+/// The paths of mappings that lead nowhere.
 fn unmatched<V: View>(
     alloc: Global,
     view: &V,
@@ -204,7 +204,7 @@ fn push_unmapped(paths: Vec<Path>, found: &mut Vec<Misplaced>) -> Result<(), All
     Ok(())
 }
 
-/// Adds mappings that are of nothing.
+/// Adds mappings that lead nowhere.
 fn push_no_such_block(paths: Vec<Path>, found: &mut Vec<Misplaced>) -> Result<(), AllocError>
     ensures { OnOk result
         (found.new.items ≡ found.old.items ++ map (λ p. NoSuchBlock p) paths.items) }
@@ -215,7 +215,7 @@ fn push_no_such_block(paths: Vec<Path>, found: &mut Vec<Misplaced>) -> Result<()
     Ok(())
 }
 
-/// Blocks that no mapping places, of which these are the paths, and then mappings that are of nothing, each by the bytes of their paths.
+/// Blocks that no mapping places, of which these are the paths, and then mappings that lead nowhere, each by the bytes of their paths.
 fn misplaced_in<V: View>(
     alloc: Global,
     view: &V,

@@ -74,21 +74,21 @@ impl Plan {
         *self.cuts.allocator()
     }
 
-    /// The links between resources in plain, in order.
+    /// The links between resources as plain values, in order.
     pub fn plain_cuts(&self, alloc: Global) -> Result<Vec<Link>, AllocError>
         ensures { IfOk result (λ cuts. cuts.items ≡ self.now.cuts) }
     {
         plain_links(alloc, &self.flat, &self.cuts)
     }
 
-    /// The resources in plain, in the order of the text, each with its commands in their order.
+    /// The resources as plain values, in the order of the text, each with its commands in their order.
     pub fn plain_resources(&self, alloc: Global) -> Result<Vec<ResourcePlan>, AllocError>
         ensures { IfOk result (λ resources. resources.items ≡ self.now.resources) }
     {
         plain_resources(alloc, &self.flat, &self.writes, &self.resources)
     }
 
-    /// Whether both say the same. It takes no memory.
+    /// Whether both have the same content. It takes no memory.
     pub fn is_same(&self, other: &Plan) -> bool
         ensures { IsTrue result ↔ (self.now ≡ other.now) }
     {

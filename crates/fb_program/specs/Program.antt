@@ -1,10 +1,10 @@
--- What a run of the program has said.
+-- What a run of the program has written.
 use Rattle.std.specs.Prelude.{◌≡◌, ◌≤◌, ◌⊎◌, ℕ, [], List}
 use Rattle.fb_wire.specs.{History.BenchView.{new_bench}, Script.{IsPrefixOf, script}, History.Limits.{Bounds}}
 use Rattle.fb_program.specs.{Words.{Asks}, declared.asked.Settings.TheVariants.{Host, Script, Serve}, declared.program.Outcome.{Outcome}}
 use Rattle.fb_program.specs.declared.program.Outcome.TheVariants.{Ended, Hosts, Serves}
 
--- what a new workbench of these limits says to the bytes, to caller 1
+-- what a new workbench of these limits answers to the bytes, to caller 1
 abbrev pub said_to : Bounds → List ℕ → List ℕ
 said_to limits bytes = (script 1 (new_bench limits.units limits.history) bytes).out
 
@@ -20,7 +20,7 @@ ScriptSays words status bytes out = (limits : Bounds) × Asks words (Script limi
 abbrev pub DoesNothing : List ℕ → List ℕ → Type 0
 DoesNothing bytes out = (bytes ≡ []) × (out ≡ [])
 
--- Status 0: all was said to the bytes. 1: a prefix of it, or memory ran out for the words. 2: nothing, by words that ask for nothing.
+-- Status 0: all answers to the bytes. 1: a prefix of them, or memory ran out for the words. 2: nothing, because the words ask for nothing.
 abbrev pub HasSaid : List (List ℕ) → ℕ → List ℕ → List ℕ → Type 0
 HasSaid words status bytes out =
     (status ≡ 0 → ScriptSays words 0 bytes out) × (status ≡ 1 → ScriptSays words 1 bytes out ⊎ DoesNothing bytes out) × (status ≡ 2 → DoesNothing bytes out)

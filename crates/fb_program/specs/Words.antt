@@ -1,4 +1,4 @@
--- What the program's words ask for.
+-- What the words of the program's command line ask for.
 use Rattle.std.specs.{Prelude.{◌≡◌, ◌≤◌, ℕ, [], ◌∷◌, List, Option, Some, codes, option_map, true}, Str.Parse.{digits_value, without_leading_plus}}
 use Rattle.clap.specs.Words.{App, Row, Rule, Text, new_app, new_rule, one_of, subcommand_of, with_rule, with_subcommand}
 use Rattle.clap.specs.declared.builder.value_parser.ValueParser.TheVariants as reads
@@ -32,7 +32,7 @@ serve_app =
     (number_option (codes "sessions") 64 (codes "1"))
     ) units_option) history_option
 
--- how many minutes, or 0
+-- `--idle N`, a number of minutes, or 0
 abbrev pub idle_option : Rule
 idle_option = record (new_rule (codes "idle")) { long = Some (codes "idle"); parser = Some (reads.Unsigned 0 10080); defaults = codes "0" ∷ [] }
 
@@ -49,7 +49,7 @@ host_app =
     ) units_option) history_option) secret_option) idle_option)
     (number_option (codes "connections") 1000000000 (codes "1000000000"))
 
--- the program, which has a version, and of which a subcommand is asked
+-- the program, which has a version and requires a subcommand
 abbrev pub named_app : App
 named_app = let a = new_app (codes "bench61499") in record a { top = record a.top { has_version = true; subcommand_required = true } }
 
@@ -85,7 +85,7 @@ IsServe rows (Script limits) = ⊥
 IsServe rows (Serve it) = AreServerNumbersIn rows it.port it.workers it.sessions it.limits
 IsServe rows (Host it) = ⊥
 
--- the settings of a server that stays are those of these matches, but for the name of the file, of which nothing is said
+-- the settings of a server that stays are those of these matches, except for the name of the file, which is left open
 abbrev pub IsHost : List Row → Settings → Type 0
 IsHost rows (Script limits) = ⊥
 IsHost rows (Serve it) = ⊥

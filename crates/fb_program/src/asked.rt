@@ -26,7 +26,7 @@ pub struct HostSettings<'a> {
     pub sessions: u8,
     /// How many units there may be, and after how many calls the history begins again.
     pub limits: Limits,
-    /// The file whose first line connections have to say first.
+    /// The file whose first line connections must send first.
     pub secret: Option<&'a str>,
     /// How many minutes a session may be silent, or 0 if it may be so forever.
     pub idle: u64,
@@ -37,7 +37,7 @@ pub struct HostSettings<'a> {
 /// What the program is asked to do.
 #[derive(Clone, Copy)]
 pub enum Settings<'a> {
-    /// To answer the requests of one input. There may be so many units and recorded calls.
+    /// To answer the requests of one input, with these limits of the number of units and of recorded calls.
     Script(Limits),
     /// To answer the requests of connections.
     Serve(ServerSettings),

@@ -96,7 +96,7 @@ pub fn refuse_words<E: Write>(kind: io::ErrorKind, errors: &mut E) -> u8
     FAILED
 }
 
-/// Does what the words ask for, if it is a script, says on `errors` what went wrong, and gives the
+/// Does what the words ask for, if it is a script, prints on `errors` what went wrong, and gives the
 /// status of the program. Words that ask for a server are given back as what they ask for, and
 /// nothing is done.
 pub fn run<'a, F: Feed, S: Sink, E: Write>(
@@ -110,7 +110,7 @@ pub fn run<'a, F: Feed, S: Sink, E: Write>(
     requires reader { F.has_failed reader.old ≡ false }
     requires open { F.has_ended reader.old ≡ false }
     requires writer { S.has_failed writer.old ≡ false }
-    // What was written is all, a prefix or nothing of what a new workbench says to the bytes that
+    // What was written is all, a prefix or nothing of what a new workbench answers to the bytes that
     // were read.
     ensures said { (bytes : List ℕ) × (out : List ℕ)
         × (F.given reader.new ≡ F.given reader.old ++ bytes)

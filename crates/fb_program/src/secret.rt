@@ -48,7 +48,7 @@ pub fn secret_in(bytes: &[u8]) -> Result<&[u8], NoSecret>
     Ok(&bytes[..end])
 }
 
-/// Says why the file has no secret, and gives the status of the program.
+/// Prints why the file has no secret, and gives the status of the program.
 pub fn refuse_secret<E: Write>(path: &str, reason: NoSecret, errors: &mut E) -> u8
     ensures { result ≡ 1 }
 {

@@ -1,9 +1,9 @@
-//! What the program says of a file or a port that it can't open.
+//! What the program prints of a file or a port that it can't open.
 ghost use Rattle.std.specs.Prelude.{◌≡◌};
 
 use std::io::{self, Write};
 
-/// Says why the file can't be read, and gives the status of the program.
+/// Prints why the file can't be read, and gives the status of the program.
 pub fn refuse_file<E: Write>(path: &str, error: &io::Error, errors: &mut E) -> u8
     ensures { result ≡ 1 }
 {
@@ -11,7 +11,7 @@ pub fn refuse_file<E: Write>(path: &str, error: &io::Error, errors: &mut E) -> u
     1
 }
 
-/// Says why the port of 127.0.0.1 can't be listened on, and gives the status of the program.
+/// Prints why the port of 127.0.0.1 can't be listened on, and gives the status of the program.
 pub fn refuse_port<E: Write>(port: u16, error: &io::Error, errors: &mut E) -> u8
     ensures { result ≡ 1 }
 {

@@ -10,12 +10,12 @@ use Rattle.fb_grammar.specs.Literals.{number_kinds, literal_form, literal_use, a
 use Rattle.fb_grammar.specs.{declared.lexeme.Lexeme.{Lexeme}, Form.{Form, one, both, either, option, as_value}, Words.{key, behind, passed, list, name}}
 use Rattle.fb_tree.specs.declared.constant.Simple.TheVariants as simple_value
 
--- with a sign `0` and `1` are numbers as others are
+-- with a sign, `0` and `1` are numbers like others
 abbrev pub signed_form : LiteralForm → LiteralForm
 signed_form Bit = Whole
 signed_form form = form
 
--- a number with its sign, which the span takes in
+-- a number with its sign, which the span includes
 abbrev pub number_with : Option Lexeme → Lexeme → Literal
 number_with None token = literal_use token
 number_with (Some sign) token = record { form = signed_form (literal_form token.kind); span = across sign.span token.span }

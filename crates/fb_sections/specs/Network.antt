@@ -20,7 +20,7 @@ listed_parameters = optional_list (list parameter)
 unfoldable pub parameters : Form (List ParameterTree)
 parameters = behind (key OpenParenthesis) (before listed_parameters (key CloseParenthesis))
 
--- the same, or nothing
+-- ['(' [param {',' param}] ')']
 unfoldable pub optional_parameters : Form (List ParameterTree)
 optional_parameters = optional_list parameters
 

@@ -58,7 +58,7 @@ impl Reader for ActionReader {
     }
 }
 
-/// The actions of a state, where they are written.
+/// The actions of a state, if they are written.
 #[tactic(auto, unfolding(crate::specs::Chart::actions), using(fb_grammar::proofs::Repeating::as_they_are))]
 fn actions(alloc: Global, tokens: &mut Tokens<'_>) -> Result<Vec<Action>, Stop>
     ensures { Gives (λ actions. actions.items) result tokens.new (read actions tokens.old) }

@@ -129,7 +129,7 @@ fn array_type(alloc: Global, tokens: &mut Tokens<'_>) -> Result<TypeUse, Stop>
     Ok(array)
 }
 
-/// A type where it is used.
+/// A type at the place of its use.
 #[tactic(auto, unfolding(crate::specs::Constants::type_use, crate::specs::Constants::plain_type, fb_grammar::specs::Words::name))]
 pub fn type_use(alloc: Global, tokens: &mut Tokens<'_>) -> Result<TypeUse, Stop>
     ensures { Gives (λ type. type) result tokens.new (read type_use tokens.old) }

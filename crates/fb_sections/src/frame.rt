@@ -8,7 +8,7 @@ use fb_grammar::{Kind, NAMES, Reader, Stop, Tokens, is_next, key, name, several}
 use fb_tree::text::NameUse;
 use std::alloc::Global;
 
-/// A token of this kind and a name, where the token is there.
+/// A token of this kind and a name, if the token is there.
 #[tactic(auto, unfolding(crate::specs::Sections::optional_name))]
 pub fn optional_name(
     alloc: Global,

@@ -46,7 +46,7 @@ fn listed_parameters(alloc: Global, tokens: &mut Tokens<'_>) -> Result<Vec<Param
     }
 }
 
-/// Parameters in parentheses, where they are written.
+/// Parameters in parentheses, if they are written.
 #[tactic(auto, unfolding(crate::specs::Network::optional_parameters, crate::specs::Network::parameters))]
 pub fn optional_parameters(alloc: Global, tokens: &mut Tokens<'_>) -> Result<Vec<Parameter>, Stop>
     ensures { GivesEach parameter_tree result tokens.new (read optional_parameters tokens.old) }

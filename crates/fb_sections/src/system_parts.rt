@@ -64,7 +64,7 @@ pub fn mappings(alloc: Global, tokens: &mut Tokens<'_>) -> Result<Vec<Mapping>, 
     )
 }
 
-/// Passes over a semicolon, where there is one.
+/// Passes over a semicolon, if there is one.
 #[tactic(auto, unfolding(crate::specs::SystemParts::optional_semicolon))]
 pub fn optional_semicolon(tokens: &mut Tokens<'_>)
     ensures { read optional_semicolon tokens.old ≡ Ok (tt, tokens.new) }

@@ -1,9 +1,9 @@
--- What the receipts of a session say of its calls.
+-- What the receipts of a session show of its calls.
 use Rattle.std.specs.Prelude.{[], ◌∷◌, List}
 use Rattle.fb_wire.specs.{History.Machine.{Call, Reply}, Bench.Calls.{AskedCall, AskedCheckpoint, BehindHistory, Exchange, FullHistory, Replied}}
 use Rattle.fb_shared.specs.Locked.Seats.{ReceiptView}
 
--- a call with its reply stands in front; one that was refused does not, and no checkpoint
+-- an answered call comes first, with its reply; a refused one and a checkpoint are left out
 abbrev pub answered_before : Exchange → List (Call × Reply) → List (Call × Reply)
 answered_before (AskedCall call (Replied reply)) rest = (call, reply) ∷ rest
 answered_before (AskedCall call FullHistory) rest = rest

@@ -1,10 +1,10 @@
--- A shared workbench as the desk of one seat. Nothing is known of the workbench but what the seat and its receipts tell.
+-- A shared workbench as the desk of one seat. Nothing is known of the workbench except what the seat and its receipts show.
 use Rattle.std.specs.Prelude.{◌≡◌, ◌++◌, ◌∷◌, [], List, ℕ}
 use Rattle.fb_locked.specs.{History.Machine.{Call}, History.Limits.{Bounds}}
 use Rattle.fb_locked.specs.Bench.Calls.{Answer, Replied, FullHistory, BehindHistory, CheckpointAnswer, Checked, SharedHistory, Exchange, Exchanges}
 use Rattle.fb_locked.specs.Seats.{SeatView, ReceiptView, IsReceiptOf, seat_after}
 
--- a workbench behind its lock: for how many callers seats were made. What lies there is known to nobody without the lock
+-- a workbench under its lock: for how many callers seats were made. Nobody knows anything else of it without the lock
 pub record SharedView : Type 0 where
   pub callers : ℕ
 

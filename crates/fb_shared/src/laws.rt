@@ -14,7 +14,7 @@ pub fn all_calls_are_shown()
         → EnoughShowAll bench receipts }
 {}
 
-/// The seats that a workbench is resumed with fit it: nothing is against the next call with one of them but a full history, or lack of memory.
+/// The seats that a workbench is resumed with fit it: only a full history or lack of memory can refuse the next call with one of them.
 pub fn resumed_seats_fit()
     ensures { (locked : LockedView) (n : ℕ) (seats : List SeatView) → AreSeatsAt locked.bench n seats
         → (k : ℕ) (seat : SeatView) → slice_get seats k ≡ Some seat → IsUpToDate locked seat }

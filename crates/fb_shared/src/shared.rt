@@ -141,7 +141,7 @@ impl Shared {
         self.state.lock(rt).bench().before()
     }
 
-    /// Changes the texts, or says what is first against it.
+    /// Changes the texts, or gives the first reason against that.
     pub fn commit<R: Wait>(
         &self,
         rt: &R,
@@ -172,7 +172,7 @@ impl Shared {
         answer
     }
 
-    /// Takes a result in, if its key waits for one and all that it has read is unchanged.
+    /// Accepts a result, if its key waits for one and all that it has read is unchanged.
     pub fn deliver<R: Wait>(
         &self,
         rt: &R,

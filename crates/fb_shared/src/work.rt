@@ -43,6 +43,7 @@ pub fn work_on<R: Wait, G: Gate>(
     ensures names { NamesSeat seat.new result }
     ensures idle { turns ≡ 0 → result ≡ TurnsOver }
 {
+    // For the proof: the label names the loop there, as in `invariant-looks`.
     'looks: for _ in 0..turns {
         if let Some(end) = work_turn(rt, alloc, shared, seat, receipts, gate) {
             return end;

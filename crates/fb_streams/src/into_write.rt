@@ -49,7 +49,7 @@ impl<W: Write> Sink for IntoWrite<W> {
             ≡ concat self.old.tape.pieces ++ bytes_in result bytes.now }
         ensures unflushed { IfOk result (λ n. 0 < n → self.new.is_flushed ≡ false) }
         ensures failed { self.new.has_failed ≡ is_err result }
-        // Where the writer's bytes are known, they have grown by those that were taken.
+        // If the writer's bytes are known, they have grown by those that were taken.
         ensures contents { Appends (W.contents self.old.inner) (W.contents self.new.inner)
             (bytes_in result bytes.now) }
     {

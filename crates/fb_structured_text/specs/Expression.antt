@@ -22,13 +22,13 @@ expressions inner = list inner
 unfoldable pub subscripts : Form Expression → Form (List Expression × Lexeme)
 subscripts inner = behind (key OpenBracket) (both (expressions inner) (key CloseBracket))
 
--- a name of a reference, the subscripts behind it, and where it ends
+-- a name of a reference, the subscripts after it, and its end
 pub record PartTree : Type 0 where
   pub name : NameUse
   pub subscripts : List Expression
   pub end : ℕ
 
--- it ends with the bracket that closes its subscripts, or with the name where none are written
+-- it ends with the bracket that closes its subscripts, or with the name if none are written
 abbrev pub part_of : NameUse → Option (List Expression × Lexeme) → PartTree
 part_of n None = record { name = n; subscripts = []; end = n.span.end }
 part_of n (Some s) = record { name = n; subscripts = s.0; end = s.1.span.end }
@@ -49,11 +49,11 @@ further_part part = behind (key Point) part
 abbrev pub parts : Form PartTree → Form (PartTree × List PartTree)
 parts part = both part (many (further_part part))
 
--- a further name, with how many subscripts stand behind it
+-- a further name, with the number of subscripts after it
 abbrev pub member_in : PartTree → Member
 member_in p = record { name = p.name; subscripts = length p.subscripts }
 
--- where the last part ends, of one that ends here and those behind it
+-- the end of the last part, of one that ends here and those after it
 abbrev pub last_end : ℕ → List PartTree → ℕ
 last_end end [] = end
 last_end end (p ∷ ps) = last_end p.end ps
@@ -73,7 +73,7 @@ reference_in v = (
   expressions_of (v.0.subscripts ++ subscripts_in v.1),
 )
 
--- the same, of what a reader returned
+-- the reference that a reader returned, and its subscripts
 abbrev pub variable_tree : Variable → ReferenceTree × Expressions
 variable_tree (IsName used) = (alone_tree used, no_expressions)
 variable_tree (IsReference r subscripts) = (reference_tree r.value, expressions_of (map expression_tree subscripts.items))
@@ -82,7 +82,7 @@ variable_tree (IsReference r subscripts) = (reference_tree r.value, expressions_
 unfoldable pub flat_reference : Form (ReferenceTree × Expressions)
 flat_reference = as_value reference_in (parts flat_part)
 
--- a reference at the others: part {'.' part}, where a part is name ['[' expr {',' expr} ']']
+-- a reference at the other levels: part {'.' part}, where a part is name ['[' expr {',' expr} ']']
 unfoldable pub deep_reference : Form Expression → Form (ReferenceTree × Expressions)
 deep_reference inner = as_value reference_in (parts (deep_part inner))
 
@@ -104,7 +104,7 @@ parenthesized inner = as_value in_parentheses (both (key OpenParenthesis) (both 
 unfoldable pub flat_primary : Form Expression
 flat_primary = either literal (as_value reference_value flat_reference)
 
--- an operand at the others
+-- an operand at the other levels
 unfoldable pub deep_primary : Form Expression → Form Expression
 deep_primary inner = either literal (either (as_value reference_value (deep_reference inner)) (parenthesized inner))
 
@@ -129,12 +129,12 @@ operand kinds x = both (as_value binary_use (one kinds)) x
 unfoldable pub row : List Kind → Form Expression → Form Expression
 row kinds x = as_value (λ v. row_of v.0 v.1) (both x (many (operand kinds x)))
 
--- rows with the operators of these strengths; the operands of each are rows of those behind it
+-- rows with the operators of these strengths; the operands of each are rows of the strengths after it
 unfoldable pub rows : List (List Kind) → Form Expression → Form Expression
 rows [] x = x
 rows (kinds ∷ stronger) x = row kinds (rows stronger x)
 
--- an expression with so many levels below its own
+-- an expression with this number of levels below its own
 unfoldable pub expression : ℕ → Form Expression
 expression zero = rows strengths (unary flat_primary)
 expression (suc n) = rows strengths (unary (deep_primary (expression n)))
@@ -144,15 +144,15 @@ abbrev pub primary : ℕ → Form Expression
 primary zero = flat_primary
 primary (suc n) = deep_primary (expression n)
 
--- in it, an expression with the operators of a strength and of the stronger ones
+-- in such an expression, one with the operators of a strength and of the stronger ones
 abbrev pub row_at : ℕ → ℕ → Form Expression
 row_at strength n = rows (drop strength strengths) (unary (primary n))
 
--- in it, an operator of a strength with its operand
+-- in such an expression, an operator of a strength with its operand
 abbrev pub operand_at : ℕ → ℕ → Form (BinaryUse × Expression)
 operand_at strength n = operand (operators strength) (row_at (strength + 1) n)
 
--- a reference in it
+-- a reference in such an expression
 unfoldable pub reference : ℕ → Form (ReferenceTree × Expressions)
 reference zero = flat_reference
 reference (suc n) = deep_reference (expression n)

@@ -12,7 +12,7 @@ use Rattle.fb_tree.specs.declared.expression.UnaryOperator.TheVariants as before
 abbrev pub signs : List Kind
 signs = Plus ∷ Minus ∷ Not ∷ []
 
--- the operators between operands, the weakest first; those of one strength stand in one list
+-- the operators between operands, the weakest first; those of one strength are in one list
 abbrev pub strengths : List (List Kind)
 strengths =
     (Or ∷ []) ∷
@@ -48,12 +48,12 @@ strength_of Mod = 6
 strength_of Power = 7
 strength_of _ = 8
 
--- that of the operator that comes next, 8 where none comes
+-- that of the operator that comes next, 8 if none comes
 abbrev pub next_strength : List Lexeme → ℕ
 next_strength [] = 8
 next_strength (token ∷ tokens) = strength_of token.kind
 
--- what is no operator: their bodies stay closed to proofs, so that nothing is known of them
+-- used for a token that is no operator: their bodies stay closed to proofs, so that nothing is known of them
 pub no_sign : UnaryOperator
 no_sign = before.Not
 

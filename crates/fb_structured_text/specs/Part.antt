@@ -4,7 +4,7 @@ use Rattle.fb_tree.specs.{Text.declared.token.Span.{Span}, Expression.{Expressio
 use Rattle.fb_grammar.specs.declared.lexeme.Lexeme.{Lexeme}
 use Rattle.fb_structured_text.specs.{Expression.{PartTree}, declared.references.Part.{Part}}
 
--- a name with its subscripts, without where these lie in memory
+-- a name with its subscripts, without their place in memory
 abbrev pub part_tree : Part → PartTree
 part_tree p = record { name = p.name; subscripts = map expression_tree p.subscripts.items; end = p.end }
 

@@ -100,11 +100,11 @@ nested_statement e inner =
     (either (for_statement e inner)
     (either (while_statement e inner) (repeat_statement e inner))))
 
--- a statement with so many levels below its own
+-- a statement with this number of levels below its own
 unfoldable pub statement : ℕ → Form Statement
 statement zero = simple_statement zero
 statement (suc n) = either (simple_statement (suc n)) (nested_statement (expression (suc n)) (statement n))
 
--- a form with expressions and statements in it, of a statement with so many levels below its own
+-- a form with expressions and statements in it, of a statement with this number of levels below its own
 abbrev pub at_level : {A : Type 0} → (Form Expression → Form Statement → Form A) → ℕ → Form A
 at_level form n = form (expression n) (statement (n - 1))

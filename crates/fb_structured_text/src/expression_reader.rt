@@ -290,7 +290,7 @@ pub fn expression_at(alloc: Global, left: u8, tokens: &mut Tokens<'_>) -> Result
 }
 
 /// An expression at the outermost level. The tokens that are left are those after it; on a fault
-/// those from the first one that does not go on.
+/// those from the first one that does not continue it.
 pub fn expression(alloc: Global, tokens: &mut Tokens<'_>) -> Result<Expr, Stop>
     ensures { Gives expression_tree result tokens.new (read (expression levels) tokens.old) }
 {

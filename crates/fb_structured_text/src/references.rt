@@ -31,7 +31,7 @@ pub fn alone(alloc: Global, name: NameUse) -> Part
     }
 }
 
-/// A variable: a name alone, or a reference with the subscripts of all its names.
+/// A variable: only a name, or a reference with the subscripts of all its names.
 #[derive(Drop)]
 pub enum Variable {
     Name(NameUse),

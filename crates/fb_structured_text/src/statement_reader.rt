@@ -125,7 +125,7 @@ fn begins_simple(tokens: &Tokens<'_>) -> bool
 fn statements_at(alloc: Global, left: u8, tokens: &mut Tokens<'_>) -> Result<Vec<Stmt>, Stop>
     ensures { GivesEach statement_tree result tokens.new (read (many (statement left)) tokens.old) }
 {
-    // Many are one statement alone.
+    // Many lists have one statement.
     let mut statements = Vec::with_capacity(alloc, 1)?;
     while begins_statement(left, tokens) {
         let next = statement(alloc, left, tokens)?;
@@ -347,7 +347,7 @@ fn repeat_statement(alloc: Global, left: u8, tokens: &mut Tokens<'_>) -> Result<
 }
 
 /// The statements at the outermost level. The tokens that are left are those after them; on a
-/// fault those from the first one that does not go on.
+/// fault those from the first one that does not continue them.
 pub fn statements(alloc: Global, tokens: &mut Tokens<'_>) -> Result<Vec<Stmt>, Stop>
     ensures { GivesEach statement_tree result tokens.new (read (many (statement levels)) tokens.old) }
 {

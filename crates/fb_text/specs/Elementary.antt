@@ -20,7 +20,7 @@ bit_types = codes "BYTE" ∷ codes "WORD" ∷ codes "DWORD" ∷ codes "LWORD" �
 abbrev pub time_types : List (List ℕ)
 time_types = codes "TIME" ∷ codes "DATE" ∷ codes "TOD" ∷ codes "TIME_OF_DAY" ∷ codes "DT" ∷ codes "DATE_AND_TIME" ∷ []
 
--- the other elementary types that have no class of their own
+-- the other elementary types of the class `Other`: real numbers and strings
 abbrev pub other_types : List (List ℕ)
 other_types = codes "REAL" ∷ codes "LREAL" ∷ codes "STRING" ∷ codes "WSTRING" ∷ []
 
@@ -41,7 +41,7 @@ type_class_of word =
     else if is_generic_type word then class.Free
     else class.Other
 
--- it is the class of nothing but elementary and generic types
+-- only elementary and generic types have the class
 abbrev pub has_own_class : TypeClass → Bool
 has_own_class class.Truth = true
 has_own_class class.Integer = true

@@ -3,16 +3,16 @@ use Rattle.std.specs.Prelude.{◌≡◌, ◌≢◌, ℕ, ◌+◌, ◌≤◌, tru
 use Rattle.fb_text.specs.{Bytes.{is_blank, first}, Forms.{form_of}, Tokens.{IsLongest, char_len, with_token}, declared.token.Span.{Span}}
 use Rattle.fb_text.specs.{declared.token.Token.{Token}, declared.token.TokenKind.{TokenKind}, declared.token.TokenKind.TheVariants.{Other}}
 
--- the text's first `*)` stands between the two parts
+-- the text's first `*)` is between the two parts
 pub record IsFirstClose (text inside rest : List ℕ) : Type 0 where
   pub parts : text ≡ inside ++ (codes "*)" ++ rest)
   pub earliest : (prefix back : List ℕ) → text ≡ prefix ++ (codes "*)" ++ back) → length inside ≤ length prefix
 
--- `*)` stands nowhere in the text
+-- the text has no `*)`
 abbrev pub NeverCloses : List ℕ → Type 0
 NeverCloses text = (prefix back : List ℕ) → text ≢ prefix ++ (codes "*)" ++ back)
 
--- the text is over, or goes on with a line feed
+-- the text is over, or continues with a line feed
 abbrev pub EndsLine : List ℕ → Type 0
 EndsLine [] = Unit {0}
 EndsLine (b ∷ bs) = b ≡ 10
@@ -51,7 +51,7 @@ pub data Reads : ℕ → List ℕ → Result (List Token) Span → Type 0 where
   -- elsewhere the longest prefix that has a form is the next token
   AtToken : {place : ℕ} {text : List ℕ} {reading : Result (List Token) Span} (kind : TokenKind) (n : ℕ) (following : Result (List Token) Span)
       → BeginsToken text → IsLongest text kind n → Reads (place + n) (drop n text) following → reading ≡ with_token (token_of kind place n) following → Reads place text reading
-  -- and one character, where no prefix has a form
+  -- and one character, if no prefix has a form
   AtOther : {place : ℕ} {text : List ℕ} {reading : Result (List Token) Span} (following : Result (List Token) Span)
       → BeginsToken text → HasNoForm text → Reads (place + char_len text) (drop (char_len text) text) following → reading ≡ with_token (token_of Other place (char_len text)) following
       → Reads place text reading

@@ -1,11 +1,11 @@
--- How many bytes each form takes at the front of a text, 0 where it takes none.
+-- How many bytes each form takes at the start of a text, 0 if it takes none.
 use Rattle.std.specs.Prelude.{◌≡◌, ℕ, suc, ◌+◌, ◌<◌, ◌≤◌, Bool, false, not, ◌&&◌, ◌==◌, if◌then◌else◌, List, [], ◌∷◌, drop, slice_index, Option, Some, None, option_map}
 use Rattle.std.specs.{List.{prefix_len}, Char.{is_ascii_digit}}
 use Rattle.fb_text.specs.Bytes.{is_word_byte, is_line_end, is_number_byte, is_exponent_mark, is_quote, hash, point, escape, first}
 use Rattle.fb_text.specs.declared.quotes.OpenQuotes.{OpenQuotes}
 use Rattle.fb_text.specs.Forms.{sign_len, after_sign, is_date, is_real, is_value_byte, leading_word, after_word, is_symbol_byte, is_symbol_pair}
 
--- k, where n is not 0
+-- k, or 0 if n is 0
 abbrev pub where_some : ℕ → ℕ → ℕ
 where_some n k = if n == 0 then 0 else k
 
@@ -35,11 +35,11 @@ typed_tail_len date real [] = 0
 typed_tail_len date real (b ∷ bs) =
     if b == hash then where_some (value_len date real hash (after_sign bs)) (1 + sign_len bs + value_len date real hash (after_sign bs)) else 0
 
--- how many bytes after the word at the front belong to a typed literal
+-- how many bytes after the word at the start belong to a typed literal
 unfoldable pub typed_len : List ℕ → ℕ
 typed_len bs = typed_tail_len (is_date (leading_word bs)) (is_real (leading_word bs)) (after_word bs)
 
--- How many bytes go through the closing quote, where one comes before the line's end. A byte that is escaped
+-- How many bytes go through the closing quote, if one comes before the line's end. A byte that is escaped
 -- neither closes nor escapes.
 unfoldable pub through_quote : ℕ → Bool → List ℕ → Option ℕ
 through_quote quote escaped [] = None
@@ -56,7 +56,7 @@ unfoldable pub string_len : List ℕ → ℕ
 string_len [] = 0
 string_len (b ∷ bs) = if is_quote b then through_len (through_quote b false bs) else 0
 
--- how many bytes stand before the line's end
+-- how many bytes come before the line's end
 abbrev pub line_rest : List ℕ → ℕ
 line_rest bs = prefix_len (λ b. not (is_line_end b)) bs
 

@@ -5,6 +5,6 @@ use Rattle.std.specs.Prelude.{ℕ, nat_le, if◌then◌else◌, List, length, Op
 abbrev pub short_room : ℕ
 short_room = 22
 
--- the name, where it is short
+-- the name, if it is short
 abbrev pub shortened : List ℕ → Option (List ℕ)
 shortened name = if nat_le (length name) short_room then Some name else None

@@ -16,7 +16,7 @@ unfoldable pub longest : ℕ → List ℕ → Option (TokenKind × ℕ)
 longest zero text = None
 longest (suc n) text = of_kind (form_of (take (suc n) text)) (suc n) (longest n text)
 
--- how many bytes the first character of a text takes, which its first byte tells
+-- how many bytes the first character of a text takes, by its first byte
 abbrev pub char_len : List ℕ → ℕ
 char_len text = continuation_len (first text) + 1
 
@@ -24,7 +24,7 @@ abbrev pub token_or_char : Option (TokenKind × ℕ) → ℕ → Piece
 token_or_char (Some found) len = Found found.0 found.1
 token_or_char None len = Found Other len
 
--- the token at the front: the longest that has a form, or one character where none has
+-- the token at the start: the longest that has a form, or one character if none has
 unfoldable pub token_at : List ℕ → Piece
 token_at text = token_or_char (longest (length text) text) (char_len text)
 
@@ -34,7 +34,7 @@ pub record IsLongest (text : List ℕ) (kind : TokenKind) (n : ℕ) : Type 0 whe
   pub form : form_of (take n text) ≡ Some kind
   pub longer : (m : ℕ) → n < m → m ≤ length text → form_of (take m text) ≡ None
 
--- how many bytes stand before the first `*)`, if there is one
+-- how many bytes come before the first `*)`, if there is one
 unfoldable pub before_close : List ℕ → Option ℕ
 before_close [] = None
 before_close (b ∷ bs) = if starts_with nat_eq (b ∷ bs) (codes "*)") then Some 0 else option_map suc (before_close bs)
@@ -43,7 +43,7 @@ before_close (b ∷ bs) = if starts_with nat_eq (b ∷ bs) (codes "*)") then Som
 unfoldable pub comment_at : List ℕ → Piece
 comment_at text = elim (before_close (drop 2 text)) [ Some n ↦ Gap (n + 4) | None ↦ Unclosed ]
 
--- what stands at the front of a text
+-- what is at the start of a text
 unfoldable pub piece_at : List ℕ → Piece
 piece_at text =
     if is_blank (first text) then Gap 1
@@ -66,7 +66,7 @@ FitsIn text (Found kind n) = IsPrefix text n
 abbrev pub with_token : Token → Result (List Token) Span → Result (List Token) Span
 with_token token reading = elim reading [ Ok tokens ↦ Ok (token ∷ tokens) | Err bad ↦ Err bad ]
 
--- the piece at a place before the reading of what follows it
+-- the piece at a place, and then the reading of what follows it
 abbrev pub piece_before : ℕ → ℕ → Piece → (ℕ → Result (List Token) Span) → Result (List Token) Span
 piece_before place end (Gap n) following = following n
 piece_before place end Unclosed following = Err (record { start = place; end = end })
@@ -83,7 +83,7 @@ tokens_from zero place (b ∷ bs) = piece_before place (place + length (b ∷ bs
 unfoldable pub tokens_of : List ℕ → Result (List Token) Span
 tokens_of text = tokens_from 0 0 text
 
--- What a call returned is the reading of a text. Where memory ran out, the reading would have been without fault.
+-- What a call returned is the reading of a text. If memory ran out, the reading would have been without fault.
 abbrev pub GivesReading : {A : Type 0} → Result (Vec A Global) TokenFault → Result (List A) Span → Type 0
 GivesReading (Ok items) reading = reading ≡ Ok items.items
 GivesReading (Err (BadToken bad)) reading = reading ≡ Err bad
@@ -100,7 +100,7 @@ abbrev pub SpansRise : ℕ → ℕ → List Span → Type 0
 SpansRise from end [] = from ≤ end
 SpansRise from end (s ∷ ss) = (from ≤ s.start) × (s.start < s.end) × SpansRise s.end end ss
 
--- where the tokens stand
+-- the spans of the tokens
 abbrev pub spans_of : List Token → List Span
 spans_of tokens = map (λ t. t.span) tokens
 

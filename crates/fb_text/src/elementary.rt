@@ -82,7 +82,7 @@ fn is_time_type(word: &[u8]) -> bool
         || same_word(word, b"DATE_AND_TIME")
 }
 
-/// The other elementary types that have no class of their own.
+/// The other elementary types of the class `Other`: real numbers and strings.
 fn is_other_type(word: &[u8]) -> bool
     ensures { result ≡ is_one_of other_types word.now }
 {

@@ -19,7 +19,7 @@ pub fn tokens(alloc: Global, text: &str) -> Result<Vec<Token>, TokenFault>
     let mut tokens = Vec::new(alloc);
     let mut quotes = OpenQuotes::new();
     let mut place = 0;
-    // Without memory the text is read on, since a comment that is never closed is answered first.
+    // Without memory the text is still read to its end, since a comment that is never closed is answered first.
     let mut refused = false;
     while place < text.len() {
         match next_piece(text, place, &mut quotes) {

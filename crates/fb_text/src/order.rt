@@ -53,7 +53,7 @@ pub fn once_and_in_order<T: Ord>()
         ↔ Contains items item }
 {}
 
-/// The same of names.
+/// `names_in_order` gives the names of a list, each once, and each below those after it.
 pub fn names_once_and_in_order()
     ensures sorted { (names : List (List ℕ)) → IsStrictlySortedBy name_cmp (names_in_order names) }
     ensures same { (names : List (List ℕ)) (name : List ℕ) → Contains (names_in_order names) name

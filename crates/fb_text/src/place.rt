@@ -53,7 +53,7 @@ impl Place {
         }
     }
 
-    /// Where it begins.
+    /// Its first byte.
     pub fn start(self) -> u32
         ensures { result ≡ self.start }
     {

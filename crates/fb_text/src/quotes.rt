@@ -90,7 +90,7 @@ fn line_rest(bytes: &[u8]) -> usize
     bytes.iter().take_while(|b| !is_line_end(**b)).count()
 }
 
-/// What is at a quote: a string, or the quote alone if it is not closed on its line.
+/// What is at a quote: a string, or only the quote if it is not closed on its line.
 pub fn quoted(text: &str, place: usize, quotes: &mut OpenQuotes) -> Piece
     requires place { place < length text.now }
     requires boundary { IsCharBoundary text.now place }

@@ -1,4 +1,4 @@
--- Expressions without where they lie in memory.
+-- Expressions without their place in memory.
 use Rattle.std.specs.Prelude.{ℕ, List, [], ◌∷◌, box_value}
 use Rattle.fb_text.specs.{declared.token.Span.{Span}, declared.name.NameUse.{NameUse}}
 use Rattle.fb_tree.specs.{Reference.{first_use, further_names}, declared.constant.Literal.{Literal as LiteralUse}, declared.expression.BinaryUse.{BinaryUse}}
@@ -6,12 +6,12 @@ use Rattle.fb_tree.specs.{declared.expression.UnaryUse.{UnaryUse}, declared.refe
 use Rattle.fb_tree.specs.{declared.expression.Expr.{Expr}, declared.expression.Expr.TheOpen.{Expr-F, Literal, Name, Reference, Unary, Pair, Row, Parentheses}}
 use Rattle.fb_tree.specs.declared.expression.Expr.TheFolds.{fold-Expr}
 
--- names with points between them, and how many subscripts stand behind each; the subscripts of all of them stand beside it in one list
+-- names with points between them, and how many subscripts follow each; the subscripts of all of them are beside it in one list
 pub record ReferenceTree : Type 0 where
   pub name : NameUse
-  -- how many subscripts stand behind the first name
+  -- how many subscripts follow the first name
   pub subscripts : ℕ
-  -- the names behind the first one, each with the number of its subscripts
+  -- the names after the first one, each with the number of its subscripts
   pub members : List Member
   -- from the first name through the last name or bracket
   pub span : Span
@@ -24,7 +24,7 @@ reference_tree r = record {
   span = r.span;
 }
 
--- a name alone
+-- only a name
 abbrev pub alone_tree : NameUse → ReferenceTree
 alone_tree used = record { name = used; subscripts = 0; members = []; span = used.span }
 
@@ -34,7 +34,7 @@ mutual
     -- a reference with its subscripts
     reference_expression : ReferenceTree → Expressions → Expression
     unary_expression : UnaryUse → Expression → Expression
-    -- an operand, and operators of one strength, each with the operand behind it
+    -- an operand, and operators of one strength, each with the operand after it
     row_expression : Expression → Operands → Expression
     parentheses : Expression → Span → Expression
 

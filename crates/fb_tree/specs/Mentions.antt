@@ -33,7 +33,7 @@ instance_types (subapplication_type d) = types_in d.network.instances
 instance_types (system_configuration s) = flat_map (λ a. types_in a.network.instances) s.applications
 instance_types (structure_type s) = []
 
--- the same in the order of their bytes, each once
+-- these types in the order of their bytes, each once
 abbrev pub parts_of : DeclTree → List (List ℕ)
 parts_of decl = names_in_order (instance_types decl)
 
@@ -68,6 +68,6 @@ nothing_mentioned = record { parts = []; of_values = []; is_structure = false }
 abbrev pub all_mentions_of : DeclTree → Mentioned
 all_mentions_of decl = record { parts = parts_of decl; of_values = values_of decl; is_structure = is_structure_tree decl }
 
--- mentions without where they lie in memory
+-- mentions without their place in memory
 abbrev pub mentioned : Mentions → Mentioned
 mentioned m = record { parts = m.parts.items; of_values = m.of_values.items; is_structure = m.is_structure }

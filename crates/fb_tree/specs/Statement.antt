@@ -1,4 +1,4 @@
--- Statements without where they lie in memory.
+-- Statements without their place in memory.
 use Rattle.std.specs.{Prelude.{List, [], ◌∷◌, Vec, map, Option, option_map, box_value}, declared.alloc.Global.{Global}}
 use Rattle.fb_text.specs.{declared.token.Span.{Span}, declared.name.NameUse.{NameUse}}
 use Rattle.fb_tree.specs.Expression.{ReferenceTree, alone_tree, reference_tree, Expression, Expressions, expressions_of, no_expressions, expression_tree}
@@ -13,9 +13,9 @@ mutual
     assignment : ReferenceTree → Expressions → Span → Expression → Statement
     exit : Statement
     return : Statement
-    -- conditions with what is done, and what is done behind ELSE
+    -- conditions with what is done, and what is done after ELSE
     choice : Arms → Statements → Statement
-    -- the selector, the statements of all cases, and those behind ELSE
+    -- the selector, the statements of all cases, and those after ELSE
     selection : Expression → Statements → Statements → Statement
     -- the variable, from, to, by and the body
     count : NameUse → Expression → Expression → Option Expression → Statements → Statement

@@ -1,4 +1,4 @@
--- Declarations without where they lie in memory.
+-- Declarations without their place in memory.
 use Rattle.std.specs.Prelude.{Bool, List, map, Option, option_map}
 use Rattle.fb_text.specs.{declared.token.Span.{Span}, declared.name.NameUse.{NameUse}}
 use Rattle.fb_tree.specs.{Expression.{Expression, expression_tree}, Statement.{Statement, statement_tree}, declared.constant.Simple.{Simple}}
@@ -24,12 +24,12 @@ abbrev pub constant_tree : Constant → ConstantTree
 constant_tree (constant.One value) = one_value value
 constant_tree (constant.List values span) = value_list values.items span
 
--- where a value stands in its text
+-- the span of a value in its text
 abbrev pub value_span : Simple → Span
 value_span (simple.Literal literal) = literal.span
 value_span (simple.Name name) = name.span
 
--- where a constant stands in its text
+-- the span of a constant in its text
 abbrev pub constant_span : ConstantTree → Span
 constant_span (one_value value) = value_span value
 constant_span (value_list values span) = span
@@ -75,7 +75,7 @@ pub record InstanceTree : Type 0 where
 abbrev pub instance_tree : Instance → InstanceTree
 instance_tree i = record { role = i.role; name = i.name; type_name = i.type_name; parameters = map parameter_tree i.parameters.items }
 
--- the instances, plugs and sockets among them, the connections, and whether a section of block instances or of connections stood there
+-- the instances, plugs and sockets among them, the connections, and whether a section of block instances or of connections was written
 pub record NetworkTree : Type 0 where
   pub instances : List InstanceTree
   pub connections : List Connection
@@ -119,7 +119,7 @@ pub record AlgorithmTree : Type 0 where
 abbrev pub algorithm_tree : Algorithm → AlgorithmTree
 algorithm_tree a = record { name = a.name; language = a.language; statements = map statement_tree a.statements.items }
 
--- the states, transitions and algorithms, and whether a section of states stood there
+-- the states, transitions and algorithms, and whether a section of states was written
 pub record ChartTree : Type 0 where
   pub states : List StateTree
   pub transitions : List TransitionTree

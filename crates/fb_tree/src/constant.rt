@@ -21,7 +21,7 @@ pub enum LiteralForm {
     Truth,
 }
 
-/// A literal and its place. In a constant the span takes in the sign.
+/// A literal and its place. In a constant the span includes the sign.
 #[derive(Clone, Copy, Debug)]
 pub struct Literal {
     pub form: LiteralForm,
@@ -55,7 +55,7 @@ impl Simple {
     }
 }
 
-/// An initial value or the value of a parameter. The span of a list takes in its brackets.
+/// An initial value or the value of a parameter. The span of a list includes its brackets.
 #[derive(Debug)]
 pub enum Constant {
     One(Simple),

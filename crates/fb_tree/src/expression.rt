@@ -49,7 +49,7 @@ pub struct BinaryUse {
 /// An expression.
 pub enum Expr {
     Literal(Literal),
-    /// A variable that is a name alone. Most are.
+    /// A variable that is only a name. Most are.
     Name(NameUse),
     /// Any other variable, with its subscripts.
     Reference(Box<Reference>, Vec<Expr>),
@@ -58,7 +58,7 @@ pub enum Expr {
     Pair(Box<(Expr, BinaryUse, Expr)>),
     /// An operand, and two or more operators of one strength that follow it, each with its operand.
     Row(Box<Expr>, Vec<(BinaryUse, Expr)>),
-    /// In parentheses, which the span takes in.
+    /// In parentheses, which the span includes.
     Parentheses(Box<Expr>, Place),
 }
 

@@ -3,7 +3,7 @@
 use crate::constant::Constant;
 use fb_text::{NameUse, Place};
 
-/// Whether an event comes in or goes out.
+/// Whether an event is an event input or an event output.
 #[derive(Clone, Copy, Debug, PartialEq, Eq)]
 pub enum Side {
     Input,
@@ -48,7 +48,7 @@ pub enum TypeForm {
     Array,
 }
 
-/// A type at the place where it is used. If it is an array, the name is that of the elements.
+/// A type at the place of its use. If it is an array, the name is that of the elements.
 #[derive(Debug)]
 pub struct TypeUse {
     pub name: NameUse,

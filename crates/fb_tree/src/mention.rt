@@ -17,7 +17,7 @@ pub fn mentions(alloc: Global, decl: &Decl) -> Result<Vec<Name>, AllocError>
     sorted_names(alloc, names.as_slice())
 }
 
-/// The same in the order of the text.
+/// The names of the types of all instances, plugs and sockets among them, in the order of the text.
 #[tactic(auto, using(crate::proofs::MentionLemmas::types_of_instances, crate::proofs::MentionLemmas::application_types))]
 fn instance_types(alloc: Global, decl: &Decl) -> Result<Vec<Name>, AllocError>
     ensures { IfOk result (λ names. names.items ≡ instance_types (decl_tree decl.now)) }

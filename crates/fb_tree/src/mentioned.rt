@@ -15,7 +15,7 @@ use std::alloc::{AllocError, Global};
 pub struct Mentions {
     /// The types of its instances, plugs and sockets.
     pub parts: Vec<Name>,
-    /// The types of its variables or fields, elementary ones apart.
+    /// The types of its variables or fields, except elementary ones.
     pub of_values: Vec<Name>,
     pub is_structure: bool,
 }
@@ -52,7 +52,7 @@ fn is_structure(decl: &Decl) -> bool
     }
 }
 
-/// The names of the types of all variables or fields, elementary ones apart, in the order of their bytes, each once.
+/// The names of the types of all variables or fields, except elementary ones, in the order of their bytes, each once.
 fn values(alloc: Global, decl: &Decl) -> Result<Vec<Name>, AllocError>
     ensures { IfOk result (λ names. names.items ≡ values_of (decl_tree decl.now)) }
 {
@@ -60,7 +60,7 @@ fn values(alloc: Global, decl: &Decl) -> Result<Vec<Name>, AllocError>
     sorted_names(alloc, names.as_slice())
 }
 
-/// The same in the order of the text.
+/// The names of the types of all variables or fields, except elementary ones, in the order of the text.
 #[tactic(auto, using(crate::proofs::MentionLemmas::types_of_variables))]
 fn declared_types(alloc: Global, decl: &Decl) -> Result<Vec<Name>, AllocError>
     ensures { IfOk result (λ names. names.items
@@ -75,7 +75,7 @@ fn declared_types(alloc: Global, decl: &Decl) -> Result<Vec<Name>, AllocError>
     }
 }
 
-/// The name of the type of each of these, elementary ones apart.
+/// The name of the type of each of these, except elementary ones.
 fn types_of_values(alloc: Global, groups: &[Variables]) -> Result<Vec<Name>, AllocError>
     ensures { IfOk result (λ names. names.items
         ≡ filter (λ name. not (is_elementary name)) (map (λ v. v.type_use.name.name) groups.now)) }

@@ -26,7 +26,7 @@ impl Drop for Counting {
 /// A statement. The labels of `CASE` are not kept.
 pub enum Stmt {
     Empty,
-    /// A variable that is a name alone, the place of `:=`, and the value.
+    /// A variable that is only a name, the place of `:=`, and the value.
     Set(NameUse, Place, Expr),
     /// Any other variable with its subscripts, the place of `:=`, and the value.
     Assign(Box<Reference>, Vec<Expr>, Place, Expr),

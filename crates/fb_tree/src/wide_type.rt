@@ -1,11 +1,11 @@
-//! Copies of types where they are used.
+//! Copies of types at the places of their uses.
 ghost use Rattle.std.specs.Prelude.{◌≡◌};
 
 use crate::interface::{TypeForm, TypeUse};
 use fb_text::{Name, Place, WideUse};
 use std::marker::Model;
 
-/// A copy of a type where it is used, as wide as a name is. A contract sees it as the use.
+/// A copy of a type at the place of its use, as wide as a name is. A contract sees it as the use.
 #[derive(Clone, Copy, Debug)]
 pub struct WideTypeUse {
     name: WideUse,
@@ -24,7 +24,7 @@ impl Model for WideTypeUse {
 }
 
 impl WideTypeUse {
-    /// A copy of a type where it is used.
+    /// A copy of a type at the place of its use.
     pub fn of(used: &TypeUse) -> WideTypeUse
         ensures { result ≡ used.now }
     {

@@ -1,4 +1,4 @@
--- The applications of systems in plain.
+-- The applications of systems as plain values.
 use Rattle.std.specs.Prelude.{List, [], map}
 use Rattle.fb_tree.specs.Tree.{ApplicationTree, DeclTree, block_type, adapter_type, subapplication_type, system_configuration, structure_type}
 use Rattle.fb_types.specs.{Networks.{plain_network}, declared.systems.Application.{Application}}

@@ -7,11 +7,11 @@ use Rattle.fb_iface.specs.{Library.Seen.{has_name}, Library.View.{Sources, parts
 abbrev pub Edges : Type 0
 Edges = BTreeMap (List ℕ) (Vec (List ℕ) Global)
 
--- where the edges from a name lead
+-- the names to which the edges from a name lead
 abbrev pub edges_at : Edges → List ℕ → List (List ℕ)
 edges_at edges u = option_map_or (λ it. it.items) (get name_cmp edges u) []
 
--- where those of them lead that stay in the set
+-- those of them that are in the set
 abbrev pub edges_within : Edges → BTreeSet (List ℕ) → List ℕ → List (List ℕ)
 edges_within edges set u = filter (has_name set.keys) (edges_at edges u)
 
@@ -32,13 +32,13 @@ pub record IsGraph (sources : Sources) (begun names : List (List ℕ)) (forth ba
   pub outside : (u : List ℕ) → has_name names u ≡ false → edges_at forth u ≡ []
   pub reverse : IsReverse forth back
 
--- how far the names that reach themselves are found: what an undecided name reaches that reaches it is undecided too, found names reach themselves,
--- and there are no others that do
+-- how far the names that reach themselves are found: what an undecided name reaches and is reached by is undecided too, found names reach themselves,
+-- and no other decided name does
 pub record IsDecided (next : List ℕ → List (List ℕ)) (undecided found : List (List ℕ)) : Type 0 where
   pub whole : (u v : List ℕ) → has_name undecided u ≡ true → Follows next u v → Follows next v u → has_name undecided v ≡ true
   pub sound : (u : List ℕ) → has_name found u ≡ true → Follows next u u
   pub complete : (u : List ℕ) → Follows next u u → (has_name undecided u || has_name found u) ≡ true
 
--- of the names that were undecided before, none of these is so afterwards
+-- the undecided names were undecided before, and none of these names is undecided
 abbrev pub AreDecided : List (List ℕ) → List (List ℕ) → List (List ℕ) → Type 0
 AreDecided names before after = ((u : List ℕ) → has_name after u ≡ true → has_name before u ≡ true) × ((u : List ℕ) → has_name names u ≡ true → has_name after u ≡ false)

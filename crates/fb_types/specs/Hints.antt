@@ -27,11 +27,11 @@ abbrev pub is_whole_hint : Option PlainNet → Bool
 is_whole_hint None = false
 is_whole_hint (Some net) = is_whole_net net
 
--- whether the text of the name has to be looked at for the unit: its kept net, if there is one, does not tell that it is whole, or the
+-- whether the text of the name must be read for the unit: its kept net, if there is one, does not show that it is whole, or the
 -- name is the unit
 abbrev pub is_uncached : (List ℕ → Option PlainNet) → List ℕ → List ℕ → Bool
 is_uncached hints unit name = is_at (name_cmp unit) name || not (is_whole_hint (hints name))
 
--- the texts that have to be looked at
+-- the texts that must be read
 abbrev pub uncached_of : (List ℕ → Option PlainNet) → Sources → List ℕ → Sources
 uncached_of hints sources unit = retain_keys sources (is_uncached hints unit)

@@ -1,4 +1,4 @@
--- Units with instances that count.
+-- Units whose instances are counted.
 use Rattle.std.specs.{Prelude.{ℕ, Bool, List}, FinMap.{retain_keys}}
 use Rattle.fb_iface.specs.Library.View.{Sources, tree_at}
 use Rattle.fb_types.specs.Units.{has_net_in}

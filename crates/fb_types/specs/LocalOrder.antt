@@ -3,7 +3,7 @@ use Rattle.std.specs.Prelude.{ℕ, List, Contains, ◌↔◌}
 use Rattle.fb_iface.specs.{Library.View.{Sources}, Library.Rests.{Rests}, Library.Local.{AgreeFar}}
 use Rattle.fb_types.specs.{Reaches.{IsRecursive}, Order.{IsOrdered}}
 
--- which of the names that a unit rests on reach themselves depends on the texts that it rests on alone
+-- which of the names that a unit rests on reach themselves depends only on the texts that it rests on
 abbrev pub RecursionIsLocal : Type 0
 RecursionIsLocal = (a b : Sources) (unit : List ℕ) → AgreeFar unit a b → (name : List ℕ) → (Rests a unit name × IsRecursive a name) ↔ (Rests b unit name × IsRecursive b name)
 

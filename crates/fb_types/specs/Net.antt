@@ -1,9 +1,9 @@
--- Nets in plain.
+-- Nets as plain values.
 use Rattle.std.specs.Prelude.{ℕ, List}
 use Rattle.fb_network.specs.PlainFlat.{PlainFlat}
 use Rattle.fb_types.specs.{declared.nets.Net.{Net}, declared.nets.Net.TheVariants.{Blocked, Recursive, TooLarge, Flat}}
 
--- a net in plain
+-- a net as a plain value
 pub data PlainNet : Type 0 where
   blocked : List (List ℕ) → PlainNet
   recursive : List (List ℕ) → PlainNet

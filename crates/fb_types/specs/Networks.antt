@@ -1,4 +1,4 @@
--- The networks of declarations in plain.
+-- The networks of declarations as plain values.
 use Rattle.std.specs.{Prelude.{ℕ, List, [], map, Option, Some, None}, List.{filter_map}}
 use Rattle.fb_tree.specs.Text.declared.name.NameUse.{NameUse}
 use Rattle.fb_tree.specs.Tree.{DeclTree, InstanceTree, NetworkTree, TypeTree, block_type, adapter_type, subapplication_type, system_configuration, structure_type}
@@ -10,7 +10,7 @@ use Rattle.fb_network.specs.{declared.network.End.TheVariants.{Own, Of}, declare
 use Rattle.fb_network.specs.{declared.network.InstanceKind.TheVariants.{Block, Subapplication}, declared.network.Port.{Port}}
 use Rattle.fb_types.specs.Ports.{plain_ports}
 
--- blocks and subapplications; plugs and sockets are ports
+-- blocks and subapplications are instances; plugs and sockets are ports
 abbrev pub instance_in_role : Role → List ℕ → List ℕ → Option Instance
 instance_in_role roles.Plug name type_name = None
 instance_in_role roles.Socket name type_name = None
@@ -34,11 +34,11 @@ plain_connection c = record { sort = c.sort; source = plain_end c.source; destin
 abbrev pub plain_network : List Port → NetworkTree → PlainNetwork
 plain_network ports n = record { ports = ports; instances = filter_map plain_instance n.instances; connections = map plain_connection n.connections }
 
--- ports alone
+-- only ports
 abbrev pub leaf : TypeTree → PlainNetwork
 leaf d = record { ports = plain_ports (meanings_in_type d); instances = []; connections = [] }
 
--- what a unit says as a network: a composite block type has ports alone, as other block types have, and a system or a structure has
+-- the network of a unit: a composite block type has only ports, as other block types have, and a system or a structure has
 -- no network of its own
 abbrev pub network_of : DeclTree → PlainNetwork
 network_of (block_type d) = leaf d

@@ -1,4 +1,4 @@
--- The ports of a type in plain.
+-- The ports of a type as plain values.
 use Rattle.std.specs.Prelude.{ℕ, List, ◌++◌, map, Option, Some, None}
 use Rattle.fb_tree.specs.{Text.declared.name.NameUse.{NameUse}, declared.interface.Side.{Side}, declared.interface.Side.TheVariants.{Input, Output}}
 use Rattle.fb_tree.specs.{declared.interface.TypeUse.{TypeUse}, declared.network.Role.TheVariants.{Plug, Socket}}

@@ -15,7 +15,7 @@ IsRecursive sources name = Reaches sources name name
 abbrev pub RestsOnRecursive : Sources → List ℕ → Type 0
 RestsOnRecursive sources unit = (name : List ℕ) × (Rests sources unit name × IsRecursive sources name)
 
--- the same by parts alone
+-- some name that the unit rests on by parts only reaches itself
 abbrev pub PartRestsOnRecursive : Sources → List ℕ → Type 0
 PartRestsOnRecursive sources unit = (name : List ℕ) × (PartRests sources unit name × IsRecursive sources name)
 

@@ -12,7 +12,7 @@ use Rattle.fb_types.specs.{Net.{PlainNet}, Units.{AreFlatApplications, Holds, Is
 
 -- ---- networks
 
--- what the table has is what the texts say
+-- what the table has is what the texts declare
 abbrev pub IsDeclaredIn : Sources → View → Type 0
 IsDeclaredIn sources table = (name : List ℕ) (network : PlainNetwork) → table name ≡ Some network → declared sources name ≡ Some network
 
@@ -20,15 +20,15 @@ IsDeclaredIn sources table = (name : List ℕ) (network : PlainNetwork) → tabl
 abbrev pub Has : Sources → View → List ℕ → Type 0
 Has sources table name = (network : PlainNetwork) → declared sources name ≡ Some network → table name ≡ Some network
 
--- and that of the adapter of a port, if it has one
+-- the table has the network of the adapter of a port, if the port has one
 abbrev pub HasAdapter : Sources → View → Option (List ℕ) → Type 0
 HasAdapter sources table adapter = (name : List ℕ) → adapter ≡ Some name → Has sources table name
 
--- and those of the adapters of these ports
+-- the table has the networks of the adapters of these ports
 abbrev pub HasAdapters : Sources → View → List Port → Type 0
 HasAdapters sources table ports = (port : Port) → Contains ports port → HasAdapter sources table port.adapter
 
--- more is in the table, and no less
+-- the new table is right, and has all that the old one has
 pub record Grows (sources : Sources) (old new : View) : Type 0 where
   pub is_true : IsDeclaredIn sources new
   pub keeps : (name : List ℕ) → Has sources old name → Has sources new name
@@ -53,13 +53,13 @@ AllCounted sources counts names =
 abbrev pub SameOthers : {X : Type 0} → (List ℕ → Option X) → (List ℕ → Option X) → List ℕ → Type 0
 SameOthers old new name = (other : List ℕ) → other ≢ name → new other ≡ old other
 
--- the number of instances of a unit, of all depths, as far as it is looked at
+-- the number of instances of a unit, of all depths, up to one past the limit
 pub record IsUnitCount (sources : Sources) (unit : List ℕ) (count : ℕ) : Type 0 where
   pub held : List Held
   pub holds : Holds sources unit held
   pub count_is : count ≡ min (length held) (INSTANCE_LIMIT + 1)
 
--- the type holds no more instances than the limit
+-- the number of instances of the type is within the limit
 pub record IsSmallType (view : View) (name : List ℕ) : Type 0 where
   pub network : PlainNetwork
   pub declared : view name ≡ Some network
@@ -69,7 +69,7 @@ pub record IsSmallType (view : View) (name : List ℕ) : Type 0 where
 
 -- ---- flat networks
 
--- what is kept, and else what is composed
+-- the flat network that is kept, or else the one that is composed
 abbrev pub known_flats : (List ℕ → Option PlainNet) → Nets → Nets
 known_flats hints composed name = option_or (flat_of_hint (hints name)) (composed name)
 
@@ -79,13 +79,13 @@ pub record IsComposed (table : View) (nets : Nets) (name : List ℕ) (flat : Pla
   pub there : table name ≡ Some network
   pub whole : IsFlatInWhole table network nets flat
 
--- it is found under the name
+-- under the name there is a flat network that is composed so
 pub record IsAdded (table : View) (nets new : Nets) (name : List ℕ) : Type 0 where
   pub flat : PlainFlat
   pub found : new name ≡ Some flat
   pub composed : IsComposed table nets name flat
 
--- the subapplications among these names that are not too large are finished, but for the unit
+-- the subapplications among these names that are not too large are finished, except the unit
 abbrev pub AllFinished : Sources → Nets → List ℕ → List (List ℕ) → Type 0
 AllFinished sources nets unit names =
     (name : List ℕ)
@@ -103,7 +103,7 @@ abbrev pub is_subapplication_in : Option DeclTree → Bool
 is_subapplication_in None = false
 is_subapplication_in (Some tree) = is_subapplication_tree tree
 
--- whether the flat network of the name is to be composed for the unit: that of a subapplication below the unit whose kept net does not tell
+-- whether the flat network of the name must be composed for the unit: that of another subapplication whose kept net does not show that it is whole
 abbrev pub is_missing : Sources → (List ℕ → Option PlainNet) → List ℕ → List ℕ → Bool
 is_missing sources hints unit name =
     not (is_at (name_cmp unit) name) && (not (is_whole_hint (hints name)) && is_subapplication_in (tree_at sources name))
@@ -114,11 +114,11 @@ pub record IsComposable (table whole : View) (nets : Nets) (network : PlainNetwo
   pub clean : IsCleanThroughout whole network
   pub finished : AreFinished whole network nets
 
--- the networks of all applications can
+-- the networks of all applications can be composed so
 abbrev pub AreComposable : View → View → Nets → List Application → Type 0
 AreComposable table whole nets applications = (a : Application) → Contains applications a → IsComposable table whole nets a.network
 
--- what is composed of an application, where it can be
+-- what is composed of an application, if it can be composed
 abbrev pub IsComposedApplication : View → Nets → Application → FlatApplication → Type 0
 IsComposedApplication table nets application flat =
     (whole : View) → IsComposable table whole nets application.network → IsFlatApplication whole application flat

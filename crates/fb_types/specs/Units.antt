@@ -42,24 +42,24 @@ pub record Holds (sources : Sources) (unit : List ℕ) (held : List Held) : Type
   pub present : tree_at sources unit ≡ Some tree
   pub instances : AreInstances (declared sources) (own_instances tree) held
 
--- more instances than the limit
+-- the unit has more instances than the limit
 pub record IsTooLarge (sources : Sources) (unit : List ℕ) : Type 0 where
   pub held : List Held
   pub holds : Holds sources unit held
   pub more : INSTANCE_LIMIT < length held
 
--- the instances are within the limit
+-- the instances of the unit are within the limit
 pub record IsWithinLimit (sources : Sources) (unit : List ℕ) : Type 0 where
   pub held : List Held
   pub holds : Holds sources unit held
   pub within : length held ≤ INSTANCE_LIMIT
 
--- under the name of the application is the flat network of its network
+-- the flat network of an application, under its name
 pub record IsFlatApplication (view : View) (application : Application) (flat : FlatApplication) : Type 0 where
   pub name : flat.name ≡ application.name
   pub net : IsFlat view application.network flat.flat
 
--- one for each application, in the same order
+-- one flat network for each application, in the same order
 pub data AreFlatApplications (view : View) : List Application → List FlatApplication → Type 0 where
   NoApplication : AreFlatApplications view [] []
   ThenApplication :

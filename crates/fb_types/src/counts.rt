@@ -39,7 +39,7 @@ fn counted_up(so_far: u32, inside: u32) -> u32
     }
 }
 
-/// The same by the role of the instance.
+/// A count, with one more instance and those that are in it, by the instance's role; plugs and sockets are not counted.
 fn count_instance(counts: &Counts, so_far: u32, instance: &Instance) -> u32
     ensures { result
         ≡ counted_with (get name_cmp counts.now) so_far (plain_instance (instance_tree instance.now)) }

@@ -31,7 +31,7 @@ pub(crate) fn cycles(
     } = graph;
     let mut found = BTreeSet::new(alloc);
     // The name that was left last comes first: then a walk back stays in one round, and each edge is walked once each way.
-    // What is found is the same in any order, and the names come once more so that nothing has to be known of it.
+    // What is found is the same in any order. The second call decides the names again, so that nothing must be known of `left`.
     left.reverse();
     decide_all(
         alloc,

@@ -30,11 +30,11 @@ impl Hints for NoHints {
     }
 }
 
-/// Units that are known to be there without faults.
+/// Units that are known to be present and without faults.
 pub trait KnownFaultless {
     ghost faultless: { Self → (List ℕ → Bool) };
 
-    /// Whether the unit of that name is known to be there without faults.
+    /// Whether the unit of that name is known to be present and without faults.
     fn is_faultless(&self, name: &Name) -> bool
         ensures { result ≡ faultless self.now name.now };
 }

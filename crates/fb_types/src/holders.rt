@@ -1,4 +1,4 @@
-//! Units with instances that count.
+//! Units whose instances are counted.
 ghost use Rattle.std.specs.{Prelude.{◌≡◌, IfSome}, Option.{option_map}};
 ghost use Rattle.std.specs.FinMap as map;
 ghost use Rattle.fb_types.specs.Holders.{holders_of};

@@ -1,4 +1,4 @@
-//! Whether a text says to others what another one says.
+//! Whether two texts have the same interface for other units.
 ghost use Rattle.std.specs.Prelude.{◌≡◌, true, Some, IfOk};
 ghost use Rattle.fb_tree.specs.{Mentions.{unit_kind_of}, Tree.{decl_tree}, declared.kinds.UnitKind.TheVariants.{Block}};
 ghost use Rattle.fb_iface.specs.Library.View.{tree_of};
@@ -87,7 +87,7 @@ fn mention_the_same(a: &Mentions, b: &Mentions) -> bool
 }
 
 /// Whether both texts declare a block type, with the same ports and the same mentions. Then no net of what rests on one of them shows which
-/// of them it is. Of other units it is not looked at.
+/// of them it is. Other units are not compared.
 pub fn has_same_interface(alloc: Global, a: &Source, b: &Source) -> Result<bool, AllocError>
     ensures { IfOk result (λ is. is ≡ true
         → AreInterchangeableBlocks (tree_of a.now.text) (tree_of b.now.text)) }

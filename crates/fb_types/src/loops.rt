@@ -24,7 +24,7 @@ pub fn recursive<V: View>(alloc: Global, view: &V, names: &[Name]) -> Result<Vec
     recursive_part(alloc, view, names)
 }
 
-/// Where the search lists all names, none reaches itself.
+/// The names among these that reach themselves. If the search lists all names, there are none.
 fn recursive_part<V: View>(alloc: Global, view: &V, names: &[Name]) -> Result<Vec<Name>, AllocError>
     ensures { IfOk result (λ found. RecursivePart (V.sources view.now) names.now found.items) }
 {
@@ -35,7 +35,7 @@ fn recursive_part<V: View>(alloc: Global, view: &V, names: &[Name]) -> Result<Ve
     by_cycles(alloc, view, names)
 }
 
-/// Depends on the cycles among all that the names rest on.
+/// The names among these that reach themselves, by the cycles among all that the names rest on.
 fn by_cycles<V: View>(alloc: Global, view: &V, names: &[Name]) -> Result<Vec<Name>, AllocError>
     ensures { IfOk result (λ found. RecursivePart (V.sources view.now) names.now found.items) }
 {

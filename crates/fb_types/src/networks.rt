@@ -1,4 +1,4 @@
-//! The networks of units in plain (IEC 61499-1, 5.4: subapplication types).
+//! The networks of units as plain values (IEC 61499-1, 5.4: subapplication types).
 ghost use Rattle.std.specs.{Prelude.{◌≡◌, IfOk, map}, List.{filter_map}};
 ghost use Rattle.fb_tree.specs.Tree.{decl_tree, instance_tree, network_tree};
 ghost use Rattle.fb_types.specs.Networks.{network_of, plain_connection, plain_end, plain_instance, plain_network};
@@ -9,7 +9,7 @@ use fb_network::{InstanceKind, Port};
 use fb_tree::{Connection, Decl, End, Instance, Network, Role};
 use std::alloc::{AllocError, Global};
 
-/// The network of a unit. A block type or an adapter type has ports alone; a system or a structure has no network of its own.
+/// The network of a unit. A block type or an adapter type has only ports; a system or a structure has no network of its own.
 pub fn network(alloc: Global, decl: &Decl) -> Result<plain::Network, AllocError>
     ensures { IfOk result (λ network. network ≡ network_of (decl_tree decl.now)) }
 {

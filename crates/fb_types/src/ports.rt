@@ -1,4 +1,4 @@
-//! The ports of a type in plain (IEC 61499-1, 5.2: interfaces of function block types; 5.5: adapters).
+//! The ports of a type as plain values (IEC 61499-1, 5.2: interfaces of function block types; 5.5: adapters).
 ghost use Rattle.std.specs.Prelude.{◌≡◌, ◌++◌, IfOk, OnOk, map};
 ghost use Rattle.fb_tree.specs.Tree.{type_tree};
 ghost use Rattle.fb_iface.specs.Ports.{data_on, events_on, instances_as, meanings_in_type};

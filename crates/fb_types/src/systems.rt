@@ -1,4 +1,4 @@
-//! The applications of systems in plain (IEC 61499-1, clause 7: system configurations).
+//! The applications of systems as plain values (IEC 61499-1, clause 7: system configurations).
 ghost use Rattle.std.specs.Prelude.{◌≡◌, IfOk, map};
 ghost use Rattle.fb_tree.specs.Tree.{application_tree, decl_tree};
 ghost use Rattle.fb_types.specs.Applications.{applications_of, plain_application};

@@ -1,4 +1,4 @@
-//! What is left to look at where nets are kept.
+//! What must still be read if nets are kept.
 ghost use Rattle.std.specs.{Prelude.{◌≡◌, IfSome}, Option.{option_map}};
 ghost use Rattle.std.specs.FinMap as map;
 ghost use Rattle.fb_types.specs.Hints.{is_uncached, uncached_of};
@@ -8,7 +8,7 @@ use fb_iface::library::View;
 use fb_iface::parse::Source;
 use fb_tree::text::{Name, same_name};
 
-/// The sources that have to be looked at for the net of a unit: none of other units whose kept nets show that they are not blocked
+/// The sources that must be read for the net of a unit: none of other units whose kept nets show that they are not blocked
 /// and that none of what they rest on reaches itself.
 #[derive(Clone, Copy)]
 pub struct Uncached<'a, V, H> {
@@ -23,7 +23,7 @@ fn is_uncached<H: Hints>(hints: &H, unit: &Name, name: &Name) -> bool
     same_name(unit, name) || !is_known_whole(hints, name)
 }
 
-/// The source of a name that has to be looked at.
+/// The source of a name that must be read.
 fn uncached_source<'a, V: View, H: Hints>(
     view: &'a V,
     hints: &H,

@@ -1,4 +1,4 @@
--- What is said to each line, and what it asks of a desk.
+-- The reply to each line, and what the line asks of a desk.
 use Rattle.std.specs.Prelude.{◌≡◌, ◌⊎◌, ℕ, ◌+◌, [], ◌∷◌, ◌++◌, if◌then◌else◌, Err, List, MatchBool, None, Ok, Option, Result, Some, length, map, nat_le, slice_get, suc, take, zero}
 use mathlib.Core.Logic.{inl, inr}
 use Rattle.serde_json.specs.Data.{Data}

@@ -1,4 +1,4 @@
--- How a run ends, and what it has said and done by then.
+-- How a run ends, and what it has asked and written by then.
 use Rattle.std.specs.{Prelude.{◌≡◌, ◌↔◌, ◌≤◌, ◌+◌, ℕ, [], ◌∷◌, ◌++◌, Bool, IsTrue, List, Option, length, take}, Io.KnownBytes.{Consumes, IsAtEnd}}
 use Rattle.fb_streams.specs.Streams.{StaysFlushed}
 use Rattle.serde_json.specs.Data.{Data}
@@ -11,7 +11,7 @@ use Rattle.fb_messages.specs.Replies.{reply_line}
 abbrev pub AnsweredAll : List ℕ → List Exchange → List ℕ → Type 0
 AnsweredAll bytes pairs out = (after : Jobs) × AnswersLines (lines_of bytes) [] pairs out after
 
--- every line that has its line feed was answered, and what has come of the next one is not too long
+-- every line that has its line feed was answered, and what was read of the next one is not too long
 abbrev pub AnsweredEnded : List ℕ → List Exchange → List ℕ → Type 0
 AnsweredEnded bytes pairs out =
     (lines : List (List ℕ)) × (rest : List ℕ) × (after : Jobs) × (lines_of bytes ≡ lines ++ rest ∷ []) × Fits rest × AnswersLines lines [] pairs out after
@@ -51,7 +51,7 @@ IsBetweenLines WriteFailed = ⊥
 IsBetweenLines Memory = ⊥
 IsBetweenLines _ = Unit {0}
 
--- ---- what is said and done by an end
+-- ---- what was read, asked and written by an end
 
 -- what a reader and a writer show: what was read and is left, the number of reads, what was written, and what has failed or is flushed
 pub record Streams : Type 0 where
@@ -63,7 +63,7 @@ pub record Streams : Type 0 where
   pub is_flushed : Bool
   pub write_has_failed : Bool
 
--- the same of a reader and a writer of any type
+-- these of a reader and a writer of any type
 abbrev pub streams : {R W : Type 0} → (R → List ℕ) → (R → Option (List ℕ)) → (R → ℕ) → (R → Bool) → (W → List ℕ) → (W → Bool) → (W → Bool) → R → W → Streams
 streams given left reads read_has_failed held is_flushed write_has_failed reader writer = record {
   given = given reader;

@@ -23,12 +23,12 @@ use Rattle.fb_messages.specs.declared.reply.Refusal.TheVariants as because
 abbrev pub ProgressTo : {S : Type 0} → (S → Exchange → S → Type 0) → Plan → S → Plan → S → Type 0
 ProgressTo Step plan old rest new = (pairs : List Exchange) × BeginsWith plan pairs rest × Runs Step old pairs new
 
--- the plan came to its reply, or memory ran out on the way
+-- the plan reached its reply, or memory ran out on the way
 abbrev pub Progress : {S : Type 0} → (S → Exchange → S → Type 0) → Plan → S → Result Reply AllocError → Jobs → S → Type 0
 Progress Step plan old (Ok reply) held new = ProgressTo Step plan old (says (data_of reply) held) new
 Progress Step plan old (Err e) held new = (rest : Plan) × ProgressTo Step plan old rest new
 
--- the answer of a desk that does not record a call, or none for want of memory
+-- the answer of a desk that does not record a call, or none for lack of memory
 abbrev pub unrecorded : DeskError → Option Answer
 unrecorded HistoryFull = Some FullHistory
 unrecorded Behind = Some BehindHistory
@@ -39,13 +39,13 @@ abbrev pub answer_in : {R : Type 0} → (R → MachineReply) → Result R DeskEr
 answer_in reply_of (Ok r) = Some (Replied (reply_of r))
 answer_in reply_of (Err why) = unrecorded why
 
--- the word that a reply has for it, or none for want of memory
+-- the word that a reply has for it, or none for lack of memory
 abbrev pub refusal_for : DeskError → Option Refusal
 refusal_for HistoryFull = Some because.HistoryFull
 refusal_for Behind = Some because.Behind
 refusal_for Memory = None
 
--- the answer that a checkpoint's result is, or none for want of memory
+-- the answer that a checkpoint's result is, or none for lack of memory
 abbrev pub checked_in : Result ℕ DeskCheckpointError → Option CheckpointAnswer
 checked_in (Ok before) = Some (Checked (KeptUpTo before))
 checked_in (Err (checkpoint.UnitsOver units)) = Some (Checked (OverUnits units))
@@ -58,7 +58,7 @@ abbrev pub data_in : Result Reply AllocError → Option Data
 data_in (Ok reply) = Some (data_of reply)
 data_in (Err e) = None
 
--- what is left of a work's plan after one round, where `more` goes on with a count
+-- what is left of a work's plan after one round, where `more` continues with a count
 abbrev pub left_after : Jobs → ℕ → (ℕ → Plan) → Round → Plan
 left_after held count more rounds.Accepted = more (count + 1)
 left_after held count more rounds.Refused = more count
@@ -69,7 +69,7 @@ abbrev pub RoundProgress : {S : Type 0} → (S → Exchange → S → Type 0) �
 RoundProgress Step held count more old (Ok round) new = ProgressTo Step (asks ToTake (after_take held count more)) old (left_after held count more round) new
 RoundProgress Step held count more old (Err e) new = (rest : Plan) × ProgressTo Step (asks ToTake (after_take held count more)) old rest new
 
--- the job is the one that was taken, or the round says how the answer ends the work
+-- the job is the one that was taken, or the round shows how the answer ends the work
 abbrev pub Takes : Option Answer → Result Taking AllocError → Type 0
 Takes answered (Ok (Job found)) = answered ≡ Some (Replied (OfTake (Some found)))
 Takes answered (Ok (Ended round)) = (held : Jobs) (count : ℕ) (more : ℕ → Plan) → option_map (after_take held count more) answered ≡ Some (left_after held count more round)
@@ -98,12 +98,12 @@ LineSaid Step line old_jobs old old_held (Err stop) jobs new held =
 
 -- ---- bytes
 
--- all lines that have their line feed were answered, and this has come of the next one
+-- all lines that have their line feed were answered, and this was read of the next one
 abbrev pub ConversationAt : {S : Type 0} → (S → Exchange → S → Type 0) → S → List ℕ → List ℕ → Jobs → List ℕ → S → Type 0
 ConversationAt Step start given partial jobs out new =
     (lines : List (List ℕ)) × (pairs : List Exchange) × (lines_of given ≡ lines ++ partial ∷ []) × Fits partial × AnswersLines lines [] pairs out jobs × Runs Step start pairs new
 
--- A piece of the bytes was taken, whatever came before it; or the run stops in it, with these bytes behind it.
+-- A piece of the bytes was taken, whatever came before it; or the run stops in it, with these bytes after it.
 abbrev pub PieceTaken : {S : Type 0} → (S → Exchange → S → Type 0) → S → List ℕ → Jobs → List ℕ → List ℕ → List ℕ → Result ⊤ RunEnd → S → List ℕ → Jobs → List ℕ → Type 0
 PieceTaken {S} Step old old_line old_jobs old_held piece behind result new line jobs held =
     (start : S) (given out : List ℕ) → ConversationAt Step start given old_line old_jobs out old →

@@ -4,7 +4,7 @@ use Rattle.fb_wire.specs.{declared.end.RunEnd.{RunEnd}, declared.run_error.RunEr
 use Rattle.fb_wire.specs.declared.end.RunEnd.TheVariants as end
 use Rattle.fb_wire.specs.declared.run_error.RunError.TheVariants as fault
 
--- each end but that of the input has a fault of its own
+-- each end except that of the input has its own fault
 abbrev pub error_of : RunEnd → Option RunError
 error_of end.End = None
 error_of end.LineTooLong = Some fault.LineTooLong

@@ -1,4 +1,4 @@
--- What is said to each answer of the machine.
+-- The reply to each answer of the machine.
 use Rattle.std.specs.Prelude.{ℕ, None, Option, Some, false, true}
 use Rattle.serde_json.specs.Data.{Data}
 use Rattle.fb_messages.specs.Jobs.Reads.{PlainJob}

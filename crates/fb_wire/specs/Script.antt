@@ -1,4 +1,4 @@
--- What a workbench says to the bytes of a script: a function of the two.
+-- What a workbench answers to the bytes of a script: a function of the two.
 use Rattle.std.specs.Prelude.{◌≡◌, ℕ, [], ◌∷◌, ◌++◌, if◌then◌else◌, List, length, nat_lt}
 use Rattle.serde_json.specs.Data.{Data}
 use Rattle.fb_bench.specs.{History.Checkpoints.{checking, bench_checked}, History.Limits.{Bounds}, History.Machine.{Call, reply}}
@@ -7,11 +7,11 @@ use Rattle.fb_wire.specs.{Lines.{is_blank, lines_of}, Conversations.{Jobs, Plan,
 use Rattle.fb_wire.specs.declared.end.RunEnd.TheVariants.{End}
 use Rattle.fb_messages.specs.{Replies.{reply_line}, Requests.{request_of}}
 
--- the answer to a call: the machine's, where the history has room
+-- the answer to a call: the machine's, if the history has room
 abbrev pub answer_from : BenchView → Call → Answer
 answer_from bench call = if nat_lt (length bench.log.records) bench.log.limit then Replied (reply (state_of bench) call) else FullHistory
 
--- the workbench after it: the call is recorded, or nothing has changed
+-- the workbench after the call: it is recorded, or nothing has changed
 abbrev pub bench_after : ℕ → BenchView → Call → BenchView
 bench_after caller bench call = if nat_lt (length bench.log.records) bench.log.limit then recorded bench caller call else bench
 
@@ -19,7 +19,7 @@ bench_after caller bench call = if nat_lt (length bench.log.records) bench.log.l
 abbrev pub checkpoint_from : BenchView → Bounds → CheckpointAnswer
 checkpoint_from bench limits = Checked (checking limits bench)
 
--- the workbench after it: the history begins again, or nothing has changed
+-- the workbench after a checkpoint: the history begins again, or nothing has changed
 abbrev pub bench_anew : BenchView → Bounds → BenchView
 bench_anew bench limits = bench_checked (checking limits bench) limits bench
 

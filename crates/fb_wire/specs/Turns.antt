@@ -1,4 +1,4 @@
--- For private clauses: what one read comes to.
+-- For private clauses: the result of one read.
 use Rattle.std.specs.Prelude.{⊤, ℕ, List, Result}
 use Rattle.fb_bench.specs.Calls.{Exchange}
 use Rattle.fb_wire.specs.{Progress.{PieceTaken}, declared.end.RunEnd.{RunEnd}, declared.line.Conversation.{Conversation}}

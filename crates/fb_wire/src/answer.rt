@@ -108,7 +108,6 @@ fn checkpoint_reply(checked: Result<u64, DeskCheckpointError>) -> Result<Reply, 
 }
 
 /// Makes one call, whose answer is the reply.
-// Works around the borrow checker: both types that a `fb_bench::Request` can borrow must occur in a function that makes one.
 fn answer_call<D: Desk>(desk: &mut D, call: &fb_bench::Request<'_>) -> Result<Reply, AllocError>
     ensures { (held : Jobs)
         → Progress (Exchanges D.step D.checkpoint_step)
@@ -127,6 +126,7 @@ fn answer_commit<D: Desk>(
         → Progress (Exchanges D.step D.checkpoint_step)
         (commit_plan held (edits_in (map change_view asked.now))) desk.old result held desk.new }
 {
+    // Works around the borrow checker: both types that a `fb_bench::Request` can borrow must occur in a function that makes one.
     let _finished: Option<&Finished> = None;
     match changes_of(alloc, asked) {
         Ok(changes) => answer_call(desk, &fb_bench::Request::Commit(&changes)),
@@ -188,6 +188,7 @@ fn answer_job<D: Desk>(alloc: Global, desk: &mut D, job: &Job) -> Result<Reply, 
     ensures { (held : Jobs)
         → Progress (Exchanges D.step D.checkpoint_step) (call_once held (ToDeliver job.now)) desk.old result held desk.new }
 {
+    // As above.
     let _changes: &[Change] = &[];
     let finished = job.run(alloc)?;
     answer_call(desk, &fb_bench::Request::Deliver(&finished))
@@ -293,6 +294,7 @@ fn answer_ask_named<D: Desk>(desk: &mut D, kind: Kind, unit: &str) -> Result<Rep
         (λ name. call_once held
         (ToAsk (record { kind = kind; unit = name })))) desk.old result held desk.new }
 {
+    // As above.
     let _changes: &[Change] = &[];
     let _finished: Option<&Finished> = None;
     match Name::read(unit) {
@@ -309,6 +311,7 @@ fn answer_back_named<D: Desk>(desk: &mut D, kind: Kind, unit: &str) -> Result<Re
         (λ name. call_once held
         (ToGiveBack (record { kind = kind; unit = name })))) desk.old result held desk.new }
 {
+    // As above.
     let _changes: &[Change] = &[];
     let _finished: Option<&Finished> = None;
     match Name::read(unit) {

@@ -72,7 +72,7 @@ pub(crate) struct Conversation {
     pub(crate) held: Vec<Job>,
     /// The bytes of a reply, which the next one takes over.
     room: Vec<u8>,
-    /// What has come of the next line.
+    /// What was read of the next line.
     pub(crate) line: Vec<u8>,
 }
 
@@ -89,7 +89,7 @@ impl Conversation {
     }
 }
 
-/// Answers the line that has come, and writes its reply.
+/// Answers the line that was read, and writes its reply.
 pub(crate) fn say_line<D: Desk, S: Sink>(
     alloc: Global,
     desk: &mut D,

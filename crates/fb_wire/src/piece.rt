@@ -52,7 +52,7 @@ fn end_line<D: Desk, S: Sink>(
 ) -> Result<(), RunEnd>
     requires open { S.has_failed writer.old ≡ false }
     requires line { IsLine prefix.now }
-    // whatever comes behind them
+    // whatever comes after them
     ensures taken { (behind : List ℕ)
         → TakesPiece (Exchanges D.step D.checkpoint_step) desk.old conversation.old (S.held writer.old)
         (prefix.now ++ 10 ∷ []) behind result desk.new conversation.new (S.held writer.new) }

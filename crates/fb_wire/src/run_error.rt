@@ -21,7 +21,7 @@ pub enum RunError {
     Memory,
 }
 
-/// The fault of an end, or none where the input ended.
+/// The fault of an end, or none if the input ended.
 pub fn error_of(end: RunEnd) -> Option<RunError>
     ensures { result ≡ error_of end }
 {

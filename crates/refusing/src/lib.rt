@@ -1,6 +1,6 @@
 //! Calls of which each allocation is refused in turn.
 //!
-//! `tools/refuse` preloads the library that refuses them: there a request of a size that nobody can have says which allocation of this
+//! `tools/refuse` preloads the library that refuses them: there a request of a size that nobody can have shows which allocation of this
 //! thread is refused. In a run without it none is refused, and each call is made once, with ample memory.
 #![tactic(auto)]
 
@@ -38,7 +38,7 @@ pub trait Trial: Drop {
     /// What the call is made on, made new.
     fn new(alloc: Global, setting: Self::Setting) -> Result<Self, Fail>;
 
-    /// Makes the call, and keeps its answer. Whether it found the memory that it wants.
+    /// Makes the call, and keeps its answer. Whether it found the memory that it needs.
     fn call(&mut self, alloc: Global) -> bool;
 
     /// In words, all that can be read of what the call was made on, and of its answer if there is one.

@@ -12,7 +12,7 @@ use fb_network::Path;
 use std::alloc::{AllocError, Global};
 
 /// Finds the homes of the ends of links. It keeps the block in which an end was found last, with its home, and the text of the path that it
-/// looked for last.
+/// looked up last.
 #[derive(Drop)]
 pub(crate) struct EndFinder<'a, 't> {
     pub homes: &'t HomeTable<'a>,

@@ -32,7 +32,7 @@ fn path_text(alloc: Global, mapping: &Mapping) -> Result<String, AllocError>
     joined(alloc, mapping.path.as_slice())
 }
 
-/// The same path if it has these names.
+/// The path of a mapping that has these names.
 pub(crate) fn path_of_names(
     alloc: Global,
     first: &NameUse,

@@ -13,7 +13,7 @@ use std::collections::HashMap;
 /// Resources by the paths of the blocks that are on them.
 pub(crate) type ByPath<'a> = HashMap<&'a str, &'a Path>;
 
-/// The same, and whether no block of these is inside another one.
+/// Resources by the paths of the blocks that are on them, and whether no block of these is inside another one.
 #[derive(Drop)]
 pub(crate) struct HomeTable<'a> {
     pub by_path: ByPath<'a>,

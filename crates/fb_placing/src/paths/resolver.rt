@@ -52,7 +52,7 @@ impl<'a, V: View> Model for Resolver<'a, V> {
 }
 
 impl<'a> Resolved<'a> {
-    /// The same once more.
+    /// A copy of the instance, with the unit that declares it.
     fn again(&self) -> Resolved<'a>
         ensures { plain_resolved result ≡ plain_resolved self.now }
     {
@@ -63,7 +63,7 @@ impl<'a> Resolved<'a> {
     }
 }
 
-/// The same once more.
+/// A copy of what was found.
 fn again<'a>(found: &Option<Resolved<'a>>) -> Option<Resolved<'a>>
     ensures { option_map plain_resolved result ≡ option_map plain_resolved found.now }
 {

@@ -56,7 +56,7 @@ pub(crate) fn push_creates<'a>(
     push_created(&created, commands)
 }
 
-/// Adds the commands of commands that set parameters.
+/// Adds these commands, which set parameters, by their numbers.
 pub(crate) fn push_writes<'a>(
     placed: &'a [PlacedCommand],
     commands: &mut Vec<AssignedCommand<'a>>,

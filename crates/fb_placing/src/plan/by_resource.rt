@@ -20,7 +20,7 @@ fn place_of(names: &[Path], name: &Path) -> Option<usize>
     None
 }
 
-/// The same. The place that was found last is looked at first.
+/// The first place of a name. The place that was found last is looked at first.
 fn place_near(names: &[Path], last: usize, name: &Path) -> Option<usize>
     requires { IsFirst names.now last }
     ensures found { IfSome result (λ place. IsFirstPlace names.now place name.now) }
@@ -97,7 +97,7 @@ fn indexes_for(
     Ok(items)
 }
 
-/// The same items again.
+/// A copy of the items.
 fn copied(alloc: Global, list: &[CommandIndex]) -> Result<Vec<CommandIndex>, AllocError>
     ensures { IfOk result (λ items. items.items ≡ list.now) }
 {
@@ -119,8 +119,10 @@ pub(crate) fn indexes_from(
 {
     if let Some(place) = place_of(names, name) {
         if let Some(list) = lists.get(place) {
+            // A copy, since a later resource may have the same name, and then gets the same items.
             return copied(alloc, list);
         }
     }
+    // For the proof: not reached, since each name that is asked for is one of `names`, and so has a list.
     indexes_for(alloc, commands, name)
 }

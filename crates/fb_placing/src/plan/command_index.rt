@@ -62,7 +62,7 @@ pub(crate) fn parts_of<'a>(
     }
 }
 
-/// The commands of a resource in plain.
+/// The commands of a resource as plain values.
 fn plain_commands(
     alloc: Global,
     flat: &Flat,
@@ -80,7 +80,7 @@ fn plain_commands(
     Ok(commands)
 }
 
-/// Resources with their commands in plain.
+/// Resources with their commands as plain values.
 pub(crate) fn plain_resources(
     alloc: Global,
     flat: &Flat,
@@ -98,7 +98,7 @@ pub(crate) fn plain_resources(
     Ok(plans)
 }
 
-/// A link in plain.
+/// A link as a plain value.
 fn plain_link(alloc: Global, flat: &Flat, number: u32) -> Result<Link, AllocError>
     ensures { IfOk result (λ link. link ≡ link_numbered flat.now number) }
 {
@@ -113,7 +113,7 @@ fn plain_link(alloc: Global, flat: &Flat, number: u32) -> Result<Link, AllocErro
     })
 }
 
-/// Links in plain.
+/// Links as plain values.
 pub(crate) fn plain_links(
     alloc: Global,
     flat: &Flat,

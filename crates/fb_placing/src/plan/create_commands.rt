@@ -108,7 +108,7 @@ fn compare_created(flat: &Flat, a: &Created<'_>, b: &Created<'_>) -> Ordering
     compare_each(flat, a, b)
 }
 
-/// Sorts blocks by their commands, and leaves each once.
+/// Sorts blocks by their commands and removes duplicates.
 fn sort_created(flat: &Flat, created: &mut Vec<Created<'_>>) -> Result<(), AllocError>
     ensures { OnOk result
         (IsOnce (created_command flat.now) command_cmp created.old.items created.new.items) }

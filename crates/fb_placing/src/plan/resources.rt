@@ -1,4 +1,4 @@
-//! The resources of a system, and plans of these in plain.
+//! The resources of a system, and plans of these as plain values.
 ghost use Rattle.std.specs.Prelude.{◌≡◌, ◌++◌, map, IfOk, OnOk};
 ghost use Rattle.fb_tree.specs.Tree.{device_tree, resource_tree};
 ghost use Rattle.fb_library.specs.View.{tree_at};

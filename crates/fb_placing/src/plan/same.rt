@@ -17,7 +17,7 @@ pub(crate) struct Subject<'a> {
     pub writes: &'a [Command],
 }
 
-/// The order of the paths at which two links begin, each of a flat network of its own.
+/// The order of the paths at which two links begin, each of its own flat network.
 fn compare_froms(flat: &Flat, a: u32, other: &Flat, b: u32) -> Ordering
     ensures { result
         ≡ name_cmp (link_numbered flat.now a).from (link_numbered other.now b).from }
@@ -27,7 +27,7 @@ fn compare_froms(flat: &Flat, a: u32, other: &Flat, b: u32) -> Ordering
     compare_parts(start, end, other_start, other_end)
 }
 
-/// The order of the paths at which two links end, each of a flat network of its own.
+/// The order of the paths at which two links end, each of its own flat network.
 fn compare_tos(flat: &Flat, a: u32, other: &Flat, b: u32) -> Ordering
     ensures { result ≡ name_cmp (link_numbered flat.now a).to (link_numbered other.now b).to }
 {
@@ -36,7 +36,7 @@ fn compare_tos(flat: &Flat, a: u32, other: &Flat, b: u32) -> Ordering
     compare_parts(start, end, other_start, other_end)
 }
 
-/// The order of two links, each of a flat network of its own.
+/// The order of two links, each of its own flat network.
 fn compare_links(flat: &Flat, a: u32, other: &Flat, b: u32) -> Ordering
     ensures { result ≡ link_cmp (link_numbered flat.now a) (link_numbered other.now b) }
 {
@@ -45,14 +45,14 @@ fn compare_links(flat: &Flat, a: u32, other: &Flat, b: u32) -> Ordering
     froms.then_with(|| compare_tos(flat, a, other, b))
 }
 
-/// The same link, each of a flat network of its own.
+/// Whether both are the same link, each of its own flat network.
 fn is_same_link(flat: &Flat, a: u32, other: &Flat, b: u32) -> bool
     ensures { IsTrue result ↔ (link_numbered flat.now a ≡ link_numbered other.now b) }
 {
     compare_links(flat, a, other, b).is_eq()
 }
 
-/// The same links, each list of a flat network of its own.
+/// Whether both lists have the same links, each list of its own flat network.
 pub(crate) fn are_same_links(flat: &Flat, a: &[u32], other: &Flat, b: &[u32]) -> bool
     ensures { IsTrue result
         ↔ (map (link_numbered flat.now) a.now ≡ map (link_numbered other.now) b.now) }
@@ -68,7 +68,7 @@ pub(crate) fn are_same_links(flat: &Flat, a: &[u32], other: &Flat, b: &[u32]) ->
     true
 }
 
-/// The same command of a resource.
+/// Whether both are the same command of a resource.
 fn is_same_command(
     it: &Subject<'_>,
     name: &Path,
@@ -86,7 +86,7 @@ fn is_same_command(
     is_same_text(&a, &b)
 }
 
-/// The same commands of a resource.
+/// Whether both lists have the same commands of a resource.
 fn are_same_commands(
     it: &Subject<'_>,
     name: &Path,
@@ -110,7 +110,7 @@ fn are_same_commands(
     true
 }
 
-/// The same resource with the same commands.
+/// Whether both are the same resource with the same commands.
 fn is_same_resource(
     it: &Subject<'_>,
     a: &ResourceCommands,
@@ -124,7 +124,7 @@ fn is_same_resource(
     a.name == b.name && are_same_commands(it, &a.name, &a.items, other, &b.name, &b.items)
 }
 
-/// The same resources with the same commands.
+/// Whether both lists have the same resources with the same commands.
 pub(crate) fn are_same_resources(
     it: &Subject<'_>,
     a: &[ResourceCommands],

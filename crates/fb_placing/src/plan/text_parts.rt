@@ -61,14 +61,14 @@ fn are_same_bytes(a: &[&str], b: &[&str]) -> bool
     true
 }
 
-/// Whether both make the same text, wherever it is parted. It takes no memory.
+/// Whether both make the same text, wherever it is divided. It takes no memory.
 pub(crate) fn is_same_text(a: &[&str], b: &[&str]) -> bool
     ensures { IsTrue result ↔ (joined a.now ≡ joined b.now) }
 {
     are_same_parts(a, b) || are_same_bytes(a, b)
 }
 
-/// Puts a text of two parts in the place of another one.
+/// Replaces a text by one of two parts.
 pub(crate) fn write_both(text: &mut String, start: &str, end: &str) -> Result<(), AllocError>
     ensures { OnOk result (string_bytes text.new ≡ start.now ++ end.now) }
 {
