@@ -53,11 +53,7 @@ fn secret_at<E: Write>(
 }
 
 /// Listens on the port of 127.0.0.1. If it can't, this says why, and gives the status of the program.
-fn listener_on<E: Write>(
-    rt: &HostRuntime,
-    port: u16,
-    errors: &mut E,
-) -> Result<TcpListener, u8> {
+fn listener_on<E: Write>(rt: &HostRuntime, port: u16, errors: &mut E) -> Result<TcpListener, u8> {
     match TcpListener::bind(rt, ("127.0.0.1", port)) {
         Ok(listener) => Ok(listener),
         Err(error) => Err(refuse_port(port, &error, errors)),

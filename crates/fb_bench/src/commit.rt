@@ -107,7 +107,10 @@ pub(crate) fn refusal(library: &Library, changes: &[Change]) -> Option<Committed
 pub(crate) enum Outcome {
     Refused(Committed),
     /// The texts after the commit, and what else it changes.
-    Done { library: Library, found: CommitEffects },
+    Done {
+        library: Library,
+        found: CommitEffects,
+    },
 }
 
 /// The result of the changes; `number` is that of the commit, if it is done.

@@ -13,7 +13,9 @@ use crate::units::{Composed, flat_of_unit, instances_of_unit};
 use fb_types::library::{View, far};
 use fb_types::plain::INSTANCE_LIMIT;
 use fb_types::text::Name;
-use fb_types::{Hints, KnownFaultless, Net, Uncached, all_inner_first, inner_first, networks_of, recursive};
+use fb_types::{
+    Hints, KnownFaultless, Net, Uncached, all_inner_first, inner_first, networks_of, recursive,
+};
 use std::alloc::{AllocError, Global};
 
 /// The net of a unit, and nets of other units that were composed on the way.

@@ -19,7 +19,7 @@ pub use clean_laws::{
 pub use computing::{Computed, compute};
 pub use far::all_far;
 pub use fb_types::{
-    Hints, KnownFaultless, Net, HintsOnly, NoHints, has_net, has_same_interface, is_of_system,
+    Hints, HintsOnly, KnownFaultless, Net, NoHints, has_net, has_same_interface, is_of_system,
     is_subapplication,
 };
 pub use inner::Inner;

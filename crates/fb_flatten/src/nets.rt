@@ -8,7 +8,7 @@ ghost use Rattle.fb_flatten.specs.{Hints.{AreRightHints}, Net.{IsNet, plain_net}
 use crate::computing::{Computed, compute};
 use fb_types::library::View;
 use fb_types::text::Name;
-use fb_types::{Hints, Net, HintsOnly, NoHints};
+use fb_types::{Hints, HintsOnly, Net, NoHints};
 use std::alloc::{AllocError, Global};
 
 /// The flat network of a subapplication or a system, or the first reason why it has none: units that it rests on have faults, or an absent one is a

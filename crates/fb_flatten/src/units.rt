@@ -9,7 +9,7 @@ use fb_types::library::{View, tree_by_name};
 use fb_types::plain::Flat;
 use fb_types::text::Name;
 use fb_types::{
-    Counts, Hints, CachedFlats, Table, applications, count_of_unit, flat_of_applications,
+    CachedFlats, Counts, Hints, Table, applications, count_of_unit, flat_of_applications,
     flat_of_type, is_of_system,
 };
 use std::alloc::{AllocError, Global};

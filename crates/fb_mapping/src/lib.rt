@@ -48,7 +48,7 @@ pub mod placing {
 /// Of `fb_flatten`, for the crates above.
 pub mod flatten {
     pub use fb_flatten::{
-        Computed, Hints, Inner, KnownFaultless, Net, HintsOnly, NoHints, all_far, compute, has_net,
+        Computed, Hints, HintsOnly, Inner, KnownFaultless, Net, NoHints, all_far, compute, has_net,
         has_same_interface, is_subapplication, net_with,
     };
 }

@@ -3,7 +3,7 @@ ghost use Rattle.std.specs.{Prelude.{◌≡◌, true, is_some, IfOk, OnOk}, BTre
 ghost use Rattle.fb_tree.specs.Text.Order.{name_cmp};
 ghost use Rattle.fb_types.specs.Tables.{IsAdded, IsComposed, SameOthers, is_missing, known_flats};
 
-use crate::hints::{Hints, CachedFlats, is_known_whole};
+use crate::hints::{CachedFlats, Hints, is_known_whole};
 use crate::kinds::is_subapplication;
 use crate::tables::Table;
 use fb_iface::library::View;

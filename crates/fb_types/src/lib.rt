@@ -2,7 +2,6 @@
 //! of: counts of instances, stored nets, flat networks of types and applications.
 #![tactic(auto)]
 
-mod interface_reuse;
 mod composed;
 mod counts;
 mod cycles;
@@ -10,6 +9,7 @@ mod flats;
 mod graph;
 mod hints;
 mod holders;
+mod interface_reuse;
 mod kinds;
 mod laws;
 mod loops;
@@ -17,16 +17,16 @@ mod nets;
 mod networks;
 mod order_laws;
 mod ports;
-mod uncached;
 mod search;
 mod systems;
 mod tables;
+mod uncached;
 
 pub use alike::has_same_interface;
 pub use composed::flat_of_applications;
 pub use counts::{Counts, add_count, count_of_unit};
 pub use flats::{add_flat, flat_of_type, is_missing};
-pub use hints::{Hints, KnownFaultless, CachedFlats, HintsOnly, NoHints, is_known_whole};
+pub use hints::{CachedFlats, Hints, HintsOnly, KnownFaultless, NoHints, is_known_whole};
 pub use holders::Holders;
 pub use kinds::{has_net, is_of_system, is_subapplication};
 pub use laws::networks_are_local;
@@ -34,10 +34,10 @@ pub use loops::recursive;
 pub use nets::Net;
 pub use networks::network;
 pub use order_laws::{ordered_is_not_recursive, recursion_is_local};
-pub use uncached::Uncached;
 pub use search::{all_inner_first, inner_first};
 pub use systems::{Application, applications};
 pub use tables::{Table, networks_of};
+pub use uncached::Uncached;
 
 /// Of `fb_text`, for the crates above.
 pub mod text {

@@ -1,6 +1,6 @@
 //! The nets of units.
 use crate::told::{between, library_of, name_net_told, names_told, net_told, put, unit_net_told};
-use fb_flatten::{Inner, HintsOnly, NoHints, all_far, compute, has_net};
+use fb_flatten::{HintsOnly, Inner, NoHints, all_far, compute, has_net};
 use fb_library::{Change, Library};
 use fb_tree::text::Name;
 use std::alloc::Global;
