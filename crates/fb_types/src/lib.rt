@@ -22,12 +22,12 @@ mod systems;
 mod tables;
 mod uncached;
 
-pub use alike::has_same_interface;
 pub use composed::flat_of_applications;
 pub use counts::{Counts, add_count, count_of_unit};
 pub use flats::{add_flat, flat_of_type, is_missing};
 pub use hints::{CachedFlats, Hints, HintsOnly, KnownFaultless, NoHints, is_known_whole};
 pub use holders::Holders;
+pub use interface_reuse::has_same_interface;
 pub use kinds::{has_net, is_of_system, is_subapplication};
 pub use laws::networks_are_local;
 pub use loops::recursive;

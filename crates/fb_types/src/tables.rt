@@ -1,7 +1,7 @@
 //! Networks of types.
 ghost use Rattle.std.specs.{Prelude.{IfOk, OnOk}, BTreeMap.{get}};
 ghost use Rattle.fb_tree.specs.Text.Order.{name_cmp};
-ghost use Rattle.fb_types.specs.Tables.{Grows, Has, HasAdapter, HasAdapters, HasType, IsTable, IsTrue};
+ghost use Rattle.fb_types.specs.Tables.{Grows, Has, HasAdapter, HasAdapters, HasType, IsTable, IsDeclaredIn};
 
 use crate::networks::network;
 use fb_iface::library::{View, tree_by_name};
@@ -20,7 +20,7 @@ fn add_adapter<V: View>(
     table: &mut Table,
     name: &Name,
 ) -> Result<(), AllocError>
-    requires { IsTrue (V.sources view.now) (get name_cmp table.old) }
+    requires { IsDeclaredIn (V.sources view.now) (get name_cmp table.old) }
     ensures grows { OnOk result
         (Grows (V.sources view.now) (get name_cmp table.old) (get name_cmp table.new)) }
     ensures has { OnOk result (Has (V.sources view.now) (get name_cmp table.new) name.now) }
@@ -42,7 +42,7 @@ fn add_adapter_of<V: View>(
     table: &mut Table,
     port: &Port,
 ) -> Result<(), AllocError>
-    requires { IsTrue (V.sources view.now) (get name_cmp table.old) }
+    requires { IsDeclaredIn (V.sources view.now) (get name_cmp table.old) }
     ensures grows { OnOk result
         (Grows (V.sources view.now) (get name_cmp table.old) (get name_cmp table.new)) }
     ensures has { OnOk result
@@ -61,7 +61,7 @@ fn add_adapters<V: View>(
     table: &mut Table,
     ports: &[Port],
 ) -> Result<(), AllocError>
-    requires { IsTrue (V.sources view.now) (get name_cmp table.old) }
+    requires { IsDeclaredIn (V.sources view.now) (get name_cmp table.old) }
     ensures grows { OnOk result
         (Grows (V.sources view.now) (get name_cmp table.old) (get name_cmp table.new)) }
     ensures has { OnOk result
@@ -80,7 +80,7 @@ fn add_type<V: View>(
     table: &mut Table,
     name: &Name,
 ) -> Result<(), AllocError>
-    requires { IsTrue (V.sources view.now) (get name_cmp table.old) }
+    requires { IsDeclaredIn (V.sources view.now) (get name_cmp table.old) }
     ensures grows { OnOk result
         (Grows (V.sources view.now) (get name_cmp table.old) (get name_cmp table.new)) }
     ensures has { OnOk result (HasType (V.sources view.now) (get name_cmp table.new) name.now) }

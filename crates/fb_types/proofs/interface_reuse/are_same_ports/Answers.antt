@@ -1,6 +1,6 @@
 -- One item more is the same.
 use Rattle.std.proofs.{Common.{sym, ◌∙◌, arith}, lemmas.List.{get_or_default, take_more_same}}
-use Rattle.fb_types.proofs.alike.are_same_ports.Goals as goal
+use Rattle.fb_types.proofs.interface_reuse.are_same_ports.Goals as goal
 
 pub loop-place-preserved : goal.loop-place-preserved
 loop-place-preserved c = take_more_same c.args.a.now c.args.b.now c.loop-place.place c.index-a-place.result (omega arith) (omega arith) c.loop-place.invariant

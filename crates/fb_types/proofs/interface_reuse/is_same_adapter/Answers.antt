@@ -1,7 +1,7 @@
 -- Names that are told to be the same are one name.
 use Rattle.std.proofs.Common.{Some, sym, ap, ◌∙◌}
 use Rattle.fb_network.proofs.Equals.{same_bytes}
-use Rattle.fb_types.proofs.alike.is_same_adapter.Goals as goal
+use Rattle.fb_types.proofs.interface_reuse.is_same_adapter.Goals as goal
 
 pub returns-in-Some-Some : goal.returns-in-Some-Some
 returns-in-Some-Some c told =

@@ -3,7 +3,7 @@ use Rattle.std.proofs.Common.{◌≡◌, true, refl, sym, ◌∙◌}
 use Rattle.fb_tree.specs.{declared.interface.Side.{Side}, declared.interface.Side.TheVariants.{Input, Output}}
 use Rattle.fb_iface.specs.Ports.{same_side}
 use Rattle.fb_network.proofs.Equals.{same_bytes, same_sorts}
-use Rattle.fb_types.proofs.alike.is_same_port.Goals as goal
+use Rattle.fb_types.proofs.interface_reuse.is_same_port.Goals as goal
 
 one_side : (a b : Side) → same_side a b ≡ true → a ≡ b
 one_side Input Input e = refl
