@@ -1,7 +1,8 @@
 -- Parts that are cut out of their text.
-use Rattle.fb_laws.proofs.Common.{◌≡◌, ℕ, ◌+◌, ◌-◌, ◌≤◌, List, [], ◌∷◌, ◌++◌, length, take, drop, map, refl, sym, ap, ap₂, ◌∙◌, subst, arith, Ok, slice_range, drop-drop, drop-take, take-take, All-weaker, tokens_of, Token, lexeme_of, lexemes_in, lexemes_of, Lexeme, Part, tree_parts, part_span, BeginsAt, EndsAt, IsWritten, nearer, ReadsAlone, PartsReadAlone}
+use Rattle.fb_laws.proofs.Common.{◌≡◌, ℕ, ◌+◌, ◌-◌, ◌≤◌, List, [], ◌∷◌, ◌++◌, length, take, drop, map, refl, sym, ap, ap₂, ◌∙◌, subst, arith, Ok, slice_range, drop-drop, drop-take, take-take, take-append-drop, take-append_seam, All-weaker, tokens_of, Token, lexeme_of, lexemes_in, lexemes_of, Lexeme, Part, tree_parts, part_span, BeginsAt, EndsAt, IsWritten, nearer, ReadsAlone, PartsReadAlone}
 use Rattle.fb_laws.proofs.{Cutting.{Rising, LastEnds, last_rises, nearer_token, rising_inside, tokens_alone}, Reading.{tokens_are}}
 use Rattle.fb_laws.proofs.Standing.{covers_lies, part_covers, tree_stands}
+use Rattle.std.proofs.{Math.Seq.{drop-append_seam}, lemmas.List.{drop-map, take-map}}
 
 -- a part of a part of a text
 part_of_part : (text : List ℕ) (s e a b : ℕ) → s ≤ a → a ≤ b → b ≤ e → slice_range (slice_range text s e) (a - s) (b - s) ≡ slice_range text a b
@@ -18,26 +19,7 @@ lexeme_alone text s e t sa ab be = grind (arith, part_of_part)
 
 lexemes_alone : (text : List ℕ) (s e from : ℕ) (ts : List Token) → s ≤ from → Rising from ts → LastEnds from ts e → map (lexeme_of (slice_range text s e)) (map (nearer_token s) ts) ≡ map (nearer s) (map (lexeme_of text) ts)
 lexemes_alone text s e from [] sa rise last = refl
-lexemes_alone text s e from (t ∷ ts) sa rise last =
-    let later = last_rises t.span.end ts e rise.2 last in
-    ap₂ (λ (l : Lexeme) (ls : List Lexeme). l ∷ ls) (lexeme_alone text s e t (omega (arith, sa, rise.0)) (omega (arith, rise.1)) later) (lexemes_alone text s e t.span.end ts (omega (arith, sa, rise.0, rise.1)) rise.2 last)
-
--- the tokens of parts of a list of lexemes
-record Halves (text : List ℕ) (tokens : List Token) (us vs : List Lexeme) : Type 0 where
-  pub prefix : List Token
-  pub rest : List Token
-  pub whole : tokens ≡ prefix ++ rest
-  pub prefix_is : map (lexeme_of text) prefix ≡ us
-  pub rest_is : map (lexeme_of text) rest ≡ vs
-
-halves : (text : List ℕ) (tokens : List Token) (us vs : List Lexeme) → map (lexeme_of text) tokens ≡ us ++ vs → Halves text tokens us vs
-halves text tokens [] vs e = record { prefix = []; rest = tokens; whole = refl; prefix_is = refl; rest_is = e }
-halves text [] (u ∷ us) vs e = cc
-halves text (t ∷ ts) (u ∷ us) vs e =
-    let head : lexeme_of text t ≡ u = cc in
-    let tail : map (lexeme_of text) ts ≡ us ++ vs = cc in
-    let h = halves text ts us vs tail in
-    record { prefix = t ∷ h.prefix; rest = h.rest; whole = ap (λ z. t ∷ z) h.whole; prefix_is = ap₂ (λ (l : Lexeme) (ls : List Lexeme). l ∷ ls) head h.prefix_is; rest_is = h.rest_is }
+lexemes_alone text s e from (t ∷ ts) sa rise last = grind (arith, last_rises, lexeme_alone, lexemes_alone text s e t.span.end ts)
 
 last_ends : (text : List ℕ) (from : ℕ) (t : Token) (ts : List Token) (end : ℕ) → EndsAt (map (lexeme_of text) (t ∷ ts)) end → LastEnds from (t ∷ ts) end
 unfolding lexeme_of
@@ -71,9 +53,12 @@ module _ (text : List ℕ) (tokens : List Token) (are : tokens_of text ≡ Ok to
 
   part_alone : IsWritten (map (lexeme_of text) tokens) p → (part_span p).end ≤ length text → ReadsAlone text p
   part_alone h within =
-      let first = halves text tokens h.before (h.inside ++ h.behind) h.parts in
-      let second = halves text first.rest h.inside h.behind first.rest_is in
-      let whole : tokens ≡ first.prefix ++ (second.prefix ++ second.rest) = first.whole ∙ ap (λ z. first.prefix ++ z) second.whole in
+      let before = take (length h.before) tokens in
+      let rest = drop (length h.before) tokens in
+      let inside = take (length h.inside) rest in
+      let whole = sym (ap (λ (z : List Token). before ++ z) (take-append-drop (length h.inside) rest) ∙ take-append-drop (length h.before) tokens) in
+      let rest_is = sym (drop-map (lexeme_of text) (length h.before) tokens) ∙ ap (drop (length h.before)) h.parts ∙ drop-append_seam h.before (h.inside ++ h.behind) in
+      let inside_is = sym (take-map (lexeme_of text) (length h.inside) rest) ∙ ap (take (length h.inside)) rest_is ∙ take-append_seam h.inside h.behind in
       grind (arith, alone_by)
 
 pub parts_read_alone : PartsReadAlone

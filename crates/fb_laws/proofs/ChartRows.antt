@@ -23,10 +23,7 @@ unlisted_names : {A : Type 0} (name_of : A → NameUse) (items : List A) (q : Li
 unlisted_names name_of items q fails a c = not_named (map name_of items) q fails (name_of a) (contains_map name_of items a c)
 
 none_listed : {A : Type 0} (name_of : A → NameUse) (items : List A) (q : List ℕ) → ((a : A) → Contains items a → (name_of a).name ≢ q) → has_name (map name_of items) q ≡ false
-none_listed name_of items q fails =
-    none_named (map name_of items) q
-    (λ n c. let o = origin_in_map name_of items n c in
-    subst (λ (m : NameUse). m.name ≢ q) o.gives (fails o.origin o.among))
+none_listed name_of items q fails = none_named (map name_of items) q (λ n c. let o = origin_in_map name_of items n c in rw (← o.gives) (fails o.origin o.among))
 
 -- actions
 
@@ -46,17 +43,7 @@ action_origin f chart fault c =
 action_reported : (f : Action → List Fault) (chart : ChartTree) (s : StateTree) (a : Action) (fault : Fault) → Contains chart.states s → Contains s.actions a → Contains (f a) fault → Contains (flat_map (λ s. flat_map f s.actions) chart.states) fault
 action_reported f chart s a fault listed written has = contains_flat_map (λ (s : StateTree). flat_map f s.actions) chart.states s fault listed (contains_flat_map f s.actions a fault written has)
 
--- events
-
--- which target it is
-
-abbrev is_found : EventTarget → Bool
-is_found Found = true
-is_found o = false
-
-abbrev is_unknown : EventTarget → Bool
-is_unknown Unknown = true
-is_unknown o = false
+-- events: which target it is
 
 stands_for_event : (side : Side) (ports : Meanings) (name : List ℕ) → event_among side ports name ≡ Found → StandsForEvent ports name side
 stands_for_event side ports name e = grind (arith, same_sides)
@@ -82,41 +69,28 @@ module _ (sources : Sources) (d : TypeTree) (side : Side) where
   IsUnjudged = IsNotJudged sources own IsAdapter
 
   -- what a port of a plug or socket is, by its adapter
-  behind : (p X : NameUse) (i : DeclaredInstance) (role : Role) (ports : Option Meanings) → stands_for own.instances p.name ≡ Some i → i.role ≡ role → usable i.role (tree_at sources i.type_name.name) ≡ ports → event_named scope side p (Some X) ≡ option_map_or (event_of_adapter ports X.name) (side_through role side) Unknown
-  behind p X i role ports is r u =
-      let g = own_type sources d p.name i is ∙ u in
-      ap (λ o. event_behind scope side o X.name) is
-      ∙ (λ k. option_map_or (event_of_adapter (g k) X.name) (side_through (r k) side) Unknown)
+  at_adapter : (p X : NameUse) (i : DeclaredInstance) → stands_for own.instances p.name ≡ Some i → event_named scope side p (Some X) ≡ option_map_or (event_of_adapter (usable i.role (tree_at sources i.type_name.name)) X.name) (side_through i.role side) Unknown
+  at_adapter p X i is = ap (λ o. event_behind scope side o X.name) is ∙ ap (λ k. option_map_or (event_of_adapter k X.name) (side_through i.role side) Unknown) (own_type sources d p.name i is)
 
   found_behind : (p X : NameUse) → event_named scope side p (Some X) ≡ Found → IsEvent p (Some X)
   found_behind p X e =
-      (elim (stands_for own.instances p.name) as (λ o. stands_for own.instances p.name ≡ o → event_behind scope side o X.name ≡ Found → IsEvent p (Some X)) [ None ↦ λ g h. absurd (true≢false (sym (ap is_found h))) | Some i ↦ λ g h. by_role i g i.role refl h ]) refl e
+      (elim (stands_for own.instances p.name) as (λ o. stands_for own.instances p.name ≡ o → event_behind scope side o X.name ≡ Found → IsEvent p (Some X)) [ None ↦ λ g h. absurd (cc) | Some i ↦ λ g h. by_role i g i.role refl (instance_ports scope i) (sym (own_type sources d p.name i g)) h ]) refl e
     where
-      through_plug : (i : DeclaredInstance) → stands_for own.instances p.name ≡ Some i → i.role ≡ Plug → (ports : Option Meanings) → usable i.role (tree_at sources i.type_name.name) ≡ ports → event_of_adapter ports X.name side ≡ Found → IsEvent p (Some X)
-      through_plug i is plug None g h = absurd (true≢false (sym (ap is_found h)))
-      through_plug i is plug (Some ports) g h = of_plug i ports is plug (known_type sources i.type_name.name i.role ports g) (stands_for_event side ports X.name h)
-
-      through_socket : (i : DeclaredInstance) → stands_for own.instances p.name ≡ Some i → i.role ≡ Socket → (ports : Option Meanings) → usable i.role (tree_at sources i.type_name.name) ≡ ports → event_of_adapter ports X.name (opposite side) ≡ Found → IsEvent p (Some X)
-      through_socket i is socket None g h = absurd (true≢false (sym (ap is_found h)))
-      through_socket i is socket (Some ports) g h = of_socket i ports is socket (known_type sources i.type_name.name i.role ports g) (stands_for_event (opposite side) ports X.name h)
-
-      by_role : (i : DeclaredInstance) → stands_for own.instances p.name ≡ Some i → (role : Role) → i.role ≡ role → option_map_or (event_of_adapter (instance_ports scope i) X.name) (side_through role side) Unknown ≡ Found → IsEvent p (Some X)
-      by_role i is Plug r h = through_plug i is r (instance_ports scope i) (sym (own_type sources d p.name i is)) h
-      by_role i is Socket r h = through_socket i is r (instance_ports scope i) (sym (own_type sources d p.name i is)) h
-      by_role i is o r h = absurd (true≢false (sym (ap is_found h)))
+      by_role : (i : DeclaredInstance) → stands_for own.instances p.name ≡ Some i → (role : Role) → i.role ≡ role → (ports : Option Meanings) → usable i.role (tree_at sources i.type_name.name) ≡ ports → option_map_or (event_of_adapter ports X.name) (side_through role side) Unknown ≡ Found → IsEvent p (Some X)
+      by_role i is Plug r (Some ports) u h = of_plug i ports is r (known_type sources i.type_name.name i.role ports u) (stands_for_event side ports X.name h)
+      by_role i is Socket r (Some ports) u h = of_socket i ports is r (known_type sources i.type_name.name i.role ports u) (stands_for_event (opposite side) ports X.name h)
+      by_role i is role r ports u h = absurd (cc)
 
   not_judged_behind : (p X : NameUse) → event_named scope side p (Some X) ≡ NotChecked → IsUnjudged p (Some X)
   not_judged_behind p X e =
-      (elim (stands_for own.instances p.name) as (λ o. stands_for own.instances p.name ≡ o → event_behind scope side o X.name ≡ NotChecked → IsUnjudged p (Some X)) [ None ↦ λ g h. absurd (true≢false (ap is_unknown h)) | Some i ↦ λ g h. by_role i g i.role refl h ]) refl e
+      (elim (stands_for own.instances p.name) as (λ o. stands_for own.instances p.name ≡ o → event_behind scope side o X.name ≡ NotChecked → IsUnjudged p (Some X)) [ None ↦ λ g h. absurd (cc) | Some i ↦ λ g h. by_role i g i.role refl (instance_ports scope i) (sym (own_type sources d p.name i g)) h ]) refl e
     where
-      at_adapter : (i : DeclaredInstance) → stands_for own.instances p.name ≡ Some i → IsAdapter i → (wanted : Side) (ports : Option Meanings) → usable i.role (tree_at sources i.type_name.name) ≡ ports → event_of_adapter ports X.name wanted ≡ NotChecked → IsUnjudged p (Some X)
-      at_adapter i is adapter wanted None g h = of_unusable i is adapter (no_type sources i.type_name.name i.role g)
-      at_adapter i is adapter wanted (Some ports) g h = absurd (judged_among wanted ports X.name h)
-
-      by_role : (i : DeclaredInstance) → stands_for own.instances p.name ≡ Some i → (role : Role) → i.role ≡ role → option_map_or (event_of_adapter (instance_ports scope i) X.name) (side_through role side) Unknown ≡ NotChecked → IsUnjudged p (Some X)
-      by_role i is Plug r h = at_adapter i is (inl r) side (instance_ports scope i) (sym (own_type sources d p.name i is)) h
-      by_role i is Socket r h = at_adapter i is (inr r) (opposite side) (instance_ports scope i) (sym (own_type sources d p.name i is)) h
-      by_role i is o r h = absurd (true≢false (ap is_unknown h))
+      by_role : (i : DeclaredInstance) → stands_for own.instances p.name ≡ Some i → (role : Role) → i.role ≡ role → (ports : Option Meanings) → usable i.role (tree_at sources i.type_name.name) ≡ ports → option_map_or (event_of_adapter ports X.name) (side_through role side) Unknown ≡ NotChecked → IsUnjudged p (Some X)
+      by_role i is Plug r None u h = of_unusable i is (inl r) (no_type sources i.type_name.name i.role u)
+      by_role i is Socket r None u h = of_unusable i is (inr r) (no_type sources i.type_name.name i.role u)
+      by_role i is Plug r (Some ports) u h = absurd (judged_among side ports X.name h)
+      by_role i is Socket r (Some ports) u h = absurd (judged_among (opposite side) ports X.name h)
+      by_role i is role r ports u h = absurd (cc)
 
   event_found : (name : NameUse) (port : Option NameUse) → event_named scope side name port ≡ Found → IsEvent name port
   event_found name port e = grind (arith, own_event, stands_for_event, found_behind)
@@ -124,16 +98,8 @@ module _ (sources : Sources) (d : TypeTree) (side : Side) where
   not_judged : (name : NameUse) (port : Option NameUse) → event_named scope side name port ≡ NotChecked → IsUnjudged name port
   not_judged name port e = grind (arith, judged_among, not_judged_behind)
 
-  told_found : (name : NameUse) (port : Option NameUse) → IsEvent name port → event_named scope side name port ≡ Found
-  told_found name None (own_event s) = event_stands side own name.name s
-  told_found p (Some X) (of_plug i ports is plug u s) = behind p X i Plug (Some ports) is plug (told_type sources i.type_name.name i.role ports u) ∙ event_stands side ports X.name s
-  told_found p (Some X) (of_socket i ports is socket u s) = behind p X i Socket (Some ports) is socket (told_type sources i.type_name.name i.role ports u) ∙ event_stands (opposite side) ports X.name s
-
-  told_not_judged : (name : NameUse) (port : Option NameUse) → IsUnjudged name port → event_named scope side name port ≡ NotChecked
-  told_not_judged name port none = grind (arith, of_unusable, type_missing)
-
   unknown_event : (event : End) → event_named scope side event.name event.port ≡ Unknown → IsNoEventOf sources own side event
-  unknown_event event e = grind (arith, told_found, told_not_judged)
+  unknown_event event e = grind (arith, at_adapter, told_type, event_stands, type_missing)
 
   no_event : (event : End) → IsNoEventOf sources own side event → event_named scope side event.name event.port ≡ Unknown
   no_event event fails = grind (arith, event_found, not_judged)
@@ -183,29 +149,24 @@ module _ (sources : Sources) (unit : List ℕ) where
     state_found : (t : TransitionTree) → Contains d.chart.transitions t → (state : NameUse) → Contains (t.source ∷ t.destination ∷ []) state → (f : Fault) → Contains (state_fault listed state) f → Finds f
     state_found t written state named f c =
         let fails = in_unless (listed state.name) (fault_at StateUnknown state) f c in
-        subst Finds fails.1
-        (record { block = d; declared = declared; transition = t; written = written; state = state; named = named; unlisted = unlisted_names (λ (s : StateTree). s.name) d.chart.states state.name fails.0; place = refl })
+        subst Finds fails.1 (search unlisted_names)
 
     states_found : (f : Fault) → Contains (state_faults d.chart) f → Finds f
     states_found f c =
         let t = origin_in_flat_map (transition_faults listed) d.chart.transitions f c in
-        let source = contains_here t.origin.source (t.origin.destination ∷ []) in
-        let destination = contains_later t.origin.source (t.origin.destination ∷ []) t.origin.destination (contains_here t.origin.destination []) in
-        of_either {P = Finds} _ _ (state_found t.origin t.among t.origin.source source) (state_found t.origin t.among t.origin.destination destination) f t.has
+        of_either {P = Finds} _ _ (state_found t.origin t.among t.origin.source (search contains_here)) (state_found t.origin t.among t.origin.destination (search (contains_here, contains_later))) f t.has
 
     triggers_found : (f : Fault) → Contains of_triggers f → Finds f
     triggers_found f c =
         let t = origin_in_flat_map (trigger_faults block_scope) d.chart.transitions f c in
         let o = event_origin sources d Input (event_in t.origin.condition) f t.has in
-        subst Finds o.is
-        (inl (record { block = d; declared = declared; transition = t.origin; written = t.among; event = o.event; trigger = o.is_written; unknown = o.unknown; place = refl }))
+        subst Finds o.is (inl search)
 
     sent_found : (f : Fault) → Contains (of_actions (sent_faults block_scope)) f → Finds f
     sent_found f c =
         let a = action_origin (sent_faults block_scope) d.chart f c in
         let o = event_origin sources d Output a.action.event f a.has in
-        subst Finds o.is
-        (inr (record { block = d; declared = declared; state = a.state; listed = a.listed; action = a.action; written = a.written; event = o.event; sent = o.is_written; unknown = o.unknown; place = refl }))
+        subst Finds o.is (inr search)
 
     algorithms_found : (f : Fault) → Contains (algorithm_faults d.chart) f → Finds f
     algorithms_found f c =
@@ -222,24 +183,20 @@ module _ (sources : Sources) (unit : List ℕ) where
     -- and the other way, a fault of the list at this place
     reported : {code : Code} {span there : Span} (place : ℕ) (list : List Fault) → slice_get (state_faults d.chart ∷ event_faults block_scope d.chart ∷ algorithm_faults d.chart ∷ []) place ≡ Some list → span ≡ there → Contains list (record { code = code; span = there }) → Contains (ecc_faults_of sources unit) (record { code = code; span = span })
     reported {code = code} {span = span} place list e at c =
-        let one = subst (λ (s : Span). Contains list (record { code = code; span = s })) (sym at) c in
         let others = event_faults block_scope d.chart ∷ algorithm_faults d.chart ∷ [] in
-        subst (λ (o : Option DeclTree). Contains (chart_faults_in sources o) (record { code = code; span = span })) (sym declared) (in_joined (state_faults d.chart) others place list (record { code = code; span = span }) e one)
+        rw declared (in_joined (state_faults d.chart) others place list (record { code = code; span = span }) e (rw at c))
 
   -- a fault says what its code means
   pub found : (f : Fault) → Contains (ecc_faults_of sources unit) f → Finds f
-  found f c =
-      (elim (tree_at sources unit) as (λ o. tree_at sources unit ≡ o → Contains (chart_faults_in sources o) f → Finds f) [ Some (block_type d) ↦ λ e h. chart_found d e f h | o ↦ λ e h. absurd (contains_nothing f h) ]) refl c
+  found f c = grind (arith, chart_found, contains_nothing)
 
 pub states_listed : StatesAreListed
 states_listed sources unit span =
     iff (found sources unit _)
     (λ h. let names : List ℕ → Bool = has_name (state_names h.block.chart) in
-    let fault = fault_at StateUnknown h.state in
-    let one = unless (names h.state.name) fault (none_listed (λ (s : StateTree). s.name) h.block.chart.states h.state.name h.unlisted) in
-    let both = contains_flat_map (state_fault names) (h.transition.source ∷ h.transition.destination ∷ []) h.state fault h.named one in
-    let whole = subst (λ (l : List Fault). Contains (state_fault names h.transition.source ++ l) fault) (append-nil (state_fault names h.transition.destination)) both in
-    reported sources unit h.block h.declared 0 (state_faults h.block.chart) refl h.place (contains_flat_map (transition_faults names) h.block.chart.transitions h.transition fault h.written whole))
+    let one = unless (names h.state.name) (fault_at StateUnknown h.state) (none_listed (λ (s : StateTree). s.name) h.block.chart.states h.state.name h.unlisted) in
+    let both = contains_flat_map (state_fault names) (h.transition.source ∷ h.transition.destination ∷ []) h.state (fault_at StateUnknown h.state) h.named one in
+    reported sources unit h.block h.declared 0 (state_faults h.block.chart) refl h.place (contains_flat_map (transition_faults names) h.block.chart.transitions h.transition _ h.written (simp append-nil at both)))
 
 pub algorithms_declared : AlgorithmsAreDeclared
 algorithms_declared sources unit span =

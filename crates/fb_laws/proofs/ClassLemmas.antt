@@ -1,18 +1,12 @@
 -- The class of each expression, by the function of the check.
-use Rattle.fb_laws.proofs.Common.{◌≡◌, ◌≢◌, ℕ, Bool, true, false, true≢false, List, Option, Some, None, unwrap_or, refl, sym, ap, ◌∙◌, subst, ReferenceTree, Expression, literal_expression, reference_expression, unary_expression, row_expression, parentheses, Expressions, Operands, no_operands, operand_then, TypeTree, block_type, BinaryUse, UnaryUse, TypeForm, TypeUse, Sources, tree_at, Class, O, Free, change, pair_class, unary_class, class_in, row_class, Names, names_of_type, class_of_element, class_of_referent, class_with, referent_of, Referent, Variable, Unjudged, NoMember, Changes, HasClass, of_literal, of_variable, of_element, of_no_array, of_no_variable, of_operator, of_broken, of_row, of_parentheses, RowHasClass, IsPairIn, first_pair, later_pair, NamesType}
-use Rattle.fb_laws.proofs.{ExpressionLemmas.{IsPairOf, first_pair as first_of, later_pair as later_of}, ReferentLemmas.{names_type, told_type_of}}
-use Rattle.fb_laws.proofs.RuleLemmas.{Known, gives, fails, changes, no_change, none_change, results, told_change, told_results}
+use Rattle.fb_laws.proofs.Common.{arith, ◌≡◌, ◌≢◌, ℕ, Bool, true, false, List, Option, Some, unwrap_or, refl, sym, ap, ◌∙◌, ReferenceTree, Expression, literal_expression, reference_expression, unary_expression, row_expression, parentheses, Expressions, Operands, no_operands, operand_then, TypeTree, block_type, UnaryUse, TypeForm, TypeUse, Sources, tree_at, Class, O, Free, change, pair_class, unary_class, class_in, row_class, Names, names_of_type, class_of_element, class_of_referent, class_with, referent_of, Referent, Variable, Changes, HasClass, of_literal, of_variable, of_element, of_no_array, of_no_variable, of_operator, of_broken, of_row, of_parentheses, RowHasClass, NamesType}
+use Rattle.fb_laws.proofs.ReferentLemmas.{names_type, told_type_of}
+use Rattle.fb_laws.proofs.RuleLemmas.{Known, gives, fails, changes, missing, none_of, results, told_change, told_results}
 use Rattle.fb_tree.specs.declared.interface.TypeForm.TheVariants.{Plain, Sized, Array}
-use Rattle.fb_expr.specs.declared.references.Referent.TheVariants.{Unknown}
 use Rattle.fb_laws.specs.Classes.{at_end, behind}
 
-abbrev is_variable : Referent → Bool
-is_variable (Variable used subscripted) = true
-is_variable other = false
-
 no_array : (used : TypeUse) (form : TypeForm) → form ≢ Array → class_of_element form used.name.name ≡ O
-no_array used Array other = absurd (other refl)
-no_array used o other = refl
+no_array used form other = grind arith
 
 module _ (sources : Sources) (unit : List ℕ) (d : TypeTree) (declared : tree_at sources unit ≡ Some (block_type d)) where
   abbrev names : Names
@@ -23,24 +17,19 @@ module _ (sources : Sources) (unit : List ℕ) (d : TypeTree) (declared : tree_a
   of_type r subscripts used true n =
       (elim used.form as (λ form. used.form ≡ form → HasClass sources d (reference_expression r subscripts) (class_of_element form used.name.name)) [ Plain ↦ λ is. of_no_array used n (λ array. let both : Plain ≡ Array = sym is ∙ array in cc both) | Sized ↦ λ is. of_no_array used n (λ array. let both : Sized ≡ Array = sym is ∙ array in cc both) | Array ↦ λ is. of_element used n is ]) refl
 
-  names_nothing : (r : ReferenceTree) (t : Referent) → referent_of names r ≡ t → is_variable t ≡ false → (used : TypeUse) (subscripted : Bool) → ¬ NamesType sources d r used subscripted
-  names_nothing r t is other used subscripted n = true≢false (ap is_variable (sym (told_type_of sources unit d declared r used subscripted n) ∙ is) ∙ other)
-
   of_reference : (r : ReferenceTree) (subscripts : Expressions) → HasClass sources d (reference_expression r subscripts) (class_of_referent (referent_of names r))
   of_reference r subscripts = by_referent (referent_of names r) refl
     where
       by_referent : (t : Referent) → referent_of names r ≡ t → HasClass sources d (reference_expression r subscripts) (class_of_referent t)
       by_referent (Variable used subscripted) is = of_type r subscripts used subscripted (names_type sources unit d declared r used subscripted is)
-      by_referent Unjudged is = of_no_variable (names_nothing r Unjudged is refl)
-      by_referent Unknown is = of_no_variable (names_nothing r Unknown is refl)
-      by_referent (NoMember at) is = of_no_variable (names_nothing r (NoMember at) is refl)
+      by_referent t is = of_no_variable (λ used subscripted n. cc (told_type_of sources unit d declared r used subscripted n))
 
   of_unary : (used : UnaryUse) (x : Expression) (c : Class) → HasClass sources d x c → HasClass sources d (unary_expression used x) (unary_class used.operator c)
-  of_unary used x c has = by_case (change used.operator c) refl (changes used.operator c)
+  of_unary used x c has = by_case refl (changes used.operator c)
     where
-      by_case : (o : Option Class) → change used.operator c ≡ o → Known (Changes used.operator c) o → HasClass sources d (unary_expression used x) (unwrap_or o Free)
-      by_case (Some g) is (gives k) = of_operator c has k
-      by_case None is fails = of_broken c has (none_change used.operator c is)
+      by_case : {o : Option Class} → change used.operator c ≡ o → Known (Changes used.operator c) o → HasClass sources d (unary_expression used x) (unwrap_or o Free)
+      by_case is (gives k) = of_operator c has k
+      by_case is fails = of_broken c has (none_of (told_change used.operator c) is)
 
   mutual
     pub class_of : (e : Expression) → HasClass sources d e (class_in names e)
@@ -52,9 +41,7 @@ module _ (sources : Sources) (unit : List ℕ) (d : TypeTree) (declared : tree_a
 
     row_of : (left : Class) (operands : Operands) → RowHasClass sources d left operands (row_class names left operands)
     row_of left no_operands = at_end
-    row_of left (operand_then used x others) =
-        let after = pair_class used.operator left (class_in names x) in
-        behind (class_in names x) after (class_of x) (results used.operator left (class_in names x)) (row_of after others)
+    row_of left (operand_then used x others) = behind _ _ (class_of x) (results used.operator left (class_in names x)) (row_of _ others)
 
   -- and no other
 
@@ -73,7 +60,7 @@ module _ (sources : Sources) (unit : List ℕ) (d : TypeTree) (declared : tree_a
     told_class (reference_expression r subscripts) c (of_no_array used n other) = named_class r used true n ∙ no_array used used.form other
     told_class (reference_expression r subscripts) c (of_no_variable none) = free_of r none
     told_class (unary_expression used x) g (of_operator c has k) = ap (unary_class used.operator) (told_class x c has) ∙ ap (λ (o : Option Class). unwrap_or o Free) (told_change used.operator c g k)
-    told_class (unary_expression used x) g (of_broken c has none) = ap (unary_class used.operator) (told_class x c has) ∙ ap (λ (o : Option Class). unwrap_or o Free) (no_change used.operator c none)
+    told_class (unary_expression used x) g (of_broken c has none) = ap (unary_class used.operator) (told_class x c has) ∙ ap (λ (o : Option Class). unwrap_or o Free) (missing (changes used.operator c) none)
     told_class (row_expression x operands) g (of_row c has row) = ap (λ k. row_class names k operands) (told_class x c has) ∙ told_row c operands g row
     told_class (parentheses x span) c (of_parentheses has) = told_class x c has
 
@@ -83,19 +70,3 @@ module _ (sources : Sources) (unit : List ℕ) (d : TypeTree) (declared : tree_a
         ap (λ k. row_class names (pair_class used.operator left k) others) (told_class x c has)
         ∙ ap (λ k. row_class names k others) (told_results used.operator left c g gives_class)
         ∙ told_row g others h row
-
-  -- operators of rows, by what stands before them
-
-  pub pair_in : (used : BinaryUse) (before : Class) (x : Expression) (left : Class) (operands : Operands) → IsPairOf names used before x left operands → IsPairIn sources d used before x left operands
-  pair_in used before x left no_operands none = elim none [ ]
-  pair_in used before x left (operand_then first y others) first_of = first_pair
-  pair_in used before x left (operand_then first y others) (later_of is) =
-      let after = pair_class first.operator left (class_in names y) in
-      later_pair (class_in names y) after (class_of y) (results first.operator left (class_in names y)) (pair_in used before x after others is)
-
-  pub pair_of : (used : BinaryUse) (before : Class) (x : Expression) (left : Class) (operands : Operands) → IsPairIn sources d used before x left operands → IsPairOf names used before x left operands
-  pair_of used before x left no_operands none = elim none [ ]
-  pair_of used before x left (operand_then first y others) first_pair = first_of
-  pair_of used before x left (operand_then first y others) (later_pair c g has gives_class is) =
-      let same : pair_class first.operator left (class_in names y) ≡ g = ap (pair_class first.operator left) (told_class y c has) ∙ told_results first.operator left c g gives_class in
-      later_of (subst (λ k. IsPairOf names used before x k others) (sym same) (pair_of used before x g others is))

@@ -1,6 +1,8 @@
 -- The commands of a resource, part by part.
-use Rattle.fb_laws.proofs.Common.{arith, ℕ, ◌≡◌, Bool, true, false, cond, List, [], ◌∷◌, ◌++◌, Option, Some, None, refl, sym, ◌∙◌, ap, map, filter, option_map, cons_option, bytes_eq, map-append, filter-append, Link, same_home, nearest, connection_commands, connection_text, link_resource, commands_for, PlacedCommand, ResourceCommand}
+use Rattle.fb_laws.proofs.Common.{arith, ℕ, ◌≡◌, Bool, true, false, cond, List, [], ◌∷◌, ◌++◌, Option, Some, None, refl, sym, ◌∙◌, ap, map, filter, option_map, cons_option, bytes_eq, map-append, filter-append, IsStrictlySortedBy, IsStrictlySortedBy-filter, in_order-members, in_order-sorted, contains_filter, passes_in_filter, Link, same_home, nearest, connection_commands, connection_text, link_resource, command_cmp, command_cmp_total, commands_for, PlacedCommand, ResourceCommand, Contains}
 use Rattle.fb_laws.proofs.HomeLemmas.{bytes_same, same_bytes}
+use Rattle.fb_placing.proofs.PlacedLemmas.{command_cmp-IsAntisymmetric}
+use Rattle.fb_text.specs.Order.{in_order}
 
 -- ---- the parts of the commands for a resource
 
@@ -47,3 +49,18 @@ link_on homes l r e = by (nearest homes l.from) (nearest homes l.to) e
 
 pub on_link : (homes : List ℕ → Option (List ℕ)) (l : Link) (r : List ℕ) → nearest homes l.from ≡ Some r → nearest homes l.to ≡ Some r → link_resource homes l ≡ Some r
 on_link homes l r from to = (λ i. cond (same_home (from i) (to i)) (from i) None) ∙ ap (λ (t : Bool). cond t (Some r) None) (bytes_same r r refl)
+
+-- ---- lines in order that are for a resource
+
+module _ (r : List ℕ) (lines : List PlacedCommand) where
+  pub line_on : (line : PlacedCommand) → Contains (lines_on r (in_order command_cmp lines)) line → Contains lines line × (line.resource ≡ r)
+  line_on line c =
+      let kept = passes_in_filter (λ (l : PlacedCommand). bytes_eq r l.resource) (in_order command_cmp lines) line c in
+      ((in_order-members command_cmp command_cmp_total command_cmp-IsAntisymmetric lines line).0 kept.among, sym (same_bytes r line.resource kept.passes))
+
+  pub on_line : (line : PlacedCommand) → Contains lines line → line.resource ≡ r → Contains (lines_on r (in_order command_cmp lines)) line
+  on_line line c on =
+      contains_filter (λ (l : PlacedCommand). bytes_eq r l.resource) (in_order command_cmp lines) line ((in_order-members command_cmp command_cmp_total command_cmp-IsAntisymmetric lines line).1 c) (bytes_same r line.resource (sym on))
+
+  pub lines_sorted : IsStrictlySortedBy command_cmp (lines_on r (in_order command_cmp lines))
+  lines_sorted = IsStrictlySortedBy-filter command_cmp (λ (l : PlacedCommand). bytes_eq r l.resource) (in_order command_cmp lines) (in_order-sorted command_cmp command_cmp_total lines)

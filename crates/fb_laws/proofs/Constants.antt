@@ -53,18 +53,16 @@ module _ (bytes : ℕ) where
   moves_simple : Moves simple (nearer_simple bytes)
   unfolding simple name number
   moves_simple =
-      moves_either _ _ (nearer_simple bytes) (moves_as _ name nearer_name (nearer_simple bytes) (λ n. refl) (moves_as _ _ (nearer bytes) nearer_name (λ l. refl) (moves_one _)))
-      (moves_either _ _ (nearer_simple bytes) (moves_as _ _ (nearer bytes) (nearer_simple bytes) (λ l. refl) (moves_one other_literal_kinds))
-      (moves_as _ number nearer_literal (nearer_simple bytes) (λ l. refl)
-      (moves_as _ _ (λ v. (option_map (nearer bytes) v.0, nearer bytes v.1)) nearer_literal (λ v. nearer_number v.0 v.1)
-      (moves_both _ _ (option_map (nearer bytes)) (nearer bytes) (moves_option _ (nearer bytes) (moves_one _)) (moves_one _)))))
+      moves_either _ _ _ (moves_as _ name nearer_name _ (λ n. refl) (moves_as _ _ (nearer bytes) nearer_name (λ l. refl) (moves_one _)))
+      (moves_either _ _ _ (moves_as _ _ (nearer bytes) _ (λ l. refl) (moves_one other_literal_kinds))
+      (moves_as _ number nearer_literal _ (λ l. refl)
+      (moves_as _ _ (λ v. (option_map (nearer bytes) v.0, nearer bytes v.1)) _ (λ v. nearer_number v.0 v.1) (moves_both _ _ _ _ (moves_option _ _ (moves_one _)) (moves_one _)))))
 
   moves_list : Moves constant_list (nearer_constant bytes)
   unfolding constant_list
   moves_list =
-      moves_as in_brackets _ (λ v. (nearer bytes v.0, (map (nearer_simple bytes) v.1.0, nearer bytes v.1.1))) (nearer_constant bytes) (λ v. refl)
-      (moves_both _ _ (nearer bytes) (λ v. (map (nearer_simple bytes) v.0, nearer bytes v.1)) (moves_one _)
-      (moves_both (list simple) _ (map (nearer_simple bytes)) (nearer bytes) (moves_separated _ simple (nearer_simple bytes) moves_simple) (moves_one _)))
+      moves_as in_brackets _ (λ v. (nearer bytes v.0, (map (nearer_simple bytes) v.1.0, nearer bytes v.1.1))) _ (λ v. refl)
+      (moves_both _ _ _ _ (moves_one _) (moves_both (list simple) _ _ _ (moves_separated _ simple _ moves_simple) (moves_one _)))
 
   moves_constant : Moves constant (nearer_constant bytes)
   unfolding constant

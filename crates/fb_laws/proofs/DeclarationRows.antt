@@ -1,5 +1,5 @@
 -- Each code of declarations, by what its list of faults has.
-use Rattle.fb_laws.proofs.Common.{◌≡◌, ◌≢◌, ℕ, ◌+◌, Bool, true, false, not, ◌&&◌, List, [], ◌∷◌, take, Option, Some, None, refl, sym, ap, ◌∙◌, subst, true≢false, arith, Contains, enumerate_from, slice_get, option_map_or, false_from_ne_true, not_true, Span, NameUse, unit_kind_of, ConstantTree, DeclTree, InstanceTree, TypeTree, VariablesTree, block_type, adapter_type, subapplication_type, system_configuration, structure_type, one_value, value_list, value_span, Side, TypeForm, TypeUse, UnitKind, Role, Carries, carried_of, Sources, tree_at, type_in, Code, Duplicate, Literal, MixedKind, NameDiffers, StructRecursive, UnknownType, WithUnknown, WrongKind, Fault, DeclaredVariable, class_of_name, class_of_simple, class_of_type, is_free, takes, declaration_faults, declared_name, duplicate_faults, iface_faults_of, literal_faults_of, mixed_faults, name_faults, space_duplicates, variables_of, with_faults_of, fault_at, constant_faults, fits_alone, initial_faults, list_faults, literal_fault, has_name, is_same, stands_for, variables_in, DuplicatesAreReported, HasDuplicate, HasMixedKind, HasOtherName, HasSelfCarrying, HasUnknownType, HasUnknownWith, HasWrongKind, IsDeclaredAt, IsMisfit, MisfitsAreReported, MixedKindsAreReported, OtherNamesAreReported, RecursiveStructuresAreReported, UnknownTypesAreReported, Suits, UnknownWithsAreReported, WrongKindsAreReported, no_array, no_list, AreDeclaredIn, IsType, fields_of_structure, of_adapter, of_block, of_subapplication, variables_of_type, goes_with, spaces_of, instance_faults, instances_of, suits, type_fault, type_faults, contains_filter, contains_flat_map, contains_here, contains_map, contains_nothing, contains_single, origin_in_flat_map, origin_in_map, in_unless, in_written, passes_in_filter, unless, written, IsEarlier, earlier_name, in_places, same_exact, same_itself, carried_is_all, Contains-has, has-Contains, filter}
+use Rattle.fb_laws.proofs.Common.{◌≡◌, ◌≢◌, ℕ, Bool, true, false, not, cond, ◌&&◌, and_parts, List, [], ◌∷◌, Option, Some, None, refl, sym, ap, ◌∙◌, subst, true≢false, arith, Contains, enumerate_from, slice_get, option_map_or, false_from_ne_true, not_true, Span, NameUse, unit_kind_of, ConstantTree, DeclTree, InstanceTree, TypeTree, VariablesTree, block_type, adapter_type, subapplication_type, system_configuration, structure_type, one_value, value_list, value_span, Side, TypeForm, TypeUse, UnitKind, Role, Carries, carried_of, Sources, tree_at, type_in, Code, Duplicate, Literal, MixedKind, NameDiffers, StructRecursive, UnknownType, WithUnknown, WrongKind, Fault, DeclaredVariable, class_of_name, class_of_simple, class_of_type, is_free, takes, declaration_faults, declared_name, duplicate_faults, iface_faults_of, literal_faults_of, mixed_faults, name_faults, space_duplicates, variables_of, with_faults_of, fault_at, constant_faults, fits_alone, initial_faults, list_faults, literal_fault, is_same, stands_for, variables_in, DuplicatesAreReported, HasDuplicate, HasMixedKind, HasOtherName, HasSelfCarrying, HasUnknownType, HasUnknownWith, HasWrongKind, IsDeclaredAt, IsMisfit, MisfitsAreReported, MixedKindsAreReported, OtherNamesAreReported, RecursiveStructuresAreReported, UnknownTypesAreReported, Suits, UnknownWithsAreReported, WrongKindsAreReported, no_array, no_list, AreDeclaredIn, IsType, fields_of_structure, of_adapter, of_block, of_subapplication, variables_of_type, goes_with, spaces_of, instance_faults, instances_of, suits, type_fault, type_faults, contains_filter, contains_flat_map, contains_here, contains_map, contains_nothing, contains_single, origin_in_flat_map, origin_in_map, in_unless, in_written, passes_in_filter, unless, written, IsEarlier, earlier_name, in_places, same_exact, same_itself, carried_is_all, Contains-has, has-Contains, filter}
 use Rattle.fb_laws.proofs.{Joined.{iff, of_either, in_joined, in_where, where_passes}, RuleLemmas.{judged, not_free, not_taken, untaken}}
 use Rattle.fb_laws.proofs.SpaceLemmas.{known_space, told_space}
 use Rattle.fb_tree.specs.declared.constant.Simple.{Simple}
@@ -14,17 +14,10 @@ use Rattle.fb_deploy.proofs.Iface.DuplicateLemmas.{duplicate_reported}
 -- the kinds of types
 
 known_suit : (role : Role) (kind : UnitKind) → suits role kind ≡ true → Suits role kind
-known_suit roles.Plug kinds.Adapter e = Suits.plug
-known_suit roles.Socket kinds.Adapter e = Suits.socket
-known_suit roles.Block kinds.Block e = Suits.block
-known_suit roles.Subapplication kinds.Subapplication e = Suits.subapplication
-known_suit role kind e = absurd (true≢false (sym e))
-
-told_suit : (role : Role) (kind : UnitKind) → Suits role kind → suits role kind ≡ true
-told_suit role kind is = grind arith
+known_suit role kind e = grind (arith, Suits.plug, Suits.socket, Suits.block, Suits.subapplication)
 
 pub not_suited : (role : Role) (kind : UnitKind) → suits role kind ≡ false → ¬ Suits role kind
-not_suited role kind e is = true≢false (sym (told_suit role kind is) ∙ e)
+not_suited role kind e is = grind arith
 
 unsuited : (role : Role) (kind : UnitKind) → ¬ Suits role kind → suits role kind ≡ false
 unsuited role kind none = false_from_ne_true (suits role kind) (λ e. none (known_suit role kind e))
@@ -49,9 +42,6 @@ withs_by_type decl = grind (arith, block_type)
 no_data_where : (side : Side) (o : Option DeclaredVariable) → goes_along side o ≡ false → (v : DeclaredVariable) → o ≡ Some v → goes_with side v.section ≡ false
 no_data_where side o e v is = sym (ap (goes_along side) is) ∙ e
 
-uncarried_where : (side : Side) (o : Option DeclaredVariable) → ((v : DeclaredVariable) → o ≡ Some v → goes_with side v.section ≡ false) → goes_along side o ≡ false
-uncarried_where side o fails = grind arith
-
 -- constants
 
 pub declared_in : (decl : DeclTree) (v : VariablesTree) → Contains (variables_of decl) v → AreDeclaredIn decl v
@@ -61,61 +51,42 @@ declared_in (subapplication_type d) v c = variables_of_type (of_subapplication d
 declared_in (system_configuration s) v c = absurd (contains_nothing v c)
 declared_in (structure_type s) v c = fields_of_structure c
 
-in_type : (decl : DeclTree) (type : TypeTree) (v : VariablesTree) → IsType decl type → Contains type.interface.variables v → Contains (variables_of decl) v
-in_type decl type v is c = grind (arith, of_block)
-
 pub among_declared : (decl : DeclTree) (v : VariablesTree) → AreDeclaredIn decl v → Contains (variables_of decl) v
-among_declared decl v declared = grind (arith, variables_of_type, in_type, fields_of_structure)
+among_declared decl v declared = grind arith
 
-abbrev is_array : TypeForm → Bool
-is_array forms.Array = true
-is_array form = false
-
-no_array_form : (form : TypeForm) → is_array form ≡ false → form ≢ forms.Array
-no_array_form form e is = true≢false (sym (ap is_array is) ∙ e)
-
-literal_at : (v : Simple) (f : Fault) → literal_fault (value_span v) ≡ f → value_span v ≡ f.span
-literal_at v f e = ap (λ (g : Fault). g.span) e
+abbrev Misfits : TypeUse → ConstantTree → Fault → Type 0
+Misfits used constant f = (f.code ≡ Literal) × IsMisfit used constant f.span
 
 -- where a constant doesn't fit
-pub misfit_origin : (used : TypeUse) (constant : ConstantTree) (f : Fault) → Contains (constant_faults used constant) f → (f.code ≡ Literal) × IsMisfit used constant f.span
-misfit_origin used (one_value v) f c = by used.form refl (in_unless (fits_alone used.form (class_of_type used) (class_of_simple v)) (literal_fault (value_span v)) f c)
+pub misfit_origin : (used : TypeUse) (constant : ConstantTree) (f : Fault) → Contains (constant_faults used constant) f → Misfits used constant f
+misfit_origin used (one_value v) f c =
+    let fails = in_unless (fits_alone used.form (class_of_type used) (class_of_simple v)) (literal_fault (value_span v)) f c in
+    subst (Misfits used (one_value v)) fails.1 (refl, by used.form refl fails.0)
   where
-    there : (form : TypeForm) → used.form ≡ form → fits_alone form (class_of_type used) (class_of_simple v) ≡ false → IsMisfit used (one_value v) (value_span v)
-    there forms.Array e fails = no_list e (not_free (class_of_simple v) fails)
-    there o e fails = alone (no_array_form used.form (ap is_array e)) (not_taken (class_of_type used) (class_of_simple v) fails)
-
-    by : (form : TypeForm) → used.form ≡ form → (fits_alone used.form (class_of_type used) (class_of_simple v) ≡ false) × (literal_fault (value_span v) ≡ f) → (f.code ≡ Literal) × IsMisfit used (one_value v) f.span
-    by form e fails =
-        (sym (ap (λ (g : Fault). g.code) fails.1), subst (λ (s : Span). IsMisfit used (one_value v) s) (literal_at v f fails.1) (there form e (ap (λ k. fits_alone k (class_of_type used) (class_of_simple v)) (sym e) ∙ fails.0)))
+    by : (form : TypeForm) → used.form ≡ form → fits_alone form (class_of_type used) (class_of_simple v) ≡ false → IsMisfit used (one_value v) (value_span v)
+    by forms.Array e fails = no_list e (not_free (class_of_simple v) fails)
+    by o e fails = alone (λ is. cc) (not_taken (class_of_type used) (class_of_simple v) fails)
 misfit_origin used (value_list values span) f c = by used.form refl c
   where
-    whole : (form : TypeForm) → used.form ≡ form → is_array form ≡ false → (is_free (class_of_type used) ≡ false) × (literal_fault span ≡ f) → (f.code ≡ Literal) × IsMisfit used (value_list values span) f.span
-    whole form e other fails = grind (arith, value_list, no_array, no_array_form, not_free)
-
-    by : (form : TypeForm) → used.form ≡ form → Contains (list_faults form used values span) f → (f.code ≡ Literal) × IsMisfit used (value_list values span) f.span
-    by forms.Plain e h = whole forms.Plain e refl (in_unless (is_free (class_of_type used)) (literal_fault span) f h)
-    by forms.Sized e h = whole forms.Sized e refl (in_unless (is_free (class_of_type used)) (literal_fault span) f h)
+    by : (form : TypeForm) → used.form ≡ form → Contains (list_faults form used values span) f → Misfits used (value_list values span) f
     by forms.Array e h =
         let class = class_of_name used.name.name in
         let n = origin_in_map (λ (v : Simple). literal_fault (value_span v)) (filter (λ v. not (takes class (class_of_simple v))) values) f h in
         let p = passes_in_filter (λ (v : Simple). not (takes class (class_of_simple v))) values n.origin n.among in
-        (sym (ap (λ (g : Fault). g.code) n.gives), subst (λ (s : Span). IsMisfit used (value_list values span) s) (literal_at n.origin f n.gives) (element e p.among (not_taken class (class_of_simple n.origin) (not_true (takes class (class_of_simple n.origin)) p.passes))))
+        let fails = not_taken class (class_of_simple n.origin) (not_true (takes class (class_of_simple n.origin)) p.passes) in
+        subst (Misfits used (value_list values span)) n.gives (refl, element e p.among fails)
+    by o e h =
+        let fails = in_unless (is_free (class_of_type used)) (literal_fault span) f h in
+        subst (Misfits used (value_list values span)) fails.1 (refl, no_array (λ is. cc) (not_free (class_of_type used) fails.0))
 
 pub misfit_reported : (used : TypeUse) (constant : ConstantTree) (span : Span) → IsMisfit used constant span → Contains (constant_faults used constant) (literal_fault span)
-misfit_reported used (one_value v) span (alone other fails) = by used.form other refl
-  where
-    by : (form : TypeForm) → form ≢ forms.Array → used.form ≡ form → Contains (constant_faults used (one_value v)) (literal_fault (value_span v))
-    by forms.Array not_so e = absurd (not_so refl)
-    by o not_so e = unless (fits_alone used.form (class_of_type used) (class_of_simple v)) (literal_fault (value_span v)) (ap (λ k. fits_alone k (class_of_type used) (class_of_simple v)) e ∙ untaken (class_of_type used) (class_of_simple v) fails)
-misfit_reported used (one_value v) span (no_list e fails) =
-    unless (fits_alone used.form (class_of_type used) (class_of_simple v)) (literal_fault (value_span v)) (ap (λ k. fits_alone k (class_of_type used) (class_of_simple v)) e ∙ judged (class_of_simple v) fails)
+misfit_reported used (one_value v) span (alone other fails) = grind (arith, unless, untaken)
+misfit_reported used (one_value v) span (no_list e fails) = grind (arith, unless, judged)
 misfit_reported used (value_list values s) span (element {v = v} e among fails) =
     let class = class_of_name used.name.name in
     let one = contains_map (λ (v : Simple). literal_fault (value_span v)) (filter (λ v. not (takes class (class_of_simple v))) values) v (contains_filter (λ (v : Simple). not (takes class (class_of_simple v))) values v among (ap not (untaken class (class_of_simple v) fails))) in
-    subst (λ (k : TypeForm). Contains (list_faults k used values s) (literal_fault (value_span v))) (sym e) one
-misfit_reported used (value_list values s) span (no_array other fails) =
-    (elim used.form as (λ form. form ≢ forms.Array → Contains (list_faults form used values s) (literal_fault s)) [ forms.Array ↦ λ not_so. absurd (not_so refl) | o ↦ λ not_so. unless (is_free (class_of_type used)) (literal_fault s) (judged (class_of_type used) fails) ]) other
+    rw e one
+misfit_reported used (value_list values s) span (no_array other fails) = grind (arith, unless, judged)
 
 -- what carries itself
 
@@ -136,11 +107,8 @@ module _ (sources : Sources) (unit : List ℕ) where
   mixed_found : (decl : DeclTree) → IsDeclaredAt sources unit decl → (f : Fault) → Contains (mixed_faults decl) f → Finds f
   mixed_found (block_type d) declared f c =
       let both = in_where (d.chart.is_written && d.network.is_written) (fault_at MixedKind d.name) f c in
-      by d.chart.is_written d.network.is_written refl refl both.0 both.1
-    where
-      by : (a b : Bool) → d.chart.is_written ≡ a → d.network.is_written ≡ b → (a && b) ≡ true → fault_at MixedKind d.name ≡ f → Finds f
-      by true true s n e is = subst Finds is (record { block = d; declared = declared; has_states = s; has_network = n; place = refl })
-      by a b s n e is = absurd (true≢false (sym e))
+      let parts = and_parts d.chart.is_written d.network.is_written both.0 in
+      subst Finds both.1 (record { block = d; declared = declared; has_states = parts.0; has_network = parts.1; place = refl })
   mixed_found decl declared f c = absurd (contains_nothing f c)
 
   recursion_found : (decl : DeclTree) → IsDeclaredAt sources unit decl → (f : Fault) → Contains (recursion_faults sources unit decl) f → Finds f
@@ -162,20 +130,16 @@ module _ (sources : Sources) (unit : List ℕ) where
         let p = origin_in_map (λ (placed : ℕ × NameUse). placed.1) (filter (is_repeated s.origin) (enumerate_from 0 s.origin)) n.origin n.among in
         let r = passes_in_filter (is_repeated s.origin) (enumerate_from 0 s.origin) p.origin p.among in
         let j = in_places 0 s.origin p.origin r.among in
-        let number : p.origin.0 ≡ j.0 = j.1 ∙ (let e : 0 + j.0 ≡ j.0 = omega arith in e) in
-        let again : has_name (take j.0 s.origin) p.origin.1.name ≡ true = ap (λ k. has_name (take k s.origin) p.origin.1.name) (sym number) ∙ r.passes in
-        let before = earlier_name s.origin j.0 p.origin.1.name again in
+        let number : p.origin.0 ≡ j.0 = omega (arith, j.1) in
+        let at = ap (slice_get s.origin) number ∙ j.2 in
+        let before = earlier_name s.origin p.origin.0 p.origin.1.name r.passes in
         subst Finds (ap (fault_at Duplicate) p.gives ∙ n.gives)
-        (record { decl = decl; declared = declared; space = s.origin; is_space = known_space decl s.origin j.0 p.origin.1 s.among j.2; earlier = before.earlier; later = j.0; before = before.before; first = before.first; again = p.origin.1; first_at = before.first_at; again_at = j.2; same = before.same; place = refl })
+        (record { decl = decl; declared = declared; space = s.origin; is_space = known_space decl s.origin p.origin.0 p.origin.1 s.among at; earlier = before.earlier; later = p.origin.0; before = before.before; first = before.first; again = p.origin.1; first_at = before.first_at; again_at = at; same = before.same; place = refl })
 
     type_found : (f : Fault) → Contains (type_faults sources decl) f → Finds f
-    type_found f c = let i = origin_in_flat_map (instance_faults sources) (instances_of decl) f c in by i.origin i.among (tree_at sources i.origin.type_name.name) refl i.has
-      where
-        by : (i : InstanceTree) → Contains (instances_of decl) i → (type : Option DeclTree) → tree_at sources i.type_name.name ≡ type → Contains (type_fault i.role i.type_name type) f → Finds f
-        by i among None e h = subst Finds (contains_single (fault_at UnknownType i.type_name) f h) (record { decl = decl; declared = declared; instance = i; among = among; unknown = e; place = refl })
-        by i among (Some type) e h =
-            let fails = in_unless (suits i.role (unit_kind_of type)) (fault_at WrongKind i.type_name) f h in
-            subst Finds fails.1 (record { decl = decl; declared = declared; instance = i; among = among; type = type; known = e; unsuited = not_suited i.role (unit_kind_of type) fails.0; place = refl })
+    type_found f c =
+        let i = origin_in_flat_map (instance_faults sources) (instances_of decl) f c in
+        (elim (tree_at sources i.origin.type_name.name) as (λ type. tree_at sources i.origin.type_name.name ≡ type → Contains (type_fault i.origin.role i.origin.type_name type) f → Finds f) [ None ↦ λ e h. subst Finds (contains_single (fault_at UnknownType i.origin.type_name) f h) (search) | Some type ↦ λ e h. let fails = in_unless (suits i.origin.role (unit_kind_of type)) (fault_at WrongKind i.origin.type_name) f h in subst Finds fails.1 (search not_suited) ]) refl i.has
 
     with_found : (f : Fault) → Contains (with_faults_of decl) f → Finds f
     with_found f c =
@@ -203,65 +167,53 @@ module _ (sources : Sources) (unit : List ℕ) where
     reported : {code : Code} {span there : Span} (place : ℕ) (list : List Fault) → slice_get (name_faults unit decl ∷ duplicate_faults decl ∷ mixed_faults decl ∷ type_faults sources decl ∷ with_faults_of decl ∷ literal_faults_of decl ∷ recursion_faults sources unit decl ∷ []) place ≡ Some list → span ≡ there → Contains list (record { code = code; span = there }) → Contains (iface_faults_of sources unit) (record { code = code; span = span })
     reported {code = code} {span = span} place list e at c =
         let others = duplicate_faults decl ∷ mixed_faults decl ∷ type_faults sources decl ∷ with_faults_of decl ∷ literal_faults_of decl ∷ recursion_faults sources unit decl ∷ [] in
-        let one = subst (λ (s : Span). Contains list (record { code = code; span = s })) (sym at) c in
-        subst (λ (o : Option DeclTree). Contains (declaration_faults sources unit o) (record { code = code; span = span })) (sym declared) (in_joined (name_faults unit decl) others place list (record { code = code; span = span }) e one)
+        rw declared (in_joined (name_faults unit decl) others place list (record { code = code; span = span }) e (rw at c))
 
   -- a fault says what its code means
   pub found : (f : Fault) → Contains (iface_faults_of sources unit) f → Finds f
-  found f c =
-      (elim (tree_at sources unit) as (λ o. tree_at sources unit ≡ o → Contains (declaration_faults sources unit o) f → Finds f) [ None ↦ λ e h. absurd (contains_nothing f h) | Some decl ↦ λ e h. declared_found decl e f h ]) refl c
+  found f c = grind (arith, declared_found, contains_nothing)
 
 pub other_names : OtherNamesAreReported
-other_names sources unit span =
-    iff (found sources unit _)
-    (λ h. let fails = false_from_ne_true (is_same (declared_name h.decl).name unit) (λ e. h.differs (same_exact (declared_name h.decl).name unit e)) in
-    reported sources unit h.decl h.declared 0 (name_faults unit h.decl) refl h.place (unless (is_same (declared_name h.decl).name unit) (fault_at NameDiffers (declared_name h.decl)) fails))
+other_names sources unit span = iff (found sources unit _) (λ h. grind (arith, reported, unless, same_exact))
 
 pub duplicates : DuplicatesAreReported
 duplicates sources unit span =
     iff (found sources unit _)
-    (λ h. let before : IsEarlier h.space h.later h.again.name = record { earlier = h.earlier; before = h.before; first = h.first; first_at = h.first_at; same = h.same } in
-    reported sources unit h.decl h.declared 1 (duplicate_faults h.decl) refl h.place (duplicate_reported h.decl h.space h.later h.again (told_space h.decl h.space h.is_space) h.again_at before))
+    (λ h. reported sources unit h.decl h.declared 1 (duplicate_faults h.decl) refl h.place (duplicate_reported h.decl h.space h.later h.again (told_space h.decl h.space h.is_space) h.again_at (search)))
 
 pub mixed_kinds : MixedKindsAreReported
 mixed_kinds sources unit span =
     iff (found sources unit _)
-    (λ h. let both : (h.block.chart.is_written && h.block.network.is_written) ≡ true = λ i. h.has_states i && h.has_network i in
-    reported sources unit (block_type h.block) h.declared 2 (mixed_faults (block_type h.block)) refl h.place (where_passes (h.block.chart.is_written && h.block.network.is_written) (fault_at MixedKind h.block.name) both))
+    (λ h. reported sources unit (block_type h.block) h.declared 2 (mixed_faults (block_type h.block)) refl h.place (grind (arith, where_passes, contains_here)))
 
 -- a fault of the type of an instance
 in_types : (sources : Sources) (decl : DeclTree) (i : InstanceTree) (type : Option DeclTree) (f : Fault) → Contains (instances_of decl) i → tree_at sources i.type_name.name ≡ type → Contains (type_fault i.role i.type_name type) f → Contains (type_faults sources decl) f
-in_types sources decl i type f among e c =
-    contains_flat_map (instance_faults sources) (instances_of decl) i f among
-    (subst (λ (o : Option DeclTree). Contains (type_fault i.role i.type_name o) f) (sym e) c)
+in_types sources decl i type f among e c = contains_flat_map (instance_faults sources) (instances_of decl) i f among (rw e c)
 
 pub unknown_types : UnknownTypesAreReported
 unknown_types sources unit span =
     iff (found sources unit _)
-    (λ h. reported sources unit h.decl h.declared 3 (type_faults sources h.decl) refl h.place (in_types sources h.decl h.instance None (fault_at UnknownType h.instance.type_name) h.among h.unknown (contains_here (fault_at UnknownType h.instance.type_name) [])))
+    (λ h. reported sources unit h.decl h.declared 3 (type_faults sources h.decl) refl h.place (search (in_types, contains_here)))
 
 pub wrong_kinds : WrongKindsAreReported
 wrong_kinds sources unit span =
     iff (found sources unit _)
-    (λ h. reported sources unit h.decl h.declared 3 (type_faults sources h.decl) refl h.place (in_types sources h.decl h.instance (Some h.type) (fault_at WrongKind h.instance.type_name) h.among h.known (unless (suits h.instance.role (unit_kind_of h.type)) (fault_at WrongKind h.instance.type_name) (unsuited h.instance.role (unit_kind_of h.type) h.unsuited))))
+    (λ h. reported sources unit h.decl h.declared 3 (type_faults sources h.decl) refl h.place (search (in_types, unless, unsuited)))
 
 pub unknown_withs : UnknownWithsAreReported
 unknown_withs sources unit span =
     iff (found sources unit _)
     (λ h. let variable = stands_for (variables_in h.type.interface) in
     let uncarried = λ (w : NameUse). not (goes_along h.event.side (variable w.name)) in
-    let fails = ap not (uncarried_where h.event.side (variable h.name.name) h.no_data) in
+    let fails : uncarried h.name ≡ true = grind arith in
     let one = contains_map (fault_at WithUnknown) (filter uncarried h.event.with) h.name (contains_filter uncarried h.event.with h.name h.behind fails) in
     let listed = contains_flat_map (event_withs variable) h.type.interface.events h.event (fault_at WithUnknown h.name) h.among one in
-    reported sources unit h.decl h.declared 4 (with_faults_of h.decl) refl h.place
-    (subst (λ (l : List Fault). Contains l (fault_at WithUnknown h.name)) (sym (withs_by_type h.decl)) (written (λ (d : TypeTree). with_faults d.interface) (type_in h.decl) h.type (fault_at WithUnknown h.name) h.is_type listed)))
+    reported sources unit h.decl h.declared 4 (with_faults_of h.decl) refl h.place (rw withs_by_type (written (λ (d : TypeTree). with_faults d.interface) (type_in h.decl) h.type (fault_at WithUnknown h.name) h.is_type listed)))
 
 pub misfits_reported : MisfitsAreReported
 misfits_reported sources unit span =
     iff (found sources unit _)
-    (λ h. let one = written (constant_faults h.variables.type_use) h.variables.initial h.initial (literal_fault span) h.written (misfit_reported h.variables.type_use h.initial span h.misfit) in
-    let listed = contains_flat_map initial_faults (variables_of h.decl) h.variables (literal_fault span) (among_declared h.decl h.variables h.among) one in
-    reported sources unit h.decl h.declared 5 (literal_faults_of h.decl) refl refl listed)
+    (λ h. reported sources unit h.decl h.declared 5 (literal_faults_of h.decl) refl refl (search (contains_flat_map, among_declared, written, misfit_reported)))
 
 pub recursive_structures : RecursiveStructuresAreReported
 recursive_structures sources unit span =

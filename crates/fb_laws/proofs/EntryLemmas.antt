@@ -1,56 +1,37 @@
 -- The homes of blocks are resources of the system.
-use Rattle.fb_laws.proofs.Common.{ℕ, ◌≡◌, Bool, true, false, cond, List, [], ◌∷◌, ◌++◌, Option, Some, inl, refl, sym, ◌∙◌, ap, subst, map, find, option_map_or, flat_map, bytes_eq, Contains-append_left, Contains-append_right, NameUse, contains_flat_map, contains_here, contains_map, contains_nothing, origin_in_map, passes_in_find, named_among, same_exact, those_reported, DeclTree, DeviceTree, MappingTree, ResourceTree, SystemTree, system_configuration, itself, Sources, tree_at, has_name, is_same, stands_for, NoSuchResource, Fault, faults_of, declared_mapping_faults, has_resource, home_faults, home_span, mapping_faults_of, resource_faults, resources_in, second_mappings, dotted, PlainFlat, Link, HasFlat, nearest, mapping_home, mapping_path, applications_in, devices_in, mappings_in, system_commands, PlainResource, device_resources, resource_plan, resources_of, IsPlanned, HomesHaveCommands, Contains, by_bool}
-use Rattle.fb_laws.proofs.{Joined.{by_option}, HomeLemmas.{of_nearest}, PlannedLemmas.{homes_in, known, mapped, names_in}}
-
--- ---- a system with a flat network has no faults
-
-no_faults : (sources : Sources) (system : List ℕ) (flat : PlainFlat) → HasFlat sources system flat → faults_of sources system ≡ []
-no_faults sources system flat is =
-    (elim (faults_of sources system) as (λ found. faults_of sources system ≡ found → faults_of sources system ≡ []) [ [] ↦ λ e. e | f ∷ fs ↦ λ e. absurd (contains_nothing system ((is.0.whole.members system).1 (itself, inl (λ none. let both : f ∷ fs ≡ [] = sym e ∙ none in cc)))) ]) refl
-
-no_mapping_fault : (sources : Sources) (system : List ℕ) (flat : PlainFlat) → HasFlat sources system flat → (f : Fault) → Contains (mapping_faults_of sources system) f → ⊥
-no_mapping_fault sources system flat is f c =
-    contains_nothing f (subst (λ (l : List Fault). Contains l f) (no_faults sources system flat is) ((those_reported sources system f).1 (Contains-append_right _ (mapping_faults_of sources system) f c)))
+use Rattle.fb_laws.proofs.Common.{ℕ, ◌≡◌, true, List, Option, Some, None, refl, sym, ◌∙◌, ap, subst, find, false≢true, NameUse, contains_flat_map, contains_map, contains_nothing, origin_in_map, passes_in_find, named_among, resource_names, DeclTree, DeviceTree, MappingTree, ResourceTree, SystemTree, system_configuration, on_itself, Sources, tree_at, NoSuchResource, Fault, has_resource, home_span, dotted, PlainFlat, Link, HasFlat, nearest, mapping_home, mapping_path, applications_in, devices_in, mappings_in, system_commands, PlainResource, device_resources, resource_plan, resources_of, IsPlanned, HomesHaveCommands, Contains, by_bool}
+use Rattle.fb_laws.proofs.{Joined.{by_option}, HomeLemmas.{found_in, mapped, of_nearest, same_bytes}, MappingRows.{have_homes, holds, holds_first, is_named, lost_where}}
+use Rattle.fb_laws.proofs.{PathHolders.{no_report}, PlannedLemmas.{homes_in, known, names_in}}
 
 -- ---- the resource of a mapping
 
-device_has : (devices : List DeviceTree) (device resource : List ℕ) → has_resource devices device resource ≡ true → Contains (resources_of devices) (dotted device resource)
-device_has [] device resource e = absurd (let no : ⊥ = cc in no)
-device_has (d ∷ ds) device resource e = by (is_same d.name.name device) refl e (device_has ds device resource)
-  where
-    by : (t : Bool) → is_same d.name.name device ≡ t → option_map_or (λ (names : List NameUse). has_name names resource) (cond t (Some (map (λ (r : ResourceTree). r.name) d.resources)) (stands_for (resources_in ds) device)) false ≡ true → (has_resource ds device resource ≡ true → Contains (resources_of ds) (dotted device resource)) → Contains (device_resources d ++ resources_of ds) (dotted device resource)
-    by true same g more =
-        let n = named_among (map (λ (r : ResourceTree). r.name) d.resources) resource g in
-        let o = origin_in_map (λ (r : ResourceTree). r.name) d.resources n.0 n.1 in
-        let at = contains_map (λ (r : ResourceTree). dotted d.name.name r.name.name) d.resources o.origin o.among in
-        let resource_is : o.origin.name.name ≡ resource = ap (λ (w : NameUse). w.name) o.gives ∙ n.2 in
-        let is : dotted d.name.name o.origin.name.name ≡ dotted device resource = (λ i. dotted (same_exact d.name.name device same i) (resource_is i)) in
-        Contains-append_left (device_resources d) (resources_of ds) (dotted device resource) (subst (λ (t : List ℕ). Contains (device_resources d) t) is at)
-    by false differs g more = Contains-append_right (device_resources d) (resources_of ds) (dotted device resource) (more g)
+device_has : (s : SystemTree) (m : MappingTree) → has_resource s.devices m.device.name m.resource.name ≡ true → Contains (resources_of s.devices) (mapping_home m)
+device_has s m e =
+    let held = λ (o : Option DeviceTree) (g : find (is_named m.device.name) s.devices ≡ o). ap (λ (o : Option DeviceTree). holds o m.resource.name) (sym g) ∙ sym (holds_first s m) ∙ e in
+    by_option (find (is_named m.device.name) s.devices) (λ none. absurd (false≢true (held None none))) (λ d g.
+    let k = passes_in_find (is_named m.device.name) s.devices d g in
+    let n = named_among (resource_names d) m.resource.name (held (Some d) g) in
+    let r = origin_in_map (λ (r : ResourceTree). r.name) d.resources n.0 n.1 in
+    let at = contains_map (λ (r : ResourceTree). dotted d.name.name r.name.name) d.resources r.origin r.among in
+    let home : dotted d.name.name r.origin.name.name ≡ mapping_home m = (λ i. dotted (same_bytes d.name.name m.device.name k.passes i) ((ap (λ (w : NameUse). w.name) r.gives ∙ n.2) i)) in
+    contains_flat_map device_resources s.devices d (mapping_home m) k.among (subst (λ (t : List ℕ). Contains (device_resources d) t) home at))
 
 module _ (sources : Sources) (system : List ℕ) (flat : PlainFlat) (is : HasFlat sources system flat) where
-  in_system : (s : SystemTree) (m : MappingTree) → tree_at sources system ≡ Some (system_configuration s) → Contains s.mappings m → Contains (resources_of s.devices) (mapping_home m)
-  in_system s m e c =
-      by_bool (has_resource s.devices m.device.name m.resource.name) (device_has s.devices m.device.name m.resource.name) (λ g.
+  -- a system with a flat network has no faults
+  has_home : (t : Option DeclTree) → tree_at sources system ≡ t → (m : MappingTree) → Contains (mappings_in t) m → Contains (resources_of (devices_in t)) (mapping_home m)
+  has_home (Some (system_configuration s)) e m c =
+      by_bool (has_resource s.devices m.device.name m.resource.name) (device_has s m) (λ g.
       let fault : Fault = record { code = NoSuchResource; span = home_span m } in
-      let here : Contains (resource_faults s.devices m) fault = subst (λ (t : Bool). Contains (home_faults t m) fault) (sym g) (contains_here fault []) in
-      let among = Contains-append_right (second_mappings s.mappings) (flat_map (resource_faults s.devices) s.mappings) fault (contains_flat_map (resource_faults s.devices) s.mappings m fault c here) in
-      absurd (no_mapping_fault sources system flat is fault (subst (λ (t : Option DeclTree). Contains (declared_mapping_faults t) fault) (sym e) among)))
-
-  in_tree : (t : Option DeclTree) → tree_at sources system ≡ t → (m : MappingTree) → Contains (mappings_in t) m → Contains (resources_of (devices_in t)) (mapping_home m)
-  in_tree (Some (system_configuration s)) e m c = in_system s m e c
-  in_tree t e m c = absurd (contains_nothing m c)
+      let has = (have_homes sources system (home_span m)).1 (record { system = s; declared = e; mapping = m; listed = c; lost = lost_where s m g; starts = refl; ends = refl }) in
+      absurd (contains_nothing fault (subst (λ (l : List Fault). Contains l fault) (no_report sources system is.0 system on_itself).mappings has)))
+  has_home t e m c = absurd (contains_nothing m c)
 
   -- what is mapped to is a resource of the system
-  mapped_there : (prefix r : List ℕ) → mapped sources system prefix ≡ Some r → Contains (names_in sources system) r
-  mapped_there prefix r e =
-      by_option (find (λ (m : MappingTree). bytes_eq (mapping_path m) prefix) (mappings_in (tree_at sources system))) (λ none. absurd (let no : ⊥ = cc in no)) (λ m f.
-      let found = passes_in_find (λ (m : MappingTree). bytes_eq (mapping_path m) prefix) (mappings_in (tree_at sources system)) m f in
-      let home : mapping_home m ≡ r = cc in
-      subst (λ (t : List ℕ). Contains (names_in sources system) t) home (in_tree (tree_at sources system) refl m found.among))
-
   pub home_named : (path r : List ℕ) → nearest (mapped sources system) path ≡ Some r → Contains (names_in sources system) r
-  home_named path r e = let n = of_nearest (mapped sources system) path r e in mapped_there n.0 r n.2
+  home_named path r e =
+      let n = of_nearest (mapped sources system) path r e in
+      let f = found_in mapping_path mapping_home (mappings_in (tree_at sources system)) n.0 r n.2 in
+      subst (λ (t : List ℕ). Contains (names_in sources system) t) f.gives (has_home (tree_at sources system) refl f.item f.among)
 
 -- a resource of the system has an entry in the plan
 pub entry_named : (sources : Sources) (system : List ℕ) (flat : PlainFlat) (cuts : List Link) (resources : List PlainResource) → IsPlanned sources system flat cuts resources → (r : List ℕ) → Contains (names_in sources system) r → (entry : PlainResource) × Contains resources entry × (entry.name ≡ r)

@@ -30,16 +30,14 @@ mutual
 
 -- and no other
 
-told_end : (a : Span) (x : Expression) (operands : Operands) → IsLast x operands → span_through a operands ≡ across a (span_of x)
-told_end a x no_operands none = elim none [ ]
-told_end a x (operand_then used y no_operands) only = refl
-told_end a x (operand_then used y others) (later last) = told_end (across a (span_of y)) x others last
+told_end : {x : Expression} (a : Span) {operands : Operands} → IsLast x operands → span_through a operands ≡ across a (span_of x)
+told_end a only = refl
+told_end a (later {x = y} last) = told_end (across a (span_of y)) last
 
-pub told_stands : (e : Expression) (s : Span) → StandsAt e s → span_of e ≡ s
-told_stands (literal_expression l) s literal = refl
-told_stands (reference_expression r subscripts) s reference = refl
-told_stands (unary_expression used x) s (operator t there) = ap (across used.span) (told_stands x t there)
-told_stands (row_expression first operands) s (row x a b here last there) =
-    ap (λ k. span_through k operands) (told_stands first a here) ∙ told_end a x operands last ∙ ap (across a) (told_stands x b there)
-told_stands (row_expression first no_operands) s (no_row here) = told_stands first s here
-told_stands (parentheses x span) s enclosed = refl
+pub told_stands : {e : Expression} {s : Span} → StandsAt e s → span_of e ≡ s
+told_stands literal = refl
+told_stands reference = refl
+told_stands (operator {used = used} t there) = ap (across used.span) (told_stands there)
+told_stands (row {operands = operands} x a b here last there) = ap (λ k. span_through k operands) (told_stands here) ∙ told_end a last ∙ ap (across a) (told_stands there)
+told_stands (no_row here) = told_stands here
+told_stands enclosed = refl

@@ -1,121 +1,33 @@
 -- The parts of expressions, at each level.
-use Rattle.fb_laws.proofs.Common.{◌≡◌, ℕ, ◌≤◌, arith, zero, suc, true, inl, inr, List, [], ◌∷◌, ◌++◌, map, Option, Some, None, refl, sym, ap, ◌∙◌, subst, append_assoc, flat_map, NameUse, Span, Form, both, either, many, as_value, Spells, SpellsOption, SpellsEach, across, literal_kinds, key, name, is_among, Kind, Point, Lexeme, ReferenceTree, Expression, reference_expression, unary_expression, Expressions, expressions_of, operands_of, BinaryUse, UnaryUse, signs, strengths, unary_use, binary_use, levels, expression, expressions, subscripts, PartTree, part_of, flat_part, deep_part, further_part, parts, member_in, last_end, subscripts_in, reference_in, flat_reference, deep_reference, reference_value, literal, in_parentheses, parenthesized, flat_primary, deep_primary, with_sign, unary, row_of, operand, row, rows, reference, Part, name_part, expression_part, sign_part, operator_part, name_parts, option_parts, reference_parts, expression_parts, expressions_parts, operands_parts, expression_span, span_through, SpellsPart, EndsAt, IsWritten, sign, operator, append-nil, among_left, among_right}
-use Rattle.fb_laws.proofs.Tokens.{Fills, begins_more, ends_more, written_whole, Each, each_append, each_prefix, each_rest, each_left, each_right}
+use Rattle.fb_laws.proofs.Common.{◌≡◌, ℕ, ◌≤◌, arith, zero, suc, true, inl, inr, List, [], ◌∷◌, ◌++◌, map, Option, Some, None, refl, sym, ap, ◌∙◌, subst, append_assoc, flat_map, NameUse, Span, Form, both, either, many, as_value, Spells, SpellsEach, across, literal_kinds, key, name, is_among, Kind, Point, Lexeme, ReferenceTree, Expression, Expressions, expressions_of, operands_of, BinaryUse, UnaryUse, signs, strengths, unary_use, binary_use, levels, expression, expressions, subscripts, PartTree, part_of, flat_part, deep_part, further_part, parts, member_in, last_end, subscripts_in, reference_in, flat_reference, deep_reference, reference_value, literal, in_parentheses, parenthesized, flat_primary, deep_primary, with_sign, unary, row_of, operand, row, rows, reference, Part, name_part, expression_part, sign_part, operator_part, name_parts, option_parts, reference_parts, expression_parts, expressions_parts, operands_parts, expression_span, span_through, SpellsPart, IsWritten, sign, operator, append-nil, among_left, among_right, one}
+use Rattle.fb_laws.proofs.Tokens.{Fills, begins_more, ends_more, written_whole, Each, each_append, each_prefix, each_rest}
 use Rattle.fb_laws.proofs.Filling.{Filled, filled_as, filled_either, filled_token, filled_name, Ends, ends_filled, ends_second, ends_behind, filled_across, filled_more, filled_from}
 use Rattle.fb_laws.proofs.Sound.{Sound, sound_nothing, sound_both, sound_first, sound_second, sound_as, sound_either, sound_option, sound_many, sound_behind, sound_separated, sound_own, sound_same, sound_name, each_items}
 
 -- Lists
 
-flat_expressions : (es : List Expression) → flat_map expression_parts es ≡ expressions_parts (expressions_of es)
-flat_expressions [] = refl
-flat_expressions (e ∷ es) = ap (λ (l : List Part). expression_parts e ++ l) (flat_expressions es)
+-- the parts of the items of a list, where those of the whole are told otherwise
+pub flat_parts : {A : Type 0} (f : A → List Part) (whole : List A → List Part) → whole [] ≡ [] → ((x : A) (xs : List A) → whole (x ∷ xs) ≡ f x ++ whole xs) → (xs : List A) → flat_map f xs ≡ whole xs
+flat_parts f whole none more [] = sym none
+flat_parts f whole none more (x ∷ xs) = ap (λ (l : List Part). f x ++ l) (flat_parts f whole none more xs) ∙ sym (more x xs)
 
 abbrev operand_parts : BinaryUse × Expression → List Part
 operand_parts o = operator_part o.0 ∷ expression_parts o.1
 
-flat_operands : (os : List (BinaryUse × Expression)) → flat_map operand_parts os ≡ operands_parts (operands_of os)
-flat_operands [] = refl
-flat_operands (o ∷ os) = ap (λ (l : List Part). operator_part o.0 ∷ (expression_parts o.1 ++ l)) (flat_operands os)
+-- x {y}, from where x begins through the last y
+module _ {A : Type 0} (x : Form A) (span : A → Span) (ends : Ends x span) (through : Span → List A → Span) (alone : (s : Span) → through s [] ≡ s) (more : (s : Span) (v : A) (vs : List A) → through s (v ∷ vs) ≡ through (across s (span v)) vs) where
+  fills_through : (prefix rest : List Lexeme) (s : Span) (vs : List A) → Fills prefix s → SpellsEach (Spells x) rest vs → Fills (prefix ++ rest) (through s vs)
+  fills_through prefix rest s [] h none = subst (λ (z : List Lexeme). Fills z (through s [])) (sym (ap (λ z. prefix ++ z) none ∙ append-nil prefix)) (subst (Fills prefix) (sym (alone s)) h)
+  fills_through prefix rest s (v ∷ vs) h each =
+      let to_here = prefix ++ each.0 in
+      let wider : Fills to_here (across s (span v)) = record { begins = begins_more prefix each.0 s.start h.begins; ends = ends_more prefix each.0 (span v).end (ends.ends each.0 v each.3) } in
+      subst (λ (z : List Lexeme). Fills z (through s (v ∷ vs))) (append_assoc prefix each.0 each.1 ∙ ap (λ z. prefix ++ z) (sym each.2))
+      (subst (Fills (to_here ++ each.1)) (sym (more s v vs)) (fills_through to_here each.1 (across s (span v)) vs wider each.4))
 
--- References
-
--- from where its name begins to where its bracket or its name ends
-abbrev place_of : PartTree → Span
-place_of p = record { start = p.name.span.start; end = p.end }
-
-ends_subscripts : (inner : Form Expression) → Ends (subscripts inner) (λ s. s.1.span)
-unfolding subscripts
-ends_subscripts inner = ends_behind _ _ (λ s. s.1.span) (ends_second _ _ (λ l. l.span) (ends_filled _ (λ l. l.span) (filled_token _)))
-
-filled_deep_part : (inner : Form Expression) → Filled (deep_part inner) place_of
-unfolding deep_part
-filled_deep_part inner =
-    filled_as _ _ place_of
-    (filled_more name (subscripts inner) (λ n. n.span) (λ s. s.1.span) _ (λ n. refl) (λ n s. refl) filled_name (ends_subscripts inner))
-
--- a reference with its subscripts
-abbrev reference_span : ReferenceTree × Expressions → Span
-reference_span r = r.0.span
-
-module _ (part : Form PartTree) (filled : Filled part place_of) where
-  -- from where a part begins through the last of those behind it
-  fills_parts : (prefix rest : List Lexeme) (start end : ℕ) (ps : List PartTree) → Fills prefix (record { start = start; end = end }) → SpellsEach (Spells (further_part part)) rest ps
-      → Fills (prefix ++ rest) (record { start = start; end = last_end end ps })
-  fills_parts prefix rest start end [] h none = subst (λ (z : List Lexeme). Fills z (record { start = start; end = end })) (sym (ap (λ z. prefix ++ z) none ∙ append-nil prefix)) h
-  fills_parts prefix rest start end (p ∷ ps) h each =
-      let first = each.0 in
-      let others = each.1 in
-      let last = (ends_behind (key Point) part place_of (ends_filled part place_of filled)).ends first p each.3 in
-      let wider : Fills (prefix ++ first) (record { start = start; end = p.end }) = record { begins = begins_more prefix first start h.begins; ends = ends_more prefix first p.end last } in
-      subst (λ (z : List Lexeme). Fills z (record { start = start; end = last_end p.end ps })) (append_assoc prefix first others ∙ ap (λ z. prefix ++ z) (sym each.2))
-      (fills_parts (prefix ++ first) others start p.end ps wider each.4)
-
-  filled_parts : Filled (parts part) (λ v. reference_span (reference_in v))
-  filled_parts = grind (arith, fills_parts)
-
-filled_flat_reference : Filled flat_reference reference_span
-unfolding flat_reference flat_part
-filled_flat_reference = filled_as reference_in (parts flat_part) reference_span (filled_parts flat_part (filled_as (λ n. part_of n None) name place_of filled_name))
-
-filled_deep_reference : (inner : Form Expression) → Filled (deep_reference inner) reference_span
-unfolding deep_reference
-filled_deep_reference inner = filled_as reference_in (parts (deep_part inner)) reference_span (filled_parts (deep_part inner) (filled_deep_part inner))
-
--- a name and its subscripts
-abbrev named_parts : PartTree → List Part
-named_parts p = name_part p.name ∷ flat_map expression_parts p.subscripts
-
-abbrev subscripts_parts : List Expression × Lexeme → List Part
-subscripts_parts s = flat_map expression_parts s.0
-
-each_named : (P : Part → Type 0) (n : NameUse) (s : Option (List Expression × Lexeme)) → Each P (name_parts n ++ option_parts subscripts_parts s) → Each P (named_parts (part_of n s))
-each_named P n None h = h
-each_named P n (Some s) h = h
-
-sound_deep_part : (inner : Form Expression) → Sound inner expression_parts → Sound (deep_part inner) named_parts
-unfolding deep_part subscripts expressions
-sound_deep_part inner h =
-    sound_as _ _ named_parts
-    (sound_same _ (λ v. name_parts v.0 ++ option_parts subscripts_parts v.1) _ (λ P v e. each_named P v.0 v.1 e)
-    (sound_both name _ name_parts (option_parts subscripts_parts) sound_name
-    (sound_option _ subscripts_parts (sound_behind _ _ subscripts_parts (sound_first _ _ (flat_map expression_parts) (sound_separated _ inner expression_parts h))))))
-
--- all names, and all subscripts
-abbrev subscripted_parts : ReferenceTree × Expressions → List Part
-subscripted_parts r = reference_parts r.0 ++ expressions_parts r.1
-
-each_member : (P : Part → Type 0) (ps : List PartTree) → Each P (flat_map named_parts ps) → Each P (map (λ m. name_part m.name) (map member_in ps))
-each_member P [] h = tt
-each_member P (p ∷ ps) h = (h.0, each_member P ps (each_rest P (named_parts p) (flat_map named_parts ps) h))
-
-each_subscript : (P : Part → Type 0) (ps : List PartTree) → Each P (flat_map named_parts ps) → Each P (flat_map expression_parts (subscripts_in ps))
-each_subscript P [] h = tt
-each_subscript P (p ∷ ps) h =
-    let behind = flat_map named_parts ps in
-    each_items P expression_parts p.subscripts (subscripts_in ps) (each_prefix P (named_parts p) behind h).1 (each_subscript P ps (each_rest P (named_parts p) behind h))
-
-each_reference : (P : Part → Type 0) (p : PartTree) (ps : List PartTree) → Each P (named_parts p ++ flat_map named_parts ps) → Each P (subscripted_parts (reference_in (p, ps)))
-each_reference P p ps h =
-    let first = each_prefix P (named_parts p) (flat_map named_parts ps) h in
-    let others = each_rest P (named_parts p) (flat_map named_parts ps) h in
-    let all = p.subscripts ++ subscripts_in ps in (
-      first.0,
-      each_append P (map (λ m. name_part m.name) (map member_in ps)) (expressions_parts (expressions_of all)) (each_member P ps others)
-          (subst (Each P) (flat_expressions all) (each_items P expression_parts p.subscripts (subscripts_in ps) first.1 (each_subscript P ps others))),
-    )
-
-sound_parts_of : (part : Form PartTree) → Sound part named_parts → Sound (parts part) (λ v. subscripted_parts (reference_in v))
-sound_parts_of part h =
-    sound_same (parts part) (λ v. named_parts v.0 ++ flat_map named_parts v.1) (λ v. subscripted_parts (reference_in v)) (λ P v e. each_reference P v.0 v.1 e)
-    (sound_both part _ named_parts (flat_map named_parts) h (sound_many (further_part part) named_parts (sound_behind (key Point) part named_parts h)))
-
-sound_flat_reference : Sound flat_reference subscripted_parts
-unfolding flat_reference flat_part
-sound_flat_reference = sound_as reference_in (parts flat_part) subscripted_parts (sound_parts_of flat_part (sound_as (λ n. part_of n None) name named_parts sound_name))
-
-sound_deep_reference : (inner : Form Expression) → Sound inner expression_parts → Sound (deep_reference inner) subscripted_parts
-unfolding deep_reference
-sound_deep_reference inner h = sound_as reference_in (parts (deep_part inner)) subscripted_parts (sound_parts_of (deep_part inner) (sound_deep_part inner h))
+  filled_through : {B : Type 0} (y : Form B) (first : B → Span) → Filled y first → Filled (both y (many x)) (λ v. through (first v.0) v.1)
+  filled_through y first h = record {
+    fills = λ us v s. subst (λ (z : List Lexeme). Fills z (through (first v.0) v.1)) (sym s.2) (fills_through s.0 s.1 (first v.0) v.1 (h.fills s.0 v.0 s.3) s.4);
+  }
 
 -- Forms whose spellings are expressions
 
@@ -133,50 +45,109 @@ suits_either x y h k = record {
   sound = λ is. sound_either x y expression_parts (h.sound (record { spells = λ us e s. is.spells us e (inl s) })) (k.sound (record { spells = λ us e s. is.spells us e (inr s) }));
 }
 
+-- values that are read as expressions, by the parts in them
+suits_as : {A : Type 0} (x : Form A) (f : A → Expression) (inner : A → List Part) → Filled x (λ v. expression_span (f v)) → (IsExpression (as_value f x) → Sound x inner)
+    → ((P : Part → Type 0) (v : A) → P (expression_part (f v)) → Each P (inner v) → Each P (expression_parts (f v))) → Suits (as_value f x)
+suits_as x f inner filled sound joined = record {
+  filled = filled_as f x expression_span filled;
+  sound = λ is.
+      sound_as f x expression_parts
+      (record { stands = λ us v s. joined (IsWritten us) v (written_whole us (expression_part (f v)) (filled.fills us v s) (is.spells us (f v) (v, s, refl))) ((sound is).stands us v s) });
+}
+
+-- References
+
+-- from where its name begins to where its bracket or its name ends
+abbrev place_of : PartTree → Span
+place_of p = record { start = p.name.span.start; end = p.end }
+
+filled_deep_part : (inner : Form Expression) → Filled (deep_part inner) place_of
+unfolding deep_part subscripts
+filled_deep_part inner =
+    filled_as _ _ place_of
+    (filled_more name (subscripts inner) (λ n. n.span) (λ s. s.1.span) _ (λ n. refl) (λ n s. refl) filled_name
+    (ends_behind _ _ (λ s. s.1.span) (ends_second _ _ (λ l. l.span) (ends_filled _ (λ l. l.span) (filled_token _)))))
+
+-- a name and its subscripts
+abbrev named_parts : PartTree → List Part
+named_parts p = name_part p.name ∷ flat_map expression_parts p.subscripts
+
+abbrev subscripts_parts : List Expression × Lexeme → List Part
+subscripts_parts s = flat_map expression_parts s.0
+
+each_named : (P : Part → Type 0) (n : NameUse) (s : Option (List Expression × Lexeme)) → Each P (name_parts n ++ option_parts subscripts_parts s) → Each P (named_parts (part_of n s))
+each_named P n s h = grind arith
+
+sound_deep_part : (inner : Form Expression) → Sound inner expression_parts → Sound (deep_part inner) named_parts
+unfolding deep_part subscripts expressions
+sound_deep_part inner h =
+    sound_as _ _ named_parts
+    (sound_same _ (λ v. name_parts v.0 ++ option_parts subscripts_parts v.1) _ (λ P v e. each_named P v.0 v.1 e)
+    (sound_both name _ name_parts (option_parts subscripts_parts) sound_name
+    (sound_option _ subscripts_parts (sound_behind _ _ subscripts_parts (sound_first _ _ (flat_map expression_parts) (sound_separated _ inner expression_parts h))))))
+
+-- all names, and all subscripts
+abbrev subscripted_parts : ReferenceTree × Expressions → List Part
+subscripted_parts r = reference_parts r.0 ++ expressions_parts r.1
+
+abbrev names_among : List PartTree → List Part
+names_among ps = map (λ m. name_part m.name) (map member_in ps)
+
+each_part : (P : Part → Type 0) (ps : List PartTree) → Each P (flat_map named_parts ps) → Each P (names_among ps) × Each P (flat_map expression_parts (subscripts_in ps))
+each_part P [] h = (tt, tt)
+each_part P (p ∷ ps) h =
+    let own = each_prefix P (named_parts p) (flat_map named_parts ps) h in
+    let others = each_part P ps (each_rest P (named_parts p) (flat_map named_parts ps) h) in
+    ((own.0, others.0), each_items P expression_parts p.subscripts (subscripts_in ps) own.1 others.1)
+
+each_reference : (P : Part → Type 0) (p : PartTree) (ps : List PartTree) → Each P (flat_map named_parts (p ∷ ps)) → Each P (subscripted_parts (reference_in (p, ps)))
+each_reference P p ps h =
+    let each = each_part P (p ∷ ps) h in
+    let subscripts = flat_parts expression_parts (λ es. expressions_parts (expressions_of es)) refl (λ e es. refl) (subscripts_in (p ∷ ps)) in
+    each_append P (names_among (p ∷ ps)) (expressions_parts (expressions_of (subscripts_in (p ∷ ps)))) each.0 (subst (Each P) subscripts each.1)
+
+-- a reference with its subscripts
+suits_parts : (part : Form PartTree) → Filled part place_of → Sound part named_parts → Suits (as_value reference_value (as_value reference_in (parts part)))
+suits_parts part filled sound =
+    suits_as (as_value reference_in (parts part)) reference_value subscripted_parts
+    (filled_as reference_in (parts part) (λ r. r.0.span)
+    (filled_through (further_part part) place_of (ends_behind (key Point) part place_of (ends_filled part place_of filled)) (λ s ps. record { start = s.start; end = last_end s.end ps }) (λ s. refl) (λ s p ps. refl) part place_of filled))
+    (λ is.
+    sound_as reference_in (parts part) subscripted_parts
+    (sound_same (parts part) (λ v. named_parts v.0 ++ flat_map named_parts v.1) (λ v. subscripted_parts (reference_in v)) (λ P v e. each_reference P v.0 v.1 e)
+    (sound_both part _ named_parts (flat_map named_parts) sound (sound_many (further_part part) named_parts (sound_behind (key Point) part named_parts sound)))))
+    (λ P r whole h. (whole, h))
+
+suits_flat_reference : Suits (as_value reference_value flat_reference)
+unfolding flat_reference flat_part
+suits_flat_reference = suits_parts flat_part (filled_as (λ n. part_of n None) name place_of filled_name) (sound_as (λ n. part_of n None) name named_parts sound_name)
+
+suits_deep_reference : (inner : Form Expression) → Sound inner expression_parts → Suits (as_value reference_value (deep_reference inner))
+unfolding deep_reference
+suits_deep_reference inner h = suits_parts (deep_part inner) (filled_deep_part inner) (sound_deep_part inner h)
+
 -- Operands
 
 suits_literal : Suits literal
 unfolding literal
-suits_literal = record {
-  filled = filled_as _ _ expression_span (filled_token literal_kinds);
-  sound = λ is. sound_as _ _ expression_parts (sound_own _ (λ l. expression_part _) (λ _. []) (λ us l s. is.spells us _ (l, s, refl)) (filled_token literal_kinds) (sound_nothing _));
-}
-
-sound_reference_value : (x : Form (ReferenceTree × Expressions)) → Filled x reference_span → Sound x subscripted_parts → IsExpression (as_value reference_value x) → Sound x (λ r. expression_parts (reference_value r))
-sound_reference_value x filled sound is = sound_own x (λ r. expression_part (reference_value r)) subscripted_parts (λ us r s. is.spells us (reference_value r) (r, s, refl)) filled sound
-
-suits_reference : (x : Form (ReferenceTree × Expressions)) → Filled x reference_span → Sound x subscripted_parts → Suits (as_value reference_value x)
-suits_reference x filled sound = record { filled = filled_as reference_value x expression_span filled; sound = λ is. sound_as reference_value x expression_parts (sound_reference_value x filled sound is) }
+suits_literal = suits_as _ _ (λ _. []) (filled_token literal_kinds) (λ is. sound_nothing _) (λ P l whole h. (whole, h))
 
 suits_parenthesized : (inner : Form Expression) → Sound inner expression_parts → Suits (parenthesized inner)
 unfolding parenthesized
 suits_parenthesized inner h =
-    let filled = filled_across (key _) (both inner (key _)) (λ l. l.span) (λ v. v.1.span) (filled_token _) (ends_second inner (key _) (λ l. l.span) (ends_filled (key _) (λ l. l.span) (filled_token _))) in
-    record {
-      filled = filled_as in_parentheses _ expression_span filled;
-      sound = λ is.
-          sound_as in_parentheses _ expression_parts
-          (sound_own _ (λ v. expression_part (in_parentheses v)) (λ v. expression_parts v.1.0) (λ us v s. is.spells us (in_parentheses v) (v, s, refl)) filled
-          (sound_second _ _ (λ v. expression_parts v.0) (sound_first inner _ expression_parts h)));
-    }
+    suits_as _ in_parentheses (λ v. expression_parts v.1.0)
+    (filled_across (key _) (both inner (key _)) (λ l. l.span) (λ v. v.1.span) (filled_token _) (ends_second inner (key _) (λ l. l.span) (ends_filled (key _) (λ l. l.span) (filled_token _))))
+    (λ is. sound_second _ _ (λ v. expression_parts v.0) (sound_first inner _ expression_parts h)) (λ P v whole h. (whole, h))
 
 suits_flat_primary : Suits flat_primary
 unfolding flat_primary
-suits_flat_primary = suits_either literal _ suits_literal (suits_reference flat_reference filled_flat_reference sound_flat_reference)
+suits_flat_primary = suits_either literal _ suits_literal suits_flat_reference
 
 suits_deep_primary : (inner : Form Expression) → Sound inner expression_parts → Suits (deep_primary inner)
 unfolding deep_primary
-suits_deep_primary inner h =
-    suits_either literal _ suits_literal
-    (suits_either _ (parenthesized inner) (suits_reference (deep_reference inner) (filled_deep_reference inner) (sound_deep_reference inner h)) (suits_parenthesized inner h))
+suits_deep_primary inner h = suits_either literal _ suits_literal (suits_either _ (parenthesized inner) (suits_deep_reference inner h) (suits_parenthesized inner h))
 
 -- Signs
-
-filled_unary : (primary : Form Expression) → Filled primary expression_span → Filled (unary primary) expression_span
-unfolding unary
-filled_unary primary h =
-    filled_as _ _ expression_span
-    (filled_from _ primary (λ operator. operator.span) expression_span _ (λ e. refl) (λ operator e. refl) (filled_as unary_use _ (λ operator. operator.span) (filled_token signs)) h)
 
 sound_sign : Sound sign (λ operator. sign_part operator ∷ [])
 unfolding sign
@@ -187,53 +158,24 @@ spelled_unary : (primary : Form Expression) (us : List Lexeme) (e : Expression) 
 unfolding unary
 spelled_unary primary us e s = ((None, e), ([], us, refl, refl, s), refl)
 
-unsigned : (primary : Form Expression) → IsExpression (unary primary) → IsExpression primary
-unsigned primary h = record { spells = λ us e s. h.spells us e (spelled_unary primary us e s) }
+each_signed : (P : Part → Type 0) (o : Option UnaryUse) (e : Expression) → P (expression_part (with_sign o e)) → Each P (option_parts (λ operator. sign_part operator ∷ []) o ++ expression_parts e) → Each P (expression_parts (with_sign o e))
+each_signed P None e whole h = h
+each_signed P (Some used) e whole h = (whole, h)
 
-module _ (primary : Form Expression) (suits : Suits primary) (is : IsExpression (unary primary)) where
-  written_unary : (us prefix rest : List Lexeme) (o : Option UnaryUse) (e : Expression) → us ≡ prefix ++ rest → SpellsOption (Spells sign) prefix o → Spells primary rest e → Each (IsWritten us) (expression_parts (with_sign o e))
-  unfolding unary sign
-  written_unary us prefix rest None e eq none s =
-      subst (λ (z : List Lexeme). Each (IsWritten z) (expression_parts e)) (sym eq)
-      (each_right prefix rest (expression_parts e) ((suits.sound (unsigned primary is)).stands rest e s))
-  written_unary us prefix rest (Some operator) e eq before s =
-      let whole : Spells (unary primary) us (unary_expression operator e) = ((Some operator, e), (prefix, rest, eq, before, s), refl) in
-      let inner = each_append (IsWritten (prefix ++ rest)) (sign_part operator ∷ []) (expression_parts e) (each_left prefix rest (sign_part operator ∷ []) (sound_sign.stands prefix operator before)) (each_right prefix rest (expression_parts e) ((suits.sound (unsigned primary is)).stands rest e s)) in (
-        written_whole us (expression_part (unary_expression operator e)) ((filled_unary primary suits.filled).fills us (unary_expression operator e) whole) (is.spells us (unary_expression operator e) whole),
-        subst (λ (z : List Lexeme). Each (IsWritten z) (sign_part operator ∷ expression_parts e)) (sym eq) inner,
-      )
-
-  sound_unary : Sound (unary primary) expression_parts
-  unfolding unary sign
-  sound_unary = sound_as _ _ expression_parts (record { stands = λ us v s. written_unary us s.0 s.1 v.0 v.1 s.2 s.3 s.4 })
+suits_unary : (primary : Form Expression) → Suits primary → Suits (unary primary)
+unfolding unary sign
+suits_unary primary h =
+    suits_as _ (λ v. with_sign v.0 v.1) (λ v. option_parts (λ operator. sign_part operator ∷ []) v.0 ++ expression_parts v.1)
+    (filled_from _ primary (λ operator. operator.span) expression_span _ (λ e. refl) (λ operator e. refl) (filled_as unary_use _ (λ operator. operator.span) (filled_token signs)) h.filled)
+    (λ is.
+    sound_both _ primary _ expression_parts (sound_option sign (λ operator. sign_part operator ∷ []) sound_sign)
+    (h.sound (record { spells = λ us e s. is.spells us e (spelled_unary primary us e s) })))
+    (λ P v. each_signed P v.0 v.1)
 
 -- Rows
 
-module _ (kinds : List Kind) (x : Form Expression) (filled : Filled x expression_span) where
-  -- from what stands before operands through the last of them
-  fills_operands : (prefix rest : List Lexeme) (s : Span) (os : List (BinaryUse × Expression)) → Fills prefix s → SpellsEach (Spells (operand kinds x)) rest os → Fills (prefix ++ rest) (span_through s (operands_of os))
-  unfolding operand
-  fills_operands prefix rest s [] h none = subst (λ (z : List Lexeme). Fills z s) (sym (ap (λ z. prefix ++ z) none ∙ append-nil prefix)) h
-  fills_operands prefix rest s (o ∷ os) h each =
-      let first = each.0 in
-      let others = each.1 in
-      let spelled = each.3 in
-      let last = (filled.fills spelled.1 o.1 spelled.4).ends in
-      let wider : Fills (prefix ++ first) (across s (expression_span o.1)) =
-      record {
-        begins = begins_more prefix first s.start h.begins;
-        ends = ends_more prefix first (expression_span o.1).end (subst (λ (z : List Lexeme). EndsAt z (expression_span o.1).end) (sym spelled.2) (ends_more spelled.0 spelled.1 (expression_span o.1).end last));
-      } in
-      subst (λ (z : List Lexeme). Fills z (span_through s (operands_of (o ∷ os)))) (append_assoc prefix first others ∙ ap (λ z. prefix ++ z) (sym each.2))
-      (fills_operands (prefix ++ first) others (across s (expression_span o.1)) os wider each.4)
-
-  fills_row : (us prefix rest : List Lexeme) (e : Expression) (os : List (BinaryUse × Expression)) → us ≡ prefix ++ rest → Fills prefix (expression_span e) → SpellsEach (Spells (operand kinds x)) rest os → Fills us (expression_span (row_of e os))
-  fills_row us prefix rest e [] eq h each = subst (λ (z : List Lexeme). Fills z (expression_span e)) (sym eq) (fills_operands prefix rest (expression_span e) [] h each)
-  fills_row us prefix rest e (o ∷ os) eq h each = subst (λ (z : List Lexeme). Fills z (expression_span (row_of e (o ∷ os)))) (sym eq) (fills_operands prefix rest (expression_span e) (o ∷ os) h each)
-
-  filled_row : Filled (row kinds x) expression_span
-  unfolding row
-  filled_row = filled_as _ _ expression_span (record { fills = λ us v s. fills_row us s.0 s.1 v.0 v.1 s.2 (filled.fills s.0 v.0 s.3) s.4 })
+row_span : (e : Expression) (os : List (BinaryUse × Expression)) → span_through (expression_span e) (operands_of os) ≡ expression_span (row_of e os)
+row_span e os = grind arith
 
 -- one operand
 spelled_row : (kinds : List Kind) (x : Form Expression) (us : List Lexeme) (e : Expression) → Spells x us e → Spells (row kinds x) us e
@@ -255,27 +197,21 @@ sound_operand kinds x are h =
     sound_both _ x (λ o. operator_part o ∷ []) expression_parts
     (sound_own _ operator_part (λ _. []) (λ us o s. (s.0, (s.1.0, are s.0.kind s.1.1), s.2)) (filled_as binary_use _ (λ o. o.span) (filled_token kinds)) (sound_nothing _)) h
 
-module _ (kinds : List Kind) (x : Form Expression) (are : AreOperators kinds) (suits : Suits x) (is : IsExpression (row kinds x)) where
-  written_row : (us : List Lexeme) (e : Expression) (os : List (BinaryUse × Expression)) → Spells (row kinds x) us (row_of e os) → Each (IsWritten us) (expression_parts e ++ flat_map operand_parts os) → Each (IsWritten us) (expression_parts (row_of e os))
-  written_row us e [] whole h = each_prefix (IsWritten us) (expression_parts e) [] h
-  written_row us e (o ∷ os) whole h =
-      let operands = flat_map operand_parts (o ∷ os) in (
-        written_whole us (expression_part (row_of e (o ∷ os))) ((filled_row kinds x suits.filled).fills us (row_of e (o ∷ os)) whole) (is.spells us (row_of e (o ∷ os)) whole),
-        each_append (IsWritten us) (expression_parts e) (operands_parts (operands_of (o ∷ os))) (each_prefix (IsWritten us) (expression_parts e) operands h)
-            (subst (Each (IsWritten us)) (flat_operands (o ∷ os)) (each_rest (IsWritten us) (expression_parts e) operands h)),
-      )
-
-  sound_row_parts : Sound (both x (many (operand kinds x))) (λ v. expression_parts v.0 ++ flat_map operand_parts v.1)
-  sound_row_parts =
-      let inner = suits.sound (record { spells = λ us e s. is.spells us e (spelled_row kinds x us e s) }) in
-      sound_both x _ expression_parts (flat_map operand_parts) inner (sound_many (operand kinds x) operand_parts (sound_operand kinds x are inner))
-
-  sound_row : Sound (row kinds x) expression_parts
-  unfolding row
-  sound_row = sound_as _ _ expression_parts (record { stands = λ us v s. written_row us v.0 v.1 (v, s, refl) (sound_row_parts.stands us v s) })
+each_operand : (P : Part → Type 0) (e : Expression) (os : List (BinaryUse × Expression)) → P (expression_part (row_of e os)) → Each P (expression_parts e ++ flat_map operand_parts os) → Each P (expression_parts (row_of e os))
+each_operand P e [] whole h = each_prefix P (expression_parts e) [] h
+each_operand P e (o ∷ os) whole h =
+    (whole, subst (λ (l : List Part). Each P (expression_parts e ++ l)) (flat_parts operand_parts (λ all. operands_parts (operands_of all)) refl (λ a all. refl) (o ∷ os)) h)
 
 suits_row : (kinds : List Kind) (x : Form Expression) → AreOperators kinds → Suits x → Suits (row kinds x)
-suits_row kinds x are h = record { filled = filled_row kinds x h.filled; sound = sound_row kinds x are h }
+unfolding row operand
+suits_row kinds x are h =
+    let ends = ends_second (as_value binary_use (one kinds)) x expression_span (ends_filled x expression_span h.filled) in
+    let filled = filled_through (operand kinds x) (λ o. expression_span o.1) ends (λ s os. span_through s (operands_of os)) (λ s. refl) (λ s o os. refl) x expression_span h.filled in
+    suits_as _ (λ v. row_of v.0 v.1) (λ v. expression_parts v.0 ++ flat_map operand_parts v.1) (record { fills = λ us v s. subst (Fills us) (row_span v.0 v.1) (filled.fills us v s) })
+    (λ is.
+    let inner = h.sound (record { spells = λ us e s. is.spells us e (spelled_row kinds x us e s) }) in
+    sound_both x _ expression_parts (flat_map operand_parts) inner (sound_many (operand kinds x) operand_parts (sound_operand kinds x are inner)))
+    (λ P v. each_operand P v.0 v.1)
 
 suits_rows : (all : List (List Kind)) (x : Form Expression) → AreOperators (flat_map (λ ks. ks) all) → Suits x → Suits (rows all x)
 unfolding rows
@@ -289,15 +225,13 @@ suits_rows (kinds ∷ stronger) x are h =
 is_expression : (n : ℕ) → n ≤ levels → IsExpression (expression n)
 is_expression n within = record { spells = λ us e s. (n, within, s) }
 
-suits_level : (primary : Form Expression) → Suits primary → Suits (rows strengths (unary primary))
-suits_level primary h = suits_rows strengths (unary primary) (λ k m. m) (record { filled = filled_unary primary h.filled; sound = sound_unary primary h })
-
 suits_expression : (n : ℕ) → n ≤ levels → Suits (expression n)
 unfolding expression
-suits_expression zero within = suits_level flat_primary suits_flat_primary
+suits_expression zero within = suits_rows strengths (unary flat_primary) (λ k m. m) (suits_unary flat_primary suits_flat_primary)
 suits_expression (suc n) within =
     let below : n ≤ levels = omega (arith, within) in
-    suits_level (deep_primary (expression n)) (suits_deep_primary (expression n) ((suits_expression n below).sound (is_expression n below)))
+    let primary = suits_deep_primary (expression n) ((suits_expression n below).sound (is_expression n below)) in
+    suits_rows strengths (unary (deep_primary (expression n))) (λ k m. m) (suits_unary (deep_primary (expression n)) primary)
 
 pub sound_expression : (n : ℕ) → n ≤ levels → Sound (expression n) expression_parts
 sound_expression n within = (suits_expression n within).sound (is_expression n within)
@@ -307,17 +241,13 @@ sound_expression n within = (suits_expression n within).sound (is_expression n w
 spelled_operand : (primary : Form Expression) (us : List Lexeme) (e : Expression) → Spells primary us e → Spells (rows strengths (unary primary)) us e
 spelled_operand primary us e s = spelled_rows strengths (unary primary) us e (spelled_unary primary us e s)
 
-is_flat_reference : IsExpression (as_value reference_value flat_reference)
-unfolding expression flat_primary
-is_flat_reference = record { spells = λ us e s. (0, omega arith, spelled_operand flat_primary us e (inr s)) }
+sound_value : (x : Form (ReferenceTree × Expressions)) → Sound (as_value reference_value x) expression_parts → Sound x (λ r. expression_parts (reference_value r))
+sound_value x h = record { stands = λ us r s. h.stands us (reference_value r) (r, s, refl) }
 
-is_deep_reference : (n : ℕ) → suc n ≤ levels → IsExpression (as_value reference_value (deep_reference (expression n)))
-unfolding expression deep_primary
-is_deep_reference n within = record { spells = λ us e s. (suc n, within, spelled_operand (deep_primary (expression n)) us e (inr (inl s))) }
-
-pub sound_reference : (n : ℕ) → n ≤ levels → Sound (reference n) (λ r. expression_parts (reference_expression r.0 r.1))
-unfolding reference
-sound_reference zero within = sound_reference_value flat_reference filled_flat_reference sound_flat_reference is_flat_reference
+pub sound_reference : (n : ℕ) → n ≤ levels → Sound (reference n) (λ r. expression_parts (reference_value r))
+unfolding reference expression flat_primary deep_primary
+sound_reference zero within = sound_value flat_reference (suits_flat_reference.sound (record { spells = λ us e s. (0, omega arith, spelled_operand flat_primary us e (inr s)) }))
 sound_reference (suc n) within =
-    let inner = sound_expression n (omega (arith, within)) in
-    sound_reference_value (deep_reference (expression n)) (filled_deep_reference (expression n)) (sound_deep_reference (expression n) inner) (is_deep_reference n within)
+    sound_value (deep_reference (expression n))
+    ((suits_deep_reference (expression n) (sound_expression n (omega (arith, within)))).sound
+    (record { spells = λ us e s. (suc n, within, spelled_operand (deep_primary (expression n)) us e (inr (inl s))) }))

@@ -1,12 +1,10 @@
 -- The homes of blocks, and of the ends of links.
-use Rattle.fb_laws.proofs.Common.{ℕ, ◌≡◌, ◌<◌, true, List, [], ◌∷◌, Option, Some, None, refl, sym, ◌∙◌, ap, subst, take, length, arith, option_map, find, cons_option, bytes_eq, take-append_seam, take_all, dec_lt, contains_cases, contains_nothing, is_nearest, FlatBlock, home_at, first_at, IsPrefix, IsNearest, nearest, block_homes, Home, IsBlockAt, Contains, block_home, passes_in_find}
+use Rattle.fb_laws.proofs.Common.{ℕ, ◌≡◌, ◌<◌, true, List, [], ◌∷◌, Option, Some, None, refl, sym, ◌∙◌, ap, subst, take, length, map, arith, option_map, find, cons_option, bytes_eq, take-append_seam, take_all, dec_lt, contains_cases, contains_nothing, is_nearest, NameUse, stands_for, same_exact, same_itself, Sources, tree_at, FlatBlock, home_at, first_at, IsPrefix, IsNearest, nearest, block_homes, mappings_in, resource_at, Home, StandsOn, Contains, block_home, passes_in_find}
 use Rattle.fb_laws.proofs.Joined.{by_option, given}
 use Rattle.std.proofs.lemmas.Slice.Eq.{bytes_eq-Decides}
+pub use Rattle.fb_placing.proofs.TableLemmas.{same_text as same_bytes}
 
 -- ---- what is nearest is one only
-
-pub same_bytes : (a b : List ℕ) → bytes_eq a b ≡ true → a ≡ b
-same_bytes a b e = (bytes_eq-Decides a b).0 e
 
 pub bytes_same : (a b : List ℕ) → a ≡ b → bytes_eq a b ≡ true
 bytes_same a b e = (bytes_eq-Decides a b).1 e
@@ -20,6 +18,11 @@ pub record IsFound {X Y : Type 0} (key : X → List ℕ) (value : X → Y) (xs :
 
 pub found_in : {X Y : Type 0} (key : X → List ℕ) (value : X → Y) (xs : List X) (name : List ℕ) (y : Y) → first_at key value xs name ≡ Some y → IsFound key value xs name y
 found_in key value xs name y e = grind (arith, by_option, find, bytes_eq, passes_in_find, same_bytes)
+
+-- the same as what names stand for
+pub same_found : {X Y : Type 0} (key : X → NameUse) (value : X → Y) (xs : List X) (name : List ℕ) → first_at (λ (x : X). (key x).name) value xs name ≡ stands_for (map (λ (x : X). ((key x).name, value x)) xs) name
+same_found key value [] name = refl
+same_found {X = X} {Y = Y} key value (z ∷ xs) name = grind (arith, bytes_eq, option_map, find, same_itself, same_bytes, bytes_same, same_exact, same_found key value xs name)
 
 prefix_begins : (prefix path : List ℕ) → IsPrefix prefix path → take (length prefix) path ≡ prefix
 prefix_begins prefix path is = grind (arith, take_all, take-append_seam)
@@ -74,44 +77,43 @@ module _ (resources : List ℕ → Option (List ℕ)) where
       let o = of_home blocks f.item f.among in
       subst (λ (q : List ℕ). IsHomed blocks path q) f.gives (subst (λ (p : List ℕ). IsHomed blocks p f.item.resource) f.named o)
 
-  -- ---- homes of ends
-
   -- a block has a home
   pub record HasHome (b : FlatBlock) : Type 0 where
     pub on_resource : List ℕ
     pub home : nearest resources b.path ≡ Some on_resource
 
-  -- the block at an end has this home
-  pub record EndHome (blocks : List FlatBlock) (end r : List ℕ) : Type 0 where
-    pub block : FlatBlock
-    pub is_at : IsBlockAt blocks end block
-    pub home : IsNearest resources block.path (Some r)
+-- ---- homes of ends
 
-  module _ (blocks : List FlatBlock) (all : (b : FlatBlock) → Contains blocks b → HasHome b) where
-    nothing_at : (b : FlatBlock) → Contains blocks b → home_at (block_homes resources blocks) b.path ≡ None → ⊥
-    nothing_at b c none = let h = all b c in let there = home_listed blocks b h.on_resource c h.home in cc
+-- the resources that a system maps to
+abbrev pub mapped : Sources → List ℕ → List ℕ → Option (List ℕ)
+mapped sources system = resource_at (mappings_in (tree_at sources system))
 
-    pub end_home : (end r : List ℕ) → nearest (home_at (block_homes resources blocks)) end ≡ Some r → EndHome blocks end r
-    end_home end r e = let n = of_nearest (home_at (block_homes resources blocks)) end r e in made n.0 n.1 n.3 (homed blocks n.0 r n.2)
-      where
-        made : (prefix : List ℕ) → IsPrefix prefix end → ((other : List ℕ) → IsPrefix other end → length prefix < length other → home_at (block_homes resources blocks) other ≡ None) → IsHomed blocks prefix r → EndHome blocks end r
-        made prefix is longer o = grind (arith, dec_lt, nothing_at, of_nearest)
+module _ (sources : Sources) (system : List ℕ) (blocks : List FlatBlock) (all : (b : FlatBlock) → Contains blocks b → HasHome (mapped sources system) b) where
+  abbrev homes : List ℕ → Option (List ℕ)
+  homes = home_at (block_homes (mapped sources system) blocks)
 
-    pub home_end : (end r : List ℕ) → EndHome blocks end r → nearest (home_at (block_homes resources blocks)) end ≡ Some r
-    home_end end r o =
-        nearest_of (home_at (block_homes resources blocks)) end r (
-          o.block.path,
-          o.is_at.prefix,
-          home_listed blocks o.block r o.is_at.listed (nearest_of resources o.block.path r o.home),
-          λ other prefix longer. by_option (home_at (block_homes resources blocks) other) (λ none. none) (λ q e.
-              let w = homed blocks other q e in
-              let short = o.is_at.longest w.block w.listed (subst (λ (p : List ℕ). IsPrefix p end) (sym w.placed) prefix) in
-              let same = ap length w.placed in
-              absurd (omega (arith, short, same, longer))),
-        )
+  nothing_at : (b : FlatBlock) → Contains blocks b → homes b.path ≡ None → ⊥
+  nothing_at b c none = let h = all b c in let there = home_listed (mapped sources system) blocks b h.on_resource c h.home in cc
 
-    -- some block stands in front of the end
-    pub some_home : (end : List ℕ) (b : FlatBlock) → Contains blocks b → IsPrefix b.path end → (r : List ℕ) × (nearest (home_at (block_homes resources blocks)) end ≡ Some r)
-    some_home end b c prefix =
-        let at = home_at (block_homes resources blocks) in
-        by_option (nearest at end) (λ none. absurd (nothing_at b c (subst (λ (o : Option (List ℕ)). IsNearest at end o) none (is_nearest at end) b.path prefix))) (λ r e. (r, e))
+  made : (prefix end r : List ℕ) → IsPrefix prefix end → ((other : List ℕ) → IsPrefix other end → length prefix < length other → homes other ≡ None) → IsHomed (mapped sources system) blocks prefix r → StandsOn sources system blocks end r
+  made prefix end r is longer o = grind (arith, dec_lt, nothing_at, of_nearest)
+
+  pub end_home : (end r : List ℕ) → nearest homes end ≡ Some r → StandsOn sources system blocks end r
+  end_home end r e = let n = of_nearest homes end r e in made n.0 end r n.1 n.3 (homed (mapped sources system) blocks n.0 r n.2)
+
+  pub home_end : (end r : List ℕ) → StandsOn sources system blocks end r → nearest homes end ≡ Some r
+  home_end end r o =
+      nearest_of homes end r (
+        o.block.path,
+        o.is_at.prefix,
+        home_listed (mapped sources system) blocks o.block r o.is_at.listed (nearest_of (mapped sources system) o.block.path r o.home),
+        λ other prefix longer. by_option (homes other) (λ none. none) (λ q e.
+            let w = homed (mapped sources system) blocks other q e in
+            let short = o.is_at.longest w.block w.listed (subst (λ (p : List ℕ). IsPrefix p end) (sym w.placed) prefix) in
+            absurd (omega (arith, short, longer, ap length w.placed))),
+      )
+
+  -- some block stands in front of the end
+  pub some_home : (end : List ℕ) (b : FlatBlock) → Contains blocks b → IsPrefix b.path end → (r : List ℕ) × StandsOn sources system blocks end r
+  some_home end b c prefix =
+      by_option (nearest homes end) (λ none. absurd (nothing_at b c (subst (λ (o : Option (List ℕ)). IsNearest homes end o) none (is_nearest homes end) b.path prefix))) (λ r e. (r, end_home end r e))

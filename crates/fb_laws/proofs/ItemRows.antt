@@ -54,14 +54,10 @@ module _ {A D S T : Type 0} (of : Meaning D S T) (name_of : A → NameUse) (mean
     keeps d = of.same (of.sort d) sort
 
     is_item : (name : List ℕ) (type : T) → IsPort keeps of.type declared name type → IsItemOf name_of sort_of type_of items sort name type
-    is_item name type o =
-        let e = item_of name o.meaning o.origin in
-        record { place = e.place; declared = e.declared; of_sort = e.of_sort ∙ of.exact (of.sort o.meaning) sort o.kept; typed = e.typed ∙ o.gives }
+    is_item name type o = grind (arith, item_of)
 
     item_is : (name : List ℕ) (type : T) → IsItemOf name_of sort_of type_of items sort name type → IsPort keeps of.type declared name type
-    item_is name type h =
-        let m = meaning_of h.declared.item in
-        grind (arith, of_item)
+    item_is name type h = grind (arith, of_item)
 
     are_exactly : AreExactly (ports keeps of.type declared) (IsItemOf name_of sort_of type_of items sort)
     are_exactly name type = (λ c. is_item name type (is_port keeps of.type declared name type c), λ h. among_ports keeps of.type declared name type (item_is name type h))
@@ -69,13 +65,7 @@ module _ {A D S T : Type 0} (of : Meaning D S T) (name_of : A → NameUse) (mean
     come_in_turn : ComeAsDeclared (ports keeps of.type declared) (IsFirstItem name_of items) (λ place later. place < later)
     come_in_turn j k one other before at_one at_other =
         let t = in_turn keeps of.type declared j k one other before at_one at_other in
-        record {
-          place = t.first.origin.place;
-          later = t.second.origin.place;
-          declared = first_of one.0 t.first.meaning t.first.origin;
-          other_declared = first_of other.0 t.second.meaning t.second.origin;
-          earlier = t.earlier;
-        }
+        search first_of
 
 -- events
 
@@ -110,20 +100,14 @@ events_declared decl type is side = are_exactly of_events (λ (e : EventTree). e
 
 -- plugs, sockets, and instances in other roles
 
-same_roles : (a b : Role) → same_role a b ≡ true → a ≡ b
-same_roles a b e = grind arith
-
-role_itself : (a : Role) → same_role a a ≡ true
-role_itself a = grind arith
-
 abbrev of_instances : Meaning DeclaredInstance Role NameUse
 of_instances = record {
   sort = λ d. d.role;
   type = λ d. d.type_name;
   equal = λ d e s t i. record { role = s i; type_name = t i };
   same = same_role;
-  exact = same_roles;
-  itself = role_itself;
+  exact = λ a b e. grind arith;
+  itself = λ a. grind arith;
 }
 
 abbrev instance_meaning : InstanceTree → DeclaredInstance

@@ -6,7 +6,6 @@ pub mod Sound
 pub mod Sections
 pub mod ExpressionSpans
 pub mod Statements
-pub mod ChartSpans
 pub mod UnitSpans
 pub mod Reading
 pub mod Standing
@@ -29,11 +28,9 @@ pub mod NetworkLemmas
 pub mod UsableTypes
 pub mod NetworkEnds
 pub mod RepeatRows
-pub mod EndRows
 pub mod ConnectionRows
 pub mod ParameterRows
-pub mod ExpressionLemmas
-pub mod StatementLemmas
+pub mod NetworkRows
 pub mod UnitDemands
 pub mod CarriedTypes
 pub mod ReferentLemmas

@@ -1,6 +1,8 @@
 -- Each code of mappings, by what its list of faults has.
-use Rattle.fb_laws.proofs.Common.{◌≡◌, ℕ, true, List, ◌∷◌, ◌++◌, map, sym, ap, ◌∙◌, subst, Bool, false, Option, Some, None, ◌⊎◌, inl, inr, refl, true≢false, ◌≢◌, cond, [], length, ◌-◌, arith, Contains-append_left, Contains-append_right, Contains, flat_map, slice_get, option_map_or, NameUse, Span, DeclTree, DeviceTree, MappingTree, ResourceTree, SystemTree, system_configuration, declared_mapping_faults, has_resource, home_faults, home_span, mapping_faults_of, resource_faults, resources_in, second_mappings, system_mapping_faults, has_name, is_same, stands_for, Code, MappedTwice, NoSuchResource, Fault, Sources, tree_at, PathUse, path_of_names, contains_cases, contains_flat_map, contains_here, contains_later, contains_map, contains_nothing, contains_single, origin_in_flat_map, origin_in_map, none_named, not_named, same_exact, same_itself, HasLostMapping, HasSecondMapping, IsFirstDevice, IsLost, IsSystemAt, MappingsHaveHomes, MappingsHaveOwnPaths, no_device, no_resource, last_of, place_of_path}
-use Rattle.fb_laws.proofs.{Joined.{iff, of_either, by_option}, RepeatedPaths.{repeat_origin, repeat_reported}}
+use Rattle.fb_laws.proofs.Common.{◌≡◌, ℕ, List, ◌∷◌, sym, ap, ◌∙◌, subst, Bool, false, Option, Some, refl, true≢false, ◌≢◌, [], length, bytes_eq, find, option_map, passes_in_find, false_from_ne_true, ◌-◌, arith, Contains-append_left, Contains-append_right, Contains, flat_map, slice_get, option_map_or, NameUse, Span, DeclTree, DeviceTree, MappingTree, ResourceTree, SystemTree, system_configuration, declared_mapping_faults, has_resource, resource_names, home_faults, home_span, mapping_faults_of, resource_faults, second_mappings, system_mapping_faults, has_name, Code, MappedTwice, NoSuchResource, Fault, Sources, tree_at, PathUse, path_of_names, contains_flat_map, contains_here, contains_map, contains_nothing, contains_single, origin_in_flat_map, origin_in_map, none_named, not_named, HasLostMapping, HasSecondMapping, IsLost, IsSystemAt, MappingsHaveHomes, MappingsHaveOwnPaths, no_device, no_resource, last_of, place_of_path}
+use Rattle.fb_laws.proofs.{HomeLemmas.{bytes_same, same_bytes, same_found}, Joined.{iff, of_either, by_option}, RepeatedPaths.{repeat_origin, repeat_reported}}
+use Rattle.fb_laws.proofs.SplitLemmas.{before_fails, first_found, found_none, found_split, none_found}
+use Rattle.std.specs.List.{before_first}
 
 -- what is so where a unit has a fault of this code
 abbrev pub Has : Code → Sources → List ℕ → Span → Type 0
@@ -26,79 +28,54 @@ path_place (first ∷ others) =
 
 -- mappings to no resource
 
-abbrev names_in : DeviceTree → List NameUse
-names_in d = map (λ r. r.name) d.resources
+abbrev pub is_named : List ℕ → DeviceTree → Bool
+is_named name d = bytes_eq d.name.name name
 
--- the first device of a name
-record FirstOf (devices : List DeviceTree) (name : List ℕ) (names : List NameUse) : Type 0 where
-  device : DeviceTree
-  is_first : IsFirstDevice devices name device
-  has : names_in device ≡ names
+-- whether a device that is found has the name
+abbrev pub holds : Option DeviceTree → List ℕ → Bool
+holds found name = option_map_or (λ names. has_name names name) (option_map resource_names found) false
 
-one_later : (d : DeviceTree) (devices : List DeviceTree) (name : List ℕ) (device : DeviceTree) → is_same d.name.name name ≡ false → IsFirstDevice devices name device → IsFirstDevice (d ∷ devices) name device
-one_later d devices name device other f = record { before = d ∷ f.before; after = f.after; listed = ap (λ l. d ∷ l) f.listed; named = f.named; none_before = λ x c. by x (contains_cases d f.before x c) }
-  where
-    by : (x : DeviceTree) → (d ≡ x) ⊎ Contains f.before x → x.name.name ≢ name
-    by x (inl same) e = true≢false (sym (same_itself d.name.name name (ap (λ (y : DeviceTree). y.name.name) same ∙ e)) ∙ other)
-    by x (inr c) e = f.none_before x c e
+pub holds_first : (s : SystemTree) (m : MappingTree) → has_resource s.devices m.device.name m.resource.name ≡ holds (find (is_named m.device.name) s.devices) m.resource.name
+holds_first s m =
+    ap (λ (o : Option (List NameUse)). option_map_or (λ names. has_name names m.resource.name) o false)
+    (sym (same_found (λ (d : DeviceTree). d.name) resource_names s.devices m.device.name))
 
-first_of : (devices : List DeviceTree) (name : List ℕ) (names : List NameUse) → stands_for (resources_in devices) name ≡ Some names → FirstOf devices name names
-first_of [] name names e = absurd (let fails : ⊥ = cc in fails)
-first_of (d ∷ devices) name names e = by (is_same d.name.name name) refl e (first_of devices name names)
-  where
-    by : (b : Bool) → is_same d.name.name name ≡ b → cond b (Some (names_in d)) (stands_for (resources_in devices) name) ≡ Some names → (stands_for (resources_in devices) name ≡ Some names → FirstOf devices name names) → FirstOf (d ∷ devices) name names
-    by true s h more =
-        record { device = d; is_first = record { before = []; after = devices; listed = refl; named = same_exact d.name.name name s; none_before = λ x c. absurd (contains_nothing x c) }; has = cc }
-    by false s h more = let o = more h in record { device = o.device; is_first = one_later d devices name o.device s o.is_first; has = o.has }
+not_called : (name : List ℕ) (d : DeviceTree) → d.name.name ≢ name → is_named name d ≡ false
+not_called name d other = false_from_ne_true (is_named name d) (λ yes. other (same_bytes d.name.name name yes))
 
--- what it stands for
-stands_first : (before : List DeviceTree) (d : DeviceTree) (after : List DeviceTree) (name : List ℕ) → d.name.name ≡ name → ((x : DeviceTree) → Contains before x → x.name.name ≢ name) → stands_for (resources_in (before ++ d ∷ after)) name ≡ Some (names_in d)
-stands_first [] d after name e none_before = ap (λ b. cond b (Some (names_in d)) (stands_for (resources_in after) name)) (same_itself d.name.name name e)
-stands_first (x ∷ before) d after name e none_before =
-    by (is_same x.name.name name) refl (stands_first before d after name e (λ y c. none_before y (contains_later x before y c)))
-  where
-    by : (b : Bool) → is_same x.name.name name ≡ b → stands_for (resources_in (before ++ d ∷ after)) name ≡ Some (names_in d) → cond b (Some (names_in x)) (stands_for (resources_in (before ++ d ∷ after)) name) ≡ Some (names_in d)
-    by true s h = absurd (none_before x (contains_here x before) (same_exact x.name.name name s))
-    by false s h = h
+called : (name : List ℕ) (d : DeviceTree) → is_named name d ≡ false → d.name.name ≢ name
+called name d other same = true≢false (sym (bytes_same d.name.name name same) ∙ other)
 
-abbrev holds : Option (List NameUse) → List ℕ → Bool
-holds names name = option_map_or (λ names. has_name names name) names false
-
--- where no device has the name
-none_of : (devices : List DeviceTree) (name : List ℕ) → stands_for (resources_in devices) name ≡ None → (d : DeviceTree) → Contains devices d → d.name.name ≢ name
-none_of [] name e d c = absurd (contains_nothing d c)
-none_of (x ∷ devices) name e d c = by (is_same x.name.name name) refl e (contains_cases x devices d c) (none_of devices name)
-  where
-    by : (b : Bool) → is_same x.name.name name ≡ b → cond b (Some (names_in x)) (stands_for (resources_in devices) name) ≡ None → (x ≡ d) ⊎ Contains devices d → (stands_for (resources_in devices) name ≡ None → (y : DeviceTree) → Contains devices y → y.name.name ≢ name) → d.name.name ≢ name
-    by true s h o more = absurd (let fails : ⊥ = cc in fails)
-    by false s h (inl same) more = λ e. true≢false (sym (same_itself x.name.name name (ap (λ (y : DeviceTree). y.name.name) same ∙ e)) ∙ s)
-    by false s h (inr c) more = more h d c
-
-none_stands : (devices : List DeviceTree) (name : List ℕ) → ((d : DeviceTree) → Contains devices d → d.name.name ≢ name) → stands_for (resources_in devices) name ≡ None
-none_stands [] name fails = refl
-none_stands (x ∷ devices) name fails =
-    (elim (is_same x.name.name name) as (λ b. is_same x.name.name name ≡ b → stands_for (resources_in devices) name ≡ None → cond b (Some (names_in x)) (stands_for (resources_in devices) name) ≡ None) [ true ↦ λ s h. absurd (fails x (contains_here x devices) (same_exact x.name.name name s)) | false ↦ λ s h. h ]) refl (none_stands devices name (λ d c. fails d (contains_later x devices d c)))
-
-lost_where : (s : SystemTree) (m : MappingTree) → has_resource s.devices m.device.name m.resource.name ≡ false → IsLost s m
+pub lost_where : (s : SystemTree) (m : MappingTree) → has_resource s.devices m.device.name m.resource.name ≡ false → IsLost s m
 lost_where s m e =
-    by_option (stands_for (resources_in s.devices) m.device.name) (λ g. no_device (none_of s.devices m.device.name g)) (λ names g.
-    let o = first_of s.devices m.device.name names g in
-    let none = ap (λ (l : List NameUse). has_name l m.resource.name) o.has ∙ sym (ap (λ (o : Option (List NameUse)). holds o m.resource.name) g) ∙ e in
-    no_resource o.device o.is_first (λ r c. not_named (names_in o.device) m.resource.name none r.name (contains_map (λ (r : ResourceTree). r.name) o.device.resources r c)))
+    let test = is_named m.device.name in
+    by_option (find test s.devices) (λ none. no_device (λ d c. called m.device.name d (found_none test s.devices none d c))) (λ d g.
+    let o = found_split test s.devices d g in
+    let none = ap (λ (o : Option DeviceTree). holds o m.resource.name) (sym g) ∙ sym (holds_first s m) ∙ e in
+    no_resource d (record {
+      before = before_first test s.devices;
+      after = o.0;
+      listed = o.1;
+      named = same_bytes d.name.name m.device.name (passes_in_find test s.devices d g).passes;
+      none_before = λ x c. called m.device.name x (before_fails test s.devices x c);
+    }) (λ r c. not_named (resource_names d) m.resource.name none r.name (contains_map (λ (r : ResourceTree). r.name) d.resources r c)))
 
 lost_found_where : (s : SystemTree) (m : MappingTree) → IsLost s m → has_resource s.devices m.device.name m.resource.name ≡ false
-lost_found_where s m (no_device none) = ap (λ (o : Option (List NameUse)). holds o m.resource.name) (none_stands s.devices m.device.name none)
+lost_found_where s m (no_device none) =
+    holds_first s m
+    ∙ ap (λ (o : Option DeviceTree). holds o m.resource.name) (none_found (is_named m.device.name) s.devices (λ d c. not_called m.device.name d (none d c)))
 lost_found_where s m (no_resource d f none) =
-    ap (λ (l : List DeviceTree). has_resource l m.device.name m.resource.name) f.listed
-    ∙ ap (λ (o : Option (List NameUse)). holds o m.resource.name) (stands_first f.before d f.after m.device.name f.named f.none_before)
-    ∙ none_named (names_in d) m.resource.name (λ n c. let r = origin_in_map (λ (r : ResourceTree). r.name) d.resources n c in subst (λ (x : NameUse). x.name ≢ m.resource.name) r.gives (none r.origin r.among))
+    let test = is_named m.device.name in
+    let first = first_found test f.before d f.after (λ x c. not_called m.device.name x (f.none_before x c)) (bytes_same d.name.name m.device.name f.named) in
+    holds_first s m
+    ∙ ap (λ (o : Option DeviceTree). holds o m.resource.name) (ap (find test) f.listed ∙ first)
+    ∙ none_named (resource_names d) m.resource.name (λ n c. let r = origin_in_map (λ (r : ResourceTree). r.name) d.resources n c in subst (λ (x : NameUse). x.name ≢ m.resource.name) r.gives (none r.origin r.among))
 
 abbrev lost_at : MappingTree → Fault
 lost_at m = record { code = NoSuchResource; span = home_span m }
 
 in_lost : (is_there : Bool) (m : MappingTree) (f : Fault) → Contains (home_faults is_there m) f → (is_there ≡ false) × (lost_at m ≡ f)
-in_lost true m f h = absurd (contains_nothing f h)
-in_lost false m f h = (refl, contains_single (lost_at m) f h)
+in_lost is_there m f h = grind (arith, contains_nothing, contains_single)
 
 -- the faults of a system's mappings, list by list
 
@@ -133,23 +110,19 @@ module _ (sources : Sources) (unit : List ℕ) where
 
 pub own_paths : MappingsHaveOwnPaths
 own_paths sources unit span =
-    iff (found sources unit _)
+    let it : Fault = record { code = MappedTwice; span = span } in
+    iff (found sources unit it)
     (λ h. let at : (mapping_path h.again).span ≡ span = path_place h.again.path ∙ sym h.place in
     let one = repeat_reported mapping_path MappedTwice h.system.mappings h.before h.after h.again h.first h.listed h.earlier h.same in
     let second = subst (λ (s : Span). Contains (second_mappings h.system.mappings) (record { code = MappedTwice; span = s })) at one in
     reported sources unit h.system h.declared it (Contains-append_left (second_mappings h.system.mappings) (flat_map (resource_faults h.system.devices) h.system.mappings) it second))
-  where
-    it : Fault
-    it = record { code = MappedTwice; span = span }
 
 pub have_homes : MappingsHaveHomes
 have_homes sources unit span =
-    iff (found sources unit _)
+    let it : Fault = record { code = NoSuchResource; span = span } in
+    iff (found sources unit it)
     (λ h. let is : lost_at h.mapping ≡ it = λ i. record { code = NoSuchResource; span = record { start = sym h.starts i; end = sym h.ends i } } in
     let fails = lost_found_where h.system h.mapping h.lost in
     let one : Contains (home_faults false h.mapping) it = subst (λ (f : Fault). Contains (lost_at h.mapping ∷ []) f) is (contains_here (lost_at h.mapping) []) in
     let lost = contains_flat_map (resource_faults h.system.devices) h.system.mappings h.mapping it h.listed (subst (λ (b : Bool). Contains (home_faults b h.mapping) it) (sym fails) one) in
     reported sources unit h.system h.declared it (Contains-append_right (second_mappings h.system.mappings) (flat_map (resource_faults h.system.devices) h.system.mappings) it lost))
-  where
-    it : Fault
-    it = record { code = NoSuchResource; span = span }

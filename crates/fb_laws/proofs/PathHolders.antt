@@ -1,16 +1,12 @@
 -- The units whose texts have what stands at the paths of a sound system: these have no faults, so each name stands for one instance of theirs.
-use Rattle.fb_laws.proofs.Common.{◌≡◌, ℕ, true, List, [], ◌∷◌, ◌++◌, Option, Some, refl, sym, ◌∙◌, subst, find, option_map, flat_map, bytes_eq, Contains-append_left, Contains-append_right, NameUse, contains_flat_map, contains_here, contains_later, contains_map, contains_nothing, origin_in_flat_map, instance_types, types_in, unit_kind_of, ApplicationTree, DeclTree, DeviceTree, InstanceTree, SystemTree, TypeTree, block_type, adapter_type, subapplication_type, system_configuration, structure_type, Role, PartRests, on_itself, Sources, parts_at, parts_in, tree_at, stands_for, chart_spaces, interface_spaces, network_spaces, resource_names, instances_of, suits, WrongKind, Fault, IsSound, same_exact, same_itself, parts_more, unit_faultless, sound_below, first_at, IsSystemAt, IsAtPath, in_application, inside, Contains, map, in_order_has, true_from_ne_false, ap, arith}
-use Rattle.fb_laws.proofs.{DeclarationRows.{not_suited, wrong_kinds}, HomeLemmas.{bytes_same, same_bytes}}
+use Rattle.fb_laws.proofs.Common.{◌≡◌, ℕ, true, List, ◌∷◌, ◌++◌, Option, Some, refl, sym, ◌∙◌, subst, flat_map, Contains-append_left, Contains-append_right, NameUse, contains_flat_map, contains_here, contains_later, contains_map, contains_nothing, origin_in_flat_map, instance_types, types_in, unit_kind_of, ApplicationTree, DeclTree, DeviceTree, InstanceTree, SystemTree, TypeTree, block_type, adapter_type, subapplication_type, system_configuration, structure_type, Role, PartRests, on_itself, Sources, parts_at, parts_in, tree_at, chart_spaces, interface_spaces, network_spaces, resource_names, instances_of, suits, WrongKind, Fault, IsSound, parts_more, unit_faultless, sound_below, first_at, IsSystemAt, IsAtPath, in_application, inside, Contains, map, in_order_has, true_from_ne_false, arith}
+use Rattle.fb_laws.proofs.{DeclarationRows.{not_suited, wrong_kinds}, HomeLemmas.{same_found}}
 use Rattle.fb_tree.specs.declared.kinds.UnitKind.TheVariants as kinds
 use Rattle.fb_tree.specs.declared.network.Role.TheVariants as roles
 use Rattle.fb_deploy.specs.Flatten.Nothing.{HasNoReport}
 use Rattle.fb_deploy.proofs.{Flatten.NameLemmas.{AreApart, apart, distinct, stands_for_itself}, Flatten.NothingLemmas.{nothing_reported}}
 
 -- ---- names that stand once
-
-same_found : {X Y : Type 0} (key : X → NameUse) (value : X → Y) (xs : List X) (name : List ℕ) → first_at (λ (x : X). (key x).name) value xs name ≡ stands_for (map (λ (x : X). ((key x).name, value x)) xs) name
-same_found key value [] name = refl
-same_found {X = X} {Y = Y} key value (z ∷ xs) name = grind (arith, bytes_eq, option_map, find, same_itself, same_bytes, bytes_same, same_exact, same_found key value xs name)
 
 -- an item is the first of its name
 pub first_own : {X Y : Type 0} (key : X → NameUse) (value : X → Y) (xs : List X) → AreApart (map key xs) → (x : X) → Contains xs x → first_at (λ (y : X). (key y).name) value xs (key x).name ≡ Some (value x)
@@ -49,26 +45,6 @@ pub holder_of : (sources : Sources) (unit : List ℕ) (s : SystemTree) → IsSys
 holder_of sources unit s is path end (in_application a i ca ci) =
     record { name = unit; below = on_itself; tree = system_configuration s; declared = is; among = contains_flat_map (λ (x : ApplicationTree). x.network.instances) s.applications a i ca ci }
 holder_of sources unit s is path end (inside {path = before} {outer = outer} type i at role there ci) = grind (arith, type_below, subapplication_type, holder_of sources unit s is before outer at)
-
--- the application of a path, and the names behind it
-pub record InApplication (s : SystemTree) (path : List (List ℕ)) : Type 0 where
-  pub application : ApplicationTree
-  pub listed : Contains s.applications application
-  pub first : List ℕ
-  pub others : List (List ℕ)
-  pub is_path : path ≡ application.name.name ∷ first ∷ others
-
-abbrev pub within : {sources : Sources} {s : SystemTree} {path : List (List ℕ)} {i : InstanceTree} → IsAtPath sources s path i → InApplication s path
-within (in_application a i ca ci) = record { application = a; listed = ca; first = i.name.name; others = []; is_path = refl }
-within (inside type i at role there ci) =
-    let o = within at in
-    record {
-      application = o.application;
-      listed = o.listed;
-      first = o.first;
-      others = o.others ++ i.name.name ∷ [];
-      is_path = ap (λ (p : List (List ℕ)). p ++ i.name.name ∷ []) o.is_path;
-    }
 
 module _ (sources : Sources) (unit : List ℕ) (sound : IsSound sources unit) where
   -- a unit that it rests on has no faults

@@ -1,6 +1,7 @@
 -- The names of paths: those of the instances of a system, and those of its mappings.
 use Rattle.fb_laws.proofs.Common.{arith, ◌≢◌, ℕ, List, [], ◌∷◌, ◌++◌, flat_map, Contains-append_left, Contains-append_right, NameUse, contains_flat_map, contains_here, contains_later, contains_map, ApplicationTree, InstanceTree, MappingTree, NetworkTree, SystemTree, TypeTree, subapplication_type, system_configuration, Sources, IsSystemAt, IsAtPath, in_application, inside, path_of, Part, application_parts, chart_parts, connection_parts, device_parts, instance_parts, interface_parts, mapping_parts, name_part, network_parts, parameter_parts, tree_parts, Contains, map}
-use Rattle.fb_laws.proofs.{PlainNames.{IsPlain, name_in_unit}, PathTexts.{ArePlain, plain_more}}
+use Rattle.fb_laws.proofs.{PlainNames.{IsPlain, name_in_unit}, PathTexts.{ArePlain}}
+use Rattle.std.proofs.lemmas.List.Elements.{All-cons, All-contains_itself, All-map, All-nil, All-push, All-weaker}
 
 -- ---- where names stand in trees
 
@@ -32,26 +33,22 @@ in_mapping_parts s m name c h =
 
 -- ---- paths
 
-each_plain : (names : List NameUse) → ((n : NameUse) → Contains names n → IsPlain n.name) → ArePlain (map (λ (n : NameUse). n.name) names)
-each_plain [] h = tt
-each_plain (n ∷ ns) h = (h n (contains_here n ns), each_plain ns (λ m c. h m (contains_later n ns m c)))
-
 module _ (sources : Sources) (unit : List ℕ) (s : SystemTree) (is : IsSystemAt sources unit s) where
   pub mapping_plain : (m : MappingTree) → Contains s.mappings m → ArePlain (path_of m)
-  mapping_plain m c = each_plain m.path (λ n h. name_in_unit sources unit (system_configuration s) is n (in_mapping_parts s m n c h))
+  mapping_plain m c =
+      All-map IsPlain (λ (n : NameUse). n.name) m.path
+      (All-weaker (Contains m.path) (λ (n : NameUse). IsPlain n.name) (λ n h. name_in_unit sources unit (system_configuration s) is n (in_mapping_parts s m n c h)) m.path (All-contains_itself m.path))
 
   pub path_plain : (path : List (List ℕ)) (i : InstanceTree) → IsAtPath sources s path i → ArePlain path
   path_plain path end (in_application a i ca ci) =
-      let parts = in_application_parts s a in
-      let behind = contains_later (name_part a.name) (network_parts a.network) (name_part i.name) (in_network a.network i ci) in
-      let of_a = name_in_unit sources unit (system_configuration s) is a.name (parts (name_part a.name) ca (contains_here (name_part a.name) (network_parts a.network))) in
-      let of_i = name_in_unit sources unit (system_configuration s) is i.name (parts (name_part i.name) ca behind) in
-      (of_a, (of_i, tt))
+      let named = λ (n : NameUse) (h : Contains (application_parts a) (name_part n)). name_in_unit sources unit (system_configuration s) is n (in_application_parts s a (name_part n) ca h) in
+      All-cons IsPlain a.name.name (i.name.name ∷ []) (named a.name (contains_here (name_part a.name) (network_parts a.network)))
+      (All-cons IsPlain i.name.name [] (named i.name (contains_later (name_part a.name) (network_parts a.network) (name_part i.name) (in_network a.network i ci))) (All-nil IsPlain))
   path_plain path end (inside {path = before} {outer = outer} type i at role there ci) =
-      plain_more before i.name.name (path_plain before outer at)
+      All-push IsPlain before i.name.name (path_plain before outer at)
       (name_in_unit sources outer.type_name.name (subapplication_type type) there i.name (in_type type (name_part i.name) (in_network type.network i ci)))
 
-some_more : (path : List (List ℕ)) (name : List ℕ) → path ++ name ∷ [] ≢ []
+pub some_more : (path : List (List ℕ)) (name : List ℕ) → path ++ name ∷ [] ≢ []
 some_more [] name e = cc
 some_more (first ∷ others) name e = cc
 

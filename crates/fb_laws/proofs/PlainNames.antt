@@ -1,33 +1,31 @@
 -- The names of trees are words: neither a point nor a blank stands in them.
-use Rattle.fb_laws.proofs.Common.{◌≡◌, ◌≢◌, ℕ, true, List, [], ◌∷◌, Some, None, Result, Ok, Err, refl, sym, ap, ◌∙◌, subst, arith, IsOk, codes, slice_range, list_all, get, option_and_then, All-contains, is_word_start, is_word_byte, name_of, is_word, NameFault, NameUse, IsName-upper, is_word-all, name_of-ok, lexeme_of, name_or, name_use, spelled_name, DeclTree, Sources, tree_at, tree_in, tree_of, BodyTree, BrokenAt, Whole, body_of, name_part, tree_parts, IsWritten, Contains, map, and_parts}
-use Rattle.fb_laws.proofs.Standing.{name_in, of_token, spelled_word, tree_stands}
-use Rattle.std.proofs.lemmas.Bool.Decides.{nat_tests}
+use Rattle.fb_laws.proofs.Common.{◌≡◌, ◌≢◌, ℕ, ◌==◌, true, false, true≢false, All, All-weaker, origin_in_map, List, [], Some, None, Result, Ok, Err, refl, sym, ap, ◌∙◌, subst, arith, IsOk, codes, slice_range, get, option_and_then, All-contains, is_word_start, is_word_byte, name_of, is_word, NameFault, NameUse, IsName-upper, is_word-all, name_of-ok, lexeme_of, name_or, name_use, spelled_name, DeclTree, Sources, tree_at, tree_in, tree_of, BodyTree, BrokenAt, Whole, body_of, name_part, tree_parts, IsWritten, Contains, map}
+use Rattle.fb_laws.proofs.Standing.{name_in, spelled_word, tree_stands}
+use Rattle.std.proofs.{lemmas.Bool.Decides.{nat_tests}, lemmas.List.Sums.{AllPass-from_list_all}}
 use Rattle.fb_text.specs.Spelling.{IsName}
 
--- no byte is a point or a blank
-abbrev pub AllPlain : List ℕ → Type 0
-AllPlain [] = Unit {0}
-AllPlain (b ∷ bs) = (b ≢ 46) × (b ≢ 32) × AllPlain bs
+-- another byte than this one
+abbrev pub IsOther : ℕ → ℕ → Type 0
+IsOther c b = (b == c) ≡ false
+
+-- no byte is this one
+abbrev pub Without : ℕ → List ℕ → Type 0
+Without c bytes = All (IsOther c) bytes
 
 pub record IsPlain (name : List ℕ) : Type 0 where
   pub some : name ≢ []
-  pub bytes : AllPlain name
+  pub no_points : Without 46 name
+  pub no_blanks : Without 32 name
 
-no_point : (b : ℕ) → is_word_byte b ≡ true → b ≢ 46
-unfolding is_word_byte
-no_point b h e = grind (arith, nat_tests)
-
-no_blank : (b : ℕ) → is_word_byte b ≡ true → b ≢ 32
-unfolding is_word_byte
-no_blank b h e = grind (arith, nat_tests)
-
-all_plain : (bs : List ℕ) → list_all is_word_byte bs ≡ true → AllPlain bs
-all_plain [] h = tt
-all_plain (b ∷ bs) h = let p = and_parts (is_word_byte b) (list_all is_word_byte bs) h in (no_point b p.0, no_blank b p.0, all_plain bs p.1)
+other_byte : (b c : ℕ) → is_word_byte c ≡ false → is_word_byte b ≡ true → IsOther c b
+other_byte b c other word = grind (arith, nat_tests)
 
 plain_name : (name : List ℕ) → IsName name → IsPlain name
-unfolding is_word
-plain_name name h = grind (arith, all_plain, is_word-all)
+unfolding is_word is_word_byte
+plain_name name h =
+    let word = AllPass-from_list_all is_word_byte name (is_word-all name h.word) in
+    let without = λ (c : ℕ) (other : is_word_byte c ≡ false). All-weaker (λ (b : ℕ). is_word_byte b ≡ true) (IsOther c) (λ b w. other_byte b c other w) name word in
+    record { some = λ e. true≢false (sym h.word ∙ ap is_word e); no_points = without 46 refl; no_blanks = without 32 refl }
 
 underscore : IsName (codes "_")
 unfolding is_word is_word_start
@@ -50,9 +48,9 @@ name_in_text text tree is name among =
     let lexemes = map (lexeme_of text) h.tokens in
     let w = All-contains (IsWritten lexemes) (tree_parts tree) (name_part name) h.written among in
     let found = name_in lexemes w.inside w.before w.behind name w.parts w.spells in
-    let of = of_token text h.tokens found.0 found.1.0 found.1.1 found.1.2 in
-    let bytes = slice_range text of.token.span.start of.token.span.end in
-    let same : name.name ≡ spelled_name bytes = ap (λ (n : NameUse). n.name) (found.3 ∙ ap name_use of.same) in
+    let of = origin_in_map (lexeme_of text) h.tokens found.0 found.1 in
+    let bytes = slice_range text of.origin.span.start of.origin.span.end in
+    let same : name.name ≡ spelled_name bytes = ap (λ (n : NameUse). n.name) (found.3 ∙ ap name_use (sym of.gives)) in
     subst IsPlain (sym same) (plain_name (spelled_name bytes) (spelled bytes))
 
 -- the same of the tree of a unit

@@ -19,38 +19,32 @@ instance_held (ThenSubapplication z rest inner own others k known inside more) i
     (λ d. Contains-append_right (map (held_within z.name) own) others (held_as i) (instance_held more i d))
 
 -- the instances of a subapplication are held within its name
-record InnerHeld (view : View) (inner : PlainNetwork) (held : List Held) (name : List ℕ) : Type 0 where
-  own : List Held
-  instances : AreInstances view inner.instances own
-  within : (h : Held) → Contains own h → Contains held (held_within name h)
+pub record InnerHeld (view : View) (inner : PlainNetwork) (held : List Held) (name : List ℕ) : Type 0 where
+  pub own : List Held
+  pub instances : AreInstances view inner.instances own
+  pub within : (h : Held) → Contains own h → Contains held (held_within name h)
 
 more_held : {view : View} {inner : PlainNetwork} {name : List ℕ} (prefix back : List Held) → InnerHeld view inner back name → InnerHeld view inner (prefix ++ back) name
 more_held {name = name} prefix back o = record { own = o.own; instances = o.instances; within = λ h c. Contains-append_right prefix back (held_within name h) (o.within h c) }
 
-inner_of_block : {view : View} {inner : PlainNetwork} (z i : Instance) (rest : List Instance) (others : List Held) → z.kind ≡ Block → i.kind ≡ Subapplication → (z ≡ i) ⊎ Contains rest i → (Contains rest i → InnerHeld view inner others i.name) → InnerHeld view inner (held_as z ∷ others) i.name
-inner_of_block z i rest others k g (inl same) more = absurd (let kinds = ap (λ (w : Instance). w.kind) same in cc)
-inner_of_block z i rest others k g (inr d) more = more_held (held_as z ∷ []) others (more d)
-
-inner_of_subapplication : {view : View} {inner inner2 : PlainNetwork} (z i : Instance) (rest : List Instance) (own others : List Held) → view z.type_name ≡ Some inner2 → AreInstances view inner2.instances own → view i.type_name ≡ Some inner → (z ≡ i) ⊎ Contains rest i → (Contains rest i → InnerHeld view inner others i.name) → InnerHeld view inner (held_as z ∷ (map (held_within z.name) own ++ others)) i.name
-inner_of_subapplication {view = view} {inner = inner} {inner2 = inner2} z i rest own others known inside typed (inl e) more =
-    let type_is : view z.type_name ≡ view i.type_name = ap (λ (w : Instance). view w.type_name) e in
-    let same : inner2 ≡ inner = cc in
-    let name_is : z.name ≡ i.name = ap (λ (w : Instance). w.name) e in
-    record {
-      own = own;
-      instances = subst (λ (m : PlainNetwork). AreInstances view m.instances own) same inside;
-      within = λ h c. contains_later (held_as z) (map (held_within z.name) own ++ others) (held_within i.name h)
-          (Contains-append_left (map (held_within z.name) own) others (held_within i.name h)
-          (subst (λ (n : List ℕ). Contains (map (held_within z.name) own) (held_within n h)) name_is (contains_map (held_within z.name) own h c)));
-    }
-inner_of_subapplication z i rest own others known inside typed (inr d) more =
-    more_held (held_as z ∷ []) (map (held_within z.name) own ++ others) (more_held (map (held_within z.name) own) others (more d))
-
-inner_held : {view : View} {list : List Instance} {held : List Held} {inner : PlainNetwork} → AreInstances view list held → (i : Instance) → Contains list i → i.kind ≡ Subapplication → view i.type_name ≡ Some inner → InnerHeld view inner held i.name
+pub inner_held : {view : View} {list : List Instance} {held : List Held} {inner : PlainNetwork} → AreInstances view list held → (i : Instance) → Contains list i → i.kind ≡ Subapplication → view i.type_name ≡ Some inner → InnerHeld view inner held i.name
 inner_held NoInstance i c g typed = absurd (contains_nothing i c)
-inner_held (ThenBlock z rest others k more) i c g typed = inner_of_block z i rest others k g (contains_cases z rest i c) (λ d. inner_held more i d g typed)
-inner_held (ThenSubapplication z rest inner own others k known inside more) i c g typed =
-    inner_of_subapplication z i rest own others known inside typed (contains_cases z rest i c) (λ d. inner_held more i d g typed)
+inner_held (ThenBlock z rest others k more) i c g typed =
+    elim (contains_cases z rest i c) [ inl same ↦ absurd (let kinds = ap (λ (w : Instance). w.kind) same in cc) | inr d ↦ more_held (held_as z ∷ []) others (inner_held more i d g typed) ]
+inner_held {view = view} {inner = inner} (ThenSubapplication z rest nested own others k known inside more) i c g typed =
+    elim (contains_cases z rest i c) [
+      | inl e ↦
+          let type_is : view z.type_name ≡ view i.type_name = ap (λ (w : Instance). view w.type_name) e in
+          let same : nested ≡ inner = cc in
+          record {
+            own = own;
+            instances = subst (λ (m : PlainNetwork). AreInstances view m.instances own) same inside;
+            within = λ h d. contains_later (held_as z) (map (held_within z.name) own ++ others) (held_within i.name h)
+                (Contains-append_left (map (held_within z.name) own) others (held_within i.name h)
+                (subst (λ (n : List ℕ). Contains (map (held_within z.name) own) (held_within n h)) (ap (λ (w : Instance). w.name) e) (contains_map (held_within z.name) own h d)));
+          }
+      | inr d ↦ more_held (held_as z ∷ map (held_within z.name) own) others (inner_held more i d g typed)
+    ]
 
 -- a place is a port of a block that is held
 record IsHeldAt (held : List Held) (a : Place) : Type 0 where
@@ -91,11 +85,11 @@ leaf_held {network = network} (LeafWithin inner name a' i e leaf) held are =
 pub leaf_listed : (held : List Held) (path : Place) (typed : List ℕ) → Contains held (record { path = path; kind = Block; typed = typed }) → Contains (leaves_of held) (record { path = printed path; type_name = typed })
 leaf_listed [] path typed c = absurd (contains_nothing _ c)
 leaf_listed (h ∷ hs) path typed c =
-    elim (contains_cases h hs (record { path = path; kind = Block; typed = typed }) c) [ inl same ↦ subst (λ (w : Held). Contains (leaf_first w.kind w (leaves_of hs)) (record { path = printed path; type_name = typed })) (sym same) (contains_here (record { path = printed path; type_name = typed }) (leaves_of hs)) | inr d ↦ later h.kind ((leaf_listed hs path typed) d) ]
-  where
-    later : (k : InstanceKind) → Contains (leaves_of hs) (record { path = printed path; type_name = typed }) → Contains (leaf_first k h (leaves_of hs)) (record { path = printed path; type_name = typed })
-    later Block d = contains_later (record { path = printed h.path; type_name = h.typed }) (leaves_of hs) (record { path = printed path; type_name = typed }) d
-    later Subapplication d = d
+    let it : FlatBlock = record { path = printed path; type_name = typed } in
+    elim (contains_cases h hs (record { path = path; kind = Block; typed = typed }) c) [
+      | inl same ↦ subst (λ (w : Held). Contains (leaf_first w.kind w (leaves_of hs)) it) (sym same) (contains_here it (leaves_of hs))
+      | inr d ↦ (elim h.kind as (λ k. Contains (leaf_first k h (leaves_of hs)) it) [ Block ↦ contains_later (record { path = printed h.path; type_name = h.typed }) (leaves_of hs) it (leaf_listed hs path typed d) | Subapplication ↦ leaf_listed hs path typed d ])
+    ]
 
 -- ---- blocks in front of ends
 
@@ -103,6 +97,9 @@ pub record HasPrefix (blocks : List FlatBlock) (end : List ℕ) : Type 0 where
   pub block : FlatBlock
   pub listed : Contains blocks block
   pub prefix : IsPrefix block.path end
+
+prefix_beyond : (prefix path name : List ℕ) → IsPrefix prefix path → IsPrefix prefix (dotted path name)
+prefix_beyond prefix path name is = grind (arith, append_assoc)
 
 module _ {view : View} {network : PlainNetwork} {blocks : List FlatBlock} (are : AreBlocks view network blocks) where
   at_held : {a : Place} (o : IsHeldAt are.held a) → Contains blocks (record { path = printed (o.first ∷ o.others); type_name = o.typed })
@@ -115,19 +112,11 @@ module _ {view : View} {network : PlainNetwork} {blocks : List FlatBlock} (are :
 
   -- a port of a plug or a socket
   port_prefix : {a : Place} (port : List ℕ) → IsLeafPlace view network a → HasPrefix blocks (printed (a ++ port ∷ []))
-  port_prefix port leaf =
+  port_prefix {a} port leaf =
       let o = leaf_held leaf are.held are.instances in
-      record {
-        block = record { path = printed (o.first ∷ o.others); type_name = o.typed };
-        listed = at_held o;
-        prefix = inr (
-          o.port ++ 46 ∷ port,
-          ap (λ (a : Place). printed (a ++ port ∷ [])) o.place
-              ∙ printed-push o.first (o.others ++ o.port ∷ []) port
-              ∙ ap (λ (t : List ℕ). dotted t port) (printed-push o.first o.others o.port)
-              ∙ append_assoc (printed (o.first ∷ o.others)) (46 ∷ o.port) (46 ∷ port),
-        );
-      }
+      let h = leaf_prefix leaf in
+      let text : printed (a ++ port ∷ []) ≡ dotted (printed a) port = ap (λ (q : Place). printed (q ++ port ∷ [])) o.place ∙ printed-push o.first (o.others ++ o.port ∷ []) port ∙ ap (λ (q : Place). dotted (printed q) port) (sym o.place) in
+      record { block = h.block; listed = h.listed; prefix = subst (IsPrefix h.block.path) (sym text) (prefix_beyond h.block.path (printed a) port h.prefix) }
 
   link_prefixes : {sort : Sort} {a b : Place} → IsNetLink view network sort a b → HasPrefix blocks (printed a) × HasPrefix blocks (printed b)
   link_prefixes link = grind (arith, leaf_prefix, port_prefix)
@@ -179,9 +168,9 @@ system_prefixes {flats = flats} {flat = flat} are whole link c =
       subst (λ (w : Link). HasPrefix flat.blocks w.to) (sym l.inside) (prefixes_within flats flat whole l.application l.among l.own.to ends.1),
     )
 
-unit_prefixes : (sources : Sources) (unit : List ℕ) (flat : PlainFlat) → IsUnitFlat sources unit flat → (link : Link) → Contains flat.links link → HasPrefix flat.blocks link.from × HasPrefix flat.blocks link.to
-unit_prefixes sources unit flat (OfSubapplication network kind there net) link c = flat_prefixes net link c
-unit_prefixes sources unit flat (OfSystem applications flats kind there are net) link c = system_prefixes are net link c
-
 pub net_prefixes : (sources : Sources) (unit : List ℕ) (flat : PlainFlat) → HasFlat sources unit flat → (link : Link) → Contains flat.links link → HasPrefix flat.blocks link.from × HasPrefix flat.blocks link.to
-net_prefixes sources unit flat is link c = unit_prefixes sources unit flat is.2 link c
+net_prefixes sources unit flat is link c = by is.2
+  where
+    by : IsUnitFlat sources unit flat → HasPrefix flat.blocks link.from × HasPrefix flat.blocks link.to
+    by (OfSubapplication network kind there net) = flat_prefixes net link c
+    by (OfSystem applications flats kind there are net) = system_prefixes are net link c

@@ -13,10 +13,7 @@ once_each d = record {
 }
 
 pub own_names : PortsHaveOwnNames
-own_names (block_type d) = once_each d
-own_names (adapter_type d) = once_each d
-own_names (subapplication_type d) = once_each d
-own_names decl = grind arith
+own_names decl = (elim decl as (λ d. HaveOwnNamesEach (Rattle.fb_deploy.specs.Iface.Ports.meanings_in d)) [ block_type d ↦ once_each d | adapter_type d ↦ once_each d | subapplication_type d ↦ once_each d | o ↦ grind arith ])
 
 in_order : (d : TypeTree) → ComeAsDeclaredEach d (meanings_in_type d)
 in_order d = record { of_events = events_in_turn d.interface; of_data = data_in_turn d.interface; of_adapters = adapters_in_turn d.network }
@@ -25,23 +22,12 @@ pub come_as_declared : PortsComeAsDeclared
 come_as_declared decl type (of_block d) = in_order type
 come_as_declared decl type is = in_order type
 
-not_before : (i : InterfaceTree) (name : List ℕ) (p q : Cell) → IsFirstVariable i name p → IsFirstVariable i name q → IsBefore p q → ⊥
-not_before i name p q v w h = w.first p v.row v.spelled h v.there v.named
-
--- a name is declared first in one row
-one_row : (i : InterfaceTree) (name : List ℕ) (p q : Cell) → IsFirstVariable i name p → IsFirstVariable i name q → p.row ≡ q.row
-one_row i name p q v w = grind (arith, cases_order, not_before, in_earlier_row)
-
--- and stands in one section
+-- a name stands in one section
 one_section : (i : InterfaceTree) (name : List ℕ) (a b : Section) (t u : TypeUse) → IsVariableIn i a name t → IsVariableIn i b name u → a ≡ b
-one_section i name a b t u v w = grind (arith, one_row)
-
-no_data : (i : InterfaceTree) (side : Side) (name : List ℕ) (t u : TypeUse) → IsVariableIn i sections.Internal name t → IsDataOn i side name u → ⊥
-no_data i side name t u v (data_input w) = let same : sections.Internal ≡ sections.Input = one_section i name sections.Internal sections.Input t u v w in let no : ⊥ = cc in no
-no_data i side name t u v (data_output w) = let same : sections.Internal ≡ sections.Output = one_section i name sections.Internal sections.Output t u v w in let no : ⊥ = cc in no
+one_section i name a b t u v w = let rows = cases_order v.place.row w.place.row in grind (arith, in_earlier_row)
 
 pub internal : InternalVariablesAreNoPorts
-internal decl type is name type_use v side other c = no_data type.interface side name type_use other v ((data_declared decl type is side name other).0 c)
+internal decl type is name type_use v side other c = let w = (data_declared decl type is side name other).0 c in grind (arith, one_section)
 
 stand_each : (d : TypeTree) → StandForFirst d (meanings_in_type d)
 stand_each d = record { of_events = events_stand d.interface; of_variables = variables_stand d.interface; of_instances = instances_stand d.network }

@@ -1,19 +1,17 @@
--- What references stand for by the check: what they begin at, and what their further names lead to.
-use Rattle.fb_laws.proofs.Common.{◌≡◌, ℕ, Bool, true, false, true≢false, cond, not, ◌&&◌, List, [], ◌∷◌, ◌++◌, Option, Some, None, ◌⊎◌, inl, inr, refl, sym, ap, subst, ◌∙◌, append-nil, arith, option_and_then, ltb-false, or_parts, has_own_class, is_elementary, type_class_of, Span, ReferenceTree, DeclTree, TypeTree, adapter_type, block_type, structure_type, Section, TypeForm, TypeUse, Role, Plug, Socket, Member, Sources, tree_at, class_of_name, is_free, named_class, Fields, NoFields, fields_in, fields_of_tree, first_ones, stands_for, Meanings, meanings_in_type, instance_ports, ports_of, usable, DeclaredInstance, DeclaredVariable, stands_for-first_ones, is_known, referent_through, Names, names_of_type, data_referent, field_referent, fields_behind, fields_named, is_adapter, is_at_adapter, is_before_port, is_data, is_some_count, member_among, own_referent, port_named, port_referent, referent_of, step, unless_judged, variable_named, walk, Referent, Variable, Unjudged, NoMember, IsAdapter, IsUsable, as_plug, as_socket, IsData, IsAtPort, Begins, own, IsOfNoAdapter, Shows, plain, element, IsOpen, generic, unknown, HasField, GoesOn, at_end, through, NamesType}
+-- What references stand for by the check: what they begin at, what their further names lead to, and which of these are no fields.
+use Rattle.fb_laws.proofs.Common.{◌≡◌, ℕ, Bool, true, false, true≢false, cond, not, ◌&&◌, List, [], ◌∷◌, ◌++◌, Option, Some, None, ◌⊎◌, refl, sym, ap, subst, ◌∙◌, append-nil, arith, option_and_then, ltb-false, or_parts, has_own_class, is_elementary, type_class_of, ReferenceTree, TypeTree, adapter_type, block_type, Section, TypeForm, TypeUse, Role, Plug, Socket, Member, Sources, tree_at, class_of_name, is_free, named_class, Fields, NoFields, fields_of_tree, stands_for, Meanings, meanings_in_type, instance_ports, ports_of, usable, DeclaredInstance, DeclaredVariable, stands_for-first_ones, is_known, referent_through, Names, names_of_type, data_referent, field_referent, fields_behind, fields_named, is_adapter, is_at_adapter, is_before_port, is_data, is_some_count, member_among, own_referent, port_named, port_referent, referent_of, step, unless_judged, variable_named, walk, Referent, Variable, Unjudged, NoMember, IsAdapter, IsUsable, as_plug, as_socket, IsData, IsAtPort, Begins, own, IsOfNoAdapter, Shows, plain, element, IsOpen, generic, unknown, HasField, GoesOn, at_end, through, NamesType, append_assoc, false_from_ne_true, Expressions, reference_expression, IsWrittenIn, HasUnknownMember, is_field, is_met, names_field, DeclTree, StructureTree, fields_in, first_ones, structure_type, ◌||◌}
 use Rattle.fb_laws.proofs.{CarriedTypes.{IsKnown, data_known, field_known, known_fields, own_known}, UsableTypes.{known_type, own_type}}
 use Rattle.fb_text.specs.declared.elementary.TypeClass.{TypeClass}
-use Rattle.fb_text.specs.declared.elementary.TypeClass.TheVariants as types
-use Rattle.fb_tree.specs.declared.interface.Section.TheVariants.{Input, Output}
 use Rattle.fb_tree.specs.declared.interface.TypeForm.TheVariants as forms
 use Rattle.fb_deploy.specs.Iface.Fields.{NotChecked}
 use Rattle.fb_expr.specs.declared.references.Referent.TheVariants.{Unknown}
+use Rattle.fb_expr.proofs.MemberLemmas.{walk-append}
 use Rattle.fb_laws.specs.Variables.{of_adapter}
 
 -- a type that has to be declared is none of class Free
 
 own_class : (c : TypeClass) → has_own_class c ≡ false → is_free (named_class c) ≡ false
-own_class types.Free e = absurd (true≢false e)
-own_class o e = refl
+own_class c e = grind arith
 
 not_free : (name : List ℕ) → is_elementary name ≡ false → is_free (class_of_name name) ≡ false
 unfolding is_elementary
@@ -26,9 +24,6 @@ shown true fields = unless_judged fields
 
 open_shown : (on : Bool) → shown on NotChecked ≡ NotChecked
 open_shown on = grind arith
-
-none_shown : (on : Bool) → shown on NoFields ≡ NoFields
-none_shown on = grind arith
 
 found_known : (o : Option DeclaredVariable) (m : Member) → is_known (field_referent o m) ≡ true
 found_known o m = grind arith
@@ -44,6 +39,10 @@ has_role i is = grind arith
 
 of_role : (i : DeclaredInstance) → is_adapter i.role ≡ true → IsAdapter i
 of_role i e = grind arith
+
+-- what was met and what is not
+neither : (after before : Bool) → (after || not before) ≡ false → (after ≡ false) × (before ≡ true)
+neither after before e = grind arith
 
 -- an adapter type with these ports
 record HasAdapter (sources : Sources) (name : List ℕ) (ports : Meanings) : Type 0 where
@@ -75,19 +74,18 @@ module _ (sources : Sources) (unit : List ℕ) (d : TypeTree) (declared : tree_a
   named_known name known = ap (λ fields. cond (is_free (class_of_name name)) NotChecked fields) (known_fields sources unit name known)
 
   behind_shown : (used : TypeUse) (s on : Bool) → Shows used s on → fields_behind names.fields used.form used.name.name s ≡ shown on (fields_named names.fields used.name.name)
-  behind_shown used false false (plain is) = ap (λ form. fields_behind names.fields form used.name.name false) is
-  behind_shown used true true (plain is) = ap (λ form. fields_behind names.fields form used.name.name true) is
-  behind_shown used true false (element is) = ap (λ form. fields_behind names.fields form used.name.name true) is
-  behind_shown used false true none = elim none [ ]
+  behind_shown used false on (plain is) = ap (λ form. fields_behind names.fields form used.name.name false) is
+  behind_shown used true on (plain is) = ap (λ form. fields_behind names.fields form used.name.name true) is
+  behind_shown used true on (element is) = ap (λ form. fields_behind names.fields form used.name.name true) is
 
-  pub told_open : (used : TypeUse) (s : Bool) (m : Member) → Known used → IsOpen sources used s → step names (Variable used s) m ≡ Unjudged
+  told_open : (used : TypeUse) (s : Bool) (m : Member) → Known used → IsOpen sources used s → step names (Variable used s) m ≡ Unjudged
   told_open used s m known open_there = grind (arith, generic, behind_shown, open_shown, unknown, named_known, not_free)
 
-  pub told_field : (used : TypeUse) (s : Bool) (m : Member) (v : DeclaredVariable) → Known used → HasField sources used s m.name.name v → step names (Variable used s) m ≡ Variable v.type_use (is_some_count m.subscripts)
+  told_field : (used : TypeUse) (s : Bool) (m : Member) (v : DeclaredVariable) → Known used → HasField sources used s m.name.name v → step names (Variable used s) m ≡ Variable v.type_use (is_some_count m.subscripts)
   told_field used s m v known h = grind (arith, behind_shown, named_known, not_free, stands_for-first_ones)
 
   -- what a further name stands for
-  pub data Looks (used : TypeUse) (s : Bool) (m : Member) : Referent → Type 0 where
+  data Looks (used : TypeUse) (s : Bool) (m : Member) : Referent → Type 0 where
     is_open : IsOpen sources used s → Looks used s m Unjudged
     is_none : Looks used s m (NoMember m.name.span)
     is_found : (v : DeclaredVariable) → HasField sources used s m.name.name v → Looks used s m (Variable v.type_use (is_some_count m.subscripts))
@@ -96,31 +94,25 @@ module _ (sources : Sources) (unit : List ℕ) (d : TypeTree) (declared : tree_a
     abbrev name : List ℕ
     name = used.name.name
 
-    no_field : (s on : Bool) → Looks used s m (member_among (shown on NoFields) m)
-    no_field s on = subst (λ fields. Looks used s m (member_among fields m)) (sym (none_shown on)) is_none
+    by_field : (s : Bool) → Shows used s false → is_elementary name ≡ false → (structure : StructureTree) → tree_at sources name ≡ Some (structure_type structure) → (o : Option DeclaredVariable) → stands_for (first_ones (fields_in structure)) m.name.name ≡ o → Looks used s m (field_referent o m)
+    by_field s shows elementary structure t None e = is_none
+    by_field s shows elementary structure t (Some v) e =
+        is_found v (record { shown = shows; declared = elementary; structure = structure; is_structure = t; found = sym (stands_for-first_ones (fields_in structure) m.name.name) ∙ e })
 
-    not_judged : (s on : Bool) → IsOpen sources used s → Looks used s m (member_among (shown on NotChecked) m)
-    not_judged s on o = subst (λ fields. Looks used s m (member_among fields m)) (sym (open_shown on)) (is_open o)
-
-    by_tree : (s on : Bool) → Shows used s on → is_elementary name ≡ false → (o : Option DeclTree) → tree_at sources name ≡ o → Looks used s m (member_among (shown on (fields_of_tree o)) m)
-    by_tree s on shows elementary None t = not_judged s on (unknown on shows elementary t)
-    by_tree s false shows elementary (Some (structure_type structure)) t = by_found (stands_for (first_ones (fields_in structure)) m.name.name) refl
-      where
-        by_found : (o : Option DeclaredVariable) → stands_for (first_ones (fields_in structure)) m.name.name ≡ o → Looks used s m (field_referent o m)
-        by_found None e = is_none
-        by_found (Some v) e = is_found v (record { shown = shows; declared = elementary; structure = structure; is_structure = t; found = sym (stands_for-first_ones (fields_in structure) m.name.name) ∙ e })
-    by_tree s true shows elementary (Some (structure_type structure)) t = is_none
-    by_tree s on shows elementary (Some decl) t = no_field s on
-
-    by_elementary : (s on : Bool) → Shows used s on → (b : Bool) → is_elementary name ≡ b → Looks used s m (member_among (shown on (cond b NoFields (fields_of_tree (tree_at sources name)))) m)
-    by_elementary s on shows b e = grind (arith, no_field, by_tree)
-
-    by_free : (s on : Bool) → Shows used s on → (b : Bool) → is_free (class_of_name name) ≡ b → Looks used s m (member_among (shown on (cond b NotChecked (declared_fields name))) m)
-    by_free s on shows true e = not_judged s on (generic on shows e)
-    by_free s on shows false e = by_elementary s on shows (is_elementary name) refl
+    -- by whether a subscript stands there, whether the type is generic, whether it is elementary, and its declaration
+    by_type : (s on free elementary : Bool) (o : Option DeclTree) → Shows used s on → is_free (class_of_name name) ≡ free → is_elementary name ≡ elementary → tree_at sources name ≡ o → Looks used s m (member_among (shown on (cond free NotChecked (cond elementary NoFields (fields_of_tree o)))) m)
+    by_type s false true elementary o shows f e t = is_open (generic false shows f)
+    by_type s true true elementary o shows f e t = is_open (generic true shows f)
+    by_type s false false false None shows f e t = is_open (unknown false shows e t)
+    by_type s true false false None shows f e t = is_open (unknown true shows e t)
+    by_type s false false false (Some (structure_type structure)) shows f e t = by_field s shows e structure t (stands_for (first_ones (fields_in structure)) m.name.name) refl
+    by_type s true false false (Some (structure_type structure)) shows f e t = is_none
+    by_type s on false elementary o shows f e t = is_none
 
     by_shown : (s on : Bool) → Shows used s on → Looks used s m (member_among (shown on (fields_named names.fields name)) m)
-    by_shown s on shows = subst (λ fields. Looks used s m (member_among (shown on fields) m)) (sym (named_known name known)) (by_free s on shows (is_free (class_of_name name)) refl)
+    by_shown s on shows =
+        subst (λ fields. Looks used s m (member_among (shown on fields) m)) (sym (named_known name known))
+        (by_type s on (is_free (class_of_name name)) (is_elementary name) (tree_at sources name) shows refl refl refl)
 
     by_form : (form : TypeForm) → used.form ≡ form → (s : Bool) → Looks used s m (member_among (fields_behind names.fields form name s) m)
     by_form forms.Plain is false = by_shown false false (plain is)
@@ -129,60 +121,45 @@ module _ (sources : Sources) (unit : List ℕ) (d : TypeTree) (declared : tree_a
     by_form forms.Array is false = is_none
     by_form forms.Array is true = by_shown true false (element is)
 
-    pub looks : (s : Bool) → Looks used s m (step names (Variable used s) m)
+    looks : (s : Bool) → Looks used s m (step names (Variable used s) m)
     looks s = by_form used.form refl s
 
   -- All further names
 
-  pub open_stays : (ms : List Member) → walk names Unjudged ms ≡ Unjudged
-  open_stays [] = refl
-  open_stays (m ∷ ms) = open_stays ms
+  stays : (t : Referent) (ms : List Member) → ((m : Member) → step names t m ≡ t) → walk names t ms ≡ t
+  stays t [] same = refl
+  stays t (m ∷ ms) same = ap (λ u. walk names u ms) (same m) ∙ stays t ms same
 
-  pub unknown_stays : (ms : List Member) → walk names Unknown ms ≡ Unknown
-  unknown_stays [] = refl
-  unknown_stays (m ∷ ms) = unknown_stays ms
+  step_known : (t : Referent) (m : Member) → is_known (step names t m) ≡ is_known t
+  step_known t m = grind (arith, among_known)
 
-  wrong_stays : (at : Span) (ms : List Member) → walk names (NoMember at) ms ≡ NoMember at
-  wrong_stays at [] = refl
-  wrong_stays at (m ∷ ms) = wrong_stays at ms
+  walk_known : (t : Referent) (ms : List Member) → is_known (walk names t ms) ≡ is_known t
+  walk_known t [] = refl
+  walk_known t (m ∷ ms) = walk_known (step names t m) ms ∙ step_known t m
 
-  -- what begins at a variable is not unknown
-  walk_unknown : (base : Referent) (ms : List Member) → walk names base ms ≡ Unknown → base ≡ Unknown
-  walk_unknown base [] e = e
-  walk_unknown (Variable used s) (m ∷ ms) e =
-      let it = walk_unknown (step names (Variable used s) m) ms e in
-      absurd (true≢false (sym (among_known (fields_behind names.fields used.form used.name.name s) m) ∙ ap is_known it))
-  walk_unknown Unjudged (m ∷ ms) e = let both : Unjudged ≡ Unknown = sym (open_stays ms) ∙ e in absurd (let no : ⊥ = cc in no)
-  walk_unknown Unknown (m ∷ ms) e = refl
-  walk_unknown (NoMember at) (m ∷ ms) e = let both : NoMember at ≡ Unknown = sym (wrong_stays at ms) ∙ e in absurd (let no : ⊥ = cc in no)
+  next_known : {used : TypeUse} {s : Bool} {v : DeclaredVariable} (m : Member) → Known used → HasField sources used s m.name.name v → Known v.type_use
+  next_known {used = used} {v = v} m known h = field_known sources unit used.name.name h.structure m.name.name v known h.declared h.is_structure h.found
 
-  next_known : (used : TypeUse) (s : Bool) (m : Member) (v : DeclaredVariable) → Known used → HasField sources used s m.name.name v → Known v.type_use
-  next_known used s m v known h = field_known sources unit used.name.name h.structure m.name.name v known h.declared h.is_structure h.found
+  told_goes : {used : TypeUse} {s : Bool} {ms : List Member} {last : TypeUse} {t : Bool} → Known used → GoesOn sources used s ms last t → walk names (Variable used s) ms ≡ Variable last t
+  told_goes known at_end = refl
+  told_goes {used = used} {s = s} known (through {m = m} {others = others} v has more) =
+      ap (λ r. walk names r others) (told_field used s m v known has) ∙ told_goes (next_known m known has) more
 
-  pub told_goes : (used : TypeUse) (s : Bool) (ms : List Member) (last : TypeUse) (t : Bool) → Known used → GoesOn sources used s ms last t → walk names (Variable used s) ms ≡ Variable last t
-  told_goes used s [] last t known at_end = refl
-  told_goes used s (m ∷ ms) last t known (through v has more) =
-      ap (λ r. walk names r ms) (told_field used s m v known has)
-      ∙ told_goes v.type_use (is_some_count m.subscripts) ms last t (next_known used s m v known has) more
+  last_known : {used : TypeUse} {s : Bool} {ms : List Member} {last : TypeUse} {t : Bool} → Known used → GoesOn sources used s ms last t → Known last
+  last_known known at_end = known
+  last_known known (through {m = m} v has more) = last_known (next_known m known has) more
 
-  pub last_known : (used : TypeUse) (s : Bool) (ms : List Member) (last : TypeUse) (t : Bool) → Known used → GoesOn sources used s ms last t → Known last
-  last_known used s [] last t known at_end = known
-  last_known used s (m ∷ ms) last t known (through v has more) = last_known v.type_use (is_some_count m.subscripts) ms last t (next_known used s m v known has) more
-
-  pub goes : (used : TypeUse) (s : Bool) (ms : List Member) (last : TypeUse) (t : Bool) → Known used → walk names (Variable used s) ms ≡ Variable last t → GoesOn sources used s ms last t
+  goes : (used : TypeUse) (s : Bool) (ms : List Member) (last : TypeUse) (t : Bool) → Known used → walk names (Variable used s) ms ≡ Variable last t → GoesOn sources used s ms last t
   goes used s [] last t known e =
       let type : used ≡ last = cc in
       let on : s ≡ t = cc in
       subst (λ (l : TypeUse). GoesOn sources used s [] l t) type (subst (λ (b : Bool). GoesOn sources used s [] used b) on at_end)
-  goes used s (m ∷ ms) last t known e =
-      by (step names (Variable used s) m) (looks used m known s) e
-      (λ v has. goes v.type_use (is_some_count m.subscripts) ms last t (next_known used s m v known has))
+  goes used s (m ∷ ms) last t known e = by (looks used m known s) e (λ v has. goes v.type_use (is_some_count m.subscripts) ms last t (next_known m known has))
     where
-      by : (r : Referent) → Looks used s m r → walk names r ms ≡ Variable last t → ((v : DeclaredVariable) → HasField sources used s m.name.name v → (walk names (Variable v.type_use (is_some_count m.subscripts)) ms ≡ Variable last t → GoesOn sources v.type_use (is_some_count m.subscripts) ms last t)) → GoesOn sources used s (m ∷ ms) last t
-      by Unknown none e more = elim none [ ]
-      by Unjudged (is_open o) e more = let both : Unjudged ≡ Variable last t = sym (open_stays ms) ∙ e in absurd (let no : ⊥ = cc in no)
-      by (NoMember at) is_none e more = let both : NoMember at ≡ Variable last t = sym (wrong_stays at ms) ∙ e in absurd (let no : ⊥ = cc in no)
-      by (Variable next on) (is_found v has) e more = through v has (more v has e)
+      by : {r : Referent} → Looks used s m r → walk names r ms ≡ Variable last t → ((v : DeclaredVariable) → HasField sources used s m.name.name v → (walk names (Variable v.type_use (is_some_count m.subscripts)) ms ≡ Variable last t → GoesOn sources v.type_use (is_some_count m.subscripts) ms last t)) → GoesOn sources used s (m ∷ ms) last t
+      by (is_open o) e more = cc (stays Unjudged ms (λ n. refl))
+      by is_none e more = cc (stays (NoMember m.name.span) ms (λ n. refl))
+      by (is_found v has) e more = through v has (more v has e)
 
   -- Where a reference begins
 
@@ -194,62 +171,44 @@ module _ (sources : Sources) (unit : List ℕ) (d : TypeTree) (declared : tree_a
   port_found r m behind second e = grind (arith, of_role, ltb-false)
 
   -- what a reference begins at, the names of that behind the first one, and the further ones
-  pub data Starts (r : ReferenceTree) : Referent → List Member → List Member → Type 0 where
+  data Starts (r : ReferenceTree) : Referent → List Member → List Member → Type 0 where
     at_first : ((i : DeclaredInstance) (m : Member) (behind : List Member) → ¬ IsAtPort d r i m behind) → Starts r (variable_named names.scope r.name.name (is_some_count r.subscripts)) [] r.members
     at_second : (i : DeclaredInstance) (m : Member) (behind : List Member) → IsAtPort d r i m behind → Starts r (port_named names.scope r.name.name m) (m ∷ []) behind
 
-  pub record Start (r : ReferenceTree) : Type 0 where
-    pub base : Referent
-    pub skipped : List Member
-    pub behind : List Member
-    pub starts : Starts r base skipped behind
+  abbrev Start : ReferenceTree → Type 0
+  Start r = (base : Referent) × (skipped : List Member) × (behind : List Member) × Starts r base skipped behind
 
-  pub start : (r : ReferenceTree) → Start r
-  start r = by_members r.members refl
+  start : (r : ReferenceTree) → Start r
+  start r = by r.members refl (is_before_port names.scope r.name.name r.subscripts) refl
     where
-      by_port : (m : Member) (behind : List Member) → r.members ≡ m ∷ behind → (b : Bool) → is_before_port names.scope r.name.name r.subscripts ≡ b → Start r
-      by_port m behind second true e =
-          let at = port_found r m behind second e in
-          record { base = port_named names.scope r.name.name m; skipped = m ∷ []; behind = behind; starts = at_second at.0 m behind at.1 }
-      by_port m behind second false e = record {
-        base = variable_named names.scope r.name.name (is_some_count r.subscripts);
-        skipped = [];
-        behind = r.members;
-        starts = at_first (λ i n others at. true≢false (sym (port_told r i n others at) ∙ e));
-      }
+      by : (members : List Member) → r.members ≡ members → (b : Bool) → is_before_port names.scope r.name.name r.subscripts ≡ b → Start r
+      by (m ∷ behind) second true e = let at = port_found r m behind second e in (_, _, behind, at_second at.0 m behind at.1)
+      by members second b e = (_, _, _, at_first (λ i n others at. let p = port_told r i n others at in let q = at.second in cc))
 
-      by_members : (members : List Member) → r.members ≡ members → Start r
-      by_members [] none = record {
-        base = variable_named names.scope r.name.name (is_some_count r.subscripts);
-        skipped = [];
-        behind = r.members;
-        starts = at_first (λ i n others at. let both : [] ≡ n ∷ others = sym none ∙ at.second in cc both);
-      }
-      by_members (m ∷ behind) second = by_port m behind second (is_before_port names.scope r.name.name r.subscripts) refl
-
-  pub parts : (r : ReferenceTree) (base : Referent) (skipped behind : List Member) → Starts r base skipped behind → r.members ≡ skipped ++ behind
-  parts r base skipped behind starts = grind arith
+  parts : {r : ReferenceTree} {base : Referent} {skipped behind : List Member} → Starts r base skipped behind → r.members ≡ skipped ++ behind
+  parts {r} {base} {skipped} {behind} starts = grind arith
 
   -- behind what it begins at a reference is walked through
-  pub walked : (r : ReferenceTree) (base : Referent) (skipped behind : List Member) → Starts r base skipped behind → (before others : List Member) → behind ≡ before ++ others → referent_through names r (skipped ++ before) ≡ walk names base before
-  walked r base [] behind (at_first none) [] others parted = refl
-  walked r base [] behind (at_first none) (m ∷ ms) others parted =
-      (elim (is_before_port names.scope r.name.name r.subscripts) as (λ b. is_before_port names.scope r.name.name r.subscripts ≡ b → cond b (walk names (port_named names.scope r.name.name m) ms) (walk names base (m ∷ ms)) ≡ walk names base (m ∷ ms)) [ true ↦ λ e. let at = port_found r m (ms ++ others) parted e in absurd (none at.0 m (ms ++ others) at.1) | false ↦ λ e. refl ]) refl
-  walked r base (n ∷ []) behind (at_second i m rest at) before others parted =
+  walked : {r : ReferenceTree} {base : Referent} {skipped behind : List Member} → Starts r base skipped behind → (before others : List Member) → behind ≡ before ++ others → referent_through names r (skipped ++ before) ≡ walk names base before
+  walked (at_first none) [] others parted = refl
+  walked {r = r} (at_first none) (m ∷ ms) others parted =
+      ap (λ b. cond b (walk names (port_named names.scope r.name.name m) ms) (walk names (variable_named names.scope r.name.name (is_some_count r.subscripts)) (m ∷ ms)))
+      (false_from_ne_true _ (λ e. let at = port_found r m (ms ++ others) parted e in none at.0 m (ms ++ others) at.1))
+  walked {r = r} (at_second i m rest at) before others parted =
       ap (λ b. cond b (walk names (port_named names.scope r.name.name m) before) (walk names (variable_named names.scope r.name.name (is_some_count r.subscripts)) (m ∷ before))) (port_told r i m rest at)
-  walked r base (n ∷ (q ∷ qs)) behind none before others parted = elim none [ ]
 
-  pub whole : (r : ReferenceTree) (base : Referent) (skipped behind : List Member) → Starts r base skipped behind → referent_of names r ≡ walk names base behind
-  whole r base skipped behind starts =
-      ap (referent_through names r) (parts r base skipped behind starts)
-      ∙ walked r base skipped behind starts behind [] (sym (append-nil behind))
+  whole : {r : ReferenceTree} {base : Referent} {skipped behind : List Member} → Starts r base skipped behind → referent_of names r ≡ walk names base behind
+  whole {r = r} {behind = behind} starts = ap (referent_through names r) (parts starts) ∙ walked starts behind [] (sym (append-nil behind))
+
+  base_known : {r : ReferenceTree} {base : Referent} {skipped behind : List Member} → Starts r base skipped behind → is_known (referent_of names r) ≡ is_known base
+  base_known {base = base} {behind = behind} starts = ap is_known (whole starts) ∙ walk_known base behind
 
   -- the ports of an own plug or socket
   port_ports : (r : ReferenceTree) (i : DeclaredInstance) (m : Member) (behind : List Member) → IsAtPort d r i m behind → ports_of names.scope r.name.name ≡ usable i.role (tree_at sources i.type_name.name)
   port_ports r i m behind at = ap (option_and_then (instance_ports names.scope)) at.stands ∙ own_type sources d r.name.name i at.stands
 
   -- what a reference begins at
-  pub data Base (r : ReferenceTree) (behind : List Member) : Referent → Type 0 where
+  data Base (r : ReferenceTree) (behind : List Member) : Referent → Type 0 where
     variable : {used : TypeUse} {s : Bool} → Begins sources d r used s behind → Base r behind (Variable used s)
     not_judged_port : IsOfNoAdapter sources d r → Base r behind Unjudged
     nothing : Base r behind Unknown
@@ -258,14 +217,8 @@ module _ (sources : Sources) (unit : List ℕ) (d : TypeTree) (declared : tree_a
     abbrev on : Bool
     on = is_some_count m.subscripts
 
-    by_section : (a : TypeTree) → tree_at sources i.type_name.name ≡ Some (adapter_type a) → (v : DeclaredVariable) → stands_for (meanings_in_type a).variables m.name.name ≡ Some v → (s : Section) → v.section ≡ s → Base r behind (cond (is_data s) (Variable v.type_use on) Unknown)
-    by_section a is v e Input s = variable (of_adapter i m a v at is e (inl s))
-    by_section a is v e Output s = variable (of_adapter i m a v at is e (inr s))
-    by_section a is v e o s = nothing
-
     by_data : (a : TypeTree) → tree_at sources i.type_name.name ≡ Some (adapter_type a) → (o : Option DeclaredVariable) → stands_for (meanings_in_type a).variables m.name.name ≡ o → Base r behind (data_referent o on)
-    by_data a is None e = nothing
-    by_data a is (Some v) e = by_section a is v e v.section refl
+    by_data a is o e = grind (arith, variable, nothing, of_adapter)
 
     by_ports : (o : Option Meanings) → usable i.role (tree_at sources i.type_name.name) ≡ o → Base r behind (port_referent o m.name.name on)
     by_ports None u = not_judged_port (grind (arith, adapter_used))
@@ -274,79 +227,134 @@ module _ (sources : Sources) (unit : List ℕ) (d : TypeTree) (declared : tree_a
     base_at_port : Base r behind (port_named names.scope r.name.name m)
     base_at_port = subst (λ (o : Option Meanings). Base r behind (port_referent o m.name.name on)) (sym (port_ports r i m behind at)) (by_ports (usable i.role (tree_at sources i.type_name.name)) refl)
 
-  pub base_of : (r : ReferenceTree) (base : Referent) (skipped behind : List Member) → Starts r base skipped behind → Base r behind base
-  base_of r base [] behind (at_first none) =
+    is_variable : (a : TypeTree) (v : DeclaredVariable) → tree_at sources i.type_name.name ≡ Some (adapter_type a) → stands_for (meanings_in_type a).variables m.name.name ≡ Some v → IsData v.section → port_named names.scope r.name.name m ≡ Variable v.type_use on
+    is_variable a v is e data_port =
+        ap (λ o. port_referent o m.name.name on) (port_ports r i m behind at ∙ adapter_used sources i at.adapter a is)
+        ∙ ap (λ o. data_referent o on) e
+        ∙ ap (λ b. cond b (Variable v.type_use on) Unknown) (data_section v.section data_port)
+
+  base_of : {r : ReferenceTree} {base : Referent} {skipped behind : List Member} → Starts r base skipped behind → Base r behind base
+  base_of {r = r} (at_first none) =
       (elim (stands_for names.scope.own.variables r.name.name) as (λ o. stands_for names.scope.own.variables r.name.name ≡ o → Base r r.members (own_referent o (is_some_count r.subscripts))) [ None ↦ λ e. nothing | Some v ↦ λ e. variable (own v e none) ]) refl
-  base_of r base (n ∷ []) behind (at_second i m others at) = base_at_port r i m behind at
-  base_of r base (n ∷ (q ∷ qs)) behind none = elim none [ ]
+  base_of {r = r} (at_second i m others at) = base_at_port r i m others at
 
   -- a reference that begins at a variable
-  pub record Begun (r : ReferenceTree) (used : TypeUse) (s : Bool) (behind : List Member) : Type 0 where
-    pub base : Referent
-    pub skipped : List Member
-    pub starts : Starts r base skipped behind
-    pub is : base ≡ Variable used s
+  begun : {r : ReferenceTree} {used : TypeUse} {s : Bool} {behind : List Member} → Begins sources d r used s behind → (skipped : List Member) × Starts r (Variable used s) skipped behind
+  begun {r = r} (own v e none) = ([], subst (λ (base : Referent). Starts r base [] r.members) (ap (λ o. own_referent o (is_some_count r.subscripts)) e) (at_first none))
+  begun {r = r} (of_adapter {behind = behind} i m a v at is e data_port) =
+      (m ∷ [], subst (λ (base : Referent). Starts r base (m ∷ []) behind) (is_variable r i m behind at a v is e data_port) (at_second i m behind at))
 
-  pub begun : (r : ReferenceTree) (used : TypeUse) (s : Bool) (behind : List Member) → Begins sources d r used s behind → Begun r used s behind
-  begun r used s behind (own v e none) = record {
-    base = variable_named names.scope r.name.name (is_some_count r.subscripts);
-    skipped = [];
-    starts = at_first none;
-    is = ap (λ o. own_referent o (is_some_count r.subscripts)) e;
-  }
-  begun r used s behind (of_adapter i m a v at is e data_port) = record {
-    base = port_named names.scope r.name.name m;
-    skipped = m ∷ [];
-    starts = at_second i m behind at;
-    is =
-        ap (λ o. port_referent o m.name.name (is_some_count m.subscripts)) (port_ports r i m behind at ∙ adapter_used sources i at.adapter a is)
-        ∙ ap (λ o. data_referent o (is_some_count m.subscripts)) e
-        ∙ ap (λ b. cond b (Variable v.type_use (is_some_count m.subscripts)) Unknown) (data_section v.section data_port);
-  }
-
-  pub begins_known : (r : ReferenceTree) (used : TypeUse) (s : Bool) (behind : List Member) → Begins sources d r used s behind → Known used
-  begins_known r used s behind begins = grind (arith, own_known, of_adapter, data_known)
+  begins_known : {r : ReferenceTree} {used : TypeUse} {s : Bool} {behind : List Member} → Begins sources d r used s behind → Known used
+  begins_known {r} {used} {s} {behind} begins = grind (arith, own_known, of_adapter, data_known)
 
   -- References that begin at no variable
 
-  pub none_begins : (r : ReferenceTree) → referent_of names r ≡ Unknown → (used : TypeUse) (s : Bool) (behind : List Member) → ¬ Begins sources d r used s behind
-  none_begins r e used s behind n =
-      let b = begun r used s behind n in
-      let both : Variable used s ≡ Unknown = sym b.is ∙ walk_unknown b.base behind (sym (whole r b.base b.skipped behind b.starts) ∙ e) in
-      cc both
+  pub none_begins : (r : ReferenceTree) → is_known (referent_of names r) ≡ false → (used : TypeUse) (s : Bool) (behind : List Member) → ¬ Begins sources d r used s behind
+  none_begins r e used s behind n = true≢false (sym (base_known (begun n).1) ∙ e)
 
-  pub is_judged : (r : ReferenceTree) → referent_of names r ≡ Unknown → ¬ IsOfNoAdapter sources d r
-  is_judged r e n = grind (arith, port_ports, walk_unknown, adapter_found, known_type)
+  pub is_judged : (r : ReferenceTree) → is_known (referent_of names r) ≡ false → ¬ IsOfNoAdapter sources d r
+  is_judged r e n = grind (arith, port_ports, walk_known, adapter_found, known_type)
 
-  pub is_unknown : (r : ReferenceTree) → ((used : TypeUse) (s : Bool) (behind : List Member) → ¬ Begins sources d r used s behind) → ¬ IsOfNoAdapter sources d r → referent_of names r ≡ Unknown
-  is_unknown r none judged = by_base (start r)
+  pub is_unknown : (r : ReferenceTree) → ((used : TypeUse) (s : Bool) (behind : List Member) → ¬ Begins sources d r used s behind) → ¬ IsOfNoAdapter sources d r → is_known (referent_of names r) ≡ false
+  is_unknown r none judged = base_known (start r).3 ∙ by (base_of (start r).3)
     where
-      by_case : (base : Referent) (skipped behind : List Member) → Starts r base skipped behind → Base r behind base → referent_of names r ≡ Unknown
-      by_case (Variable used s) skipped behind starts (variable n) = absurd (none used s behind n)
-      by_case Unjudged skipped behind starts (not_judged_port n) = absurd (judged n)
-      by_case (NoMember at) skipped behind starts none = elim none [ ]
-      by_case Unknown skipped behind starts nothing = whole r Unknown skipped behind starts ∙ unknown_stays behind
-
-      by_base : Start r → referent_of names r ≡ Unknown
-      by_base s = by_case s.base s.skipped s.behind s.starts (base_of r s.base s.skipped s.behind s.starts)
+      by : {base : Referent} {behind : List Member} → Base r behind base → is_known base ≡ false
+      by (variable {used = used} {s = s} n) = absurd (none used s _ n)
+      by (not_judged_port n) = absurd (judged n)
+      by nothing = refl
 
   -- The type of a whole reference
 
   pub told_type_of : (r : ReferenceTree) (last : TypeUse) (t : Bool) → NamesType sources d r last t → referent_of names r ≡ Variable last t
-  told_type_of r last t n =
-      let b = begun r n.first n.at_first n.behind n.begins in
-      whole r b.base b.skipped n.behind b.starts
-      ∙ ap (λ base. walk names base n.behind) b.is
-      ∙ told_goes n.first n.at_first n.behind last t (begins_known r n.first n.at_first n.behind n.begins) n.leads
+  told_type_of r last t n = whole (begun n.begins).1 ∙ told_goes (begins_known n.begins) n.leads
 
   pub names_type : (r : ReferenceTree) (last : TypeUse) (t : Bool) → referent_of names r ≡ Variable last t → NamesType sources d r last t
-  names_type r last t e = by_base (start r)
+  names_type r last t e = by (base_of (start r).3) (sym (whole (start r).3) ∙ e)
     where
-      by_case : (base : Referent) (skipped behind : List Member) → Base r behind base → walk names base behind ≡ Variable last t → NamesType sources d r last t
-      by_case (Variable used s) skipped behind (variable n) w = record { first = used; at_first = s; behind = behind; begins = n; leads = goes used s behind last t (begins_known r used s behind n) w }
-      by_case Unjudged skipped behind (not_judged_port n) w = let both : Unjudged ≡ Variable last t = sym (open_stays behind) ∙ w in absurd (let no : ⊥ = cc in no)
-      by_case (NoMember at) skipped behind none w = elim none [ ]
-      by_case Unknown skipped behind nothing w = let both : Unknown ≡ Variable last t = sym (unknown_stays behind) ∙ w in absurd (let no : ⊥ = cc in no)
+      by : {base : Referent} {behind : List Member} → Base r behind base → walk names base behind ≡ Variable last t → NamesType sources d r last t
+      by {behind = behind} (variable {used = used} {s = s} n) w =
+          record { first = used; at_first = s; behind = behind; begins = n; leads = goes used s behind last t (begins_known n) w }
+      by {behind = behind} (not_judged_port n) w = cc (stays Unjudged behind (λ m. refl))
+      by {behind = behind} nothing w = cc (stays Unknown behind (λ m. refl))
 
-      by_base : Start r → NamesType sources d r last t
-      by_base s = by_case s.base s.skipped s.behind (base_of r s.base s.skipped s.behind s.starts) (sym (whole r s.base s.skipped s.behind s.starts) ∙ e)
+  -- Further names that are no fields
+
+  -- one further name behind those before it
+  next_name : {r : ReferenceTree} {base : Referent} {skipped behind : List Member} → Starts r base skipped behind → (before : List Member) (m : Member) (others : List Member) → behind ≡ before ++ m ∷ others → referent_through names r ((skipped ++ before) ++ m ∷ []) ≡ step names (walk names base before) m
+  next_name {r = r} {base = base} {skipped = skipped} starts before m others parted =
+      ap (referent_through names r) (append_assoc skipped before (m ∷ []))
+      ∙ walked starts (before ++ m ∷ []) others (parted ∙ sym (append_assoc before (m ∷ []) others))
+      ∙ walk-append names base before (m ∷ [])
+
+  base_field : {r : ReferenceTree} {behind : List Member} {base : Referent} → Base r behind base → is_field base ≡ true
+  base_field {r} {behind} {base} is = grind arith
+
+  module _ (r : ReferenceTree) (subscripts : Expressions) (written : IsWrittenIn d (reference_expression r subscripts)) (m : Member) (others : List Member) where
+    -- the type that the names before it lead to, where these are fields
+    lost_behind : {base : Referent} {behind : List Member} → Base r behind base → (before : List Member) → behind ≡ before ++ m ∷ others → is_field (walk names base before) ≡ true → is_field (step names (walk names base before) m) ≡ false → HasUnknownMember sources unit m.name.span
+    lost_behind (not_judged_port n) before parted is fails = absurd (true≢false (sym (ap (λ t. is_field (step names t m)) (stays Unjudged before (λ k. refl))) ∙ fails))
+    lost_behind nothing before parted is fails = absurd (true≢false (sym (ap (λ t. is_field (step names t m)) (stays Unknown before (λ k. refl))) ∙ fails))
+    lost_behind {behind = behind} (variable {used = first} {s = at_begin} n) before parted is fails = by (walk names (Variable first at_begin) before) refl is fails
+      where
+        by : (t : Referent) → walk names (Variable first at_begin) before ≡ t → is_field t ≡ true → is_field (step names t m) ≡ false → HasUnknownMember sources unit m.name.span
+        by (Variable used on) w is fails =
+            let leads = goes first at_begin before used on (begins_known n) w in
+            let known = last_known (begins_known n) leads in
+            record {
+              block = d;
+              declared = declared;
+              reference = r;
+              subscripts = subscripts;
+              written = written;
+              first = first;
+              at_first = at_begin;
+              behind = behind;
+              begins = n;
+              before = before;
+              member = m;
+              others = others;
+              parted = parted;
+              used = used;
+              subscripted = on;
+              leads = leads;
+              judged = λ o. true≢false (sym (ap is_field (told_open used on m known o)) ∙ fails);
+              none = λ v has. true≢false (sym (ap is_field (told_field used on m v known has)) ∙ fails);
+              place = refl;
+            }
+        by t w is fails = cc
+
+    lost_in : {base : Referent} {skipped behind : List Member} → Starts r base skipped behind → (before : List Member) → behind ≡ before ++ m ∷ others → is_field (referent_through names r (skipped ++ before)) ≡ true → is_field (referent_through names r ((skipped ++ before) ++ m ∷ [])) ≡ false → HasUnknownMember sources unit m.name.span
+    lost_in starts before parted is fails =
+        lost_behind (base_of starts) before parted (ap is_field (sym (walked starts before (m ∷ others) parted)) ∙ is) (ap is_field (sym (next_name starts before m others parted)) ∙ fails)
+
+    pub lost : (before : List Member) → r.members ≡ before ++ m ∷ others → is_met names (names_field r before m) ≡ false → HasUnknownMember sources unit m.name.span
+    lost before parted unmet =
+        let told = neither (is_field (referent_through names r (before ++ m ∷ []))) (is_field (referent_through names r before)) unmet in
+        by (start r).3 before parted told.1 told.0
+      where
+        by : {base : Referent} {skipped behind : List Member} → Starts r base skipped behind → (before : List Member) → r.members ≡ before ++ m ∷ others → is_field (referent_through names r before) ≡ true → is_field (referent_through names r (before ++ m ∷ [])) ≡ false → HasUnknownMember sources unit m.name.span
+        by (at_first none) before parted is fails = lost_in (at_first none) before parted is fails
+        by (at_second i p rest at) [] parted is fails =
+            let starts : Starts r (port_named names.scope r.name.name m) (m ∷ []) others = at_second i m others (record { stands = at.stands; adapter = at.adapter; plain = at.plain; second = parted }) in
+            absurd (true≢false (sym (base_field (base_of starts)) ∙ sym (ap is_field (walked starts [] others refl)) ∙ fails))
+        by (at_second i p rest at) (b ∷ bs) parted is fails =
+            lost_in (at_second i b (bs ++ m ∷ others) (record { stands = at.stands; adapter = at.adapter; plain = at.plain; second = parted })) bs refl is fails
+
+  -- a name that is no field, where it is judged
+  no_field : {used : TypeUse} {on : Bool} {m : Member} {t : Referent} → Looks used on m t → ¬ IsOpen sources used on → ((v : DeclaredVariable) → ¬ HasField sources used on m.name.name v) → is_field t ≡ false
+  no_field (is_open o) judged none = absurd (judged o)
+  no_field is_none judged none = refl
+  no_field (is_found v has) judged none = absurd (none v has)
+
+  -- the demand of that name is not met
+  pub failing : (r : ReferenceTree) (before : List Member) (m : Member) (others : List Member) (used : TypeUse) (on : Bool) {first : TypeUse} {at_begin : Bool} {behind : List Member} → Begins sources d r first at_begin behind → behind ≡ before ++ m ∷ others → GoesOn sources first at_begin before used on → ¬ IsOpen sources used on → ((v : DeclaredVariable) → ¬ HasField sources used on m.name.name v) → (skipped : List Member) × (r.members ≡ (skipped ++ before) ++ m ∷ others) × (is_met names (names_field r (skipped ++ before) m) ≡ false)
+  failing r before m others used on begins parted leads judged none =
+      let starts = (begun begins).1 in
+      let goes_there = told_goes (begins_known begins) leads in
+      let at_before = walked starts before (m ∷ others) parted ∙ goes_there in
+      let at_name = next_name starts before m others parted ∙ ap (λ t. step names t m) goes_there in
+      let fails = ap is_field at_name ∙ no_field (looks used m (last_known (begins_known begins) leads) on) judged none in (
+        (begun begins).0,
+        parts starts ∙ ap (λ l. (begun begins).0 ++ l) parted ∙ sym (append_assoc (begun begins).0 before (m ∷ others)),
+        (λ k. fails k || not (is_field (at_before k))),
+      )

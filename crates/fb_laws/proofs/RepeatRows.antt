@@ -1,7 +1,7 @@
 -- Ends that stand twice, by what the list of faults has.
-use Rattle.fb_laws.proofs.Common.{arith, ◌≡◌, List, [], ◌∷◌, ◌++◌, map, ◌⊎◌, inl, inr, refl, sym, ap, ◌∙◌, subst, Contains, flat_map, Contains-append_left, Contains-append_right, Contains-append_cases, NetworkTree, Connection, End, Sort, Code, SecondAdapter, SecondSource, Fault, ComesThrough, contains_cases, contains_flat_map, contains_here, contains_later, contains_nothing, contains_single, origin_in_flat_map, Position, Source, Destination, net_faults_of, Path, fault_at_path, repeated_faults, adapter_ends, data_destination, end_path, path_named, HaveSameNames, IsEndOf, IsNetworkOf, Site, source, destination, AdaptersHaveOneEnd, DestinationsHaveOneSource, HasSecondAdapter, HasSecondSource, IsTaken, by_earlier, by_source, option_map}
-use Rattle.fb_laws.proofs.{NetworkLemmas.{end_place, fault_at_end, network_origin, reported}, RepeatedPaths.{repeat_origin, repeat_reported}}
-use Rattle.fb_laws.proofs.{SplitLemmas.{nothing_split, split_through, through_split}, Joined.{iff}}
+use Rattle.fb_laws.proofs.Common.{arith, ◌≡◌, ℕ, List, [], ◌∷◌, ◌++◌, map, ◌⊎◌, inl, inr, refl, sym, ap, ◌∙◌, subst, Contains, flat_map, Contains-append_left, Contains-append_right, Contains-append_cases, Span, NetworkTree, Connection, End, Sort, Sources, Code, SecondAdapter, SecondSource, Fault, ComesThrough, contains_cases, contains_flat_map, contains_here, contains_later, contains_nothing, contains_single, origin_in_flat_map, Position, Source, Destination, Path, fault_at_path, repeated_faults, adapter_ends, data_destination, end_path, path_named, second_adapters, second_sources, HaveSameNames, IsEndOf, IsNetworkOf, Site, place_of, source, destination, HasSecondAdapter, HasSecondSource, IsTaken, by_earlier, by_source, option_map}
+use Rattle.fb_laws.proofs.{NetworkLemmas.{Finds, end_place, fault_at_end}, RepeatedPaths.{repeat_origin, repeat_reported}}
+use Rattle.fb_laws.proofs.SplitLemmas.{nothing_split, split_through, through_split}
 use Rattle.fb_tree.specs.declared.network.Sort.TheVariants as sorts
 
 -- ends of connections
@@ -16,59 +16,33 @@ ends_same : (a b : End) → HaveSameNames a b → names_of a ≡ names_of b
 ends_same a b e = grind (arith, option_map)
 
 -- an end of those that each connection has, with one of the same names before it
-record IsSecond (f : Connection → List End) (connections : List Connection) (e : End) : Type 0 where
-  earlier : List Connection
-  again : Connection
-  later : List Connection
-  listed : connections ≡ earlier ++ again ∷ later
-  inside : List End
-  rest : List End
-  parts : f again ≡ inside ++ e ∷ rest
-  other : End
-  same : HaveSameNames other e
-  taken : ComesThrough f earlier other ⊎ Contains inside other
+data IsSecond (f : Connection → List End) (connections : List Connection) (e : End) : Type 0 where
+  second : (earlier later : List Connection) (again : Connection) (inside rest : List End) (other : End)
+      → connections ≡ earlier ++ again ∷ later → f again ≡ inside ++ e ∷ rest
+      → HaveSameNames other e → ComesThrough f earlier other ⊎ Contains inside other → IsSecond f connections e
 
 path_fault : (code : Code) (e : End) → fault_at_path code (end_path e) ≡ fault_at_end code e
 path_fault code e = λ i. record { code = code; span = end_place e i }
 
-record SecondOrigin (code : Code) (f : Connection → List End) (connections : List Connection) (fault : Fault) : Type 0 where
-  end : End
-  second : IsSecond f connections end
-  is : fault_at_end code end ≡ fault
-
 taken_in : (f : Connection → List End) (earlier : List Connection) (inside : List End) (other : End) → Contains (flat_map f earlier ++ inside) other → ComesThrough f earlier other ⊎ Contains inside other
 taken_in f earlier inside other c = elim (Contains-append_cases (flat_map f earlier) inside other c) [ inl h ↦ inl (origin_in_flat_map f earlier other h) | inr h ↦ inr h ]
 
-second_origin : (code : Code) (f : Connection → List End) (connections : List Connection) (fault : Fault) → Contains (repeated_faults code (map end_path (flat_map f connections))) fault → SecondOrigin code f connections fault
+second_origin : (code : Code) (f : Connection → List End) (connections : List Connection) (fault : Fault) → Contains (repeated_faults code (map end_path (flat_map f connections))) fault → (e : End) × IsSecond f connections e × (fault_at_end code e ≡ fault)
 second_origin code f connections fault c =
     let e = repeat_origin end_path (flat_map f connections) code fault c in
     let t = split_through f connections e.before e.after e.item e.split in
-    record {
-      end = e.item;
-      second = record {
-        earlier = t.earlier;
-        again = t.origin;
-        later = t.later;
-        listed = t.split;
-        inside = t.inside;
-        rest = t.rest;
-        parts = t.parts;
-        other = e.other;
-        same = same_ends e.other e.item e.same;
-        taken = taken_in f t.earlier t.inside e.other (subst (λ (l : List End). Contains l e.other) t.passed e.seen);
-      };
-      is = sym (path_fault code e.item) ∙ e.is;
-    }
+    let taken = taken_in f t.earlier t.inside e.other (subst (λ (l : List End). Contains l e.other) t.passed e.seen) in
+    (e.item, second t.earlier t.later t.origin t.inside t.rest e.other t.split t.parts (same_ends e.other e.item e.same) taken, sym (path_fault code e.item) ∙ e.is)
 
 second_reported : (code : Code) (f : Connection → List End) (connections : List Connection) (e : End) → IsSecond f connections e → Contains (repeated_faults code (map end_path (flat_map f connections))) (fault_at_end code e)
-second_reported code f connections e h =
-    let split = ap (flat_map f) h.listed ∙ through_split f h.earlier h.later h.again h.inside h.rest e h.parts in
-    let seen = repeat_reported end_path code (flat_map f connections) (flat_map f h.earlier ++ h.inside) (h.rest ++ flat_map f h.later) e h.other split (among h.taken) (ends_same h.other e h.same) in
+second_reported code f connections e (second earlier later again inside rest other listed parts same taken) =
+    let split = ap (flat_map f) listed ∙ through_split f earlier later again inside rest e parts in
+    let seen = repeat_reported end_path code (flat_map f connections) (flat_map f earlier ++ inside) (rest ++ flat_map f later) e other split (among taken) (ends_same other e same) in
     subst (λ (g : Fault). Contains (repeated_faults code (map end_path (flat_map f connections))) g) (path_fault code e) seen
   where
-    among : ComesThrough f h.earlier h.other ⊎ Contains h.inside h.other → Contains (flat_map f h.earlier ++ h.inside) h.other
-    among (inl o) = Contains-append_left (flat_map f h.earlier) h.inside h.other (contains_flat_map f h.earlier o.origin h.other o.among o.has)
-    among (inr c) = Contains-append_right (flat_map f h.earlier) h.inside h.other c
+    among : ComesThrough f earlier other ⊎ Contains inside other → Contains (flat_map f earlier ++ inside) other
+    among (inl o) = Contains-append_left (flat_map f earlier) inside other (contains_flat_map f earlier o.origin other o.among o.has)
+    among (inr c) = Contains-append_right (flat_map f earlier) inside other c
 
 -- destinations of data
 
@@ -81,38 +55,28 @@ data_parts sorts.Data d (x ∷ inside) rest e p = let tails : [] ≡ inside ++ e
 data_parts sort d inside rest e p = absurd (nothing_split inside e rest p)
 
 in_data : (sort : Sort) (d e : End) → Contains (data_destination sort d) e → (sort ≡ sorts.Data) × (d ≡ e)
-in_data sorts.Data d e c = (refl, contains_single d e c)
-in_data o d e c = absurd (contains_nothing e c)
+in_data sort d e c = grind (arith, contains_single, contains_nothing)
 
 data_is : (sort : Sort) (d : End) → sort ≡ sorts.Data → data_destination sort d ≡ d ∷ []
 data_is sort d e = ap (λ s. data_destination s d) e
 
-pub one_source : DestinationsHaveOneSource
-one_source sources unit span =
-    iff (λ c. let o = network_origin sources unit it c in let s = second_origin SecondSource destinations o.network.connections it o.has in by o.here o.network o.stands s.end s.is s.second s.second.taken)
-    (λ h. let second : IsSecond destinations h.network.connections h.again.destination = record {
-      earlier = h.before;
-      again = h.again;
-      later = h.after;
-      listed = h.listed;
-      inside = [];
-      rest = [];
-      parts = data_is h.again.sort h.again.destination h.of_data;
-      other = h.first.destination;
-      same = h.same;
-      taken = inl (record { origin = h.first; among = h.earlier; has = subst (λ (l : List End). Contains l h.first.destination) (sym (data_is h.first.sort h.first.destination h.first_of_data)) (contains_here h.first.destination []) });
-    } in
-    reported sources unit h.here h.network h.stands 2 _ refl h.place (second_reported SecondSource destinations h.network.connections h.again.destination second))
-  where
-    it : Fault
-    it = record { code = SecondSource; span = span }
+module _ (sources : Sources) (unit : List ℕ) (here : Site) (n : NetworkTree) (stands : IsNetworkOf sources unit here n) where
+  in_earlier : (earlier later : List Connection) (again : Connection) (inside rest : List End) (e other : End) → n.connections ≡ earlier ++ again ∷ later → destinations again ≡ inside ++ e ∷ rest → HaveSameNames other e → ComesThrough destinations earlier other → HasSecondSource sources unit (place_of e)
+  in_earlier earlier later again inside rest e other listed parts same o = grind (arith, data_parts, in_data)
 
-    in_earlier : (here : Site) (n : NetworkTree) → IsNetworkOf sources unit here n → (e : End) → fault_at_end SecondSource e ≡ it → (s : IsSecond destinations n.connections e) → ComesThrough destinations s.earlier s.other → HasSecondSource sources unit span
-    in_earlier here n stands e is s o = grind (arith, data_parts, in_data)
+  second_source : (e : End) → IsSecond destinations n.connections e → HasSecondSource sources unit (place_of e)
+  second_source e (second earlier later again inside rest other listed parts same (inl o)) = in_earlier earlier later again inside rest e other listed parts same o
+  second_source e (second earlier later again inside rest other listed parts same (inr c)) =
+      absurd (contains_nothing other (subst (λ (l : List End). Contains l other) (data_parts again.sort again.destination inside rest e parts).2 c))
 
-    by : (here : Site) (n : NetworkTree) → IsNetworkOf sources unit here n → (e : End) → fault_at_end SecondSource e ≡ it → (s : IsSecond destinations n.connections e) → ComesThrough destinations s.earlier s.other ⊎ Contains s.inside s.other → HasSecondSource sources unit span
-    by here n stands e is s (inl o) = in_earlier here n stands e is s o
-    by here n stands e is s (inr c) = absurd (contains_nothing s.other (subst (λ (l : List End). Contains l s.other) (data_parts s.again.sort s.again.destination s.inside s.rest e s.parts).2 c))
+  pub sources_found : (f : Fault) → Contains (second_sources n.connections) f → Finds sources unit f
+  sources_found f c = let s = second_origin SecondSource destinations n.connections f c in subst (Finds sources unit) s.2 (second_source s.0 s.1)
+
+pub source_reported : {sources : Sources} {unit : List ℕ} {span : Span} (h : HasSecondSource sources unit span) → Contains (second_sources h.network.connections) (fault_at_end SecondSource h.again.destination)
+source_reported h =
+    let has = subst (λ (l : List End). Contains l h.first.destination) (sym (data_is h.first.sort h.first.destination h.first_of_data)) (contains_here h.first.destination []) in
+    second_reported SecondSource destinations h.network.connections h.again.destination
+    (second h.before h.after h.again [] [] h.first.destination h.listed (data_is h.again.sort h.again.destination h.of_data) h.same (inl (record { origin = h.first; among = h.earlier; has = has })))
 
 -- ends of adapter connections
 
@@ -143,11 +107,7 @@ is_destination : (c : Connection) (e : End) → c.destination ≡ e → IsEndOf 
 is_destination c e same = subst (IsEndOf c Destination) same destination
 
 in_both : (c : Connection) (e : End) → Contains (both_ends c) e → IsAdapterEnd c e
-in_both c e h = by c.sort refl h
-  where
-    by : (sort : Sort) → c.sort ≡ sort → Contains (adapter_ends sort c.source c.destination) e → IsAdapterEnd c e
-    by sorts.Adapter is h = elim (contains_cases c.source (c.destination ∷ []) e h) [ inl same ↦ record { of_adapter = is; position = Source; is_end = is_source c e same } | inr d ↦ record { of_adapter = is; position = Destination; is_end = is_destination c e (contains_single c.destination e d) } ]
-    by o is h = absurd (contains_nothing e h)
+in_both c e h = grind (arith, contains_cases, contains_single, contains_nothing, is_source, is_destination)
 
 both_is : (c : Connection) → c.sort ≡ sorts.Adapter → both_ends c ≡ c.source ∷ c.destination ∷ []
 both_is c e = ap (λ s. adapter_ends s c.source c.destination) e
@@ -160,66 +120,36 @@ around : (c : Connection) (position : Position) (e : End) → IsEndOf c position
 around c Source e source = ([], c.destination ∷ [], refl)
 around c Destination e destination = (c.source ∷ [], [], refl)
 
-pub one_end : AdaptersHaveOneEnd
-one_end sources unit span =
-    iff to
-    (λ h. let again = second h.network.connections h.before h.after h.again h.position h.end h.listed h.of_adapter h.is_end h.taken in
-    reported sources unit h.here h.network h.stands 3 _ refl h.place (second_reported SecondAdapter both_ends h.network.connections h.end again))
-  where
-    it : Fault
-    it = record { code = SecondAdapter; span = span }
+module _ (sources : Sources) (unit : List ℕ) (here : Site) (n : NetworkTree) (stands : IsNetworkOf sources unit here n) where
+  made : (earlier later : List Connection) (again : Connection) (e : End) (position : Position) → n.connections ≡ earlier ++ again ∷ later → again.sort ≡ sorts.Adapter → IsEndOf again position e → IsTaken earlier again position e → HasSecondAdapter sources unit (place_of e)
+  made earlier later again e position listed sort end taken = grind arith
 
-    made : (here : Site) (n : NetworkTree) → IsNetworkOf sources unit here n → (e : End) → fault_at_end SecondAdapter e ≡ it → (s : IsSecond both_ends n.connections e) → (position : Position) → s.again.sort ≡ sorts.Adapter → IsEndOf s.again position e → IsTaken s.earlier s.again position e → HasSecondAdapter sources unit span
-    made here n stands e is s position sort end taken = grind arith
+  position_of : (c : Connection) (inside : List End) (e : End) → IsPart c.source c.destination inside e → (position : Position) × IsEndOf c position e
+  position_of c inside e part = grind (arith, is_source, is_destination)
 
-    position_of : (c : Connection) (inside : List End) (e : End) → IsPart c.source c.destination inside e → (position : Position) × IsEndOf c position e
-    position_of c inside e part = grind (arith, is_source, is_destination)
+  -- the source of its own connection
+  own : (earlier : List Connection) (c : Connection) (inside : List End) (e other : End) → IsPart c.source c.destination inside e → Contains inside other → HaveSameNames other e → (position : Position) × IsEndOf c position e × IsTaken earlier c position e
+  own earlier c inside e other part h names = grind (arith, contains_nothing, contains_single, is_destination, by_source)
 
-    -- the source of its own connection
-    own : (earlier : List Connection) (c : Connection) (inside : List End) (e other : End) → IsPart c.source c.destination inside e → Contains inside other → HaveSameNames other e → (position : Position) × IsEndOf c position e × IsTaken earlier c position e
-    own earlier c inside e other part h names = grind (arith, contains_nothing, contains_single, is_destination, by_source)
+  second_adapter : (e : End) → IsSecond both_ends n.connections e → HasSecondAdapter sources unit (place_of e)
+  second_adapter e (second earlier later again inside rest other listed parts same (inl o)) =
+      let part = adapter_parts again.sort again.source again.destination inside rest e parts in
+      let at = position_of again inside e part.1 in
+      let first = in_both o.origin other o.has in
+      made earlier later again e at.0 listed part.0 at.1 (by_earlier o.origin first.position other o.among first.of_adapter first.is_end same)
+  second_adapter e (second earlier later again inside rest other listed parts same (inr c)) =
+      let part = adapter_parts again.sort again.source again.destination inside rest e parts in
+      let at = own earlier again inside e other part.1 c same in
+      made earlier later again e at.0 listed part.0 at.1 at.2
 
-    by : (here : Site) (n : NetworkTree) → IsNetworkOf sources unit here n → (e : End) → fault_at_end SecondAdapter e ≡ it → (s : IsSecond both_ends n.connections e) → ComesThrough both_ends s.earlier s.other ⊎ Contains s.inside s.other → HasSecondAdapter sources unit span
-    by here n stands e is s (inl o) =
-        let again = adapter_parts s.again.sort s.again.source s.again.destination s.inside s.rest e s.parts in
-        let at = position_of s.again s.inside e again.1 in
-        let first = in_both o.origin s.other o.has in
-        made here n stands e is s at.0 again.0 at.1 (by_earlier o.origin first.position s.other o.among first.of_adapter first.is_end s.same)
-    by here n stands e is s (inr c) =
-        let again = adapter_parts s.again.sort s.again.source s.again.destination s.inside s.rest e s.parts in
-        let at = own s.earlier s.again s.inside e s.other again.1 c s.same in
-        made here n stands e is s at.0 again.0 at.1 at.2
+  pub adapters_found : (f : Fault) → Contains (second_adapters n.connections) f → Finds sources unit f
+  adapters_found f c = let s = second_origin SecondAdapter both_ends n.connections f c in subst (Finds sources unit) s.2 (second_adapter s.0 s.1)
 
-    to : Contains (net_faults_of sources unit) it → HasSecondAdapter sources unit span
-    to c =
-        let o = network_origin sources unit it c in
-        let s = second_origin SecondAdapter both_ends o.network.connections it o.has in
-        by o.here o.network o.stands s.end s.is s.second s.second.taken
+taken_second : (connections before after : List Connection) (c : Connection) (position : Position) (e : End) → connections ≡ before ++ c ∷ after → c.sort ≡ sorts.Adapter → IsEndOf c position e → IsTaken before c position e → IsSecond both_ends connections e
+taken_second connections before after c position e listed sort end (by_earlier first other taken among first_sort first_end same) =
+    let parts = around c position e end in
+    second before after c parts.0 parts.1 taken listed (both_is c sort ∙ parts.2) same (inl (record { origin = first; among = among; has = both_have first other taken first_sort first_end }))
+taken_second connections before after c position e listed sort end (by_source same) = second before after c (c.source ∷ []) [] c.source listed (both_is c sort) same (inr (contains_here c.source []))
 
-    second : (connections before after : List Connection) (c : Connection) (position : Position) (e : End) → connections ≡ before ++ c ∷ after → c.sort ≡ sorts.Adapter → IsEndOf c position e → IsTaken before c position e → IsSecond both_ends connections e
-    second connections before after c position e listed sort end (by_earlier first other taken among first_sort first_end same) =
-        let parts = around c position e end in
-        record {
-          earlier = before;
-          again = c;
-          later = after;
-          listed = listed;
-          inside = parts.0;
-          rest = parts.1;
-          parts = both_is c sort ∙ parts.2;
-          other = taken;
-          same = same;
-          taken = inl (record { origin = first; among = among; has = both_have first other taken first_sort first_end });
-        }
-    second connections before after c position e listed sort end (by_source same) = record {
-      earlier = before;
-      again = c;
-      later = after;
-      listed = listed;
-      inside = c.source ∷ [];
-      rest = [];
-      parts = both_is c sort;
-      other = c.source;
-      same = same;
-      taken = inr (contains_here c.source []);
-    }
+pub adapter_reported : {sources : Sources} {unit : List ℕ} {span : Span} (h : HasSecondAdapter sources unit span) → Contains (second_adapters h.network.connections) (fault_at_end SecondAdapter h.end)
+adapter_reported h = second_reported SecondAdapter both_ends h.network.connections h.end (taken_second h.network.connections h.before h.after h.again h.position h.end h.listed h.of_adapter h.is_end h.taken)

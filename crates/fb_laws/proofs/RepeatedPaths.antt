@@ -1,8 +1,8 @@
 -- Paths that stand twice in a list.
-use Rattle.fb_laws.proofs.Common.{map-append, ◌≡◌, ℕ, ◌+◌, true, false, ◌||◌, length, List, [], ◌∷◌, ◌++◌, map, take, Some, inl, inr, refl, sym, ap, ◌∙◌, subst, true≢false, arith, nat_cmp-IsAntisymmetric, slice_cmp-IsAntisymmetric, Contains, enumerate_from, take-append_seam, Code, Fault, at_place, in_places, contains_cases, contains_filter, contains_here, contains_later, contains_map, contains_nothing, origin_in_map, passes_in_filter, Path, PathUse, fault_at_path, has_path, is_repeated, repeated, repeated_faults, same_path, filter}
-use Rattle.fb_laws.proofs.SplitLemmas.{SplitImages, at_split, split_at, split_images}
+use Rattle.fb_laws.proofs.Common.{◌≡◌, ℕ, ◌+◌, true, false, ◌||◌, length, List, [], ◌∷◌, ◌++◌, map, take, inl, inr, refl, sym, ap, ◌∙◌, subst, true≢false, arith, nat_cmp-IsAntisymmetric, slice_cmp-IsAntisymmetric, Contains, enumerate_from, slice_get, take-append_seam, Code, Fault, at_place, in_places, contains_cases, contains_filter, contains_here, contains_later, contains_map, contains_nothing, got_in_map, map_gets, origin_in_map, passes_in_filter, Path, PathUse, fault_at_path, has_path, is_repeated, repeated, repeated_faults, same_path, filter}
+use Rattle.fb_laws.proofs.SplitLemmas.{at_split, split_at}
 use Rattle.std.specs.Ordering.{is_eq}
-use Rattle.std.proofs.{Math.Bool.{or-true}, lemmas.Cmp.{lists_total, nat_list_cmp_total, tied_itself}, lemmas.Map.Views.{tells_apart}}
+use Rattle.std.proofs.{Math.Bool.{or-true}, lemmas.Cmp.{lists_total, nat_list_cmp_total, tied_itself}, lemmas.List.{take-map}, lemmas.Map.Views.{tells_apart}}
 
 path_exact : (a b : Path) → same_path a b ≡ true → a ≡ b
 path_exact a b e = tells_apart (slice_cmp-IsAntisymmetric (slice_cmp-IsAntisymmetric nat_cmp-IsAntisymmetric)) a b e
@@ -20,37 +20,6 @@ among_paths [] q p c e = absurd (contains_nothing p c)
 among_paths (x ∷ xs) q p c e =
     elim (contains_cases x xs p c) [ inl s ↦ ap (λ b. b || has_path xs q) (path_itself x.names q (ap (λ (m : PathUse). m.names) s ∙ e)) | inr d ↦ ap (λ b. same_path x.names q || b) (among_paths xs q p d e) ∙ or-true (same_path x.names q) ]
 
--- a path that stands before its place too
-record IsAgain (paths : List PathUse) (x : PathUse) : Type 0 where
-  before : List PathUse
-  after : List PathUse
-  split : paths ≡ before ++ x ∷ after
-  seen : has_path before x.names ≡ true
-
-is_again : (paths : List PathUse) (x : PathUse) → Contains (repeated paths) x → IsAgain paths x
-is_again paths x c =
-    let p = origin_in_map (λ (placed : ℕ × PathUse). placed.1) (filter (is_repeated paths) (enumerate_from 0 paths)) x c in
-    let r = passes_in_filter (is_repeated paths) (enumerate_from 0 paths) p.origin p.among in
-    let j = in_places 0 paths p.origin r.among in
-    let number : p.origin.0 ≡ j.0 = j.1 ∙ (let e : 0 + j.0 ≡ j.0 = omega arith in e) in
-    let s = split_at paths j.0 x (j.2 ∙ ap Some p.gives) in
-    record { before = take j.0 paths; after = s.0; split = s.1; seen = (λ i. has_path (take (sym number i) paths) (sym p.gives i).names) ∙ r.passes }
-
-again_is : (paths : List PathUse) (x : PathUse) → IsAgain paths x → Contains (repeated paths) x
-again_is paths x h = subst (λ (l : List PathUse). Contains (repeated l) x) (sym h.split) (contains_map (λ (placed : ℕ × PathUse). placed.1) (filter (is_repeated whole) (enumerate_from 0 whole)) (length h.before, x) placed)
-  where
-    whole : List PathUse
-    whole = h.before ++ x ∷ h.after
-
-    start : 0 + length h.before ≡ length h.before
-    start = omega arith
-
-    there : Contains (enumerate_from 0 whole) (length h.before, x)
-    there = subst (λ (k : ℕ). Contains (enumerate_from 0 whole) (k, x)) start (at_place 0 whole (length h.before) x (at_split h.before x h.after))
-
-    placed : Contains (filter (is_repeated whole) (enumerate_from 0 whole)) (length h.before, x)
-    placed = contains_filter (is_repeated whole) (enumerate_from 0 whole) (length h.before, x) there (ap (λ l. has_path l x.names) (take-append_seam h.before (x ∷ h.after)) ∙ h.seen)
-
 -- an item whose path is that of an earlier one
 pub record RepeatOrigin {A : Type 0} (path : A → PathUse) (items : List A) (code : Code) (f : Fault) : Type 0 where
   pub before : List A
@@ -64,25 +33,36 @@ pub record RepeatOrigin {A : Type 0} (path : A → PathUse) (items : List A) (co
 
 pub repeat_origin : {A : Type 0} (path : A → PathUse) (items : List A) (code : Code) (f : Fault) → Contains (repeated_faults code (map path items)) f → RepeatOrigin path items code f
 repeat_origin path items code f c =
-    let n = origin_in_map (fault_at_path code) (repeated (map path items)) f c in
-    let a = is_again (map path items) n.origin n.among in
-    by n.origin n.gives a (split_images path items a.before a.after n.origin a.split) (path_among a.before n.origin.names a.seen)
-  where
-    names : (x y : PathUse) → x ≡ y → x.names ≡ y.names
-    names x y e = ap (λ (p : PathUse). p.names) e
-
-    by : (x : PathUse) → fault_at_path code x ≡ f → (a : IsAgain (map path items) x) → SplitImages path items a.before x → (p : PathUse) × Contains a.before p × (p.names ≡ x.names) → RepeatOrigin path items code f
-    by x gives a e p =
-        let o = origin_in_map path e.earlier p.0 (subst (λ (l : List PathUse). Contains l p.0) e.passed p.1) in
-        grind arith
+    let paths = map path items in
+    let n = origin_in_map (fault_at_path code) (repeated paths) f c in
+    let p = origin_in_map (λ (placed : ℕ × PathUse). placed.1) (filter (is_repeated paths) (enumerate_from 0 paths)) n.origin n.among in
+    let r = passes_in_filter (is_repeated paths) (enumerate_from 0 paths) p.origin p.among in
+    let j = in_places 0 paths p.origin r.among in
+    let k = p.origin.0 in
+    let number : k ≡ j.0 = j.1 ∙ (let e : 0 + j.0 ≡ j.0 = omega arith in e) in
+    let at = got_in_map path items k p.origin.1 (ap (slice_get paths) number ∙ j.2) in
+    let o = split_at items k at.0 at.1 in
+    let q = path_among (map path (take k items)) p.origin.1.names (ap (λ (l : List PathUse). has_path l p.origin.1.names) (sym (take-map path k items)) ∙ r.passes) in
+    let e = origin_in_map path (take k items) q.0 q.1 in
+    record {
+      before = take k items;
+      item = at.0;
+      after = o.0;
+      split = o.1;
+      other = e.origin;
+      seen = e.among;
+      same = ap (λ (u : PathUse). u.names) e.gives ∙ q.2 ∙ ap (λ (u : PathUse). u.names) (sym at.2);
+      is = ap (fault_at_path code) (at.2 ∙ p.gives) ∙ n.gives;
+    }
 
 pub repeat_reported : {A : Type 0} (path : A → PathUse) (code : Code) (items before after : List A) (item other : A) → items ≡ before ++ item ∷ after → Contains before other → (path other).names ≡ (path item).names → Contains (repeated_faults code (map path items)) (fault_at_path code (path item))
-repeat_reported path code items before after item other split seen same =
-    contains_map (fault_at_path code) (repeated (map path items)) (path item)
-    (again_is (map path items) (path item)
-    (record {
-      before = map path before;
-      after = map path after;
-      split = ap (map path) split ∙ map-append path before (item ∷ after);
-      seen = among_paths (map path before) (path item).names (path other) (contains_map path before other seen) same;
-    }))
+repeat_reported {A = A} path code items before after item other split seen same =
+    let whole = map path (before ++ item ∷ after) in
+    let start : 0 + length before ≡ length before = omega arith in
+    let at = at_place 0 whole (length before) (path item) (map_gets path (before ++ item ∷ after) (length before) item (at_split before item after)) in
+    let there = subst (λ (k : ℕ). Contains (enumerate_from 0 whole) (k, path item)) start at in
+    let earlier = take-map path (length before) (before ++ item ∷ after) ∙ ap (map path) (take-append_seam before (item ∷ after)) in
+    let twice = ap (λ (l : List PathUse). has_path l (path item).names) earlier ∙ among_paths (map path before) (path item).names (path other) (contains_map path before other seen) same in
+    let placed = contains_filter (is_repeated whole) (enumerate_from 0 whole) (length before, path item) there twice in
+    subst (λ (l : List A). Contains (repeated_faults code (map path l)) (fault_at_path code (path item))) (sym split)
+    (contains_map (fault_at_path code) (repeated whole) (path item) (contains_map (λ (placed : ℕ × PathUse). placed.1) (filter (is_repeated whole) (enumerate_from 0 whole)) (length before, path item) placed))

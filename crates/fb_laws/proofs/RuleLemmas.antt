@@ -8,16 +8,16 @@ pub data Known (P : Class → Type 0) : Option Class → Type 0 where
   gives : {g : Class} → P g → Known P (Some g)
   fails : Known P None
 
-mapped : (P Q : Class → Type 0) (o : Option Class) → ((g : Class) → P g → Q g) → Known P o → Known Q o
-mapped P Q None f fails = fails
-mapped P Q (Some g) f (gives p) = gives (f g p)
+mapped : {P Q : Class → Type 0} {o : Option Class} → ((g : Class) → P g → Q g) → Known P o → Known Q o
+mapped f fails = fails
+mapped f (gives p) = gives (f _ p)
 
-pub none_of : (P : Class → Type 0) (o : Option Class) → ((g : Class) → P g → o ≡ Some g) → o ≡ None → (g : Class) → ¬ P g
-none_of P o told e g p = let both : Some g ≡ None = sym (told g p) ∙ e in let no : ⊥ = cc in no
+pub none_of : {P : Class → Type 0} {o : Option Class} → ((g : Class) → P g → o ≡ Some g) → o ≡ None → (g : Class) → ¬ P g
+none_of told e g p = cc (told g p)
 
-pub missing : (P : Class → Type 0) (o : Option Class) → Known P o → ((g : Class) → ¬ P g) → o ≡ None
-missing P None fails none = refl
-missing P (Some g) (gives p) none = absurd (none g p)
+pub missing : {P : Class → Type 0} {o : Option Class} → Known P o → ((g : Class) → ¬ P g) → o ≡ None
+missing fails none = refl
+missing (gives p) none = absurd (none _ p)
 
 -- joins
 
@@ -89,24 +89,16 @@ told_calculated c g is = grind arith
 told_divided : (c g : Class) → Divides c g → whole_of c ≡ Some g
 told_divided c g is = grind arith
 
-not_of : (c g : Class) → Keeps c g → Changes Not c g
-not_of c g (keeps l) = Changes.not l
+kept_by : (Q : Class → Type 0) {c : Class} → (IsLogical c → Q c) → (g : Class) → Keeps c g → Q g
+kept_by Q make g (keeps l) = make l
 
 pub changes : (operator : UnaryOperator) (c : Class) → Known (Changes operator c) (change operator c)
-changes Not c = mapped (Keeps c) (Changes Not c) (logical c) (not_of c) (kept c)
-changes Plus c = mapped (Calculates c) (Changes Plus c) (arithmetical c) (λ g k. Changes.plus k) (calculated c)
-changes Minus c = mapped (Calculates c) (Changes Minus c) (arithmetical c) (λ g k. Changes.minus k) (calculated c)
+changes Not c = mapped (kept_by (Changes Not c) Changes.not) (kept c)
+changes Plus c = mapped (λ g k. Changes.plus k) (calculated c)
+changes Minus c = mapped (λ g k. Changes.minus k) (calculated c)
 
 pub told_change : (operator : UnaryOperator) (c g : Class) → Changes operator c g → change operator c ≡ Some g
-told_change operator c g (Changes.not l) = told_logic c l
-told_change operator c g (Changes.plus k) = told_calculated c g k
-told_change operator c g (Changes.minus k) = told_calculated c g k
-
-pub none_change : (operator : UnaryOperator) (c : Class) → change operator c ≡ None → (g : Class) → ¬ Changes operator c g
-none_change operator c e = none_of (Changes operator c) (change operator c) (told_change operator c) e
-
-pub no_change : (operator : UnaryOperator) (c : Class) → ((g : Class) → ¬ Changes operator c g) → change operator c ≡ None
-no_change operator c none = missing (Changes operator c) (change operator c) (changes operator c) none
+told_change operator c g is = grind (arith, told_logic, told_calculated)
 
 -- the kinds of operators
 ruleset logics = (JoinsTruths.or, JoinsTruths.xor, JoinsTruths.and)
@@ -116,18 +108,15 @@ ruleset comparisons = (Compares.equal, Compares.not_equal, Compares.less, Compar
 ruleset calculations = (IsArithmetic.add, IsArithmetic.subtract, IsArithmetic.multiply, IsArithmetic.divide, IsArithmetic.power)
 
 by_logic : (operator : BinaryOperator) → JoinsTruths operator → (c : Class) → Known (Makes operator c) (logical c)
-by_logic operator is c = mapped (Keeps c) (Makes operator c) (logical c) (λ g k. kept_by g k) (kept c)
-  where
-    kept_by : (g : Class) → Keeps c g → Makes operator c g
-    kept_by g (keeps l) = Makes.logic is l
+by_logic operator is c = mapped (kept_by (Makes operator c) (Makes.logic is)) (kept c)
 
 by_arithmetic : (operator : BinaryOperator) → IsArithmetic operator → (c : Class) → Known (Makes operator c) (arithmetical c)
-by_arithmetic operator is c = mapped (Calculates c) (Makes operator c) (arithmetical c) (λ g k. Makes.arithmetic is k) (calculated c)
+by_arithmetic operator is c = mapped (λ g k. Makes.arithmetic is k) (calculated c)
 
 ruleset made = (by_logic, by_arithmetic, gives, Makes.comparison)
 
 makes : (operator : BinaryOperator) (c : Class) → Known (Makes operator c) (operation operator c)
-makes Modulo c = mapped (Divides c) (Makes Modulo c) (whole_of c) (λ g k. Makes.modulo k) (divided c)
+makes Modulo c = mapped (λ g k. Makes.modulo k) (divided c)
 makes operator c = search (made, logics, comparisons, calculations)
 
 told_makes : (operator : BinaryOperator) (c g : Class) → Makes operator c g → operation operator c ≡ Some g
@@ -140,24 +129,14 @@ told_makes operator c g (Makes.arithmetic is n) = told_calculated c g n
 told_makes operator c g (Makes.modulo n) = told_divided c g n
 
 pub combines : (operator : BinaryOperator) (a b : Class) → Known (Combines operator a b) (combined operator a b)
-combines operator a b = by_join (join a b) (joins a b)
+combines operator a b = by_join (joins a b)
   where
-    by_class : (c : Class) → Joins a b c → (o : Option Class) → Known (Makes operator c) o → Known (Combines operator a b) o
-    by_class c j None fails = fails
-    by_class c j (Some g) (gives m) = gives (Combines.joined c j m)
-
-    by_join : (o : Option Class) → Known (Joins a b) o → Known (Combines operator a b) (option_and_then (operation operator) o)
-    by_join None fails = fails
-    by_join (Some c) (gives j) = by_class c j (operation operator c) (makes operator c)
+    by_join : {o : Option Class} → Known (Joins a b) o → Known (Combines operator a b) (option_and_then (operation operator) o)
+    by_join fails = fails
+    by_join (gives {g = c} j) = mapped (λ g m. Combines.joined c j m) (makes operator c)
 
 pub told_combined : (operator : BinaryOperator) (a b g : Class) → Combines operator a b g → combined operator a b ≡ Some g
 told_combined operator a b g (Combines.joined c j m) = ap (option_and_then (operation operator)) (told_join a b c j) ∙ told_makes operator c g m
-
-pub none_combined : (operator : BinaryOperator) (a b : Class) → combined operator a b ≡ None → (g : Class) → ¬ Combines operator a b g
-none_combined operator a b e = none_of (Combines operator a b) (combined operator a b) (told_combined operator a b) e
-
-pub not_combined : (operator : BinaryOperator) (a b : Class) → ((g : Class) → ¬ Combines operator a b g) → combined operator a b ≡ None
-not_combined operator a b none = missing (Combines operator a b) (combined operator a b) (combines operator a b) none
 
 ruleset spoilt = (Spoils.logic, Spoils.comparison, Spoils.arithmetic)
 
@@ -169,15 +148,15 @@ told_spoils : (operator : BinaryOperator) (g : Class) → Spoils operator g → 
 told_spoils operator g is = grind arith
 
 pub results : (operator : BinaryOperator) (a b : Class) → Results operator a b (pair_class operator a b)
-results operator a b = by_case (combined operator a b) refl (combines operator a b)
+results operator a b = by_case refl (combines operator a b)
   where
-    by_case : (o : Option Class) → combined operator a b ≡ o → Known (Combines operator a b) o → Results operator a b (unwrap_or o (class_of_broken operator))
-    by_case (Some g) e (gives p) = Results.met p
-    by_case None e fails = Results.broken (none_combined operator a b e) (spoils operator)
+    by_case : {o : Option Class} → combined operator a b ≡ o → Known (Combines operator a b) o → Results operator a b (unwrap_or o (class_of_broken operator))
+    by_case e (gives p) = Results.met p
+    by_case e fails = Results.broken (none_of (told_combined operator a b) e) (spoils operator)
 
 pub told_results : (operator : BinaryOperator) (a b g : Class) → Results operator a b g → pair_class operator a b ≡ g
 told_results operator a b g (Results.met p) = ap (λ (o : Option Class). unwrap_or o (class_of_broken operator)) (told_combined operator a b g p)
-told_results operator a b g (Results.broken none s) = grind (arith, unwrap_or, not_combined, told_spoils)
+told_results operator a b g (Results.broken none s) = ap (λ (o : Option Class). unwrap_or o (class_of_broken operator)) (missing (combines operator a b) none) ∙ told_spoils operator g s
 
 -- places
 
@@ -202,4 +181,4 @@ pub misfits : (place : ClassPlace) (c : Class) → allows place c ≡ false → 
 misfits place c e f = true≢false (sym (told_fit place c f) ∙ e)
 
 pub told_misfit : (place : ClassPlace) (c : Class) → ¬ Fits place c → allows place c ≡ false
-told_misfit place c none = (elim (allows place c) as (λ b. allows place c ≡ b → b ≡ false) [ true ↦ λ e. absurd (none (fits place c e)) | false ↦ λ e. refl ]) refl
+told_misfit place c none = false_from_ne_true (allows place c) (λ e. none (fits place c e))

@@ -1,5 +1,5 @@
 -- Parts that are written in the tokens as the grammar sees them stand in the text.
-use Rattle.fb_laws.proofs.Common.{◌≡◌, ℕ, zero, suc, ◌<◌, ◌≤◌, Bool, true, cond, List, [], ◌∷◌, ◌++◌, length, map, refl, sym, ap, ◌∙◌, subst, arith, Result, Ok, Err, All, IsOk, nat_lt, slice_index_or, slice_range, IsCharBoundary, str_to_ascii_uppercase, map-append, Contains-append_left, All-contains, All-from_recursion, All-map, All-weaker, Contains-append_right, name_of, tokens_of, spans_of, LiesIn, SpansRise, is_word, NameFault, NameUse, Span, Token, name_of-ok, IsBody, IsBodyIn, body_of, Whole, name as name_form, Spells, is_among, name_kinds, lexeme_of, lexemes_in, lexemes_of, name_or, name_use, Lexeme, DeclTree, told, Part, name_part, tree_parts, PartsAreWritten, SpansCoverTokens, SpansLieInText, NamesAreWords, part_span, BeginsAt, EndsAt, IsWritten, Contains}
+use Rattle.fb_laws.proofs.Common.{◌≡◌, ℕ, ◌<◌, ◌≤◌, Bool, true, cond, List, [], ◌∷◌, ◌++◌, length, map, refl, sym, ap, ◌∙◌, subst, arith, Result, Ok, Err, All, IsOk, nat_lt, slice_range, IsCharBoundary, str_to_ascii_uppercase, map-append, Contains-append_left, All-contains, All-from_recursion, All-map, All-weaker, Contains-append_right, contains_here, origin_in_map, name_of, tokens_of, spans_of, LiesIn, SpansRise, is_word, NameFault, NameUse, Span, Token, name_of-ok, IsBody, IsBodyIn, body_of, Whole, name as name_form, Spells, is_among, name_kinds, lexeme_of, lexemes_in, lexemes_of, name_or, name_use, Lexeme, DeclTree, told, Part, name_part, tree_parts, PartsAreWritten, SpansCoverTokens, SpansLieInText, NamesAreWords, part_span, BeginsAt, EndsAt, IsWritten, Contains}
 use Rattle.fb_laws.proofs.{Reading.{AreTokens, tokens_are, rise_at, rise_behind}, UnitSpans.{sound_unit}}
 use Rattle.fb_structured_text.proofs.Forms.NameWords.{names as names_are_words}
 use Rattle.fb_laws.specs.Standing.{Covers, IsWord}
@@ -16,19 +16,6 @@ unfolding name_of
 spelled_word bytes other word short = grind (arith, ok_name, nat_lt, str_to_ascii_uppercase, name_of-ok)
 
 -- Tokens
-
--- the token of a lexeme
-pub record IsOfToken (text : List ℕ) (tokens : List Token) (l : Lexeme) : Type 0 where
-  pub token : Token
-  pub among : Contains tokens token
-  pub same : l ≡ lexeme_of text token
-
-pub of_token : (text : List ℕ) (tokens : List Token) (l : Lexeme) (k : ℕ) → k < length (map (lexeme_of text) tokens) → slice_index_or (map (lexeme_of text) tokens) k l ≡ l → IsOfToken text tokens l
-of_token text [] l k within e = absurd (omega arith)
-of_token text (t ∷ ts) l zero within e = record { token = t; among = (0, omega arith, refl); same = sym e }
-of_token text (t ∷ ts) l (suc k) within e =
-    let later = of_token text ts l k (omega arith) e in
-    record { token = later.token; among = Contains-append_right (t ∷ []) ts later.token later.among; same = later.same }
 
 -- where tokens as the grammar sees them stand
 abbrev spans : List Lexeme → List Span
@@ -50,14 +37,14 @@ pub name_in : (us inside : List Lexeme) (before behind : List Lexeme) (name : Na
 unfolding name_form
 name_in us inside before behind name e s =
     let l = s.0 in
-    let one : Contains inside l = subst (λ (z : List Lexeme). Contains z l) (sym s.1.0) (0, omega arith, refl) in
+    let one = subst (λ (z : List Lexeme). Contains z l) (sym s.1.0) (contains_here l []) in
     (l, subst (λ (z : List Lexeme). Contains z l) (sym e) (Contains-append_right before (inside ++ behind) l (Contains-append_left inside behind l one)), s.1.1, s.2)
 
 pub name_stands : (text : List ℕ) (tokens : List Token) (name : NameUse) → AreTokens text tokens → IsWritten (map (lexeme_of text) tokens) (name_part name) → IsWord text tokens name
 name_stands text tokens name are h =
     let found = name_in (map (lexeme_of text) tokens) h.inside h.before h.behind name h.parts h.spells in
-    let of = of_token text tokens found.0 found.1.0 found.1.1 found.1.2 in
-    word_stands text tokens of.token name are of.among (subst (λ (l : Lexeme). is_among name_kinds l.kind ≡ true) of.same found.2) (found.3 ∙ ap name_use of.same)
+    let of = origin_in_map (lexeme_of text) tokens found.0 found.1 in
+    word_stands text tokens of.origin name are of.among (subst (λ (l : Lexeme). is_among name_kinds l.kind ≡ true) (sym of.gives) found.2) (found.3 ∙ ap name_use (sym of.gives))
 
 -- Tokens that a span covers
 

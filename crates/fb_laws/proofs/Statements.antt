@@ -1,33 +1,20 @@
 -- The parts of statements, at each level.
-use Rattle.fb_laws.proofs.Common.{ℕ, ◌≤◌, arith, zero, suc, List, [], ◌∷◌, ◌++◌, flat_map, Form, many, cons, name, Kind, Assign, Expression, reference_expression, Statement, statements_of, arms_of, levels, expression, reference, statement, simple_statement, assignment_statement, enclosed, announced, otherwise, arm, arms, if_statement, case, cases, case_statement, for_statement, while_statement, repeat_statement, nested_statement, Part, mark_part, name_parts, option_parts, expression_parts, statement_parts, statements_parts, arms_parts, refl, ap, ◌≡◌, subst, sym, ◌∙◌, flat_map-append}
+use Rattle.fb_laws.proofs.Common.{ℕ, ◌≤◌, arith, zero, suc, List, [], ◌∷◌, ◌++◌, flat_map, Form, many, cons, name, Kind, Assign, Expression, reference_expression, Statement, statements_of, arms_of, levels, expression, reference, statement, simple_statement, assignment_statement, enclosed, announced, otherwise, arm, arms, if_statement, case, cases, case_statement, for_statement, while_statement, repeat_statement, nested_statement, Part, mark_part, name_parts, option_parts, expression_parts, statement_parts, statements_parts, arms_parts, refl, subst, flat_map-append}
 use Rattle.fb_laws.proofs.Tokens.{Each}
 use Rattle.fb_laws.proofs.Sound.{Sound, sound_nothing, sound_both, sound_as, sound_either, sound_option, sound_many, sound_behind, sound_before, sound_optional_list, sound_section, sound_mark, sound_name, sound_same}
-use Rattle.fb_laws.proofs.ExpressionSpans.{sound_expression, sound_reference}
+use Rattle.fb_laws.proofs.ExpressionSpans.{flat_parts, sound_expression, sound_reference}
 
 -- Lists
 
 abbrev pub block_parts : List Statement → List Part
 block_parts ss = statements_parts (statements_of ss)
 
-flat_statements : (ss : List Statement) → flat_map statement_parts ss ≡ block_parts ss
-flat_statements [] = refl
-flat_statements (s ∷ ss) = ap (λ (l : List Part). statement_parts s ++ l) (flat_statements ss)
-
 abbrev arm_parts : Expression × List Statement → List Part
 arm_parts a = expression_parts a.0 ++ block_parts a.1
 
-flat_arms : (all : List (Expression × List Statement)) → flat_map arm_parts all ≡ arms_parts (arms_of all)
-flat_arms [] = refl
-flat_arms (a ∷ others) = ap (λ (l : List Part). arm_parts a ++ l) (flat_arms others)
-
--- statements in several lists
-flat_joined : (all : List (List Statement)) → flat_map (flat_map statement_parts) all ≡ flat_map statement_parts (flat_map (λ ss. ss) all)
-flat_joined [] = refl
-flat_joined (ss ∷ others) = ap (λ (l : List Part). flat_map statement_parts ss ++ l) (flat_joined others) ∙ sym (flat_map-append statement_parts ss (flat_map (λ s. s) others))
-
 -- statements one behind the other, kept as a block
 sound_block : (x : Form (List Statement)) → Sound x (flat_map statement_parts) → Sound x block_parts
-sound_block x h = sound_same x (flat_map statement_parts) block_parts (λ P v e. subst (Each P) (flat_statements v) e) h
+sound_block x h = sound_same x (flat_map statement_parts) block_parts (λ P v e. subst (Each P) (flat_parts statement_parts block_parts refl (λ s ss. refl) v) e) h
 
 -- Statements that contain no others
 
@@ -71,7 +58,7 @@ module _ (e : Form Expression) (inner : Form Statement) (sound_e : Sound e expre
   unfolding if_statement arms
   sound_if =
       sound_as _ _ statement_parts
-      (sound_both _ _ (λ v. arms_parts (arms_of v)) block_parts (sound_same _ (flat_map arm_parts) _ (λ P v e. subst (Each P) (flat_arms v) e)
+      (sound_both _ _ (λ v. arms_parts (arms_of v)) block_parts (sound_same _ (flat_map arm_parts) _ (λ P v e. subst (Each P) (flat_parts arm_parts (λ all. arms_parts (arms_of all)) refl (λ a all. refl) v) e)
       (sound_as cons _ (flat_map arm_parts) (sound_both _ _ arm_parts (flat_map arm_parts) (sound_arm _) (sound_many _ arm_parts (sound_arm _)))))
       (sound_before (otherwise inner) _ block_parts sound_otherwise))
 
@@ -82,9 +69,10 @@ module _ (e : Form Expression) (inner : Form Statement) (sound_e : Sound e expre
   sound_cases : Sound (cases inner) block_parts
   unfolding cases
   sound_cases =
+      let joined = flat_parts (flat_map statement_parts) (λ all. flat_map statement_parts (flat_map (λ ss. ss) all)) refl (λ ss all. flat_map-append statement_parts ss (flat_map (λ s. s) all)) in
       sound_block _
       (sound_as _ _ (flat_map statement_parts)
-      (sound_same _ (λ v. flat_map (flat_map statement_parts) (cons v)) _ (λ P v h. subst (Each P) (flat_joined (cons v)) h)
+      (sound_same _ (λ v. flat_map (flat_map statement_parts) (cons v)) _ (λ P v h. subst (Each P) (joined (cons v)) h)
       (sound_both (case inner) _ (flat_map statement_parts) (flat_map (flat_map statement_parts)) sound_case_part (sound_many (case inner) (flat_map statement_parts) sound_case_part))))
 
   sound_case : Sound (case_statement e inner) statement_parts

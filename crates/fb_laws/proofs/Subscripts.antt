@@ -1,5 +1,5 @@
 -- The names of a reference count its subscripts.
-use Rattle.fb_laws.proofs.Common.{arith, ◌≡◌, ℕ, suc, ◌+◌, inl, inr, List, [], ◌∷◌, length, map, Option, refl, sym, ap, ◌∙◌, subst, length-append, sum_by, All-contains, Form, either, as_value, Spells, Kind, Lexeme, Expression, reference_expression, expressions_of, BinaryUse, UnaryUse, Member, PartTree, expression, parts, flat_part, deep_part, member_in, subscripts_in, reference_in, flat_reference, deep_reference, reference_value, literal, in_parentheses, parenthesized, flat_primary, deep_primary, with_sign, unary, row_of, row, rows, expression_part, tree_parts, SubscriptsAreCounted, counted_by, number_of, IsWritten}
+use Rattle.fb_laws.proofs.Common.{arith, ◌≡◌, ℕ, suc, ◌+◌, inl, inr, List, [], ◌∷◌, length, map, refl, sym, ap, ◌∙◌, subst, length-append, sum_by, All-contains, Form, either, as_value, Spells, Kind, Lexeme, Expression, reference_expression, expressions_of, Member, PartTree, expression, parts, flat_part, deep_part, member_in, subscripts_in, reference_in, flat_reference, deep_reference, reference_value, literal, in_parentheses, parenthesized, flat_primary, deep_primary, with_sign, unary, row_of, row, rows, expression_part, tree_parts, SubscriptsAreCounted, counted_by, number_of, IsWritten, None, Some}
 use Rattle.fb_laws.proofs.Standing.{parts_are_written}
 use Rattle.std.proofs.lemmas.List.Sums.{sum_by-cons}
 
@@ -47,24 +47,16 @@ counted_deep_primary : (inner : Form Expression) → Counted (deep_primary inner
 unfolding deep_primary deep_reference parenthesized
 counted_deep_primary inner = counted_either literal _ counted_literal (counted_either _ (parenthesized inner) (counted_parts (deep_part inner)) (counted_as in_parentheses _ (λ us v s. tt)))
 
-counts_signed : (o : Option UnaryUse) (e : Expression) → Counts e → Counts (with_sign o e)
-counts_signed o e h = grind arith
-
 counted_unary : (primary : Form Expression) → Counted primary → Counted (unary primary)
 unfolding unary
-counted_unary primary h = counted_as (λ v. with_sign v.0 v.1) _ (λ us v s. counts_signed v.0 v.1 (h.counts s.1 v.1 s.4))
-
-counts_row : (e : Expression) (os : List (BinaryUse × Expression)) → Counts e → Counts (row_of e os)
-counts_row e os h = grind arith
-
-counted_row : (kinds : List Kind) (x : Form Expression) → Counted x → Counted (row kinds x)
-unfolding row
-counted_row kinds x h = counted_as (λ v. row_of v.0 v.1) _ (λ us v s. counts_row v.0 v.1 (h.counts s.0 v.0 s.3))
+counted_unary primary h = counted_as (λ v. with_sign v.0 v.1) _ (λ us v s. (elim v.0 as (λ o. Counts (with_sign o v.1)) [ None ↦ h.counts s.1 v.1 s.4 | Some operator ↦ tt ]))
 
 counted_rows : (all : List (List Kind)) (x : Form Expression) → Counted x → Counted (rows all x)
-unfolding rows
+unfolding rows row
 counted_rows [] x h = h
-counted_rows (kinds ∷ stronger) x h = counted_row kinds (rows stronger x) (counted_rows stronger x h)
+counted_rows (kinds ∷ stronger) x h =
+    let inner = counted_rows stronger x h in
+    counted_as (λ v. row_of v.0 v.1) _ (λ us v s. (elim v.1 as (λ os. Counts (row_of v.0 os)) [ [] ↦ inner.counts s.0 v.0 s.3 | o ∷ os ↦ tt ]))
 
 counted_expression : (n : ℕ) → Counted (expression n)
 unfolding expression

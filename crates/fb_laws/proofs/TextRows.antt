@@ -8,21 +8,11 @@ broken_reported_alone sources unit span b = broken_alone sources unit b.text spa
 
 pub broken_reported : BrokenTextsAreReported
 broken_reported sources unit span =
-    iff (λ c. by (is_found sources unit it c))
-    (λ b. subst (λ (l : List Fault). Contains l it) (sym (broken_reported_alone sources unit span b)) (contains_here it []))
-  where
-    it : Fault
-    it = broken_at span
-
-    by : IsReported sources unit it → IsBroken sources unit span
-    by (of_text o) = record { text = o.text; present = o.present; broken = subst (λ (b : BodyTree). IsBody o.text b) o.broken (told o.text) }
-    by (of_part part h) = absurd (no_text_code part Syntax (own_codes part sources unit it h) refl)
+    iff (λ c. (elim (is_found sources unit (broken_at span) c) [ of_text o ↦ record { text = o.text; present = o.present; broken = subst (λ (b : BodyTree). IsBody o.text b) o.broken (told o.text) } | of_part part h ↦ absurd (no_text_code part Syntax (own_codes part sources unit (broken_at span) h) refl) ]))
+    (λ b. subst (λ (l : List Fault). Contains l (broken_at span)) (sym (broken_reported_alone sources unit span b)) (contains_here (broken_at span) []))
 
 pub whole_not_reported : WholeTextsAreNotReported
-whole_not_reported sources unit decl there f c = by ((whole_units sources unit decl there f).0 c)
-  where
-    by : IsOfPart sources unit f → f.code ≡ Syntax → ⊥
-    by o e = no_text_code o.part f.code (own_codes o.part sources unit f o.reported) e
+whole_not_reported sources unit decl there f c = let o = (whole_units sources unit decl there f).0 c in no_text_code o.part f.code (own_codes o.part sources unit f o.reported)
 
 -- an absent unit declares nothing
 pub absent_clean : AbsentUnitsHaveNoFaults

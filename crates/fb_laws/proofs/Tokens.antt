@@ -1,5 +1,6 @@
 -- Parts that are written among tokens.
 use Rattle.fb_laws.proofs.Common.{arith, ℕ, List, [], ◌∷◌, ◌++◌, sym, ap, ◌∙◌, append_assoc, AllByRecursion, Span, Lexeme, Part, part_span, BeginsAt, EndsAt, SpellsPart, IsWritten, append-nil}
+use Rattle.fb_deploy.proofs.Library.OnShelves.{each}
 
 -- Where tokens begin and end
 
@@ -38,29 +39,25 @@ written_right us vs p h = record {
   spells = h.spells;
 }
 
--- What holds of each part of a list
+-- What holds of each item of a list
 
-abbrev pub Each : (Part → Type 0) → List Part → Type 0
+abbrev pub Each : {A : Type 0} → (A → Type 0) → List A → Type 0
 Each P ps = AllByRecursion P ps
 
-pub each_append : (P : Part → Type 0) (ps qs : List Part) → Each P ps → Each P qs → Each P (ps ++ qs)
+pub each_append : {A : Type 0} (P : A → Type 0) (ps qs : List A) → Each P ps → Each P qs → Each P (ps ++ qs)
 each_append P [] qs h k = k
 each_append P (p ∷ ps) qs h k = (h.0, each_append P ps qs h.1 k)
 
-pub each_prefix : (P : Part → Type 0) (ps qs : List Part) → Each P (ps ++ qs) → Each P ps
+pub each_prefix : {A : Type 0} (P : A → Type 0) (ps qs : List A) → Each P (ps ++ qs) → Each P ps
 each_prefix P [] qs h = tt
 each_prefix P (p ∷ ps) qs h = (h.0, each_prefix P ps qs h.1)
 
-pub each_rest : (P : Part → Type 0) (ps qs : List Part) → Each P (ps ++ qs) → Each P qs
+pub each_rest : {A : Type 0} (P : A → Type 0) (ps qs : List A) → Each P (ps ++ qs) → Each P qs
 each_rest P [] qs h = h
 each_rest P (p ∷ ps) qs h = each_rest P ps qs h.1
 
-pub each_weaker : (P Q : Part → Type 0) → ((p : Part) → P p → Q p) → (ps : List Part) → Each P ps → Each Q ps
-each_weaker P Q f [] h = tt
-each_weaker P Q f (p ∷ ps) h = (f p h.0, each_weaker P Q f ps h.1)
-
 pub each_left : (us vs : List Lexeme) (ps : List Part) → Each (IsWritten us) ps → Each (IsWritten (us ++ vs)) ps
-each_left us vs ps h = each_weaker (IsWritten us) (IsWritten (us ++ vs)) (written_left us vs) ps h
+each_left us vs ps h = each (IsWritten us) (IsWritten (us ++ vs)) (written_left us vs) ps h
 
 pub each_right : (us vs : List Lexeme) (ps : List Part) → Each (IsWritten vs) ps → Each (IsWritten (us ++ vs)) ps
-each_right us vs ps h = each_weaker (IsWritten vs) (IsWritten (us ++ vs)) (written_right us vs) ps h
+each_right us vs ps h = each (IsWritten vs) (IsWritten (us ++ vs)) (written_right us vs) ps h

@@ -2,6 +2,7 @@
 use Rattle.std.specs.Prelude.{◌≡◌, ◌≢◌, List, [], ◌∷◌, Option, Some, None}
 use Rattle.fb_laws.specs.Common.{NameUse, Span, ReferenceTree, Expression, literal_expression, reference_expression, unary_expression, row_expression, parentheses, Expressions, Operands, no_operands, operand_then, BinaryUse, UnaryUse, Member}
 use Rattle.fb_tree.specs.declared.constant.Literal.{Literal}
+use Rattle.fb_expr.specs.Spans.{across}
 
 -- from the first name through the last
 abbrev pub span_through : NameUse → Option NameUse → Span
@@ -22,10 +23,6 @@ pub data IsLast (e : Expression) : Operands → Type 0 where
   later : {used : BinaryUse} {x : Expression} {others : Operands} → IsLast e others
       → IsLast e (operand_then used x others)
 
--- from the start of one place to the end of another
-abbrev pub joined : Span → Span → Span
-joined first last = record { start = first.start; end = last.end }
-
 -- The place of an expression: a reference with its subscripts, an operator through its operand, the first operand of a row through the last, and
 -- parentheses with what they enclose.
 pub data StandsAt : Expression → Span → Type 0 where
@@ -33,8 +30,8 @@ pub data StandsAt : Expression → Span → Type 0 where
   reference : {r : ReferenceTree} {subscripts : Expressions}
       → StandsAt (reference_expression r subscripts) r.span
   operator : {used : UnaryUse} {x : Expression} (s : Span) → StandsAt x s
-      → StandsAt (unary_expression used x) (joined used.span s)
+      → StandsAt (unary_expression used x) (across used.span s)
   row : {first : Expression} {operands : Operands} (x : Expression) (a b : Span) → StandsAt first a
-      → IsLast x operands → StandsAt x b → StandsAt (row_expression first operands) (joined a b)
+      → IsLast x operands → StandsAt x b → StandsAt (row_expression first operands) (across a b)
   no_row : {first : Expression} {s : Span} → StandsAt first s → StandsAt (row_expression first no_operands) s
   enclosed : {x : Expression} {s : Span} → StandsAt (parentheses x s) s

@@ -137,13 +137,18 @@ pub record IsCutOrMade (sources : Sources) (system : List ℕ) (flat : PlainFlat
 
 -- ---- laws
 
+-- what holds of each plan
+abbrev pub HoldsOfEachPlan : (Sources → List ℕ → PlainFlat → List Link → List PlainResource → Type 0) → Type 0
+HoldsOfEachPlan Fact =
+    (sources : Sources) (system : List ℕ) (flat : PlainFlat) (cuts : List Link) (resources : List PlainResource)
+    → IsPlanned sources system flat cuts resources
+    → Fact sources system flat cuts resources
+
 -- what holds of each resource of a plan
 abbrev pub HoldsOfResources : (Sources → List ℕ → PlainFlat → List PlainResource → PlainResource → Type 0)
     → Type 0
-HoldsOfResources Fact =
-    (sources : Sources) (system : List ℕ) (flat : PlainFlat) (cuts : List Link) (resources : List PlainResource)
-    → IsPlanned sources system flat cuts resources
-    → (entry : PlainResource) → Contains resources entry → Fact sources system flat resources entry
+HoldsOfResources Fact = HoldsOfEachPlan (λ sources system flat cuts resources.
+    (entry : PlainResource) → Contains resources entry → Fact sources system flat resources entry)
 
 -- a system with a flat network has commands where nothing is misplaced
 abbrev pub PlacedSystemsHaveCommands : Type 0
@@ -165,10 +170,7 @@ EndsHaveOneHome =
     → a ≡ b
 
 abbrev pub CutsJoinResources : Type 0
-CutsJoinResources =
-    (sources : Sources) (system : List ℕ) (flat : PlainFlat) (cuts : List Link) (resources : List PlainResource)
-    → IsPlanned sources system flat cuts resources
-    → AreCuts sources system flat cuts
+CutsJoinResources = HoldsOfEachPlan (λ sources system flat cuts resources. AreCuts sources system flat cuts)
 
 abbrev pub BlocksAreMadeAtHome : Type 0
 BlocksAreMadeAtHome =
@@ -188,20 +190,14 @@ CommandsAreInOrder =
 
 -- DEVICE.RESOURCE, device by device
 abbrev pub ResourcesHaveTheirCommands : Type 0
-ResourcesHaveTheirCommands =
-    (sources : Sources) (system : List ℕ) (flat : PlainFlat) (cuts : List Link) (resources : List PlainResource)
-    → IsPlanned sources system flat cuts resources
-    → (s : SystemTree) → tree_at sources system ≡ Some (system_configuration s)
-    → map (λ r. r.name) resources ≡ flat_map (λ d. map (λ r. dotted d.name.name r.name.name) d.resources) s.devices
+ResourcesHaveTheirCommands = HoldsOfEachPlan (λ sources system flat cuts resources.
+    (s : SystemTree) → tree_at sources system ≡ Some (system_configuration s)
+    → map (λ r. r.name) resources ≡ flat_map (λ d. map (λ r. dotted d.name.name r.name.name) d.resources) s.devices)
 
 abbrev pub HomesHaveCommands : Type 0
-HomesHaveCommands =
-    (sources : Sources) (system : List ℕ) (flat : PlainFlat) (cuts : List Link) (resources : List PlainResource)
-    → IsPlanned sources system flat cuts resources
-    → (block : FlatBlock) → Contains flat.blocks block → HasResource sources system resources block
+HomesHaveCommands = HoldsOfEachPlan (λ sources system flat cuts resources.
+    (block : FlatBlock) → Contains flat.blocks block → HasResource sources system resources block)
 
 abbrev pub LinksAreCutOrMade : Type 0
-LinksAreCutOrMade =
-    (sources : Sources) (system : List ℕ) (flat : PlainFlat) (cuts : List Link) (resources : List PlainResource)
-    → IsPlanned sources system flat cuts resources
-    → (link : Link) → Contains flat.links link → IsCutOrMade sources system flat cuts resources link
+LinksAreCutOrMade = HoldsOfEachPlan (λ sources system flat cuts resources.
+    (link : Link) → Contains flat.links link → IsCutOrMade sources system flat cuts resources link)

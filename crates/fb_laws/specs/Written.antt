@@ -1,26 +1,12 @@
 -- What the tokens within the span of a part spell.
 use Rattle.std.specs.{Prelude.{◌≡◌, ℕ, ◌≤◌, List, [], ◌∷◌, ◌++◌}, List.{flat_map}}
-use Rattle.fb_laws.specs.Common.{Span, Form, one, as_value, Spells, Kind, Lexeme, constant, type_use, Expression, literal_expression, reference_expression, unary_expression, row_expression, parentheses, Operands, no_operands, operand_then, constant_span, BinaryUse, UnaryUse}
+use Rattle.fb_laws.specs.Common.{Span, Form, one, as_value, Spells, Kind, Lexeme, constant, type_use, constant_span, BinaryUse, UnaryUse}
 use Rattle.fb_laws.specs.SpanParts.{Part, name_part, constant_part, type_part, expression_part, sign_part, operator_part, mark_part}
-use Rattle.fb_structured_text.specs.{Forms.Literals.{across}, Forms.Words.{key, name}, Expression.{levels, expression}}
+use Rattle.fb_structured_text.specs.{Forms.Words.{key, name}, Expression.{levels, expression}}
 use Rattle.fb_structured_text.specs.Operators.{signs, strengths, unary_use, binary_use}
+pub use Rattle.fb_expr.specs.Spans.{span_of as expression_span, span_through}
 
--- Where a part stands
-
-abbrev mutual
-  -- an expression, with the parentheses and the subscripts that belong to it
-  pub expression_span : Expression → Span
-  expression_span (literal_expression literal) = literal.span
-  expression_span (reference_expression reference subscripts) = reference.span
-  expression_span (unary_expression sign e) = across sign.span (expression_span e)
-  expression_span (row_expression e operands) = span_through (expression_span e) operands
-  expression_span (parentheses e span) = span
-
-  -- from there through the last of these operands
-  pub span_through : Span → Operands → Span
-  span_through span no_operands = span
-  span_through span (operand_then operator e operands) = span_through (across span (expression_span e)) operands
-
+-- where a part stands, an expression with the parentheses and the subscripts that belong to it
 abbrev pub part_span : Part → Span
 part_span (name_part name) = name.span
 part_span (constant_part c) = constant_span c

@@ -37,6 +37,7 @@ pub fn instances_stand_for_first()
 {}
 
 /// Each list of ports has a name once at most.
+#[tactic(auto, using(crate::proofs::PortRows::own_names))]
 pub fn ports_have_own_names()
     ensures { PortsHaveOwnNames }
 {}

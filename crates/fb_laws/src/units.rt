@@ -59,6 +59,7 @@ pub fn whole_texts_are_not_reported()
 {}
 
 /// A unit that is absent has no faults.
+#[tactic(auto, using(crate::proofs::TextRows::absent_clean))]
 pub fn absent_units_have_no_faults()
     ensures { AbsentUnitsHaveNoFaults }
 {}

@@ -4,7 +4,8 @@ ghost use Rattle.fb_library.specs.Texts.{sources_of};
 ghost use Rattle.fb_flatten.specs.{Net.{plain_net}, Nets.{net_at}};
 
 use crate::kept::{BORDERS, Kept, PLUGGED, kept_of, net_beside};
-use crate::told::{library_of, net_told};
+use crate::told::net_told;
+use crate::units::library_of;
 use fb_flatten::{Net, has_net};
 use fb_library::Library;
 use fb_tree::text::Name;
@@ -21,7 +22,7 @@ struct Beside {
 }
 
 impl Beside {
-    fn of_units(alloc: Global, texts: &[&str], inner: &str) -> Result<Beside, Fail> {
+    fn of_units(alloc: Global, texts: &str, inner: &str) -> Result<Beside, Fail> {
         let library = library_of(alloc, texts)?;
         let kept = kept_of(alloc, &library, inner)?;
         Ok(Beside { library, kept })
@@ -36,12 +37,7 @@ impl Beside {
 }
 
 /// What is composed, of these units: the unit whose net is kept, and the other.
-type Row = (
-    &'static str,
-    &'static [&'static str],
-    &'static str,
-    &'static str,
-);
+type Row = (&'static str, &'static str, &'static str, &'static str);
 
 /// A net that is composed beside the kept one.
 #[derive(Drop)]

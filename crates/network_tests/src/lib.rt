@@ -21,3 +21,5 @@ mod refused;
 mod systems;
 #[cfg(test)]
 mod told;
+#[cfg(test)]
+mod units;

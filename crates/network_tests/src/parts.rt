@@ -4,7 +4,7 @@ use fb_network::{Border, Link, Network, Path, Port, is_same_sort, sort_number};
 use fb_placing::path_names;
 use fb_tree::text::Name;
 use fb_tree::{Side, Sort};
-use std::alloc::{AllocError, Global};
+use std::alloc::Global;
 use std::test::Fail;
 
 static SORTS: [(Sort, u8, [bool; 3]); 3] = [
@@ -59,67 +59,31 @@ fn path(alloc: Global, name: &str) -> Result<Path, Fail> {
     Ok(Path::of(alloc, &Name::read(name)?)?)
 }
 
-fn link(alloc: Global, sort: Sort, from: &str, to: &str) -> Result<Link, Fail> {
-    Ok(Link {
-        sort,
-        from: path(alloc, from)?,
-        to: path(alloc, to)?,
-    })
-}
-
-fn links(alloc: Global) -> Result<Vec<Link>, Fail> {
-    let mut links = Vec::new(alloc);
-    for (sort, from, to) in &ENDS {
-        links.push(link(alloc, *sort, from, to)?)?;
-    }
-    Ok(links)
-}
-
-/// The links in order.
-fn links_told(alloc: Global, links: &mut Vec<Link>) -> Result<String, AllocError> {
-    links.sort()?;
-    let mut told = String::new(alloc);
-    say_links(&mut told, links.as_slice())?;
-    Ok(told)
-}
-
 #[test]
 fn links_stand_in_their_order(rt: HostRuntime) -> Result<(), Fail> {
-    let mut links = links(rt.alloc())?;
-    let told = links_told(rt.alloc(), &mut links)?;
+    let mut links = Vec::new(rt.alloc());
+    for (sort, from, to) in ENDS {
+        let (from, to) = (path(rt.alloc(), from)?, path(rt.alloc(), to)?);
+        links.push(Link { sort, from, to })?;
+    }
+    links.sort()?;
+    let mut told = String::new(rt.alloc());
+    say_links(&mut told, links.as_slice())?;
     let expected = "Event A TO B; Event B TO A; Event B TO C; Data A TO D";
     assert_eq!(rt; told.as_str(), expected);
     Ok(())
 }
 
-fn border(alloc: Global, sort: Sort, port: &str, place: &str) -> Result<Border, Fail> {
-    Ok(Border {
-        sort,
-        port: Name::read(port)?,
-        place: path(alloc, place)?,
-    })
-}
-
-fn borders(alloc: Global) -> Result<Vec<Border>, Fail> {
-    let mut borders = Vec::new(alloc);
-    for (sort, port, place) in &ENDS {
-        borders.push(border(alloc, *sort, port, place)?)?;
-    }
-    Ok(borders)
-}
-
-/// The borders in order.
-fn borders_told(alloc: Global, borders: &mut Vec<Border>) -> Result<String, AllocError> {
-    borders.sort()?;
-    let mut told = String::new(alloc);
-    say_borders(&mut told, borders.as_slice())?;
-    Ok(told)
-}
-
 #[test]
 fn borders_stand_in_their_order(rt: HostRuntime) -> Result<(), Fail> {
-    let mut borders = borders(rt.alloc())?;
-    let told = borders_told(rt.alloc(), &mut borders)?;
+    let mut borders = Vec::new(rt.alloc());
+    for (sort, port, place) in ENDS {
+        let (port, place) = (Name::read(port)?, path(rt.alloc(), place)?);
+        borders.push(Border { sort, port, place })?;
+    }
+    borders.sort()?;
+    let mut told = String::new(rt.alloc());
+    say_borders(&mut told, borders.as_slice())?;
     let expected = "Event A AT B; Event B AT A; Event B AT C; Data A AT D";
     assert_eq!(rt; told.as_str(), expected);
     Ok(())

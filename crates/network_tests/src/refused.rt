@@ -1,5 +1,6 @@
 //! Nets, placements and plans, of which each allocation is refused in turn.
-use crate::told::{deploy_told, library_of, net_told, placed_told};
+use crate::told::{deploy_told, net_told, placed_told};
+use crate::units::library_of;
 use fb_deploy::{Deploy, plan};
 use fb_flatten::{Net, has_net, net};
 use fb_library::Library;
@@ -10,28 +11,30 @@ use std::alloc::{AllocError, Global};
 use std::test::Fail;
 
 // Subapplications in one another, and a system that maps the outer one.
-const MAPPED: &[&str] = &[
-    "FUNCTION_BLOCK T EVENT_INPUT I; END_EVENT EVENT_OUTPUT O; END_EVENT VAR_INPUT DT:TIME; END_VAR END_FUNCTION_BLOCK",
-    "SUBAPPLICATION INNER EVENT_INPUT E; END_EVENT FBS F:T; G:T(DT:=T#250ms); END_FBS EVENT_CONNECTIONS E TO F.I; F.O TO G.I; END_CONNECTIONS END_SUBAPPLICATION",
-    "SUBAPPLICATION OUTER FBS H:T; END_FBS SUBAPPS X:INNER; END_SUBAPPS EVENT_CONNECTIONS H.O TO X.E; END_CONNECTIONS END_SUBAPPLICATION",
-    "SYSTEM Y APPLICATION APP SUBAPPS SUB:OUTER; END_SUBAPPS END_APPLICATION DEVICE D:DT RESOURCE R1:RT END_RESOURCE RESOURCE R2:RT END_RESOURCE END_DEVICE MAPPINGS APP.SUB ON D.R1; APP.SUB.X.F ON D.R2; END_MAPPINGS END_SYSTEM",
-];
+const MAPPED: &str = r#"
+FUNCTION_BLOCK T EVENT_INPUT I; END_EVENT EVENT_OUTPUT O; END_EVENT VAR_INPUT DT:TIME; END_VAR END_FUNCTION_BLOCK
+SUBAPPLICATION INNER EVENT_INPUT E; END_EVENT FBS F:T; G:T(DT:=T#250ms); END_FBS EVENT_CONNECTIONS E TO F.I; F.O TO G.I; END_CONNECTIONS END_SUBAPPLICATION
+SUBAPPLICATION OUTER FBS H:T; END_FBS SUBAPPS X:INNER; END_SUBAPPS EVENT_CONNECTIONS H.O TO X.E; END_CONNECTIONS END_SUBAPPLICATION
+SYSTEM Y APPLICATION APP SUBAPPS SUB:OUTER; END_SUBAPPS END_APPLICATION DEVICE D:DT RESOURCE R1:RT END_RESOURCE RESOURCE R2:RT END_RESOURCE END_DEVICE MAPPINGS APP.SUB ON D.R1; APP.SUB.X.F ON D.R2; END_MAPPINGS END_SYSTEM
+"#;
 
 // The same with a mapping of nothing and a block that is mapped to nothing.
-const MISPLACED: &[&str] = &[
-    "FUNCTION_BLOCK T END_FUNCTION_BLOCK",
-    "SYSTEM Y APPLICATION APP FBS F:T; END_FBS END_APPLICATION DEVICE D:DT RESOURCE R1:RT END_RESOURCE END_DEVICE MAPPINGS APP.Z ON D.R1; END_MAPPINGS END_SYSTEM",
-];
+const MISPLACED: &str = r#"
+FUNCTION_BLOCK T END_FUNCTION_BLOCK
+SYSTEM Y APPLICATION APP FBS F:T; END_FBS END_APPLICATION DEVICE D:DT RESOURCE R1:RT END_RESOURCE END_DEVICE MAPPINGS APP.Z ON D.R1; END_MAPPINGS END_SYSTEM
+"#;
 
 // Two types that hold each other.
-const RECURSIVE: &[&str] = &[
-    "FUNCTION_BLOCK A FBS X:B; END_FBS END_FUNCTION_BLOCK",
-    "FUNCTION_BLOCK B FBS Z:A; END_FBS END_FUNCTION_BLOCK",
-    "SYSTEM Y APPLICATION APP FBS F:A; END_FBS END_APPLICATION END_SYSTEM",
-];
+const RECURSIVE: &str = r#"
+FUNCTION_BLOCK A FBS X:B; END_FBS END_FUNCTION_BLOCK
+FUNCTION_BLOCK B FBS Z:A; END_FBS END_FUNCTION_BLOCK
+SYSTEM Y APPLICATION APP FBS F:A; END_FBS END_APPLICATION END_SYSTEM
+"#;
 
 // A type that is absent.
-const BLOCKED: &[&str] = &["SYSTEM Y APPLICATION APP FBS F:A; END_FBS END_APPLICATION END_SYSTEM"];
+const BLOCKED: &str = r#"
+SYSTEM Y APPLICATION APP FBS F:A; END_FBS END_APPLICATION END_SYSTEM
+"#;
 
 /// A call.
 #[derive(Clone, Copy)]
@@ -80,9 +83,9 @@ fn plan_found(alloc: Global, library: &Library, unit: Name) -> Result<Option<Fou
 }
 
 impl Trial for Built {
-    type Setting = (Which, &'static [&'static str]);
+    type Setting = (Which, &'static str);
 
-    fn new(alloc: Global, setting: (Which, &'static [&'static str])) -> Result<Built, Fail> {
+    fn new(alloc: Global, setting: (Which, &'static str)) -> Result<Built, Fail> {
         let (which, texts) = setting;
         Ok(Built {
             which,
@@ -118,7 +121,7 @@ impl Trial for Built {
 }
 
 /// What a library holds, and its texts.
-const LIBRARIES: &[(&str, &[&str])] = &[
+const LIBRARIES: &[(&str, &str)] = &[
     (" of a system", MAPPED),
     (" with misplaced blocks", MISPLACED),
     (" of types that hold each other", RECURSIVE),

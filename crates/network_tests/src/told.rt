@@ -2,6 +2,7 @@
 use fb_deploy::parse::Source;
 use fb_deploy::{Deploy, Plan, ResourcePlan, plan};
 use fb_flatten::{Net, has_net, net};
+use fb_library::parse::Body;
 use fb_library::{Change, Library, tree_by_name};
 use fb_mapping::{Home, Misplaced, Placed, is_system, place};
 use fb_network::{Border, End, Flat, FlatBlock, Link, Network};
@@ -16,20 +17,14 @@ fn name_in(text: &str) -> Result<Name, Fail> {
     Ok(Name::read(unit)?)
 }
 
-/// Adds a change that puts a unit with this text.
+/// Adds a change that puts a unit with this text, which is whole.
 pub fn put(alloc: Global, changes: &mut Vec<Change>, text: &str) -> Result<(), Fail> {
     let source = Source::read(alloc, name_in(text)?, text)?;
+    if let Body::Broken(_) = source.body() {
+        return Err(format!(in alloc; "broken: {text}")?.into());
+    }
     changes.push(Change::Put { base: 0, source })?;
     Ok(())
-}
-
-/// A library of units with these texts.
-pub fn library_of(alloc: Global, texts: &[&str]) -> Result<Library, Fail> {
-    let mut changes = Vec::new(alloc);
-    for text in texts {
-        put(alloc, &mut changes, text)?;
-    }
-    Ok(Library::new(alloc).edited(1, changes.as_slice())?)
 }
 
 /// The names in a text, with blanks between.
@@ -81,12 +76,8 @@ pub fn say_links(told: &mut String, links: &[Link]) -> Result<(), AllocError> {
 
 pub fn say_borders(told: &mut String, borders: &[Border]) -> Result<(), AllocError> {
     for border in borders {
-        let (between, place) = (between(told), border.place.as_str());
-        write!(
-            told,
-            "{between}{:?} {} AT {place}",
-            border.sort, border.port
-        )?;
+        let (between, port, place) = (between(told), border.port, border.place.as_str());
+        write!(told, "{between}{:?} {port} AT {place}", border.sort)?;
     }
     Ok(())
 }
@@ -102,12 +93,8 @@ pub fn flat_told(alloc: Global, flat: &Flat) -> Result<String, Fail> {
 
 fn say_ports(told: &mut String, network: &Network) -> Result<(), AllocError> {
     for port in network.ports() {
-        let between = between(told);
-        write!(
-            told,
-            "{between}{:?} {:?} {}",
-            port.sort, port.side, port.name
-        )?;
+        let (between, side) = (between(told), port.side);
+        write!(told, "{between}{:?} {side:?} {}", port.sort, port.name)?;
         if let Some(adapter) = port.adapter {
             write!(told, ":{adapter}")?;
         }
@@ -117,12 +104,8 @@ fn say_ports(told: &mut String, network: &Network) -> Result<(), AllocError> {
 
 fn say_instances(told: &mut String, network: &Network) -> Result<(), AllocError> {
     for instance in network.instances() {
-        let (between, name) = (between(told), instance.name);
-        write!(
-            told,
-            "{between}{:?} {name}:{}",
-            instance.kind, instance.type_name
-        )?;
+        let (between, name, kind) = (between(told), instance.name, instance.kind);
+        write!(told, "{between}{kind:?} {name}:{}", instance.type_name)?;
     }
     Ok(())
 }
@@ -247,24 +230,13 @@ fn say_commands(told: &mut String, resource: &ResourcePlan) -> Result<(), AllocE
     Ok(())
 }
 
-fn say_resources(told: &mut String, resources: &[ResourcePlan]) -> Result<(), AllocError> {
-    for resource in resources {
-        say_commands(told, resource)?;
-    }
-    Ok(())
-}
-
-fn say_cuts(alloc: Global, told: &mut String, plan: &Plan) -> Result<(), AllocError> {
-    let cuts = plan.plain_cuts(alloc)?;
-    say_links(told, &cuts)
-}
-
 /// Cut links, and the commands of each resource.
 fn commands_told(alloc: Global, plan: &Plan) -> Result<String, Fail> {
     let mut told = String::new(alloc);
-    say_cuts(alloc, &mut told, plan)?;
-    let resources = plan.plain_resources(alloc)?;
-    say_resources(&mut told, &resources)?;
+    say_links(&mut told, &plan.plain_cuts(alloc)?)?;
+    for resource in &plan.plain_resources(alloc)? {
+        say_commands(&mut told, resource)?;
+    }
     Ok(told)
 }
 

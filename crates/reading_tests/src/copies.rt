@@ -1,5 +1,5 @@
 //! A block and the type of its instance: what the block rests on, and a copy of their library.
-use crate::told::names_told;
+use crate::told::{names_told, say_names};
 use fb_library::parse::Source;
 use fb_library::{Change, Library, View, far, near};
 use fb_text::Name;
@@ -15,7 +15,7 @@ const TYPE: &str =
 const OTHER: &str = "FUNCTION_BLOCK E_SPLIT END_FUNCTION_BLOCK";
 
 /// Puts a unit by the commit of this number.
-fn put(
+pub fn put(
     library: &mut Library,
     alloc: Global,
     commit: u64,
@@ -70,35 +70,22 @@ fn are_apart(alloc: Global, library: &mut Library, copy: &mut Library) -> Result
     Ok(were_alike && is_left && holds(library, 4, "") && holds(copy, 3, OTHER))
 }
 
-fn near_told(alloc: Global, library: &Library, unit: &str) -> Result<String, Fail> {
-    let names = near(alloc, library, Name::read(unit)?)?;
-    Ok(names_told(alloc, &names)?)
-}
-
-fn far_told(alloc: Global, library: &Library, unit: &str) -> Result<String, Fail> {
-    let names = far(alloc, library, Name::read(unit)?)?;
-    Ok(names_told(alloc, &names)?)
-}
-
-fn compare_copy(rt: &impl Abort, alloc: Global, library: &mut Library) -> Result<(), Fail> {
-    let mut copy = library.copy()?;
-    assert!(rt; are_apart(alloc, library, &mut copy)?);
-    Ok(())
+/// The names near the block, and those far of it.
+fn near_and_far(alloc: Global, library: &Library) -> Result<String, Fail> {
+    let block = Name::read("C")?;
+    let mut told = names_told(alloc, &near(alloc, library, block)?)?;
+    told.push_str("| ")?;
+    say_names(&mut told, &far(alloc, library, block)?)?;
+    Ok(told)
 }
 
 fn compare(rt: &impl Abort, alloc: Global, library: &mut Library) -> Result<(), Fail> {
     fill(library, alloc)?;
-    assert_eq!(rt;
-        near_told(alloc, library, "C")?.as_str(),
-        "C E_SPLIT ",
-        "near"
-    );
-    assert_eq!(rt;
-        far_told(alloc, library, "C")?.as_str(),
-        "C E_SPLIT ",
-        "far"
-    );
-    compare_copy(rt, alloc, library)
+    let told = near_and_far(alloc, library)?;
+    assert_eq!(rt; told.as_str(), "C E_SPLIT | C E_SPLIT ", "near and far");
+    let mut copy = library.copy()?;
+    assert!(rt; are_apart(alloc, library, &mut copy)?);
+    Ok(())
 }
 
 #[test]

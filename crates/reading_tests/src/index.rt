@@ -45,6 +45,11 @@ struct Unit {
     mentions: Mentions,
 }
 
+/// A unit, and what it mentions.
+fn unit_of(name: Name, mentions: Mentions) -> Unit {
+    Unit { name, mentions }
+}
+
 /// A name, and the units near which it is and those that rest on it.
 type Row = (&'static str, &'static str, &'static str);
 
@@ -90,21 +95,13 @@ fn fill(index: &mut Index, alloc: Global, case: &Case) -> Result<(), Fail>
     Ok(())
 }
 
-fn near_told(alloc: Global, index: &Index, name: Name) -> Result<String, AllocError> {
-    let names = index.near_of(alloc, &[name])?;
-    names_told(alloc, &names)
-}
-
-fn far_told(alloc: Global, index: &Index, name: Name) -> Result<String, AllocError> {
-    let names = index.far_of(alloc, &[name])?;
-    names_told(alloc, &names)
-}
-
 fn compare(rt: &impl Abort, alloc: Global, index: &Index, rows: &[Row]) -> Result<(), Fail> {
     for (name, near, far) in rows {
-        let name = Name::read(name)?;
-        assert_eq!(rt; near_told(alloc, index, name)?.as_str(), *near, "near");
-        assert_eq!(rt; far_told(alloc, index, name)?.as_str(), *far, "far");
+        let unit = Name::read(name)?;
+        let found = index.near_of(alloc, &[unit])?;
+        assert_eq!(rt; names_told(alloc, &found)?.as_str(), *near, "near {name}");
+        let found = index.far_of(alloc, &[unit])?;
+        assert_eq!(rt; names_told(alloc, &found)?.as_str(), *far, "far of {name}");
     }
     Ok(())
 }
@@ -115,64 +112,25 @@ fn compare_copies(rt: &impl Abort, alloc: Global, index: &Index, rows: &[Row]) -
     compare(rt, alloc, &index.copy()?, rows)
 }
 
-/// Changes a copy, and compares both then.
-fn compare_both(
-    rt: &impl Abort,
-    alloc: Global,
-    index: &Index,
-    copy: &mut Index,
-    case: &Case,
-) -> Result<(), Fail>
-    requires known { IsIndexedAs copy.old case.now.second.name
-        (mentioned case.now.second.mentions) }
-{
+/// Fills an index, and compares it with a copy that is changed.
+fn compare_filled(rt: &impl Abort, alloc: Global, case: &Case) -> Result<(), Fail> {
+    let mut index = Index::new(alloc);
+    fill(&mut index, alloc, case)?;
+    let mut copy = index.copy()?;
     let unit = &case.second;
     copy.replace(alloc, unit.name, &unit.mentions, &case.change)?;
-    compare_copies(rt, alloc, index, case.before)?;
-    compare_copies(rt, alloc, copy, case.after)
-}
-
-fn compare_with_copy(rt: &impl Abort, alloc: Global, index: &Index, case: &Case) -> Result<(), Fail>
-    requires known { IsIndexedAs index.now case.now.second.name
-        (mentioned case.now.second.mentions) }
-{
-    let mut copy = index.copy()?;
-    compare_both(rt, alloc, index, &mut copy, case)
-}
-
-/// Fills an index, and compares it with a copy that is changed.
-fn compare_filled(
-    rt: &impl Abort,
-    alloc: Global,
-    index: &mut Index,
-    case: &Case,
-) -> Result<(), Fail>
-    requires empty { index.old ≡ nothing_indexed }
-{
-    fill(index, alloc, case)?;
-    compare_with_copy(rt, alloc, index, case)
+    compare_copies(rt, alloc, &index, case.before)?;
+    compare_copies(rt, alloc, &copy, case.after)
 }
 
 /// A mentions B, B mentions A, and S mentions A, until B mentions nothing any more.
 fn recursive(alloc: Global) -> Result<Case, Fail> {
     let [a, b, s] = [Name::read("A")?, Name::read("B")?, Name::read("S")?];
     Ok(Case {
-        first: Unit {
-            name: a,
-            mentions: parts(alloc, &[b])?,
-        },
-        second: Unit {
-            name: b,
-            mentions: parts(alloc, &[a])?,
-        },
-        third: Unit {
-            name: s,
-            mentions: parts(alloc, &[a])?,
-        },
-        fourth: Unit {
-            name: Name::read("T")?,
-            mentions: nothing(alloc),
-        },
+        first: unit_of(a, parts(alloc, &[b])?),
+        second: unit_of(b, parts(alloc, &[a])?),
+        third: unit_of(s, parts(alloc, &[a])?),
+        fourth: unit_of(Name::read("T")?, nothing(alloc)),
         before: &[("B", "A B ", "A B S "), ("T", "T ", "T ")],
         change: nothing(alloc),
         after: &[("A", "A S ", "A S "), ("X", "", "")],
@@ -183,22 +141,10 @@ fn recursive(alloc: Global) -> Result<Case, Fail> {
 fn structures(alloc: Global) -> Result<Case, Fail> {
     let [s, u, v] = [Name::read("S")?, Name::read("U")?, Name::read("V")?];
     Ok(Case {
-        first: Unit {
-            name: v,
-            mentions: values(alloc, &[s], false)?,
-        },
-        second: Unit {
-            name: s,
-            mentions: values(alloc, &[u], true)?,
-        },
-        third: Unit {
-            name: u,
-            mentions: values(alloc, &[], true)?,
-        },
-        fourth: Unit {
-            name: Name::read("W")?,
-            mentions: parts(alloc, &[v])?,
-        },
+        first: unit_of(v, values(alloc, &[s], false)?),
+        second: unit_of(s, values(alloc, &[u], true)?),
+        third: unit_of(u, values(alloc, &[], true)?),
+        fourth: unit_of(Name::read("W")?, parts(alloc, &[v])?),
         before: &[("U", "S U V W ", "S U V W "), ("S", "S V W ", "S V W ")],
         change: values(alloc, &[u], false)?,
         after: &[("U", "S U ", "S U V W "), ("S", "S V W ", "S V W ")],
@@ -207,12 +153,10 @@ fn structures(alloc: Global) -> Result<Case, Fail> {
 
 #[test]
 fn near_and_far_of_names(rt: HostRuntime) -> Result<(), Fail> {
-    let mut index = Index::new(rt.alloc());
-    compare_filled(&rt, rt.alloc(), &mut index, &recursive(rt.alloc())?)
+    compare_filled(&rt, rt.alloc(), &recursive(rt.alloc())?)
 }
 
 #[test]
 fn near_through_structures(rt: HostRuntime) -> Result<(), Fail> {
-    let mut index = Index::new(rt.alloc());
-    compare_filled(&rt, rt.alloc(), &mut index, &structures(rt.alloc())?)
+    compare_filled(&rt, rt.alloc(), &structures(rt.alloc())?)
 }

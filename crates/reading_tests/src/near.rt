@@ -1,27 +1,21 @@
 //! What is near a unit and what it rests on, through structures.
+use crate::copies::put;
 use crate::told::names_told;
-use fb_library::parse::Source;
-use fb_library::{Change, Library, carried, far, near};
+use fb_library::{Library, carried, far, near};
 use fb_text::Name;
 use std::alloc::Global;
 use std::process::Abort;
 use std::test::Fail;
 
 // T is absent.
-static UNITS: [(&str, &str); 6] = [
-    ("S", "TYPE S : STRUCT F:INT; G:U; END_STRUCT; END_TYPE"),
-    (
-        "U",
-        "TYPE U : STRUCT H:ARRAY[0..1] OF T; END_STRUCT; END_TYPE",
-    ),
-    ("B", "FUNCTION_BLOCK B VAR X:U; END_VAR END_FUNCTION_BLOCK"),
-    ("V", "FUNCTION_BLOCK V VAR X:S; END_VAR END_FUNCTION_BLOCK"),
-    (
-        "W",
-        "FUNCTION_BLOCK W VAR Y:B; END_VAR FBS I:V; END_FBS END_FUNCTION_BLOCK",
-    ),
-    ("Z", "SUBAPPLICATION Z FBS I:W; END_FBS END_SUBAPPLICATION"),
-];
+const UNITS: &str = r#"
+TYPE S : STRUCT F:INT; G:U; END_STRUCT; END_TYPE
+TYPE U : STRUCT H:ARRAY[0..1] OF T; END_STRUCT; END_TYPE
+FUNCTION_BLOCK B VAR X:U; END_VAR END_FUNCTION_BLOCK
+FUNCTION_BLOCK V VAR X:S; END_VAR END_FUNCTION_BLOCK
+FUNCTION_BLOCK W VAR Y:B; END_VAR FBS I:V; END_FBS END_FUNCTION_BLOCK
+SUBAPPLICATION Z FBS I:W; END_FBS END_SUBAPPLICATION
+"#;
 
 /// A unit, what it carries, what is near it, and what it rests on.
 type Row = (&'static str, &'static str, &'static str, &'static str);
@@ -37,15 +31,12 @@ static ROWS: [Row; 7] = [
     ("Z", "", "B W Z ", "B S T U V W Z "),
 ];
 
-fn put(library: &mut Library, alloc: Global, name: &str, text: &str) -> Result<(), Fail> {
-    let unit = Name::read(name)?;
-    let source = Source::read(alloc, unit, text)?;
-    Ok(library.apply(1, &[Change::Put { base: 0, source }])?)
-}
-
 fn fill(library: &mut Library, alloc: Global) -> Result<(), Fail> {
-    for (name, text) in UNITS {
-        put(library, alloc, name, text)?;
+    for text in UNITS.split('\n') {
+        if !text.is_empty() {
+            let name = text.split_whitespace().nth(1).ok_or("no name")?;
+            put(library, alloc, 1, name, text)?;
+        }
     }
     Ok(())
 }
@@ -62,20 +53,12 @@ fn compare(rt: &impl Abort, alloc: Global, library: &Library, row: &Row) -> Resu
     Ok(())
 }
 
-fn compare_all(rt: &impl Abort, alloc: Global, library: &Library) -> Result<(), Fail> {
-    for row in &ROWS {
-        compare(rt, alloc, library, row)?;
-    }
-    Ok(())
-}
-
-fn compare_filled(rt: &impl Abort, alloc: Global, library: &mut Library) -> Result<(), Fail> {
-    fill(library, alloc)?;
-    compare_all(rt, alloc, library)
-}
-
 #[test]
 fn near_goes_through_structures(rt: HostRuntime) -> Result<(), Fail> {
     let mut library = Library::new(rt.alloc());
-    compare_filled(&rt, rt.alloc(), &mut library)
+    fill(&mut library, rt.alloc())?;
+    for row in &ROWS {
+        compare(&rt, rt.alloc(), &library, row)?;
+    }
+    Ok(())
 }

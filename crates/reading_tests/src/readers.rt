@@ -11,32 +11,6 @@ use fb_structured_text::{expression, statements};
 use std::alloc::Global;
 use std::test::Fail;
 
-/// What a reader reads.
-#[derive(Clone, Copy)]
-pub enum Part {
-    /// Names with commas between them.
-    Listed,
-    /// Names with points between them.
-    Path,
-    /// Names with nothing between them.
-    Several,
-    Events,
-    Data,
-    Internal,
-    Fields,
-    Plugs,
-    Sockets,
-    Blocks,
-    Subapplications,
-    Connections,
-    States,
-    Device,
-    Mappings,
-    Service,
-    Expression,
-    Statements,
-}
-
 /// How many tokens are left.
 fn left(tokens: &mut Tokens<'_>) -> usize {
     for count in 0..usize::MAX {
@@ -69,40 +43,39 @@ pub fn grammar_tokens(alloc: Global, text: &str) -> Result<Vec<Lexeme>, Fail> {
     Ok(lexemes(alloc, text)?)
 }
 
-/// What is read of this part at the front of the text, and how many tokens are left.
-pub fn read(alloc: Global, part: Part, text: &str) -> Result<(String, usize), Fail> {
+/// What is read of the part of this name at the front of the text, and how many tokens are left.
+pub fn read(alloc: Global, part: &str, text: &str) -> Result<(String, usize), Fail> {
     if text.len() >= 4_294_967_296 {
         return Err(Fail::from("a text of 4 GiB"));
     }
     let tokens = &mut Tokens::of(text);
     match part {
-        Part::Listed => told(alloc, names(alloc, tokens), tokens),
-        Part::Path => told(
-            alloc,
-            separated(&NameReader, Kind::Point, alloc, tokens),
-            tokens,
-        ),
-        Part::Several => told(alloc, several(&NameReader, alloc, &NAMES, tokens), tokens),
-        Part::Expression => told(alloc, expression(alloc, tokens), tokens),
-        Part::Statements => told(alloc, statements(alloc, tokens), tokens),
+        "names with commas" => told(alloc, names(alloc, tokens), tokens),
+        "names with points" => {
+            let path = separated(&NameReader, Kind::Point, alloc, tokens);
+            told(alloc, path, tokens)
+        }
+        "names alone" => told(alloc, several(&NameReader, alloc, &NAMES, tokens), tokens),
+        "expression" => told(alloc, expression(alloc, tokens), tokens),
+        "statements" => told(alloc, statements(alloc, tokens), tokens),
         _ => read_section(alloc, part, tokens),
     }
 }
 
 fn read_section(
     alloc: Global,
-    part: Part,
+    part: &str,
     tokens: &mut Tokens<'_>,
 ) -> Result<(String, usize), Fail> {
     match part {
-        Part::Events => told(alloc, events(alloc, tokens), tokens),
-        Part::Data => told(alloc, data_variables(alloc, tokens), tokens),
-        Part::Internal => told(alloc, internal_variables(alloc, tokens), tokens),
-        Part::Fields => told(alloc, fields(alloc, tokens), tokens),
-        Part::States => told(alloc, states(alloc, tokens), tokens),
-        Part::Device => told(alloc, device(alloc, tokens), tokens),
-        Part::Mappings => told(alloc, mappings(alloc, tokens), tokens),
-        Part::Service => {
+        "events" => told(alloc, events(alloc, tokens), tokens),
+        "data" => told(alloc, data_variables(alloc, tokens), tokens),
+        "internal variables" => told(alloc, internal_variables(alloc, tokens), tokens),
+        "fields" => told(alloc, fields(alloc, tokens), tokens),
+        "states" => told(alloc, states(alloc, tokens), tokens),
+        "device" => told(alloc, device(alloc, tokens), tokens),
+        "mappings" => told(alloc, mappings(alloc, tokens), tokens),
+        "service" => {
             service(tokens)?;
             Ok((String::new(alloc), left(tokens)))
         }
@@ -112,15 +85,15 @@ fn read_section(
 
 fn read_of_network(
     alloc: Global,
-    part: Part,
+    part: &str,
     tokens: &mut Tokens<'_>,
 ) -> Result<(String, usize), Fail> {
     match part {
-        Part::Plugs => told(alloc, plugs(alloc, tokens), tokens),
-        Part::Sockets => told(alloc, sockets(alloc, tokens), tokens),
-        Part::Blocks => told(alloc, blocks(alloc, tokens), tokens),
-        Part::Subapplications => told(alloc, subapplications(alloc, tokens), tokens),
-        Part::Connections => told(alloc, connections(alloc, tokens), tokens),
-        _ => Err(Fail::from("no part of a network")),
+        "plugs" => told(alloc, plugs(alloc, tokens), tokens),
+        "sockets" => told(alloc, sockets(alloc, tokens), tokens),
+        "blocks" => told(alloc, blocks(alloc, tokens), tokens),
+        "subapplications" => told(alloc, subapplications(alloc, tokens), tokens),
+        "connections" => told(alloc, connections(alloc, tokens), tokens),
+        _ => Err(Fail::from("no such part")),
     }
 }

@@ -1,13 +1,12 @@
 //! Tokens, texts of units, mentions and indexes, of which each allocation is refused in turn.
 use crate::index::{nothing, parts};
-use crate::told::{names_told, words};
+use crate::told::{Tell, say_names};
 use fb_index::Index;
 use fb_library::parse::{Body, ReadFault, Source};
 use fb_text::{Name, Token, TokenFault, tokens};
 use fb_tree::{Mentions, mentions, mentions_of};
 use refusing::{Trial, try_call};
 use std::alloc::{AllocError, Global};
-use std::io::Print;
 use std::sync::Arc;
 use std::test::Fail;
 
@@ -15,35 +14,83 @@ use std::test::Fail;
 const BLOCK: &str =
     "FUNCTION_BLOCK K EVENT_INPUT E WITH X; END_EVENT VAR_INPUT X:INT; B:ARRAY[0..9] OF BOOL; END_VAR FBS F:TN; G:TM(DT:=T#250ms); END_FBS EVENT_CONNECTIONS F.O TO G.I; END_CONNECTIONS EC_STATES S0; S1: G; END_STATES EC_TRANSITIONS S0 TO S1 := E[X]; S1 TO S0 := 1; END_TRANSITIONS ALGORITHM G IN ST: IF B[1 + X] THEN X := -2 * (X + 3); END_IF; END_ALGORITHM END_FUNCTION_BLOCK";
 
-const SYSTEM: &str =
-    "SYSTEM Y APPLICATION APP SUBAPPS SUB:SA; END_SUBAPPS END_APPLICATION DEVICE D:DT RESOURCE R1:RT END_RESOURCE END_DEVICE MAPPINGS APP ON D.R1; END_MAPPINGS END_SYSTEM";
-
 const STRUCTURE: &str =
     "TYPE S : STRUCT F:INT; A,B:ARRAY[0..3] OF T := [1, 2]; G:U; END_STRUCT; END_TYPE";
 
-// References with several names, which have subscripts.
-const ALGORITHM: &str =
-    "FUNCTION_BLOCK V VAR X:S; Y:T; END_VAR ALGORITHM P IN ST: X.F.G := X[1, 2].A[Y.B + 1].C; END_ALGORITHM END_FUNCTION_BLOCK";
+static TEXTS: [(&str, &str); 5] = [
+    (" of a block", BLOCK),
+    (
+        " of a system",
+        "SYSTEM Y APPLICATION APP SUBAPPS SUB:SA; END_SUBAPPS END_APPLICATION DEVICE D:DT RESOURCE R1:RT END_RESOURCE END_DEVICE MAPPINGS APP ON D.R1; END_MAPPINGS END_SYSTEM",
+    ),
+    (" of a structure", STRUCTURE),
+    // references with several names, which have subscripts
+    (
+        " of an algorithm",
+        "FUNCTION_BLOCK V VAR X:S; Y:T; END_VAR ALGORITHM P IN ST: X.F.G := X[1, 2].A[Y.B + 1].C; END_ALGORITHM END_FUNCTION_BLOCK",
+    ),
+    (
+        " of a broken text",
+        "SUBAPPLICATION S FBS F:TN; G TM; END_FBS END_SUBAPPLICATION",
+    ),
+];
 
-const BROKEN: &str = "SUBAPPLICATION S FBS F:TN; G TM; END_FBS END_SUBAPPLICATION";
-
-/// The tokens of a text.
-#[derive(Drop)]
-struct Tokens {
-    text: &'static str,
-    found: Option<Result<Vec<Token>, TokenFault>>,
+/// What is made of a text.
+#[derive(Clone, Copy)]
+enum Made {
+    Tokens,
+    Source,
+    /// The types of parts that it mentions.
+    Parts,
+    /// All types that it mentions.
+    Mentions,
 }
 
-impl Trial for Tokens {
-    type Setting = &'static str;
+#[derive(Drop)]
+enum Found {
+    Tokens(Result<Vec<Token>, TokenFault>),
+    Source(Result<Arc<Source>, ReadFault>),
+    Parts(Result<Vec<Name>, AllocError>),
+    Mentions(Result<Mentions, AllocError>),
+}
 
-    fn new(_alloc: Global, text: &'static str) -> Result<Tokens, Fail> {
-        Ok(Tokens { text, found: None })
+/// A text, and what was made of it.
+#[derive(Drop)]
+struct Text {
+    made: Made,
+    unit: Name,
+    source: Arc<Source>,
+    found: Option<Found>,
+}
+
+impl Trial for Text {
+    type Setting = (Made, &'static str);
+
+    fn new(alloc: Global, (made, text): (Made, &'static str)) -> Result<Text, Fail> {
+        let unit = Name::read("U")?;
+        Ok(Text {
+            made,
+            unit,
+            source: Source::read(alloc, unit, text)?,
+            found: None,
+        })
     }
 
     fn call(&mut self, alloc: Global) -> bool {
-        let found = tokens(alloc, self.text);
-        let is_served = !matches!(&found, Err(TokenFault::Memory));
+        let found = match (self.made, self.source.body()) {
+            (Made::Tokens, _) => Found::Tokens(tokens(alloc, self.source.text())),
+            (Made::Source, _) => Found::Source(Source::read(alloc, self.unit, self.source.text())),
+            (Made::Parts, Body::Tree(decl)) => Found::Parts(mentions(alloc, decl)),
+            (Made::Mentions, Body::Tree(decl)) => Found::Mentions(mentions_of(alloc, decl)),
+            (_, Body::Broken(_)) => return true,
+        };
+        let is_served = !matches!(
+            &found,
+            Found::Tokens(Err(TokenFault::Memory))
+                | Found::Source(Err(ReadFault::Memory))
+                | Found::Parts(Err(_))
+                | Found::Mentions(Err(_))
+        );
         if is_served {
             self.found = Some(found);
         }
@@ -51,117 +98,16 @@ impl Trial for Tokens {
     }
 
     fn told(&self, alloc: Global) -> Result<String, Fail> {
-        match &self.found {
-            Some(found) => Ok(words(alloc, found)?),
-            None => Ok(String::new(alloc)),
-        }
-    }
-}
-
-/// A text as that of a unit.
-#[derive(Drop)]
-struct Units {
-    unit: Name,
-    text: &'static str,
-    source: Option<Arc<Source>>,
-}
-
-impl Trial for Units {
-    type Setting = &'static str;
-
-    fn new(_alloc: Global, text: &'static str) -> Result<Units, Fail> {
-        Ok(Units {
-            unit: Name::read("U")?,
-            text,
-            source: None,
-        })
-    }
-
-    fn call(&mut self, alloc: Global) -> bool {
-        match Source::read(alloc, self.unit, self.text) {
-            Ok(source) => {
-                self.source = Some(source);
-                true
-            }
-            Err(fault) => !matches!(fault, ReadFault::Memory),
-        }
-    }
-
-    fn told(&self, alloc: Global) -> Result<String, Fail> {
-        match &self.source {
-            Some(source) => Ok(words(alloc, source.as_ref())?),
-            None => Ok(String::new(alloc)),
-        }
-    }
-}
-
-/// What a text mentions.
-#[derive(Drop)]
-struct Mentioned {
-    source: Arc<Source>,
-    names: Option<Vec<Name>>,
-}
-
-impl Trial for Mentioned {
-    type Setting = &'static str;
-
-    fn new(alloc: Global, text: &'static str) -> Result<Mentioned, Fail> {
-        Ok(Mentioned {
-            source: Source::read(alloc, Name::read("U")?, text)?,
-            names: None,
-        })
-    }
-
-    fn call(&mut self, alloc: Global) -> bool {
-        let Body::Tree(decl) = self.source.body() else {
-            return true;
-        };
-        match mentions(alloc, decl) {
-            Ok(names) => {
-                self.names = Some(names);
-                true
-            }
-            Err(_) => false,
-        }
-    }
-
-    fn told(&self, alloc: Global) -> Result<String, Fail> {
-        match &self.names {
-            Some(names) => Ok(names_told(alloc, names)?),
-            None => Ok(String::new(alloc)),
-        }
-    }
-}
-
-/// What a text mentions, of both sorts.
-#[derive(Drop)]
-struct AllMentioned {
-    source: Arc<Source>,
-    found: Option<Mentions>,
-}
-
-impl Trial for AllMentioned {
-    type Setting = &'static str;
-
-    fn new(alloc: Global, text: &'static str) -> Result<AllMentioned, Fail> {
-        Ok(AllMentioned {
-            source: Source::read(alloc, Name::read("U")?, text)?,
-            found: None,
-        })
-    }
-
-    fn call(&mut self, alloc: Global) -> bool {
-        match self.source.body() {
-            Body::Tree(decl) => kept(&mut self.found, mentions_of(alloc, decl)),
-            Body::Broken(_) => true,
-        }
-    }
-
-    fn told(&self, alloc: Global) -> Result<String, Fail> {
         let mut told = String::new(alloc);
-        if let Some(found) = &self.found {
-            told.push_str(names_told(alloc, &found.parts)?.as_str())?;
-            told.push_str(names_told(alloc, &found.of_values)?.as_str())?;
+        match &self.found {
+            Some(Found::Tokens(found)) => found.tell(&mut told)?,
+            Some(Found::Source(Ok(source))) => source.as_ref().tell(&mut told)?,
+            Some(Found::Parts(Ok(names))) => say_names(&mut told, names)?,
+            Some(Found::Mentions(Ok(found))) => {
+                say_names(&mut told, &found.parts)?;
+                say_names(&mut told, &found.of_values)?;
+            }
+            _ => {}
         }
         Ok(told)
     }
@@ -189,15 +135,17 @@ struct Indexed {
 }
 
 // What is near and far of each of these names.
-fn index_told(alloc: Global, index: &Index, names: &[Name]) -> Result<String, AllocError> {
-    let mut told = String::new(alloc);
+fn say_index(
+    alloc: Global,
+    told: &mut String,
+    index: &Index,
+    names: &[Name],
+) -> Result<(), AllocError> {
     for name in names {
-        let near = index.near_of(alloc, &[*name])?;
-        let far = index.far_of(alloc, &[*name])?;
-        told.push_str(names_told(alloc, &near)?.as_str())?;
-        told.push_str(names_told(alloc, &far)?.as_str())?;
+        say_names(told, &index.near_of(alloc, &[*name])?)?;
+        say_names(told, &index.far_of(alloc, &[*name])?)?;
     }
-    Ok(told)
+    Ok(())
 }
 
 // A unit in a new index, or a new index as it is.
@@ -253,33 +201,30 @@ impl Trial for Indexed {
     }
 
     fn told(&self, alloc: Global) -> Result<String, Fail> {
-        let mut told = index_told(alloc, &self.index, &self.names)?;
+        let mut told = String::new(alloc);
+        say_index(alloc, &mut told, &self.index, &self.names)?;
         if let Some(copy) = &self.copy {
-            told.push_str(index_told(alloc, copy, &self.names)?.as_str())?;
+            say_index(alloc, &mut told, copy, &self.names)?;
         }
         if let Some(found) = &self.found {
-            told.push_str(names_told(alloc, found)?.as_str())?;
+            say_names(&mut told, found)?;
         }
         Ok(told)
     }
 }
 
-fn try_text(rt: &impl Print, alloc: Global, about: &str, text: &'static str) -> Result<(), Fail> {
-    try_call::<Tokens>(rt, alloc, "tokens", about, text)?;
-    try_call::<Units>(rt, alloc, "Source::read", about, text)
-}
-
 #[test]
 fn texts(rt: HostRuntime) -> Result<(), Fail> {
     let alloc: Global = rt.alloc();
-    try_text(&rt, alloc, " of a block", BLOCK)?;
-    try_text(&rt, alloc, " of a system", SYSTEM)?;
-    try_text(&rt, alloc, " of a structure", STRUCTURE)?;
-    try_text(&rt, alloc, " of an algorithm", ALGORITHM)?;
-    try_text(&rt, alloc, " of a broken text", BROKEN)?;
-    try_call::<Mentioned>(&rt, alloc, "mentions", "", BLOCK)?;
-    try_call::<AllMentioned>(&rt, alloc, "mentions_of", " of a block", BLOCK)?;
-    try_call::<AllMentioned>(&rt, alloc, "mentions_of", " of a structure", STRUCTURE)
+    for (about, text) in TEXTS {
+        try_call::<Text>(&rt, alloc, "tokens", about, (Made::Tokens, text))?;
+        try_call::<Text>(&rt, alloc, "Source::read", about, (Made::Source, text))?;
+    }
+    try_call::<Text>(&rt, alloc, "mentions", "", (Made::Parts, BLOCK))?;
+    for (about, text) in [(" of a block", BLOCK), (" of a structure", STRUCTURE)] {
+        try_call::<Text>(&rt, alloc, "mentions_of", about, (Made::Mentions, text))?;
+    }
+    Ok(())
 }
 
 #[test]

@@ -43,54 +43,27 @@ fn value(table: &Table<usize>, name: &Name) -> Option<usize> {
     }
 }
 
-/// Compares the value and the place of the name of a number.
-fn compare_at(
-    rt: &impl Abort,
-    alloc: Global,
-    table: &Table<usize>,
-    names: &[Name],
-    number: usize,
-) -> Result<(), Fail> {
-    let name = name(alloc, number)?;
-    assert_eq!(rt; value(table, &name), Some(number), "a value");
-    assert_eq!(rt; table.name_at(number), Some(name), "a place");
-    assert_eq!(rt; names.get(number), Some(&name), "a name");
-    Ok(())
-}
-
-/// Compares a table that has all names with these.
-fn compare_all(
-    rt: &impl Abort,
-    alloc: Global,
-    table: &Table<usize>,
-    names: &[Name],
-) -> Result<(), Fail> {
-    assert_eq!(rt; [table.len(), names.len()], [MANY, MANY], "lengths");
-    for number in 0..MANY {
-        compare_at(rt, alloc, table, names, number)?;
-    }
-    Ok(())
-}
-
+/// Compares a table that has all names.
 fn compare_whole(rt: &impl Abort, alloc: Global, table: &Table<usize>) -> Result<(), Fail> {
     let names = table.names(alloc)?;
-    compare_all(rt, alloc, table, &names)
-}
-
-/// Compares what is at, before and after all names.
-fn compare_absent(rt: &impl Abort, table: &Table<usize>) -> Result<(), Fail> {
-    let [before, behind] = [Name::read("N")?, Name::read("Z")?];
-    assert_eq!(rt; table.name_at(MANY), None, "behind all");
-    assert_eq!(rt; value(table, &before), None, "N");
-    assert_eq!(rt; value(table, &behind), None, "Z");
+    assert_eq!(rt; [table.len(), names.len()], [MANY, MANY], "lengths");
+    for number in 0..MANY {
+        let name = name(alloc, number)?;
+        assert_eq!(rt; value(table, &name), Some(number), "a value");
+        assert_eq!(rt; table.name_at(number), Some(name), "a place");
+        assert_eq!(rt; names.get(number), Some(&name), "a name");
+    }
     Ok(())
 }
 
 #[test]
 fn a_table_has_what_was_put(rt: HostRuntime) -> Result<(), Fail> {
-    let table = by_sevens(rt.alloc())?;
+    let table: Table<usize> = by_sevens(rt.alloc())?;
     compare_whole(&rt, rt.alloc(), &table)?;
-    compare_absent(&rt, &table)
+    assert_eq!(rt; table.name_at(MANY), None, "behind all");
+    assert_eq!(rt; value(&table, &Name::read("N")?), None, "N");
+    assert_eq!(rt; value(&table, &Name::read("Z")?), None, "Z");
+    Ok(())
 }
 
 #[test]
@@ -98,28 +71,6 @@ fn a_new_table_is_empty(rt: HostRuntime) {
     let table = Table::<usize>::new(rt.alloc());
     assert_eq!(rt; table.len(), 0, "length");
     assert_eq!(rt; table.name_at(0), None, "the first name");
-}
-
-/// Compares the names of two tables.
-fn compare_names(
-    rt: &impl Abort,
-    alloc: Global,
-    table: &Table<usize>,
-    names: &[Name],
-) -> Result<(), Fail> {
-    let found = table.names(alloc)?;
-    assert_eq!(rt; found.as_slice(), names, "names");
-    Ok(())
-}
-
-/// Removes the name of every second number.
-fn remove_from(alloc: Global, table: &mut Table<usize>, first: usize) -> Result<(), Fail> {
-    let mut number = first;
-    for _ in 0..MANY / 2 {
-        table.remove(&name(alloc, number)?)?;
-        number = number.wrapping_add(2);
-    }
-    Ok(())
 }
 
 /// The names of every second number, in order.
@@ -133,6 +84,14 @@ fn every_second(alloc: Global, first: usize) -> Result<Vec<Name>, Fail> {
     Ok(names)
 }
 
+/// Removes the name of every second number.
+fn remove_from(alloc: Global, table: &mut Table<usize>, first: usize) -> Result<(), Fail> {
+    for name in &every_second(alloc, first)? {
+        table.remove(name)?;
+    }
+    Ok(())
+}
+
 /// Compares a table with a list of its names in order.
 fn compare_with_list(
     rt: &impl Abort,
@@ -140,7 +99,8 @@ fn compare_with_list(
     table: &Table<usize>,
     names: &[Name],
 ) -> Result<(), Fail> {
-    compare_names(rt, alloc, table, names)?;
+    let found = table.names(alloc)?;
+    assert_eq!(rt; found.as_slice(), names, "names");
     assert_eq!(rt; table.len(), names.len(), "length");
     for (index, name) in names.iter().enumerate() {
         assert_eq!(rt; table.name_at(index), Some(*name), "a place");
@@ -193,55 +153,31 @@ fn compare_changed(rt: &impl Abort, alloc: Global, table: &Table<usize>) -> Resu
 /// Removes the odd numbers too, and puts 1 again.
 fn compare_emptied(rt: &impl Abort, alloc: Global, table: &mut Table<usize>) -> Result<(), Fail> {
     remove_from(alloc, table, 1)?;
-    assert_eq!(rt; table.len(), 0, "length");
-    compare_names(rt, alloc, table, &[])?;
+    compare_with_list(rt, alloc, table, &[])?;
     put(alloc, table, 1, 1)?;
-    compare_names(rt, alloc, table, &[name(alloc, 1)?])
-}
-
-/// Changes a table, and compares it with a copy of what it was.
-fn compare_both(
-    rt: &impl Abort,
-    alloc: Global,
-    table: &mut Table<usize>,
-    copy: &Table<usize>,
-) -> Result<(), Fail> {
-    change(alloc, table)?;
-    compare_changed(rt, alloc, table)?;
-    compare_whole(rt, alloc, copy)?;
-    compare_emptied(rt, alloc, table)
-}
-
-fn compare_with_copy(rt: &impl Abort, alloc: Global, table: &mut Table<usize>) -> Result<(), Fail> {
-    let copy = table.copy()?;
-    compare_both(rt, alloc, table, &copy)
+    compare_with_list(rt, alloc, table, &[name(alloc, 1)?])
 }
 
 #[test]
 fn a_copy_of_a_table_stays_as_it_was(rt: HostRuntime) -> Result<(), Fail> {
-    let mut table = by_sevens(rt.alloc())?;
-    compare_with_copy(&rt, rt.alloc(), &mut table)
+    let mut table: Table<usize> = by_sevens(rt.alloc())?;
+    let copy = table.copy()?;
+    change(rt.alloc(), &mut table)?;
+    compare_changed(&rt, rt.alloc(), &table)?;
+    compare_whole(&rt, rt.alloc(), &copy)?;
+    compare_emptied(&rt, rt.alloc(), &mut table)
 }
 
-/// Opens C, B, A and C again, and compares what is opened, and what has been seen then.
-fn compare_opened(
-    rt: &impl Abort,
-    alloc: Global,
-    seen: &mut BTreeSet<Name>,
-    [a, b, c]: [Name; 3],
-) -> Result<(), Fail> {
-    let mut pending = Vec::new(alloc);
-    open_new([c, b, a, c].as_slice(), seen, &mut pending)?;
-    assert_eq!(rt; pending.as_slice(), [c, a].as_slice(), "opened");
-    let names = names_of(alloc, seen)?;
-    assert_eq!(rt; names.as_slice(), [a, b, c].as_slice(), "seen");
-    Ok(())
-}
-
+// Opens C, B, A and C again, where B has been seen.
 #[test]
 fn new_names_are_opened_once(rt: HostRuntime) -> Result<(), Fail> {
     let [a, b, c] = [Name::read("A")?, Name::read("B")?, Name::read("C")?];
     let mut seen = BTreeSet::new(rt.alloc());
     seen.insert(b)?;
-    compare_opened(&rt, rt.alloc(), &mut seen, [a, b, c])
+    let mut pending = Vec::new(rt.alloc());
+    open_new([c, b, a, c].as_slice(), &mut seen, &mut pending)?;
+    assert_eq!(rt; pending.as_slice(), [c, a].as_slice(), "opened");
+    let names = names_of(rt.alloc(), &seen)?;
+    assert_eq!(rt; names.as_slice(), [a, b, c].as_slice(), "seen");
+    Ok(())
 }

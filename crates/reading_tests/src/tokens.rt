@@ -5,7 +5,7 @@ use fb_grammar::Kind;
 use fb_text::{
     Name, NameFault, TypeClass, is_elementary, same_name, sorted_names, tokens, type_class,
 };
-use std::alloc::{AllocError, Global};
+use std::alloc::Global;
 use std::test::Fail;
 
 // Texts with their tokens.
@@ -70,8 +70,8 @@ const LONGEST: &str = "ABCDEFGHABCDEFGHABCDEFGHABCDEFGHABCDEFGHABCDEFGHABCDEFGHA
 
 const TOO_LONG: &str = "ABCDEFGHABCDEFGHABCDEFGHABCDEFGHABCDEFGHABCDEFGHABCDEFGHABCDEFGHI";
 
-// Texts of one token, with its kind.
-static KINDS: [(&str, Kind); 35] = [
+// Texts of one token each, with its kind.
+static KINDS: [(&str, Kind); 27] = [
     ("FUNCTION_BLOCK", Kind::FunctionBlock),
     ("end_Function_Block", Kind::EndFunctionBlock),
     ("adapter_connections", Kind::AdapterConnections),
@@ -80,33 +80,25 @@ static KINDS: [(&str, Kind); 35] = [
     ("end_type", Kind::EndType),
     ("STRUCT", Kind::Struct),
     ("End_Struct", Kind::EndStruct),
-    ("TYPES", Kind::Name),
+    ("TYPES T END", Kind::Name),
     ("in", Kind::NameIn),
     ("On", Kind::NameOn),
     ("ST", Kind::NameSt),
-    ("T", Kind::Name),
-    ("END", Kind::Name),
     (LONGEST, Kind::Name),
     (TOO_LONG, Kind::Other),
     ("0", Kind::Zero),
     ("1", Kind::One),
-    ("00", Kind::Number),
-    ("1_", Kind::Number),
-    ("16#FF", Kind::Number),
+    ("00 1_ 16#FF", Kind::Number),
     ("1.5E-3", Kind::RealNumber),
     ("bool#1", Kind::TypedTruth),
     ("INT#16#FF", Kind::TypedInteger),
     ("byte#1", Kind::TypedBits),
-    ("any_bit#1", Kind::TypedFree),
-    ("ANY#1", Kind::TypedFree),
-    ("ANYTHING#1", Kind::TypedOther),
-    ("T#250ms", Kind::TypedOther),
-    ("TO#1", Kind::TypedOther),
+    ("any_bit#1 ANY#1", Kind::TypedFree),
+    ("ANYTHING#1 T#250ms TO#1", Kind::TypedOther),
     ("'INT#1'", Kind::Text),
     (":=", Kind::Assign),
     ("&", Kind::Ampersand),
-    ("é", Kind::Other),
-    ("'", Kind::Other),
+    ("é '", Kind::Other),
 ];
 
 /// The kind of the one token of a text.
@@ -119,8 +111,10 @@ fn kind_of(alloc: Global, text: &str) -> Result<Kind, Fail> {
 
 #[test]
 fn kinds_of_tokens(rt: HostRuntime) -> Result<(), Fail> {
-    for (text, expected) in &KINDS {
-        assert_eq!(rt; kind_of(rt.alloc(), text)?, *expected, "{text}");
+    for (texts, expected) in &KINDS {
+        for text in texts.split_whitespace() {
+            assert_eq!(rt; kind_of(rt.alloc(), text)?, *expected, "{text}");
+        }
     }
     Ok(())
 }
@@ -161,18 +155,12 @@ fn names_in(alloc: Global, text: &str) -> Result<Vec<Name>, Fail> {
     Ok(names)
 }
 
-/// Names in order, each with a blank after it.
-fn sorted_told(alloc: Global, names: &[Name]) -> Result<String, AllocError> {
-    let sorted = sorted_names(alloc, names)?;
-    names_told(alloc, sorted.as_slice())
-}
-
 #[test]
 fn names_are_sorted(rt: HostRuntime) -> Result<(), Fail> {
-    let text = "b a_ B ab a";
-    let names = names_in(rt.alloc(), text)?;
-    let sorted = sorted_told(rt.alloc(), names.as_slice())?;
-    assert_eq!(rt; sorted.as_str(), "A AB A_ B ");
+    let names = names_in(rt.alloc(), "b a_ B ab a")?;
+    let sorted = sorted_names(rt.alloc(), names.as_slice())?;
+    let told = names_told(rt.alloc(), sorted.as_slice())?;
+    assert_eq!(rt; told.as_str(), "A AB A_ B ");
     Ok(())
 }
 
@@ -212,44 +200,35 @@ fn short_names(rt: HostRuntime) -> Result<(), Fail> {
     Ok(())
 }
 
-static CLASSES: [(&str, TypeClass); 9] = [
+static CLASSES: [(&str, TypeClass); 5] = [
     ("bool", TypeClass::Truth),
     ("USINT", TypeClass::Integer),
     ("LWord", TypeClass::Bits),
-    ("ANY", TypeClass::Free),
-    ("any_", TypeClass::Free),
-    ("ANY_NUM", TypeClass::Free),
-    ("ANYTHING", TypeClass::Other),
-    ("REAL", TypeClass::Other),
-    ("T", TypeClass::Other),
+    ("ANY any_ ANY_NUM", TypeClass::Free),
+    ("ANYTHING REAL T", TypeClass::Other),
 ];
 
 #[test]
 fn classes_of_types(rt: HostRuntime) {
-    for (word, class) in &CLASSES {
-        assert_eq!(rt; type_class(word.as_bytes()), *class, "{word}");
+    for (words, class) in &CLASSES {
+        for word in words.split_whitespace() {
+            assert_eq!(rt; type_class(word.as_bytes()), *class, "{word}");
+        }
     }
 }
 
 // Names of types, and whether values of the type need no declaration of it.
-static ELEMENTARY: [(&str, bool); 12] = [
-    ("bool", true),
-    ("ULINT", true),
-    ("Byte", true),
-    ("ANY", true),
-    ("any_thing", true),
-    ("LReal", true),
-    ("TIME_OF_DAY", true),
-    ("Date_And_Time", true),
-    ("wstring", true),
-    ("ANYTHING", false),
-    ("TIMES", false),
-    ("S", false),
+static ELEMENTARY: [(&str, bool); 3] = [
+    ("bool ULINT Byte ANY any_thing LReal", true),
+    ("TIME_OF_DAY Date_And_Time wstring", true),
+    ("ANYTHING TIMES S", false),
 ];
 
 #[test]
 fn types_that_need_no_declaration(rt: HostRuntime) {
-    for (word, expected) in &ELEMENTARY {
-        assert_eq!(rt; is_elementary(word.as_bytes()), *expected, "{word}");
+    for (words, expected) in &ELEMENTARY {
+        for word in words.split_whitespace() {
+            assert_eq!(rt; is_elementary(word.as_bytes()), *expected, "{word}");
+        }
     }
 }

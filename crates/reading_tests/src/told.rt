@@ -7,6 +7,7 @@ use fb_tree::{
     Structure, System, Transition, TypeDeclaration, Variables,
 };
 use std::alloc::{AllocError, Global};
+use std::test::Fail;
 
 /// What can be written in words.
 pub trait Tell {
@@ -19,6 +20,12 @@ pub fn words<T: Tell>(alloc: Global, found: &T) -> Result<String, AllocError> {
     let mut told = String::new(alloc);
     found.tell(&mut told)?;
     Ok(told)
+}
+
+/// What is told of it after a mark.
+fn tell_after<T: Tell>(mark: &str, found: &T, told: &mut String) -> Result<(), AllocError> {
+    told.push_str(mark)?;
+    found.tell(told)
 }
 
 impl<T: Tell> Tell for Vec<T> {
@@ -56,10 +63,7 @@ impl Tell for Result<Vec<Token>, TokenFault> {
     fn tell(&self, told: &mut String) -> Result<(), AllocError> {
         match self {
             Ok(tokens) => tokens.tell(told),
-            Err(TokenFault::BadToken(span)) => {
-                told.push_str("never closed")?;
-                span.tell(told)
-            }
+            Err(TokenFault::BadToken(span)) => tell_after("never closed", span, told),
             Err(TokenFault::Memory) => told.push_str("no memory"),
         }
     }
@@ -72,12 +76,34 @@ impl Tell for NameUse {
     }
 }
 
-/// Names, each with a blank after it.
-pub fn names_told(alloc: Global, names: &[Name]) -> Result<String, AllocError> {
-    let mut told = String::new(alloc);
+/// The lines of a table, each row in one of them: `TEXT => EXPECTED`, where what is expected may also be in the line after.
+pub fn lines_of(alloc: Global, table: &str) -> Result<String, Fail> {
+    if !table.contains("=> ") {
+        return Err(Fail::from("a table without rows"));
+    }
+    Ok(table.replace(alloc, "\n    => ", " => ")?)
+}
+
+/// The row in a line of a table, if it is no remark.
+pub fn row_in(line: &str) -> Option<(&str, &str)> {
+    if line.is_empty() || line.starts_with("// ") {
+        return None;
+    }
+    Some(line.split_once(" => ").unwrap_or((line, "")))
+}
+
+/// Adds names, each with a blank after it.
+pub fn say_names(told: &mut String, names: &[Name]) -> Result<(), AllocError> {
     for name in names {
         write!(told, "{name} ")?;
     }
+    Ok(())
+}
+
+/// The same alone.
+pub fn names_told(alloc: Global, names: &[Name]) -> Result<String, AllocError> {
+    let mut told = String::new(alloc);
+    say_names(&mut told, names)?;
     Ok(told)
 }
 
@@ -130,8 +156,7 @@ impl Tell for Constant {
             Constant::One(value) => value.tell(told),
             Constant::List(values, span) => {
                 for (i, value) in values.iter().enumerate() {
-                    told.push_str(if i == 0 { "[" } else { ", " })?;
-                    value.tell(told)?;
+                    tell_after(if i == 0 { "[" } else { ", " }, value, told)?;
                 }
                 told.push_str("]")?;
                 span.tell(told)
@@ -147,11 +172,10 @@ impl Tell for Variables {
         let used = &self.type_use;
         write!(told, ":{:?} {}", used.form, used.name.name.as_str())?;
         used.span.tell(told)?;
-        if let Some(value) = &self.initial {
-            told.push_str(" := ")?;
-            value.tell(told)?;
+        match &self.initial {
+            Some(value) => tell_after(" := ", value, told),
+            None => Ok(()),
         }
-        Ok(())
     }
 }
 
@@ -166,13 +190,8 @@ fn tell_parameters(parameters: &[Parameter], told: &mut String) -> Result<(), Al
 
 impl Tell for Instance {
     fn tell(&self, told: &mut String) -> Result<(), AllocError> {
-        write!(
-            told,
-            "{:?} {}:{}",
-            self.role,
-            self.name.name.as_str(),
-            self.type_name.name.as_str()
-        )?;
+        let (name, type_name) = (self.name.name.as_str(), self.type_name.name.as_str());
+        write!(told, "{:?} {name}:{type_name}", self.role)?;
         tell_parameters(self.parameters.as_slice(), told)
     }
 }
@@ -188,8 +207,7 @@ impl Tell for Connection {
     fn tell(&self, told: &mut String) -> Result<(), AllocError> {
         write!(told, "{:?} ", self.sort)?;
         self.source.tell(told)?;
-        told.push_str(" TO ")?;
-        self.destination.tell(told)
+        tell_after(" TO ", &self.destination, told)
     }
 }
 
@@ -208,8 +226,7 @@ impl Tell for State {
             told.push_str(if i == 0 { ": " } else { ", " })?;
             tell_name("", &action.algorithm, told)?;
             if let Some(event) = &action.event {
-                told.push_str("->")?;
-                event.tell(told)?;
+                tell_after("->", event, told)?;
             }
         }
         Ok(())
@@ -223,8 +240,7 @@ impl Tell for Condition {
             Condition::Event(event) => event.tell(told),
             Condition::Guarded(event, test) => {
                 event.tell(told)?;
-                told.push_str(" & ")?;
-                test.tell(told)
+                tell_after(" & ", test, told)
             }
             Condition::Guard(test) => test.tell(told),
         }
@@ -233,25 +249,16 @@ impl Tell for Condition {
 
 impl Tell for Transition {
     fn tell(&self, told: &mut String) -> Result<(), AllocError> {
-        write!(
-            told,
-            "{} TO {} := ",
-            self.source.name.as_str(),
-            self.destination.name.as_str()
-        )?;
+        let (source, destination) = (self.source.name.as_str(), self.destination.name.as_str());
+        write!(told, "{source} TO {destination} := ")?;
         self.condition.tell(told)
     }
 }
 
 impl Tell for Algorithm {
     fn tell(&self, told: &mut String) -> Result<(), AllocError> {
-        write!(
-            told,
-            "{} IN {} {}",
-            self.name.name.as_str(),
-            self.language.name.as_str(),
-            self.statements.len()
-        )
+        let (name, language) = (self.name.name.as_str(), self.language.name.as_str());
+        write!(told, "{name} IN {language} {}", self.statements.len())
     }
 }
 
@@ -273,20 +280,12 @@ impl Tell for Application {
 
 impl Tell for Device {
     fn tell(&self, told: &mut String) -> Result<(), AllocError> {
-        write!(
-            told,
-            "DEVICE {}:{}",
-            self.name.name.as_str(),
-            self.type_name.name.as_str()
-        )?;
+        let (name, type_name) = (self.name.name.as_str(), self.type_name.name.as_str());
+        write!(told, "DEVICE {name}:{type_name}")?;
         tell_parameters(self.parameters.as_slice(), told)?;
         for resource in &self.resources {
-            write!(
-                told,
-                " {}:{}",
-                resource.name.name.as_str(),
-                resource.type_name.name.as_str()
-            )?;
+            let (name, type_name) = (&resource.name.name, &resource.type_name.name);
+            write!(told, " {}:{}", name.as_str(), type_name.as_str())?;
             tell_parameters(resource.parameters.as_slice(), told)?;
         }
         Ok(())
@@ -296,12 +295,8 @@ impl Tell for Device {
 impl Tell for Mapping {
     fn tell(&self, told: &mut String) -> Result<(), AllocError> {
         tell_names("", ".", self.path.as_slice(), told)?;
-        write!(
-            told,
-            " ON {}.{}",
-            self.device.name.as_str(),
-            self.resource.name.as_str()
-        )
+        let (device, resource) = (self.device.name.as_str(), self.resource.name.as_str());
+        write!(told, " ON {device}.{resource}")
     }
 }
 
@@ -334,26 +329,11 @@ impl Tell for Structure {
 impl Tell for Decl {
     fn tell(&self, told: &mut String) -> Result<(), AllocError> {
         match self {
-            Decl::Block(declared) => {
-                told.push_str("block ")?;
-                declared.tell(told)
-            }
-            Decl::Adapter(declared) => {
-                told.push_str("adapter ")?;
-                declared.tell(told)
-            }
-            Decl::Subapplication(declared) => {
-                told.push_str("subapplication ")?;
-                declared.tell(told)
-            }
-            Decl::System(system) => {
-                told.push_str("system ")?;
-                system.tell(told)
-            }
-            Decl::Structure(structure) => {
-                told.push_str("structure ")?;
-                structure.tell(told)
-            }
+            Decl::Block(declared) => tell_after("block ", declared, told),
+            Decl::Adapter(declared) => tell_after("adapter ", declared, told),
+            Decl::Subapplication(declared) => tell_after("subapplication ", declared, told),
+            Decl::System(system) => tell_after("system ", system, told),
+            Decl::Structure(structure) => tell_after("structure ", structure, told),
         }
     }
 }
@@ -363,10 +343,7 @@ impl Tell for Source {
         write!(told, "{} is ", self.unit())?;
         match self.body() {
             Body::Tree(declared) => declared.tell(told),
-            Body::Broken(span) => {
-                told.push_str("broken")?;
-                span.tell(told)
-            }
+            Body::Broken(span) => tell_after("broken", span, told),
         }
     }
 }
@@ -471,24 +448,24 @@ fn tell_statement(statement: &Stmt, told: &mut String) -> Result<(), AllocError>
         Stmt::Empty => told.push_str("EMPTY"),
         Stmt::Set(name, _, value) => {
             told.push_str(name.name.as_str())?;
-            tell_value(" := ", value, told)
+            tell_after(" := ", value, told)
         }
         Stmt::Assign(variable, subscripts, _, value) => {
             tell_reference(variable, subscripts.as_slice(), told)?;
-            tell_value(" := ", value, told)
+            tell_after(" := ", value, told)
         }
         Stmt::Exit => told.push_str("EXIT"),
         Stmt::Return => told.push_str("RETURN"),
         Stmt::If(arms, otherwise) => {
             for (condition, body) in arms {
-                tell_value("IF ", condition, told)?;
+                tell_after("IF ", condition, told)?;
                 tell_body("", body.as_slice(), told)?;
                 told.push_str(" ")?;
             }
             tell_body("ELSE", otherwise.as_slice(), told)
         }
         Stmt::Case(selector, cases, otherwise) => {
-            tell_value("CASE ", selector, told)?;
+            tell_after("CASE ", selector, told)?;
             tell_body("", cases.as_slice(), told)?;
             tell_body(" ELSE", otherwise.as_slice(), told)
         }
@@ -497,20 +474,14 @@ fn tell_statement(statement: &Stmt, told: &mut String) -> Result<(), AllocError>
             tell_body("", body.as_slice(), told)
         }
         Stmt::While(condition, body) => {
-            tell_value("WHILE ", condition, told)?;
+            tell_after("WHILE ", condition, told)?;
             tell_body("", body.as_slice(), told)
         }
         Stmt::Repeat(body, condition) => {
             tell_body("REPEAT", body.as_slice(), told)?;
-            tell_value(" UNTIL ", condition, told)
+            tell_after(" UNTIL ", condition, told)
         }
     }
-}
-
-/// An expression after a mark.
-fn tell_value(mark: &str, value: &Expr, told: &mut String) -> Result<(), AllocError> {
-    told.push_str(mark)?;
-    tell_expression(value, told)
 }
 
 /// Statements in parentheses after a mark.
@@ -527,9 +498,9 @@ fn tell_body(mark: &str, body: &[Stmt], told: &mut String) -> Result<(), AllocEr
 fn tell_counting(counting: &Counting, told: &mut String) -> Result<(), AllocError> {
     write!(told, "FOR {} := ", counting.variable.name.as_str())?;
     tell_expression(&counting.from, told)?;
-    tell_value(" TO ", &counting.to, told)?;
+    tell_after(" TO ", &counting.to, told)?;
     match &counting.by {
-        Some(by) => tell_value(" BY ", by, told),
+        Some(by) => tell_after(" BY ", by, told),
         None => Ok(()),
     }
 }
