@@ -21,7 +21,6 @@ use fb_network::Link;
 use fb_text::{Name, same_name};
 use fb_tree::{Mentions, Section, Side};
 use std::alloc::{AllocError, Global};
-use std::process::Abort;
 use std::test::Fail;
 
 const PLANT: &[&str] = &[
@@ -66,11 +65,8 @@ fn interface_told(alloc: Global, library: &Library) -> Result<String, Fail> {
     let mut told = String::new(alloc);
     say_events(&mut told, &ports)?;
     say_data(&mut told, &ports)?;
-    write!(
-        told,
-        "{} plugs, sockets and instances",
-        ports.instances().len()
-    )?;
+    let others = ports.instances().len();
+    write!(told, "{others} plugs, sockets and instances")?;
     Ok(told)
 }
 
@@ -85,32 +81,25 @@ fn faults_told(alloc: Global, library: &Library) -> Result<String, Fail> {
     Ok(format!(in alloc; "{declared} {expressions} {charts} {networks}, {all}")?)
 }
 
-fn own_net_told(alloc: Global, library: &Library) -> Result<String, Fail> {
+// The net of the system, or the same by the call that takes kept nets, without any.
+fn system_net_told(alloc: Global, library: &Library, is_hinted: bool) -> Result<String, Fail> {
     let system = Name::read("Y")?;
     if !has_net(library, &system) {
         return Err(Fail::from("no net"));
     }
-    Ok(net_told(alloc, &net(alloc, library, system)?)?)
-}
-
-// The same by the call that takes kept nets, without any.
-fn hinted_net_told(alloc: Global, library: &Library) -> Result<String, Fail> {
-    let system = Name::read("Y")?;
-    if !has_net(library, &system) {
-        return Err(Fail::from("no net"));
-    }
-    Ok(net_told(alloc, &net_with(alloc, library, system, &NoHints)?)?)
+    let net = if is_hinted {
+        net_with(alloc, library, system, &NoHints)?
+    } else {
+        net(alloc, library, system)?
+    };
+    Ok(net_told(alloc, &net)?)
 }
 
 fn homes_told(alloc: Global, homes: &[Home], cuts: &[Link]) -> Result<String, AllocError> {
     let mut told = String::new(alloc);
     for home in homes {
-        write!(
-            told,
-            "{} ON {}; ",
-            home.path.as_str(),
-            home.resource.as_str()
-        )?;
+        let (path, resource) = (home.path.as_str(), home.resource.as_str());
+        write!(told, "{path} ON {resource}; ")?;
     }
     write!(told, "cut")?;
     say_links(&mut told, cuts)?;
@@ -128,7 +117,8 @@ fn placement_told(alloc: Global, library: &Library) -> Result<String, Fail> {
     }
 }
 
-fn say_resources(told: &mut String, resources: &[ResourcePlan]) -> Result<(), AllocError> {
+fn resources_told(alloc: Global, resources: &[ResourcePlan]) -> Result<String, AllocError> {
+    let mut told = String::new(alloc);
     for resource in resources {
         write!(told, "{}", resource.name().as_str())?;
         for command in resource.commands() {
@@ -136,7 +126,7 @@ fn say_resources(told: &mut String, resources: &[ResourcePlan]) -> Result<(), Al
         }
         told.push_str("; ")?;
     }
-    Ok(())
+    Ok(told)
 }
 
 fn plan_told(alloc: Global, library: &Library) -> Result<String, Fail> {
@@ -145,11 +135,7 @@ fn plan_told(alloc: Global, library: &Library) -> Result<String, Fail> {
         return Err(Fail::from("no system"));
     }
     match plan(alloc, library, system)? {
-        Deploy::Plan(plan) => {
-            let mut told = String::new(alloc);
-            say_resources(&mut told, &plan.plain_resources(alloc)?)?;
-            Ok(told)
-        }
+        Deploy::Plan(plan) => Ok(resources_told(alloc, &plan.plain_resources(alloc)?)?),
         Deploy::Stopped(_) | Deploy::Faulty(_) => Err(Fail::from("no plan")),
     }
 }
@@ -176,38 +162,25 @@ fn refuse_same(a: &Name, b: &Name) -> Result<(), Fail>
 
 // What the text of a unit mentions.
 fn mentions_of<'a>(library: &'a Library, unit: &Name) -> Result<&'a Mentions, Fail> {
-    let source = View::get(library, unit).ok_or("absent")?;
-    Ok(source.mentions())
+    Ok(View::get(library, unit).ok_or("absent")?.mentions())
 }
 
-// Indexes three units of a library by what they mention.
-fn fill(
-    index: &mut Index,
-    alloc: Global,
-    library: &Library,
-    first: Name,
-    second: Name,
-    third: Name,
-) -> Result<(), Fail>
-    requires { index.old ≡ nothing_indexed }
-{
-    refuse_same(&first, &second)?;
-    refuse_same(&first, &third)?;
-    refuse_same(&second, &third)?;
-    let none = nothing(alloc);
-    let mentions = mentions_of(library, &first)?;
-    index.replace(alloc, first, &none, mentions)?;
-    let mentions = mentions_of(library, &second)?;
-    index.replace(alloc, second, &none, mentions)?;
-    let mentions = mentions_of(library, &third)?;
-    index.replace(alloc, third, &none, mentions)?;
-    Ok(())
-}
-
+// The three units, indexed by what they mention.
 fn index_of(alloc: Global, library: &Library) -> Result<Index, Fail> {
     let [system, subapplication, block] = [Name::read("Y")?, Name::read("SA")?, Name::read("TN")?];
+    refuse_same(&system, &subapplication)?;
+    refuse_same(&system, &block)?;
+    refuse_same(&subapplication, &block)?;
+    let none = nothing(alloc);
     let mut index = Index::new(alloc);
-    fill(&mut index, alloc, library, system, subapplication, block)?;
+    index.replace(alloc, system, &none, mentions_of(library, &system)?)?;
+    index.replace(
+        alloc,
+        subapplication,
+        &none,
+        mentions_of(library, &subapplication)?,
+    )?;
+    index.replace(alloc, block, &none, mentions_of(library, &block)?)?;
     Ok(index)
 }
 
@@ -264,8 +237,8 @@ fn part_told(alloc: Global, library: &Library, part: Part) -> Result<String, Fai
     match part {
         Part::Interface => interface_told(alloc, library),
         Part::Faults => faults_told(alloc, library),
-        Part::Net => own_net_told(alloc, library),
-        Part::HintedNet => hinted_net_told(alloc, library),
+        Part::Net => system_net_told(alloc, library, false),
+        Part::HintedNet => system_net_told(alloc, library, true),
         Part::Placement => placement_told(alloc, library),
         Part::Plan => plan_told(alloc, library),
         Part::Users => users_told(alloc, library),
@@ -296,21 +269,12 @@ const WANTED: &[(Part, &str)] = &[
     (Part::Reads, "reads SA TN Y, has read SA TN Y"),
 ];
 
-fn compare(
-    rt: &impl Abort,
-    alloc: Global,
-    library: &Library,
-    wanted: &[(Part, &str)],
-) -> Result<(), Fail> {
-    for (part, told) in wanted {
-        let found = part_told(alloc, library, *part)?;
-        assert_eq!(rt; found.as_str(), *told, "{part:?}");
-    }
-    Ok(())
-}
-
 #[test]
 fn a_plant_through_all_crates(rt: HostRuntime) -> Result<(), Fail> {
     let library = plant_of(rt.alloc(), PLANT)?;
-    compare(&rt, rt.alloc(), &library, WANTED)
+    for (part, told) in WANTED {
+        let found = part_told(rt.alloc(), &library, *part)?;
+        assert_eq!(rt; found.as_str(), *told, "{part:?}");
+    }
+    Ok(())
 }

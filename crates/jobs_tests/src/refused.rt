@@ -35,13 +35,8 @@ impl<'a> Trial for Made<'a> {
         if !has_key(wanted.library, wanted.key) {
             return true;
         }
-        match make(alloc, wanted.library, wanted.key) {
-            Ok(job) => {
-                self.job = Some(job);
-                true
-            }
-            Err(_) => false,
-        }
+        self.job = make(alloc, wanted.library, wanted.key).ok();
+        self.job.is_some()
     }
 
     fn told(&self, alloc: Global) -> Result<String, Fail> {
@@ -70,13 +65,8 @@ impl<'a> Trial for Run<'a> {
     }
 
     fn call(&mut self, alloc: Global) -> bool {
-        match self.job.run(alloc) {
-            Ok(finished) => {
-                self.finished = Some(finished);
-                true
-            }
-            Err(_) => false,
-        }
+        self.finished = self.job.run(alloc).ok();
+        self.finished.is_some()
     }
 
     fn told(&self, alloc: Global) -> Result<String, Fail> {
@@ -86,6 +76,15 @@ impl<'a> Trial for Run<'a> {
         }
     }
 }
+
+/// A key, and what its job is for.
+type Row = (Kind, &'static str, &'static str);
+
+const KEYS: &[Row] = &[
+    (Kind::Faults, "T", " for faults"),
+    (Kind::Net, "T", " for a net"),
+    (Kind::Deploy, "Z", " for a plan"),
+];
 
 fn try_making(
     rt: &impl Print,
@@ -98,14 +97,10 @@ fn try_making(
     try_call::<Made<'_>>(rt, alloc, "Job::make", about, &wanted)
 }
 
-fn try_running(
-    rt: &impl Print,
-    alloc: Global,
-    library: &Library,
-    key: Key,
-    about: &str,
-) -> Result<(), Fail> {
-    let job = job_for(alloc, library, key)?;
+fn try_row(rt: &impl Print, alloc: Global, library: &Library, row: &Row) -> Result<(), Fail> {
+    let (kind, unit, about) = *row;
+    try_making(rt, alloc, library, key_of(kind, unit)?, about)?;
+    let job = job_for(alloc, library, key_of(kind, unit)?)?;
     try_call::<Run<'_>>(rt, alloc, "Job::run", about, &job)
 }
 
@@ -115,25 +110,11 @@ fn try_taking(rt: &impl Print, alloc: Global, library: &Library) -> Result<(), F
     try_call::<Run<'_>>(rt, alloc, "Job::run", " for a net with a kept one", &job)
 }
 
-/// A key, and what its job is for.
-type Row = (Kind, &'static str, &'static str);
-
-const KEYS: &[Row] = &[
-    (Kind::Faults, "T", " for faults"),
-    (Kind::Net, "T", " for a net"),
-    (Kind::Deploy, "Z", " for a plan"),
-];
-
-fn try_all(rt: &impl Print, alloc: Global, library: &Library, keys: &[Row]) -> Result<(), Fail> {
-    for (kind, unit, about) in keys {
-        try_making(rt, alloc, library, key_of(*kind, unit)?, about)?;
-        try_running(rt, alloc, library, key_of(*kind, unit)?, about)?;
-    }
-    try_taking(rt, alloc, library)
-}
-
 #[test]
 fn jobs_are_made_and_run(rt: HostRuntime) -> Result<(), Fail> {
     let library = library_of(rt.alloc(), NESTED)?;
-    try_all(&rt, rt.alloc(), &library, KEYS)
+    for row in KEYS {
+        try_row(&rt, rt.alloc(), &library, row)?;
+    }
+    try_taking(&rt, rt.alloc(), &library)
 }
