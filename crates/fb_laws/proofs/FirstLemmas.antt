@@ -1,6 +1,6 @@
 -- The first declarations of their names, by places.
-use Rattle.fb_laws.proofs.Common.{◌≡◌, ◌≢◌, zero, suc, ℕ, ◌+◌, ◌<◌, Bool, true, ◌&&◌, List, [], ◌∷◌, map, take, Option, Some, None, refl, ap, ◌∙◌, sym, subst, inl, inr, arith, filter, enumerate_from, slice_get, slice_get_within, cases_order, and_parts, first_ones, is_same, stands_for, same_exact, same_itself, at_place, in_places, contains_filter, contains_map, got_in_map, origin_in_map, passes_in_filter, stands_for-first_ones, is_none, Contains}
-use Rattle.std.proofs.lemmas.{Map.Entries.{place_from_lookup}, Option.{get_or_from_slice_get}}
+use Rattle.fb_laws.proofs.Common.{◌≡◌, ◌≢◌, zero, suc, ℕ, ◌+◌, ◌<◌, Bool, true, ◌&&◌, List, [], ◌∷◌, length, map, take, Option, Some, None, refl, ap, ◌∙◌, sym, subst, inl, inr, arith, filter, enumerate_from, slice_get, slice_get_within, cases_order, and_parts, first_ones, is_same, stands_for, same_exact, same_itself, at_place, in_places, contains_filter, contains_map, got_in_map, origin_in_map, passes_in_filter, stands_for-first_ones, is_none, Contains}
+use Rattle.std.proofs.lemmas.{Map.Entries.{place_from_lookup}, Option.{get_or_from_slice_get, slice_get_read}}
 use Rattle.std.proofs.lemmas.List.{FromFn.{get_or-enumerate_from, length-enumerate_from}, Kept.{AllPairs-filter}}
 use Rattle.std.specs.List.{AllPairs}
 
@@ -17,6 +17,9 @@ numbers_rise {X = X} passes xs i j p q before first second =
 
 pub got_among : {X : Type 0} (xs : List X) (k : ℕ) (x : X) → slice_get xs k ≡ Some x → Contains xs x
 got_among xs k x e = (k, slice_get_within xs k x e, get_or_from_slice_get xs k x x e)
+
+pub at_contained : {X : Type 0} (xs : List X) (x : X) (c : Contains xs x) → slice_get xs c.0 ≡ Some x
+at_contained xs x c = slice_get_read xs (length xs) c.0 x refl c.1 (sym c.2)
 
 -- first declarations
 
