@@ -1,11 +1,11 @@
 -- Chains of adapters keep the adapter, and stand for links of its events and data.
 use Rattle.std.proofs.Common.{ℕ, ◌≡◌, List, [], ◌∷◌, ◌++◌, inl, inr, refl, sym, ◌∙◌, ap}
-use Rattle.std.specs.Prelude.{Option, option_and_then}
+use Rattle.std.specs.Prelude.{option_and_then}
 use Rattle.fb_tree.specs.{declared.network.Sort.{Sort}, declared.network.Sort.TheVariants.{Adapter}}
 use Rattle.fb_network.specs.{declared.network.End.{End}, Plain.{PlainNetwork}}
-use Rattle.fb_network.specs.Network.{View, Place, instance_named, place_of, IsInner, Step, Holds, Within, Chain, One, More, IsLink}
+use Rattle.fb_network.specs.Network.{View, Place, place_of, IsInner, Step, Holds, Within, Chain, One, More, IsLink}
 use Rattle.fb_network.specs.NetLink.{IsNetLink, Direct, FromPlug, ToPlug}
-use Rattle.fb_network.specs.{Clean.{adapter_name_at, adapter_at, IsCleanThroughout}, Composed.{Instances}, Composition.{IsBehind, BlockItself, BehindBorder}}
+use Rattle.fb_network.specs.{Clean.{adapter_name_at, adapter_at, IsCleanThroughout}, Composition.{IsBehind, BlockItself, BehindBorder}}
 use Rattle.fb_network.proofs.Chains.{no_step_from_nothing, no_step_to_nothing, type_of-inner, here, clean_inner}
 use Rattle.fb_network.proofs.LinkLemmas.{no_leaf_nothing, link_of_composed}
 
@@ -43,15 +43,10 @@ longer_not_nothing [] port e = cc
 longer_not_nothing (x ∷ a) port e = cc
 
 -- no link leaves or reaches the empty place
-pub net_link_from : {view : View} {network : PlainNetwork} {sort : Sort} {a b : Place} → IsNetLink view network sort a b → a ≡ [] → ⊥
-net_link_from (Direct n link) e = no_leaf_nothing link.from_leaf e
-net_link_from (FromPlug plug socket adapter port link at among k s f g) e = longer_not_nothing plug port.name (sym f ∙ e)
-net_link_from (ToPlug plug socket adapter port link at among k s f g) e = longer_not_nothing socket port.name (sym f ∙ e)
-
-pub net_link_to : {view : View} {network : PlainNetwork} {sort : Sort} {a b : Place} → IsNetLink view network sort a b → b ≡ [] → ⊥
-net_link_to (Direct n link) e = no_leaf_nothing link.to_leaf e
-net_link_to (FromPlug plug socket adapter port link at among k s f g) e = longer_not_nothing socket port.name (sym g ∙ e)
-net_link_to (ToPlug plug socket adapter port link at among k s f g) e = longer_not_nothing plug port.name (sym g ∙ e)
+pub net_link_ends : {view : View} {network : PlainNetwork} {sort : Sort} {a b : Place} → IsNetLink view network sort a b → (a ≡ [] → ⊥) × (b ≡ [] → ⊥)
+net_link_ends (Direct n link) = (no_leaf_nothing link.from_leaf, no_leaf_nothing link.to_leaf)
+net_link_ends (FromPlug plug socket adapter port link at among k s f g) = (λ e. longer_not_nothing plug port.name (sym f ∙ e), λ e. longer_not_nothing socket port.name (sym g ∙ e))
+net_link_ends (ToPlug plug socket adapter port link at among k s f g) = (λ e. longer_not_nothing socket port.name (sym f ∙ e), λ e. longer_not_nothing plug port.name (sym g ∙ e))
 
 -- a link of a subapplication is one of the network
 link_within : {view : View} {network inner : PlainNetwork} {name : List ℕ} {sort : Sort} {a b : Place} → IsCleanThroughout view network → IsInner view network name inner → IsLink view inner sort a b → IsLink view network sort (name ∷ a) (name ∷ b)
@@ -64,9 +59,3 @@ net_link_within {name = name} clean i (FromPlug plug socket adapter port link at
     FromPlug (name ∷ plug) (name ∷ socket) adapter port (link_within clean i link) (adapter_at-inner plug (no_leaf_nothing link.from_leaf) i ∙ at) among k s (ap (λ (q : Place). name ∷ q) f) (ap (λ (q : Place). name ∷ q) g)
 net_link_within {name = name} clean i (ToPlug plug socket adapter port link at among k s f g) =
     ToPlug (name ∷ plug) (name ∷ socket) adapter port (link_within clean i link) (adapter_at-inner plug (no_leaf_nothing link.from_leaf) i ∙ at) among k s (ap (λ (q : Place). name ∷ q) f) (ap (λ (q : Place). name ∷ q) g)
-
--- the adapter of a port of an instance, by the table of instances
-pub adapter_inside : (view : View) (network : PlainNetwork) (instances : Instances) (name port : List ℕ) (type : Option PlainNetwork) → instances ≡ instance_named network.instances → type ≡ option_and_then (λ i. view i.type_name) (instances name) → option_and_then view (option_and_then (λ t. adapter_name_at view t (port ∷ [])) type) ≡ adapter_at view network (name ∷ (port ∷ []))
-adapter_inside view network instances name port type table is =
-    ap (λ (o : Option PlainNetwork). option_and_then view (option_and_then (λ t. adapter_name_at view t (port ∷ [])) o))
-    (is ∙ ap (λ (f : Instances). option_and_then (λ i. view i.type_name) (f name)) table)

@@ -1,22 +1,18 @@
 -- The places behind an end, and the links and borders of connections, by numbers say what they say in plain.
-use Rattle.std.proofs.Common.{ℕ, ◌≡◌, ◌<◌, List, [], ◌∷◌, ◌++◌, Option, Some, None, length, map, refl, sym, ap, subst, ◌∙◌, arith}
-use Rattle.std.proofs.{lemmas.List.{map-append}, lemmas.List.Elements.{All-append, All-cons, All-filter, All-map, All-nil, All-head, All-tail, All-weaker}}
-use Rattle.std.specs.{Prelude.{filter}, List.{All}, BTreeMap.{is_at}}
-use Rattle.fb_tree.specs.{Text.Order.{name_cmp}, declared.network.Sort.{Sort}}
-use Rattle.fb_tree.proofs.Text.Members.{passes_in_find}
+use Rattle.std.proofs.Common.{ℕ, ◌≡◌, ◌<◌, List, [], ◌∷◌, Option, Some, None, length, map, refl, sym, ap, subst, ◌∙◌, arith}
+use Rattle.std.proofs.{lemmas.Simd.{map-map}, lemmas.List.Elements.{All-cons, All-filter, All-map, All-nil, All-head, All-tail, All-weaker}}
+use Rattle.std.specs.{Prelude.{filter}, List.{All}}
+use Rattle.fb_tree.specs.declared.network.Sort.{Sort}
 use Rattle.fb_network.specs.{declared.network.InstanceKind.{InstanceKind}, declared.network.InstanceKind.TheVariants.{Block, Subapplication}}
 use Rattle.fb_network.specs.{declared.network.Instance.{Instance}, declared.network.End.{End}, declared.network.End.TheVariants.{Own, Of}}
-use Rattle.fb_network.specs.{declared.flat.Link.{Link}, declared.flat.Border.{Border}, declared.place.Place.{Place}, declared.entries.Edge.{Edge}}
+use Rattle.fb_network.specs.{declared.flat.Link.{Link}, declared.flat.Border.{Border}, declared.place.Place.{Place}, declared.entries.Edge.{Edge}, declared.entries.Join.{Join}}
 use Rattle.fb_network.specs.{declared.table.Standing.{Standing}, Network.{instance_named}, Places.{dotted}, PlainFlat.{PlainFlat}, PlainPrefix.{PlainPrefix}}
 use Rattle.fb_network.specs.Ready.{Nets}
 use Rattle.fb_network.specs.Composed.{behind_found, behind_instance, behind_kind, behind_of, belongs, border_places, end_borders, link_pairs, links_from, places_of}
 use Rattle.fb_network.specs.Standing.{IsTable, Says, StandsFor, borders_of, end_text, inner_borders, inner_borders_of_kind}
 use Rattle.fb_network.specs.Behind.{border_places_at, edge_belongs, edges_of_end, join_pairs, joins_from, places_behind, places_of_found, places_of_kind, places_of_standing}
 use Rattle.fb_network.specs.{Laid.{IsEdgeBelow, IsJoinBelow, border_at, link_at, path_at}, Reading.{AreEdges, AreJoins, ArePlaces, IsPlaceBelow, border_within}}
-use Rattle.fb_network.proofs.{Equals.{same_bytes}, Readings.{reading_nothing}}
-
-found_name : (xs : List Instance) (name : List ℕ) (i : Instance) → instance_named xs name ≡ Some i → i.name ≡ name
-found_name xs name i e = same_bytes i.name name (passes_in_find (λ (j : Instance). is_at (name_cmp j.name) name) xs i e).passes
+use Rattle.fb_network.proofs.{Composing.{found_by_name}, Readings.{reading_both, reading_nothing}}
 
 -- the borders of a port, by numbers and in plain
 places_filter : (prefixes : List PlainPrefix) (sort : Sort) (port : List ℕ) (es : List Edge) → map (path_at prefixes) (border_places_at sort port es) ≡ map (λ (b : Border). b.place) (filter (belongs sort port) (map (border_at prefixes) es))
@@ -51,38 +47,36 @@ behind_reads prefixes nets table xs sort own (Of name port) is says = by_found (
   where
     by_found : (a : Option Standing) (b : Option Instance) → instance_named xs name ≡ b → StandsFor prefixes nets a b → ArePlaces prefixes (places_of_found sort port own a) (behind_found nets sort name port b)
     by_found None None e p = reading_nothing IsPlaceBelow path_at prefixes
-    by_found (Some s) (Some i) e p = stands_read prefixes nets sort port name own s i says (found_name xs name i e) p.0 p.1
+    by_found (Some s) (Some i) e p = stands_read prefixes nets sort port name own s i says (found_by_name xs name i e).name_is p.0 p.1
     by_found a b e p = absurd p
 
-from_says : (prefixes : List PlainPrefix) (sort : Sort) (from : Place) (ts : List Place) → map (link_at prefixes) (joins_from sort ts from) ≡ links_from sort (map (path_at prefixes) ts) (path_at prefixes from)
-from_says prefixes sort from [] = refl
-from_says prefixes sort from (t ∷ ts) = ap (λ (ls : List Link). link_at prefixes (record { sort = sort; from = from; to = t }) ∷ ls) (from_says prefixes sort from ts)
-
-from_below : (count : ℕ) (sort : Sort) (from : Place) (ts : List Place) → from.prefix < count → All (IsPlaceBelow count) ts → All (IsJoinBelow count) (joins_from sort ts from)
-from_below count sort from ts lt all = All-map (IsJoinBelow count) (λ (to : Place). record { sort = sort; from = from; to = to }) ts (All-weaker (IsPlaceBelow count) (λ (to : Place). IsJoinBelow count (record { sort = sort; from = from; to = to })) (λ to b. (lt, b)) ts all)
-
-pairs_say : (prefixes : List PlainPrefix) (sort : Sort) (fs ts : List Place) → map (link_at prefixes) (join_pairs sort fs ts) ≡ link_pairs sort (map (path_at prefixes) fs) (map (path_at prefixes) ts)
-pairs_say prefixes sort [] ts = refl
-pairs_say prefixes sort (f ∷ fs) ts = map-append (link_at prefixes) (joins_from sort ts f) (join_pairs sort fs ts) ∙ (λ i. from_says prefixes sort f ts i ++ pairs_say prefixes sort fs ts i)
-
-pairs_below : (count : ℕ) (sort : Sort) (fs ts : List Place) → All (IsPlaceBelow count) fs → All (IsPlaceBelow count) ts → All (IsJoinBelow count) (join_pairs sort fs ts)
-pairs_below count sort [] ts p q = All-nil (IsJoinBelow count)
-pairs_below count sort (f ∷ fs) ts p q =
-    All-append (IsJoinBelow count) (joins_from sort ts f) (join_pairs sort fs ts) (from_below count sort f ts (All-head (IsPlaceBelow count) f fs p) q) (pairs_below count sort fs ts (All-tail (IsPlaceBelow count) f fs p) q)
+-- the links from one place
+from_reads : (prefixes : List PlainPrefix) (sort : Sort) (from : Place) (ts : List Place) (ys : List (List ℕ)) → from.prefix < length prefixes → ArePlaces prefixes ts ys → AreJoins prefixes (joins_from sort ts from) (links_from sort ys (path_at prefixes from))
+from_reads prefixes sort from ts ys lt q =
+    let join : Place → Join = λ to. record { sort = sort; from = from; to = to } in
+    let link : List ℕ → Link = λ to. record { sort = sort; from = path_at prefixes from; to = to } in
+    record {
+      in_range = All-map (IsJoinBelow (length prefixes)) join ts (All-weaker (IsPlaceBelow (length prefixes)) (λ to. IsJoinBelow (length prefixes) (join to)) (λ to b. (lt, b)) ts q.in_range);
+      is = map-map (link_at prefixes) join ts ∙ sym (map-map link (path_at prefixes) ts) ∙ ap (map link) q.is;
+    }
 
 -- the links of the pairs of places
 pub pairs_read : (prefixes : List PlainPrefix) (sort : Sort) (fs ts : List Place) (xs ys : List (List ℕ)) → ArePlaces prefixes fs xs → ArePlaces prefixes ts ys → AreJoins prefixes (join_pairs sort fs ts) (link_pairs sort xs ys)
-pairs_read prefixes sort fs ts xs ys p q = record { in_range = pairs_below (length prefixes) sort fs ts p.in_range q.in_range; is = pairs_say prefixes sort fs ts ∙ (λ i. link_pairs sort (p.is i) (q.is i)) }
-
-edges_say : (prefixes : List PlainPrefix) (sort : Sort) (port : List ℕ) (ps : List Place) → map (border_at prefixes) (edges_of_end sort (Own port) ps) ≡ end_borders sort (Own port) (map (path_at prefixes) ps)
-edges_say prefixes sort port [] = refl
-edges_say prefixes sort port (p ∷ ps) = ap (λ (bs : List Border). border_at prefixes (record { sort = sort; port = port; place = p }) ∷ bs) (edges_say prefixes sort port ps)
+pairs_read prefixes sort fs ts xs ys p q = rw (← p.is) (by_pairs fs p.in_range)
+  where
+    by_pairs : (fs : List Place) → All (IsPlaceBelow (length prefixes)) fs → AreJoins prefixes (join_pairs sort fs ts) (link_pairs sort (map (path_at prefixes) fs) ys)
+    by_pairs [] all = reading_nothing IsJoinBelow link_at prefixes
+    by_pairs (f ∷ fs) all =
+        reading_both IsJoinBelow link_at prefixes (joins_from sort ts f) (join_pairs sort fs ts) (links_from sort ys (path_at prefixes f)) (link_pairs sort (map (path_at prefixes) fs) ys)
+        (from_reads prefixes sort f ts ys (All-head (IsPlaceBelow (length prefixes)) f fs all) q) (by_pairs fs (All-tail (IsPlaceBelow (length prefixes)) f fs all))
 
 -- the borders of an end
 pub end_edges_read : (prefixes : List PlainPrefix) (sort : Sort) (end : End) (ps : List Place) (ts : List (List ℕ)) → ArePlaces prefixes ps ts → AreEdges prefixes (edges_of_end sort end ps) (end_borders sort end ts)
 end_edges_read prefixes sort (Own port) ps ts p =
+    let edge : Place → Edge = λ place. record { sort = sort; port = port; place = place } in
+    let border : List ℕ → Border = λ place. record { sort = sort; port = port; place = place } in
     record {
-      in_range = All-map (IsEdgeBelow (length prefixes)) (λ (place : Place). record { sort = sort; port = port; place = place }) ps p.in_range;
-      is = edges_say prefixes sort port ps ∙ ap (end_borders sort (Own port)) p.is;
+      in_range = All-map (IsEdgeBelow (length prefixes)) edge ps p.in_range;
+      is = map-map (border_at prefixes) edge ps ∙ sym (map-map border (path_at prefixes) ps) ∙ ap (map border) p.is;
     }
 end_edges_read prefixes sort (Of name port) ps ts p = reading_nothing IsEdgeBelow border_at prefixes

@@ -58,23 +58,18 @@ input_step {view = view} {sort = sort} {network = network} clean (Within inner n
     let into : side_at view sort inner a' ≡ Some Input = sym (side_at-inner sort a' (no_step_from_nothing s) i) ∙ (rw e at h) in
     rw f (side_at-inner sort b' (no_step_to_nothing s) i ∙ input_step (clean_inner clean i) s into)
 
--- what a chain from inside a subapplication reaches, where it stays inside
-pub record Reaches (view : View) (sort : Sort) (inner : PlainNetwork) (name : List ℕ) (from b : Place) : Type 0 where
+-- what a step or a chain from inside a subapplication reaches, where it stays inside
+pub record Reaches (Leads : Place → Type 0) (name : List ℕ) (b : Place) : Type 0 where
   pub to : Place
   pub to_is : b ≡ name ∷ to
-  pub chain : Chain view sort inner from to
+  pub leads : Leads to
 
 -- a step from an input inside a subapplication stays inside
-pub record StepsTo (view : View) (sort : Sort) (inner : PlainNetwork) (name : List ℕ) (from b : Place) : Type 0 where
-  pub to : Place
-  pub to_is : b ≡ name ∷ to
-  pub step : Step view sort inner from to
-
-pub step_inside : {view : View} {sort : Sort} {network inner : PlainNetwork} {name : List ℕ} {a b : Place} (from : Place) → IsCleanThroughout view network → IsInner view network name inner → Step view sort network a b → a ≡ name ∷ from → (from ≡ [] → ⊥) → side_at view sort network a ≡ Some Input → StepsTo view sort inner name from b
+pub step_inside : {view : View} {sort : Sort} {network inner : PlainNetwork} {name : List ℕ} {a b : Place} (from : Place) → IsCleanThroughout view network → IsInner view network name inner → Step view sort network a b → a ≡ name ∷ from → (from ≡ [] → ⊥) → side_at view sort network a ≡ Some Input → Reaches (Step view sort inner from) name b
 step_inside {sort = sort} from clean i (Holds (Own x) d c e f) g n h = absurd (n (cc))
 step_inside {sort = sort} from clean i (Holds (Of j x) d c e f) g n h = let k = (here clean).sources sort _ _ c in absurd (cc)
 step_inside {view = view} {sort = sort} from clean i (Within inner2 name2 a' b' i2 e f s) g n h =
-    record { to = b'; to_is = cc; step = moved (λ (m : PlainNetwork) (q : Place). Step view sort m q b') i i2 (sym e ∙ g) s }
+    record { to = b'; to_is = cc; leads = moved (λ (m : PlainNetwork) (q : Place). Step view sort m q b') i i2 (sym e ∙ g) s }
 
 -- a border place inside a subapplication is one of it
 pub border_inside : {view : View} {network inner : PlainNetwork} {name : List ℕ} {a : Place} (from : Place) → IsInner view network name inner → IsBorderPlace view network a → a ≡ name ∷ from → (from ≡ [] → ⊥) → IsBorderPlace view inner from
@@ -82,14 +77,14 @@ border_inside from i (OwnPort port e) g n = absurd (n (cc))
 border_inside {view = view} from i (PortWithin inner2 name2 a' i2 e border) g n = moved (λ (m : PlainNetwork) (q : Place). IsBorderPlace view m q) i i2 (sym e ∙ g) border
 
 -- a chain from an input inside a subapplication stays inside
-pub stays_inside : {view : View} {sort : Sort} {network inner : PlainNetwork} {name : List ℕ} {a b : Place} (from : Place) → IsCleanThroughout view network → IsInner view network name inner → Chain view sort network a b → a ≡ name ∷ from → (from ≡ [] → ⊥) → side_at view sort network a ≡ Some Input → Reaches view sort inner name from b
+pub stays_inside : {view : View} {sort : Sort} {network inner : PlainNetwork} {name : List ℕ} {a b : Place} (from : Place) → IsCleanThroughout view network → IsInner view network name inner → Chain view sort network a b → a ≡ name ∷ from → (from ≡ [] → ⊥) → side_at view sort network a ≡ Some Input → Reaches (Chain view sort inner from) name b
 stays_inside from clean i (One s) g n h =
     let t = step_inside from clean i s g n h in
-    record { to = t.to; to_is = t.to_is; chain = One t.step }
+    record { to = t.to; to_is = t.to_is; leads = One t.leads }
 stays_inside {view = view} {sort = sort} {network = network} {inner = inner} from clean i (More b s border rest) g n h =
     let t = step_inside from clean i s g n h in
-    let on = stays_inside t.to clean i rest t.to_is (no_step_to_nothing t.step) (input_step clean s h) in
-    record { to = on.to; to_is = on.to_is; chain = More t.to t.step (border_inside t.to i border t.to_is (no_step_to_nothing t.step)) on.chain }
+    let on = stays_inside t.to clean i rest t.to_is (no_step_to_nothing t.leads) (input_step clean s h) in
+    record { to = on.to; to_is = on.to_is; leads = More t.to t.leads (border_inside t.to i border t.to_is (no_step_to_nothing t.leads)) on.leads }
 
 -- no step leaves an own output
 pub no_step_from_output : {view : View} {sort : Sort} {network : PlainNetwork} {a b : Place} (port : List ℕ) → IsCleanThroughout view network → Step view sort network a b → a ≡ port ∷ [] → side_at view sort network a ≡ Some Output → ⊥
@@ -133,15 +128,12 @@ composed_connection {view = view} {sort = sort} {network = network} s (Own y) cl
     absurd (no_chain_from_output y clean rest f (rw f ((here clean).destinations sort _ _ c)))
 composed_connection {view = view} {sort = sort} {network = network} {b = b} {c = c'} s (Of j y) clean c f border rest =
     let found = inner_at_border j y border f in
-    let on : Reaches view sort found.0 j (y ∷ []) c' =
-    stays_inside (y ∷ []) clean found.1 rest f (λ e. cc) (rw f ((here clean).destinations sort _ _ c)) in
-    record { source = s; destination = Of j y; connected = c; before = inl refl; after = inr (record { inner = found.0; name = j; port = y; to = on.to; is_inner = found.1; end_is = refl; to_is = on.to_is; chain = on.chain }) }
+    let on : Reaches (Chain view sort found.0 (y ∷ [])) j c' = stays_inside (y ∷ []) clean found.1 rest f (λ e. cc) (rw f ((here clean).destinations sort _ _ c)) in
+    record { source = s; destination = Of j y; connected = c; before = inl refl; after = inr (record { inner = found.0; name = j; port = y; to = on.to; is_inner = found.1; end_is = refl; to_is = on.to_is; chain = on.leads }) }
 
 -- a chain of a clean network is composed
 pub composed : {view : View} {sort : Sort} {network : PlainNetwork} {a b : Place} → IsCleanThroughout view network → Chain view sort network a b → IsComposed view sort network a b
 composed clean (One (Holds s d c e f)) = inr (record { source = s; destination = d; connected = c; before = inl e; after = inl f })
 composed clean (One (Within inner name a' b' i e f s)) = inl (record { inner = inner; name = name; from = a'; to = b'; is_inner = i; from_is = e; to_is = f; chain = One s })
-composed {view = view} {sort = sort} {network = network} {a = a} {b = b'} clean (More b (Holds s d c e f) border rest) =
-    inr (subst (λ (q : Place). Crosses view sort network q b') (sym e) (composed_connection s d clean c f border rest))
-composed {view = view} {sort = sort} {network = network} {a = a} {b = c} clean (More b (Within inner name a' b' i e f s) border rest) =
-    subst (λ (q : Place). IsComposed view sort network q c) (sym e) (composed_step inner name a' b' i f s border (composed clean rest))
+composed clean (More b (Holds s d c e f) border rest) = rw e (inr (composed_connection s d clean c f border rest))
+composed clean (More b (Within inner name a' b' i e f s) border rest) = rw e (composed_step inner name a' b' i f s border (composed clean rest))

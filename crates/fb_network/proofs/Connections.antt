@@ -1,16 +1,16 @@
 -- The links and borders of connections, read by the prefixes of a draft.
-use Rattle.std.proofs.Common.{ℕ, ◌≡◌, ◌<◌, ◌+◌, List, [], ◌∷◌, ◌++◌, Option, Some, None, length, map, take, get_or, refl, sym, ap, subst, ◌∙◌, arith, append_assoc, append-nil, length-append}
-use Rattle.std.proofs.{lemmas.List.{length-map}, lemmas.Option.{slice_get-map, slice_get_read, slice_get_within}}
+use Rattle.std.proofs.Common.{ℕ, ◌≡◌, ◌<◌, ◌+◌, List, [], ◌∷◌, ◌++◌, Option, Some, length, map, take, get_or, refl, sym, ap, subst, ◌∙◌, arith, append_assoc, append-nil, length-append}
+use Rattle.std.proofs.{lemmas.List.{length-map}, lemmas.List.Concat.{flat_map-append}, lemmas.Option.{slice_get-map, slice_get_read, slice_get_within}}
 use Rattle.std.specs.{Prelude.{slice_get, flat_map, option_map, option_and_then}, List.{All}}
 use Rattle.fb_tree.specs.declared.network.Sort.{Sort}
-use Rattle.fb_network.specs.{declared.network.Port.{Port}, declared.network.Instance.{Instance}, declared.network.Connection.{Connection}}
-use Rattle.fb_network.specs.{declared.flat.Link.{Link}, declared.flat.Border.{Border}, declared.place.Place.{Place}, declared.entries.Edge.{Edge}}
+use Rattle.fb_network.specs.{declared.network.Port.{Port}, declared.network.Instance.{Instance}, declared.network.Connection.{Connection}, declared.network.End.{End}}
+use Rattle.fb_network.specs.{declared.flat.Link.{Link}, declared.place.Place.{Place}, declared.entries.Edge.{Edge}}
 use Rattle.fb_network.specs.{declared.draft.Draft.{Draft}, declared.table.Standing.{Standing}, Network.{View, instance_named, place_of}, Clean.{adapter_at}}
 use Rattle.fb_network.specs.{Plain.{PlainNetwork}, PlainPrefix.{PlainPrefix}, Ready.{Nets}}
 use Rattle.fb_network.specs.Composed.{adapter_links, behind_of, connection_borders, connection_links, end_borders, link_pairs, links_of_sort}
-use Rattle.fb_network.specs.Standing.{AddsConnections, AddsLinks, AreEdgesOf, AreNamed, HasInstances, HasOwn, IsTable, Says, StandsFor, end_text, own_place, own_texts}
+use Rattle.fb_network.specs.Standing.{AddsConnections, AddsLinks, AreEdgesOf, AreNamed, HasInstances, HasOwn, IsTable, Says, end_text, own_place, own_texts}
 use Rattle.fb_network.specs.Behind.{AreMembers, adapter_joins, connection_edges, edges_of_end, join_pairs, places_behind}
-use Rattle.fb_network.specs.{Laid.{IsEdgeBelow, border_at, path_at, path_in, text_or_nothing}, Reading.{AreEdges, AreJoins, ArePlaces, Grows, IsPlaceBelow}}
+use Rattle.fb_network.specs.{Laid.{IsEdgeBelow, border_at, path_at, path_in, text_or_nothing}, Reading.{AreEdges, ArePlaces, Grows, IsPlaceBelow}}
 use Rattle.fb_network.proofs.{Behinds.{behind_reads, end_edges_read, pairs_read}, Drafts.{added}, PortMembers.{adapter_reads, members_grown}}
 use Rattle.fb_network.proofs.Readings.{get_left, get_right, joins_grown, places_grown, reading_both, reading_nothing}
 use Rattle.fb_network.proofs.Standings.{flat_map_push, grows_none, grows_twice, next_taken, table_grown}
@@ -24,52 +24,36 @@ pub own_name : (network : PlainNetwork) (k : ℕ) (i : Instance) → k < length 
 own_name network k i lt e =
     let names = map (λ (x : Instance). x.name) network.instances in
     let sources = map (λ (c : Connection). end_text c.source) network.connections in
-    let long = length-map network.instances (λ (x : Instance). x.name) in
-    let both = length-append names sources in
-    get_left (names ++ sources) (map (λ (c : Connection). end_text c.destination) network.connections) k (omega (arith, lt, long, both))
-    ∙ get_left names sources k (omega (arith, lt, long)) ∙ get_mapped (λ (x : Instance). x.name) network.instances k i lt e
+    get_left (names ++ sources) (map (λ (c : Connection). end_text c.destination) network.connections) k (grind (arith, length-map, length-append))
+    ∙ get_left names sources k (grind (arith, length-map)) ∙ get_mapped (λ (x : Instance). x.name) network.instances k i lt e
 
 pub own_source : (network : PlainNetwork) (k : ℕ) (c : Connection) → k < length network.connections → c ≡ get_or network.connections k c → slice_get (own_texts network) (length network.instances + k) ≡ Some (end_text c.source)
 own_source network k c lt e =
     let names = map (λ (x : Instance). x.name) network.instances in
     let sources = map (λ (x : Connection). end_text x.source) network.connections in
-    let long = length-map network.instances (λ (x : Instance). x.name) in
-    let wide = length-map network.connections (λ (x : Connection). end_text x.source) in
-    let both = length-append names sources in
-    get_left (names ++ sources) (map (λ (x : Connection). end_text x.destination) network.connections) (length network.instances + k) (omega (arith, lt, long, wide, both))
-    ∙ get_right names sources k (length network.instances + k) (omega (arith, long)) ∙ get_mapped (λ (x : Connection). end_text x.source) network.connections k c lt e
+    get_left (names ++ sources) (map (λ (x : Connection). end_text x.destination) network.connections) (length network.instances + k) (grind (arith, length-map, length-append))
+    ∙ get_right names sources k (length network.instances + k) (grind (arith, length-map)) ∙ get_mapped (λ (x : Connection). end_text x.source) network.connections k c lt e
 
 pub own_destination : (network : PlainNetwork) (k : ℕ) (c : Connection) → k < length network.connections → c ≡ get_or network.connections k c → slice_get (own_texts network) (length network.connections + (length network.instances + k)) ≡ Some (end_text c.destination)
 own_destination network k c lt e =
     let names = map (λ (x : Instance). x.name) network.instances in
     let sources = map (λ (x : Connection). end_text x.source) network.connections in
-    let long = length-map network.instances (λ (x : Instance). x.name) in
-    let wide = length-map network.connections (λ (x : Connection). end_text x.source) in
-    let both = length-append names sources in
-    get_right (names ++ sources) (map (λ (x : Connection). end_text x.destination) network.connections) k (length network.connections + (length network.instances + k)) (omega (arith, long, wide, both))
+    get_right (names ++ sources) (map (λ (x : Connection). end_text x.destination) network.connections) k (length network.connections + (length network.instances + k)) (grind (arith, length-map, length-append))
     ∙ get_mapped (λ (x : Connection). end_text x.destination) network.connections k c lt e
 
 -- an own text is at its place
 pub own_says : (prefixes : List PlainPrefix) (network : PlainNetwork) (k : ℕ) (text : List ℕ) → HasOwn prefixes network → slice_get (own_texts network) k ≡ Some text → Says prefixes (own_place k) text
 own_says prefixes network k text has e =
-    record {
-      in_range = slice_get_within prefixes 0 _ has;
-      is = ap (λ (o : Option PlainPrefix). path_in o k) has ∙ ap text_or_nothing e;
-    }
+    record { in_range = slice_get_within prefixes 0 _ has; is = ap (λ (o : Option PlainPrefix). path_in o k) has ∙ ap text_or_nothing e }
 
 -- the ends of a connection are at their places
 pub says_source : (prefixes : List PlainPrefix) (network : PlainNetwork) (ys : List Connection) (k : ℕ) (c : Connection) (place : Place) → HasOwn prefixes network → ys ≡ network.connections → k < length ys → c ≡ get_or ys k c → place ≡ own_place (length network.instances + k) → Says prefixes place (end_text c.source)
 says_source prefixes network ys k c place has same lt e is =
-    let within : k < length network.connections = subst (λ (cs : List Connection). k < length cs) same lt in
-    let at : c ≡ get_or network.connections k c = e ∙ ap (λ (cs : List Connection). get_or cs k c) same in
-    subst (λ (x : Place). Says prefixes x (end_text c.source)) (sym is) (own_says prefixes network (length network.instances + k) (end_text c.source) has (own_source network k c within at))
+    rw is (own_says prefixes network (length network.instances + k) (end_text c.source) has (own_source network k c (rw same at lt) (rw same at e)))
 
 pub says_destination : (prefixes : List PlainPrefix) (network : PlainNetwork) (ys : List Connection) (k : ℕ) (c : Connection) (place : Place) → HasOwn prefixes network → ys ≡ network.connections → k < length ys → c ≡ get_or ys k c → place ≡ own_place (length ys + (length network.instances + k)) → Says prefixes place (end_text c.destination)
 says_destination prefixes network ys k c place has same lt e is =
-    let within : k < length network.connections = subst (λ (cs : List Connection). k < length cs) same lt in
-    let at : c ≡ get_or network.connections k c = e ∙ ap (λ (cs : List Connection). get_or cs k c) same in
-    subst (λ (x : Place). Says prefixes x (end_text c.destination)) (sym (is ∙ ap (λ (cs : List Connection). own_place (length cs + (length network.instances + k))) same))
-    (own_says prefixes network (length network.connections + (length network.instances + k)) (end_text c.destination) has (own_destination network k c within at))
+    rw (is, same) (own_says prefixes network (length network.connections + (length network.instances + k)) (end_text c.destination) has (own_destination network k c (rw same at lt) (rw same at e)))
 
 pub are_named : (prefixes : List PlainPrefix) (network : PlainNetwork) → HasOwn prefixes network → AreNamed prefixes network.instances
 are_named prefixes network has k i lt e = own_says prefixes network k i.name has (own_name network k i lt e)
@@ -83,12 +67,7 @@ own_grown prefixes new network g has = ap (λ (fs : List PlainPrefix). slice_get
 
 -- the instances of a table
 pub table_instances : (prefixes : List PlainPrefix) (nets : Nets) (table : List ℕ → Option Standing) (xs : List Instance) → IsTable prefixes nets table xs → HasInstances table xs
-table_instances prefixes nets table xs is = λ name. by_found (table name) (instance_named xs name) (is name)
-  where
-    by_found : (a : Option Standing) (b : Option Instance) → StandsFor prefixes nets a b → option_map (λ (s : Standing). s.instance) a ≡ b
-    by_found None None p = refl
-    by_found (Some s) (Some i) p = ap Some p.0
-    by_found a b p = absurd p
+table_instances prefixes nets table xs is name = grind (arith, is name)
 
 pub standing_type : (view : View) (o : Option Standing) → option_and_then (λ (s : Standing). view s.instance.type_name) o ≡ option_and_then (λ (i : Instance). view i.type_name) (option_map (λ (s : Standing). s.instance) o)
 standing_type view o = grind arith
@@ -96,11 +75,7 @@ standing_type view o = grind arith
 -- no links more
 pub adds_none : (draft : Draft) → AddsLinks draft draft []
 adds_none draft =
-    record {
-      grows = grows_none draft.prefixes.items;
-      same_blocks = refl;
-      links = λ links p. subst (λ (ls : List Link). AreJoins draft.prefixes.items draft.joins.items ls) (sym (append-nil links)) p;
-    }
+    record { grows = grows_none draft.prefixes.items; same_blocks = refl; links = λ links p. rw (append-nil links) p }
 
 -- first some links, and then others
 pub adds_both : (start mid new : Draft) (xs ys : List Link) → AddsLinks start mid xs → AddsLinks mid new ys → AddsLinks start new (xs ++ ys)
@@ -108,7 +83,7 @@ adds_both start mid new xs ys p q =
     record {
       grows = grows_twice start.prefixes.items mid.prefixes.items new.prefixes.items p.grows q.grows;
       same_blocks = q.same_blocks ∙ p.same_blocks;
-      links = λ links r. subst (λ (ls : List Link). AreJoins new.prefixes.items new.joins.items ls) (append_assoc links xs ys) (q.links (links ++ xs) (p.links links r));
+      links = λ links r. rw (append_assoc links xs ys) at (q.links (links ++ xs) (p.links links r));
     }
 
 -- the links of pairs of places
@@ -141,25 +116,13 @@ adds_members old new between names ports plugs sockets ns ms reach named g p h q
 -- the links of one connection, by the places behind its ends
 pub adds_connection : (view : View) (network : PlainNetwork) (table : List ℕ → Option Standing) (old new : Draft) (c : Connection) (source destination : Place) (froms tos : List Place) → Says old.prefixes.items source (end_text c.source) → Says old.prefixes.items destination (end_text c.destination) → froms ≡ places_behind table c.sort source c.source → tos ≡ places_behind table c.sort destination c.destination → AddsLinks old new (links_of_sort c.sort (adapter_at view network (place_of c.source)) (map (path_at old.prefixes.items) froms) (map (path_at old.prefixes.items) tos)) → AddsConnections view network table old new (c ∷ [])
 adds_connection view network table old new c source destination froms tos from_says to_says froms_are tos_are adds nets is =
-    let prefixes = old.prefixes.items in
-    let before : map (path_at prefixes) froms ≡ behind_of (instance_named network.instances) nets c.sort c.source =
-    ap (map (path_at prefixes)) froms_are ∙ (behind_reads prefixes nets table network.instances c.sort source c.source is from_says).is in
-    let after : map (path_at prefixes) tos ≡ behind_of (instance_named network.instances) nets c.sort c.destination =
-    ap (map (path_at prefixes)) tos_are ∙ (behind_reads prefixes nets table network.instances c.sort destination c.destination is to_says).is in
-    let one : links_of_sort c.sort (adapter_at view network (place_of c.source)) (map (path_at prefixes) froms) (map (path_at prefixes) tos) ≡ connection_links view network (instance_named network.instances) nets c =
-    λ i. links_of_sort c.sort (adapter_at view network (place_of c.source)) (before i) (after i) in
-    subst (λ (ls : List Link). AddsLinks old new ls) (one ∙ sym (append-nil (connection_links view network (instance_named network.instances) nets c))) adds
+    let before = (behind_reads old.prefixes.items nets table network.instances c.sort source c.source is from_says).is in
+    let after = (behind_reads old.prefixes.items nets table network.instances c.sort destination c.destination is to_says).is in
+    rw (append-nil (connection_links view network (instance_named network.instances) nets c)) (rw (froms_are, before, tos_are, after) at adds)
 
 -- places behind an end are in range
-pub behind_below : (prefixes : List PlainPrefix) (network : PlainNetwork) (table : List ℕ → Option Standing) (sort : Sort) (own : Place) (c : Connection) (places : List Place) → (nets : Nets) × IsTable prefixes nets table network.instances → Says prefixes own (end_text c.source) → places ≡ places_behind table sort own c.source → All (IsPlaceBelow (length prefixes)) places
-behind_below prefixes network table sort own c places laid says are = subst (All (IsPlaceBelow (length prefixes))) (sym are) (behind_reads prefixes laid.0 table network.instances sort own c.source laid.1 says).in_range
-
-pub behind_reach : (prefixes : List PlainPrefix) (network : PlainNetwork) (table : List ℕ → Option Standing) (sort : Sort) (own : Place) (c : Connection) (places : List Place) → (nets : Nets) × IsTable prefixes nets table network.instances → Says prefixes own (end_text c.destination) → places ≡ places_behind table sort own c.destination → All (IsPlaceBelow (length prefixes)) places
-behind_reach prefixes network table sort own c places laid says are = subst (All (IsPlaceBelow (length prefixes))) (sym are) (behind_reads prefixes laid.0 table network.instances sort own c.destination laid.1 says).in_range
-
--- no connection yet
-pub connects_none : (view : View) (network : PlainNetwork) (table : List ℕ → Option Standing) (draft : Draft) → AddsConnections view network table draft draft []
-connects_none view network table draft nets is = adds_none draft
+pub behind_below : (prefixes : List PlainPrefix) (network : PlainNetwork) (table : List ℕ → Option Standing) (sort : Sort) (own : Place) (end : End) (places : List Place) → (nets : Nets) × IsTable prefixes nets table network.instances → Says prefixes own (end_text end) → places ≡ places_behind table sort own end → All (IsPlaceBelow (length prefixes)) places
+behind_below prefixes network table sort own end places laid says are = rw are (behind_reads prefixes laid.0 table network.instances sort own end laid.1 says).in_range
 
 -- one connection more
 pub connects_more : (view : View) (network : PlainNetwork) (table : List ℕ → Option Standing) (start mid new : Draft) (ys : List Connection) (k : ℕ) (c : Connection) → ys ≡ network.connections → k < length ys → c ≡ get_or ys k c → AddsConnections view network table start mid (take k ys) → AddsConnections view network table mid new (c ∷ []) → AddsConnections view network table start new (take (k + 1) ys)
@@ -167,9 +130,7 @@ connects_more view network table start mid new ys k c same lt e p q nets is =
     let f = connection_links view network (instance_named network.instances) nets in
     let first = p nets is in
     let then = q nets (table_grown start.prefixes.items mid.prefixes.items nets table network.instances first.grows is) in
-    let both : flat_map f (take k ys) ++ flat_map f (c ∷ []) ≡ flat_map f (take (k + 1) ys) =
-    ap (λ (ls : List Link). flat_map f (take k ys) ++ ls) (append-nil (f c)) ∙ sym (flat_map_push f (take k ys) c) ∙ ap (flat_map f) (next_taken ys k c lt e) in
-    subst (λ (ls : List Link). AddsLinks start new ls) both (adds_both start mid new (flat_map f (take k ys)) (flat_map f (c ∷ [])) first then)
+    rw (← next_taken ys k c lt e, flat_map-append f (take k ys) (c ∷ [])) (adds_both start mid new (flat_map f (take k ys)) (flat_map f (c ∷ [])) first then)
 
 -- the borders of one connection more
 pub edges_more : (network : PlainNetwork) (table : List ℕ → Option Standing) (edges all : List Edge) (ys : List Connection) (k : ℕ) (c : Connection) (from to : Place) → ys ≡ network.connections → k < length ys → c ≡ get_or ys k c → from ≡ own_place (length network.instances + k) → to ≡ own_place (length ys + (length network.instances + k)) → all ≡ edges ++ connection_edges table from to c → AreEdgesOf network table edges (take k ys) → AreEdgesOf network table all (take (k + 1) ys)
@@ -183,8 +144,7 @@ edges_more network table edges all ys k c from to same lt e from_is to_is is p p
     let right = end_edges_read prefixes c.sort c.destination (places_behind table c.sort from c.source) (behind_of (instance_named network.instances) nets c.sort c.source) sources in
     let one : AreEdges prefixes (connection_edges table from to c) (f c) =
     reading_both IsEdgeBelow border_at prefixes (edges_of_end c.sort c.source (places_behind table c.sort to c.destination)) (edges_of_end c.sort c.destination (places_behind table c.sort from c.source)) (end_borders c.sort c.source (behind_of (instance_named network.instances) nets c.sort c.destination)) (end_borders c.sort c.destination (behind_of (instance_named network.instances) nets c.sort c.source)) left right in
-    let both : flat_map f (take k ys) ++ f c ≡ flat_map f (take (k + 1) ys) = sym (flat_map_push f (take k ys) c) ∙ ap (flat_map f) (next_taken ys k c lt e) in
-    subst (λ (bs : List Border). AreEdges prefixes all bs) both (added all (f c) is refl (p prefixes nets laid has) one)
+    rw (← next_taken ys k c lt e, flat_map_push f (take k ys) c) (added all (f c) is refl (p prefixes nets laid has) one)
 
 pub edges_none : (network : PlainNetwork) (table : List ℕ → Option Standing) (edges : List Edge) → edges ≡ [] → AreEdgesOf network table edges []
-edges_none network table edges none prefixes nets laid has = subst (λ (es : List Edge). AreEdges prefixes es []) (sym none) (reading_nothing IsEdgeBelow border_at prefixes)
+edges_none network table edges none prefixes nets laid has = rw none (reading_nothing IsEdgeBelow border_at prefixes)

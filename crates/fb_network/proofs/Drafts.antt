@@ -1,8 +1,8 @@
 -- A draft that has taken in an inner network.
-use Rattle.std.proofs.Common.{ℕ, ◌≡◌, List, ◌++◌, length, map, sym, ap, subst}
+use Rattle.std.proofs.Common.{ℕ, ◌≡◌, List, ◌++◌, length, map, ap, subst}
 use Rattle.fb_network.specs.{PlainFlat.{PlainFlat}, PlainPrefix.{PlainPrefix}, Composed.{block_within, link_within}}
-use Rattle.fb_network.specs.Laid.{IsLaid, block_at, border_at, edge_moved, flat_at, prefix_within, join_moved, leaf_moved, link_at}
-use Rattle.fb_network.specs.{Reading.{AreEdges, AreJoins, AreLeaves, Grows, IsInOrder, IsReading, TakesIn, border_within}, declared.entries.Leaf.{Leaf}}
+use Rattle.fb_network.specs.Laid.{IsLaid, edge_moved, flat_at, prefix_within, join_moved, leaf_moved}
+use Rattle.fb_network.specs.{Reading.{Grows, IsInOrder, IsReading, TakesIn}, declared.entries.Leaf.{Leaf}}
 use Rattle.fb_network.specs.{declared.entries.Join.{Join}, declared.entries.Edge.{Edge}, declared.draft.Draft.{Draft}, Once.{IsOnce}}
 use Rattle.std.specs.{List.{Contains}, declared.cmp.Ordering.{Ordering}}
 use Rattle.fb_tree.proofs.Text.Members.{contains_map, origin_in_map}
@@ -11,8 +11,7 @@ use Rattle.fb_network.proofs.Readings.{edges_moved, joins_grown, joins_moved, le
 -- more entries behind those that there are
 pub added : {E X : Type 0} {below : ℕ → E → Type 0} {at : List PlainPrefix → E → X} {prefixes : List PlainPrefix} {es fs : List E} {xs ys : List X} (all : List E) (zs : List X) → all ≡ es ++ fs → ys ≡ zs → IsReading below at prefixes es xs → IsReading below at prefixes fs ys → IsReading below at prefixes all (xs ++ zs)
 added {below = below} {at = at} {prefixes = prefixes} {es = es} {fs = fs} {xs = xs} {ys = ys} all zs is same p q =
-    subst (λ (ls : List _). IsReading below at prefixes ls (xs ++ zs)) (sym is)
-    (subst (λ (ls : List _). IsReading below at prefixes (es ++ fs) (xs ++ ls)) same (reading_both below at prefixes es fs xs ys p q))
+    rw (is, ← same) (reading_both below at prefixes es fs xs ys p q)
 
 pub taken_in : (old new : Draft) (name : List ℕ) (inner : PlainFlat) (edges : List Edge) (by : ℕ) (prefixes : List PlainPrefix) (leaves : List Leaf) (joins : List Join) (own : List Edge)
     → by ≡ length old.prefixes.items → new.prefixes.items ≡ old.prefixes.items ++ map (prefix_within name) prefixes
@@ -20,19 +19,13 @@ pub taken_in : (old new : Draft) (name : List ℕ) (inner : PlainFlat) (edges : 
     → IsLaid (length prefixes) leaves joins own → flat_at prefixes leaves joins own ≡ inner → TakesIn old new name inner edges
 taken_in old new name inner edges by prefixes leaves joins own count prefixes_are leaves_are joins_are edges_are laid is =
     let grows : Grows old.prefixes.items new.prefixes.items = (map (prefix_within name) prefixes, prefixes_are) in
-    let there = sym prefixes_are in
-    let moved_leaves = leaves_moved old.prefixes.items prefixes name by leaves count laid.leaves_below in
-    let moved_joins = joins_moved old.prefixes.items prefixes name by joins count laid.joins_below in
-    let moved_edges = edges_moved old.prefixes.items prefixes name by own count laid.edges_below in
     record {
       grows = grows;
       blocks = λ blocks p. added new.leaves.items (map (block_within name) inner.blocks) leaves_are (ap (λ (net : PlainFlat). map (block_within name) net.blocks) is) (leaves_grown grows p)
-          (subst (λ (fs : List PlainPrefix). AreLeaves fs (map (leaf_moved by) leaves) (map (block_within name) (map (block_at prefixes) leaves))) there moved_leaves);
+          (leaves_moved old.prefixes.items prefixes new.prefixes.items name by leaves count prefixes_are laid.leaves_below);
       links = λ links p. added new.joins.items (map (link_within name) inner.links) joins_are (ap (λ (net : PlainFlat). map (link_within name) net.links) is) (joins_grown grows p)
-          (subst (λ (fs : List PlainPrefix). AreJoins fs (map (join_moved by) joins) (map (link_within name) (map (link_at prefixes) joins))) there moved_joins);
-      borders = subst (λ (es : List Edge). AreEdges new.prefixes.items es (map (border_within name) inner.borders)) (sym edges_are)
-          (subst (λ (net : PlainFlat). AreEdges new.prefixes.items (map (edge_moved by) own) (map (border_within name) net.borders)) is
-          (subst (λ (fs : List PlainPrefix). AreEdges fs (map (edge_moved by) own) (map (border_within name) (map (border_at prefixes) own))) there moved_edges));
+          (joins_moved old.prefixes.items prefixes new.prefixes.items name by joins count prefixes_are laid.joins_below);
+      borders = rw (edges_are, ← is) (edges_moved old.prefixes.items prefixes new.prefixes.items name by own count prefixes_are laid.edges_below);
     }
 
 -- what is left in order says what the entries say

@@ -1,10 +1,9 @@
 -- What is composed, put in order, is the flat network.
-use Rattle.std.proofs.Common.{ℕ, ◌≡◌, ◌++◌, List, Option, length, map, refl, sym, subst, ◌∙◌}
+use Rattle.std.proofs.Common.{ℕ, ◌≡◌, ◌++◌, List, Option, length, map, refl, ◌∙◌}
 use Rattle.std.specs.{Prelude.{Contains, flat_map}, List.Sorted.{IsStrictlySortedBy}}
-use Rattle.fb_network.specs.{declared.flat.FlatBlock.{FlatBlock}, declared.flat.Link.{Link}, declared.flat.Border.{Border}, declared.entries.Leaf.{Leaf}}
-use Rattle.fb_network.specs.{declared.entries.Edge.{Edge}, declared.draft.Draft.{Draft}, declared.table.Standing.{Standing}, Plain.{PlainNetwork}}
-use Rattle.fb_network.specs.{LinkOrder.{border_cmp, link_cmp}, Network.{View, instance_named}, Clean.{IsCleanThroughout}, Flat.{AreLinks, AreBorders}}
-use Rattle.fb_network.specs.{Instances.{AreBlocks}, FlatNet.{IsFlat}, Ready.{Nets, AreFinished}}
+use Rattle.fb_network.specs.{declared.flat.FlatBlock.{FlatBlock}, declared.flat.Link.{Link}, declared.flat.Border.{Border}, declared.entries.Edge.{Edge}}
+use Rattle.fb_network.specs.{declared.draft.Draft.{Draft}, declared.table.Standing.{Standing}, Plain.{PlainNetwork}, LinkOrder.{border_cmp, link_cmp}}
+use Rattle.fb_network.specs.{Network.{View, instance_named}, Clean.{IsCleanThroughout}, FlatNet.{IsFlat}, Ready.{Nets, AreFinished}}
 use Rattle.fb_network.specs.Composed.{Instances, behind_of, composed_blocks, composed_borders, composed_links, inner_links, links_of_sort}
 use Rattle.fb_network.specs.{Part.{IsFlatInWhole, SameAdapters}, PlainFlat.{PlainFlat}, Laid.{IsLaid, border_at, link_at}}
 use Rattle.fb_network.specs.{Reading.{AreEdges, AreJoins, AreLeaves, IsFinish}, Standing.{AddsConnections, AreEdgesOf, HasOwn, HoldsInstances}}
@@ -24,16 +23,10 @@ same_links network instances nets same i =
 
 pub flat_of : {view : View} {network : PlainNetwork} {nets : Nets} (instances : Instances) (blocks : List FlatBlock) (made links : List Link) (found borders : List Border) → IsCleanThroughout view network → AreFinished view network nets → instances ≡ instance_named network.instances → blocks ≡ composed_blocks network nets → made ≡ composed_links view network instances nets → found ≡ composed_borders network instances nets → IsOrderOf made links → IsOrderOf found borders → IsStrictlySortedBy link_cmp links → IsStrictlySortedBy border_cmp borders → IsFlat view network (record { blocks = blocks; links = links; borders = borders })
 flat_of {view = view} {network = network} {nets = nets} instances blocks made links found borders clean ready table blocks_are links_are borders_are l b links_sorted borders_sorted =
-    let made_links : AreLinks view network made =
-    subst (λ (xs : List Link). AreLinks view network xs) (sym links_are)
-    (subst (λ (t : Instances). AreLinks view network (composed_links view network t nets)) (sym table) (composed_links_are clean ready)) in
-    let made_borders : AreBorders view network found =
-    subst (λ (xs : List Border). AreBorders view network xs) (sym borders_are)
-    (subst (λ (t : Instances). AreBorders view network (composed_borders network t nets)) (sym table) (composed_borders_are clean ready)) in
     record {
-      blocks = subst (λ (xs : List FlatBlock). AreBlocks view network xs) (sym blocks_are) (composed_blocks_are ready);
-      links = links_kept made links made_links l.kept l.added;
-      borders = borders_kept found borders made_borders b.kept b.added;
+      blocks = rw blocks_are (composed_blocks_are ready);
+      links = links_kept made links (rw (links_are, table) (composed_links_are clean ready)) l.kept l.added;
+      borders = borders_kept found borders (rw (borders_are, table) (composed_borders_are clean ready)) b.kept b.added;
       links_sorted = links_sorted;
       borders_sorted = borders_sorted;
     }
@@ -50,7 +43,7 @@ holds_all part network nets table start held draft edges own h adds are =
     let own_there = own_grown start.prefixes.items draft.prefixes.items network (grows_twice start.prefixes.items held.prefixes.items draft.prefixes.items h.grows more.grows) own in
     let stands = table_grown held.prefixes.items draft.prefixes.items nets table network.instances more.grows h.standing in
     record {
-      blocks = subst (λ (ls : List Leaf). AreLeaves draft.prefixes.items ls (composed_blocks network nets)) (sym more.same_blocks) (leaves_grown more.grows h.blocks);
+      blocks = rw more.same_blocks (leaves_grown more.grows h.blocks);
       links = more.links (flat_map (inner_links nets) network.instances) h.links;
       borders = are draft.prefixes.items nets stands own_there;
     }

@@ -82,27 +82,19 @@ own_end (Of i x) port e = absurd (cc)
 
 -- a border is composed
 pub border_composed : {view : View} {network : PlainNetwork} {sort : Sort} {port : List ℕ} {place : Place} → IsCleanThroughout view network → IsBorder view network sort port place → IsComposedBorder view network sort port place
-border_composed {view = view} {network = network} {sort = sort} {port = port} {place = place} clean border = by_chain border.chain
+border_composed {view = view} {network = network} {sort = sort} {port = port} {place = place} clean border = elim border.chain [ inl c ↦ inward (composed clean c) | inr c ↦ outward (composed clean c) ]
   where
     inward : IsComposed view sort network (port ∷ []) place → IsComposedBorder view network sort port place
     inward (inl l) = absurd (no_chain_from_nothing l.chain (let k = l.from_is in cc))
-    inward (inr l) = record { end = l.destination; connected = inl (subst (λ (m : End). IsConnected network sort m l.destination) (own l.before) l.connected); behind = behind_after l.destination border.leaf l.after }
-      where
-        own : ((port ∷ []) ≡ place_of l.source) ⊎ LeavesInner view sort network (port ∷ []) l.source → l.source ≡ Own port
-        own (inl e) = own_end l.source port e
-        own (inr m) = absurd (no_chain_from_nothing m.chain (let k = m.from_is in cc))
+    inward (inr l) =
+        let own : l.source ≡ Own port = elim l.before [ inl e ↦ own_end l.source port e | inr m ↦ absurd (no_chain_from_nothing m.chain (let k = m.from_is in cc)) ] in
+        record { end = l.destination; connected = inl (rw own at l.connected); behind = behind_after l.destination border.leaf l.after }
 
     outward : IsComposed view sort network place (port ∷ []) → IsComposedBorder view network sort port place
     outward (inl l) = absurd (no_chain_to_nothing l.chain (let k = l.to_is in cc))
-    outward (inr l) = record { end = l.source; connected = inr (subst (λ (m : End). IsConnected network sort l.source m) (own l.after) l.connected); behind = behind_before l.source border.leaf l.before }
-      where
-        own : ((port ∷ []) ≡ place_of l.destination) ⊎ EntersInner view sort network l.destination (port ∷ []) → l.destination ≡ Own port
-        own (inl e) = own_end l.destination port e
-        own (inr m) = absurd (no_chain_to_nothing m.chain (let k = m.to_is in cc))
-
-    by_chain : Chain view sort network (port ∷ []) place ⊎ Chain view sort network place (port ∷ []) → IsComposedBorder view network sort port place
-    by_chain (inl c) = inward (composed clean c)
-    by_chain (inr c) = outward (composed clean c)
+    outward (inr l) =
+        let own : l.destination ≡ Own port = elim l.after [ inl e ↦ own_end l.destination port e | inr m ↦ absurd (no_chain_to_nothing m.chain (let k = m.to_is in cc)) ] in
+        record { end = l.source; connected = inr (rw own at l.connected); behind = behind_before l.source border.leaf l.before }
 
 -- a chain of a subapplication is one of the network
 pub chain_within : {view : View} {sort : Sort} {network inner : PlainNetwork} {name : List ℕ} {a b : Place} → IsInner view network name inner → Chain view sort inner a b → Chain view sort network (name ∷ a) (name ∷ b)
@@ -121,39 +113,32 @@ leaf_behind end (BehindBorder inner name port to i e g border) = LeafWithin inne
 
 -- a chain leads from what is behind a source, through a chain or a step from the source
 pub chain_from : {view : View} {sort : Sort} {network : PlainNetwork} {a b : Place} (s d : End) → IsCleanThroughout view network → IsConnected network sort s d → IsBehind view sort network s a → Chain view sort network (place_of s) b → Chain view sort network a b
-chain_from {view = view} {sort = sort} {network = network} {a = a} {b = b} s d clean c (BlockItself name type port block e g) on =
-    subst (λ (q : Place). Chain view sort network q b) (ap place_of e ∙ sym g) on
-chain_from {view = view} {sort = sort} {network = network} {a = a} {b = b} s d clean c (BehindBorder inner name port to i e g border) on =
-    let from_port : Chain view sort network (name ∷ port ∷ []) b = subst (λ (q : Place). Chain view sort network q b) (ap place_of e) on in
-    let is_source : IsSource view sort network (Of name port) = subst (λ (m : End). IsSource view sort network m) e ((here clean).sources sort s d c) in
-    let whole : Chain view sort network (name ∷ to) b =
-    elim border.chain [
+chain_from s d clean c (BlockItself name type port block e g) on = rw g (rw e at on)
+chain_from {view = view} {sort = sort} {network = network} {b = b} s d clean c (BehindBorder inner name port to i e g border) on =
+    let is_source : IsSource view sort network (Of name port) = rw e at ((here clean).sources sort s d c) in
+    let whole : Chain view sort network (name ∷ to) b = elim border.chain [
       | inl chain ↦ absurd (no_chain_from_output port (clean_inner clean i) chain refl (sym (side_at-within sort port [] i) ∙ is_source))
-      | inr chain ↦ joined (name ∷ port ∷ []) (chain_within i chain) (PortWithin inner name (port ∷ []) i refl (OwnPort port refl)) from_port
+      | inr chain ↦ joined (name ∷ port ∷ []) (chain_within i chain) (PortWithin inner name (port ∷ []) i refl (OwnPort port refl)) (rw e at on)
     ] in
-    subst (λ (q : Place). Chain view sort network q b) (sym g) whole
+    rw g whole
 
 pub chain_to : {view : View} {sort : Sort} {network : PlainNetwork} {a b : Place} (s d : End) → IsCleanThroughout view network → IsConnected network sort s d → IsBehind view sort network d b → Chain view sort network a (place_of d) → Chain view sort network a b
-chain_to {view = view} {sort = sort} {network = network} {a = a} {b = b} s d clean c (BlockItself name type port block e g) on =
-    subst (λ (q : Place). Chain view sort network a q) (ap place_of e ∙ sym g) on
-chain_to {view = view} {sort = sort} {network = network} {a = a} {b = b} s d clean c (BehindBorder inner name port to i e g border) on =
-    let to_port : Chain view sort network a (name ∷ port ∷ []) = subst (λ (q : Place). Chain view sort network a q) (ap place_of e) on in
-    let is_destination : IsDestination view sort network (Of name port) = subst (λ (m : End). IsDestination view sort network m) e ((here clean).destinations sort s d c) in
-    let whole : Chain view sort network a (name ∷ to) =
-    elim border.chain [
+chain_to s d clean c (BlockItself name type port block e g) on = rw g (rw e at on)
+chain_to {view = view} {sort = sort} {network = network} {a = a} s d clean c (BehindBorder inner name port to i e g border) on =
+    let is_destination : IsDestination view sort network (Of name port) = rw e at ((here clean).destinations sort s d c) in
+    let whole : Chain view sort network a (name ∷ to) = elim border.chain [
       | inr chain ↦ absurd (no_chain_to_input port (clean_inner clean i) chain refl (sym (side_at-within sort port [] i) ∙ is_destination))
-      | inl chain ↦ joined (name ∷ port ∷ []) to_port (PortWithin inner name (port ∷ []) i refl (OwnPort port refl)) (chain_within i chain)
+      | inl chain ↦ joined (name ∷ port ∷ []) (rw e at on) (PortWithin inner name (port ∷ []) i refl (OwnPort port refl)) (chain_within i chain)
     ] in
-    subst (λ (q : Place). Chain view sort network a q) (sym g) whole
+    rw g whole
 
 -- what is composed is a link
 pub link_of_composed : {view : View} {network : PlainNetwork} {sort : Sort} {a b : Place} → IsCleanThroughout view network → IsComposedLink view network sort a b → IsLink view network sort a b
-link_of_composed {view = view} {network = network} {sort = sort} {a = a} {b = b} clean (inl l) =
-    let on : Chain view sort network (l.name ∷ l.from) (l.name ∷ l.to) = chain_within l.is_inner l.link.chain in
+link_of_composed clean (inl l) =
     record {
       from_leaf = LeafWithin l.inner l.name l.from l.is_inner l.from_is l.link.from_leaf;
       to_leaf = LeafWithin l.inner l.name l.to l.is_inner l.to_is l.link.to_leaf;
-      chain = subst (λ (q : Place). Chain view sort network q b) (sym l.from_is) (subst (λ (q : Place). Chain view sort network (l.name ∷ l.from) q) (sym l.to_is) on);
+      chain = rw (l.from_is, l.to_is) (chain_within l.is_inner l.link.chain);
     }
 link_of_composed clean (inr l) =
     record {

@@ -1,18 +1,10 @@
 -- What is nearest is had by the longest prefix that has something.
-use Rattle.std.proofs.Common.{ℕ, zero, suc, ◌≡◌, ◌<◌, ◌≤◌, ◌==◌, ◌⊎◌, true, false, List, ◌∷◌, ◌++◌, Option, Some, None, inl, inr, refl, sym, ◌∙◌, ap, subst, take, drop, get_or, length, arith, eq-eqb, length-append, length-take-le, take-append-drop}
+use Rattle.std.proofs.Common.{ℕ, zero, suc, ◌≡◌, ◌<◌, ◌≤◌, ◌==◌, Bool, true, false, List, ◌∷◌, ◌++◌, Option, Some, None, inl, inr, refl, sym, ◌∙◌, ap, subst, take, drop, get_or, length, arith, eq-eqb, length-append, length-take-le, take-append-drop}
 use Rattle.std.proofs.{lemmas.Bool.Decides.{Decides-eqb}, Math.Seq.{drop-cons, take-append_seam, get_or-append_seam}}
 use Rattle.std.specs.Option.{option_or}
 use native.Mathlib.Decide.{dec_lt}
-use Rattle.fb_tree.proofs.Text.Tests.{by_bool}
 use Rattle.fb_network.specs.Prefixes.{IsPrefix, IsNearest, nearest}
 use Rattle.fb_network.proofs.PrefixLemmas.{nearest_below, nearest_is, below_no_point, below_nothing, below_here}
-
--- the test of a byte as a fact
-is_point : (b : ℕ) → ((b == 46) ≡ true) ⊎ ((b == 46) ≡ false)
-is_point b = by_bool (b == 46) (λ e. inl e) (λ e. inr e)
-
-no_point : (b : ℕ) → (b == 46) ≡ false → b ≡ 46 → ⊥
-no_point b e same = let h = eq-eqb b 46 same in cc
 
 module _ {X : Type 0} (at : List ℕ → Option X) (path : List ℕ) where
   -- no prefix that ends at a point from one place up to another has anything
@@ -28,30 +20,21 @@ module _ {X : Type 0} (at : List ℕ → Option X) (path : List ℕ) where
   nothing_more low k none here j le lt point =
       elim (dec_lt j k) [
         | Prim.yes below ↦ none j le below point
-        | Prim.no above ↦ let same : j ≡ k = omega arith in
-            subst (λ (i : ℕ). at (take i path) ≡ None) (sym same) (here (subst (λ (i : ℕ). get_or path i 0 ≡ 46) same point))
+        | Prim.no above ↦ let same : j ≡ k = omega arith in rw same (here (subst (λ (i : ℕ). get_or path i 0 ≡ 46) same point))
       ]
 
   passed : (k : ℕ) (o : Option X) → IsBelow k o → (get_or path k 0 ≡ 46 → at (take k path) ≡ None) → IsBelow (suc k) o
   passed k None none here = nothing_more 0 k none here
   passed k (Some x) (j, lt, point, has, none) here = (j, omega arith, point, has, nothing_more (suc j) k none here)
 
-  by_value : (k : ℕ) → IsBelow k (nearest_below at path k) → (get_or path k 0 == 46) ≡ true → (o : Option X) → at (take k path) ≡ o → IsBelow (suc k) (nearest_below at path (suc k))
-  by_value k below p (Some x) e =
-      subst (λ (o : Option X). IsBelow (suc k) o) (sym (below_here at path k x p e))
-      (k, omega arith, (Decides-eqb (get_or path k 0) 46).0 p, e, λ j le lt. absurd (omega arith))
-  by_value k below p None e =
-      subst (λ (o : Option X). IsBelow (suc k) o) (sym (below_nothing at path k e)) (passed k (nearest_below at path k) below (λ point. e))
-
-  by_point : (k : ℕ) → IsBelow k (nearest_below at path k) → ((get_or path k 0 == 46) ≡ true) ⊎ ((get_or path k 0 == 46) ≡ false) → IsBelow (suc k) (nearest_below at path (suc k))
-  by_point k below (inl p) = by_value k below p (at (take k path)) refl
-  by_point k below (inr p) =
-      subst (λ (o : Option X). IsBelow (suc k) o) (sym (below_no_point at path k p))
-      (passed k (nearest_below at path k) below (λ point. absurd (no_point (get_or path k 0) p point)))
+  by_value : (k : ℕ) → IsBelow k (nearest_below at path k) → (b : Bool) → (get_or path k 0 == 46) ≡ b → (o : Option X) → at (take k path) ≡ o → IsBelow (suc k) (nearest_below at path (suc k))
+  by_value k below true p (Some x) e = rw (below_here at path k x p e) (k, omega arith, (Decides-eqb (get_or path k 0) 46).0 p, e, λ j le lt. absurd (omega arith))
+  by_value k below true p None e = rw (below_nothing at path k e) (passed k (nearest_below at path k) below (λ point. e))
+  by_value k below false p o e = rw (below_no_point at path k p) (passed k (nearest_below at path k) below (λ point. absurd (let h = eq-eqb (get_or path k 0) 46 point in cc)))
 
   is_below : (k : ℕ) → IsBelow k (nearest_below at path k)
   is_below zero = λ j le lt. absurd (omega arith)
-  is_below (suc k) = by_point k (is_below k) (is_point (get_or path k 0))
+  is_below (suc k) = by_value k (is_below k) (get_or path k 0 == 46) refl (at (take k path)) refl
 
   -- a prefix before a point
   prefix_at : (j : ℕ) → j < length path → get_or path j 0 ≡ 46 → IsPrefix (take j path) path
@@ -62,12 +45,11 @@ module _ {X : Type 0} (at : List ℕ → Option X) (path : List ℕ) where
   prefix_nothing : (low : ℕ) (prefix rest : List ℕ) → path ≡ prefix ++ 46 ∷ rest → low ≤ length prefix → Nothing low (length path) → at prefix ≡ None
   prefix_nothing low prefix rest e le none =
       let inside : length prefix < length path = omega (arith, ap length e, length-append prefix (46 ∷ rest)) in
-      let point : get_or path (length prefix) 0 ≡ 46 = ap (λ (l : List ℕ). get_or l (length prefix) 0) e ∙ get_or-append_seam prefix 46 rest 0 in
       let whole : take (length prefix) path ≡ prefix = ap (take (length prefix)) e ∙ take-append_seam prefix (46 ∷ rest) in
-      ap at (sym whole) ∙ none (length prefix) le inside point
+      ap at (sym whole) ∙ none (length prefix) le inside (ap (λ (l : List ℕ). get_or l (length prefix) 0) e ∙ get_or-append_seam prefix 46 rest 0)
 
   prefix_length : (prefix : List ℕ) → IsPrefix prefix path → length prefix ≤ length path
-  prefix_length prefix (inl e) = let same = ap length e in omega (arith, same)
+  prefix_length prefix (inl e) = omega (arith, ap length e)
   prefix_length prefix (inr (rest, e)) = omega (arith, ap length e, length-append prefix (46 ∷ rest))
 
   prefix_beyond : at path ≡ None → (low : ℕ) → Nothing low (length path) → (other : List ℕ) → IsPrefix other path → low ≤ length other → at other ≡ None
@@ -84,4 +66,4 @@ module _ {X : Type 0} (at : List ℕ → Option X) (path : List ℕ) where
   by_path None e = by_below e (nearest_below at path (length path)) (is_below (length path))
 
   pub is_nearest : IsNearest at path (nearest at path)
-  is_nearest = subst (λ (o : Option X). IsNearest at path o) (sym (nearest_is at path)) (by_path (at path) refl)
+  is_nearest = rw (nearest_is at path) (by_path (at path) refl)

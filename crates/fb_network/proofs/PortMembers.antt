@@ -1,14 +1,13 @@
 -- Prefixes behind plugs and sockets, and the links of an adapter's ports between them.
 use Rattle.std.proofs.Common.{ℕ, ◌≡◌, ◌<◌, ◌+◌, suc, List, [], ◌∷◌, ◌++◌, Option, Some, length, map, take, get_or, refl, sym, ap, subst, ◌∙◌, arith, append_assoc, length-append}
-use Rattle.std.proofs.lemmas.List.Elements.{All-append, All-cons, All-get_or, All-nil}
-use Rattle.std.proofs.{lemmas.List.{length-take-le, map-append}, lemmas.Option.{slice_get_within}}
+use Rattle.std.proofs.{lemmas.List.Elements.{All-cons, All-get_or, All-nil}, lemmas.List.{length-take-le, map-append}, lemmas.Option.{slice_get_within}}
 use Rattle.std.specs.{Prelude.{slice_get}, List.{All}}
 use Rattle.fb_tree.specs.{declared.interface.Side.{Side}, declared.interface.Side.TheVariants.{Input, Output}}
 use Rattle.fb_network.specs.{declared.network.Port.{Port}, declared.place.Place.{Place}, declared.entries.Join.{Join}, Places.{dotted}}
 use Rattle.fb_network.specs.{PlainPrefix.{PlainPrefix}, Composed.{adapter_links, link_on_side, plug_links, port_links}}
-use Rattle.fb_network.specs.{Laid.{IsJoinBelow, link_at, path_at, path_in, text_or_nothing}, Reading.{AreJoins, Grows, IsPlaceBelow}}
+use Rattle.fb_network.specs.{Laid.{IsJoinBelow, link_at, path_at, path_in, text_or_nothing}, Reading.{AreJoins, Grows, IsPlaceBelow}, Standing.{Says}}
 use Rattle.fb_network.specs.Behind.{AreMembers, IsMember, adapter_joins, prefix_behind, join_on_side, member_join, member_joins, plug_joins}
-use Rattle.fb_network.proofs.{Readings.{get_left, get_right, path_grown}, Standings.{grows_none, grows_twice, next_taken}}
+use Rattle.fb_network.proofs.{Readings.{get_left, get_right, path_grown, reading_both, reading_nothing}, Standings.{grows_none, grows_twice, next_taken}}
 
 -- the prefixes behind places have been added under these numbers
 pub record AddsMembers (old new : List PlainPrefix) (names : List (List ℕ)) (numbers : List ℕ) (places : List Place) : Type 0 where
@@ -39,14 +38,11 @@ adds_member start prefixes new names numbers all places k n x a below lt e count
     let here : slice_get new n ≡ Some one = ap (λ (fs : List PlainPrefix). slice_get fs n) is ∙ get_right prefixes (one ∷ []) 0 n (omega (arith, count)) in
     let x_below : x.prefix < length start = subst (IsPlaceBelow (length start)) (sym e) (All-get_or (IsPlaceBelow (length start)) places k x lt below) in
     let same : path_at prefixes x ≡ path_at start x = ap (λ (fs : List PlainPrefix). path_at fs x) a.grows.1 ∙ path_grown start a.grows.0 x x_below in
-    let member : IsMember new names n (path_at start x) = here ∙ ap (λ (t : List ℕ). Some (prefix_behind names t)) same in
-    let both = members_push new names numbers (map (path_at start) (take k places)) n (path_at start x) (members_grown prefixes new names numbers (map (path_at start) (take k places)) more a.members) member in
-    let texts : map (path_at start) (take k places) ++ path_at start x ∷ [] ≡ map (path_at start) (take (k + 1) places) =
-    sym (map-append (path_at start) (take k places) (x ∷ [])) ∙ ap (map (path_at start)) (next_taken places k x lt e) in
+    let texts = map (path_at start) (take k places) in
     record {
       grows = grows_twice start prefixes new a.grows more;
-      members = subst (λ (ns : List ℕ). AreMembers new names ns (map (path_at start) (take (k + 1) places))) (sym all_are)
-          (subst (λ (ts : List (List ℕ)). AreMembers new names (numbers ++ n ∷ []) ts) texts both);
+      members = rw (all_are, ← next_taken places k x lt e, map-append (path_at start) (take k places) (x ∷ []))
+          (members_push new names numbers texts n (path_at start x) (members_grown prefixes new names numbers texts more a.members) (here ∙ ap (λ (t : List ℕ). Some (prefix_behind names t)) same));
     }
 
 -- the links of one port more
@@ -63,57 +59,38 @@ member_joins_next plug socket xs k x lt e =
     ap (λ (n : ℕ). member_joins plug socket 0 (take k xs) ++ member_join plug socket n x ∷ []) here ∙ member_joins_push plug socket 0 (take k xs) x ∙ ap (member_joins plug socket 0) (next_taken xs k x lt e)
 
 module _ (prefixes : List PlainPrefix) (names : List (List ℕ)) where
-  member_path : (n end : ℕ) (text name : List ℕ) → IsMember prefixes names n text → slice_get names end ≡ Some name → path_at prefixes (record { prefix = n; end = end }) ≡ dotted text name
-  member_path n end text name is named =
-      ap (λ (o : Option PlainPrefix). path_in o end) is ∙ ap (λ (o : Option (List ℕ)). dotted text [] ++ text_or_nothing o) named ∙ append_assoc text (46 ∷ []) name
+  abbrev below : Join → Type 0
+  below = IsJoinBelow (length prefixes)
 
-  one_side : (side : Side) (port : Port) (a b : Place) (t u : List ℕ) → path_at prefixes a ≡ dotted t port.name → path_at prefixes b ≡ dotted u port.name → link_at prefixes (join_on_side side port a b) ≡ link_on_side side port t u
-  one_side Output port a b t u p q = λ i. record { sort = port.sort; from = p i; to = q i }
-  one_side Input port a b t u p q = λ i. record { sort = port.sort; from = q i; to = p i }
+  member_says : (n end : ℕ) (text name : List ℕ) → IsMember prefixes names n text → slice_get names end ≡ Some name → Says prefixes (record { prefix = n; end = end }) (dotted text name)
+  member_says n end text name is named =
+      record {
+        in_range = slice_get_within prefixes n _ is;
+        is = ap (λ (o : Option PlainPrefix). path_in o end) is ∙ ap (λ (o : Option (List ℕ)). dotted text [] ++ text_or_nothing o) named ∙ append_assoc text (46 ∷ []) name;
+      }
 
-  one_side_below : (side : Side) (port : Port) (a b : Place) → a.prefix < length prefixes → b.prefix < length prefixes → IsJoinBelow (length prefixes) (join_on_side side port a b)
-  one_side_below Output port a b p q = (p, q)
-  one_side_below Input port a b p q = (q, p)
+  one_reads : (side : Side) (port : Port) (a b : Place) (t u : List ℕ) → Says prefixes a (dotted t port.name) → Says prefixes b (dotted u port.name) → AreJoins prefixes (join_on_side side port a b ∷ []) (link_on_side side port t u ∷ [])
+  one_reads Output port a b t u p q = record { in_range = All-cons below _ [] (p.in_range, q.in_range) (All-nil below); is = λ i. record { sort = port.sort; from = p.is i; to = q.is i } ∷ [] }
+  one_reads Input port a b t u p q = record { in_range = All-cons below _ [] (q.in_range, p.in_range) (All-nil below); is = λ i. record { sort = port.sort; from = q.is i; to = p.is i } ∷ [] }
 
-  member_joins_say : (pre : List (List ℕ)) (ports : List Port) (end n m : ℕ) (t u : List ℕ) → end ≡ length pre → names ≡ pre ++ map (λ (port : Port). port.name) ports → IsMember prefixes names n t → IsMember prefixes names m u → map (link_at prefixes) (member_joins n m end ports) ≡ port_links ports t u
-  member_joins_say pre [] end n m t u e is p q = refl
-  member_joins_say pre (port ∷ ports) end n m t u e is p q =
+  member_reads : (pre : List (List ℕ)) (ports : List Port) (end n m : ℕ) (t u : List ℕ) → end ≡ length pre → names ≡ pre ++ map (λ (port : Port). port.name) ports → IsMember prefixes names n t → IsMember prefixes names m u → AreJoins prefixes (member_joins n m end ports) (port_links ports t u)
+  member_reads pre [] end n m t u e is p q = reading_nothing IsJoinBelow link_at prefixes
+  member_reads pre (port ∷ ports) end n m t u e is p q =
       let named : slice_get names end ≡ Some port.name = ap (λ (ns : List (List ℕ)). slice_get ns end) is ∙ get_right pre (port.name ∷ map (λ (port : Port). port.name) ports) 0 end (omega (arith, e)) in
-      let head = one_side port.side port (record { prefix = n; end = end }) (record { prefix = m; end = end }) t u (member_path n end t port.name p named) (member_path m end u port.name q named) in
+      let head = one_reads port.side port (record { prefix = n; end = end }) (record { prefix = m; end = end }) t u (member_says n end t port.name p named) (member_says m end u port.name q named) in
       let longer : end + 1 ≡ length (pre ++ port.name ∷ []) = let long = length-append pre (port.name ∷ []) in omega (arith, e, long) in
-      let tail = member_joins_say (pre ++ port.name ∷ []) ports (end + 1) n m t u longer (is ∙ sym (append_assoc pre (port.name ∷ []) (map (λ (port : Port). port.name) ports))) p q in
-      λ i. head i ∷ tail i
-
-  member_joins_below : (ports : List Port) (end n m : ℕ) → n < length prefixes → m < length prefixes → All (IsJoinBelow (length prefixes)) (member_joins n m end ports)
-  member_joins_below [] end n m p q = All-nil (IsJoinBelow (length prefixes))
-  member_joins_below (port ∷ ports) end n m p q =
-      All-cons (IsJoinBelow (length prefixes)) (member_join n m end port) (member_joins n m (end + 1) ports) (one_side_below port.side port (record { prefix = n; end = end }) (record { prefix = m; end = end }) p q) (member_joins_below ports (end + 1) n m p q)
+      let tail = member_reads (pre ++ port.name ∷ []) ports (end + 1) n m t u longer (is ∙ sym (append_assoc pre (port.name ∷ []) (map (λ (port : Port). port.name) ports))) p q in
+      reading_both IsJoinBelow link_at prefixes (member_join n m end port ∷ []) (member_joins n m (end + 1) ports) (link_on_side port.side port t u ∷ []) (port_links ports t u) head tail
 
   module _ (ports : List Port) (named : names ≡ map (λ (port : Port). port.name) ports) where
-    plug_joins_say : (n : ℕ) (t : List ℕ) (ms : List ℕ) (us : List (List ℕ)) → IsMember prefixes names n t → AreMembers prefixes names ms us → map (link_at prefixes) (plug_joins ports ms n) ≡ plug_links ports us t
-    plug_joins_say n t [] [] p q = refl
-    plug_joins_say n t (m ∷ ms) (u ∷ us) p q =
-        map-append (link_at prefixes) (member_joins n m 0 ports) (plug_joins ports ms n) ∙ (λ i. member_joins_say [] ports 0 n m t u refl named p q.0 i ++ plug_joins_say n t ms us p q.1 i)
-    plug_joins_say n t ms us p q = absurd q
-
-    plug_joins_below : (n : ℕ) (ms : List ℕ) (us : List (List ℕ)) → n < length prefixes → AreMembers prefixes names ms us → All (IsJoinBelow (length prefixes)) (plug_joins ports ms n)
-    plug_joins_below n [] us lt q = All-nil (IsJoinBelow (length prefixes))
-    plug_joins_below n (m ∷ ms) [] lt q = absurd q
-    plug_joins_below n (m ∷ ms) (u ∷ us) lt q =
-        All-append (IsJoinBelow (length prefixes)) (member_joins n m 0 ports) (plug_joins ports ms n) (member_joins_below ports 0 n m lt (slice_get_within prefixes m _ q.0)) (plug_joins_below n ms us lt q.1)
-
-    adapter_joins_say : (ns : List ℕ) (ts : List (List ℕ)) (ms : List ℕ) (us : List (List ℕ)) → AreMembers prefixes names ns ts → AreMembers prefixes names ms us → map (link_at prefixes) (adapter_joins ports ns ms) ≡ adapter_links ports ts us
-    adapter_joins_say [] [] ms us p q = refl
-    adapter_joins_say [] (t ∷ ts) ms us p q = absurd p
-    adapter_joins_say (n ∷ ns) [] ms us p q = absurd p
-    adapter_joins_say (n ∷ ns) (t ∷ ts) ms us p q =
-        map-append (link_at prefixes) (plug_joins ports ms n) (adapter_joins ports ns ms) ∙ (λ i. plug_joins_say n t ms us p.0 q i ++ adapter_joins_say ns ts ms us p.1 q i)
-
-    adapter_joins_below : (ns : List ℕ) (ts : List (List ℕ)) (ms : List ℕ) (us : List (List ℕ)) → AreMembers prefixes names ns ts → AreMembers prefixes names ms us → All (IsJoinBelow (length prefixes)) (adapter_joins ports ns ms)
-    adapter_joins_below [] ts ms us p q = All-nil (IsJoinBelow (length prefixes))
-    adapter_joins_below (n ∷ ns) [] ms us p q = absurd p
-    adapter_joins_below (n ∷ ns) (t ∷ ts) ms us p q =
-        All-append (IsJoinBelow (length prefixes)) (plug_joins ports ms n) (adapter_joins ports ns ms) (plug_joins_below n ms us (slice_get_within prefixes n _ p.0) q) (adapter_joins_below ns ts ms us p.1 q)
+    plug_reads : (n : ℕ) (t : List ℕ) (ms : List ℕ) (us : List (List ℕ)) → IsMember prefixes names n t → AreMembers prefixes names ms us → AreJoins prefixes (plug_joins ports ms n) (plug_links ports us t)
+    plug_reads n t [] [] p q = reading_nothing IsJoinBelow link_at prefixes
+    plug_reads n t (m ∷ ms) (u ∷ us) p q =
+        reading_both IsJoinBelow link_at prefixes (member_joins n m 0 ports) (plug_joins ports ms n) (port_links ports t u) (plug_links ports us t) (member_reads [] ports 0 n m t u refl named p q.0) (plug_reads n t ms us p q.1)
+    plug_reads n t ms us p q = absurd q
 
     pub adapter_reads : (ns : List ℕ) (ts : List (List ℕ)) (ms : List ℕ) (us : List (List ℕ)) → AreMembers prefixes names ns ts → AreMembers prefixes names ms us → AreJoins prefixes (adapter_joins ports ns ms) (adapter_links ports ts us)
-    adapter_reads ns ts ms us p q = record { in_range = adapter_joins_below ns ts ms us p q; is = adapter_joins_say ns ts ms us p q }
+    adapter_reads [] [] ms us p q = reading_nothing IsJoinBelow link_at prefixes
+    adapter_reads (n ∷ ns) (t ∷ ts) ms us p q =
+        reading_both IsJoinBelow link_at prefixes (plug_joins ports ms n) (adapter_joins ports ns ms) (plug_links ports us t) (adapter_links ports ts us) (plug_reads n t ms us p.0 q) (adapter_reads ns ts ms us p.1 q)
+    adapter_reads ns ts ms us p q = absurd p

@@ -1,5 +1,5 @@
 -- Entries keep what they say where prefixes are added, and say it inside an instance where they are moved.
-use Rattle.std.proofs.Common.{ℕ, ◌≡◌, ◌<◌, ◌≤◌, ◌+◌, suc, zero, List, [], ◌∷◌, ◌++◌, Option, Some, None, length, map, refl, sym, ap, subst, ◌∙◌, arith, append_assoc, length-append, append-nil}
+use Rattle.std.proofs.Common.{ℕ, ◌≡◌, ◌<◌, ◌≤◌, ◌+◌, suc, zero, List, [], ◌∷◌, ◌++◌, Option, Some, None, length, map, refl, sym, ap, ◌∙◌, arith, append_assoc, length-append}
 use Rattle.std.proofs.lemmas.List.Elements.{All-append, All-map, All-nil, All-weaker, All-head, All-tail}
 use Rattle.std.proofs.{lemmas.List.{length-map, map-append}, lemmas.Option.{slice_get-map}, lemmas.Simd.{map-map}}
 use Rattle.std.specs.{Prelude.{slice_get, option_map}, List.{All}}
@@ -35,12 +35,9 @@ path_inside : (name : List ℕ) (o : Option PlainPrefix) (end : ℕ) → (o ≡ 
 path_inside name None end some = absurd (some refl)
 path_inside name (Some prefix) end some = append_assoc name (46 ∷ prefix.start) (text_or_nothing (slice_get prefix.ends end))
 
-path_moved : (before inner after : List PlainPrefix) (name : List ℕ) (by : ℕ) (p : Place) → by ≡ length before → p.prefix < length inner → path_at (before ++ (map (prefix_within name) inner ++ after)) (place_moved by p) ≡ dotted name (path_at inner p)
-path_moved before inner after name by p e lt =
-    let further : slice_get (before ++ (map (prefix_within name) inner ++ after)) (p.prefix + by) ≡ slice_get (map (prefix_within name) inner ++ after) p.prefix =
-    get_right before (map (prefix_within name) inner ++ after) p.prefix (p.prefix + by) (ap (λ (n : ℕ). p.prefix + n) e) in
-    let within : p.prefix < length (map (prefix_within name) inner) = let long = length-map inner (prefix_within name) in omega (arith, lt, long) in
-    let found = further ∙ get_left (map (prefix_within name) inner) after p.prefix within ∙ slice_get-map (prefix_within name) inner p.prefix in
+path_moved : (before inner : List PlainPrefix) (name : List ℕ) (by : ℕ) (p : Place) → by ≡ length before → p.prefix < length inner → path_at (before ++ map (prefix_within name) inner) (place_moved by p) ≡ dotted name (path_at inner p)
+path_moved before inner name by p e lt =
+    let found = get_right before (map (prefix_within name) inner) p.prefix (p.prefix + by) (ap (λ (n : ℕ). p.prefix + n) e) ∙ slice_get-map (prefix_within name) inner p.prefix in
     ap (λ (o : Option PlainPrefix). path_in o p.end) found ∙ path_inside name (slice_get inner p.prefix) p.end (none_below inner p.prefix lt)
 
 module _ {E X : Type 0} (below : ℕ → E → Type 0) (at : List PlainPrefix → E → X) where
@@ -59,8 +56,7 @@ module _ {E X : Type 0} (below : ℕ → E → Type 0) (at : List PlainPrefix �
   module _ (weaker : (m n : ℕ) (e : E) → m ≤ n → below m e → below n e) (grown : (prefixes more : List PlainPrefix) (e : E) → below (length prefixes) e → at (prefixes ++ more) e ≡ at prefixes e) where
     pub reading_grown : (prefixes new : List PlainPrefix) (es : List E) (xs : List X) → Grows prefixes new → IsReading below at prefixes es xs → IsReading below at new es xs
     reading_grown prefixes new es xs g p =
-        subst (λ (fs : List PlainPrefix). IsReading below at fs es xs) (sym g.1)
-        (record {
+        rw g.1 (record {
           in_range = All-weaker (below (length prefixes)) (below (length (prefixes ++ g.0))) (λ e b. weaker (length prefixes) (length (prefixes ++ g.0)) e (let long = length-append prefixes g.0 in omega (arith, long)) b) es p.in_range;
           is = map_same (below (length prefixes)) (at (prefixes ++ g.0)) (at prefixes) (grown prefixes g.0) es p.in_range ∙ p.is;
         })
@@ -68,21 +64,16 @@ module _ {E X : Type 0} (below : ℕ → E → Type 0) (at : List PlainPrefix �
   module _ (name : List ℕ) (move : ℕ → E → E) (inside : X → X)
       (moves_below : (by count : ℕ) (e : E) → below count e → below (by + count) (move by e))
       (moved : (before inner : List PlainPrefix) (by : ℕ) (e : E) → by ≡ length before → below (length inner) e → at (before ++ (map (prefix_within name) inner)) (move by e) ≡ inside (at inner e)) where
-    pub reading_moved : (before inner : List PlainPrefix) (by : ℕ) (es : List E) → by ≡ length before → All (below (length inner)) es → IsReading below at (before ++ map (prefix_within name) inner) (map (move by) es) (map inside (map (at inner) es))
-    reading_moved before inner by es e all =
-        let count : by + length inner ≡ length (before ++ map (prefix_within name) inner) =
-        let long = length-append before (map (prefix_within name) inner) in let same = length-map inner (prefix_within name) in omega (arith, e, long, same) in
+    pub reading_moved : (before inner new : List PlainPrefix) (by : ℕ) (es : List E) → by ≡ length before → new ≡ before ++ map (prefix_within name) inner → All (below (length inner)) es → IsReading below at new (map (move by) es) (map inside (map (at inner) es))
+    reading_moved before inner new by es e is all =
+        let count : by + length inner ≡ length new = omega (arith, e, ap length is, length-append before (map (prefix_within name) inner), length-map inner (prefix_within name)) in
         record {
-          in_range = All-map (below (length (before ++ map (prefix_within name) inner))) (move by) es
-              (All-weaker (below (length inner)) (λ x. below (length (before ++ map (prefix_within name) inner)) (move by x)) (λ x b. subst (λ (n : ℕ). below n (move by x)) count (moves_below by (length inner) x b)) es all);
-          is = map-map (at (before ++ map (prefix_within name) inner)) (move by) es
-              ∙ map_same (below (length inner)) (λ x. at (before ++ map (prefix_within name) inner) (move by x)) (λ x. inside (at inner x)) (λ x b. moved before inner by x e b) es all
+          in_range = All-map (below (length new)) (move by) es
+              (All-weaker (below (length inner)) (λ x. below (length new) (move by x)) (λ x b. rw count at (moves_below by (length inner) x b)) es all);
+          is = map-map (at new) (move by) es
+              ∙ map_same (below (length inner)) (λ x. at new (move by x)) (λ x. inside (at inner x)) (λ x b. rw is (moved before inner by x e b)) es all
               ∙ sym (map-map inside (at inner) es);
         }
-
-path_moved_last : (before inner : List PlainPrefix) (name : List ℕ) (by : ℕ) (p : Place) → by ≡ length before → p.prefix < length inner → path_at (before ++ map (prefix_within name) inner) (place_moved by p) ≡ dotted name (path_at inner p)
-path_moved_last before inner name by p e lt =
-    ap (λ (fs : List PlainPrefix). path_at (before ++ fs) (place_moved by p)) (sym (append-nil (map (prefix_within name) inner))) ∙ path_moved before inner [] name by p e lt
 
 pub places_grown : {prefixes new : List PlainPrefix} {es : List Place} {xs : List (List ℕ)} → Grows prefixes new → ArePlaces prefixes es xs → ArePlaces new es xs
 places_grown g p = reading_grown IsPlaceBelow path_at (λ m n e le lt. omega (arith, le, lt)) path_grown _ _ _ _ g p
@@ -103,17 +94,17 @@ edges_grown g p =
     (λ prefixes more e lt i. record { sort = e.sort; port = e.port; place = path_grown prefixes more e.place lt i }) _ _ _ _ g p
 
 -- the entries of an inner network, moved behind the prefixes that there are
-pub leaves_moved : (before inner : List PlainPrefix) (name : List ℕ) (by : ℕ) (es : List Leaf) → by ≡ length before → All (IsLeafBelow (length inner)) es → AreLeaves (before ++ map (prefix_within name) inner) (map (leaf_moved by) es) (map (block_within name) (map (block_at inner) es))
-leaves_moved before inner name by es e all =
+pub leaves_moved : (before inner new : List PlainPrefix) (name : List ℕ) (by : ℕ) (es : List Leaf) → by ≡ length before → new ≡ before ++ map (prefix_within name) inner → All (IsLeafBelow (length inner)) es → AreLeaves new (map (leaf_moved by) es) (map (block_within name) (map (block_at inner) es))
+leaves_moved before inner new name =
     reading_moved IsLeafBelow block_at name leaf_moved (block_within name) (λ by count x lt. omega (arith, lt))
-    (λ before inner by x e lt i. record { path = path_moved_last before inner name by x.place e lt i; type_name = x.type_name }) before inner by es e all
+    (λ before inner by x e lt i. record { path = path_moved before inner name by x.place e lt i; type_name = x.type_name }) before inner new
 
-pub joins_moved : (before inner : List PlainPrefix) (name : List ℕ) (by : ℕ) (es : List Join) → by ≡ length before → All (IsJoinBelow (length inner)) es → AreJoins (before ++ map (prefix_within name) inner) (map (join_moved by) es) (map (link_within name) (map (link_at inner) es))
-joins_moved before inner name by es e all =
+pub joins_moved : (before inner new : List PlainPrefix) (name : List ℕ) (by : ℕ) (es : List Join) → by ≡ length before → new ≡ before ++ map (prefix_within name) inner → All (IsJoinBelow (length inner)) es → AreJoins new (map (join_moved by) es) (map (link_within name) (map (link_at inner) es))
+joins_moved before inner new name =
     reading_moved IsJoinBelow link_at name join_moved (link_within name) (λ by count x b. (let lt = b.0 in omega (arith, lt), let lt = b.1 in omega (arith, lt)))
-    (λ before inner by x e b i. record { sort = x.sort; from = path_moved_last before inner name by x.from e b.0 i; to = path_moved_last before inner name by x.to e b.1 i }) before inner by es e all
+    (λ before inner by x e b i. record { sort = x.sort; from = path_moved before inner name by x.from e b.0 i; to = path_moved before inner name by x.to e b.1 i }) before inner new
 
-pub edges_moved : (before inner : List PlainPrefix) (name : List ℕ) (by : ℕ) (es : List Edge) → by ≡ length before → All (IsEdgeBelow (length inner)) es → AreEdges (before ++ map (prefix_within name) inner) (map (edge_moved by) es) (map (border_within name) (map (border_at inner) es))
-edges_moved before inner name by es e all =
+pub edges_moved : (before inner new : List PlainPrefix) (name : List ℕ) (by : ℕ) (es : List Edge) → by ≡ length before → new ≡ before ++ map (prefix_within name) inner → All (IsEdgeBelow (length inner)) es → AreEdges new (map (edge_moved by) es) (map (border_within name) (map (border_at inner) es))
+edges_moved before inner new name =
     reading_moved IsEdgeBelow border_at name edge_moved (border_within name) (λ by count x lt. omega (arith, lt))
-    (λ before inner by x e lt i. record { sort = x.sort; port = x.port; place = path_moved_last before inner name by x.place e lt i }) before inner by es e all
+    (λ before inner by x e lt i. record { sort = x.sort; port = x.port; place = path_moved before inner name by x.place e lt i }) before inner new

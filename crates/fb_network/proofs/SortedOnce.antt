@@ -1,23 +1,21 @@
 -- What is sorted by what it says, and then deduplicated, says each thing once, in order.
 use Rattle.std.proofs.Common.{◌≡◌, Bool, true, List, [], ◌∷◌, length, map, refl, sym, subst, ◌∙◌}
-use Rattle.std.proofs.lemmas.List.Elements.{All-contains, All-contains_itself, All-weaker}
+use Rattle.std.proofs.lemmas.List.Elements.{All-contains, All-contains_itself, All-from_recursion, All-map, All-weaker, recursion_from_All}
 use Rattle.std.proofs.lemmas.List.Kept.{Any-dedup, Contains-from_dedup, IsStrictlySortedBy-dedup}
 use Rattle.std.proofs.lemmas.{List.Sorted.{Contains-permutation, IsPermutation-sym}, Map.Keys.{sorted_from_all_adjacent}}
 use Rattle.std.specs.{declared.cmp.Ordering.{Ordering}, declared.cmp.Ordering.TheVariants.{Less}, Ordering.{eq_by_cmp, is_lt, on}}
-use Rattle.std.specs.{Cmp.{IsTotalOrder, eq_by_cmp_equiv, on_total}, List.{All, AllAdjacentBelow, AllByRecursion, Contains, dedup}}
+use Rattle.std.specs.{Cmp.{IsTotalOrder, eq_by_cmp_equiv, on_total}, List.{All, AllAdjacentBelow, Contains, dedup}}
 use Rattle.std.specs.List.Sorted.{IsPermutation, IsSortedBy, IsStrictlySortedBy}
 use Rattle.fb_tree.proofs.Text.Members.{contains_map, origin_in_map}
 use Rattle.fb_network.specs.Once.{IsOnce}
 
 module _ {E X : Type 0} (says : E → X) (R : X → X → Ordering) where
-  below_map : (x : E) (xs : List E) → AllByRecursion (λ y. on says R x y ≡ Less) xs → AllByRecursion (λ y. R (says x) y ≡ Less) (map says xs)
-  below_map x [] p = tt
-  below_map x (y ∷ ys) p = (p.0, below_map x ys p.1)
-
   strict_map : (xs : List E) → IsStrictlySortedBy (on says R) xs → IsStrictlySortedBy R (map says xs)
   unfolding IsStrictlySortedBy
   strict_map [] p = tt
-  strict_map (x ∷ xs) p = (below_map x xs p.0, strict_map xs p.1)
+  strict_map (x ∷ xs) p =
+      let below = λ (y : X). R (says x) y ≡ Less in
+      (recursion_from_All below (map says xs) (All-map below says xs (All-from_recursion (λ y. R (says x) (says y) ≡ Less) xs p.0)), strict_map xs p.1)
 
   strict_from_adjacent : IsTotalOrder R → (es : List E) → AllAdjacentBelow (λ x y. R (says x) (says y) ≡ Less) es (length es) → IsStrictlySortedBy (on says R) es
   unfolding IsStrictlySortedBy
@@ -41,8 +39,7 @@ module _ {E X : Type 0} (says : E → X) (R : X → X → Ordering) where
 
     pub sorted_once : (old sorted new : List E) → IsPermutation old sorted → IsSortedBy (λ a b. is_lt (R (says a) (says b))) sorted → new ≡ dedup same sorted → IsOnce says R old new
     sorted_once old sorted new moved up is =
-        subst (λ (es : List E). IsOnce says R old es) (sym is)
-        (record {
+        rw is (record {
           sorted = strict_map (dedup same sorted) (IsStrictlySortedBy-dedup (on_total says o) (λ a b. refl) sorted up);
           kept = kept_once old sorted moved;
           left = λ e c. Contains-permutation sorted old e (IsPermutation-sym old sorted moved) (Contains-from_dedup same sorted e c);

@@ -3,15 +3,12 @@ use Rattle.std.proofs.Common.{ℕ, ◌≡◌, ◌<◌, ◌+◌, Bool, true, fals
 use Rattle.std.proofs.{lemmas.List.{take_more}, lemmas.List.Concat.{flat_map-append, flat_map-cons}, lemmas.List.Elements.{All-cons, All-nil}}
 use Rattle.std.specs.{Prelude.{flat_map, is_some}, BTreeMap.{is_at}}
 use Rattle.fb_tree.specs.Text.Order.{name_cmp}
-use Rattle.fb_network.specs.{declared.network.InstanceKind.{InstanceKind}, declared.network.InstanceKind.TheVariants.{Block, Subapplication}}
-use Rattle.fb_network.specs.{declared.network.Instance.{Instance}, declared.flat.FlatBlock.{FlatBlock}, declared.flat.Link.{Link}}
-use Rattle.fb_network.specs.{declared.flat.Border.{Border}, declared.place.Place.{Place}, declared.entries.Leaf.{Leaf}, declared.entries.Join.{Join}}
-use Rattle.fb_network.specs.{declared.entries.Edge.{Edge}, declared.draft.Draft.{Draft}, declared.table.Standing.{Standing}, Network.{instance_named}}
-use Rattle.fb_network.specs.{PlainFlat.{PlainFlat}, PlainPrefix.{PlainPrefix}, Ready.{Nets}}
-use Rattle.fb_network.specs.Composed.{blocks_of, blocks_of_kind, inner_blocks, inner_links, inner_links_of_kind, links_of}
-use Rattle.fb_network.specs.Laid.{IsEdgeBelow, IsJoinBelow, IsLeafBelow, block_at, border_at, link_at}
-use Rattle.fb_network.specs.Reading.{AreEdges, AreJoins, AreLeaves, Grows, TakesIn}
-use Rattle.fb_network.specs.Standing.{HoldsInstances, IsTable, Says, StandsFor, TakesInstance, borders_of, inner_borders, inner_borders_of_kind, or_alone, or_instance}
+use Rattle.fb_network.specs.{declared.network.InstanceKind.TheVariants.{Block, Subapplication}, declared.network.Instance.{Instance}}
+use Rattle.fb_network.specs.{declared.flat.FlatBlock.{FlatBlock}, declared.flat.Link.{Link}, declared.place.Place.{Place}, declared.entries.Leaf.{Leaf}, declared.entries.Edge.{Edge}}
+use Rattle.fb_network.specs.{declared.draft.Draft.{Draft}, declared.table.Standing.{Standing}, Network.{instance_named}, PlainFlat.{PlainFlat}}
+use Rattle.fb_network.specs.{PlainPrefix.{PlainPrefix}, Ready.{Nets}, Composed.{inner_blocks, inner_links}}
+use Rattle.fb_network.specs.{Laid.{IsEdgeBelow, IsJoinBelow, IsLeafBelow, block_at, border_at, link_at}, Reading.{AreEdges, AreJoins, AreLeaves, Grows, TakesIn}}
+use Rattle.fb_network.specs.Standing.{HoldsInstances, IsTable, Says, StandsFor, TakesInstance, inner_borders, or_alone, or_instance}
 use Rattle.fb_network.proofs.{Drafts.{added}, Equals.{same_bytes}, Readings.{edges_grown, joins_grown, leaves_grown, path_grown, reading_nothing}}
 
 -- a new name is put
@@ -24,25 +21,13 @@ put_kept old s there q = grind (arith, same_bytes s.instance.name q)
 
 pub says_grown : {prefixes new : List PlainPrefix} {place : Place} {text : List ℕ} → Grows prefixes new → Says prefixes place text → Says new place text
 says_grown {prefixes = prefixes} {place = place} {text = text} g s =
-    subst (λ (fs : List PlainPrefix). Says fs place text) (sym g.1)
-    (record { in_range = (let long = length-append prefixes g.0 in let lt = s.in_range in omega (arith, long, lt)); is = path_grown prefixes g.0 place s.in_range ∙ s.is })
+    rw g.1 (record { in_range = omega (arith, length-append prefixes g.0, s.in_range); is = path_grown prefixes g.0 place s.in_range ∙ s.is })
 
 pub grows_none : (prefixes : List PlainPrefix) → Grows prefixes prefixes
 grows_none prefixes = ([], sym (append-nil prefixes))
 
 pub grows_twice : (a b c : List PlainPrefix) → Grows a b → Grows b c → Grows a c
 grows_twice a b c g h = (g.0 ++ h.0, h.1 ∙ ap (λ (fs : List PlainPrefix). fs ++ h.0) g.1 ∙ append_assoc a g.0 h.0)
-
--- nothing is taken in
-pub takes_none : {nets : Nets} (draft : Draft) (i : Instance) (edges : List Edge) → inner_blocks nets i ≡ [] → inner_links nets i ≡ [] → inner_borders nets i ≡ [] → edges ≡ [] → TakesInstance nets draft draft i edges
-takes_none {nets = nets} draft i edges no_blocks no_links no_borders none =
-    record {
-      grows = grows_none draft.prefixes.items;
-      blocks = λ blocks p. subst (λ (bs : List FlatBlock). AreLeaves draft.prefixes.items draft.leaves.items bs) (sym (append-nil blocks) ∙ ap (λ (bs : List FlatBlock). blocks ++ bs) (sym no_blocks)) p;
-      links = λ links p. subst (λ (ls : List Link). AreJoins draft.prefixes.items draft.joins.items ls) (sym (append-nil links) ∙ ap (λ (ls : List Link). links ++ ls) (sym no_links)) p;
-      borders = subst (λ (bs : List Border). AreEdges draft.prefixes.items edges bs) (sym no_borders)
-          (subst (λ (es : List Edge). AreEdges draft.prefixes.items es []) (sym none) (reading_nothing IsEdgeBelow border_at draft.prefixes.items));
-    }
 
 -- a block is taken in
 pub takes_block : {nets : Nets} (old new : Draft) (i : Instance) (edges : List Edge) (place : Place) → i.kind ≡ Block → Says old.prefixes.items place i.name → new.prefixes.items ≡ old.prefixes.items → new.joins.items ≡ old.joins.items → new.leaves.items ≡ old.leaves.items ++ record { place = place; type_name = i.type_name } ∷ [] → edges ≡ [] → TakesInstance nets old new i edges
@@ -57,31 +42,29 @@ takes_block {nets = nets} old new i edges place kind says prefixes_stay joins_st
     } in
     record {
       grows = grows;
-      blocks = λ blocks p. added new.leaves.items (inner_blocks nets i) leaves_are (ap (λ (k : InstanceKind). blocks_of_kind k nets i.name i.type_name) (sym kind)) (leaves_grown grows p) one;
-      links = λ links p. added new.joins.items (inner_links nets i) (joins_stay ∙ sym (append-nil old.joins.items)) (ap (λ (k : InstanceKind). inner_links_of_kind k nets i.name i.type_name) (sym kind)) (joins_grown grows p) (reading_nothing IsJoinBelow link_at new.prefixes.items);
-      borders = subst (λ (k : InstanceKind). AreEdges new.prefixes.items edges (inner_borders_of_kind k nets i.name i.type_name)) (sym kind)
-          (subst (λ (es : List Edge). AreEdges new.prefixes.items es []) (sym none) (reading_nothing IsEdgeBelow border_at new.prefixes.items));
+      blocks = λ blocks p. rw kind (added new.leaves.items (block ∷ []) leaves_are refl (leaves_grown grows p) one);
+      links = λ links p. rw (kind, append-nil links, joins_stay) (joins_grown grows p);
+      borders = rw (kind, none) (reading_nothing IsEdgeBelow border_at new.prefixes.items);
     }
 
 -- a subapplication instance without a net holds nothing
 pub takes_unknown : {nets : Nets} (draft : Draft) (i : Instance) (edges : List Edge) → i.kind ≡ Subapplication → nets i.type_name ≡ None → edges ≡ [] → TakesInstance nets draft draft i edges
 takes_unknown {nets = nets} draft i edges kind missing none =
-    takes_none draft i edges
-    (ap (λ (k : InstanceKind). blocks_of_kind k nets i.name i.type_name) kind ∙ ap (blocks_of i.name) missing)
-    (ap (λ (k : InstanceKind). inner_links_of_kind k nets i.name i.type_name) kind ∙ ap (links_of i.name) missing)
-    (ap (λ (k : InstanceKind). inner_borders_of_kind k nets i.name i.type_name) kind ∙ ap (borders_of i.name) missing) none
+    record {
+      grows = grows_none draft.prefixes.items;
+      blocks = λ blocks p. rw (kind, missing, append-nil blocks) p;
+      links = λ links p. rw (kind, missing, append-nil links) p;
+      borders = rw (kind, missing, none) (reading_nothing IsEdgeBelow border_at draft.prefixes.items);
+    }
 
 -- what a subapplication instance holds is taken in
 pub takes_inner : {nets : Nets} (old new : Draft) (i : Instance) (inner : PlainFlat) (edges : List Edge) → i.kind ≡ Subapplication → nets i.type_name ≡ Some inner → TakesIn old new i.name inner edges → TakesInstance nets old new i edges
 takes_inner {nets = nets} old new i inner edges kind found t =
-    let blocks_are : blocks_of i.name (Some inner) ≡ inner_blocks nets i = sym (ap (λ (k : InstanceKind). blocks_of_kind k nets i.name i.type_name) kind ∙ ap (blocks_of i.name) found) in
-    let links_are : links_of i.name (Some inner) ≡ inner_links nets i = sym (ap (λ (k : InstanceKind). inner_links_of_kind k nets i.name i.type_name) kind ∙ ap (links_of i.name) found) in
-    let borders_are : borders_of i.name (Some inner) ≡ inner_borders nets i = sym (ap (λ (k : InstanceKind). inner_borders_of_kind k nets i.name i.type_name) kind ∙ ap (borders_of i.name) found) in
     record {
       grows = t.grows;
-      blocks = λ blocks p. subst (λ (bs : List FlatBlock). AreLeaves new.prefixes.items new.leaves.items (blocks ++ bs)) blocks_are (t.blocks blocks p);
-      links = λ links p. subst (λ (ls : List Link). AreJoins new.prefixes.items new.joins.items (links ++ ls)) links_are (t.links links p);
-      borders = subst (λ (bs : List Border). AreEdges new.prefixes.items edges bs) borders_are t.borders;
+      blocks = λ blocks p. rw (kind, found) (t.blocks blocks p);
+      links = λ links p. rw (kind, found) (t.links links p);
+      borders = rw (kind, found) t.borders;
     }
 
 -- no instance has been taken in
@@ -89,9 +72,9 @@ pub holds_nothing : {nets : Nets} (draft : Draft) (table : List ℕ → Option S
 holds_nothing {nets = nets} draft table no_blocks no_links none =
     record {
       grows = grows_none draft.prefixes.items;
-      blocks = subst (λ (ls : List Leaf). AreLeaves draft.prefixes.items ls []) (sym no_blocks) (reading_nothing IsLeafBelow block_at draft.prefixes.items);
-      links = subst (λ (js : List Join). AreJoins draft.prefixes.items js []) (sym no_links) (reading_nothing IsJoinBelow link_at draft.prefixes.items);
-      standing = λ name. subst (λ (o : Option Standing). StandsFor draft.prefixes.items nets o None) (sym (none name)) tt;
+      blocks = rw no_blocks (reading_nothing IsLeafBelow block_at draft.prefixes.items);
+      links = rw no_links (reading_nothing IsJoinBelow link_at draft.prefixes.items);
+      standing = λ name. rw (none name) tt;
     }
 
 named_push : (xs : List Instance) (i : Instance) (name : List ℕ) → instance_named (xs ++ i ∷ []) name ≡ or_instance i name (instance_named xs name)

@@ -1,12 +1,10 @@
 -- The links of a system.
-use Rattle.std.proofs.{Common.{ℕ, ◌≡◌, ◌<◌, ◌+◌, ◌∙◌, List, [], ◌∷◌, length, map, take, get_or, refl, sym, ap, subst}, lemmas.List.Elements.{All-nil}}
-use Rattle.std.specs.{Prelude.{◌↔◌, Contains}, List.{All, flat_map}}
-use Rattle.fb_network.specs.{declared.flat.FlatBlock.{FlatBlock}, declared.flat.Link.{Link}, declared.entries.Leaf.{Leaf}, declared.entries.Join.{Join}}
-use Rattle.fb_network.specs.{declared.entries.Edge.{Edge}, declared.draft.Draft.{Draft}, declared.application.FlatApplication.{FlatApplication}}
-use Rattle.fb_network.specs.{Composed.{link_within}, PlainFlat.{PlainFlat}, LinkOrder.{link_cmp_total}}
+use Rattle.std.proofs.{Common.{ℕ, ◌≡◌, ◌<◌, ◌+◌, ◌∙◌, List, [], ◌∷◌, length, map, take, get_or, refl, sym}, lemmas.List.Elements.{All-nil}}
+use Rattle.std.specs.{Prelude.{◌↔◌, Contains}, List.{flat_map}}
+use Rattle.fb_network.specs.{declared.flat.Link.{Link}, declared.entries.Edge.{Edge}, declared.draft.Draft.{Draft}}
+use Rattle.fb_network.specs.{declared.application.FlatApplication.{FlatApplication}, Composed.{link_within}, PlainFlat.{PlainFlat}, LinkOrder.{link_cmp_total}}
 use Rattle.fb_network.specs.SystemFlat.{IsApplicationLink, IsSystemFlat, application_blocks, application_links}
-use Rattle.fb_network.specs.Laid.{IsEdgeBelow, IsJoinBelow, IsLaid, IsLeafBelow, block_at, border_at, link_at}
-use Rattle.fb_network.specs.Reading.{AreJoins, AreLeaves, IsFinish, TakesIn}
+use Rattle.fb_network.specs.{Laid.{IsEdgeBelow, IsJoinBelow, IsLaid, IsLeafBelow, block_at, link_at}, Reading.{AreJoins, AreLeaves, IsFinish, TakesIn}}
 use Rattle.fb_network.proofs.{Readings.{reading_nothing}, SameSorted.{same_sorted}, Standings.{flat_map_push, next_taken}}
 use Rattle.fb_tree.proofs.Text.Members.{contains_flat_map, contains_here, contains_map, contains_nothing, origin_in_flat_map, origin_in_map}
 
@@ -18,15 +16,13 @@ link_of_application applications link c =
 
 application_link_listed : (applications : List FlatApplication) (link : Link) → IsApplicationLink applications link → Contains (flat_map application_links applications) link
 application_link_listed applications link i =
-    let own = contains_map (link_within i.application.name) i.application.flat.links i.own i.is_own in
-    contains_flat_map application_links applications i.application link i.among
-    (subst (λ (l : Link). Contains (application_links i.application) l) (sym i.inside) own)
+    contains_flat_map application_links applications i.application link i.among (rw i.inside (contains_map (link_within i.application.name) i.application.flat.links i.own i.is_own))
 
 -- a list with the members of the applications' links has the links of the system
 pub system_links_are : (applications : List FlatApplication) (made links : List Link) → made ≡ flat_map application_links applications → ((l : Link) → Contains made l → Contains links l) → ((l : Link) → Contains links l → Contains made l) → (link : Link) → Contains links link ↔ IsApplicationLink applications link
 system_links_are applications made links is kept added link = (
-  λ c. link_of_application applications link (subst (λ (ls : List Link). Contains ls link) is (added link c)),
-  λ i. kept link (subst (λ (ls : List Link). Contains ls link) (sym is) (application_link_listed applications link i)),
+  λ c. link_of_application applications link (rw is at (added link c)),
+  λ i. kept link (rw is (application_link_listed applications link i)),
 )
 
 -- the draft has what the applications hold
@@ -37,27 +33,21 @@ pub record HoldsApplications (draft : Draft) (applications : List FlatApplicatio
 pub applications_none : (draft : Draft) → draft.leaves.items ≡ [] → draft.joins.items ≡ [] → HoldsApplications draft []
 applications_none draft no_leaves no_joins =
     record {
-      blocks = subst (λ (es : List Leaf). AreLeaves draft.prefixes.items es []) (sym no_leaves) (reading_nothing IsLeafBelow block_at draft.prefixes.items);
-      links = subst (λ (es : List Join). AreJoins draft.prefixes.items es []) (sym no_joins) (reading_nothing IsJoinBelow link_at draft.prefixes.items);
+      blocks = rw no_leaves (reading_nothing IsLeafBelow block_at draft.prefixes.items);
+      links = rw no_joins (reading_nothing IsJoinBelow link_at draft.prefixes.items);
     }
 
 -- one application more has been taken in
 pub applications_more : (old new : Draft) (xs : List FlatApplication) (k : ℕ) (a : FlatApplication) (edges : List Edge) → k < length xs → a ≡ get_or xs k a → HoldsApplications old (take k xs) → TakesIn old new a.name a.flat edges → HoldsApplications new (take (k + 1) xs)
 applications_more old new xs k a edges lt e h t =
-    let blocks = sym (flat_map_push application_blocks (take k xs) a) ∙ ap (flat_map application_blocks) (next_taken xs k a lt e) in
-    let links = sym (flat_map_push application_links (take k xs) a) ∙ ap (flat_map application_links) (next_taken xs k a lt e) in
     record {
-      blocks = subst (λ (bs : List FlatBlock). AreLeaves new.prefixes.items new.leaves.items bs) blocks (t.blocks _ h.blocks);
-      links = subst (λ (ls : List Link). AreJoins new.prefixes.items new.joins.items ls) links (t.links _ h.links);
+      blocks = rw (← next_taken xs k a lt e, flat_map_push application_blocks (take k xs) a) (t.blocks _ h.blocks);
+      links = rw (← next_taken xs k a lt e, flat_map_push application_links (take k xs) a) (t.links _ h.links);
     }
 
 pub applications_laid : (draft : Draft) (applications : List FlatApplication) (edges : List Edge) → HoldsApplications draft applications → edges ≡ [] → IsLaid (length draft.prefixes.items) draft.leaves.items draft.joins.items edges
 applications_laid draft applications edges h none =
-    record {
-      leaves_below = h.blocks.in_range;
-      joins_below = h.links.in_range;
-      edges_below = subst (All (IsEdgeBelow (length draft.prefixes.items))) (sym none) (All-nil (IsEdgeBelow (length draft.prefixes.items)));
-    }
+    record { leaves_below = h.blocks.in_range; joins_below = h.links.in_range; edges_below = rw none (All-nil (IsEdgeBelow (length draft.prefixes.items))) }
 
 without_members : {X : Type 0} (xs : List X) → ((x : X) → Contains xs x → Contains [] x) → xs ≡ []
 without_members [] none = refl
@@ -70,7 +60,7 @@ system_is draft applications edges flat h none f =
       blocks = f.blocks ∙ h.blocks.is;
       links = system_links_are applications (map (link_at draft.prefixes.items) draft.joins.items) flat.links h.links.is f.links.kept f.links.added;
       links_sorted = f.links.sorted;
-      borders = without_members flat.borders (λ b c. subst (λ (es : List Edge). Contains (map (border_at draft.prefixes.items) es) b) none (f.borders.added b c));
+      borders = without_members flat.borders (λ b c. rw none at (f.borders.added b c));
     }
 
 -- a system has one flat network only

@@ -1,8 +1,8 @@
 -- Equality of what is compared in parts, told part by part.
-use Rattle.std.proofs.Common.{ℕ, ◌≡◌, ◌+◌, false, ◌&&◌, List, ◌++◌, length, nat_eq, refl, sym, ap, ◌∙◌, length-append}
-use Rattle.std.specs.{declared.cmp.Ordering.{Ordering}, declared.cmp.Ordering.TheVariants.{Less, Equal, Greater}, Cmp.{tied_itself}}
+use Rattle.std.proofs.Common.{ℕ, ◌≡◌, ◌+◌, false, ◌&&◌, List, ◌++◌, length, nat_eq, refl, sym, ap, ◌∙◌, arith, length-append}
+use Rattle.std.specs.{declared.cmp.Ordering.{Ordering}, declared.cmp.Ordering.TheVariants.{Equal}, Cmp.{tied_itself}}
 use Rattle.std.specs.{Ordering.{eq_by_cmp, is_eq, nat_cmp, ordering_then}, Cmp.Lexicographic.{nat_list_cmp_total, pointwise, texts_ties}}
-use Rattle.fb_tree.specs.{Text.Order.{name_cmp}, declared.network.Sort.{Sort}, declared.network.Sort.TheVariants.{Event, Data, Adapter}}
+use Rattle.fb_tree.specs.{Text.Order.{name_cmp}, declared.network.Sort.{Sort}}
 use Rattle.fb_network.specs.Sorts.{number_of, same_sort}
 use Rattle.fb_network.proofs.{Equals.{not_at}, Texts.{by_parts}}
 
@@ -16,33 +16,15 @@ tied xs ys e = sym (ap (name_cmp xs) e) ∙ tied_itself nat_list_cmp_total xs
 pub ruleset ends = (by_ends, tied)
 
 pub sorts_told : (a b : Sort) → is_eq (nat_cmp (number_of a) (number_of b)) ≡ same_sort a b
-sorts_told Event Event = refl
-sorts_told Event Data = refl
-sorts_told Event Adapter = refl
-sorts_told Data Event = refl
-sorts_told Data Data = refl
-sorts_told Data Adapter = refl
-sorts_told Adapter Event = refl
-sorts_told Adapter Data = refl
-sorts_told Adapter Adapter = refl
+sorts_told a b = grind arith
 
 -- the last part first
 pub told_back : (a b : Ordering) → is_eq (ordering_then a b) ≡ (is_eq b && is_eq a)
-told_back Less Less = refl
-told_back Less Equal = refl
-told_back Less Greater = refl
-told_back Equal Less = refl
-told_back Equal Equal = refl
-told_back Equal Greater = refl
-told_back Greater Less = refl
-told_back Greater Equal = refl
-told_back Greater Greater = refl
+told_back a b = grind arith
 
 -- the first part of three, and then the last one first
 pub told_last : (a b c : Ordering) → is_eq (ordering_then a (ordering_then b c)) ≡ (is_eq a && (is_eq c && is_eq b))
-told_last Less b c = refl
-told_last Equal b c = told_back b c
-told_last Greater b c = refl
+told_last a b c = grind arith
 
 -- ends and then starts of one length
 pub text_told : (xs us ys vs : List ℕ) → length xs ≡ length ys → eq_by_cmp name_cmp (xs ++ us) (ys ++ vs) ≡ (pointwise nat_eq us vs && pointwise nat_eq xs ys)

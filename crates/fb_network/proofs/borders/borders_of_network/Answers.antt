@@ -1,9 +1,8 @@
 -- The borders of one connection more.
-use Rattle.std.proofs.{Common.{◌+◌, List, length, ap, subst, ◌∙◌}, lemmas.List.{take_all}}
+use Rattle.std.proofs.{Common.{◌+◌, List, length, ap, ◌∙◌}, lemmas.List.{take_all}}
 use Rattle.std.specs.BTreeMap.{get}
 use Rattle.fb_tree.specs.Text.Order.{name_cmp}
-use Rattle.fb_network.specs.{declared.network.Connection.{Connection}, declared.network.Instance.{Instance}, declared.place.Place.{Place}}
-use Rattle.fb_network.specs.Standing.{AreEdgesOf, own_place}
+use Rattle.fb_network.specs.{declared.network.Instance.{Instance}, declared.place.Place.{Place}, Standing.{own_place}}
 use Rattle.fb_network.proofs.Connections.{edges_more, edges_none}
 use Rattle.fb_network.proofs.borders.borders_of_network.Goals as goal
 
@@ -19,6 +18,4 @@ loop-place-preserved c =
     c.connections-connections.ensures c.loop-place-test.true c.index-connections-place.is from_is to_is c.in_ok-push_connection_borders.ensures c.loop-place.invariant
 
 pub returns : goal.returns
-returns c =
-    subst (λ (cs : List Connection). AreEdgesOf c.args.network.now (get name_cmp c.args.table.now) c.loop-place.edges.items cs)
-    (take_all c.loop-place.place c.connections-connections.result.now c.loop-place-test.false ∙ c.connections-connections.ensures) c.loop-place.invariant
+returns c = rw (take_all c.loop-place.place c.connections-connections.result.now c.loop-place-test.false, c.connections-connections.ensures) at c.loop-place.invariant

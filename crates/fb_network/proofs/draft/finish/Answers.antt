@@ -1,6 +1,6 @@
 -- What is left is in range, and in order.
-use Rattle.std.proofs.Common.{refl, subst, List, length}
-use Rattle.fb_network.specs.{PlainPrefix.{PlainPrefix}, LinkOrder.{border_cmp, link_cmp}, Laid.{IsEdgeBelow, IsJoinBelow, border_at, link_at}, Once.{IsOnce}}
+use Rattle.std.proofs.Common.{refl, length}
+use Rattle.fb_network.specs.Laid.{IsEdgeBelow, IsJoinBelow}
 use Rattle.fb_network.proofs.{Drafts.{once_ordered}, SortedOnce.{all_left}}
 use Rattle.fb_network.proofs.draft.finish.Goals as goal
 
@@ -16,6 +16,6 @@ invariant_of-result c =
 
 pub returns : goal.returns
 returns c =
-    let joins = subst (λ (fs : List PlainPrefix). IsOnce (link_at fs) link_cmp c.args.draft.joins.items c.sort_joins.new.joins.items) c.deref.ensures.value c.in_ok-sort_joins.ensures in
-    let edges = subst (λ (fs : List PlainPrefix). IsOnce (border_at fs) border_cmp c.args.edges.items c.sort_edges.new.edges.items) c.deref-2.ensures.value c.in_ok-sort_edges.ensures in
+    let joins = rw c.deref.ensures.value at c.in_ok-sort_joins.ensures in
+    let edges = rw c.deref-2.ensures.value at c.in_ok-sort_edges.ensures in
     rw c.in_ok-tables.ensures.ok (record { blocks = refl; links = once_ordered c.args.draft.joins.items c.sort_joins.new.joins.items joins; borders = once_ordered c.args.edges.items c.sort_edges.new.edges.items edges })

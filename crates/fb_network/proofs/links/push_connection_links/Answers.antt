@@ -2,7 +2,7 @@
 use Rattle.std.proofs.{Common.{◌∙◌}, lemmas.Result.{on_ok_weaker}}
 use Rattle.std.specs.BTreeMap.{get}
 use Rattle.fb_tree.specs.Text.Order.{name_cmp}
-use Rattle.fb_network.proofs.Connections.{adds_connection, behind_below, behind_reach, table_instances}
+use Rattle.fb_network.proofs.Connections.{adds_connection, behind_below, table_instances}
 use Rattle.fb_network.proofs.links.push_connection_links.Goals as goal
 
 pub push_between-requires-clause-table : goal.push_between-requires-clause-table
@@ -11,12 +11,12 @@ push_between-requires-clause-table g c =
 
 pub push_between-requires-clause-froms : goal.push_between-requires-clause-froms
 push_between-requires-clause-froms g c =
-    behind_below c.args.draft.now.prefixes.items c.args.network.now (get name_cmp c.args.table.now) c.args.connection.now.sort c.args.source c.args.connection.now c.deref.result.now c.requires.table c.requires.source
+    behind_below c.args.draft.now.prefixes.items c.args.network.now (get name_cmp c.args.table.now) c.args.connection.now.sort c.args.source c.args.connection.now.source c.deref.result.now c.requires.table c.requires.source
     (c.deref.ensures.value ∙ c.in_ok-froms.ensures)
 
 pub push_between-requires-clause-tos : goal.push_between-requires-clause-tos
 push_between-requires-clause-tos g c =
-    behind_reach c.args.draft.now.prefixes.items c.args.network.now (get name_cmp c.args.table.now) c.args.connection.now.sort c.args.destination c.args.connection.now c.deref-2.result.now c.requires.table c.requires.destination
+    behind_below c.args.draft.now.prefixes.items c.args.network.now (get name_cmp c.args.table.now) c.args.connection.now.sort c.args.destination c.args.connection.now.destination c.deref-2.result.now c.requires.table c.requires.destination
     (c.deref-2.ensures.value ∙ c.in_ok-tos.ensures)
 
 pub returns : goal.returns

@@ -1,14 +1,13 @@
 -- The links of one connection more.
-use Rattle.std.proofs.{Common.{◌+◌, List, length, ap, subst, ◌∙◌}, lemmas.List.{take_all}}
+use Rattle.std.proofs.{Common.{◌+◌, List, length, ap, ◌∙◌}, lemmas.List.{take_all}}
 use Rattle.std.specs.BTreeMap.{get}
 use Rattle.fb_tree.specs.Text.Order.{name_cmp}
-use Rattle.fb_network.specs.{declared.network.Connection.{Connection}, declared.network.Instance.{Instance}, declared.place.Place.{Place}}
-use Rattle.fb_network.specs.Standing.{AddsConnections, own_place}
-use Rattle.fb_network.proofs.{Connections.{connects_more, connects_none, own_grown, says_destination, says_source}, Standings.{table_grown}}
+use Rattle.fb_network.specs.{declared.network.Instance.{Instance}, declared.place.Place.{Place}, Standing.{own_place}}
+use Rattle.fb_network.proofs.{Connections.{adds_none, connects_more, own_grown, says_destination, says_source}, Standings.{table_grown}}
 use Rattle.fb_network.proofs.links.push_links.Goals as goal
 
 pub loop-place-init : goal.loop-place-init
-loop-place-init g c = connects_none (g.V.Networks.networks c.args.view.now) c.args.network.now (get name_cmp c.args.table.now) c.args.draft.now
+loop-place-init g c = λ nets is. adds_none c.args.draft.now
 
 pub push_connection_links-requires : goal.push_connection_links-requires
 push_connection_links-requires g c =
@@ -33,6 +32,4 @@ loop-place-preserved g c =
     c.connections-connections.ensures c.loop-place-test.true c.index-connections-place.is c.loop-place.invariant c.in_ok-push_connection_links.ensures
 
 pub returns : goal.returns
-returns g c =
-    subst (λ (cs : List Connection). AddsConnections (g.V.Networks.networks c.args.view.now) c.args.network.now (get name_cmp c.args.table.now) c.args.draft.now c.loop-place.draft cs)
-    (take_all c.loop-place.place c.connections-connections.result.now c.loop-place-test.false ∙ c.connections-connections.ensures) c.loop-place.invariant
+returns g c = rw (take_all c.loop-place.place c.connections-connections.result.now c.loop-place-test.false, c.connections-connections.ensures) at c.loop-place.invariant

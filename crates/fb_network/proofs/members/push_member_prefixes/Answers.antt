@@ -1,13 +1,11 @@
 -- Each prefix stands behind those that there were.
-use Rattle.std.proofs.{Common.{ℕ, ◌≡◌, List, sym, subst, ap, length, get_or, ◌∙◌, ◌++◌, ◌∷◌, []}, lemmas.List.{get_or_default}}
+use Rattle.std.proofs.{Common.{◌≡◌, List, ap, length, get_or, ◌∙◌, ◌++◌, ◌∷◌, []}, lemmas.List.{get_or_default}}
 use Rattle.fb_network.specs.{declared.place.Place.{Place}, PlainPrefix.{PlainPrefix}, Behind.{prefix_behind}, Laid.{path_at}}
-use Rattle.fb_network.proofs.PortMembers.{AddsMembers, adds_member, adds_nothing}
+use Rattle.fb_network.proofs.PortMembers.{adds_member, adds_nothing}
 use Rattle.fb_network.proofs.members.push_member_prefixes.Goals as goal
 
 pub loop-place-init : goal.loop-place-init
-loop-place-init c =
-    subst (λ (ns : List ℕ). AddsMembers c.args.prefixes.now.items c.args.prefixes.now.items c.args.names.now.value.items ns []) (sym c.in_ok-numbers.ensures.items)
-    (adds_nothing c.args.prefixes.now.items c.args.names.now.value.items)
+loop-place-init c = rw c.in_ok-numbers.ensures.items (adds_nothing c.args.prefixes.now.items c.args.names.now.value.items)
 
 pub loop-place-preserved : goal.loop-place-preserved
 loop-place-preserved c =

@@ -1,4 +1,4 @@
-use Rattle.std.proofs.{Common.{◌≡◌, ◌-◌, true, refl, sym, ◌∙◌, arith}, lemmas.List.{get_or_default}, lemmas.List.Sorted.{all_adjacent_more}}
+use Rattle.std.proofs.{Common.{◌≡◌, ◌-◌, true, sym, ◌∙◌, arith}, lemmas.List.{get_or_default}, lemmas.List.Sorted.{all_adjacent_more}}
 use Rattle.std.specs.{declared.cmp.Ordering.{Ordering}, declared.cmp.Ordering.TheVariants.{Less}, Ordering.{is_lt}}
 use Rattle.fb_network.specs.{Laid.{link_at}, LinkOrder.{link_cmp, link_cmp_total}, declared.entries.Join.{Join}}
 use Rattle.fb_tree.specs.declared.network.Sort.TheVariants.{Event}
@@ -6,8 +6,7 @@ use Rattle.fb_network.proofs.{SortedOnce.{risen_once}}
 use Rattle.fb_network.proofs.order.joins_rise.Goals as goal
 
 is_less : (r : Ordering) → is_lt r ≡ true → r ≡ Less
-is_less Less e = refl
-is_less o e = absurd (let no : ⊥ = cc in no)
+is_less r e = grind arith
 
 pub returns : goal.returns
 returns c = λ yes. risen_once (link_at c.args.prefixes.now) link_cmp link_cmp_total c.args.joins.now (λ k d h. c.loop-i.invariant k d (omega arith))

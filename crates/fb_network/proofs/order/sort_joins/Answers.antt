@@ -1,7 +1,7 @@
 -- The closures compare what the entries say.
-use Rattle.std.proofs.{Common.{◌≡◌, List, refl, rules, subst}, lemmas.Fn.{always_returns_same, dedup_same}, lemmas.List.Sorted.{ranks_by}}
+use Rattle.std.proofs.{Common.{◌≡◌, refl, rules}, lemmas.Fn.{always_returns_same, dedup_same}, lemmas.List.Sorted.{ranks_by}}
 use Rattle.std.specs.Ordering.{eq_by_cmp, is_lt}
-use Rattle.fb_network.specs.{Laid.{link_at}, LinkOrder.{link_cmp, link_cmp_total}, Once.{IsOnce}, declared.entries.Join.{Join}}
+use Rattle.fb_network.specs.{Laid.{link_at}, LinkOrder.{link_cmp, link_cmp_total}}
 use Rattle.fb_network.proofs.{Equals.{exact_link}, SortedOnce.{sorted_once}}
 use Rattle.fb_network.proofs.order.sort_joins.Goals as goal
 
@@ -14,4 +14,4 @@ returns-in_ok-sort_by c =
     (dedup_same _ (λ x y. eq_by_cmp link_cmp (says x) (says y)) _ (λ x y b f' x' y' k. search rules) _ _ c.dedup_by.ensures.filtered)
 
 pub returns-else-not-joins_rise : goal.returns-else-not-joins_rise
-returns-else-not-joins_rise c = subst (λ (es : List Join). IsOnce (link_at c.args.prefixes.now) link_cmp es es) c.as_slice.ensures.value (c.if-not-joins_rise.ensures refl)
+returns-else-not-joins_rise c = rw c.as_slice.ensures.value at (c.if-not-joins_rise.ensures refl)

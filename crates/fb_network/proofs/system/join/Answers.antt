@@ -1,7 +1,6 @@
 -- What the applications hold, put in order, is the flat network of the system.
-use Rattle.std.proofs.{Common.{subst, take, List}, lemmas.List.{take_all}, lemmas.Result.{IfOk-weaker}}
-use Rattle.fb_network.specs.declared.application.FlatApplication.{FlatApplication}
-use Rattle.fb_network.proofs.SystemLemmas.{HoldsApplications, applications_laid, applications_more, applications_none, system_is}
+use Rattle.std.proofs.{Common.{take}, lemmas.List.{take_all}, lemmas.Result.{IfOk-weaker}}
+use Rattle.fb_network.proofs.SystemLemmas.{applications_laid, applications_more, applications_none, system_is}
 use Rattle.fb_network.proofs.system.join.Goals as goal
 
 pub loop-application-init : goal.loop-application-init
@@ -17,6 +16,5 @@ finish-requires c = applications_laid c.loop-application.draft (take c.loop-appl
 
 pub returns : goal.returns
 returns c =
-    let all = take_all c.loop-application.application-index c.args.applications.now c.loop-application-test.false in
-    let holds = subst (λ (xs : List FlatApplication). HoldsApplications c.loop-application.draft xs) all c.loop-application.invariant in
+    let holds = rw (take_all c.loop-application.application-index c.args.applications.now c.loop-application-test.false) at c.loop-application.invariant in
     IfOk-weaker c.finish.result _ _ (λ flat is. system_is c.loop-application.draft c.args.applications.now c.new.result.items flat holds c.new.ensures.items is) c.finish.ensures
