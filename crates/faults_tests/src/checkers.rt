@@ -39,27 +39,6 @@ pub fn found_by(
     }
 }
 
-/// Adds what a checker finds.
-fn add(
-    checker: Checker,
-    alloc: Global,
-    library: &Library,
-    unit: &Name,
-    joined: &mut Vec<Fault>,
-) -> Result<(), AllocError> {
-    let found = found_by(checker, alloc, library, unit)?;
-    joined.extend_from_slice(found.as_slice())
-}
-
-/// What all checkers find, in order, each fault once.
-fn joined(alloc: Global, library: &Library, unit: &Name) -> Result<Vec<Fault>, AllocError> {
-    let mut joined = Vec::new(alloc);
-    for checker in &CHECKERS {
-        add(*checker, alloc, library, unit, &mut joined)?;
-    }
-    sorted_faults(alloc, joined.as_slice())
-}
-
 /// Whether a checker can find a fault with this code. Those of broken texts and of mappings are found by `faults` alone.
 fn is_of_checkers(code: Code) -> bool {
     !matches!(
@@ -68,37 +47,20 @@ fn is_of_checkers(code: Code) -> bool {
     )
 }
 
-/// Those of these faults that a checker can find.
-fn of_checkers(alloc: Global, all: &[Fault]) -> Result<Vec<Fault>, AllocError> {
-    let mut kept = Vec::new(alloc);
-    for fault in all {
-        if is_of_checkers(fault.code) {
-            kept.push(*fault)?;
-        }
-    }
-    Ok(kept)
-}
-
-/// Whether the checkers find these faults together.
+/// Whether the checkers find these faults together, in order, each once.
 pub fn find(
     alloc: Global,
     library: &Library,
     unit: &Name,
     expected: &[Fault],
 ) -> Result<bool, AllocError> {
-    let found = joined(alloc, library, unit)?;
+    let mut joined = Vec::new(alloc);
+    for checker in &CHECKERS {
+        let found = found_by(*checker, alloc, library, unit)?;
+        joined.extend_from_slice(found.as_slice())?;
+    }
+    let found = sorted_faults(alloc, joined.as_slice())?;
     Ok(found.as_slice() == expected)
-}
-
-/// Whether the checkers find those of these faults that a checker can find.
-fn find_theirs(
-    alloc: Global,
-    library: &Library,
-    unit: &Name,
-    all: &[Fault],
-) -> Result<bool, AllocError> {
-    let expected = of_checkers(alloc, all)?;
-    find(alloc, library, unit, expected.as_slice())
 }
 
 /// Whether the faults of a unit, but for those of a broken text and of mappings, are those that the checkers find together.
@@ -107,6 +69,11 @@ pub fn are_found_together(
     library: &Library,
     unit: &Name,
 ) -> Result<bool, AllocError> {
-    let all = faults(alloc, library, unit)?;
-    find_theirs(alloc, library, unit, all.as_slice())
+    let mut expected = Vec::new(alloc);
+    for fault in &faults(alloc, library, unit)? {
+        if is_of_checkers(fault.code) {
+            expected.push(*fault)?;
+        }
+    }
+    find(alloc, library, unit, expected.as_slice())
 }

@@ -33,3 +33,5 @@ mod plant;
 mod refused;
 #[cfg(test)]
 mod structures;
+#[cfg(test)]
+mod units;

@@ -1,5 +1,5 @@
 //! Libraries of units, and the parts of faults and interfaces.
-use crate::plant::{library, put};
+use crate::plant::{library, put, say_names};
 use fb_faults::faults;
 use fb_iface::{Code, Fault, first_declared, interface, sorted_faults};
 use fb_library::parse::{Body, Source};
@@ -10,20 +10,11 @@ use std::process::Abort;
 use std::test::Fail;
 
 // S rests on A, and A and B on each other.
-static RECURSIVE: [(&str, &str); 3] = [
-    ("S", "SUBAPPLICATION S FBS Z:A; END_FBS END_SUBAPPLICATION"),
-    ("A", "FUNCTION_BLOCK A FBS X:B; END_FBS END_FUNCTION_BLOCK"),
-    ("B", "FUNCTION_BLOCK B FBS Y:A; END_FBS END_FUNCTION_BLOCK"),
-];
-
-/// Names, each with a blank after it.
-fn told(alloc: Global, names: &[Name]) -> Result<String, AllocError> {
-    let mut told = String::new(alloc);
-    for name in names {
-        write!(told, "{name} ")?;
-    }
-    Ok(told)
-}
+pub const RECURSIVE: &str = r#"
+SUBAPPLICATION S FBS Z:A; END_FBS END_SUBAPPLICATION
+FUNCTION_BLOCK A FBS X:B; END_FBS END_FUNCTION_BLOCK
+FUNCTION_BLOCK B FBS Y:A; END_FBS END_FUNCTION_BLOCK
+"#;
 
 fn is_declared(library: &Library, name: &Name) -> bool {
     let is_whole = match View::get(library, name) {
@@ -34,29 +25,23 @@ fn is_declared(library: &Library, name: &Name) -> bool {
     is_whole && has_tree && declaration_by_name(library, name).is_some()
 }
 
-fn near_told(alloc: Global, library: &Library, name: Name) -> Result<String, Fail> {
-    let names = near(alloc, library, name)?;
-    Ok(told(alloc, &names)?)
-}
-
-fn far_told(alloc: Global, library: &Library, name: Name) -> Result<String, Fail> {
-    let names = far(alloc, library, name)?;
-    Ok(told(alloc, &names)?)
-}
-
-/// Compares what is near and far of S.
-fn compare_near(rt: &impl Abort, alloc: Global, library: &Library) -> Result<(), Fail> {
-    let s = Name::read("s")?;
-    assert_eq!(rt; near_told(alloc, library, s)?.as_str(), "A S ", "near");
-    assert_eq!(rt; far_told(alloc, library, s)?.as_str(), "A B S ", "far");
-    assert!(rt; is_declared(library, &s));
-    Ok(())
+/// The names near a unit, and those far of it.
+fn near_and_far(alloc: Global, library: &Library, name: Name) -> Result<String, AllocError> {
+    let mut told = String::new(alloc);
+    say_names(&mut told, &near(alloc, library, name)?)?;
+    told.push_str(" |")?;
+    say_names(&mut told, &far(alloc, library, name)?)?;
+    Ok(told)
 }
 
 #[test]
 fn near_is_mentioned_and_far_is_reached(rt: HostRuntime) -> Result<(), Fail> {
-    let library = library(rt.alloc(), &RECURSIVE)?;
-    compare_near(&rt, rt.alloc(), &library)
+    let library = library(rt.alloc(), RECURSIVE)?;
+    let s = Name::read("s")?;
+    let told = near_and_far(rt.alloc(), &library, s)?;
+    assert_eq!(rt; told.as_str(), " A S | A B S", "near and far");
+    assert!(rt; is_declared(&library, &s));
+    Ok(())
 }
 
 /// How many units there are, and their names with their revisions.
@@ -84,24 +69,13 @@ fn changes(alloc: Global) -> Result<[Change; 2], Fail> {
     Ok([put(alloc, "B", 1, SHORT)?, Change::Remove { unit, base: 1 }])
 }
 
-fn first_unit(changes: &[Change]) -> Option<Name> {
-    match changes.first() {
-        Some(change) => Some(change.unit()),
-        None => None,
-    }
-}
-
-/// Makes these changes, of which the first is for B.
-fn change(rt: &impl Abort, library: &mut Library, changes: &[Change]) -> Result<(), Fail> {
-    assert_eq!(rt; first_unit(changes), Some(Name::read("B")?), "B");
-    Ok(library.apply(2, changes)?)
-}
-
-/// Makes copies of the changes.
+/// Makes copies of the changes, of which the first is for B.
 fn change_by_copies(rt: &impl Abort, alloc: Global, library: &mut Library) -> Result<(), Fail> {
     let changes = changes(alloc)?;
     let copies = Change::copies(alloc, changes.as_slice())?;
-    change(rt, library, copies.as_slice())
+    let first = copies.as_slice().first().map(Change::unit);
+    assert_eq!(rt; first, Some(Name::read("B")?), "B");
+    Ok(library.apply(2, copies.as_slice())?)
 }
 
 fn compare_units(
@@ -114,46 +88,25 @@ fn compare_units(
     Ok(())
 }
 
-/// Compares the places of names in a library of three units.
-fn compare_places(rt: &impl Abort, library: &Library) -> Result<(), Fail> {
-    let found = [library.name_at(1), library.name_at(3)];
-    assert_eq!(rt; found, [Some(Name::read("B")?), None], "names");
-    Ok(())
-}
-
-/// Compares the texts of a library from which S was removed.
-fn compare_texts(rt: &impl Abort, library: &Library) -> Result<(), Fail> {
-    let [b, s] = [Name::read("B")?, Name::read("S")?];
-    assert_eq!(rt; library.revision(&s), 0, "S");
-    assert_eq!(rt; text_of(library, &b), SHORT, "B");
-    assert_eq!(rt; text_of(library, &s), "", "S");
-    Ok(())
-}
-
 /// Changes a copy of these units, and compares both then.
-fn compare_changed(
-    rt: &impl Abort,
-    alloc: Global,
-    library: &Library,
-    copy: &mut Library,
-) -> Result<(), Fail> {
-    compare_units(rt, alloc, copy, "3: A 1 B 1 S 1")?;
-    compare_places(rt, copy)?;
-    change_by_copies(rt, alloc, copy)?;
-    compare_units(rt, alloc, copy, "2: A 1 B 2")?;
-    compare_units(rt, alloc, library, "3: A 1 B 1 S 1")?;
-    compare_texts(rt, copy)
-}
-
 fn compare_copy(rt: &impl Abort, alloc: Global, library: &Library) -> Result<(), Fail> {
     let mut copy = library.copy()?;
-    compare_changed(rt, alloc, library, &mut copy)
+    let [b, s] = [Name::read("B")?, Name::read("S")?];
+    compare_units(rt, alloc, &copy, "3: A 1 B 1 S 1")?;
+    let found = [copy.name_at(1), copy.name_at(3)];
+    assert_eq!(rt; found, [Some(b), None], "names");
+    change_by_copies(rt, alloc, &mut copy)?;
+    compare_units(rt, alloc, &copy, "2: A 1 B 2")?;
+    compare_units(rt, alloc, library, "3: A 1 B 1 S 1")?;
+    assert_eq!(rt; copy.revision(&s), 0, "S");
+    assert_eq!(rt; text_of(&copy, &b), SHORT, "B");
+    assert_eq!(rt; text_of(&copy, &s), "", "S");
+    Ok(())
 }
 
 #[test]
 fn a_copy_is_changed_alone(rt: HostRuntime) -> Result<(), Fail> {
-    let library = library(rt.alloc(), &RECURSIVE)?;
-    compare_copy(&rt, rt.alloc(), &library)
+    compare_copy(&rt, rt.alloc(), &library(rt.alloc(), RECURSIVE)?)
 }
 
 /// How many faults a unit has.
@@ -161,33 +114,18 @@ fn count(alloc: Global, library: &Library, name: &str) -> Result<usize, Fail> {
     Ok(faults(alloc, library, &Name::read(name)?)?.len())
 }
 
-/// How many faults a unit has that is in no library.
-fn count_in_none(alloc: Global) -> Result<usize, Fail> {
-    let none = Library::new(alloc);
-    count(alloc, &none, "A")
-}
-
-/// How many faults a unit has that is not in the library.
-fn count_of_absent(alloc: Global) -> Result<usize, Fail> {
-    let library = library(alloc, &RECURSIVE)?;
-    count(alloc, &library, "C")
-}
-
-fn has_interface(alloc: Global, source: &Source) -> Result<bool, AllocError> {
-    let found = interface(alloc, source)?;
-    Ok(found.is_some())
-}
-
 /// Whether the text of a unit has no interface.
 fn is_without_interface(alloc: Global, text: &str) -> Result<bool, Fail> {
     let source = Source::read(alloc, Name::read("A")?, text)?;
-    Ok(!has_interface(alloc, &source)?)
+    Ok(interface(alloc, &source)?.is_none())
 }
 
 #[test]
 fn what_is_absent_or_broken(rt: HostRuntime) -> Result<(), Fail> {
-    let counts = [count_in_none(rt.alloc())?, count_of_absent(rt.alloc())?];
-    assert_eq!(rt; counts, [0, 0], "faults");
+    let none = Library::new(rt.alloc());
+    let some = library(rt.alloc(), RECURSIVE)?;
+    assert_eq!(rt; count(rt.alloc(), &none, "A")?, 0, "in no library");
+    assert_eq!(rt; count(rt.alloc(), &some, "C")?, 0, "not in the library");
     assert!(rt; is_without_interface(rt.alloc(), "X")?);
     Ok(())
 }

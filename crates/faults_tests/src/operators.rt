@@ -2,7 +2,7 @@
 //!
 //! The class of an expression shows in the statements that may contain it: B and Any as a truth value, I, Num and Any as a subscript, W, Num
 //! and Any as a string of bits, and what is not checked before `MOD TRUE` too.
-use crate::plant::{faults_of, library};
+use crate::plant::{faults_of, library, lines_of, row_in};
 use fb_iface::Code;
 use fb_library::Library;
 use std::alloc::Global;
@@ -15,34 +15,19 @@ const HEAD: &str =
 // Operands of the classes B, I, W, O, Free, Num and Any.
 static OPERANDS: [&str; 7] = ["B", "X", "W", "R", "F", "2", "1"];
 
-// What each operator makes of the pairs of classes, by the left one. `-` stands where its rule is broken.
-const LOGICAL: &str = "B---F-B ----F-- --W-FWW ----F-- FFFFFFF --W-FNN B-W-FNA ";
+// What operators make of the pairs of classes, by the left one. `-` stands where their rule is broken.
+const PAIRS: &str = r#"
+OR XOR AND => B---F-B ----F-- --W-FWW ----F-- FFFFFFF --W-FNN B-W-FNA
+= <> < > <= >= => B---B-B -B-BBBB --B-BBB -B-BBBB BBBBBBB -BBBBBB BBBBBBB
++ - * / ** => ----F-- -I-OFII ----F-- -O-OFOO FFFFFFF -I-OFNN -I-OFNN
+MOD => ----F-- -I--FII ----F-- ----F-- FFFFFFF -I--FNN -I--FNN
+"#;
 
-const COMPARED: &str = "B---B-B -B-BBBB --B-BBB -B-BBBB BBBBBBB -BBBBBB BBBBBBB ";
-
-const ARITHMETICAL: &str = "----F-- -I-OFII ----F-- -O-OFOO FFFFFFF -I-OFNN -I-OFNN ";
-
-const WHOLE: &str = "----F-- -I--FII ----F-- ----F-- FFFFFFF -I--FNN -I--FNN ";
-
-static PAIRS: [(&str, &str); 15] = [
-    ("OR", LOGICAL),
-    ("XOR", LOGICAL),
-    ("AND", LOGICAL),
-    ("=", COMPARED),
-    ("<>", COMPARED),
-    ("<", COMPARED),
-    (">", COMPARED),
-    ("<=", COMPARED),
-    (">=", COMPARED),
-    ("+", ARITHMETICAL),
-    ("-", ARITHMETICAL),
-    ("*", ARITHMETICAL),
-    ("/", ARITHMETICAL),
-    ("**", ARITHMETICAL),
-    ("MOD", WHOLE),
-];
-
-static SINGLES: [(&str, &str); 3] = [("NOT", "B-W-FNA"), ("+", "-I-OFNN"), ("-", "-I-OFNN")];
+// What they make of each class.
+const SINGLES: &str = r#"
+NOT => B-W-FNA
++ - => -I-OFNN
+"#;
 
 /// Whether an expression may be in a statement. If it may not, a rule of classes is the one fault.
 fn may_stand(
@@ -101,56 +86,35 @@ fn letter(alloc: Global, none: &Library, expression: &str) -> Result<&'static st
     Ok(known.map_or("?", |(_, letter)| *letter))
 }
 
-/// Adds the letters of an operator after an operand, which may be absent, and before each operand.
-fn say_row(
-    alloc: Global,
-    none: &Library,
-    (left, operator): (&str, &str),
-    table: &mut String,
-) -> Result<(), Fail> {
-    for right in &OPERANDS {
-        let expression = format!(in alloc; "{left} {operator} {right}")?;
-        table.push_str(letter(alloc, none, expression.as_str())?)?;
-    }
-    Ok(())
-}
-
-/// What an operator makes of all pairs of classes.
-fn pairs(alloc: Global, none: &Library, operator: &str) -> Result<String, Fail> {
+/// What an operator makes of each of these left operands, of which one may be absent, with each operand.
+fn table(alloc: Global, none: &Library, lefts: &[&str], operator: &str) -> Result<String, Fail> {
     let mut table = String::new(alloc);
-    for left in &OPERANDS {
-        say_row(alloc, none, (left, operator), &mut table)?;
+    for left in lefts {
         table.push_str(" ")?;
+        for right in &OPERANDS {
+            let expression = format!(in alloc; "{left} {operator} {right}")?;
+            table.push_str(letter(alloc, none, expression.as_str())?)?;
+        }
     }
     Ok(table)
 }
 
-/// What an operator makes of each class.
-fn singles(alloc: Global, none: &Library, operator: &str) -> Result<String, Fail> {
-    let mut table = String::new(alloc);
-    say_row(alloc, none, ("", operator), &mut table)?;
-    Ok(table)
-}
-
-fn compare_pairs(rt: &impl Abort, alloc: Global, none: &Library) -> Result<(), Fail> {
-    for (operator, expected) in &PAIRS {
-        let found = pairs(alloc, none, operator)?;
-        assert_eq!(rt; found.as_str(), *expected, "{operator}");
-    }
-    Ok(())
-}
-
-fn compare_singles(rt: &impl Abort, alloc: Global, none: &Library) -> Result<(), Fail> {
-    for (operator, expected) in &SINGLES {
-        let found = singles(alloc, none, operator)?;
-        assert_eq!(rt; found.as_str(), *expected, "{operator}");
+/// Compares what each operator of each row makes of these left operands.
+fn compare(rt: &impl Abort, alloc: Global, lefts: &[&str], rows: &str) -> Result<(), Fail> {
+    let none = library(alloc, "")?;
+    for line in lines_of(alloc, rows)?.as_str().split('\n') {
+        if let Some((operators, expected)) = row_in(line) {
+            for operator in operators.split_whitespace() {
+                let found = table(alloc, &none, lefts, operator)?;
+                assert_eq!(rt; found.as_str().trim_start(), expected, "{operator}");
+            }
+        }
     }
     Ok(())
 }
 
 #[test]
 fn operators_on_all_classes(rt: HostRuntime) -> Result<(), Fail> {
-    let none = library(rt.alloc(), &[])?;
-    compare_pairs(&rt, rt.alloc(), &none)?;
-    compare_singles(&rt, rt.alloc(), &none)
+    compare(&rt, rt.alloc(), &OPERANDS, PAIRS)?;
+    compare(&rt, rt.alloc(), &[""], SINGLES)
 }

@@ -1,7 +1,8 @@
 //! The units that the texts of the tables name, and the notation of faults.
 //!
-//! Faults are written as `CODE words; CODE words`, the words being those at the place of the fault. If they occur for the second time
-//! in the text, `#2` follows, and so on. The faults of each text of a table are compared with those that the checkers find together, too.
+//! A table has a row `TEXT => FAULTS` in each line, or in two where they are long. A text alone has no faults, and what begins with `// ` is
+//! a remark. Faults are written as `CODE words; CODE words`, the words being those at the place of the fault. If they occur for the second
+//! time in the text, `#2` follows, and so on. The faults of each text are compared with those that the checkers find together, too.
 use crate::checkers::are_found_together;
 use fb_faults::faults;
 use fb_iface::Fault;
@@ -12,56 +13,23 @@ use std::alloc::{AllocError, Global};
 use std::process::Abort;
 use std::test::Fail;
 
-static UNITS: [(&str, &str); 15] = [
-    (
-        "A",
-        "ADAPTER A EVENT_INPUT E; END_EVENT VAR_INPUT V:INT; END_VAR END_ADAPTER",
-    ),
-    (
-        "AA",
-        "ADAPTER AA EVENT_INPUT X; END_EVENT EVENT_OUTPUT X; END_EVENT VAR_INPUT Y:INT; END_VAR END_ADAPTER",
-    ),
-    (
-        "AD",
-        "ADAPTER AD EVENT_INPUT CF; E; END_EVENT EVENT_OUTPUT RQ; END_EVENT VAR_INPUT U:BOOL; W:INT; END_VAR VAR_OUTPUT V:INT; L:ARRAY[0..3] OF WORD; END_VAR END_ADAPTER",
-    ),
-    (
-        "B",
-        "FUNCTION_BLOCK B EVENT_INPUT I; END_EVENT EVENT_OUTPUT O; END_EVENT VAR_INPUT X:INT; X1:DINT; END_VAR VAR_OUTPUT Y:INT; END_VAR VAR L:INT; END_VAR PLUGS P:AD; END_PLUGS SOCKETS Q:AD; END_SOCKETS END_FUNCTION_BLOCK",
-    ),
-    ("BAD", "ADAPTER BAD"),
-    (
-        "C",
-        "SUBAPPLICATION C EVENT_INPUT I; END_EVENT EVENT_OUTPUT O; END_EVENT VAR_INPUT X:INT; END_VAR VAR_OUTPUT Y:INT; END_VAR PLUGS P:AD; END_PLUGS SOCKETS Q:AD; END_SOCKETS END_SUBAPPLICATION",
-    ),
-    (
-        "LENGTHS",
-        "FUNCTION_BLOCK LENGTHS VAR_INPUT A:ARRAY[0..9]OF INT; B:STRING[10]; B1:STRING[1_0]; D:ARRAY[0..8] OF INT; E:string; F:ANY[3]; O:ANY; END_VAR END_FUNCTION_BLOCK",
-    ),
-    (
-        "M",
-        "FUNCTION_BLOCK M VAR_INPUT X:BOOL; END_VAR END_FUNCTION_BLOCK",
-    ),
-    (
-        "PP",
-        "FUNCTION_BLOCK PP PLUGS P:AD; END_PLUGS END_FUNCTION_BLOCK",
-    ),
-    (
-        "QQ",
-        "FUNCTION_BLOCK QQ SOCKETS Q:AD; END_SOCKETS END_FUNCTION_BLOCK",
-    ),
-    ("REC", "TYPE REC : STRUCT X:INT; Y:INT; END_STRUCT END_TYPE"),
-    ("S", "SUBAPPLICATION S END_SUBAPPLICATION"),
-    (
-        "T",
-        "FUNCTION_BLOCK T EVENT_INPUT I; END_EVENT EVENT_OUTPUT O; END_EVENT END_FUNCTION_BLOCK",
-    ),
-    (
-        "TU",
-        "FUNCTION_BLOCK TU VAR_INPUT V:INT; END_VAR END_FUNCTION_BLOCK",
-    ),
-    ("Y", "SYSTEM Y END_SYSTEM"),
-];
+const UNITS: &str = r#"
+ADAPTER A EVENT_INPUT E; END_EVENT VAR_INPUT V:INT; END_VAR END_ADAPTER
+ADAPTER AA EVENT_INPUT X; END_EVENT EVENT_OUTPUT X; END_EVENT VAR_INPUT Y:INT; END_VAR END_ADAPTER
+ADAPTER AD EVENT_INPUT CF; E; END_EVENT EVENT_OUTPUT RQ; END_EVENT VAR_INPUT U:BOOL; W:INT; END_VAR VAR_OUTPUT V:INT; L:ARRAY[0..3] OF WORD; END_VAR END_ADAPTER
+FUNCTION_BLOCK B EVENT_INPUT I; END_EVENT EVENT_OUTPUT O; END_EVENT VAR_INPUT X:INT; X1:DINT; END_VAR VAR_OUTPUT Y:INT; END_VAR VAR L:INT; END_VAR PLUGS P:AD; END_PLUGS SOCKETS Q:AD; END_SOCKETS END_FUNCTION_BLOCK
+ADAPTER BAD
+SUBAPPLICATION C EVENT_INPUT I; END_EVENT EVENT_OUTPUT O; END_EVENT VAR_INPUT X:INT; END_VAR VAR_OUTPUT Y:INT; END_VAR PLUGS P:AD; END_PLUGS SOCKETS Q:AD; END_SOCKETS END_SUBAPPLICATION
+FUNCTION_BLOCK LENGTHS VAR_INPUT A:ARRAY[0..9]OF INT; B:STRING[10]; B1:STRING[1_0]; D:ARRAY[0..8] OF INT; E:string; F:ANY[3]; O:ANY; END_VAR END_FUNCTION_BLOCK
+FUNCTION_BLOCK M VAR_INPUT X:BOOL; END_VAR END_FUNCTION_BLOCK
+FUNCTION_BLOCK PP PLUGS P:AD; END_PLUGS END_FUNCTION_BLOCK
+FUNCTION_BLOCK QQ SOCKETS Q:AD; END_SOCKETS END_FUNCTION_BLOCK
+TYPE REC : STRUCT X:INT; Y:INT; END_STRUCT END_TYPE
+SUBAPPLICATION S END_SUBAPPLICATION
+FUNCTION_BLOCK T EVENT_INPUT I; END_EVENT EVENT_OUTPUT O; END_EVENT END_FUNCTION_BLOCK
+FUNCTION_BLOCK TU VAR_INPUT V:INT; END_VAR END_FUNCTION_BLOCK
+SYSTEM Y END_SYSTEM
+"#;
 
 /// The change that puts a text under a name.
 pub fn put(alloc: Global, unit: &str, base: u64, text: &str) -> Result<Change, Fail> {
@@ -69,13 +37,24 @@ pub fn put(alloc: Global, unit: &str, base: u64, text: &str) -> Result<Change, F
     Ok(Change::Put { base, source })
 }
 
-/// A library of these units.
-pub fn library(alloc: Global, units: &[(&str, &str)]) -> Result<Library, Fail> {
+/// A library of the units whose texts are these lines. The second word of each is its name.
+pub fn library(alloc: Global, texts: &str) -> Result<Library, Fail> {
     let mut changes = Vec::new(alloc);
-    for (unit, text) in units {
-        changes.push(put(alloc, unit, 0, text)?)?;
+    for text in texts.split('\n') {
+        if !text.is_empty() {
+            let unit = text.split_whitespace().nth(1).ok_or("no name")?;
+            changes.push(put(alloc, unit, 0, text)?)?;
+        }
     }
     Ok(Library::new(alloc).edited(1, changes.as_slice())?)
+}
+
+/// Names, each with a blank before it.
+pub fn say_names(told: &mut String, names: &[Name]) -> Result<(), AllocError> {
+    for name in names {
+        write!(told, " {name}")?;
+    }
+    Ok(())
 }
 
 /// A library with this text as the unit `U` beside its units.
@@ -85,7 +64,7 @@ fn with_text(alloc: Global, library: &Library, text: &str) -> Result<Library, Fa
 
 /// The units of the tables, with this text as the unit `U` beside them.
 pub fn plant_with(alloc: Global, text: &str) -> Result<Library, Fail> {
-    let plant = library(alloc, &UNITS)?;
+    let plant = library(alloc, UNITS)?;
     with_text(alloc, &plant, text)
 }
 
@@ -158,7 +137,7 @@ pub fn all_told(alloc: Global, text: &str, faults: &[Fault]) -> Result<String, A
 }
 
 /// The faults of a text: those at its head, which ends at this place, and those after.
-fn told(
+fn parted(
     alloc: Global,
     library: &Library,
     text: &str,
@@ -176,18 +155,20 @@ fn told(
     Ok((in_head, behind))
 }
 
-/// Compares the faults of a text, of which those at its head, which ends at this place, come first.
-fn compare_told(
-    rt: &impl Abort,
-    alloc: Global,
-    plant: &Library,
-    (text, end): (&str, usize),
-    (known, expected): (&str, &str),
-) -> Result<(), Fail> {
-    let (in_head, behind) = told(alloc, plant, text, end)?;
-    assert_eq!(rt; in_head.as_str(), known, "{text}");
-    assert_eq!(rt; behind.as_str(), expected, "{text}");
-    Ok(())
+/// The lines of a table, with what is expected of a text behind it where it is in the line after.
+pub fn lines_of(alloc: Global, table: &str) -> Result<String, Fail> {
+    if !table.contains("=> ") {
+        return Err(Fail::from("a table without rows"));
+    }
+    Ok(table.replace(alloc, "\n    => ", " => ")?)
+}
+
+/// The text in a line of a table, if there is one, and what is expected of it.
+pub fn row_in(line: &str) -> Option<(&str, &str)> {
+    if line.is_empty() || line.starts_with("// ") {
+        return None;
+    }
+    Some(line.split_once(" => ").unwrap_or((line, "")))
 }
 
 /// Compares the faults of a text with those that are known of its head, those that are expected after, and those of the checkers.
@@ -195,28 +176,13 @@ fn compare_text(
     rt: &impl Abort,
     alloc: Global,
     plant: &Library,
-    at: (&str, usize),
-    told: (&str, &str),
+    (text, end): (&str, usize),
+    (known, expected): (&str, &str),
 ) -> Result<(), Fail> {
-    compare_told(rt, alloc, plant, at, told)?;
-    assert!(rt; are_found_in(alloc, plant, at.0)?, "{}", at.0);
-    Ok(())
-}
-
-/// Compares the faults of each row of a table, with what is before and after it.
-fn compare_rows(
-    rt: &impl Abort,
-    alloc: Global,
-    plant: &Library,
-    (head, foot): (&str, &str),
-    known: &str,
-    rows: &[(&str, &str)],
-) -> Result<(), Fail> {
-    for (row, expected) in rows {
-        let text = format!(in alloc; "{head}{row}{foot}")?;
-        let at = (text.as_str(), head.len());
-        compare_text(rt, alloc, plant, at, (known, expected))?;
-    }
+    let (in_head, behind) = parted(alloc, plant, text, end)?;
+    assert_eq!(rt; in_head.as_str(), known, "{text}");
+    assert_eq!(rt; behind.as_str(), expected, "{text}");
+    assert!(rt; are_found_in(alloc, plant, text)?, "{text}");
     Ok(())
 }
 
@@ -225,10 +191,18 @@ fn compare_rows(
 pub fn compare(
     rt: &impl Abort,
     alloc: Global,
-    frame: (&str, &str),
+    (head, foot): (&str, &str),
     known: &str,
-    rows: &[(&str, &str)],
+    table: &str,
 ) -> Result<(), Fail> {
-    let plant = library(alloc, &UNITS)?;
-    compare_rows(rt, alloc, &plant, frame, known, rows)
+    let plant = library(alloc, UNITS)?;
+    let lines = lines_of(alloc, table)?;
+    for line in lines.as_str().split('\n') {
+        if let Some((row, expected)) = row_in(line) {
+            let text = format!(in alloc; "{head}{row}{foot}")?;
+            let at = (text.as_str(), head.len());
+            compare_text(rt, alloc, &plant, at, (known, expected))?;
+        }
+    }
+    Ok(())
 }

@@ -1,7 +1,8 @@
 //! Libraries, ports and faults, of which each allocation is refused in turn.
 use crate::checkers::{Checker, found_by};
 use crate::interfaces::ports_told;
-use crate::plant::{all_told, library, plant_with, put};
+use crate::libraries::RECURSIVE;
+use crate::plant::{all_told, library, plant_with, put, say_names};
 use fb_faults::faults;
 use fb_iface::{Fault, Ports, interface};
 use fb_library::parse::Source;
@@ -139,21 +140,13 @@ struct Libraries {
     names: Option<Vec<Name>>,
 }
 
-fn say_names(told: &mut String, names: &[Name]) -> Result<(), AllocError> {
-    for name in names {
-        write!(told, " {name}")?;
-    }
-    Ok(())
-}
-
 // How many units there are, and their names with their revisions and texts.
 fn say_units(told: &mut String, library: &Library) -> Result<(), AllocError> {
     write!(told, "\n{}:", library.len())?;
     for place in 0..library.len() {
         if let Some(name) = library.name_at(place) {
-            let wanted = name;
-            write!(told, " {wanted} {}", library.revision(&wanted))?;
-            if let Some(source) = library.source(&wanted) {
+            write!(told, " {name} {}", library.revision(&name))?;
+            if let Some(source) = library.source(&name) {
                 told.push_str(source.text())?;
             }
         }
@@ -161,20 +154,13 @@ fn say_units(told: &mut String, library: &Library) -> Result<(), AllocError> {
     Ok(())
 }
 
-// S rests on A, and A and B on each other.
-static RECURSIVE: [(&str, &str); 3] = [
-    ("S", "SUBAPPLICATION S FBS Z:A; END_FBS END_SUBAPPLICATION"),
-    ("A", "FUNCTION_BLOCK A FBS X:B; END_FBS END_FUNCTION_BLOCK"),
-    ("B", "FUNCTION_BLOCK B FBS Y:A; END_FBS END_FUNCTION_BLOCK"),
-];
-
 impl Trial for Libraries {
     type Setting = Which;
 
     fn new(alloc: Global, which: Which) -> Result<Libraries, Fail> {
         Ok(Libraries {
             which,
-            library: library(alloc, &RECURSIVE)?,
+            library: library(alloc, RECURSIVE)?,
             change: [put(alloc, "C", 0, "FUNCTION_BLOCK C END_FUNCTION_BLOCK")?],
             unit: Name::read("S")?,
             other: None,
