@@ -52,58 +52,6 @@ fn secret_at<E: Write>(
     Ok(bytes)
 }
 
-/// Listens on the port of 127.0.0.1. If it can't, this says why, and gives the status of the program.
-fn listener_on<E: Write>(rt: &HostRuntime, port: u16, errors: &mut E) -> Result<TcpListener, u8> {
-    match TcpListener::bind(rt, ("127.0.0.1", port)) {
-        Ok(listener) => Ok(listener),
-        Err(error) => Err(refuse_port(port, &error, errors)),
-    }
-}
-
-/// Serves as asked, and gives the status of the program.
-fn serve(rt: &HostRuntime, settings: ServerSettings) -> u8 {
-    let mut errors = rt.stderr();
-    let listener = match listener_on(rt, settings.port, &mut errors) {
-        Ok(listener) => listener,
-        Err(status) => return status,
-    };
-    let config = ServerConfig {
-        workers: settings.workers,
-        sessions: settings.sessions,
-        limits: settings.limits,
-    };
-    let mut writer = IntoWrite::new(rt.stdout());
-    let ended = serve_on(rt, rt.alloc(), &listener, config, &mut writer, &mut errors);
-    ended.status
-}
-
-/// Hosts as asked, and gives the status of the program.
-fn host(rt: &HostRuntime, settings: HostSettings<'_>) -> u8 {
-    let mut errors = rt.stderr();
-    let path: Option<&str> = settings.secret;
-    let secret = match secret_at(rt, path, &mut errors) {
-        Ok(secret) => secret,
-        Err(status) => return status,
-    };
-    let listener = match listener_on(rt, settings.port, &mut errors) {
-        Ok(listener) => listener,
-        Err(status) => return status,
-    };
-    let config = HostConfig {
-        workers: settings.workers,
-        sessions: settings.sessions,
-        limits: settings.limits,
-        first_line_timeout: FIRST_LINE_TIMEOUT,
-        idle_timeout: settings.idle.saturating_mul(MINUTE),
-        connections: settings.connections,
-    };
-    let mut writer = IntoWrite::new(rt.stdout());
-    let errors = Mutex::new(errors);
-    let alloc = rt.alloc();
-    let ended = host_on(rt, alloc, &listener, config, &secret, &mut writer, &errors);
-    ended.status
-}
-
 fn main(rt: HostRuntime) -> ExitCode {
     let words = match words(&rt) {
         Ok(words) => words,
@@ -115,12 +63,74 @@ fn main(rt: HostRuntime) -> ExitCode {
     let mut reader = FromRead::new(rt.stdin());
     let mut writer = IntoWrite::new(rt.stdout());
     let mut errors = rt.stderr();
-    let alloc = rt.alloc();
-    let outcome = run(alloc, &texts, &mut reader, &mut writer, &mut errors, TURNS);
-    let status = match outcome {
-        Outcome::Ended(status) => status,
-        Outcome::Serves(settings) => serve(&rt, settings),
-        Outcome::Hosts(settings) => host(&rt, settings),
-    };
-    ExitCode::from(status)
+    let outcome = run(
+        rt.alloc(),
+        &texts,
+        &mut reader,
+        &mut writer,
+        &mut errors,
+        TURNS,
+    );
+    match outcome {
+        Outcome::Ended(status) => ExitCode::from(status),
+        Outcome::Serves(settings) => {
+            let ServerSettings {
+                port,
+                workers,
+                sessions,
+                limits,
+            } = settings;
+            let listener = match TcpListener::bind(&rt, ("127.0.0.1", port)) {
+                Ok(listener) => listener,
+                Err(error) => return ExitCode::from(refuse_port(port, &error, &mut errors)),
+            };
+            let config = ServerConfig {
+                workers,
+                sessions,
+                limits,
+            };
+            let mut writer = IntoWrite::new(rt.stdout());
+            let ended = serve_on(&rt, rt.alloc(), &listener, config, &mut writer, &mut errors);
+            ExitCode::from(ended.status)
+        }
+        Outcome::Hosts(settings) => {
+            let HostSettings {
+                port,
+                workers,
+                sessions,
+                limits,
+                secret,
+                idle,
+                connections,
+            } = settings;
+            let secret = match secret_at(&rt, secret, &mut errors) {
+                Ok(secret) => secret,
+                Err(status) => return ExitCode::from(status),
+            };
+            let listener = match TcpListener::bind(&rt, ("127.0.0.1", port)) {
+                Ok(listener) => listener,
+                Err(error) => return ExitCode::from(refuse_port(port, &error, &mut errors)),
+            };
+            let config = HostConfig {
+                workers,
+                sessions,
+                limits,
+                first_line_timeout: FIRST_LINE_TIMEOUT,
+                idle_timeout: idle.saturating_mul(MINUTE),
+                connections,
+            };
+            let mut writer = IntoWrite::new(rt.stdout());
+            let errors = Mutex::new(rt.stderr());
+            let ended = host_on(
+                &rt,
+                rt.alloc(),
+                &listener,
+                config,
+                &secret,
+                &mut writer,
+                &errors,
+            );
+            ExitCode::from(ended.status)
+        }
+    }
 }
