@@ -12,7 +12,7 @@ import sys
 
 TOP = os.path.dirname(os.path.dirname(os.path.abspath(__file__)))
 COMMENTS = {"src/**/*.rt": re.compile(r"^\s*//[/!] ?(.*)$"), "specs/**/*.antt": re.compile(r"(?:^|\s)--+ (.*)$")}
-READS_CRATES = False
+READS_CRATES = True
 PAGES = {
     "README.md",
     "benchmarks/plain/README.md",

@@ -1,7 +1,7 @@
 //! Conversations with a workbench, and whether its replies are those wanted.
 //!
-//! A conversation is a text of lines `REQUEST => REPLY`, of remarks behind `// ` and of empty lines. The requests `plant` and `misplaced`
-//! stand for commits that several conversations begin with. Where several conversations stand in one text, each has a heading: `== TITLE`,
+//! A conversation is a text of lines `REQUEST => REPLY`, of remarks after `// ` and of empty lines. The requests `plant` and `misplaced`
+//! mean commits that several conversations begin with. If one text has several conversations, each has a heading: `== TITLE`,
 //! or `== TITLE / UNITS / CALLS` where its workbench has other limits than the program's own.
 ghost use Rattle.std.specs.Prelude.{◌<◌};
 
@@ -179,7 +179,7 @@ pub(crate) fn all_right(rt: &impl Abort, wrong: Option<usize>, about: &str) {
     assert_eq!(rt; wrong, None, "{about}");
 }
 
-/// The title in a heading behind `== `, and the most units and calls of the workbench.
+/// The title in a heading after `== `, and the most units and calls of the workbench.
 fn heading_in(heading: &str) -> Result<(&str, u64, u64), Fail> {
     let Some((title, limits)) = heading.split_once(" / ") else {
         return Ok((heading, 1024, 100_000));

@@ -4,7 +4,7 @@ use Rattle.fb_laws.specs.{Common.{Span, Spells, lexemes_of, Lexeme, constant, Co
 use Rattle.fb_laws.specs.Written.{part_span, SpellsPart}
 use Rattle.fb_tree.specs.declared.constant.Simple.TheVariants as simple
 
--- The same, so many bytes nearer to the begin of the text
+-- The same, moved by this number of bytes towards the beginning of the text
 
 abbrev pub nearer_span : ℕ → Span → Span
 nearer_span bytes span = record { start = span.start - bytes; end = span.end - bytes }
@@ -23,11 +23,11 @@ nearer_constant bytes (one_value value) = one_value (nearer_simple bytes value)
 nearer_constant bytes (value_list values span) =
     value_list (map (nearer_simple bytes) values) (nearer_span bytes span)
 
--- these are the tokens of the text from where the span begins to where it ends
+-- these are the tokens of the text from the start of the span to its end
 abbrev pub CutIs : List ℕ → Span → List Lexeme → Type 0
 CutIs text span tokens = lexemes_of (slice_range text span.start span.end) ≡ Ok tokens
 
--- Tokens spell the part, and they are those of its text alone, where they stand nearer to the begin.
+-- Tokens spell the part; moved towards the beginning by the start of the part, they are the tokens of its text alone.
 pub record ReadsAlone (text : List ℕ) (part : Part) : Type 0 where
   pub inside : List Lexeme
   pub spells : SpellsPart inside part

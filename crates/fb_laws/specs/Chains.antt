@@ -1,4 +1,4 @@
--- The chains behind the links and borders of a flat unit: which connections they pass, and how they are composed of chains of inner networks
+-- The chains of the links and borders of a flat unit: which connections they pass, and how they are composed of chains of inner networks
 -- (IEC 61499-1, 5.4: subapplication types).
 use Rattle.std.specs.Prelude.{◌≡◌, ℕ, Bool, true, false, List, [], ◌∷◌, ◌++◌, Some, Contains, ◌⊎◌, filter, map}
 use mathlib.Core.Logic.{inl, inr}
@@ -27,14 +27,14 @@ abbrev pub passed_by : {view : View} {sort : Sort} {network : PlainNetwork} {a b
 passed_by (One step) = passed_at step ∷ []
 passed_by (More place step border rest) = passed_at step ∷ passed_by rest
 
--- All that is passed lies inside one subapplication instance, and is behind a link of the inner network.
+-- All that is passed is inside one subapplication instance, and is what the chain of a link of the inner network passes.
 pub data StaysInside (view : View) (sort : Sort) (network : PlainNetwork) : Place → Place → List Passed → Type 0 where
   by_inner_link : {name : List ℕ} {inner : PlainNetwork} {from to : Place} → IsInner view network name inner
       → (link : IsLink view inner sort from to)
       → StaysInside view sort network (name ∷ from) (name ∷ to) (map (inside name) (passed_by link.chain))
 
--- What is passed from a place to the source of a connection of the network itself: nothing, or what lies inside one subapplication instance, leads
--- to the port that the source names, and is behind a border of the inner network.
+-- What is passed from a place to the source of a connection of the network itself: nothing, or what is inside one subapplication instance, leads
+-- to the port that the source names, and is passed by the chain of a border of the inner network.
 pub data IsBefore (view : View) (sort : Sort) (network : PlainNetwork) : Place → End → List Passed → Type 0 where
   nothing_before : (source : End) → IsBefore view sort network (place_of source) source []
   border_before : {name port : List ℕ} {inner : PlainNetwork} {from : Place} → IsInner view network name inner
@@ -42,7 +42,7 @@ pub data IsBefore (view : View) (sort : Sort) (network : PlainNetwork) : Place �
       → border.chain ≡ inr chain
       → IsBefore view sort network (name ∷ from) (Of name port) (map (inside name) (passed_by chain))
 
--- What is passed from its destination to a place: nothing, or what leads on from the port that the destination names, and is behind a border.
+-- What is passed from its destination to a place: nothing, or what leads on from the port that the destination names, and the chain of a border passes.
 pub data IsAfter (view : View) (sort : Sort) (network : PlainNetwork) : End → Place → List Passed → Type 0 where
   nothing_after : (destination : End) → IsAfter view sort network destination (place_of destination) []
   border_after : {name port : List ℕ} {inner : PlainNetwork} {to : Place} → IsInner view network name inner
@@ -62,13 +62,13 @@ pub record CrossesOnce (view : View) (sort : Sort) (network : PlainNetwork) (a b
   pub is_before : IsBefore view sort network a source before
   pub is_after : IsAfter view sort network destination b after
 
--- a chain behind a link lies inside one subapplication instance, or crosses once
+-- the chain of a link is inside one subapplication instance, or crosses once
 abbrev pub LinksAreComposed : View → PlainNetwork → Type 0
 LinksAreComposed view network =
     (sort : Sort) (a b : Place) (link : IsLink view network sort a b)
     → StaysInside view sort network a b (passed_by link.chain) ⊎ CrossesOnce view sort network a b (passed_by link.chain)
 
--- a chain behind a border, whichever way it leads, crosses once
+-- the chain of a border, whichever way it leads, crosses once
 abbrev pub CrossesFrom : (view : View) (sort : Sort) (network : PlainNetwork) (p q : Place)
     → Chain view sort network p q ⊎ Chain view sort network q p → Type 0
 CrossesFrom view sort network p q (inl chain) = CrossesOnce view sort network p q (passed_by chain)

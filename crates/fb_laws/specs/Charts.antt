@@ -1,4 +1,4 @@
--- Each code of charts in words of its own: where the list of faults has it.
+-- Each code of charts in other words: where the list of faults has it.
 use Rattle.std.specs.Prelude.{◌≡◌, ◌≢◌, ℕ, List, [], ◌∷◌, Option, Some, None, Contains, ◌⊎◌}
 use Rattle.fb_laws.specs.Common.{Span, NameUse, AlgorithmTree, StateTree, TransitionTree, TypeTree, Action, Side, Input, Output, End, Plug, Socket, Sources, AlgorithmUnknown, EventUnknown, StateUnknown, DeclaredEvent, DeclaredInstance, stands_for, Meanings, meanings_in_type}
 use Rattle.fb_laws.specs.{Declared.{IsBlockAt}, UnitParts.{Charts, IsReportedWhere}, Usable.{IsAdapter, IsNotJudged, IsUsable}}
@@ -28,7 +28,7 @@ pub record HasUnknownAlgorithm (sources : Sources) (unit : List ℕ) (span : Spa
   pub undeclared : (a : AlgorithmTree) → Contains block.chart.algorithms a → a.name.name ≢ algorithm.name
   pub place : span ≡ algorithm.span
 
--- the name stands for an event of this side
+-- the name means an event of this side
 pub record StandsForEvent (ports : Meanings) (name : List ℕ) (side : Side) : Type 0 where
   pub event : DeclaredEvent
   pub first : stands_for ports.events name ≡ Some event

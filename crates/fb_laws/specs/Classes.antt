@@ -26,7 +26,7 @@ pub data Joins : Class → Class → Class → Type 0 where
   free_right : (c : Class) → Joins c Free Free
 
 -- A type of the first class takes a constant of the second: B takes B and Any; I takes I, Num and Any; W takes W, Num and Any; O takes O, I, Num
--- and Any; and where either is Free, the constant fits.
+-- and Any; if either is Free, the constant fits.
 pub data Takes : Class → Class → Type 0 where
   truth : Takes B B
   truth_any : Takes B Any
@@ -104,7 +104,7 @@ pub data Makes : BinaryOperator → Class → Class → Type 0 where
 pub data Combines (operator : BinaryOperator) (left right : Class) : Class → Type 0 where
   joined : {g : Class} (c : Class) → Joins left right c → Makes operator c g → Combines operator left right g
 
--- what comes of an operation that breaks its rule: a truth value of a comparison, else what is not judged
+-- the class of an operation that breaks its rule: a truth value for a comparison, otherwise Free, which is not checked
 pub data Spoils : BinaryOperator → Class → Type 0 where
   comparison : {operator : BinaryOperator} → Compares operator → Spoils operator B
   logic : {operator : BinaryOperator} → JoinsTruths operator → Spoils operator Free
@@ -129,7 +129,7 @@ pub data Fits : ClassPlace → Class → Type 0 where
   selector : (c : Class) → c ≢ B → Fits Selector c
   free : (place : ClassPlace) → Fits place Free
 
--- the class of an expression, and that of a row of operators behind what has the first class
+-- the class of an expression, and that of a row of operators after what has the first class
 mutual
   pub data HasClass (sources : Sources) (d : TypeTree) : Expression → Class → Type 0 where
     of_literal : {l : Literal} → HasClass sources d (literal_expression l) (class_of_literal l.form)
@@ -162,7 +162,7 @@ mutual
         → HasClass sources d x c → Results used.operator left c g → RowHasClass sources d g others h
         → RowHasClass sources d left (operand_then used x others) h
 
--- an operator of a row, the class of what stands before it, and the operand behind it
+-- an operator of a row, the class of what is before it, and the operand after it
 pub data IsPairIn (sources : Sources) (d : TypeTree) (used : BinaryUse) (before : Class) (x : Expression) : Class → Operands → Type 0 where
   first_pair : {others : Operands} → IsPairIn sources d used before x before (operand_then used x others)
   later_pair : {first : BinaryUse} {left : Class} {y : Expression} {others : Operands} (c g : Class)

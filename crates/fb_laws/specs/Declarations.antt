@@ -1,4 +1,4 @@
--- Each code of declarations in words of its own: where the list of faults has it.
+-- Each code of declarations in other words: where the list of faults has it.
 use Rattle.std.specs.Prelude.{◌≡◌, ◌≢◌, ℕ, ◌<◌, true, false, List, Some, None, Contains, slice_get}
 use Rattle.fb_laws.specs.Common.{Span, NameUse, ConstantTree, DeclTree, EventTree, InstanceTree, StructureTree, TypeTree, VariablesTree, block_type, structure_type, one_value, value_list, value_span, Simple, TypeUse, UnitKind, Role, Sources, tree_at, type_in, Free, Duplicate, Literal, MixedKind, NameDiffers, StructRecursive, UnknownType, WithUnknown, WrongKind, DeclaredVariable, class_of_name, class_of_simple, class_of_type, declared_name, stands_for, variables_in}
 use Rattle.fb_laws.specs.{Classes.{Takes}, Declared.{AreDeclaredIn}, Spaces.{IsSpace}, UnitParts.{Declarations, IsReportedWhere}}
@@ -19,7 +19,7 @@ pub record HasOtherName (sources : Sources) (unit : List ℕ) (span : Span) : Ty
   pub differs : (declared_name decl).name ≢ unit
   pub place : span ≡ (declared_name decl).span
 
--- a name that stands in a name space at a place where an earlier place of the same space has it
+-- a name at a place of a name space that has the same name at an earlier place too
 pub record HasDuplicate (sources : Sources) (unit : List ℕ) (span : Span) : Type 0 where
   pub decl : DeclTree
   pub declared : IsDeclaredAt sources unit decl
@@ -70,7 +70,7 @@ pub record HasWrongKind (sources : Sources) (unit : List ℕ) (span : Span) : Ty
   pub unsuited : ¬ Suits instance.role (unit_kind_of type)
   pub place : span ≡ instance.type_name.span
 
--- a name behind WITH that stands for no data input (behind an event input), no data output (behind an event output)
+-- a name after WITH that means no data input, if the event is an input, or no data output, if it is an output
 pub record HasUnknownWith (sources : Sources) (unit : List ℕ) (span : Span) : Type 0 where
   pub decl : DeclTree
   pub declared : IsDeclaredAt sources unit decl
@@ -83,7 +83,7 @@ pub record HasUnknownWith (sources : Sources) (unit : List ℕ) (span : Span) : 
   pub no_data : (v : DeclaredVariable) → stands_for (variables_in type.interface) name.name ≡ Some v → goes_with event.side v.section ≡ false
   pub place : span ≡ name.span
 
--- where a constant doesn't fit its type: a constant that stands alone, one that stands alone for an array, an element of the list for an array,
+-- where a constant doesn't fit its type: a single value that the type doesn't take, a single value for an array, an element of the list for an array,
 -- a list for what is no array and not of a generic type
 pub data IsMisfit (used : TypeUse) : ConstantTree → Span → Type 0 where
   alone : {v : Simple} → used.form ≢ forms.Array → ¬ Takes (class_of_type used) (class_of_simple v) → IsMisfit used (one_value v) (value_span v)

@@ -50,7 +50,7 @@ pub record IsItemOf {A S T : Type 0} (name_of : A → NameUse) (sort_of : A → 
 abbrev pub IsFirstEvent : InterfaceTree → List ℕ → ℕ → Type 0
 IsFirstEvent interface = IsFirstItem (λ (e : EventTree). e.name) interface.events
 
--- an event input or an event output, with its type where one is written
+-- an event input or an event output, with its type if one is written
 abbrev pub IsEventOn : InterfaceTree → Side → List ℕ → Option NameUse → Type 0
 IsEventOn interface = IsItemOf (λ (e : EventTree). e.name) (λ e. e.side) (λ e. e.type_name) interface.events
 
@@ -74,7 +74,7 @@ pub data IsBefore (a b : Cell) : Type 0 where
   in_earlier_row : a.row < b.row → IsBefore a b
   in_same_row : a.row ≡ b.row → a.column < b.column → IsBefore a b
 
--- at this place stands this name, in this row
+-- this name is at this place, in this row
 pub record StandsAt (interface : InterfaceTree) (place : Cell) (row : VariablesTree) (name : NameUse) : Type 0 where
   pub row_there : slice_get interface.variables place.row ≡ Some row
   pub name_there : slice_get row.names place.column ≡ Some name

@@ -1,4 +1,4 @@
--- When a key waits, said by places in the list of calls alone.
+-- When a key waits, stated only by places in the list of calls.
 use Rattle.std.specs.Prelude.{◌≡◌, ℕ, ◌<◌, true, ◌⊎◌, ◌↔◌, List, Some, take, slice_get}
 use Rattle.fb_jobs.specs.declared.key.Key.{Key}
 use Rattle.fb_history.specs.{Limits.{Bounds}, Machine.{State, Call}, BenchView.{BenchView, replay}, Due.{marks, settles, due_from, is_due}}
@@ -12,7 +12,7 @@ IsMarkedAt state calls key place = (call : Call) × (slice_get calls place ≡ S
 abbrev pub IsSettledAt : State → List Call → Key → ℕ → Type 0
 IsSettledAt state calls key place = (call : Call) × (slice_get calls place ≡ Some call) × (settles (replay state (take place calls)) call key ≡ true)
 
--- a place marks the key, and none behind it marks or settles it
+-- a place marks the key, and no later one marks or settles it
 pub record IsMarkedLast (state : State) (calls : List Call) (key : Key) : Type 0 where
   pub place : ℕ
   pub marked : IsMarkedAt state calls key place
@@ -30,6 +30,6 @@ pub record IsLeftPending (state : State) (calls : List Call) (key : Key) : Type 
 abbrev pub IsDueByPlaces : State → List Call → Key → Type 0
 IsDueByPlaces state calls key = (due_from state calls key ≡ true) ↔ (IsMarkedLast state calls key ⊎ IsLeftPending state calls key)
 
--- a key waits after a checkpoint exactly where it waits before
+-- a key waits after a checkpoint exactly if it waits before
 abbrev pub DueGoesOn : Bounds → BenchView → Type 0
 DueGoesOn limits bench = (key : Key) → is_due (checkpointed limits bench) key ≡ is_due bench key

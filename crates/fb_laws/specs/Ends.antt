@@ -8,13 +8,13 @@ use Rattle.fb_tree.specs.declared.network.Role.TheVariants as roles
 use Rattle.fb_tree.specs.declared.network.Sort.TheVariants as sorts
 use Rattle.fb_netcheck.specs.declared.ends.Flow.TheVariants as flows
 
--- where a network stands: the unit, what it is, and what its own names stand for
+-- the place of a network: the unit, its kind, and what its own names mean
 pub record Site : Type 0 where
   pub unit : List ℕ
   pub kind : UnitKind
   pub own : Meanings
 
--- A network of the unit, where it stands: that of a block type, of a subapplication type, or of an application of a system, which has no own
+-- A network of the unit, with its place: that of a block type, of a subapplication type, or of an application of a system, which has no own
 -- ports.
 pub data IsNetworkOf (sources : Sources) (unit : List ℕ) : Site → NetworkTree → Type 0 where
   of_block : (d : TypeTree) → tree_at sources unit ≡ Some (block_type d)
@@ -29,7 +29,7 @@ pub data IsNetworkOf (sources : Sources) (unit : List ℕ) : Site → NetworkTre
         own = record { events = []; variables = []; instances = first_ones (instances_in a.network) };
       }) a.network
 
--- an end of a connection, where it stands in it
+-- an end of a connection, with its position in it
 pub data IsEndOf (c : Connection) : Position → End → Type 0 where
   source : IsEndOf c Source c.source
   destination : IsEndOf c Destination c.destination
@@ -42,7 +42,7 @@ abbrev pub HaveSameNames : End → End → Type 0
 HaveSameNames a b = (a.name.name ≡ b.name.name)
     × (option_map (λ n. n.name) a.port ≡ option_map (λ n. n.name) b.port)
 
--- a name of a unit stands for a port of this sort: an event, a data input or output, a socket as an input or a plug as an output
+-- a name of a unit means a port of this sort: an event, a data input or output, a socket as an input or a plug as an output
 pub data IsPort (ports : Meanings) (name : List ℕ) : Sort → Port → Type 0 where
   event : (e : DeclaredEvent) → stands_for ports.events name ≡ Some e
       → IsPort ports name sorts.Event (record { side = e.side; flow = flows.Event })

@@ -1,4 +1,4 @@
--- Each code of expressions and statements in words of its own: where the list of faults has it.
+-- Each code of expressions and statements in other words: where the list of faults has it.
 use Rattle.std.specs.Prelude.{◌≡◌, ℕ, Bool, List, ◌∷◌, ◌++◌, Option, Some}
 use Rattle.fb_laws.specs.Common.{NameUse, Span, ReferenceTree, alone_tree, Expression, reference_expression, unary_expression, row_expression, Expressions, Operands, Statement, assignment, count, Statements, TypeTree, BinaryUse, UnaryUse, TypeUse, Member, Sources, class_of_type, stands_for, meanings_in_type, Class, MemberUnknown, VariableUnknown, DeclaredVariable, ClassPlace, Condition, Count, Counter}
 use Rattle.fb_laws.specs.{Classes.{Changes, Combines, Fits, HasClass, IsPairIn, Joins}, Occurrences.{Asks, IsOneOf, IsRunIn, IsTestedIn, IsWrittenIn}}
@@ -7,14 +7,14 @@ use Rattle.fb_laws.specs.Variables.{Begins, GoesOn, HasField, IsOfNoAdapter, IsO
 use Rattle.fb_deploy.specs.Iface.declared.classes.Class.{Class as ValueClass}
 use Rattle.fb_laws.specs.UnitParts as parts
 
--- a reference in the guards and the algorithms of a type, or the name behind FOR in an algorithm
+-- a reference in the guards and the algorithms of a type, or the name after FOR in an algorithm
 pub data IsNamedIn (d : TypeTree) : ReferenceTree → Type 0 where
   in_reference : (r : ReferenceTree) (subscripts : Expressions)
       → IsWrittenIn d (reference_expression r subscripts) → IsNamedIn d r
   behind_for : (name : NameUse) (from to : Expression) (by : Option Expression) (body : Statements)
       → IsRunIn d (count name from to by body) → IsNamedIn d (alone_tree name)
 
--- a reference, or a name behind FOR, that begins at no variable
+-- a reference, or a name after FOR, that begins at no variable; data of own plugs and sockets whose type is not usable are not checked
 pub record HasUnknownVariable (sources : Sources) (unit : List ℕ) (span : Span) : Type 0 where
   pub block : TypeTree
   pub declared : IsBlockAt sources unit block
@@ -25,8 +25,8 @@ pub record HasUnknownVariable (sources : Sources) (unit : List ℕ) (span : Span
   pub judged : ¬ IsOfNoAdapter sources block reference
   pub place : BeginsAt reference span
 
--- A further name of a reference that is no field of the type before it, where this is judged. Those before it are fields, so none is judged behind
--- it.
+-- A further name of a reference that is no field of the type before it, unless `IsOpen` leaves it unchecked. The further names before it are fields, so
+-- no name after it is reported.
 pub record HasUnknownMember (sources : Sources) (unit : List ℕ) (span : Span) : Type 0 where
   pub block : TypeTree
   pub declared : IsBlockAt sources unit block

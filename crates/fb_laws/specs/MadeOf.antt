@@ -38,7 +38,7 @@ pub record HasFaultBelow (sources : Sources) (unit : List ℕ) : Type 0 where
   pub below : IsMadeOf sources unit name
   pub faulty : faults_of sources name ≢ []
 
--- nothing blocks a unit exactly where nothing that it is made of has a fault
+-- nothing blocks a unit exactly if nothing that it is made of has a fault
 abbrev pub WholeUnitsHaveNoFaultsBelow : Type 0
 WholeUnitsHaveNoFaultsBelow = (sources : Sources) (unit : List ℕ) → IsWhole sources unit ↔ HasNoFaultsBelow sources unit
 
@@ -54,7 +54,7 @@ pub data IsInTheWay (sources : Sources) (unit : List ℕ) : List ℕ → Type 0 
       → get sources instance.type_name.name ≡ None
       → IsInTheWay sources unit instance.type_name.name
 
--- a net that is blocked tells exactly what is in the way
+-- a net that is blocked names exactly what is in the way
 abbrev pub BlockedIsTold : Type 0
 BlockedIsTold =
     (sources : Sources) (unit : List ℕ) (names : List (List ℕ)) → net_at sources unit ≡ Some (blocked names)
@@ -72,7 +72,7 @@ OtherNetsHaveNoFaultsBelow =
     (sources : Sources) (unit : List ℕ) (net : PlainNet) → net_at sources unit ≡ Some net
     → ((names : List (List ℕ)) → net ≢ blocked names) → HasNoFaultsBelow sources unit
 
--- a recursive net tells exactly what its unit is made of that holds itself
+-- a recursive net names exactly what its unit is made of that holds itself
 abbrev pub RecursiveIsTold : Type 0
 RecursiveIsTold =
     (sources : Sources) (unit : List ℕ) (names : List (List ℕ)) → net_at sources unit ≡ Some (recursive names)

@@ -1,4 +1,4 @@
--- Each code of mappings in words of its own: where the list of faults has it.
+-- Each code of mappings in other words: where the list of faults has it.
 use Rattle.std.specs.Prelude.{◌≡◌, ◌≢◌, ℕ, List, [], ◌∷◌, ◌++◌, map, Some, Contains}
 use Rattle.fb_laws.specs.Common.{NameUse, Span, DeviceTree, MappingTree, ResourceTree, SystemTree, system_configuration, Sources, tree_at, MappedTwice, NoSuchResource}
 use Rattle.fb_laws.specs.UnitParts.{IsReportedWhere, Mappings}

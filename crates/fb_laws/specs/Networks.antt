@@ -1,4 +1,4 @@
--- Each code of networks in words of its own: where the list of faults has it.
+-- Each code of networks in other words: where the list of faults has it.
 use Rattle.std.specs.Prelude.{◌≡◌, ◌≢◌, ℕ, List, ◌∷◌, ◌++◌, Some, Contains}
 use Rattle.fb_laws.specs.Common.{NameUse, Span, InstanceTree, NetworkTree, ParameterTree, TypeUse, Connection, End, Sources, Free, DataType, Literal, ParameterUnknown, PassThrough, PortSide, PortUnknown, SecondAdapter, SecondSource, DeclaredVariable, class_of_type, stands_for, Meanings, Holder, Own, Port, Position, Source, Destination}
 use Rattle.fb_laws.specs.{Declarations.{IsMisfit}, Ends.{HaveSameNames, IsEndOf, IsNetworkOf, IsReachedBy, IsRightSide, Names, NamesRight, Site, place_of}}
@@ -59,7 +59,7 @@ pub data IsSameType (sources : Sources) (unit : List ℕ) (a : TypeUse) (other :
       → words_at sources unit a.span ≡ words_at sources other b.span
       → IsSameType sources unit a other b
 
--- Two ports of different types, each declared in the text of a unit: of data types, where neither is of the class Free; of adapter types by
+-- Two ports of different types, each declared in the text of a unit: of data types, if neither is of the class Free; of adapter types by
 -- their names.
 pub data DifferInType (sources : Sources) (unit other : List ℕ) : Flow → Flow → Type 0 where
   data_types : {a b : TypeUse} → class_of_type a ≢ Free → class_of_type b ≢ Free
@@ -141,7 +141,7 @@ pub record ParameterOf (sources : Sources) (unit : List ℕ) : Type 0 where
   pub parameter : ParameterTree
   pub written : Contains instance.parameters parameter
 
--- a parameter of a block instance that stands for no data input of its type, where this is usable
+-- a parameter of a block instance whose name means no data input of the instance's type, if this type is usable
 pub record HasUnknownParameter (sources : Sources) (unit : List ℕ) (span : Span) : Type 0 where
   pub of : ParameterOf sources unit
   pub open of use *
@@ -149,7 +149,7 @@ pub record HasUnknownParameter (sources : Sources) (unit : List ℕ) (span : Spa
       → v.section ≢ sections.Input
   pub place : span ≡ parameter.name.span
 
--- a parameter of a block instance that stands for a data input of its type, and whose value doesn't fit the input's type
+-- a parameter of a block instance whose name means a data input of the instance's type, and whose value doesn't fit the input's type
 pub record HasMisfit (sources : Sources) (unit : List ℕ) (span : Span) : Type 0 where
   pub of : ParameterOf sources unit
   pub open of use *

@@ -1,4 +1,4 @@
--- Where expressions and statements stand, at any depth.
+-- Where expressions and statements occur, at any depth.
 use Rattle.std.specs.Prelude.{Option, Some, Contains}
 use Rattle.fb_laws.specs.Common.{NameUse, Span, ReferenceTree, Expression, reference_expression, unary_expression, row_expression, parentheses, Expressions, expression_then, Operands, operand_then, Statement, assignment, choice, selection, count, while_loop, repeat_loop, Statements, statement_then, Arms, arm_then, statements_of, AlgorithmTree, ConditionTree, guarded, guard, TransitionTree, TypeTree, BinaryUse, UnaryUse, End, ClassPlace, Condition, Count, Selector}
 
@@ -8,7 +8,7 @@ pub data IsOneOf (e : Expression) : Expressions → Type 0 where
   later_one : {x : Expression} {others : Expressions} → IsOneOf e others
       → IsOneOf e (expression_then x others)
 
--- one of the operands behind the first of a row
+-- one of the operands after the first of a row
 pub data IsOperandOf (e : Expression) : Operands → Type 0 where
   first_operand : {used : BinaryUse} {others : Operands} → IsOperandOf e (operand_then used e others)
   later_operand : {used : BinaryUse} {x : Expression} {others : Operands} → IsOperandOf e others
@@ -25,7 +25,7 @@ pub data OccursIn (e : Expression) : Expression → Type 0 where
       → OccursIn e x → OccursIn e (row_expression first operands)
   in_parentheses : {x : Expression} {span : Span} → OccursIn e x → OccursIn e (parentheses x span)
 
--- an arm of an IF: its condition, and what is done where it holds
+-- an arm of an IF: its condition, and what is done if it holds
 pub data IsArmOf (condition : Expression) (body : Statements) : Arms → Type 0 where
   first_arm : {others : Arms} → IsArmOf condition body (arm_then condition body others)
   later_arm : {x : Expression} {ss : Statements} {others : Arms} → IsArmOf condition body others

@@ -1,4 +1,4 @@
--- What stands at the paths of a system, at all depths, and what its mappings say of them, as the texts declare both.
+-- What is at the paths of a system, at all depths, and what its mappings say of them, as the texts declare both.
 use Rattle.std.specs.{Prelude.{◌≡◌, ◌≢◌, ◌↔◌, ◌≤◌, ℕ, List, [], ◌∷◌, ◌++◌, length, map, Some, Contains, codes}, List.{flat_map}}
 use Rattle.fb_laws.specs.Common.{ApplicationTree, InstanceTree, MappingTree, SystemTree, TypeTree, subapplication_type, Block, Subapplication, Sources, tree_at, planned, faulty, plan_at, PlainResource, Link}
 use Rattle.fb_laws.specs.{Mappings.{IsSystemAt}, Plans.{BeginsWith}}
@@ -20,7 +20,7 @@ pub data IsAtPath (sources : Sources) (system : SystemTree) : List (List ℕ) �
       → Contains type.network.instances instance
       → IsAtPath sources system (path ++ instance.name.name ∷ []) instance
 
--- an application, a block or a subapplication instance stands at the path; plugs and sockets are not mapped
+-- an application, a block or a subapplication instance is at the path; plugs and sockets are not mapped
 pub data IsOfSomething (sources : Sources) (system : SystemTree) : List (List ℕ) → Type 0 where
   of_application : (application : ApplicationTree) → Contains system.applications application
       → IsOfSomething sources system (application.name.name ∷ [])
@@ -40,7 +40,7 @@ with_points (first ∷ others) = first ++ flat_map (λ name. 46 ∷ name) others
 abbrev pub path_of : MappingTree → List (List ℕ)
 path_of mapping = map (λ n. n.name) mapping.path
 
--- the mapping is of this path, or of one that it goes on from
+-- the mapping's path is not empty, and this path is it or continues it
 pub record IsAbove (mapping : MappingTree) (path : List (List ℕ)) : Type 0 where
   pub written : path_of mapping ≢ []
   pub inner : List (List ℕ)
@@ -122,7 +122,7 @@ pub record TellsMisplaced (sources : Sources) (system : SystemTree) (found : Lis
   pub some : found ≢ []
   pub members : (item : Misplaced) → Contains found item ↔ IsMisplaced sources system item
 
--- a plan without commands for what is misplaced tells exactly that
+-- a plan that is `faulty` names exactly what is misplaced
 abbrev pub MisplacedIsTold : Type 0
 MisplacedIsTold =
     (sources : Sources) (unit : List ℕ) (system : SystemTree) (found : List Misplaced)

@@ -1,4 +1,4 @@
--- Where names and expressions stand.
+-- The places of names and expressions.
 use Rattle.std.specs.Prelude.{◌≡◌, ◌≢◌, List, [], ◌∷◌, Option, Some, None}
 use Rattle.fb_laws.specs.Common.{NameUse, Span, ReferenceTree, Expression, literal_expression, reference_expression, unary_expression, row_expression, parentheses, Expressions, Operands, no_operands, operand_then, BinaryUse, UnaryUse, Member}
 use Rattle.fb_tree.specs.declared.constant.Literal.{Literal}

@@ -1,4 +1,4 @@
--- Systems with a plan, and where their blocks and the ends of their links stand.
+-- Systems with a plan, and the resources of their blocks and of the ends of their links.
 use Rattle.std.specs.Prelude.{◌≡◌, ◌≤◌, ℕ, false, List, length, Some, Contains}
 use Rattle.fb_laws.specs.Common.{MappingTree, Sources, tree_at, FlatBlock, Link, PlainFlat, HasFlat, leads_nowhere, applications_in, mappings_in, planned, PlainResource, plan_at}
 use Rattle.fb_types.specs.Network.Prefixes.{IsPrefix, IsNearest}
@@ -9,20 +9,20 @@ pub record IsPlanned (sources : Sources) (system : List ℕ) (flat : PlainFlat) 
   pub is_flat : HasFlat sources system flat
   pub plan : plan_at sources system ≡ Some (planned cuts resources)
 
--- The home of what stands at a path is the resource of the mapping with the longest path that is this path or stands in front of it by whole
+-- The home of what is at a path is the resource of the mapping with the longest path that is this path or a prefix of it by whole
 -- names.
 abbrev pub IsHome : Sources → List ℕ → List ℕ → List ℕ → Type 0
 IsHome sources system path resource =
     IsNearest (resource_at (mappings_in (tree_at sources system))) path (Some resource)
 
--- the block at an end of a link: its path is the longest of those that stand in front of the end by whole names
+-- the block at an end of a link: its path is the longest of those that are prefixes of the end by whole names
 pub record IsBlockAt (blocks : List FlatBlock) (end : List ℕ) (block : FlatBlock) : Type 0 where
   pub listed : Contains blocks block
   pub prefix : IsPrefix block.path end
   pub longest : (other : FlatBlock) → Contains blocks other → IsPrefix other.path end
       → length other.path ≤ length block.path
 
--- an end of a link stands on the home of the block at this end
+-- an end of a link is on the home of the block at this end
 pub record StandsOn (sources : Sources) (system : List ℕ) (blocks : List FlatBlock) (end resource : List ℕ) : Type 0 where
   pub block : FlatBlock
   pub is_at : IsBlockAt blocks end block

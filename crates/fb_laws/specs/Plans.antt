@@ -1,4 +1,4 @@
--- Plans in words of their own.
+-- Plans in other words.
 use Rattle.std.specs.{Prelude.{◌≡◌, ◌≢◌, ◌↔◌, ◌⊎◌, ℕ, List, [], ◌∷◌, ◌++◌, map, Some, Contains, codes}, List.{flat_map}, List.Sorted.{IsStrictlySortedBy}}
 use Rattle.fb_laws.specs.Common.{ParameterTree, SystemTree, system_configuration, Sources, text_or_empty, tree_at, FlatBlock, Link, PlainFlat, HasFlat, PlainResolved, path_names, resolved_at, applications_in, PlainResource}
 use Rattle.fb_laws.specs.Planned.{HasCommands, IsHome, IsPlacedWhole, IsPlanned, StandsOn}
@@ -9,7 +9,7 @@ use Rattle.fb_placing.specs.declared.plan.write_commands.PlacedCommand.{PlacedCo
 
 -- ---- cuts
 
--- its ends stand on different resources
+-- its ends are on different resources
 pub record JoinsResources (sources : Sources) (system : List ℕ) (flat : PlainFlat) (link : Link) : Type 0 where
   pub from_home : List ℕ
   pub to_home : List ℕ
@@ -81,7 +81,7 @@ pub record SetsItsParameters (sources : Sources) (system : List ℕ) (flat : Pla
   pub none_before : NoneBegins (codes "WRITE ") before
   pub none_behind : NoneBegins (codes "WRITE ") behind
 
--- a link of the flat network both of whose ends stand on this resource
+-- a link of the flat network both of whose ends are on this resource
 pub record IsWithin (sources : Sources) (system : List ℕ) (flat : PlainFlat) (resource : List ℕ) (link : Link) : Type 0 where
   pub listed : Contains flat.links link
   pub from : StandsOn sources system flat.blocks link.from resource
@@ -98,7 +98,7 @@ pub record MakesItsLinks (sources : Sources) (system : List ℕ) (flat : PlainFl
   pub none_before : NoneBegins (codes "CREATE CONNECTION ") before
   pub none_behind : NoneBegins (codes "CREATE CONNECTION ") behind
 
--- the item stands in the list once
+-- the item occurs in the list at most once
 abbrev pub StandsOnce : List (List ℕ) → List ℕ → Type 0
 StandsOnce items item = (before after : List (List ℕ)) → items ≡ before ++ item ∷ after
     → ¬ Contains before item × ¬ Contains after item
@@ -150,19 +150,19 @@ abbrev pub HoldsOfResources : (Sources → List ℕ → PlainFlat → List Plain
 HoldsOfResources Fact = HoldsOfEachPlan (λ sources system flat cuts resources.
     (entry : PlainResource) → Contains resources entry → Fact sources system flat resources entry)
 
--- a system with a flat network has commands where nothing is misplaced
+-- a system with a flat network has commands exactly if nothing is misplaced
 abbrev pub PlacedSystemsHaveCommands : Type 0
 PlacedSystemsHaveCommands =
     (sources : Sources) (system : List ℕ) (flat : PlainFlat) → IsSystem sources system
     → HasFlat sources system flat
     → HasCommands sources system flat ↔ IsPlacedWhole sources system flat
 
--- what stands at a path has one home
+-- what is at a path has at most one home
 abbrev pub BlocksHaveOneHome : Type 0
 BlocksHaveOneHome = (sources : Sources) (system path a b : List ℕ) → IsHome sources system path a
     → IsHome sources system path b → a ≡ b
 
--- an end stands on one resource
+-- an end is on at most one resource
 abbrev pub EndsHaveOneHome : Type 0
 EndsHaveOneHome =
     (sources : Sources) (system : List ℕ) (blocks : List FlatBlock) (end a b : List ℕ)

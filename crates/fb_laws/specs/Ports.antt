@@ -1,10 +1,10 @@
--- The ports of a unit in words of their own: which ports its interface lists, and in which order.
+-- The ports of a unit in other words: which ports its interface lists, and in which order.
 use Rattle.std.specs.Prelude.{◌≡◌, ◌↔◌, ℕ, ◌<◌, List, [], Some, Contains, slice_get}
 use Rattle.fb_laws.specs.Common.{DeclTree, NetworkTree, StructureTree, SystemTree, TypeTree, structure_type, system_configuration, Side, TypeUse, Role, tree_of, DeclaredEvent, DeclaredInstance, DeclaredVariable, stands_for, Meanings, data_on, events_on, instances_as, meanings_in, meanings_in_network, meanings_of}
 use Rattle.fb_laws.specs.Declared.{IsBefore, IsDataOn, IsEventOn, IsFirstEvent, IsFirstInstance, IsFirstVariable, IsInstanceAs, IsType, IsVariableIn}
 use Rattle.fb_tree.specs.declared.interface.Section.TheVariants as sections
 
--- the interface of a text, where this spells a unit
+-- a text has an interface exactly if it spells a unit: that of the unit
 abbrev pub WholeTextsHaveInterfaces : Type 0
 WholeTextsHaveInterfaces = (text : List ℕ) (ports : Meanings)
     → meanings_of text ≡ Some ports ↔ ((decl : DeclTree) × (tree_of text ≡ Some decl) × (ports ≡ meanings_in decl))
@@ -30,16 +30,16 @@ abbrev pub AdaptersAreDeclared : Type 0
 AdaptersAreDeclared = (decl : DeclTree) (type : TypeTree) → IsType decl type → (role : Role)
     → AreExactly (instances_as role (meanings_in decl)) (IsInstanceAs type.network role)
 
--- a name that an internal variable has first is no data input and no data output, also where one of this name is declared behind it
+-- a name that an internal variable has first is no data input and no data output, even if one of this name is declared after it
 abbrev pub InternalVariablesAreNoPorts : Type 0
 InternalVariablesAreNoPorts = (decl : DeclTree) (type : TypeTree) → IsType decl type
     → (name : List ℕ) (type_use : TypeUse)
     → IsVariableIn type.interface sections.Internal name type_use → (side : Side) (other : TypeUse)
     → ¬ Contains (data_on side (meanings_in decl)) (name, other)
 
--- ---- what names stand for
+-- ---- what names mean
 
--- a name stands for its first declaration in its name space, on any side, in any section and in any role
+-- a name means its first declaration in its name space, on any side, in any section and in any role
 pub record StandForFirst (type : TypeTree) (ports : Meanings) : Type 0 where
   pub of_events : (name : List ℕ) (e : DeclaredEvent)
       → stands_for ports.events name ≡ Some e ↔ IsEventOn type.interface e.side name e.type_name
@@ -52,7 +52,7 @@ abbrev pub NamesStandForFirst : Type 0
 NamesStandForFirst = (decl : DeclTree) (type : TypeTree) → IsType decl type
     → StandForFirst type (meanings_in decl)
 
--- in the network of an application, which has no ports, a name stands for its first instance, in any role
+-- in the network of an application, which has no ports, a name means its first instance, in any role
 abbrev pub InstancesStandForFirst : Type 0
 InstancesStandForFirst = (network : NetworkTree) (name : List ℕ) (i : DeclaredInstance)
     → stands_for (meanings_in_network network).instances name ≡ Some i
@@ -60,7 +60,7 @@ InstancesStandForFirst = (network : NetworkTree) (name : List ℕ) (i : Declared
 
 -- ---- once, and in the order of the text
 
--- no name stands at two places of the list
+-- no name occurs at two places of the list
 abbrev pub HaveOwnNames : {T : Type 0} → List (List ℕ × T) → Type 0
 HaveOwnNames {T = T} ports = (i j : ℕ) (one other : List ℕ × T) → slice_get ports i ≡ Some one
     → slice_get ports j ≡ Some other → one.0 ≡ other.0 → i ≡ j

@@ -1,4 +1,4 @@
--- The parts of a tree that keep where they stand in the text.
+-- The parts of a tree that keep their place in the text.
 use Rattle.std.specs.{Prelude.{List, [], ◌∷◌, ◌++◌, map, Option, Some, None}, List.{flat_map}}
 use Rattle.fb_laws.specs.Common.{NameUse, Span, Kind, ReferenceTree, Expression, literal_expression, reference_expression, unary_expression, row_expression, parentheses, Expressions, no_expressions, expression_then, Operands, no_operands, operand_then, Statement, empty, assignment, exit, return, choice, selection, count, while_loop, repeat_loop, Statements, no_statements, statement_then, Arms, no_arms, arm_then, ConstantTree, one_value, value_list, EventTree, VariablesTree, InterfaceTree, ParameterTree, InstanceTree, NetworkTree, StateTree, ConditionTree, always, on_event, guarded, guard, TransitionTree, AlgorithmTree, ChartTree, TypeTree, ApplicationTree, ResourceTree, DeviceTree, MappingTree, SystemTree, StructureTree, DeclTree, block_type, adapter_type, subapplication_type, system_configuration, structure_type, Action, Simple, BinaryUse, UnaryUse, TypeUse, Connection, End}
 use Rattle.fb_structured_text.specs.Forms.declared.kind.Kind.TheVariants.{Assign, One}
@@ -18,7 +18,7 @@ pub data Part : Type 0 where
 abbrev pub name_parts : NameUse → List Part
 name_parts name = name_part name ∷ []
 
--- those of what is written, none where it is not
+-- those of what is written, none if nothing is written
 abbrev pub option_parts : {A : Type 0} → (A → List Part) → Option A → List Part
 option_parts parts None = []
 option_parts parts (Some value) = parts value

@@ -1,4 +1,4 @@
--- The laws of the parts of trees that keep where they stand.
+-- The laws of the parts of trees that keep their place in the text.
 use Rattle.std.specs.{Prelude.{◌≡◌, ℕ, suc, ◌+◌, ◌<◌, List, All, Contains, Ok, IsUtf8}, List.{sum_by}}
 use Rattle.fb_text.specs.Tokens.{tokens_of, spans_of, LiesIn}
 use Rattle.fb_laws.specs.Common.{NameUse, Token, body_of, Whole, lexemes_of, Lexeme, ReferenceTree, reference_expression, Expressions, no_expressions, expression_then, ConstantTree, DeclTree}
@@ -46,7 +46,7 @@ abbrev pub number_of : Expressions → ℕ
 number_of no_expressions = 0
 number_of (expression_then e others) = suc (number_of others)
 
--- the subscripts that the names of a reference have behind them
+-- the number of subscripts that the names of a reference have after them
 abbrev pub counted_by : ReferenceTree → ℕ
 counted_by r = r.subscripts + sum_by (λ m. m.subscripts) r.members
 

@@ -1,9 +1,9 @@
--- Where spans and names stand among the tokens of a text.
+-- Where spans and names are among the tokens of a text.
 use Rattle.std.specs.{Prelude.{◌≡◌, ℕ, List, ◌∷◌, ◌++◌, slice_range, Contains}, Str.{str_to_ascii_uppercase}}
 use Rattle.fb_laws.specs.Common.{NameUse, Span, Token}
 use Rattle.fb_text.specs.declared.token.TokenKind.TheVariants.{Word}
 
--- the span begins where one of the tokens begins, and ends where that token or a later one ends
+-- the span has the start of one of the tokens, and the end of that token or of a later one
 pub record Covers (tokens : List Span) (span : Span) : Type 0 where
   pub before : List Span
   pub first : Span
@@ -14,7 +14,7 @@ pub record Covers (tokens : List Span) (span : Span) : Type 0 where
   pub start : span.start ≡ first.start
   pub end : span.end ≡ last.end
 
--- one of the tokens is a word that the name spells in upper case, and stands where the name stands
+-- one of the tokens is a word at the place of the name, and the name is that word in upper case
 pub record IsWord (text : List ℕ) (tokens : List Token) (name : NameUse) : Type 0 where
   pub token : Token
   pub among : Contains tokens token

@@ -2,7 +2,7 @@
 use Rattle.std.specs.{Prelude.{◌≡◌, ◌≢◌, ℕ, List, [], ◌∷◌, Some, None, Contains, ◌↔◌}, FinMap.{get}}
 use Rattle.fb_laws.specs.Common.{Span, DeclTree, BrokenAt, IsBody, Sources, tree_at, Syntax, Fault, faults_of}
 
--- the unit is present, its text spells no declaration, and this is where it is broken
+-- the unit is present, its text spells no declaration, and is broken at this place
 pub record IsBroken (sources : Sources) (unit : List ℕ) (span : Span) : Type 0 where
   pub text : List ℕ
   pub present : get sources unit ≡ Some text
@@ -11,7 +11,7 @@ pub record IsBroken (sources : Sources) (unit : List ℕ) (span : Span) : Type 0
 abbrev pub broken_at : Span → Fault
 broken_at span = record { code = Syntax; span = span }
 
--- the code stands for a broken text, and for nothing else
+-- the faults of a unit have the code of a broken text exactly where its text is broken
 abbrev pub BrokenTextsAreReported : Type 0
 BrokenTextsAreReported = (sources : Sources) (unit : List ℕ) (span : Span)
     → Contains (faults_of sources unit) (broken_at span) ↔ IsBroken sources unit span

@@ -89,7 +89,7 @@ WholeUnitsHaveFaultsOfParts = (sources : Sources) (unit : List ℕ) (decl : Decl
     → tree_at sources unit ≡ Some decl → (fault : Fault)
     → Contains (faults_of sources unit) fault ↔ IsOfPart sources unit fault
 
--- a code that one part has is reported of a unit where this part reports it
+-- a code that a part has, other than Literal, is reported of a unit exactly where the part reports it
 abbrev pub CodesAreOfTheirParts : Type 0
 CodesAreOfTheirParts = (part : Part) (sources : Sources) (unit : List ℕ) (fault : Fault)
     → IsCodeOf part fault.code → fault.code ≢ Literal

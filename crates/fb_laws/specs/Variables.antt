@@ -11,15 +11,15 @@ use Rattle.fb_expr.specs.References.{is_some_count}
 abbrev pub IsData : Section → Type 0
 IsData section = section ≡ Input ⊎ section ≡ Output
 
--- The first name of a reference is that of an own plug or socket, and this name follows it directly, with no subscript between them. These names
--- stand behind.
+-- The first name of a reference is that of an own plug or socket, and this name follows it directly, with no subscript between them. The names
+-- after that are `behind`.
 pub record IsAtPort (d : TypeTree) (r : ReferenceTree) (i : DeclaredInstance) (m : Member) (behind : List Member) : Type 0 where
   pub stands : stands_for (meanings_in_type d).instances r.name.name ≡ Some i
   pub adapter : IsAdapter i
   pub plain : r.subscripts ≡ 0
   pub second : r.members ≡ m ∷ behind
 
--- The type that a reference begins with, whether a subscript stands there, and the further names behind it: that of a data input or output of the
+-- The type that a reference begins with, whether it has a subscript there, and the further names after it: that of a data input or output of the
 -- adapter type of an own plug or socket, or else that of a variable of the unit.
 pub data Begins (sources : Sources) (d : TypeTree) (r : ReferenceTree) : TypeUse → Bool → List Member → Type 0 where
   own : (v : DeclaredVariable) → stands_for (meanings_in_type d).variables r.name.name ≡ Some v
@@ -38,13 +38,13 @@ pub record IsOfNoAdapter (sources : Sources) (d : TypeTree) (r : ReferenceTree) 
   pub at_port : IsAtPort d r instance member behind
   pub none : (a : TypeTree) → tree_at sources instance.type_name.name ≢ Some (adapter_type a)
 
--- whether a subscript stands on the plain type that a further name is looked for in: on a plain type the one that is written, on the elements of an
--- array none
+-- whether a subscript applies to the plain type in which a further name is looked up: to a plain type, if one is written; the subscript of an array selects
+-- an element, and none applies to that
 pub data Shows (used : TypeUse) : Bool → Bool → Type 0 where
   plain : {subscripted : Bool} → used.form ≡ forms.Plain → Shows used subscripted subscripted
   element : used.form ≡ forms.Array → Shows used true false
 
--- behind it no name is judged: the type is generic, or absent or broken
+-- no name after it is checked: the type is generic, or absent or broken
 pub data IsOpen (sources : Sources) (used : TypeUse) (subscripted : Bool) : Type 0 where
   generic : (on : Bool) → Shows used subscripted on → is_free (class_of_name used.name.name) ≡ true
       → IsOpen sources used subscripted
@@ -59,7 +59,7 @@ pub record HasField (sources : Sources) (used : TypeUse) (subscripted : Bool) (f
   pub is_structure : tree_at sources used.name.name ≡ Some (structure_type structure)
   pub found : stands_for (fields_in structure) field ≡ Some v
 
--- from a type by all of these names to a type, and whether a subscript stands behind the last of them
+-- these names lead from a type to a type, and whether a subscript follows the last of them
 pub data GoesOn (sources : Sources) : TypeUse → Bool → List Member → TypeUse → Bool → Type 0 where
   at_end : {used : TypeUse} {subscripted : Bool} → GoesOn sources used subscripted [] used subscripted
   through : {used last : TypeUse} {subscripted at_last : Bool} {m : Member} {others : List Member} (v : DeclaredVariable)
@@ -67,7 +67,7 @@ pub data GoesOn (sources : Sources) : TypeUse → Bool → List Member → TypeU
       → GoesOn sources v.type_use (is_some_count m.subscripts) others last at_last
       → GoesOn sources used subscripted (m ∷ others) last at_last
 
--- the whole reference has this type, and a subscript stands behind its last name, or none
+-- the whole reference has this type, and whether a subscript follows its last name
 pub record NamesType (sources : Sources) (d : TypeTree) (r : ReferenceTree) (last : TypeUse) (at_last : Bool) : Type 0 where
   pub first : TypeUse
   pub at_first : Bool

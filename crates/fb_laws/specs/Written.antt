@@ -6,7 +6,7 @@ use Rattle.fb_structured_text.specs.{Forms.Words.{key, name}, Expression.{levels
 use Rattle.fb_structured_text.specs.Operators.{signs, strengths, unary_use, binary_use}
 pub use Rattle.fb_expr.specs.Spans.{span_of as expression_span, span_through}
 
--- where a part stands, an expression with the parentheses and the subscripts that belong to it
+-- the place of a part; that of an expression includes the parentheses and the subscripts that belong to it
 abbrev pub part_span : Part → Span
 part_span (name_part name) = name.span
 part_span (constant_part c) = constant_span c
@@ -51,7 +51,7 @@ EndsAt [] place = ⊥
 EndsAt (token ∷ []) place = place ≡ token.span.end
 EndsAt (token ∷ next ∷ tokens) place = EndsAt (next ∷ tokens) place
 
--- Tokens that stand in a row among these, from where the span begins to where it ends, spell the part.
+-- Consecutive tokens among these, from the start of the part's span to its end, spell the part.
 pub record IsWritten (tokens : List Lexeme) (part : Part) : Type 0 where
   pub before : List Lexeme
   pub inside : List Lexeme

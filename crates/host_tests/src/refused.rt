@@ -1,5 +1,5 @@
-//! A session of a host of which each allocation is refused in turn, those of a history that begins anew among them. Another session then goes on with its seat, and is given
-//! each key that the first has taken; and the workbench closes with the receipts of all calls since the start.
+//! A session of a host of which each allocation is refused in turn, also those of a history that begins again. Another session then continues with its seat,
+//! and is given each key that the first has taken; and the workbench closes with the receipts of all calls since the start.
 use fb_host::{ReceiptStore, SessionResult, give_back_all, run_host_session};
 use fb_serve::CallerState;
 use fb_shared::Shared;

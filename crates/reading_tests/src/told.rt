@@ -22,7 +22,7 @@ pub fn words<T: Tell>(alloc: Global, found: &T) -> Result<String, AllocError> {
     Ok(told)
 }
 
-/// What is told of it after a mark.
+/// Adds a mark and the words for what was found.
 fn tell_after<T: Tell>(mark: &str, found: &T, told: &mut String) -> Result<(), AllocError> {
     told.push_str(mark)?;
     found.tell(told)

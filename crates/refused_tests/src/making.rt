@@ -59,7 +59,7 @@ impl<T: Owner> Trial for Made<T> {
     }
 }
 
-/// A workbench whose history begins anew, as it is made, with its seats.
+/// A workbench whose history begins again, as it is made, with its seats.
 #[derive(Drop)]
 struct Rolling {
     limits: Limits,

@@ -127,7 +127,7 @@ impl<'a, R: Wait> Trial for Held<'a, R> {
     }
 }
 
-/// A shared workbench whose history is full and begins anew with the next call, and its seat.
+/// A shared workbench whose history is full and begins again with the next call, and its seat.
 #[derive(Drop)]
 struct Anew<'a, R: Wait> {
     rt: &'a R,
@@ -153,7 +153,7 @@ impl<'a, R: Wait> Trial for Anew<'a, R> {
         })
     }
 
-    /// Without memory to begin anew the history is still full.
+    /// Without memory to begin again the history is still full.
     fn call(&mut self, _alloc: Global) -> bool {
         self.shared
             .ask(self.rt, &mut self.seat, self.given.key)
