@@ -7,8 +7,7 @@ use Rattle.fb_types.specs.Tree.Tree.{ApplicationTree, DeclTree, InstanceTree, Ne
 use Rattle.fb_types.specs.Iface.Declarations.{declaration_faults, duplicate_faults, literal_faults_of, mixed_faults, name_faults, with_faults_of}
 use Rattle.fb_types.specs.Iface.Ports.{events_in, instances_in, meanings_in_type, variables_in}
 use Rattle.fb_types.specs.Iface.Spaces.{chart_spaces, interface_spaces, network_spaces, resource_names, spaces_of}
-use Rattle.fb_types.specs.declared.systems.Application.{Application}
-use Rattle.fb_types.specs.{Tree.declared.network.Sort.{Sort}, Library.View.{Sources, tree_at}}
+use Rattle.fb_types.specs.{declared.systems.Application.{Application}, Tree.declared.network.Sort.{Sort}, Library.View.{Sources, tree_at}}
 use Rattle.fb_types.specs.{Iface.Recursion.{recursion_faults}, Iface.Names.{first_ones, is_same, stands_for}}
 use Rattle.fb_types.specs.{Iface.Types.{instance_faults, instances_of, type_faults}, Iface.declared.ports.DeclaredInstance.{DeclaredInstance}}
 use Rattle.fb_types.specs.{Network.Plain.{PlainNetwork}, Network.declared.network.End.TheVariants.{Own}, Network.declared.network.Port.{Port}}
@@ -164,12 +163,8 @@ module _ (sources : Sources) (unit : List ℕ) (s : SystemTree) (is : tree_at so
   system_sound : AreCleanWithKinds sources (map plain_application s.applications)
   system_sound = record {
     apart = places_apart;
-    named = λ a c.
-        let o = origin_in_map plain_application s.applications a c in
-        subst (λ (x : Application). application_named (map plain_application s.applications) x.name ≡ Some x) o.gives (application_found o.origin o.among);
-    sound = λ a c.
-        let o = origin_in_map plain_application s.applications a c in
-        subst (λ (x : Application). IsCleanWithKinds sources x.network) o.gives (application_sound o.origin o.among);
+    named = λ a c. let o = origin_in_map plain_application s.applications a c in rw (← o.gives) (application_found o.origin o.among);
+    sound = λ a c. let o = origin_in_map plain_application s.applications a c in rw (← o.gives) (application_sound o.origin o.among);
   }
 
 applications_sound : (sources : Sources) (unit : List ℕ) (decl : DeclTree) → tree_at sources unit ≡ Some decl → HasNoReport sources unit → AreCleanWithKinds sources (applications_of decl)

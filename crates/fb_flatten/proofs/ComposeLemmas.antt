@@ -82,13 +82,10 @@ module _ {sources : Sources} {hints : List ℕ → Option PlainNet} {table : Vie
       let within = applications_within sources unit (applications_of tree) is a among in
       record {
         same = same_adapters table (declared sources) a.network
-            (λ port adapter h e. same_of (same_type adapter (parts adapter (within.adapters port adapter h e))))
+            (λ port adapter h e. let s = same_type adapter (parts adapter (within.adapters port adapter h e)) in s.there ∙ sym s.is)
             (λ i h. same_type i.type_name (parts i.type_name (within.types i h)));
         clean = clean_with sources (length (far_of sources unit)) a.network
             ((applications_clean sources unit (applications_of tree) is (unit_faultless sources unit sound)).sound a among).clean
             (λ i h. done_part sources unit sound i.type_name (within.types i h));
         finished = finished;
       }
-    where
-      same_of : {name : List ℕ} → SameType table (declared sources) name → table name ≡ declared sources name
-      same_of s = s.there ∙ sym s.is

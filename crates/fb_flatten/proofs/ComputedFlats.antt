@@ -1,13 +1,13 @@
 -- Through enough depths flat networks and instances are found.
-use Rattle.std.proofs.Common.{Ordering, ◌≡◌, ℕ, suc, List, [], ◌∷◌, ◌++◌, Some, None, refl, sym, ap, subst}
-use Rattle.std.specs.{Prelude.{Contains, ◌≢◌, option_map}, FinMap.{get}, Cmp.{IsTotalOrder}, Ordering.{is_eq}, declared.cmp.Ordering.TheVariants.{Equal}}
+use Rattle.std.proofs.Common.{Ordering, true, ◌≡◌, ℕ, suc, List, [], ◌∷◌, ◌++◌, Some, None, refl, sym, ap, subst}
+use Rattle.std.specs.{Prelude.{Contains, ◌≢◌, option_map}, FinMap.{get}, Cmp.{IsTotalOrder}, Ordering.{eq_by_cmp, is_eq}}
 use Rattle.fb_types.specs.{Text.Order.{in_order}, Library.View.{Sources, parts_at}, Library.Rests.{PartRests, on_itself, through_part}}
 use Rattle.fb_types.specs.{Network.declared.network.InstanceKind.{InstanceKind}, Network.declared.network.InstanceKind.TheVariants.{Block, Subapplication}}
-use Rattle.fb_types.specs.{Network.declared.network.Instance.{Instance}, Network.declared.flat.Link.{Link}, Network.declared.flat.Border.{Border}}
+use Rattle.fb_types.specs.{Network.declared.network.Instance.{Instance}, Network.declared.flat.Link.{Link}}
 use Rattle.fb_types.specs.{Network.Plain.{PlainNetwork}, Network.LinkOrder.{link_cmp, link_cmp_total, border_cmp, border_cmp_total}}
-use Rattle.fb_types.specs.{Network.Network.{View, instance_named}, Network.Clean.{IsClean, IsCleanThroughout, CleanThroughout}}
+use Rattle.fb_types.specs.{Network.Network.{instance_named}, Network.Clean.{IsClean, IsCleanThroughout, CleanThroughout}}
 use Rattle.fb_types.specs.{Network.Instances.{Held, held_as, AreInstances, NoInstance, ThenBlock, ThenSubapplication}, Network.FlatNet.{IsFlat}}
-use Rattle.fb_types.specs.{Network.Composed.{composed_blocks, composed_borders, composed_links}, Network.Ready.{Nets, IsFinished, AreFinished}}
+use Rattle.fb_types.specs.{Network.Composed.{composed_blocks, composed_borders, composed_links}, Network.Ready.{IsFinished}}
 use Rattle.fb_types.specs.{ByName.{declared}, Networks.{network_of}}
 use Rattle.fb_types.proofs.{Text.OrderLemmas.{in_order-members, in_order-sorted}, Text.Members.{contains_here, contains_later}}
 use Rattle.fb_types.proofs.{Network.Composing.{found_by_name}, Network.Equals.{exact_border, exact_link}, Network.FlatLemmas.{IsOrderOf, flat_of}}
@@ -17,25 +17,13 @@ use Rattle.fb_flatten.specs.Nets.{composed, composed_at, flats_of, held_inside, 
 
 -- ---- lists in order
 
-pub link_ties : (a b : Link) → link_cmp a b ≡ Equal → a ≡ b
-link_ties a b e = exact_link a b (ap is_eq e)
-
-pub border_ties : (a b : Border) → border_cmp a b ≡ Equal → a ≡ b
-border_ties a b e = exact_border a b (ap is_eq e)
-
-ordered : {X : Type 0} (cmp : X → X → Ordering) → IsTotalOrder cmp → ((a b : X) → cmp a b ≡ Equal → a ≡ b) → (xs : List X) → IsOrderOf xs (in_order cmp xs)
-ordered cmp total ties xs = record { kept = λ x c. (in_order-members cmp total ties xs x).1 c; added = λ x c. (in_order-members cmp total ties xs x).0 c }
+ordered : {X : Type 0} (cmp : X → X → Ordering) → IsTotalOrder cmp → ((a b : X) → eq_by_cmp cmp a b ≡ true → a ≡ b) → (xs : List X) → IsOrderOf xs (in_order cmp xs)
+ordered cmp total exact xs =
+    let members = in_order-members cmp total (λ a b e. exact a b (ap is_eq e)) xs in
+    record { kept = λ x c. (members x).1 c; added = λ x c. (members x).0 c }
 
 pub links_ordered : (links : List Link) → IsOrderOf links (in_order link_cmp links)
-links_ordered links = ordered link_cmp link_cmp_total link_ties links
-
--- what is composed of finished types is the flat network
-pub composed_is : (view : View) (nets : Nets) (network : PlainNetwork) → IsCleanThroughout view network → AreFinished view network nets → IsFlat view network (composed view nets network)
-composed_is view nets network clean finished =
-    let links = composed_links view network (instance_named network.instances) nets in
-    let borders = composed_borders network (instance_named network.instances) nets in
-    flat_of (instance_named network.instances) (composed_blocks network nets) links (in_order link_cmp links) borders (in_order border_cmp borders) clean finished refl refl refl refl
-    (links_ordered links) (ordered border_cmp border_cmp_total border_ties borders) (in_order-sorted link_cmp link_cmp_total links) (in_order-sorted border_cmp border_cmp_total borders)
+links_ordered links = ordered link_cmp link_cmp_total exact_link links
 
 -- ---- depths
 
@@ -64,13 +52,15 @@ clean_with sources depth network clean done = CleanThroughout clean
     let same : d.network ≡ inner = cc in
     subst (λ (n : PlainNetwork). IsCleanThroughout (declared sources) n) same d.clean)
 
-pub finished_with : (sources : Sources) (depth : ℕ) (network : PlainNetwork) → AreDone sources depth network.instances → AreFinished (declared sources) network (flats_of depth (declared sources))
-finished_with sources depth network done i c k = (done i c).finished
-
 -- the flat network of a clean network whose types are done
 pub flat_with : (sources : Sources) (depth : ℕ) (network : PlainNetwork) → IsClean (declared sources) network → AreDone sources depth network.instances → IsFlat (declared sources) network (composed (declared sources) (flats_of depth (declared sources)) network)
 flat_with sources depth network clean done =
-    composed_is (declared sources) (flats_of depth (declared sources)) network (clean_with sources depth network clean done) (finished_with sources depth network done)
+    let nets = flats_of depth (declared sources) in
+    let links = composed_links (declared sources) network (instance_named network.instances) nets in
+    let borders = composed_borders network (instance_named network.instances) nets in
+    flat_of (instance_named network.instances) (composed_blocks network nets) links (in_order link_cmp links) borders (in_order border_cmp borders)
+    (clean_with sources depth network clean done) (λ i c k. (done i c).finished) refl refl refl refl
+    (links_ordered links) (ordered border_cmp border_cmp_total exact_border borders) (in_order-sorted link_cmp link_cmp_total links) (in_order-sorted border_cmp border_cmp_total borders)
 
 held_one : (sources : Sources) (depth : ℕ) (i : Instance) (rest : List Instance) (others : List Held) (kind : InstanceKind) → i.kind ≡ kind → IsDone sources depth i.type_name → AreInstances (declared sources) rest others → AreInstances (declared sources) (i ∷ rest) (held_as i ∷ (held_inside (held_of depth (declared sources)) kind i ++ others))
 held_one sources depth i rest others Block e done more = ThenBlock i rest others e more

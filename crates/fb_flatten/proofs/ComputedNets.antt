@@ -2,17 +2,15 @@
 use Rattle.std.proofs.Common.{◌≡◌, ℕ, Bool, true, false, cond, if◌then◌else◌, List, [], ◌∷◌, length, ◌⊎◌, inl, inr, Option, Some, None, refl, sym, ap, subst, ◌∙◌, arith}
 use Rattle.std.proofs.{lemmas.Bool.{false≢true}, lemmas.Bool.Decides.{nat_tests}, lemmas.List.Kept.{IsStrictlySortedBy-filter}}
 use Rattle.std.specs.{Prelude.{Contains, ◌≢◌, nat_lt, map, filter, option_map}, List.{flat_map}, Option.{option_and_then}, FinMap.{get}}
-use Rattle.fb_types.specs.Text.Order.{name_cmp, in_order}
-use Rattle.fb_types.specs.Tree.Tree.{DeclTree, subapplication_type, system_configuration}
+use Rattle.fb_types.specs.{Text.Order.{name_cmp, in_order}, Tree.Tree.{DeclTree, subapplication_type, system_configuration}}
 use Rattle.fb_types.specs.declared.systems.Application.{Application}
 use Rattle.fb_types.specs.Units.{HasNet, has_net_tree, own_instances, AreFlatApplications, NoApplication, ThenApplication, Holds, IsUnitFlat, OfSubapplication, OfSystem}
-use Rattle.fb_types.specs.Library.Seen.{has_name}
-use Rattle.fb_types.specs.{Tree.Mentions.{unit_kind_of}, Library.View.{Sources, parts_at, tree_at, tree_of}}
-use Rattle.fb_types.specs.{Library.Rests.{Rests, itself, PartRests, on_itself, through_part}, Library.Local.{AgreeFar}}
-use Rattle.fb_types.specs.{Reaches.{IsRecursive}, Network.declared.count.TheConstants.{INSTANCE_LIMIT}, Network.PlainFlat.{PlainFlat}}
-use Rattle.fb_types.specs.{Network.LinkOrder.{link_cmp, link_cmp_total}, Network.Network.{View}, Network.FlatNet.{IsFlat}, Network.Instances.{Held}}
-use Rattle.fb_types.specs.{Network.SystemFlat.{IsSystemFlat, application_links}, Network.declared.application.FlatApplication.{FlatApplication}}
-use Rattle.fb_types.specs.{Applications.{applications_of}, ByName.{applications_at, declared}, Networks.{network_of}}
+use Rattle.fb_types.specs.{Library.Seen.{has_name}, Tree.Mentions.{unit_kind_of}, Library.View.{Sources, parts_at, tree_at, tree_of}}
+use Rattle.fb_types.specs.{Library.Rests.{Rests, itself, PartRests, on_itself, through_part}, Library.Local.{AgreeFar}, Reaches.{IsRecursive}}
+use Rattle.fb_types.specs.{Network.declared.count.TheConstants.{INSTANCE_LIMIT}, Network.PlainFlat.{PlainFlat}, Network.LinkOrder.{link_cmp, link_cmp_total}}
+use Rattle.fb_types.specs.{Network.Network.{View}, Network.FlatNet.{IsFlat}, Network.Instances.{Held}, Network.SystemFlat.{IsSystemFlat, application_links}}
+use Rattle.fb_types.specs.{Network.declared.application.FlatApplication.{FlatApplication}, Applications.{applications_of}, ByName.{applications_at, declared}}
+use Rattle.fb_types.specs.Networks.{network_of}
 use Rattle.fb_types.proofs.{Text.OrderLemmas.{in_order-sorted}, Library.Locality.{far_local, part_mention, parts_both, parts_rest, rests_more}}
 use Rattle.fb_types.proofs.Text.Members.{contains_nothing, contains_filter, passes_in_filter, contains_here, contains_later}
 use Rattle.fb_types.proofs.{Network.SystemLemmas.{system_links_are}, Library.WalkLemmas.{Contains-has, has-Contains}}
@@ -200,13 +198,10 @@ there a b unit agree net at =
     let p = (net_at_is a unit net).0 at in
     (net_at_is b unit net).1 (same_kind a b unit (agree unit itself) p.0, net_local a b unit agree net p.1)
 
-pub net_at_local : NetAtIsLocal
-net_at_local a b unit agree = by (net_at a unit) refl (net_at b unit) refl
-  where
-    back : AgreeFar unit b a
-    back name r = sym (agree name ((far_local a b unit agree name).1 r))
+same_options : {X : Type 0} (o p : Option X) → ((x : X) → o ≡ Some x → p ≡ Some x) → ((x : X) → p ≡ Some x → o ≡ Some x) → o ≡ p
+same_options (Some x) p first second = sym (first x refl)
+same_options None None first second = refl
+same_options None (Some x) first second = second x refl
 
-    by : (o : Option PlainNet) → net_at a unit ≡ o → (p : Option PlainNet) → net_at b unit ≡ p → net_at a unit ≡ net_at b unit
-    by (Some net) e p f = e ∙ sym (there a b unit agree net e)
-    by None e None f = e ∙ sym f
-    by None e (Some net) f = there b a unit back net f ∙ sym f
+pub net_at_local : NetAtIsLocal
+net_at_local a b unit agree = same_options (net_at a unit) (net_at b unit) (there a b unit agree) (there b a unit (λ name r. sym (agree name ((far_local a b unit agree name).1 r))))

@@ -13,9 +13,8 @@ use Rattle.fb_types.specs.Units.{has_net_in, own_instances}
 use Rattle.fb_types.specs.Tree.declared.kinds.UnitKind.TheVariants as kinds
 use Rattle.fb_flatten.specs.{Clean.{wanted_kind}, Net.{PlainNet, IsSound}}
 use Rattle.fb_flatten.specs.Tables.{AllCounted, AreRightCounts, IsSmallType, IsSoundOrder, IsTable, IsUnitCount, SameOthers, is_subapplication_in, is_subapplication_tree}
-use Rattle.fb_types.proofs.Text.Tests.{by_bool}
-use Rattle.fb_types.proofs.{Text.Members.{contains_cases, contains_nothing, origin_in_flat_map}, Network.Equals.{same_bytes, at_not}, UncachedLemmas.{get_holder}}
-use Rattle.fb_types.proofs.KindLemmas.{subapplication_by_tree, subapplication_told}
+use Rattle.fb_types.proofs.{Text.Tests.{by_bool}, Text.Members.{contains_cases, contains_nothing, origin_in_flat_map}, Network.Equals.{same_bytes, at_not}}
+use Rattle.fb_types.proofs.{UncachedLemmas.{get_holder}, KindLemmas.{subapplication_by_tree, subapplication_told}}
 use Rattle.fb_flatten.proofs.{CleanUnits.{applications_clean, networks_clean}, KeptLemmas.{part_kept}, ComputedNets.{has_by_text, unit_faultless}}
 use Rattle.fb_flatten.proofs.{MentionLemmas.{own_within}, SoundLemmas.{sound_network, sound_tree}}
 
@@ -45,9 +44,6 @@ pub record AreSoFar (sources : Sources) (names : List (List ℕ)) (counts : List
   pub all : AllCounted sources counts names
   pub right : AreRightCounts sources counts
 
-pub counted_nothing : (sources : Sources) (counts : List ℕ → Option ℕ) → AllCounted sources counts []
-counted_nothing sources counts name c k = absurd (contains_nothing name c)
-
 counted_still : {view : View} {old new : List ℕ → Option ℕ} (name : List ℕ) → new name ≡ old name → IsCounted view old name → IsCounted view new name
 counted_still name e f = record { inner = f.inner; declared = f.declared; count = f.count; found = e ∙ f.found; counted = f.counted }
 
@@ -60,12 +56,9 @@ counted_more sources old new names name all others one q c k =
       | inl d ↦ by_bool (is_at (name_cmp name) q) (λ e. here (same_bytes name q e)) (λ e. counted_still q (others q (at_not name q e)) (all q d k))
     ]
 
-module _ {sources : Sources} {hints : List ℕ → Option PlainNet} {table : View} {order : List (List ℕ)} (names : IsSoundOrder sources hints order) (t : IsTable sources table order) where
-  -- the table has each name of the order
-  pub in_table : (name : List ℕ) → Contains order name → is_some (table name) ≡ true
-  in_table name c =
-      let it = sound_network (names.sound name c) in
-      ap is_some ((t.types name c).network it.network it.is_declared)
+-- the table has each name of the order
+pub in_table : {sources : Sources} {hints : List ℕ → Option PlainNet} {table : View} {order : List (List ℕ)} (names : IsSoundOrder sources hints order) (t : IsTable sources table order) (name : List ℕ) → Contains order name → is_some (table name) ≡ true
+in_table names t name c = let it = sound_network (names.sound name c) in ap is_some ((t.types name c).network it.network it.is_declared)
 
 -- the types of the instances of a sound unit are counted where the names that it mentions are
 own_counted : {sources : Sources} {counts : List ℕ → Option ℕ} (unit : List ℕ) (tree : DeclTree) → IsSound sources unit → tree_at sources unit ≡ Some tree → ((w : List ℕ) → Contains (parts_at sources unit) w → kind_at sources w ≡ Some kinds.Subapplication → IsCounted (declared sources) counts w) → AreCounted (declared sources) (own_instances tree) counts
@@ -122,12 +115,6 @@ inner_small i (ThenBlock j rest others block more) le c k =
 inner_small {view = view} i (ThenSubapplication j rest inner own others kind d inside more) le c k =
     let both : length (map (held_within j.name) own ++ others) ≡ length own + length others = simp (length-append, length-map) in
     elim (contains_cases j rest i c) [
-      | inl e ↦ record {
-        network = inner;
-        declared = ap (λ (x : Instance). view x.type_name) (sym e) ∙ d;
-        held = own;
-        instances = inside;
-        within = omega (arith, le, both);
-      }
+      | inl e ↦ record { network = inner; declared = rw e at d; held = own; instances = inside; within = omega (arith, le, both) }
       | inr h ↦ inner_small i more (omega (arith, le, both)) h k
     ]

@@ -1,6 +1,5 @@
 -- What rests on no recursive type rests on inner types through fewer depths than there are names.
-use Rattle.std.proofs.Common.{◌≡◌, ℕ, zero, suc, ◌≤◌, Bool, true, false, List, [], ◌∷◌, length, refl, sym, subst, arith}
-use Rattle.std.proofs.{lemmas.Bool.{false≢true, or_right}}
+use Rattle.std.proofs.{Common.{◌≡◌, ℕ, zero, suc, ◌≤◌, Bool, true, false, List, [], ◌∷◌, length, refl, sym, subst, arith}, lemmas.Bool.{false≢true, or_right}}
 use Rattle.std.specs.{Prelude.{Contains, ◌↔◌}, List.{list_any}}
 use Rattle.fb_types.proofs.{Text.Tests.{by_bool, or_cases}, Library.WalkLemmas.{Contains-has, has-Contains}, StackLemmas.{reaches_more}}
 use Rattle.fb_types.proofs.{Text.Members.{contains_here}, Library.SeenLemmas.{same, same_is, one_fewer, some_unseen, all_unseen}, Library.Locality.{part_mention, rests_more}}

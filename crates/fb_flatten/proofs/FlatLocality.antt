@@ -17,7 +17,7 @@ pub found : {X : Type 0} (p : X → Bool) (xs : List X) (x : X) → find p xs �
 found p xs x e = (passes_in_find p xs x e).among
 
 -- the steps of a look-up that gives something
-reached : {X Y : Type 0} (f : X → Option Y) (o : Option X) (y : Y) → option_and_then f o ≡ Some y → (x : X) × (o ≡ Some x) × (f x ≡ Some y)
+pub reached : {X Y : Type 0} (f : X → Option Y) (o : Option X) (y : Y) → option_and_then f o ≡ Some y → (x : X) × (o ≡ Some x) × (f x ≡ Some y)
 reached f o y e = grind arith
 
 -- the inner network is the same, and within the names

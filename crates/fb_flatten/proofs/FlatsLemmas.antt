@@ -1,29 +1,22 @@
 -- One more name of an order is finished.
-use Rattle.std.proofs.Common.{ℕ, zero, suc, ◌≡◌, ◌<◌, true, false, not, List, [], ◌∷◌, ◌++◌, Option, Some, inl, inr, sym, ◌∙◌, ap, subst, take, get_or, length, arith}
-use Rattle.std.proofs.{lemmas.Bool.{and_parts}, lemmas.List.Elements.{Contains-push_cases}}
+use Rattle.std.proofs.Common.{ℕ, ◌≡◌, ◌<◌, true, false, not, List, [], ◌∷◌, ◌++◌, Option, Some, inl, inr, sym, ◌∙◌, ap, subst, take, get_or, length, arith}
+use Rattle.std.proofs.{lemmas.Bool.{and_parts}, lemmas.List.Elements.{All-contains, All-contains_itself, All-take, Contains-push_cases}}
 use Rattle.std.specs.{Prelude.{Contains, ◌≢◌, option_map}, Option.{option_or}, BTreeMap.{is_at}}
-use Rattle.fb_types.proofs.{Text.Tests.{by_bool, not_true}, Text.Members.{contains_cases, contains_here, contains_later, contains_nothing}}
-use Rattle.fb_types.proofs.{Network.Equals.{same_bytes, not_at, at_not}, KindLemmas.{subapplication_told}}
-use Rattle.fb_types.proofs.FoundUnits.{own_of_application, own_of_type, system_applications}
-use Rattle.fb_types.specs.{Text.Order.{name_cmp}, Tree.Mentions.{unit_kind_of}}
-use Rattle.fb_types.specs.Tree.Tree.{DeclTree}
-use Rattle.fb_types.specs.{Library.View.{Sources, parts_at, tree_at}}
+use Rattle.fb_types.proofs.{Text.Tests.{by_bool, not_true}, Network.Equals.{same_bytes, not_at, at_not}}
+use Rattle.fb_types.proofs.{KindLemmas.{subapplication_told}, FoundUnits.{own_of_application, own_of_type, system_applications}}
+use Rattle.fb_types.specs.{Text.Order.{name_cmp}, Tree.Mentions.{unit_kind_of}, Tree.Tree.{DeclTree}, Library.View.{Sources, parts_at, tree_at}}
 use Rattle.fb_types.specs.{Network.declared.network.InstanceKind.TheVariants.{Subapplication}, Network.declared.network.Instance.{Instance}}
 use Rattle.fb_types.specs.{Network.Plain.{PlainNetwork}, Network.PlainFlat.{PlainFlat}, Network.Network.{View}, Network.Instances.{AreInstances}}
-use Rattle.fb_types.specs.{Applications.{applications_of}, ByName.{declared, kind_at}, Networks.{network_of}}
-use Rattle.fb_types.specs.{Network.Ready.{Nets, IsFinished, AreFinished}, Units.{HasNet, IsUnitFlat, IsWithinLimit, OfSubapplication, OfSystem, own_instances}}
+use Rattle.fb_types.specs.{Applications.{applications_of}, ByName.{declared, kind_at}, Networks.{network_of}, Network.Ready.{Nets, IsFinished, AreFinished}}
+use Rattle.fb_types.specs.Units.{HasNet, IsUnitFlat, IsWithinLimit, OfSubapplication, OfSystem, own_instances}
 use Rattle.fb_types.specs.Tree.declared.kinds.UnitKind.TheVariants as kinds
 use Rattle.fb_flatten.specs.{Hints.{AreRightHints, flat_of_hint, is_whole_hint}, Net.{PlainNet}}
 use Rattle.fb_flatten.specs.Tables.{AllFinished, AreComposedTogether, AreMissing, IsAdded, IsComposed, IsSmallType, IsTable, IsUnitOrder, SameOthers, is_missing, is_system_tree, known_flats}
 use Rattle.fb_flatten.proofs.{ComposeLemmas.{application_composable, type_composable}, CountLemmas.{inner_kind, inner_small, own_kind}}
-use Rattle.fb_flatten.proofs.{HintLemmas.{kept_finished, no_flat}, MentionLemmas.{declared_within, own_within}}
-use Rattle.fb_flatten.proofs.SoundLemmas.{not_mentioned, sound_network}
+use Rattle.fb_flatten.proofs.{HintLemmas.{kept_finished, no_flat}, MentionLemmas.{declared_within, own_within}, SoundLemmas.{not_mentioned, sound_network}}
 
 in_take : {X : Type 0} (k : ℕ) (xs : List X) (x : X) → Contains (take k xs) x → Contains xs x
-in_take zero xs x c = absurd (contains_nothing x c)
-in_take (suc k) [] x c = absurd (contains_nothing x c)
-in_take {X = X} (suc k) (y ∷ ys) x c =
-    elim (contains_cases y (take k ys) x c) [ inl e ↦ subst (λ (z : X). Contains (y ∷ ys) z) e (contains_here y ys) | inr h ↦ contains_later y ys x (in_take k ys x h) ]
+in_take k xs x c = All-contains (Contains xs) (take k xs) x (All-take (Contains xs) k xs (All-contains_itself xs)) c
 
 not_system : (tree : DeclTree) → is_system_tree tree ≡ false → Some (unit_kind_of tree) ≡ Some kinds.System → ⊥
 not_system tree s k = grind arith
@@ -37,9 +30,6 @@ is_system tree s = grind arith
 pub record AreComposed (sources : Sources) (hints : List ℕ → Option PlainNet) (unit : List ℕ) (order names : List (List ℕ)) (composed : Nets) : Type 0 where
   pub finished : AllFinished sources (known_flats hints composed) unit names
   pub missing : AreMissing sources hints unit order composed
-
-pub finished_nothing : (sources : Sources) (nets : Nets) (unit : List ℕ) → AllFinished sources nets unit []
-finished_nothing sources nets unit name c other kind small = absurd (contains_nothing name c)
 
 module _ (sources : Sources) (hints : List ℕ → Option PlainNet) (unit : List ℕ) (names : List (List ℕ)) (name : List ℕ) where
   -- a further name that is finished

@@ -1,11 +1,10 @@
 -- What kept nets tell of their units.
 use Rattle.std.proofs.{Common.{ℕ, ◌≡◌, Bool, true, false, arith, length, List, Option, Some, None, ap, subst}, lemmas.Bool.{false≢true}}
 use Rattle.std.specs.{Prelude.{is_none, option_map}, FinMap.{get}, Option.{option_or}}
-use Rattle.fb_types.specs.Tree.Mentions.{unit_kind_of}
-use Rattle.fb_types.specs.Tree.Tree.{DeclTree, subapplication_type}
-use Rattle.fb_types.specs.Units.{IsTooLarge, IsUnitFlat, OfSubapplication, OfSystem, own_instances}
-use Rattle.fb_types.specs.{Library.View.{Sources, tree_at}, Network.Plain.{PlainNetwork}, Network.PlainFlat.{PlainFlat}}
-use Rattle.fb_types.specs.{Network.Instances.{Held, AreInstances}, ByName.{declared, kind_at}, Networks.{network_of}, Network.Ready.{Nets, IsFinished}}
+use Rattle.fb_types.specs.{Tree.Mentions.{unit_kind_of}, Tree.Tree.{DeclTree, subapplication_type}}
+use Rattle.fb_types.specs.{Units.{IsTooLarge, IsUnitFlat, OfSubapplication, OfSystem, own_instances}, Library.View.{Sources, tree_at}}
+use Rattle.fb_types.specs.{Network.Plain.{PlainNetwork}, Network.PlainFlat.{PlainFlat}, Network.Instances.{Held, AreInstances}, ByName.{declared, kind_at}}
+use Rattle.fb_types.specs.{Networks.{network_of}, Network.Ready.{Nets, IsFinished}}
 use Rattle.fb_types.specs.Tree.declared.kinds.UnitKind.TheVariants as kinds
 use Rattle.fb_types.proofs.Network.BlockLemmas.{same_instances}
 use Rattle.fb_flatten.specs.{Blocking.{is_absent_or_faulty, is_blocking}, Hints.{AreRightHints, flat_of_hint, is_whole_hint, is_whole_net}}

@@ -1,19 +1,18 @@
 -- The applications of a text have no plugs and no sockets.
-use Rattle.std.proofs.Common.{◌≡◌, ℕ, Bool, true, false, List, [], ◌∷◌, ◌++◌, length, Option, Some, None, Result, Ok, Err, sym, ap, ◌∙◌, subst, inl, inr}
-use Rattle.std.specs.{FinMap.{get}, Option.{option_and_then}}
-use Rattle.fb_types.specs.{Text.declared.token.Span.{Span}, Text.declared.name.NameUse.{NameUse}, Forms.Lexemes.{lexemes_of}, Forms.declared.kind.Kind.{Kind}, Forms.declared.lexeme.Lexeme.{Lexeme}}
-use Rattle.fb_types.specs.{Forms.Form.{Form, Spells, both, many, as_value}, Forms.Words.{before, behind, key, name}}
+use Rattle.std.proofs.Common.{◌≡◌, ℕ, Bool, true, false, List, [], ◌∷◌, ◌++◌, length, Some, Result, Ok, Err, sym, ap, ◌∙◌, subst, inl, inr}
+use Rattle.std.specs.FinMap.{get}
+use Rattle.fb_types.specs.{Text.declared.token.Span.{Span}, Text.declared.name.NameUse.{NameUse}, Forms.Lexemes.{lexemes_of}, Forms.declared.kind.Kind.{Kind}}
+use Rattle.fb_types.specs.{Forms.declared.lexeme.Lexeme.{Lexeme}, Forms.Form.{Form, Spells, both, many, as_value}, Forms.Words.{before, behind, key, name}}
 use Rattle.fb_types.specs.{Sections.Network.{blocks, instance, inner_subapplication, subapplications}, Sections.Sections.{section}}
 use Rattle.fb_types.specs.Tree.Tree.{ApplicationTree, DeclTree, InstanceTree, SystemTree, system_configuration}
 use Rattle.fb_types.specs.Parse.Grammar.{application, application_of, application_section, network_section, system, system_of, system_section, unit}
-use Rattle.fb_types.specs.Parse.SystemContents.{SystemContentsTree, system_joined}
-use Rattle.fb_types.specs.Library.View.{Sources, tree_at, tree_in, tree_of}
-use Rattle.fb_types.specs.{Tree.declared.network.Role.{Role}}
-use Rattle.fb_types.specs.{Parse.Body.{BodyTree, Whole, BrokenAt, IsBodyIn, body_of}, Parse.Contents.{ContentsTree, joined}}
+use Rattle.fb_types.specs.{Parse.SystemContents.{SystemContentsTree, system_joined}, Library.View.{Sources, tree_at, tree_in, tree_of}}
+use Rattle.fb_types.specs.{Tree.declared.network.Role.{Role}, Parse.Body.{BodyTree, Whole, BrokenAt, IsBodyIn, body_of}, Parse.Contents.{ContentsTree, joined}}
 use Rattle.fb_types.specs.Forms.declared.kind.Kind.TheVariants as kinds
 use Rattle.fb_types.specs.Tree.declared.network.Role.TheVariants as roles
 use Rattle.fb_types.proofs.Parse.Bodies.{told}
 use Rattle.fb_faults.proofs.Netcheck.Locality.{Each}
+use Rattle.fb_flatten.proofs.FlatLocality.{reached}
 
 -- each value that tokens spell by the form has the fact
 abbrev GivesOnly : {A : Type 0} → Form A → (A → Type 0) → Type 0
@@ -113,8 +112,6 @@ in_body end r (BrokenAt span) decl h e = absurd (let no : ⊥ = cc in no)
 
 -- in a text that declares a system, each application has blocks and subapplications alone
 pub inner_instances : (sources : Sources) (unit : List ℕ) (s : SystemTree) → tree_at sources unit ≡ Some (system_configuration s) → Each (λ (a : ApplicationTree). Each IsInnerInstance a.network.instances) s.applications
-inner_instances sources unit s e = by (get sources unit) e
-  where
-    by : (text : Option (List ℕ)) → option_and_then tree_of text ≡ Some (system_configuration s) → InSystemTree s
-    by None e = absurd (let no : ⊥ = cc in no)
-    by (Some text) e = in_body (length text) (lexemes_of text) (body_of text) (system_configuration s) (told text) e
+inner_instances sources unit s e =
+    let r = reached tree_of (get sources unit) (system_configuration s) e in
+    in_body (length r.0) (lexemes_of r.0) (body_of r.0) (system_configuration s) (told r.0) r.2

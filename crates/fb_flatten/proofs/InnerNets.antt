@@ -1,11 +1,10 @@
 -- What is composed for a unit is the net of its type, where that is counted within the limit.
 use Rattle.std.proofs.{Common.{ℕ, ◌≡◌, ◌≤◌, arith, true, not, List, Option, Some, inl, sym, ◌∙◌, ap, subst}, lemmas.Bool.{and_parts, false≢true}}
 use Rattle.std.specs.{Prelude.{Contains, ◌≢◌, option_map}, Option.{option_or}, BTreeMap.{is_at}}
-use Rattle.fb_types.specs.{Text.Order.{name_cmp}}
-use Rattle.fb_types.specs.Tree.Tree.{TypeTree, subapplication_type}
-use Rattle.fb_types.specs.{Library.View.{Sources, tree_at}, Network.declared.count.TheConstants.{INSTANCE_LIMIT}, Network.Plain.{PlainNetwork}}
-use Rattle.fb_types.specs.{Network.PlainFlat.{PlainFlat}, Network.Instances.{Held, AreInstances}, Network.FlatNet.{IsFlat}, Counts.{IsCounted}}
-use Rattle.fb_types.specs.{Network.Ready.{Nets}, ByName.{declared, kind_at}, Networks.{network_of}, Units.{Holds, IsUnitFlat, IsWithinLimit, OfSubapplication}}
+use Rattle.fb_types.specs.{Text.Order.{name_cmp}, Tree.Tree.{TypeTree, subapplication_type}, Library.View.{Sources, tree_at}}
+use Rattle.fb_types.specs.{Network.declared.count.TheConstants.{INSTANCE_LIMIT}, Network.Plain.{PlainNetwork}, Network.PlainFlat.{PlainFlat}}
+use Rattle.fb_types.specs.{Network.Instances.{Held, AreInstances}, Network.FlatNet.{IsFlat}, Counts.{IsCounted}, Network.Ready.{Nets}}
+use Rattle.fb_types.specs.{ByName.{declared, kind_at}, Networks.{network_of}, Units.{Holds, IsUnitFlat, IsWithinLimit, OfSubapplication}}
 use Rattle.fb_types.specs.Tree.declared.kinds.UnitKind.TheVariants as kinds
 use Rattle.fb_types.proofs.{Text.Tests.{not_true}, KindLemmas.{subapplication_by_tree}, Network.Equals.{bytes_same}, Library.Locality.{parts_rest}}
 use Rattle.fb_flatten.specs.{Hints.{is_whole_hint}, Inner.{IsCountedFlat, IsCountedWithin, IsInnerNet}, Net.{PlainNet, flat_net}, Nets.{net_at}}

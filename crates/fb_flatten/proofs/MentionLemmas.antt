@@ -1,6 +1,6 @@
 -- What a unit says as a network is within its mentions.
-use Rattle.std.proofs.Common.{ℕ, ◌≡◌, ◌+◌, List, [], ◌∷◌, ◌++◌, Option, Some, None, inl, inr, refl, sym, ◌∙◌, ap, subst, arith}
-use Rattle.std.proofs.lemmas.List.Elements.{Contains-append_cases}
+use Rattle.std.proofs.Common.{ℕ, ◌≡◌, List, ◌++◌, Option, Some, None, inl, inr, refl, sym, ◌∙◌, ap, subst, arith}
+use Rattle.std.proofs.lemmas.{List.Elements.{Contains-append_cases}, Option.{get_or_from_slice_get, slice_get_within}}
 use Rattle.std.specs.{Prelude.{Contains, map, filter, is_none, take}, List.{filter_map, enumerate_from}}
 use Rattle.std.specs.{Cmp.Lexicographic.{nat_list_cmp_total}, FinMap.{slice_cmp-IsAntisymmetric, nat_cmp-IsAntisymmetric}}
 use Rattle.fb_types.specs.{Text.Order.{name_cmp}, Text.declared.name.NameUse.{NameUse}}
@@ -13,19 +13,11 @@ use Rattle.fb_types.specs.{Iface.declared.ports.DeclaredInstance.{DeclaredInstan
 use Rattle.fb_types.specs.{Network.declared.network.Port.{Port}, Network.Plain.{PlainNetwork}, Applications.{applications_of, plain_application}}
 use Rattle.fb_types.specs.{ByName.{applications_at, declared}, Networks.{instance_in_role, plain_instance, network_of, leaf}}
 use Rattle.fb_types.specs.{Ports.{plain_ports, plain_event, plain_data, plain_adapter}, declared.systems.Application.{Application}, Units.{own_instances}}
-use Rattle.fb_types.proofs.Text.OrderLemmas.{in_order-members}
-use Rattle.fb_types.proofs.Text.Members.{contains_nothing, contains_here, contains_later, contains_cases, contains_map, origin_in_map, contains_flat_map, origin_in_flat_map, passes_in_filter}
+use Rattle.fb_types.proofs.{Text.OrderLemmas.{in_order-members}, Iface.EarlierLemmas.{in_places}}
+use Rattle.fb_types.proofs.Text.Members.{contains_nothing, contains_map, origin_in_map, contains_flat_map, origin_in_flat_map, passes_in_filter}
 use Rattle.fb_types.specs.Tree.declared.network.Role.TheVariants as roles
 use Rattle.fb_flatten.specs.Locality.{Within}
 use Rattle.fb_flatten.proofs.NameLemmas.{mapped, origin_in_filter_map}
-
-in_enumerated : {X : Type 0} (n : ℕ) (xs : List X) (p : ℕ × X) → Contains (enumerate_from n xs) p → Contains xs p.1
-in_enumerated n [] p c = absurd (contains_nothing p c)
-in_enumerated {X = X} n (x ∷ xs) p c =
-    elim (contains_cases (n, x) (enumerate_from (n + 1) xs) p c) [
-      | inl e ↦ subst (λ (q : ℕ × X). Contains (x ∷ xs) q.1) e (contains_here x xs)
-      | inr d ↦ contains_later x xs p.1 (in_enumerated (n + 1) xs p d)
-    ]
 
 -- first declarations are declarations
 in_first_ones : {D : Type 0} (declarations : List (List ℕ × D)) (y : List ℕ × D) → Contains (first_ones declarations) y → Contains declarations y
@@ -33,7 +25,8 @@ in_first_ones {D = D} declarations y c =
     let test = λ (placed : ℕ × (List ℕ × D)). is_none (stands_for (take placed.0 declarations) placed.1.0) in
     let o = origin_in_map (λ (placed : ℕ × (List ℕ × D)). placed.1) (filter test (enumerate_from 0 declarations)) y c in
     let p = passes_in_filter test (enumerate_from 0 declarations) o.origin o.among in
-    subst (λ (z : List ℕ × D). Contains declarations z) o.gives (in_enumerated 0 declarations o.origin p.among)
+    let at = in_places 0 declarations o.origin p.among in
+    rw (← o.gives) (at.0, slice_get_within declarations at.0 o.origin.1 at.2, get_or_from_slice_get declarations at.0 o.origin.1 o.origin.1 at.2)
 
 type_kept : (role : Role) (name type_name : List ℕ) (i : Instance) → instance_in_role role name type_name ≡ Some i → type_name ≡ i.type_name
 type_kept role name type_name i e = grind arith
@@ -43,7 +36,7 @@ instance_mentioned : (instances : List InstanceTree) (i : Instance) → Contains
 instance_mentioned instances i c =
     let g = origin_in_filter_map plain_instance instances i c in
     let it = g.origin in
-    subst (λ (n : List ℕ). Contains (types_in instances) n) (type_kept it.role it.name.name it.type_name.name i g.gives) (contains_map (λ (j : InstanceTree). j.type_name.name) instances it g.among)
+    rw (← type_kept it.role it.name.name it.type_name.name i g.gives) (contains_map (λ (j : InstanceTree). j.type_name.name) instances it g.among)
 
 adapter_mentioned : (side : Side) (role : Role) (d : TypeTree) (port : Port) (name : List ℕ) → Contains (map (plain_adapter side) (instances_as role (meanings_in_type d))) port → port.adapter ≡ Some name → Contains (types_in d.network.instances) name
 adapter_mentioned side role d port name c e =
@@ -100,7 +93,7 @@ leaf_within : (decl : DeclTree) (d : TypeTree) → instance_types decl ≡ types
 leaf_within decl d same =
     record {
       types = λ i c. absurd (contains_nothing i c);
-      adapters = λ port name c e. listed decl name (subst (λ (l : List (List ℕ)). Contains l name) (sym same) (port_mentioned d port name c e));
+      adapters = λ port name c e. listed decl name (rw same (port_mentioned d port name c e));
     }
 
 network_within : (decl : DeclTree) → Within (Contains (parts_of decl)) (network_of decl)
@@ -117,38 +110,30 @@ network_within other = record { types = λ i c. absurd (contains_nothing i c); a
 pub declared_within : (sources : Sources) (name : List ℕ) (network : PlainNetwork) → declared sources name ≡ Some network → Within (Contains (parts_at sources name)) network
 declared_within sources name network e =
     let m = mapped network_of (tree_at sources name) network e in
-    subst (λ (n : PlainNetwork). Within (Contains (parts_at sources name)) n) m.2
-    (subst (λ (o : Option DeclTree). Within (Contains (parts_in o)) (network_of m.0)) (sym m.1) (network_within m.0))
+    rw (← m.2) (subst (λ (o : Option DeclTree). Within (Contains (parts_in o)) (network_of m.0)) (sym m.1) (network_within m.0))
 
 own_mentioned : (decl : DeclTree) (i : Instance) → Contains (own_instances decl) i → Contains (parts_of decl) i.type_name
 own_mentioned (subapplication_type d) i c = listed (subapplication_type d) i.type_name (instance_mentioned d.network.instances i c)
 own_mentioned (system_configuration s) i c =
     let o = origin_in_flat_map (λ (a : Application). a.network.instances) (map plain_application s.applications) i c in
     let a = origin_in_map plain_application s.applications o.origin o.among in
-    let has : Contains (plain_application a.origin).network.instances i = subst (λ (x : Application). Contains x.network.instances i) (sym a.gives) o.has in
-    listed (system_configuration s) i.type_name (contains_flat_map (λ (x : ApplicationTree). types_in x.network.instances) s.applications a.origin i.type_name a.among (instance_mentioned a.origin.network.instances i has))
+    listed (system_configuration s) i.type_name (contains_flat_map (λ (x : ApplicationTree). types_in x.network.instances) s.applications a.origin i.type_name a.among (instance_mentioned a.origin.network.instances i (rw (← a.gives) at o.has)))
 own_mentioned other i c = absurd (contains_nothing i c)
 
 -- the types of a unit's own instances are among its parts
 pub own_within : (sources : Sources) (unit : List ℕ) (decl : DeclTree) → tree_at sources unit ≡ Some decl → (i : Instance) → Contains (own_instances decl) i → Contains (parts_at sources unit) i.type_name
-own_within sources unit decl t i c = subst (λ (o : Option DeclTree). Contains (parts_in o) i.type_name) (sym t) (own_mentioned decl i c)
+own_within sources unit decl t i c = rw t (own_mentioned decl i c)
 
 plain_within : (decl : DeclTree) (a : Application) → Contains (applications_of decl) a → Within (Contains (parts_of decl)) a.network
 plain_within (system_configuration s) a c =
     record {
       types = λ i h. own_mentioned (system_configuration s) i (contains_flat_map (λ (x : Application). x.network.instances) (applications_of (system_configuration s)) a i c h);
-      adapters = adapters;
+      adapters = λ port name h e. absurd (contains_nothing port (rw (← (origin_in_map plain_application s.applications a c).gives) at h));
     }
-  where
-    adapters : (port : Port) (name : List ℕ) → Contains a.network.ports port → port.adapter ≡ Some name → Contains (parts_of (system_configuration s)) name
-    adapters port name h e =
-        let o = origin_in_map plain_application s.applications a c in
-        absurd (contains_nothing port (subst (λ (x : Application). Contains x.network.ports port) (sym o.gives) h))
 plain_within other a c = absurd (contains_nothing a c)
 
 -- the networks of a system's applications are within its parts
 pub applications_within : (sources : Sources) (unit : List ℕ) (applications : List Application) → applications_at sources unit ≡ Some applications → (a : Application) → Contains applications a → Within (Contains (parts_at sources unit)) a.network
 applications_within sources unit applications e a c =
     let m = mapped applications_of (tree_at sources unit) applications e in
-    subst (λ (o : Option DeclTree). Within (Contains (parts_in o)) a.network) (sym m.1)
-    (plain_within m.0 a (subst (λ (l : List Application). Contains l a) (sym m.2) c))
+    rw m.1 (plain_within m.0 a (rw (← m.2) at c))

@@ -1,9 +1,8 @@
 -- The net of a unit depends on the texts alone that the unit rests on.
 use Rattle.std.proofs.Common.{ℕ, ◌≡◌, List, [], inl, inr, sym, ◌∙◌, ap, option_map}
-use Rattle.std.specs.{Prelude.{Contains, Option}, Option.{option_and_then}}
-use Rattle.fb_types.specs.{Library.View.{Sources, parts_in, tree_at, tree_of, values_in}, Library.Near.{near_of}, Library.Rests.{Rests, itself}}
-use Rattle.fb_types.specs.{Library.Local.{AgreeFar}, Tree.Mentions.{unit_kind_of}, Applications.{applications_of}, Local.{HasSameInterface}, Networks.{network_of}}
-use Rattle.fb_types.specs.Tree.Tree.{DeclTree}
+use Rattle.std.specs.{Prelude.{Option}, Option.{option_and_then}}
+use Rattle.fb_types.specs.{Library.View.{Sources, parts_in, tree_at, tree_of, values_in}, Library.Rests.{Rests, itself}, Library.Local.{AgreeFar}}
+use Rattle.fb_types.specs.{Tree.Mentions.{unit_kind_of}, Applications.{applications_of}, Local.{HasSameInterface}, Networks.{network_of}, Tree.Tree.{DeclTree}}
 use Rattle.fb_types.proofs.Library.Locality.{near_far, rests_both}
 use Rattle.fb_faults.specs.Faults.{faults_of}
 use Rattle.fb_faults.proofs.Locality.{faults_local}
@@ -25,12 +24,8 @@ module _ (a b : Sources) (unit : List ℕ) (agree : AgreeFar unit a b) where
   says : SaysSameFar a b unit
   says v r = says_itself (tree_at a v) (tree_at b v) (ap (option_and_then tree_of) (agree v r))
 
-  -- what is near a name that the unit rests on
-  near_below : (v : List ℕ) → Rests a unit v → (n : List ℕ) → Contains (near_of a v) n → Rests a unit n
-  near_below v r n c = rests_both r (near_far a v n c)
-
   faults_same : (v : List ℕ) → Rests a unit v → faults_of a v ≡ faults_of b v
-  faults_same v r = faults_local a b v (λ n c. agree n (near_below v r n c))
+  faults_same v r = faults_local a b v (λ n c. agree n (rests_both r (near_far a v n c)))
 
   blocking_there : (v : List ℕ) → Rests a unit v → IsBlocking a unit v → IsBlocking b unit v
   blocking_there v r (inl n) = inl (λ e. n (faults_same v r ∙ e))

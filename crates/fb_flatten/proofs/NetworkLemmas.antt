@@ -16,7 +16,7 @@ use Rattle.fb_types.specs.{Network.declared.network.End.TheVariants.{Own, Of}, N
 use Rattle.fb_types.specs.{Network.declared.network.Port.{Port}, ByName.{declared, kind_at}}
 use Rattle.fb_types.specs.Tree.declared.network.Role.TheVariants as roles
 use Rattle.fb_types.specs.Tree.declared.network.Sort.TheVariants as sorts
-use Rattle.fb_types.proofs.{Text.Members.{origin_in_map}, Iface.NameLemmas.{same_exact}, Iface.TableLemmas.{stands_for-first_ones}}
+use Rattle.fb_types.proofs.{Text.Members.{ComesFrom, origin_in_map}, Iface.NameLemmas.{same_exact}, Iface.TableLemmas.{stands_for-first_ones}}
 use Rattle.fb_faults.specs.Netcheck.Clean.{AreRight, IsCleanConnection, IsCleanNetwork}
 use Rattle.fb_faults.specs.Netcheck.Ends.{holder_of, is_right, port_in, right_side, target, target_held, target_in, target_named, target_of, target_of_instance}
 use Rattle.fb_faults.specs.{Netcheck.Settings.{NetworkPlace}, Netcheck.Sides.{is_own_port}, Netcheck.Types.{flows_agree, same_at_ends, targets_agree}}
@@ -26,8 +26,7 @@ use Rattle.fb_faults.specs.{Netcheck.declared.ends.Target.{Target}, Netcheck.dec
 use Rattle.fb_faults.specs.Netcheck.declared.ends.Flow.TheVariants as flows
 use Rattle.fb_faults.specs.Netcheck.declared.ends.Holder.TheVariants as holders
 use Rattle.fb_flatten.specs.Clean.{IsCleanWithKinds, wanted_kind}
-use Rattle.fb_flatten.proofs.NameLemmas.{Distinct, found_by_name, origin_in_filter_map, stands_for_itself}
-use Rattle.fb_flatten.proofs.PortLemmas.{declared_port, plain_flow, plain_port}
+use Rattle.fb_flatten.proofs.{NameLemmas.{Distinct, found_by_name, origin_in_filter_map, stands_for_itself}, PortLemmas.{declared_port, plain_flow, plain_port}}
 
 -- instances in plain
 
@@ -217,23 +216,8 @@ module _ (sources : Sources) (here : NetworkPlace) (n : NetworkTree) (ports : Li
     is_destination sort e h = grind arith
 
     -- the connection that a connection in plain comes from
-    record Comes (sort : Sort) (s d : End) : Type 0 where
-      origin : ConnectionTree
-      among : Contains n.connections origin
-      sorted : origin.sort ≡ sort
-      source : plain_end origin.source ≡ s
-      destination : plain_end origin.destination ≡ d
-
-    comes : (sort : Sort) (s d : End) → IsConnected network sort s d → Comes sort s d
-    comes sort s d k =
-        let o = origin_in_map plain_connection n.connections k.connection k.among in
-        record {
-          origin = o.origin;
-          among = o.among;
-          sorted = ap (λ c. c.sort) o.gives ∙ k.sorted;
-          source = ap (λ c. c.source) o.gives ∙ k.source;
-          destination = ap (λ c. c.destination) o.gives ∙ k.destination;
-        }
+    comes : {sort : Sort} {s d : End} (k : IsConnected network sort s d) → ComesFrom plain_connection n.connections k.connection
+    comes k = origin_in_map plain_connection n.connections k.connection k.among
 
     module _ (right : All (AreRight here) n.connections) (fine : IsCleanNetwork sources here n) (none : TypesAreFine sources n) (passes : (c : ConnectionTree) (x : List ℕ) → Contains n.connections c → plain_end c.source ≡ Own x → (is_own_port Source (target here c.sort c.source) && is_own_port Destination (target here c.sort c.destination)) ≡ false) where
       right_at : (c : ConnectionTree) → Contains n.connections c → AreRight here c
@@ -241,17 +225,15 @@ module _ (sources : Sources) (here : NetworkPlace) (n : NetworkTree) (ports : Li
 
       sources_right : (sort : Sort) (s d : End) → IsConnected network sort s d → IsSource view sort network s
       sources_right sort s d k =
-          let o = comes sort s d k in
+          let o = comes k in
           let c = o.origin in
-          let r = right_at c o.among in
-          subst (λ (p : Sort × End). IsSource view p.0 network p.1) (λ i. (o.sorted i, o.source i)) (is_source c.sort (plain_end c.source) (side_right Source c.sort c.source r.0))
+          rw (← k.sorted, ← k.source, ← o.gives) (is_source c.sort (plain_end c.source) (side_right Source c.sort c.source (right_at c o.among).0))
 
       destinations_right : (sort : Sort) (s d : End) → IsConnected network sort s d → IsDestination view sort network d
       destinations_right sort s d k =
-          let o = comes sort s d k in
+          let o = comes k in
           let c = o.origin in
-          let r = right_at c o.among in
-          subst (λ (p : Sort × End). IsDestination view p.0 network p.1) (λ i. (o.sorted i, o.destination i)) (is_destination c.sort (plain_end c.destination) (side_right Destination c.sort c.destination r.1))
+          rw (← k.sorted, ← k.destination, ← o.gives) (is_destination c.sort (plain_end c.destination) (side_right Destination c.sort c.destination (right_at c o.among).1))
 
       -- the adapter's name at both ends
       one_adapter : (c : ConnectionTree) (sort : Sort) → c.sort ≡ sort → sort ≡ sorts.Adapter → Contains n.connections c → adapter_name_at view network (place_of (plain_end c.source)) ≡ adapter_name_at view network (place_of (plain_end c.destination))
@@ -269,9 +251,7 @@ module _ (sources : Sources) (here : NetworkPlace) (n : NetworkTree) (ports : Li
           ∙ sym (adapter_there view network (plain_end c.destination))
 
       adapters_same : (s d : End) → IsConnected network sorts.Adapter s d → adapter_name_at view network (place_of s) ≡ adapter_name_at view network (place_of d)
-      adapters_same s d k =
-          let o = comes sorts.Adapter s d k in
-          ap (λ e. adapter_name_at view network (place_of e)) (sym o.source) ∙ one_adapter o.origin sorts.Adapter o.sorted refl o.among ∙ ap (λ e. adapter_name_at view network (place_of e)) o.destination
+      adapters_same s d k = let o = comes k in rw (← k.source, ← k.destination, ← o.gives) (one_adapter o.origin sorts.Adapter (ap (λ c. c.sort) o.gives ∙ k.sorted) refl o.among)
 
       own_right : (position : Position) (sort : Sort) (end : EndTree) (x : List ℕ) → plain_end end ≡ Own x → is_right position (target here sort end) ≡ true → is_own_port position (target here sort end) ≡ true
       own_right position sort end x own e =
@@ -281,12 +261,13 @@ module _ (sources : Sources) (here : NetworkPlace) (n : NetworkTree) (ports : Li
 
       passes_nothing : (sort : Sort) (x y : List ℕ) → IsConnected network sort (Own x) (Own y) → ⊥
       passes_nothing sort x y k =
-          let o = comes sort (Own x) (Own y) k in
+          let o = comes k in
           let c = o.origin in
           let r = right_at c o.among in
-          let first = own_right Source c.sort c.source x o.source r.0 in
-          let second = own_right Destination c.sort c.destination y o.destination r.1 in
-          true≢false ((λ i. sym first i && sym second i) ∙ passes c x o.among o.source)
+          let from : plain_end c.source ≡ Own x = ap (λ q. q.source) o.gives ∙ k.source in
+          let first = own_right Source c.sort c.source x from r.0 in
+          let second = own_right Destination c.sort c.destination y (ap (λ q. q.destination) o.gives ∙ k.destination) r.1 in
+          true≢false ((λ i. sym first i && sym second i) ∙ passes c x o.among from)
 
       pub sound : IsCleanWithKinds sources network
       sound = record {

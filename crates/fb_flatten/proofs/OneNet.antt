@@ -1,10 +1,9 @@
 -- A unit has one net only.
 use Rattle.std.proofs.Common.{ℕ, ◌≡◌, List, [], ◌∷◌, refl, sym, ◌∙◌, ap, subst, arith, length}
 use Rattle.std.specs.Cmp.Lexicographic.{nat_list_cmp_total}
-use Rattle.fb_types.specs.{Tree.Tree.{DeclTree}, Library.View.{Sources}, Network.Plain.{PlainNetwork}}
-use Rattle.fb_types.specs.{Network.PlainFlat.{PlainFlat}, Network.Network.{View}, Network.Instances.{Held, AreInstances}, Network.FlatNet.{IsFlat}}
-use Rattle.fb_types.specs.{Network.SystemFlat.{IsSystemFlat}, Network.declared.application.FlatApplication.{FlatApplication}, ByName.{declared}}
-use Rattle.fb_types.specs.declared.systems.Application.{Application}
+use Rattle.fb_types.specs.{Tree.Tree.{DeclTree}, Library.View.{Sources}, Network.Plain.{PlainNetwork}, Network.PlainFlat.{PlainFlat}, Network.Network.{View}}
+use Rattle.fb_types.specs.{Network.Instances.{Held, AreInstances}, Network.FlatNet.{IsFlat}, Network.SystemFlat.{IsSystemFlat}}
+use Rattle.fb_types.specs.{Network.declared.application.FlatApplication.{FlatApplication}, ByName.{declared}, declared.systems.Application.{Application}}
 use Rattle.fb_types.specs.Units.{AreFlatApplications, NoApplication, ThenApplication, Holds, IsTooLarge, IsWithinLimit, IsUnitFlat, OfSubapplication, OfSystem, own_instances}
 use Rattle.fb_types.proofs.{Network.BlockLemmas.{same_instances}, Network.OneFlat.{same_flat}, Network.SystemLemmas.{same_system}, Network.SameSorted.{same_sorted}}
 use Rattle.fb_flatten.specs.{Blocking.{AreThose}, Net.{PlainNet, blocked, recursive, too_large, flat_net, IsNet}, Laws.{OneNet}}
@@ -31,9 +30,8 @@ same_applications NoApplication NoApplication = refl
 same_applications (ThenApplication a f p more) (ThenApplication b g q others) =
     let names = p.name ∙ sym q.name in
     let flats = same_flat f.flat g.flat p.net q.net in
-    let first : f ≡ g = λ i. record { name = names i; flat = flats i } in
     let rest = same_applications more others in
-    λ i. first i ∷ rest i
+    λ i. record { name = names i; flat = flats i } ∷ rest i
 
 same_unit_flat : {sources : Sources} {unit : List ℕ} (a b : PlainFlat) → IsUnitFlat sources unit a → IsUnitFlat sources unit b → a ≡ b
 same_unit_flat {sources = sources} a b (OfSubapplication n k d f) (OfSubapplication m l e g) =

@@ -1,9 +1,8 @@
 -- What rests on what, and the tree of a text without faults.
-use Rattle.std.proofs.Common.{ℕ, ◌≡◌, List, [], Some, None, ap, arith}
-use Rattle.std.specs.{Prelude.{Contains, ◌≢◌}, Option.{option_and_then}, FinMap.{get}}
-use Rattle.fb_types.specs.{Tree.Tree.{DeclTree}, Library.View.{Sources, tree_at, tree_of, parts_at}}
-use Rattle.fb_types.specs.{Library.Rests.{PartRests, on_itself, through_part}}
-use Rattle.fb_types.specs.{Reaches.{Reaches, directly, onward}}
+use Rattle.std.proofs.Common.{ℕ, ◌≡◌, List, [], Some, None, arith}
+use Rattle.std.specs.{Prelude.{Contains, ◌≢◌}, FinMap.{get}}
+use Rattle.fb_types.specs.{Tree.Tree.{DeclTree}, Library.View.{Sources, tree_at, parts_at}, Library.Rests.{PartRests, on_itself, through_part}}
+use Rattle.fb_types.specs.Reaches.{Reaches, directly, onward}
 use Rattle.fb_faults.specs.Faults.{faults_of, syntax_faults_of}
 use Rattle.fb_flatten.proofs.NothingLemmas.{nothing_reported}
 
@@ -24,6 +23,4 @@ reaches_part (through_part k r) m = onward k (reaches_part r m)
 
 -- a unit with a tree is present
 pub present_of_tree : (sources : Sources) (name : List ℕ) (tree : DeclTree) → tree_at sources name ≡ Some tree → get sources name ≢ None
-present_of_tree sources name tree is none =
-    let absent : tree_at sources name ≡ None = ap (option_and_then tree_of) none in
-    let no : ⊥ = cc in no
+present_of_tree sources name tree is none = grind arith

@@ -2,11 +2,9 @@
 use Rattle.std.proofs.Common.{◌≡◌, ℕ, Bool, false, cond, ◌&&◌, List, [], ◌∷◌, ◌++◌, map, Option, Some, None, option_map, refl, sym, ap, ◌∙◌, subst, arith}
 use Rattle.std.proofs.lemmas.List.Folds.{find-append}
 use Rattle.std.specs.{List.{filter, filter_map, find}, Option.{option_and_then, option_or}}
-use Rattle.fb_types.specs.Tree.Tree.{DeclTree, block_type, adapter_type, subapplication_type}
-use Rattle.fb_types.specs.Iface.Names.{is_same, stands_for}
+use Rattle.fb_types.specs.{Tree.Tree.{DeclTree, block_type, adapter_type, subapplication_type}, Iface.Names.{is_same, stands_for}}
 use Rattle.fb_types.specs.Iface.Ports.{Meanings, events_in, instances_in, meanings_in, same_role, same_side, variables_in}
-use Rattle.fb_types.specs.Ports.{plain_adapter, plain_data, plain_event, plain_ports}
-use Rattle.fb_types.specs.{Tree.declared.interface.Side.{Side}}
+use Rattle.fb_types.specs.{Ports.{plain_adapter, plain_data, plain_event, plain_ports}, Tree.declared.interface.Side.{Side}}
 use Rattle.fb_types.specs.{Tree.declared.interface.Side.TheVariants.{Input, Output}, Tree.declared.network.Role.{Role}, Tree.declared.network.Sort.{Sort}}
 use Rattle.fb_types.specs.{Iface.Sides.{is_data_on}, Iface.declared.ports.DeclaredEvent.{DeclaredEvent}}
 use Rattle.fb_types.specs.{Iface.declared.ports.DeclaredInstance.{DeclaredInstance}, Iface.declared.ports.DeclaredVariable.{DeclaredVariable}}

@@ -1,8 +1,8 @@
 -- What is left to look at where nets are kept.
-use Rattle.std.proofs.Common.{ℕ, ◌≡◌, ◌<◌, Bool, true, false, not, cond, ◌||◌, List, [], Option, None, inl, inr, ◌∙◌, ap, subst, take, get_or, length, arith}
+use Rattle.std.proofs.Common.{ℕ, ◌≡◌, false, not, cond, ◌||◌, List, [], Option, None, inl, inr, ◌∙◌, ap, subst, get_or, arith}
 use Rattle.std.proofs.{lemmas.Bool.{or_right}, lemmas.List.{get_or_default}}
 use Rattle.std.specs.{Prelude.{Contains, ◌≢◌, ◌↔◌, ◌⊎◌}, BTreeMap.{is_at}, FinMap.{get}}
-use Rattle.fb_types.proofs.{Text.Tests.{by_bool, not_false}, Text.Members.{contains_nothing}, Library.Locality.{part_mention, parts_rest, rests_both}}
+use Rattle.fb_types.proofs.{Text.Tests.{by_bool}, Text.Members.{contains_nothing}, Library.Locality.{part_mention, parts_rest, rests_both}}
 use Rattle.fb_types.proofs.{Network.Equals.{bytes_same}, UncachedLemmas.{get_uncached}}
 use Rattle.fb_types.specs.{Text.Order.{name_cmp}, Library.View.{Sources, parts_at}, Library.Rests.{Rests, itself, through, PartRests, on_itself, through_part}}
 use Rattle.fb_types.specs.Order.{IsOrdered}
@@ -11,9 +11,6 @@ use Rattle.fb_flatten.specs.{Hints.{AreRightHints, is_uncached, is_whole_hint, u
 use Rattle.fb_flatten.specs.Tables.{IsUnitOrder}
 use Rattle.fb_flatten.proofs.{Depths.{rests_of_reach}, HintLemmas.{known_sound}, KeptLemmas.{part_kept, reaches_within, rests_within}}
 use Rattle.fb_flatten.proofs.SoundLemmas.{sound_below, sound_where}
-
-or_false : (a b : Bool) → (a || b) ≡ false → b ≡ false
-or_false a b e = grind arith
 
 module _ (hints : List ℕ → Option PlainNet) (sources : Sources) (unit : List ℕ) where
   abbrev left : Sources
@@ -35,7 +32,7 @@ module _ (hints : List ℕ → Option PlainNet) (sources : Sources) (unit : List
   module _ (right : AreRightHints sources hints) where
     settled_finite : (n v : List ℕ) → is_uncached hints unit n ≡ false → Rests sources n v → IsRecursive sources v → ⊥
     settled_finite n v f r rec =
-        contains_nothing v (((known_sound sources hints n right (not_false (is_whole_hint (hints n)) (or_false (is_at (name_cmp unit) n) _ f))).finite.members v).1 (r, rec))
+        contains_nothing v (((known_sound sources hints n right (grind arith)).finite.members v).1 (r, rec))
 
     -- a cycle is left whole
     reaches_left : {u v : List ℕ} → Reaches sources u v → IsRecursive sources v → Reaches left u v
@@ -57,17 +54,14 @@ module _ (hints : List ℕ → Option PlainNet) (sources : Sources) (unit : List
     pub unit_order : (order : List (List ℕ)) → IsSound sources unit → IsOrdered left order → ((v : List ℕ) → Contains order v ↔ PartRests left unit v) → IsUnitOrder sources hints unit order
     unit_order order sound ordered whole =
         record {
-          names = record { inner_first = inner; sound = λ name c. sound_below sound name (part_rests ((whole name).0 c)) };
+          names = record {
+            inner_first = λ k name w lt e unknown m.
+                let place : name ≡ get_or order k [] = e ∙ get_or_default order k name [] lt in
+                let there = part_kept sources left (is_uncached hints unit) left_is name w (or_right (is_at (name_cmp unit) name) _ (ap not unknown)) m in
+                ordered.inner_first k lt w (subst (λ (n : List ℕ). Contains (parts_at left n) w) place there);
+            sound = λ name c. sound_below sound name (part_rests ((whole name).0 c));
+          };
           own = (whole unit).1 on_itself;
-          parts = λ w m. (whole w).1 (through_part (part_kept sources left (is_uncached hints unit) left_is unit w unit_left m) on_itself);
+          parts = λ w m. (whole w).1 (through_part (part_kept sources left (is_uncached hints unit) left_is unit w (ap (λ b. b || not (is_whole_hint (hints unit))) (bytes_same unit)) m) on_itself);
           below = λ name c. part_rests ((whole name).0 c);
         }
-      where
-        unit_left : is_uncached hints unit unit ≡ true
-        unit_left = ap (λ b. b || not (is_whole_hint (hints unit))) (bytes_same unit)
-
-        inner : (k : ℕ) (name w : List ℕ) → k < length order → name ≡ get_or order k name → is_whole_hint (hints name) ≡ false → Contains (parts_at sources name) w → Contains (take k order) w
-        inner k name w lt e unknown m =
-            let place : name ≡ get_or order k [] = e ∙ get_or_default order k name [] lt in
-            let there = part_kept sources left (is_uncached hints unit) left_is name w (or_right (is_at (name_cmp unit) name) _ (ap not unknown)) m in
-            ordered.inner_first k lt w (subst (λ (n : List ℕ). Contains (parts_at left n) w) place there)

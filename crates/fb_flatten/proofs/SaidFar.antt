@@ -4,7 +4,7 @@ use Rattle.std.specs.Prelude.{Contains}
 use Rattle.fb_types.specs.{Library.View.{Sources, mentions_at, parts_at, tree_at}, Library.Rests.{Rests, itself, through}}
 use Rattle.fb_types.specs.{Reaches.{IsRecursive, Reaches, directly, onward}, Network.PlainFlat.{PlainFlat}, Network.Instances.{Held}}
 use Rattle.fb_types.specs.{Network.declared.application.FlatApplication.{FlatApplication}, ByName.{declared}, Local.{HasSameInterface}}
-use Rattle.fb_types.specs.declared.systems.Application.{Application}
+use Rattle.fb_types.specs.{Network.Plain.{PlainNetwork}, declared.systems.Application.{Application}}
 use Rattle.fb_types.specs.Units.{AreFlatApplications, NoApplication, ThenApplication, Holds, IsTooLarge, IsWithinLimit, IsUnitFlat, OfSubapplication, OfSystem}
 use Rattle.fb_types.proofs.{Library.Locality.{part_mention, rests_more}, Text.Members.{contains_here, contains_later}}
 use Rattle.fb_flatten.specs.{Blocking.{AreThose, IsPartBelow}, Locality.{Within, IsClosed, SameNetworks}}
@@ -69,13 +69,14 @@ module _ (a b : Sources) (unit : List ℕ) (says : SaysSameFar a b unit) where
   part_below : {v n : List ℕ} → Rests a unit v → Contains (parts_at a v) n → Rests a unit n
   part_below {v} {n} r m = rests_more r (part_mention a v n m)
 
+  rests_below : {v : List ℕ} {network : PlainNetwork} → Rests a unit v → Within (Contains (parts_at a v)) network → Within (Rests a unit) network
+  rests_below r w = record { types = λ i c. part_below r (w.types i c); adapters = λ port n c p. part_below r (w.adapters port n c p) }
+
   same_networks : SameNetworks (Rests a unit) (declared a) (declared b)
   same_networks name r = (says name r).said.network
 
   closed : IsClosed (declared a) (Rests a unit)
-  closed name network r e =
-      let w = declared_within a name network e in
-      record { types = λ i c. part_below r (w.types i c); adapters = λ port n c p. part_below r (w.adapters port n c p) }
+  closed name network r e = rests_below r (declared_within a name network e)
 
   flats_there : {applications : List Application} {flats : List FlatApplication} → ((x : Application) → Contains applications x → Within (Rests a unit) x.network) → AreFlatApplications (declared a) applications flats → AreFlatApplications (declared b) applications flats
   flats_there within NoApplication = NoApplication
@@ -91,12 +92,7 @@ module _ (a b : Sources) (unit : List ℕ) (says : SaysSameFar a b unit) where
       (((same_flats closed same_networks (closed unit network itself d)).flats flat).0 f)
   unit_flat_there flat (OfSystem applications flats k d each joined) =
       let same = (says unit itself).said in
-      OfSystem applications flats (sym same.kind ∙ k) (sym same.applications ∙ d) (flats_there within each) joined
-    where
-      within : (x : Application) → Contains applications x → Within (Rests a unit) x.network
-      within x c =
-          let w = applications_within a unit applications d x c in
-          record { types = λ i h. part_below itself (w.types i h); adapters = λ port n h p. part_below itself (w.adapters port n h p) }
+      OfSystem applications flats (sym same.kind ∙ k) (sym same.applications ∙ d) (flats_there (λ x c. rests_below itself (applications_within a unit applications d x c)) each) joined
 
   holds_there : tree_at a unit ≡ tree_at b unit → (held : List Held) → Holds a unit held → Holds b unit held
   holds_there own held h =

@@ -6,8 +6,7 @@ use Rattle.fb_types.proofs.{Text.Tests.{no_both, by_bool, or_cases, or_false}, T
 use Rattle.fb_types.proofs.Library.SeenLemmas.{same, same_is, same_self}
 use Rattle.fb_types.proofs.Library.WalkLemmas.{Contains-has, has-Contains, has-push, longer, mentioned_somewhere}
 use Rattle.fb_types.specs.{Library.View.{Sources, mentions_at, mentions_in, parts_at, tree_at}, Library.Near.{in_all_trees}}
-use Rattle.fb_types.specs.{Library.Rests.{Rests, itself, through}, Library.Seen.{Opens, has_name, unseen}, Reaches.{IsRecursive}}
-use Rattle.fb_types.specs.Units.{has_net_in}
+use Rattle.fb_types.specs.{Library.Rests.{Rests, itself, through}, Library.Seen.{Opens, has_name, unseen}, Reaches.{IsRecursive}, Units.{has_net_in}}
 use Rattle.fb_faults.specs.Faults.{faults_of}
 use Rattle.fb_flatten.specs.{Blocking.{AreThose, IsBlocking, IsPartBelow, is_blocking}, Hints.{AreRightHints, is_whole_hint}, Net.{PlainNet}}
 use Rattle.fb_flatten.specs.Suspects.{AreSuspects, mentions_beyond, parts_beyond, is_part_beyond}

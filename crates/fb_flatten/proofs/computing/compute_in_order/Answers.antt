@@ -1,9 +1,9 @@
 -- The count tells whether there is a flat network.
-use Rattle.std.proofs.{Common.{[], sym, subst}, lemmas.List.Elements.{All-nil, All-same, All-weaker}}
+use Rattle.std.proofs.{Common.{[]}, lemmas.List.Elements.{All-nil, All-same, All-weaker}}
 use Rattle.std.specs.BTreeMap.{get}
 use Rattle.fb_types.proofs.FoundUnits.{not_too_large, too_large}
-use Rattle.fb_types.specs.{Text.Order.{name_cmp}, declared.nets.Net.{Net}}
-use Rattle.fb_flatten.specs.{Inner.{IsCountedFlat, IsInnerNet}, Net.{IsNet, plain_net}}
+use Rattle.fb_types.specs.Text.Order.{name_cmp}
+use Rattle.fb_flatten.specs.Inner.{IsCountedFlat, IsInnerNet}
 use Rattle.fb_flatten.proofs.InnerNets.{inner_net}
 use Rattle.fb_flatten.proofs.computing.compute_in_order.Goals as goal
 
@@ -18,9 +18,7 @@ returns-then-instances-gt-INSTANCE_LIMIT g c =
     let sources = g.V.View.sources c.args.view.now in
     let unit = c.args.unit.now in
     record {
-      net =
-          subst (λ (n : Net). IsNet sources unit (plain_net n)) (sym c.alone.ensures.net)
-          (c.requires.order.names.sound _ c.requires.order.own, too_large c.instances_of_unit-instances.ensures c.if-instances-gt-INSTANCE_LIMIT.true);
+      net = rw c.alone.ensures.net (c.requires.order.names.sound _ c.requires.order.own, too_large c.instances_of_unit-instances.ensures c.if-instances-gt-INSTANCE_LIMIT.true);
       inner = All-same (IsInnerNet sources unit) c.alone.result.inner.items [] c.alone.ensures.inner (All-nil (IsInnerNet sources unit));
     }
 

@@ -1,31 +1,23 @@
 -- None of what the unit rests on reaches itself, so that there is an order.
-use Rattle.std.proofs.{Common.{◌≡◌, ℕ, true, false, List, Option, Some, None, is_some, refl, subst, sym}, lemmas.Result.{IfOk-weaker}}
+use Rattle.std.proofs.{Common.{ℕ, List, is_some, subst, sym}, lemmas.Result.{IfOk-weaker}}
 use Rattle.std.specs.Prelude.{Contains}
 use Rattle.fb_types.specs.{Holders.{holders_of, is_holder}, Library.Rests.{PartRests, on_itself, through_part}, Library.View.{Sources}, Order.{IsOrdered}}
-use Rattle.fb_types.specs.Reaches.{Reaches}
-use Rattle.fb_types.proofs.{UncachedLemmas.{get_holder}, Library.Locality.{parts_rest}, Text.Members.{contains_nothing}}
+use Rattle.fb_types.proofs.{UncachedLemmas.{get_holder}, Library.Locality.{parts_rest}, Text.Members.{contains_nothing}, Text.Tests.{by_bool}}
 use Rattle.fb_flatten.proofs.{ComputedNets.{has_by_text}, CountLemmas.{holder_part}, KeptLemmas.{reaches_within, rests_within}, SoundLemmas.{sound_below}}
 use Rattle.fb_flatten.proofs.counts.counts_below.Goals as goal
 
-some_of : {X : Type 0} (o : Option X) → (is_some o ≡ false → ⊥) → is_some o ≡ true
-some_of None h = absurd (h refl)
-some_of (Some x) h = refl
-
 -- what rests on what among units with instances that count does so among all
-module _ (sources : Sources) where
-  within : {u v : List ℕ} → PartRests (holders_of sources) u v → PartRests sources u v
-  within r = rests_within sources (holders_of sources) (is_holder sources) (get_holder sources) r
-
-  round : {u v : List ℕ} → Reaches (holders_of sources) u v → Reaches sources u v
-  round r = reaches_within sources (holders_of sources) (is_holder sources) (get_holder sources) r
+within : (sources : Sources) {u v : List ℕ} → PartRests (holders_of sources) u v → PartRests sources u v
+within sources r = rests_within sources (holders_of sources) (is_holder sources) (get_holder sources) r
 
 pub unwrap-order-requires : goal.unwrap-order-requires
 unwrap-order-requires g c =
     let sources = g.V.View.sources c.args.view.now in
-    some_of c.in_ok-inner_first.field-0
+    by_bool (is_some c.in_ok-inner_first.field-0) (λ t. t)
     (λ none.
     let r = c.in_ok-inner_first.ensures.recursive.0 none in
-    contains_nothing r.0 ((c.requires.sound.finite.members r.0).1 (parts_rest sources (within sources r.1.0), round sources r.1.1)))
+    let round = reaches_within sources (holders_of sources) (is_holder sources) (get_holder sources) r.1.1 in
+    absurd (contains_nothing r.0 ((c.requires.sound.finite.members r.0).1 (parts_rest sources (within sources r.1.0), round))))
 
 pub counts_in_order-requires : goal.counts_in_order-requires
 counts_in_order-requires g c =

@@ -1,15 +1,14 @@
 -- The next name is counted by the counts of those before it.
-use Rattle.std.proofs.{Common.{◌≡◌, List, ℕ, None, subst, sym, take}, lemmas.List.{take_all}}
+use Rattle.std.proofs.{Common.{◌≡◌, None, sym, take}, lemmas.List.{take_all}}
 use Rattle.std.specs.BTreeMap.{get}
 use Rattle.fb_types.specs.Text.Order.{name_cmp}
-use Rattle.fb_flatten.specs.Tables.{AllCounted}
-use Rattle.fb_flatten.proofs.CountLemmas.{counted_more, counted_nothing, next_counted, right_more}
-use Rattle.fb_types.proofs.{TableLemmas.{further}, Network.EmptyMaps.{nothing_at}}
+use Rattle.fb_flatten.proofs.CountLemmas.{counted_more, next_counted, right_more}
+use Rattle.fb_types.proofs.{TableLemmas.{further}, Text.Members.{contains_nothing}, Network.EmptyMaps.{nothing_at}}
 use Rattle.fb_flatten.proofs.counts.counts_in_order.Goals as goal
 
 pub loop-name-init : goal.loop-name-init
 loop-name-init g c = record {
-  all = counted_nothing (g.V.View.sources c.args.view.now) _;
+  all = λ name h kind. absurd (contains_nothing name h);
   right = λ name count found. absurd (let none : get name_cmp c.new-counts.result name ≡ None = nothing_at c.new-counts.result name c.new-counts.ensures.empty in let no : ⊥ = cc in no);
 }
 
@@ -25,17 +24,12 @@ loop-name-preserved g c =
     let before = c.loop-name.invariant in
     let next = next_counted i name c.requires.order (c.requires.sound name (i, c.loop-name-test.true, sym c.name-item.is)) c.loop-name-test.true c.name-item.is before.all added.counted in
     record {
-      all =
-          subst (λ (l : List (List ℕ)). AllCounted sources new l) (further order i name c.loop-name-test.true c.name-item.is)
-          (counted_more sources old new (take i order) name before.all added.others next);
+      all = rw (further order i name c.loop-name-test.true c.name-item.is) at (counted_more sources old new (take i order) name before.all added.others next);
       right = right_more sources old new name before.right added.others added.kept next;
     }
 
 pub returns : goal.returns
 returns g c = record {
-  all =
-      subst (λ (l : List (List ℕ)). AllCounted (g.V.View.sources c.args.view.now) (get name_cmp c.loop-name.counts) l)
-      (take_all c.loop-name.name-index c.args.order.now c.loop-name-test.false)
-      c.loop-name.invariant.all;
+  all = rw (take_all c.loop-name.name-index c.args.order.now c.loop-name-test.false) at c.loop-name.invariant.all;
   right = c.loop-name.invariant.right;
 }

@@ -1,16 +1,15 @@
 -- The next name is finished, by what is composed or by what is kept.
-use Rattle.std.proofs.{Common.{◌≡◌, List, ℕ, None, subst, sym, take, ◌∙◌}, lemmas.List.{take_all}}
+use Rattle.std.proofs.{Common.{◌≡◌, None, sym, take, ◌∙◌}, lemmas.List.{take_all}}
 use Rattle.std.specs.BTreeMap.{get}
 use Rattle.fb_types.specs.Text.Order.{name_cmp}
-use Rattle.fb_flatten.specs.Tables.{AllFinished, known_flats}
-use Rattle.fb_flatten.proofs.{CountLemmas.{in_table}, FlatsLemmas.{added_finished, finished_more, finished_nothing, finished_skip, missing_more}}
+use Rattle.fb_flatten.proofs.{CountLemmas.{in_table}, FlatsLemmas.{added_finished, finished_more, finished_skip, missing_more}}
 use Rattle.fb_flatten.proofs.flats.missing_flats.Goals.{then-is_missing+in_ok-add_flat, else-is_missing}
-use Rattle.fb_types.proofs.{TableLemmas.{further}, Network.EmptyMaps.{nothing_at}}
+use Rattle.fb_types.proofs.{TableLemmas.{further}, Text.Members.{contains_nothing}, Network.EmptyMaps.{nothing_at}}
 use Rattle.fb_flatten.proofs.flats.missing_flats.Goals as goal
 
 pub loop-name-init : goal.loop-name-init
 loop-name-init g c = record {
-  finished = finished_nothing (g.V.View.sources c.args.view.now) _ c.args.unit.now;
+  finished = λ name h other kind small. absurd (contains_nothing name h);
   missing = λ name flat found. absurd (let none : get name_cmp c.new-composed.result name ≡ None = nothing_at c.new-composed.result name c.new-composed.ensures.empty in let no : ⊥ = cc in no);
 }
 
@@ -32,8 +31,7 @@ loop-name-preserved g c =
       | then-is_missing+in_ok-add_flat w ↦
           rw w.composed-is
           (record {
-            finished =
-                subst (λ (l : List (List ℕ)). AllFinished sources (known_flats hints (get name_cmp w.add_flat.new.composed)) unit l) step
+            finished = rw step at
                 (finished_more sources hints unit (take i order) name old (get name_cmp w.add_flat.new.composed) before.finished w.in_ok-add_flat.ensures.others
                 (λ kind small. added_finished c.requires.order c.requires.table old (get name_cmp w.add_flat.new.composed) i name c.loop-name-test.true c.name-item.is (sym c.is_missing.ensures ∙ w.if-is_missing.true) before.finished w.in_ok-add_flat.ensures.added small));
             missing =
@@ -43,18 +41,13 @@ loop-name-preserved g c =
       | else-is_missing w ↦
           rw w.composed-is
           (record {
-            finished =
-                subst (λ (l : List (List ℕ)). AllFinished sources (known_flats hints old) unit l) step
-                (finished_skip sources hints unit (take i order) name old c.requires.right (sym c.is_missing.ensures ∙ w.if-is_missing.false) before.finished);
+            finished = rw step at (finished_skip sources hints unit (take i order) name old c.requires.right (sym c.is_missing.ensures ∙ w.if-is_missing.false) before.finished);
             missing = before.missing;
           })
     ]
 
 pub returns : goal.returns
 returns g c = record {
-  finished =
-      subst (λ (l : List (List ℕ)). AllFinished (g.V.View.sources c.args.view.now) (known_flats (g.H.Hints.hints c.args.hints.now) (get name_cmp c.loop-name.composed)) c.args.unit.now l)
-      (take_all c.loop-name.name-index c.args.order.now c.loop-name-test.false)
-      c.loop-name.invariant.finished;
+  finished = rw (take_all c.loop-name.name-index c.args.order.now c.loop-name-test.false) at c.loop-name.invariant.finished;
   missing = c.loop-name.invariant.missing;
 }
