@@ -155,7 +155,7 @@ fn parted(
     Ok((in_head, behind))
 }
 
-/// The lines of a table, with what is expected of a text behind it where it is in the line after.
+/// The lines of a table. If what is expected of a text is in the line after it, both become one line.
 pub fn lines_of(alloc: Global, table: &str) -> Result<String, Fail> {
     if !table.contains("=> ") {
         return Err(Fail::from("a table without rows"));
