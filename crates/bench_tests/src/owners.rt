@@ -1,11 +1,9 @@
 //! How many owners a text and a value have before and after each call: what is kept of both, and what is handed out, is shared and never copied.
 use crate::conversation::new_bench;
-use crate::jobs::key_of;
+use crate::jobs::{key_in, put};
 use fb_library::Change;
-use fb_library::parse::Source;
-use fb_text::Name;
 use fb_wire::bench::{Asked, Bench, Taken};
-use fb_wire::jobs::{Finished, Job, Kind};
+use fb_wire::jobs::{Finished, Job};
 use std::alloc::Global;
 use std::process::Abort;
 use std::sync::Arc;
@@ -64,19 +62,6 @@ struct Scene {
     answers: Vec<Asked>,
 }
 
-// Adds a change that puts a unit, which stands at this revision.
-fn put(
-    alloc: Global,
-    changes: &mut Vec<Change>,
-    unit: &str,
-    base: u64,
-    text: &str,
-) -> Result<(), Fail> {
-    let source = Source::read(alloc, Name::read(unit)?, text)?;
-    changes.push(Change::Put { base, source })?;
-    Ok(())
-}
-
 const INNER: &str = "SUBAPPLICATION A END_SUBAPPLICATION";
 
 const OUTER: &str = "SUBAPPLICATION B SUBAPPS X:A; END_SUBAPPS END_SUBAPPLICATION";
@@ -117,7 +102,7 @@ impl Scene {
     }
 
     fn ask(&mut self) -> Result<(), Fail> {
-        let answer = self.bench.ask(1, key_of(Kind::Net, "A")?)?;
+        let answer = self.bench.ask(1, key_in("net A")?)?;
         self.answers.push(answer)?;
         Ok(())
     }
