@@ -62,7 +62,8 @@ impl Stream<'_> {
 
 impl Read for Stream<'_> {
     fn read(&mut self, buffer: &mut [u8]) -> io::Result<usize> {
-        let piece = match self.fault {
+        let fault = self.fault;
+        let piece = match fault {
             Fault::Read(piece) => {
                 self.pass(ErrorKind::ConnectionReset)?;
                 piece
@@ -79,7 +80,8 @@ impl Read for Stream<'_> {
 
 impl Write for Stream<'_> {
     fn write(&mut self, bytes: &[u8]) -> io::Result<usize> {
-        let piece = match self.fault {
+        let fault = self.fault;
+        let piece = match fault {
             Fault::EmptyWrite(_) if self.good == 0 => 0,
             Fault::Write(piece) | Fault::EmptyWrite(piece) => {
                 self.pass(ErrorKind::BrokenPipe)?;

@@ -56,9 +56,12 @@ fn goes_on(
 // Whether so many calls are recorded where so many lines are answered: theirs, and none, some or all of one more.
 fn are_calls(conversation: &Conversation, answered: usize, calls: usize) -> bool {
     let next = answered.saturating_add(1);
-    match (conversation.calls.get(answered), conversation.calls.get(next)) {
-        (Some(least), Some(most)) => *least <= calls && calls <= *most,
-        _ => false,
+    match conversation.calls.get(answered) {
+        Some(least) => {
+            let most = conversation.calls.get(next).unwrap_or(least);
+            *least <= calls && calls <= *most
+        }
+        None => false,
     }
 }
 

@@ -6,6 +6,8 @@ mod failing;
 #[cfg(test)]
 mod peers;
 #[cfg(test)]
+mod play;
+#[cfg(test)]
 mod program;
 #[cfg(test)]
 mod refused;
@@ -15,5 +17,7 @@ mod secrets;
 mod servers;
 #[cfg(test)]
 mod sessions;
+#[cfg(test)]
+mod steps;
 #[cfg(test)]
 mod workers;

@@ -54,16 +54,9 @@ const INPUT: &str =
 
 const OUTPUT: &str = "{\"commit\":1}\n{\"accepted\":1}\n{\"faults\":[]}\n";
 
-/// What a run wrote, what it said on its errors, and its status.
-#[derive(Drop)]
-struct Ended {
-    output: Vec<u8>,
-    errors: Vec<u8>,
-    status: u8,
-}
-
-// A run of which the allocation of this number is refused, and whether it was. What it writes has room.
-fn run_without(alloc: Global, number: u32) -> Result<(Ended, bool), Fail> {
+// Whether the allocation of this number is refused in a run, and whether the run ends for want of memory: for its words, of which nothing is
+// said, or behind whole replies. What it writes has room.
+fn tried(alloc: Global, number: u32) -> Result<(bool, bool), Fail> {
     let mut output = Vec::with_capacity(alloc, 1000)?;
     let mut errors = Vec::with_capacity(alloc, 1000)?;
     let mut reader = MemoryFeed::new(INPUT.as_bytes(), 8192, u64::MAX);
@@ -74,40 +67,32 @@ fn run_without(alloc: Global, number: u32) -> Result<(Ended, bool), Fail> {
     let Outcome::Ended(status) = outcome else {
         return Err(Fail::from("a server"));
     };
-    Ok((
-        Ended {
-            output,
-            errors,
-            status,
-        },
-        is_refused,
-    ))
+    let is_short = is_refused && is_short(status, &output, &errors);
+    let is_whole = status == 0 && errors.is_empty() && output.as_slice() == OUTPUT.as_bytes();
+    if !is_short && !is_whole {
+        return Err(Fail::from("another end"));
+    }
+    Ok((is_refused, is_short))
 }
 
-// Whether a run came to its end, and did all.
-fn is_whole(ended: &Ended) -> bool {
-    let is_silent = ended.errors.is_empty() && ended.status == 0;
-    is_silent && ended.output.as_slice() == OUTPUT.as_bytes()
-}
-
-// Whether a run ended for want of memory: for its words, of which nothing is said, or behind whole replies.
-fn is_short(ended: &Ended) -> bool {
-    let output = ended.output.as_slice();
+fn is_short(status: u8, output: &[u8], errors: &[u8]) -> bool {
     let is_prefix = OUTPUT.as_bytes().starts_with(output);
     let is_cut = !output.is_empty() && output.last() != Some(&b'\n');
-    let is_said = ended.errors.as_slice() == "bench61499: out of memory\n".as_bytes();
-    let is_silent = ended.errors.is_empty() && output.is_empty();
-    ended.status == 1 && is_prefix && !is_cut && (is_said || is_silent)
+    let is_said = errors == "bench61499: out of memory\n".as_bytes();
+    let is_silent = errors.is_empty() && output.is_empty();
+    status == 1 && is_prefix && !is_cut && (is_said || is_silent)
 }
 
-fn try_runs(alloc: Global) -> Result<Refusals, Fail> {
+/// Tries with each number in turn what may refuse the allocation of this number, until none is refused: whether one was, and whether
+/// it was not done without.
+pub(crate) fn each_refused<F: Fn(u32) -> Result<(bool, bool), Fail>>(
+    tried: F,
+) -> Result<Refusals, Fail>
+    requires { F.IsAlwaysCallable tried }
+{
     let mut memory = 0u32;
     for number in 1..100_000u32 {
-        let (ended, is_refused) = run_without(alloc, number)?;
-        let is_short = is_short(&ended) && is_refused;
-        if !is_short && !is_whole(&ended) {
-            return Err(Fail::from("another end"));
-        }
+        let (is_refused, is_short) = tried(number)?;
         if !is_refused {
             return Ok(Refusals {
                 allocations: number - 1,
@@ -121,7 +106,7 @@ fn try_runs(alloc: Global) -> Result<Refusals, Fail> {
 
 #[test]
 fn runs(rt: HostRuntime) -> Result<(), Fail> {
-    let found = try_runs(rt.alloc())?;
+    let found = each_refused(|number| tried(rt.alloc(), number))?;
     report(&rt, "run", " of a script", found)?;
     Ok(())
 }

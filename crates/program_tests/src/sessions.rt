@@ -1,11 +1,12 @@
 //! A session of which each allocation is refused in turn. If it ends for lack of memory, another one continues with its seat, and the
 //! workbench closes with the receipts of both.
+use crate::refused::each_refused;
 use fb_serve::{Session, run_session};
-use fb_shared::{Receipt, Seat, Shared};
+use fb_shared::{Seat, Shared};
 use fb_wire::bench::Limits;
 use fb_wire::{IntoWrite, MemoryFeed, RunEnd};
-use refusing::{Refusals, refuse, report, was_refused};
-use std::alloc::Global;
+use refusing::{refuse, report, was_refused};
+use std::alloc::{AllocError, Global};
 use std::sync::Wait;
 use std::test::Fail;
 
@@ -34,13 +35,6 @@ const CALLS: &[usize] = &[0, 1, 2, 3, 4, 6, 7];
 const GIVE_BACK: &str = "{\"op\":\"give_back\",\"kind\":\"faults\",\"unit\":\"A\"}\n";
 
 const RETURNED: &str = "{\"returned\":true}\n";
-
-fn new_shared(alloc: Global) -> Result<(Shared, Seat), Fail> {
-    let limits = Limits::new(4, 100).ok_or("limits")?;
-    let (shared, mut seats) = Shared::new(alloc, limits, 1)?;
-    let seat = seats.pop().ok_or("no seat")?;
-    Ok((shared, seat))
-}
 
 // A session of which the allocation of this number is refused, and whether it was. What it writes has room.
 fn session_without<R: Wait>(
@@ -75,161 +69,76 @@ fn behind(text: &str, lines: usize) -> &str {
     rest
 }
 
-/// How a session continues: what is sent first, which lines then, and the reply to what is sent first.
-#[derive(Clone, Copy)]
-struct Rest {
-    first: &'static str,
-    reply: &'static str,
-    lines: usize,
-}
+/// How a session continues: what is sent first, the reply to it, and which lines then.
+type Rest = (&'static str, &'static str, usize);
 
 // The rest where so many lines are answered, and so many calls are made: those of these lines, of one more, or some of one more.
 fn rest_after(answered: usize, calls: usize) -> Rest {
     let next = answered.saturating_add(1);
-    let (first, reply, lines) = if CALLS.get(answered) == Some(&calls) {
+    if CALLS.get(answered) == Some(&calls) {
         ("", "", answered)
     } else if CALLS.get(next) == Some(&calls) {
         ("", "", next)
     } else {
         (GIVE_BACK, RETURNED, answered)
-    };
-    Rest {
-        first,
-        reply,
-        lines,
     }
 }
 
-// What is said then.
-fn requests_of(alloc: Global, rest: Rest) -> Result<String, Fail> {
-    let mut requests = rest.first.to_string(alloc)?;
-    requests.push_str(behind(REQUESTS, rest.lines))?;
-    Ok(requests)
+// A line, and behind it a text without so many of its lines.
+fn joined(alloc: Global, first: &str, text: &str, lines: usize) -> Result<String, AllocError> {
+    let mut joined = first.to_string(alloc)?;
+    joined.push_str(behind(text, lines))?;
+    Ok(joined)
 }
 
-// Whether this is what is to be replied.
-fn is_replied(rest: Rest, output: &[u8]) -> bool {
-    let replies = behind(REPLIES, rest.lines).as_bytes();
-    let is_first = output.starts_with(rest.reply.as_bytes());
-    is_first && output.get(rest.reply.len()..) == Some(replies)
-}
-
-// Whether a session wrote whole lines from the prefix of the replies.
-fn is_prefix(output: &[u8]) -> bool {
-    let is_whole = output.is_empty() || output.last() == Some(&b'\n');
-    is_whole && REPLIES.as_bytes().starts_with(output)
-}
-
-// Whether the workbench closes with this seat and these receipts.
-fn is_closed(alloc: Global, shared: Shared, seat: Seat, receipts: &[Receipt]) -> bool {
-    let mut seats = Vec::new(alloc);
-    match seats.push(seat) {
-        Ok(()) => shared.close(alloc, seats, receipts).is_ok(),
-        Err(_) => false,
-    }
-}
-
-/// Whether an allocation was refused, whether the session ended for lack of memory, and whether all is right.
-#[derive(Clone, Copy)]
-struct Ended {
-    is_refused: bool,
-    is_short: bool,
-    is_right: bool,
-}
-
-// Goes on with a session, which may have come to its end, and adds the receipts. Whether the replies are right.
-fn go_on<R: Wait>(
-    rt: &R,
-    alloc: Global,
-    shared: &Shared,
-    seat: Seat,
-    receipts: &mut Vec<Receipt>,
-    rest: Rest,
-) -> Result<(Seat, bool), Fail> {
-    let requests = requests_of(alloc, rest)?;
-    let mut output = Vec::with_capacity(alloc, 1000)?;
-    let (session, _) = session_without(rt, alloc, shared, seat, &requests, &mut output, 0);
-    let Session {
-        end,
-        seat,
-        receipts: mut more,
-    } = session;
-    receipts.append(&mut more)?;
-    Ok((seat, end == RunEnd::End && is_replied(rest, &output)))
-}
-
-// Goes on with a session that has ended so, and closes.
-fn is_finished<R: Wait>(
-    rt: &R,
-    alloc: Global,
-    shared: Shared,
-    session: Session,
-    output: &[u8],
-) -> Result<bool, Fail> {
-    let Session {
-        end: _,
-        seat,
-        mut receipts,
-    } = session;
-    let rest = rest_after(lines_in(output), receipts.len());
-    let (seat, is_said) = go_on(rt, alloc, &shared, seat, &mut receipts, rest)?;
-    Ok(is_said && is_closed(alloc, shared, seat, &receipts))
-}
-
-// Whether a session may end so, with this output.
+// Whether a session may end so, with this output: all replies, or whole lines from the prefix of the replies.
 fn is_end(end: RunEnd, output: &[u8]) -> bool {
+    let is_whole = output.is_empty() || output.last() == Some(&b'\n');
     match end {
         RunEnd::End => output == REPLIES.as_bytes(),
-        RunEnd::Memory => is_prefix(output),
+        RunEnd::Memory => is_whole && REPLIES.as_bytes().starts_with(output),
         _ => false,
     }
 }
 
-fn ended_with<R: Wait>(
-    rt: &R,
-    alloc: Global,
-    shared: Shared,
-    seat: Seat,
-    output: &mut Vec<u8>,
-    number: u32,
-) -> Result<Ended, Fail> {
-    let (session, is_refused) = session_without(rt, alloc, &shared, seat, REQUESTS, output, number);
-    let end = session.end;
-    let is_finished = is_finished(rt, alloc, shared, session, output)?;
-    Ok(Ended {
-        is_refused,
-        is_short: end == RunEnd::Memory,
-        is_right: is_finished && is_end(end, output),
-    })
-}
-
-fn ended_without<R: Wait>(rt: &R, alloc: Global, number: u32) -> Result<Ended, Fail> {
+// Whether the allocation of this number is refused in a session, and whether the session ends for lack of memory. Another one goes on
+// with its seat, and then the workbench closes.
+fn tried<R: Wait>(rt: &R, alloc: Global, number: u32) -> Result<(bool, bool), Fail> {
+    let limits = Limits::new(4, 100).ok_or("limits")?;
+    let (shared, mut seats) = Shared::new(alloc, limits, 1)?;
+    let seat = seats.pop().ok_or("no seat")?;
     let mut output = Vec::with_capacity(alloc, 1000)?;
-    let (shared, seat) = new_shared(alloc)?;
-    ended_with(rt, alloc, shared, seat, &mut output, number)
-}
-
-fn each_refused<R: Wait>(rt: &R, alloc: Global) -> Result<Refusals, Fail> {
-    let mut memory = 0u32;
-    for number in 1..100_000u32 {
-        let ended = ended_without(rt, alloc, number)?;
-        if !ended.is_right || (ended.is_short && !ended.is_refused) {
-            return Err(Fail::from("another end"));
-        }
-        if !ended.is_refused {
-            return Ok(Refusals {
-                allocations: number - 1,
-                memory,
-            });
-        }
-        memory = memory.saturating_add(u32::from(ended.is_short));
+    let (session, is_refused) =
+        session_without(rt, alloc, &shared, seat, REQUESTS, &mut output, number);
+    let Session {
+        end,
+        seat,
+        mut receipts,
+    } = session;
+    let (first, reply, lines) = rest_after(lines_in(&output), receipts.len());
+    let requests = joined(alloc, first, REQUESTS, lines)?;
+    let mut told = Vec::with_capacity(alloc, 1000)?;
+    let (last, _) = session_without(rt, alloc, &shared, seat, &requests, &mut told, 0);
+    let Session {
+        end: last_end,
+        seat,
+        receipts: mut more,
+    } = last;
+    receipts.append(&mut more)?;
+    seats.push(seat)?;
+    let wanted = joined(alloc, reply, REPLIES, lines)?;
+    let is_told = last_end == RunEnd::End && told.as_slice() == wanted.as_bytes();
+    let is_closed = shared.close(alloc, seats, &receipts).is_ok();
+    let is_short = end == RunEnd::Memory;
+    if !is_told || !is_closed || !is_end(end, &output) || (is_short && !is_refused) {
+        return Err(Fail::from("another end"));
     }
-    Err(Fail::from("ever more allocations"))
+    Ok((is_refused, is_short))
 }
 
 #[test]
 fn each_allocation_of_a_session(rt: HostRuntime) -> Result<(), Fail> {
-    let found = each_refused(&rt, rt.alloc())?;
+    let found = each_refused(|number| tried(&rt, rt.alloc(), number))?;
     report(&rt, "run_session", " of six lines", found)?;
     Ok(())
 }

@@ -1,9 +1,10 @@
 //! A worker of which each allocation is refused in turn: it begins again, so that of two jobs one is left at most. And one whose history is full.
+use crate::refused::each_refused;
 use fb_serve::{CallerState, Held, Session, keep_working, run_session};
 use fb_shared::{Receipt, Seat, Shared, WorkEnd};
 use fb_wire::bench::Limits;
 use fb_wire::{IntoWrite, MemoryFeed};
-use refusing::{Refusals, refuse, report, was_refused};
+use refusing::{refuse, report, was_refused};
 use std::alloc::Global;
 use std::sync::Wait;
 use std::test::Fail;
@@ -43,91 +44,56 @@ fn talk<R: Wait>(
     Ok((seat, told))
 }
 
-// Whether the workbench closes with two seats and these receipts.
-fn is_closed(
-    alloc: Global,
-    shared: Shared,
-    first: Seat,
-    second: Seat,
-    receipts: &[Receipt],
-) -> Result<bool, Fail> {
-    let mut seats = Vec::new(alloc);
-    seats.push(first)?;
-    seats.push(second)?;
-    Ok(shared.close(alloc, seats, receipts).is_ok())
-}
-
-// A worker works, of which the allocation of this number is refused. What a session then finds left, and whether it was refused.
-fn left_without<R: Wait + Clock>(
+// A workbench with this history, the state of a worker at it, and the seat of a session that has committed two units, with its receipts.
+fn committed<R: Wait>(
     rt: &R,
     alloc: Global,
-    number: u32,
-) -> Result<(String, bool), Fail> {
-    let limits = Limits::new(4, 100).ok_or("limits")?;
+    history: u64,
+) -> Result<(Shared, CallerState, Seat, Vec<Receipt>), Fail> {
+    let limits = Limits::new(4, history).ok_or("limits")?;
     let (shared, mut seats) = Shared::new(alloc, limits, 2)?;
-    let mut state = CallerState::new(alloc, seats.pop().ok_or("no seat")?);
-    let first = seats.pop().ok_or("no seat")?;
+    let state = CallerState::new(alloc, seats.pop().ok_or("no seat")?);
+    let seat = seats.pop().ok_or("no seat")?;
     let mut receipts = Vec::new(alloc);
-    let (first, _) = talk(rt, alloc, &shared, first, &mut receipts, COMMIT)?;
+    let (seat, _) = talk(rt, alloc, &shared, seat, &mut receipts, COMMIT)?;
+    Ok((shared, state, seat, receipts))
+}
+
+// A worker works, of which the allocation of this number is refused: whether it was refused, and whether a session then finds one key left.
+fn tried<R: Wait + Clock>(rt: &R, alloc: Global, number: u32) -> Result<(bool, bool), Fail> {
+    let (shared, mut state, seat, mut receipts) = committed(rt, alloc, 100)?;
     refuse(alloc, number);
     let _end = keep_working(rt, alloc, &shared, &mut state, KEYS);
     let is_refused = was_refused(alloc);
-    let (first, left) = talk(rt, alloc, &shared, first, &mut receipts, WORK)?;
+    let (seat, left) = talk(rt, alloc, &shared, seat, &mut receipts, WORK)?;
     let CallerState {
-        seat,
+        seat: second,
         held: _,
         receipts: mut more,
     } = state;
     receipts.append(&mut more)?;
-    if !is_closed(alloc, shared, first, seat, &receipts)? {
+    let mut seats = Vec::new(alloc);
+    seats.push(seat)?;
+    seats.push(second)?;
+    if shared.close(alloc, seats, &receipts).is_err() {
         return Err(Fail::from("not closed"));
     }
-    Ok((left, is_refused))
-}
-
-fn each_refused<R: Wait + Clock>(rt: &R, alloc: Global) -> Result<Refusals, Fail> {
-    let mut memory = 0u32;
-    for number in 1..100_000u32 {
-        let (left, is_refused) = left_without(rt, alloc, number)?;
-        let is_short = is_refused && left.as_str() == ONE_LEFT;
-        if !is_short && left.as_str() != ALL_DONE {
-            return Err(Fail::from(left));
-        }
-        if !is_refused {
-            return Ok(Refusals {
-                allocations: number - 1,
-                memory,
-            });
-        }
-        memory = memory.saturating_add(u32::from(is_short));
+    let is_short = is_refused && left.as_str() == ONE_LEFT;
+    if !is_short && left.as_str() != ALL_DONE {
+        return Err(Fail::from(left));
     }
-    Err(Fail::from("ever more allocations"))
+    Ok((is_refused, is_short))
 }
 
 #[test]
 fn each_allocation_of_a_worker(rt: HostRuntime) -> Result<(), Fail> {
-    let found = each_refused(&rt, rt.alloc())?;
+    let found = each_refused(|number| tried(&rt, rt.alloc(), number))?;
     report(&rt, "keep_working", " of two jobs", found)?;
     Ok(())
 }
 
 /// A history that is full once the worker has taken its second job, and the number of that call.
 const ROOM: u64 = 4;
-
-// How a worker ends with no room for its second result, and what it leaves.
-fn work_without_room<R: Wait + Clock>(
-    rt: &R,
-    alloc: Global,
-) -> Result<(WorkEnd, CallerState), Fail> {
-    let limits = Limits::new(4, ROOM).ok_or("limits")?;
-    let (shared, mut seats) = Shared::new(alloc, limits, 2)?;
-    let mut state = CallerState::new(alloc, seats.pop().ok_or("no seat")?);
-    let first = seats.pop().ok_or("no seat")?;
-    let mut receipts = Vec::new(alloc);
-    let (_first, _) = talk(rt, alloc, &shared, first, &mut receipts, COMMIT)?;
-    let end = keep_working(rt, alloc, &shared, &mut state, KEYS);
-    Ok((end, state))
-}
 
 // The number of the take of the one key that is held, or 0 if there are others or none.
 fn since_of(held: &[Held]) -> u64 {
@@ -137,10 +103,12 @@ fn since_of(held: &[Held]) -> u64 {
     }
 }
 
-// The key of its second job can't be given back either, so it stays held. That of its first is settled.
+// There is no room for the second result of a worker. The key of its second job can't be given back either, so it stays held. That of its
+// first is settled.
 #[test]
 fn a_key_that_is_not_given_back_stays_held(rt: HostRuntime) -> Result<(), Fail> {
-    let (end, state) = work_without_room(&rt, rt.alloc())?;
+    let (shared, mut state, _seat, _receipts) = committed(&rt, rt.alloc(), ROOM)?;
+    let end = keep_working(&rt, rt.alloc(), &shared, &mut state, KEYS);
     assert_eq!(rt; end, WorkEnd::HistoryFull);
     assert_eq!(rt; (state.receipts.len(), since_of(&state.held)), (3, ROOM));
     Ok(())
