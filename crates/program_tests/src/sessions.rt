@@ -1,8 +1,9 @@
 //! A session of which each allocation is refused in turn. If it ends for lack of memory, another one continues with its seat, and the
 //! workbench closes with the receipts of both.
 use crate::refused::each_refused;
+use crate::workers::talk;
 use fb_serve::{Session, run_session};
-use fb_shared::{Seat, Shared};
+use fb_shared::Shared;
 use fb_wire::bench::Limits;
 use fb_wire::{IntoWrite, MemoryFeed, RunEnd};
 use refusing::{refuse, report, was_refused};
@@ -36,23 +37,6 @@ const GIVE_BACK: &str = "{\"op\":\"give_back\",\"kind\":\"faults\",\"unit\":\"A\
 
 const RETURNED: &str = "{\"returned\":true}\n";
 
-// A session of which the allocation of this number is refused, and whether it was. What it writes has room.
-fn session_without<R: Wait>(
-    rt: &R,
-    alloc: Global,
-    shared: &Shared,
-    seat: Seat,
-    requests: &str,
-    output: &mut Vec<u8>,
-    number: u32,
-) -> (Session, bool) {
-    let mut feed = MemoryFeed::new(requests.as_bytes(), 8192, u64::MAX);
-    let mut sink = IntoWrite::new(output);
-    refuse(alloc, number);
-    let session = run_session(rt, alloc, shared, seat, &mut feed, &mut sink, 1000);
-    (session, was_refused(alloc))
-}
-
 fn lines_in(bytes: &[u8]) -> usize {
     bytes.iter().filter(|byte| **byte == b'\n').count()
 }
@@ -69,11 +53,9 @@ fn behind(text: &str, lines: usize) -> &str {
     rest
 }
 
-/// How a session continues: what is sent first, the reply to it, and which lines then.
-type Rest = (&'static str, &'static str, usize);
-
-// The rest where so many lines are answered, and so many calls are made: those of these lines, of one more, or some of one more.
-fn rest_after(answered: usize, calls: usize) -> Rest {
+// How a session continues where so many lines are answered, and so many calls are made: those of these lines, of one more, or some of one
+// more. It gives what is sent first, the reply to it, and behind which lines it goes on.
+fn rest_after(answered: usize, calls: usize) -> (&'static str, &'static str, usize) {
     let next = answered.saturating_add(1);
     if CALLS.get(answered) == Some(&calls) {
         ("", "", answered)
@@ -101,15 +83,18 @@ fn is_end(end: RunEnd, output: &[u8]) -> bool {
     }
 }
 
-// Whether the allocation of this number is refused in a session, and whether the session ends for lack of memory. Another one goes on
-// with its seat, and then the workbench closes.
+// Whether the allocation of this number is refused in a session, and whether the session ends for lack of memory. What it writes has room.
+// Another one goes on with its seat, and then the workbench closes.
 fn tried<R: Wait>(rt: &R, alloc: Global, number: u32) -> Result<(bool, bool), Fail> {
     let limits = Limits::new(4, 100).ok_or("limits")?;
     let (shared, mut seats) = Shared::new(alloc, limits, 1)?;
     let seat = seats.pop().ok_or("no seat")?;
     let mut output = Vec::with_capacity(alloc, 1000)?;
-    let (session, is_refused) =
-        session_without(rt, alloc, &shared, seat, REQUESTS, &mut output, number);
+    let mut feed = MemoryFeed::new(REQUESTS.as_bytes(), 8192, u64::MAX);
+    let mut sink = IntoWrite::new(&mut output);
+    refuse(alloc, number);
+    let session = run_session(rt, alloc, &shared, seat, &mut feed, &mut sink, 1000);
+    let is_refused = was_refused(alloc);
     let Session {
         end,
         seat,
@@ -117,19 +102,12 @@ fn tried<R: Wait>(rt: &R, alloc: Global, number: u32) -> Result<(bool, bool), Fa
     } = session;
     let (first, reply, lines) = rest_after(lines_in(&output), receipts.len());
     let requests = joined(alloc, first, REQUESTS, lines)?;
-    let mut told = Vec::with_capacity(alloc, 1000)?;
-    let (last, _) = session_without(rt, alloc, &shared, seat, &requests, &mut told, 0);
-    let Session {
-        end: last_end,
-        seat,
-        receipts: mut more,
-    } = last;
-    receipts.append(&mut more)?;
-    seats.push(seat)?;
+    let (seat, told) = talk(rt, alloc, &shared, seat, &mut receipts, &requests)?;
     let wanted = joined(alloc, reply, REPLIES, lines)?;
-    let is_told = last_end == RunEnd::End && told.as_slice() == wanted.as_bytes();
+    seats.push(seat)?;
     let is_closed = shared.close(alloc, seats, &receipts).is_ok();
     let is_short = end == RunEnd::Memory;
+    let is_told = told.as_str() == wanted.as_str();
     if !is_told || !is_closed || !is_end(end, &output) || (is_short && !is_refused) {
         return Err(Fail::from("another end"));
     }

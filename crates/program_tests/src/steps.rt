@@ -48,6 +48,9 @@ pub(crate) type Step<'a> = (usize, Act, &'a str, &'a str);
 /// How often it is looked whether something has come, each time after a millisecond.
 pub(crate) const MOST_LOOKS: u32 = 10_000;
 
+/// How often it is asked whether a worker has worked.
+const VERY_MANY: u32 = 200_000;
+
 // So many peers.
 fn connected<R: Net<Listener = TcpListener, Stream = TcpStream>>(
     rt: &R,
@@ -89,32 +92,22 @@ fn said(alloc: Global, stream: &TcpStream, line: &str) -> io::Result<String> {
     }
 }
 
+// Says a line up to so often, until something else comes than this. It gives the last that comes.
 fn repeat(
     alloc: Global,
     stream: &TcpStream,
     times: u32,
     line: &str,
-    wanted: &str,
+    told_again: &str,
 ) -> io::Result<String> {
     let mut told = String::new(alloc);
     for _ in 0..times {
         told = said(alloc, stream, line)?;
-        if told.as_str() != wanted {
+        if told.as_str() != told_again {
             break;
         }
     }
     Ok(told)
-}
-
-fn until_known(alloc: Global, stream: &TcpStream, ask: &str) -> io::Result<String> {
-    let mut known = said(alloc, stream, ask)?;
-    for _ in 0..200_000u32 {
-        if known.as_str() != PENDING {
-            break;
-        }
-        known = said(alloc, stream, ask)?;
-    }
-    Ok(known)
 }
 
 fn commit_after(alloc: Global, base: u64) -> io::Result<String> {
@@ -129,7 +122,7 @@ fn commits_known(alloc: Global, stream: &TcpStream, commits: u64) -> io::Result<
     let mut known = String::new(alloc);
     for worked in 0..commits {
         said(alloc, stream, commit_after(alloc, worked + 1)?.as_str())?;
-        known = until_known(alloc, stream, ASK)?;
+        known = repeat(alloc, stream, VERY_MANY, ASK, PENDING)?;
         if known.as_str() != KNOWN {
             break;
         }
@@ -195,7 +188,7 @@ fn told<R: Wait + Clock>(
     match act {
         Act::Ask => said(alloc, peer(streams, number)?, text),
         Act::Repeat(times) => repeat(alloc, peer(streams, number)?, times, text, wanted),
-        Act::Await => until_known(alloc, peer(streams, number)?, text),
+        Act::Await => repeat(alloc, peer(streams, number)?, VERY_MANY, text, PENDING),
         Act::Commits(commits) => commits_known(alloc, peer(streams, number)?, commits),
         Act::Talk => talk(alloc, peer(streams, number)?, text.as_bytes()),
         Act::TalkTooLong => {

@@ -3,7 +3,7 @@ use crate::refused::each_refused;
 use fb_serve::{CallerState, Held, Session, keep_working, run_session};
 use fb_shared::{Receipt, Seat, Shared, WorkEnd};
 use fb_wire::bench::Limits;
-use fb_wire::{IntoWrite, MemoryFeed};
+use fb_wire::{IntoWrite, MemoryFeed, RunEnd};
 use refusing::{refuse, report, was_refused};
 use std::alloc::Global;
 use std::sync::Wait;
@@ -22,25 +22,28 @@ const ALL_DONE: &str = "{\"accepted\":0}\n";
 
 const ONE_LEFT: &str = "{\"accepted\":1}\n";
 
-// Says the line in a session, and adds its receipts. It gives the seat, and what is told.
-fn talk<R: Wait>(
+/// Says lines in a session that comes to its end, and adds its receipts. It gives the seat, and what is told.
+pub(crate) fn talk<R: Wait>(
     rt: &R,
     alloc: Global,
     shared: &Shared,
     seat: Seat,
     receipts: &mut Vec<Receipt>,
-    line: &str,
+    lines: &str,
 ) -> Result<(Seat, String), Fail> {
     let mut output = Vec::new(alloc);
-    let mut feed = MemoryFeed::new(line.as_bytes(), 8192, u64::MAX);
+    let mut feed = MemoryFeed::new(lines.as_bytes(), 8192, u64::MAX);
     let mut sink = IntoWrite::new(&mut output);
     let Session {
-        end: _,
+        end,
         seat,
         receipts: mut more,
     } = run_session(rt, alloc, shared, seat, &mut feed, &mut sink, 1000);
     receipts.append(&mut more)?;
     let told = String::from_utf8(output).ok().ok_or("no text")?;
+    if end != RunEnd::End {
+        return Err(Fail::from(told));
+    }
     Ok((seat, told))
 }
 
