@@ -43,9 +43,7 @@ fn start_told(alloc: Global, bench: &Bench) -> Result<String, AllocError> {
     let (start, before, since) = (bench.start(), bench.before(), bench.len());
     let (units, commits) = (start.library().len(), start.commits());
     let turns = (start.turns(1), start.turns(2), start.turns(3));
-    format!(in alloc;
-        "calls {before} + {since}, units {units}, commits {commits}, turns {turns:?}"
-    )
+    format!(in alloc; "calls {before} + {since}, units {units}, commits {commits}, turns {turns:?}")
 }
 
 // The callers of the records of these numbers, their turns, and whether they asked and were given a value.
@@ -59,7 +57,12 @@ fn records_told(alloc: Global, bench: &Bench, numbers: &str) -> Result<String, F
                 let is_ask = matches!(record.call(), Call::Ask(_));
                 let is_value = is_ask && matches!(record.reply(), Reply::Value(_));
                 let reply = if is_value { "value" } else { "another" };
-                write!(told, "caller {} turn {} {reply}", record.caller(), record.turn())?;
+                write!(
+                    told,
+                    "caller {} turn {} {reply}",
+                    record.caller(),
+                    record.turn()
+                )?;
             }
         }
     }
@@ -72,7 +75,11 @@ fn began_told(alloc: Global, bench: &Bench, units: &str) -> Result<String, Fail>
     for unit in units.split(' ') {
         let key = key_of(Kind::Faults, unit)?;
         let start = bench.start();
-        let pending = if start.is_pending(&key) { " pending" } else { "" };
+        let pending = if start.is_pending(&key) {
+            " pending"
+        } else {
+            ""
+        };
         let out = if start.is_out(&key) { " out" } else { "" };
         let comma = if told.is_empty() { "" } else { ", " };
         write!(told, "{comma}{unit}{pending}{out}")?;

@@ -84,7 +84,10 @@ fn ask_each(
 ) -> Result<(), Fail> {
     let (kind, units) = words.split_once(' ').ok_or("units")?;
     for unit in units.split(' ') {
-        writeln!(requests, r#"{{"op":"ask","kind":"{kind}","unit":"{unit}"}}"#)?;
+        writeln!(
+            requests,
+            r#"{{"op":"ask","kind":"{kind}","unit":"{unit}"}}"#
+        )?;
         writeln!(replies, "{reply}")?;
     }
     Ok(())
@@ -159,7 +162,9 @@ pub(crate) fn converse(
 // The title of a conversation that stands behind `== `, a new workbench for it, and its lines.
 fn opened(alloc: Global, conversation: &str) -> Result<(&str, Bench, &str), Fail> {
     let (heading, text) = conversation.split_once('\n').ok_or("a line")?;
-    let (title, limits) = heading.split_once(" / ").unwrap_or((heading, "1024 / 100000"));
+    let (title, limits) = heading
+        .split_once(" / ")
+        .unwrap_or((heading, "1024 / 100000"));
     let (units, history) = limits.split_once(" / ").ok_or("limits")?;
     let bench = new_bench(alloc, units.parse()?, history.parse()?)?;
     Ok((title, bench, text))
@@ -208,7 +213,11 @@ fn go_through<L: Look>(
     let mut place = 0u32;
     for step in steps.split('@') {
         let (told, wanted) = step_told::<L>(alloc, bench, step)?;
-        assert_eq!(rt; alike(told.as_str(), wanted.as_str()), None, "{title}, step {place}: {told}");
+        assert_eq!(rt;
+            alike(told.as_str(), wanted.as_str()),
+            None,
+            "{title}, step {place}: {told}"
+        );
         place = place.saturating_add(1);
     }
     Ok(())

@@ -116,7 +116,7 @@ fn found_told(alloc: Global, finished: &Finished) -> Result<String, AllocError> 
     Ok(told)
 }
 
-const JOBS: &str = r#"
+const CONVERSATIONS: &str = r#"
 == A job reads one text / 4 / 100
 @1 {"op":"commit","changes":[{"put":"A","base":0,"text":"FUNCTION_BLOCK A EVENT_INPUT"}]} => {"commit":1}
 @shown faults A => pending
@@ -138,7 +138,7 @@ const JOBS: &str = r#"
 
 #[test]
 fn jobs_of_one_text(rt: HostRuntime) -> Result<(), Fail> {
-    compare_steps::<Jobs>(&rt, rt.alloc(), JOBS)
+    compare_steps::<Jobs>(&rt, rt.alloc(), CONVERSATIONS)
 }
 
 const EMPTY: &str = r#"
@@ -158,7 +158,9 @@ fn keys_of_an_empty_text(rt: HostRuntime) -> Result<(), Fail> {
 }
 
 // Keys that follow each other: by kind, and then by unit.
-const KEYS: &[&str] = &["faults A", "faults B", "net A", "net B", "deploy A", "deploy B"];
+const KEYS: &[&str] = &[
+    "faults A", "faults B", "net A", "net B", "deploy A", "deploy B",
+];
 
 #[test]
 fn keys_in_order(rt: HostRuntime) -> Result<(), Fail> {
@@ -214,7 +216,6 @@ const TAKEN_IN: &str = r#"
 {"op":"deliver","job":1} => {"refused":"NotPending"}
 {"op":"ask","kind":"faults","unit":"A"} => {"faults":[]}
 "#;
-
 
 // A result of another workbench, which holds another text at the same revision, is stale.
 #[test]

@@ -85,8 +85,10 @@ fn is_right(
         RunEnd::End => Ok(
             output.len() == conversation.replies.len() && bench.len() == conversation.whole.len(),
         ),
-        RunEnd::Memory => Ok(are_calls(conversation, answered, bench.len())
-            && (!can_go_on || goes_on(alloc, bench, conversation, answered)?)),
+        RunEnd::Memory => Ok(
+            are_calls(conversation, answered, bench.len())
+                && (!can_go_on || goes_on(alloc, bench, conversation, answered)?),
+        ),
         _ => Ok(false),
     }
 }

@@ -83,7 +83,14 @@ fn compare(
 #[test]
 fn runs(rt: HostRuntime) -> Result<(), Fail> {
     for (input, read, write, turns, end, output) in RUNS {
-        compare(&rt, rt.alloc(), input, (*read, *write), *turns, (*end, output))?;
+        compare(
+            &rt,
+            rt.alloc(),
+            input,
+            (*read, *write),
+            *turns,
+            (*end, output),
+        )?;
     }
     Ok(())
 }

@@ -6,16 +6,15 @@ use fb_program::bench::Limits;
 use fb_program::wire::MemorySink;
 use fb_serve::{ServerConfig, serve_on};
 use std::alloc::{AllocError, Global};
-use std::io;
 use std::io::Write;
 use std::net::{Net, OpenListener, TcpListener, TcpStream};
 use std::process::Abort;
 use std::sync::atomic::{AtomicBool, Ordering};
 use std::sync::{Mutex, Wait};
 use std::test::Fail;
-use std::thread;
 use std::thread::{Threads, join};
 use std::time::{Clock, Duration};
+use std::{io, thread};
 
 pub(crate) const ALWAYS: u64 = u64::MAX;
 

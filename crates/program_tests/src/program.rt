@@ -226,7 +226,10 @@ fn refused_words(rt: HostRuntime) -> Result<(), Fail> {
         let ended = run_over(rt.alloc(), line, TAKE, AMPLE)?;
         let is_silent = ended.errors.is_empty() || !ended.output.is_empty();
         let asked = asked_by(rt.alloc(), line)?;
-        assert!(rt; ended.status == Some(2) && !is_silent && asked.is_none(), "{line}");
+        assert!(rt;
+            ended.status == Some(2) && !is_silent && asked.is_none(),
+            "{line}"
+        );
     }
     Ok(())
 }
@@ -306,6 +309,9 @@ fn words_that_could_not_be_read(rt: HostRuntime) {
     for (kind, status, said) in UNREAD {
         let mut errors = Vec::new(rt.alloc());
         let found = refuse_words(*kind, &mut errors);
-        assert!(rt; found == *status && errors.as_slice() == said.as_bytes(), "{said}");
+        assert!(rt;
+            found == *status && errors.as_slice() == said.as_bytes(),
+            "{said}"
+        );
     }
 }

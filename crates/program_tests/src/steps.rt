@@ -1,12 +1,11 @@
 //! What a peer of a server does, and what it gets then.
 use std::alloc::Global;
-use std::io;
 use std::io::{ErrorKind, Read, Write};
 use std::net::{Net, OpenStream, Shutdown, TcpListener, TcpStream};
 use std::process::Abort;
 use std::sync::{Mutex, Wait};
-use std::thread;
 use std::time::{Clock, Duration};
+use std::{io, thread};
 
 pub(crate) const COMMIT: &str =
     "{\"op\":\"commit\",\"changes\":[{\"put\":\"A\",\"base\":0,\"text\":\"FUNCTION_BLOCK A END_FUNCTION_BLOCK\"}]}\n";
@@ -201,9 +200,7 @@ fn told<R: Wait + Clock>(
 }
 
 /// So many peers connect and make the steps. At the first at which something else comes, the test ends.
-pub(crate) fn make_steps<
-    R: Net<Listener = TcpListener, Stream = TcpStream> + Wait + Clock + Abort,
->(
+pub(crate) fn make_steps<R: Net<Listener = TcpListener, Stream = TcpStream> + Wait + Clock + Abort>(
     rt: &R,
     alloc: Global,
     port: u16,
