@@ -155,6 +155,7 @@ pub(crate) fn converse(
     text: &str,
 ) -> Result<(), Fail> {
     let (told, wanted) = exchanged(alloc, bench, caller, text)?;
+    assert!(rt; !wanted.is_empty(), "no lines");
     assert_eq!(rt; alike(told.as_str(), wanted.as_str()), None, "{told}");
     Ok(())
 }
@@ -170,12 +171,13 @@ fn opened(alloc: Global, conversation: &str) -> Result<(&str, Bench, &str), Fail
     Ok((title, bench, text))
 }
 
-/// Has caller 1 say each of these conversations to a workbench of its own.
+/// Has caller 1 say each of these conversations to a workbench of its own. One alone may have no lines, by its title.
 pub(crate) fn compare(rt: &impl Abort, alloc: Global, text: &str) -> Result<(), Fail> {
     let conversations = text.strip_prefix("\n== ").ok_or("a heading")?;
     for conversation in conversations.split("\n== ") {
         let (title, mut bench, text) = opened(alloc, conversation)?;
         let (told, wanted) = exchanged(alloc, &mut bench, 1, text)?;
+        assert_eq!(rt; wanted.is_empty(), title == "no lines", "{title}");
         assert_eq!(rt; alike(told.as_str(), wanted.as_str()), None, "{title}");
     }
     Ok(())
@@ -213,6 +215,7 @@ fn go_through<L: Look>(
     let mut place = 0u32;
     for step in steps.split('@') {
         let (told, wanted) = step_told::<L>(alloc, bench, step)?;
+        assert!(rt; !wanted.is_empty(), "{title}, step {place}");
         assert_eq!(rt;
             alike(told.as_str(), wanted.as_str()),
             None,

@@ -83,16 +83,16 @@ fn is_short(status: u8, output: &[u8], errors: &[u8]) -> bool {
     status == 1 && is_prefix && !is_cut && (is_said || is_silent)
 }
 
-/// Tries with each number in turn what may refuse the allocation of this number, until none is refused: whether one was, and whether
-/// it was not done without.
+/// Makes attempts of which the allocation of each number in turn is refused, until none is. An attempt says whether one was refused, and
+/// whether it was not done without.
 pub(crate) fn each_refused<F: Fn(u32) -> Result<(bool, bool), Fail>>(
-    tried: F,
+    attempt: F,
 ) -> Result<Refusals, Fail>
-    requires { F.IsAlwaysCallable tried }
+    requires { F.IsAlwaysCallable attempt }
 {
     let mut memory = 0u32;
     for number in 1..100_000u32 {
-        let (is_refused, is_short) = tried(number)?;
+        let (is_refused, is_short) = attempt(number)?;
         if !is_refused {
             return Ok(Refusals {
                 allocations: number - 1,
