@@ -1,6 +1,6 @@
 //! What connections say first.
 use crate::lines::{NO_JOB, NO_SEAT, TAKE};
-use crate::play::{LONG, Play, compare};
+use crate::play::{Play, compare, one_session};
 use crate::steps::Step;
 use fb_host::{is_secret, speaks_http};
 use std::process::Abort;
@@ -71,16 +71,8 @@ const SECRETS: &[Step<'static>] = &[
 #[test]
 fn a_secret_is_asked_for(rt: HostRuntime) -> Result<(), Fail> {
     let play = Play {
-        sessions: 1,
-        workers: 0,
-        history: 20,
-        first_line_timeout: LONG,
-        idle_timeout: 0,
-        connections: 9,
         secret: "sesame",
-        steps: SECRETS,
-        errors: "",
-        counts: Some((2, 2)),
+        ..one_session(20, SECRETS, Some((2, 2)))
     };
     compare(&rt, rt.alloc(), &play)
 }
@@ -98,16 +90,8 @@ const PIECES: &[Step<'static>] = &[
 #[test]
 fn a_secret_in_pieces(rt: HostRuntime) -> Result<(), Fail> {
     let play = Play {
-        sessions: 1,
-        workers: 0,
-        history: 20,
-        first_line_timeout: LONG,
-        idle_timeout: 0,
-        connections: 2,
         secret: "sesame",
-        steps: PIECES,
-        errors: "",
-        counts: Some((2, 2)),
+        ..one_session(20, PIECES, Some((2, 2)))
     };
     compare(&rt, rt.alloc(), &play)
 }
@@ -131,17 +115,5 @@ const BROWSERS: &[Step<'static>] = &[
 
 #[test]
 fn browsers_are_not_let_in(rt: HostRuntime) -> Result<(), Fail> {
-    let play = Play {
-        sessions: 1,
-        workers: 0,
-        history: 20,
-        first_line_timeout: LONG,
-        idle_timeout: 0,
-        connections: 4,
-        secret: "",
-        steps: BROWSERS,
-        errors: "",
-        counts: Some((1, 1)),
-    };
-    compare(&rt, rt.alloc(), &play)
+    compare(&rt, rt.alloc(), &one_session(20, BROWSERS, Some((1, 1))))
 }

@@ -17,27 +17,43 @@ use std::thread::{Threads, join};
 use std::time::{Clock, Duration};
 
 /// More milliseconds than a test has.
-pub(crate) const LONG: u64 = 600_000;
+const LONG: u64 = 600_000;
 
 /// How often it is looked whether the host has ended, and how many milliseconds pass from one look to the next.
 const LOOKS: u32 = 10_000;
 
 const PAUSE: u64 = 2;
 
-/// A host, the steps of its peers, and its result: what it printed on its errors, how many calls were made, and how many of them since the
-/// start. If workers make calls these numbers are left out.
-#[derive(Drop)]
-pub(crate) struct Play<'a> {
+/// How many calls were made, and how many of them since the start. If workers make calls these numbers are left out.
+type Counts = Option<(u64, usize)>;
+
+/// A host, the steps of its peers, and its result: what it printed on its errors, and its calls. After the last peer it closes.
+#[derive(Clone, Copy)]
+pub(crate) struct Play {
     pub(crate) sessions: u8,
     pub(crate) workers: u8,
     pub(crate) history: u64,
     pub(crate) first_line_timeout: u64,
     pub(crate) idle_timeout: u64,
-    pub(crate) connections: u64,
-    pub(crate) secret: &'a str,
-    pub(crate) steps: &'a [Step<'a>],
-    pub(crate) errors: &'a str,
-    pub(crate) counts: Option<(u64, usize)>,
+    pub(crate) secret: &'static str,
+    pub(crate) steps: &'static [Step<'static>],
+    pub(crate) errors: &'static str,
+    pub(crate) counts: Counts,
+}
+
+/// A host of one session and no worker, which waits for its peers, lets all in, and prints nothing on its errors.
+pub(crate) fn one_session(history: u64, steps: &'static [Step<'static>], counts: Counts) -> Play {
+    Play {
+        sessions: 1,
+        workers: 0,
+        history,
+        first_line_timeout: LONG,
+        idle_timeout: 0,
+        secret: "",
+        steps,
+        errors: "",
+        counts,
+    }
 }
 
 /// What a host printed, and its close: how many calls were made, how many of them since the start, and how many receipts there are.
@@ -47,7 +63,17 @@ struct Hosted {
     close: Option<(u64, usize, usize)>,
 }
 
-fn config_of(play: &Play<'_>) -> Option<HostConfig> {
+fn peers_in(steps: &[Step<'_>]) -> u64 {
+    let mut peers = 0u64;
+    for step in steps {
+        if let Step::Connect(count) = step {
+            peers = peers.saturating_add(*count as u64);
+        }
+    }
+    peers
+}
+
+fn config_of(play: &Play) -> Option<HostConfig> {
     let limits = Limits::new(100, play.history)?;
     Some(HostConfig {
         workers: play.workers,
@@ -55,7 +81,7 @@ fn config_of(play: &Play<'_>) -> Option<HostConfig> {
         limits,
         first_line_timeout: play.first_line_timeout,
         idle_timeout: play.idle_timeout,
-        connections: play.connections,
+        connections: peers_in(play.steps),
     })
 }
 
@@ -119,7 +145,7 @@ fn act<R: Net<Listener = TcpListener, Stream = TcpStream> + Wait + Clock + Abort
 fn compare_end<R: Wait + Abort>(
     rt: &R,
     alloc: Global,
-    play: &Play<'_>,
+    play: &Play,
     port: u16,
     hosted: Hosted,
     errors: Vec<u8>,
@@ -140,7 +166,7 @@ fn compare_end<R: Wait + Abort>(
 /// Plays, and compares what comes of it with what is wanted.
 pub(crate) fn compare<
     R: Net<Listener = TcpListener, Stream = TcpStream> + Threads + Wait + Clock + Sync + Abort,
->(rt: &R, alloc: Global, play: &Play<'_>) -> Result<(), Fail> {
+>(rt: &R, alloc: Global, play: &Play) -> Result<(), Fail> {
     let listener = TcpListener::bind(rt, "127.0.0.1:0")?;
     let port = listener.local_addr()?.port();
     let config = config_of(play).ok_or("limits")?;

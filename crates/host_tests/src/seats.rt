@@ -3,7 +3,7 @@ use crate::lines::{
     ASK, ASK_FAULTS, ASK_LAST, COMMIT, COMMIT_AGAIN, EIGHTY_FIRST, FIRST, JOB_A, KNOWN, NO_JOB,
     NO_KEY, NO_SEAT, SECOND, TAKE,
 };
-use crate::play::{LONG, Play, compare};
+use crate::play::{Play, compare, one_session};
 use crate::steps::Step;
 use std::test::Fail;
 
@@ -19,19 +19,7 @@ const GOES_ON: &[Step<'static>] = &[
 
 #[test]
 fn a_seat_goes_on(rt: HostRuntime) -> Result<(), Fail> {
-    let play = Play {
-        sessions: 1,
-        workers: 0,
-        history: 20,
-        first_line_timeout: LONG,
-        idle_timeout: 0,
-        connections: 2,
-        secret: "",
-        steps: GOES_ON,
-        errors: "",
-        counts: Some((60, 20)),
-    };
-    compare(&rt, rt.alloc(), &play)
+    compare(&rt, rt.alloc(), &one_session(20, GOES_ON, Some((60, 20))))
 }
 
 const COMMIT_B: &str =
@@ -57,19 +45,7 @@ const ROLLS_ALWAYS: &[Step<'static>] = &[
 
 #[test]
 fn a_history_of_one_call(rt: HostRuntime) -> Result<(), Fail> {
-    let play = Play {
-        sessions: 1,
-        workers: 0,
-        history: 1,
-        first_line_timeout: LONG,
-        idle_timeout: 0,
-        connections: 3,
-        secret: "",
-        steps: ROLLS_ALWAYS,
-        errors: "",
-        counts: Some((4, 1)),
-    };
-    compare(&rt, rt.alloc(), &play)
+    compare(&rt, rt.alloc(), &one_session(1, ROLLS_ALWAYS, Some((4, 1))))
 }
 
 // It rolls between a take and its delivery, and twice between a stale base and the commit by it.
@@ -88,19 +64,7 @@ const ROLLS_BETWEEN: &[Step<'static>] = &[
 
 #[test]
 fn rolls_are_not_seen(rt: HostRuntime) -> Result<(), Fail> {
-    let play = Play {
-        sessions: 1,
-        workers: 0,
-        history: 2,
-        first_line_timeout: LONG,
-        idle_timeout: 0,
-        connections: 1,
-        secret: "",
-        steps: ROLLS_BETWEEN,
-        errors: "",
-        counts: Some((12, 2)),
-    };
-    compare(&rt, rt.alloc(), &play)
+    compare(&rt, rt.alloc(), &one_session(2, ROLLS_BETWEEN, Some((12, 2))))
 }
 
 // A worker makes more looks than it makes before its receipts go to the store. What it has done is there for the next connection.
@@ -117,16 +81,8 @@ const WORKERS_GO_ON: &[Step<'static>] = &[
 #[test]
 fn workers_go_on(rt: HostRuntime) -> Result<(), Fail> {
     let play = Play {
-        sessions: 1,
         workers: 1,
-        history: 3,
-        first_line_timeout: LONG,
-        idle_timeout: 0,
-        connections: 2,
-        secret: "",
-        steps: WORKERS_GO_ON,
-        errors: "",
-        counts: None,
+        ..one_session(3, WORKERS_GO_ON, None)
     };
     compare(&rt, rt.alloc(), &play)
 }
@@ -146,19 +102,7 @@ const TAKEN: &[Step<'static>] = &[
 
 #[test]
 fn a_seat_is_taken(rt: HostRuntime) -> Result<(), Fail> {
-    let play = Play {
-        sessions: 1,
-        workers: 0,
-        history: 20,
-        first_line_timeout: LONG,
-        idle_timeout: 0,
-        connections: 3,
-        secret: "",
-        steps: TAKEN,
-        errors: "",
-        counts: Some((3, 3)),
-    };
-    compare(&rt, rt.alloc(), &play)
+    compare(&rt, rt.alloc(), &one_session(20, TAKEN, Some((3, 3))))
 }
 
 const DELIVERED: &str = "{\"delivered\":\"accepted\"}\n";
@@ -225,19 +169,7 @@ const GIVEN_BACK: &[Step<'static>] = &[
 
 #[test]
 fn keys_are_given_back(rt: HostRuntime) -> Result<(), Fail> {
-    let play = Play {
-        sessions: 1,
-        workers: 0,
-        history: 100,
-        first_line_timeout: LONG,
-        idle_timeout: 0,
-        connections: 6,
-        secret: "",
-        steps: GIVEN_BACK,
-        errors: "",
-        counts: Some((36, 36)),
-    };
-    compare(&rt, rt.alloc(), &play)
+    compare(&rt, rt.alloc(), &one_session(100, GIVEN_BACK, Some((36, 36))))
 }
 
 // The first takes a key, which a commit makes anew, and which the second takes then. It stays out when the first goes, and is given back when the
@@ -261,15 +193,7 @@ const STAYS_OUT: &[Step<'static>] = &[
 fn a_key_that_somebody_else_took_stays_out(rt: HostRuntime) -> Result<(), Fail> {
     let play = Play {
         sessions: 2,
-        workers: 0,
-        history: 100,
-        first_line_timeout: LONG,
-        idle_timeout: 0,
-        connections: 3,
-        secret: "",
-        steps: STAYS_OUT,
-        errors: "",
-        counts: Some((8, 8)),
+        ..one_session(100, STAYS_OUT, Some((8, 8)))
     };
     compare(&rt, rt.alloc(), &play)
 }

@@ -1,6 +1,6 @@
 //! Peers that are silent. A wait that ends may have been some milliseconds shorter than was asked for.
 use crate::lines::{ASK_FAULTS, FIRST, NO_JOB, TAKE};
-use crate::play::{LONG, Play, compare};
+use crate::play::{Play, compare, one_session};
 use crate::steps::Step;
 use std::test::Fail;
 
@@ -20,16 +20,9 @@ const FALLS_SILENT: &[Step<'static>] = &[
 #[test]
 fn a_silent_session_is_ended(rt: HostRuntime) -> Result<(), Fail> {
     let play = Play {
-        sessions: 1,
-        workers: 0,
-        history: 20,
-        first_line_timeout: LONG,
         idle_timeout: 100,
-        connections: 2,
-        secret: "",
-        steps: FALLS_SILENT,
         errors: "session 1: idle\nsession 1: idle\n",
-        counts: Some((2, 2)),
+        ..one_session(20, FALLS_SILENT, Some((2, 2)))
     };
     compare(&rt, rt.alloc(), &play)
 }
@@ -59,16 +52,9 @@ const TAKES_NO_REPLY: &[Step<'static>] = &[
 #[test]
 fn a_session_that_takes_no_reply_is_ended(rt: HostRuntime) -> Result<(), Fail> {
     let play = Play {
-        sessions: 1,
-        workers: 0,
-        history: 20,
-        first_line_timeout: LONG,
         idle_timeout: 500,
-        connections: 2,
-        secret: "",
-        steps: TAKES_NO_REPLY,
         errors: "session 1: write failed\n",
-        counts: None,
+        ..one_session(20, TAKES_NO_REPLY, None)
     };
     compare(&rt, rt.alloc(), &play)
 }
@@ -86,16 +72,8 @@ const SAYS_NOTHING: &[Step<'static>] = &[
 #[test]
 fn a_first_line_is_not_waited_for_long(rt: HostRuntime) -> Result<(), Fail> {
     let play = Play {
-        sessions: 1,
-        workers: 0,
-        history: 20,
         first_line_timeout: 200,
-        idle_timeout: 0,
-        connections: 2,
-        secret: "",
-        steps: SAYS_NOTHING,
-        errors: "",
-        counts: Some((0, 0)),
+        ..one_session(20, SAYS_NOTHING, Some((0, 0)))
     };
     compare(&rt, rt.alloc(), &play)
 }
@@ -119,15 +97,7 @@ const CROWD: &[Step<'static>] = &[
 fn admission_threads_are_few(rt: HostRuntime) -> Result<(), Fail> {
     let play = Play {
         sessions: 3,
-        workers: 0,
-        history: 20,
-        first_line_timeout: LONG,
-        idle_timeout: 0,
-        connections: 34,
-        secret: "",
-        steps: CROWD,
-        errors: "",
-        counts: Some((4, 4)),
+        ..one_session(20, CROWD, Some((4, 4)))
     };
     compare(&rt, rt.alloc(), &play)
 }
