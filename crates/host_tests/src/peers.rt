@@ -38,22 +38,33 @@ pub(crate) fn say(stream: &TcpStream, text: &str) -> io::Result<()> {
     stream.write_all(text.as_bytes())
 }
 
-// Sends a line, and reads one.
-fn ask(alloc: Global, stream: &TcpStream, line: &str) -> io::Result<String> {
-    say(stream, line)?;
+// Reads one line, or all that comes. If the other side closes before all is read, that is the end too.
+fn read(alloc: Global, stream: &TcpStream, is_line: bool) -> io::Result<String> {
     let mut stream = stream;
     let mut told = String::new(alloc);
     let mut byte = [0u8; 1];
     for _ in 0..1_000u32 {
-        if stream.read(&mut byte)? == 0 {
-            break;
+        match stream.read(&mut byte) {
+            Ok(0) => break,
+            Ok(_) => told.push(char::from(byte[0]))?,
+            Err(error) => {
+                if !is_line && error.kind() == ErrorKind::ConnectionReset {
+                    break;
+                }
+                return Err(error);
+            }
         }
-        told.push(char::from(byte[0]))?;
-        if byte[0] == b'\n' {
+        if is_line && byte[0] == b'\n' {
             break;
         }
     }
     Ok(told)
+}
+
+// Sends a line, and reads one.
+fn ask(alloc: Global, stream: &TcpStream, line: &str) -> io::Result<String> {
+    say(stream, line)?;
+    read(alloc, stream, true)
 }
 
 /// Sends the line so often. It gives the last reply, or the first that is not the wanted one.
@@ -74,18 +85,13 @@ pub(crate) fn repeat(
     Ok(told)
 }
 
-// A commit of the unit U with this number.
-fn commit_unit(alloc: Global, number: u32) -> io::Result<String> {
-    let line = format!(in alloc;
-        "{{\"op\":\"commit\",\"changes\":[{{\"put\":\"U{number}\",\"base\":0,\"text\":\"FUNCTION_BLOCK U{number} END_FUNCTION_BLOCK\"}}]}}\n"
-    )?;
-    Ok(line)
-}
-
 // Commits so many units, U0, U1 and so on, one after another.
 fn commit_units(alloc: Global, stream: &TcpStream, count: u32) -> io::Result<()> {
     for number in 0..count {
-        ask(alloc, stream, commit_unit(alloc, number)?.as_str())?;
+        let line = format!(in alloc;
+            "{{\"op\":\"commit\",\"changes\":[{{\"put\":\"U{number}\",\"base\":0,\"text\":\"FUNCTION_BLOCK U{number} END_FUNCTION_BLOCK\"}}]}}\n"
+        )?;
+        ask(alloc, stream, line.as_str())?;
     }
     Ok(())
 }
@@ -118,8 +124,7 @@ pub(crate) fn drip(alloc: Global, stream: &TcpStream) -> io::Result<String> {
             return rest(alloc, stream);
         }
     }
-    let open = String::from_str(alloc, "open")?;
-    Ok(open)
+    Ok(String::from_str(alloc, "open")?)
 }
 
 // Whether nothing comes, and no end, for some time.
@@ -148,8 +153,7 @@ pub(crate) fn flood<R: Clock>(
         }
         thread::sleep(rt, Duration::from_micros(BETWEEN_LINES));
     }
-    let told = String::from_str(alloc, if is_open { "open" } else { "" })?;
-    Ok(told)
+    Ok(String::from_str(alloc, if is_open { "open" } else { "" })?)
 }
 
 // Whether a stream takes the text, or is only full.
@@ -166,22 +170,7 @@ pub(crate) fn leave(alloc: Global, stream: &TcpStream) -> io::Result<String> {
     rest(alloc, stream)
 }
 
-/// Reads all that it gets. If the other side closes before it has read all, that is the end too.
+/// Reads all that it gets.
 pub(crate) fn rest(alloc: Global, stream: &TcpStream) -> io::Result<String> {
-    let mut stream = stream;
-    let mut told = String::new(alloc);
-    let mut byte = [0u8; 1];
-    for _ in 0..1_000u32 {
-        match stream.read(&mut byte) {
-            Ok(0) => break,
-            Ok(_) => told.push(char::from(byte[0]))?,
-            Err(error) => {
-                if error.kind() == ErrorKind::ConnectionReset {
-                    break;
-                }
-                return Err(error);
-            }
-        }
-    }
-    Ok(told)
+    read(alloc, stream, false)
 }

@@ -7,35 +7,9 @@ use fb_wire::bench::Limits;
 use fb_wire::{IntoWrite, MemoryFeed, RunEnd};
 use refusing::{Refusals, refuse, report, was_refused};
 use std::alloc::Global;
+use std::io::Print;
 use std::sync::Wait;
 use std::test::Fail;
-
-// The calls of these lines are more than the history holds.
-const REQUESTS: &str =
-    r#"{"op":"commit","changes":[{"put":"A","base":0,"text":"FUNCTION_BLOCK A END_FUNCTION_BLOCK"}]}
-{"op":"work","turns":9}
-{"op":"ask","kind":"faults","unit":"A"}
-"#;
-
-const REPLIES: &str = "{\"commit\":1}\n{\"accepted\":1}\n{\"faults\":[]}\n";
-
-const LAST: &str = "{\"faults\":[]}\n";
-
-const COMMIT: &str =
-    r#"{"op":"commit","changes":[{"put":"A","base":0,"text":"FUNCTION_BLOCK A END_FUNCTION_BLOCK"},{"put":"B","base":0,"text":"FUNCTION_BLOCK B END_FUNCTION_BLOCK"},{"put":"C","base":0,"text":"FUNCTION_BLOCK C END_FUNCTION_BLOCK"},{"put":"D","base":0,"text":"FUNCTION_BLOCK D END_FUNCTION_BLOCK"},{"put":"E","base":0,"text":"FUNCTION_BLOCK E END_FUNCTION_BLOCK"},{"put":"F","base":0,"text":"FUNCTION_BLOCK F END_FUNCTION_BLOCK"}]}
-"#;
-
-// More keys than a session has room for from its start.
-const TAKES: &str =
-    "{\"op\":\"take\"}\n{\"op\":\"take\"}\n{\"op\":\"take\"}\n{\"op\":\"take\"}\n{\"op\":\"take\"}\n{\"op\":\"take\"}\n";
-
-const JOBS: &str = r#"{"job":1,"kind":"faults","unit":"A"}
-{"job":2,"kind":"faults","unit":"B"}
-{"job":3,"kind":"faults","unit":"C"}
-{"job":4,"kind":"faults","unit":"D"}
-{"job":5,"kind":"faults","unit":"E"}
-{"job":6,"kind":"faults","unit":"F"}
-"#;
 
 const UNITS: u64 = 8;
 
@@ -49,6 +23,34 @@ struct Talk {
     replies: &'static str,
     last: &'static str,
 }
+
+// The calls of these lines are more than the history holds.
+const LINES: Talk = Talk {
+    before: "",
+    requests: r#"{"op":"commit","changes":[{"put":"A","base":0,"text":"FUNCTION_BLOCK A END_FUNCTION_BLOCK"}]}
+{"op":"work","turns":9}
+{"op":"ask","kind":"faults","unit":"A"}
+"#,
+    replies: "{\"commit\":1}\n{\"accepted\":1}\n{\"faults\":[]}\n",
+    last: "{\"faults\":[]}\n",
+};
+
+const JOBS: &str = r#"{"job":1,"kind":"faults","unit":"A"}
+{"job":2,"kind":"faults","unit":"B"}
+{"job":3,"kind":"faults","unit":"C"}
+{"job":4,"kind":"faults","unit":"D"}
+{"job":5,"kind":"faults","unit":"E"}
+{"job":6,"kind":"faults","unit":"F"}
+"#;
+
+// More keys than a session has room for from its start.
+const TAKES: Talk = Talk {
+    before: r#"{"op":"commit","changes":[{"put":"A","base":0,"text":"FUNCTION_BLOCK A END_FUNCTION_BLOCK"},{"put":"B","base":0,"text":"FUNCTION_BLOCK B END_FUNCTION_BLOCK"},{"put":"C","base":0,"text":"FUNCTION_BLOCK C END_FUNCTION_BLOCK"},{"put":"D","base":0,"text":"FUNCTION_BLOCK D END_FUNCTION_BLOCK"},{"put":"E","base":0,"text":"FUNCTION_BLOCK E END_FUNCTION_BLOCK"},{"put":"F","base":0,"text":"FUNCTION_BLOCK F END_FUNCTION_BLOCK"}]}
+"#,
+    requests: "{\"op\":\"take\"}\n{\"op\":\"take\"}\n{\"op\":\"take\"}\n{\"op\":\"take\"}\n{\"op\":\"take\"}\n{\"op\":\"take\"}\n",
+    replies: JOBS,
+    last: JOBS,
+};
 
 /// How a session ended, what it replied, and whether an allocation was refused.
 #[derive(Drop)]
@@ -135,15 +137,17 @@ fn tried<R: Wait>(rt: &R, alloc: Global, talk: Talk, number: u32) -> Result<Sess
     Ok(first)
 }
 
-fn each_refused<R: Wait>(rt: &R, alloc: Global, talk: Talk) -> Result<Refusals, Fail> {
+// Refuses each allocation of a session in turn, and prints what was found.
+fn try_session<R: Wait + Print>(rt: &R, alloc: Global, talk: Talk, about: &str) -> Result<(), Fail> {
     let mut memory = 0u32;
     for number in 1..100_000u32 {
         let session = tried(rt, alloc, talk, number)?;
         if !session.is_refused {
-            return Ok(Refusals {
+            let found = Refusals {
                 allocations: number - 1,
                 memory,
-            });
+            };
+            return Ok(report(rt, "run_host_session", about, found)?);
         }
         memory = memory.saturating_add(u32::from(session.end == RunEnd::Memory));
     }
@@ -152,26 +156,10 @@ fn each_refused<R: Wait>(rt: &R, alloc: Global, talk: Talk) -> Result<Refusals, 
 
 #[test]
 fn each_allocation_of_a_session(rt: HostRuntime) -> Result<(), Fail> {
-    let talk = Talk {
-        before: "",
-        requests: REQUESTS,
-        replies: REPLIES,
-        last: LAST,
-    };
-    let found = each_refused(&rt, rt.alloc(), talk)?;
-    report(&rt, "run_host_session", " of three lines", found)?;
-    Ok(())
+    try_session(&rt, rt.alloc(), LINES, " of three lines")
 }
 
 #[test]
 fn each_allocation_of_a_session_that_takes_keys(rt: HostRuntime) -> Result<(), Fail> {
-    let talk = Talk {
-        before: COMMIT,
-        requests: TAKES,
-        replies: JOBS,
-        last: JOBS,
-    };
-    let found = each_refused(&rt, rt.alloc(), talk)?;
-    report(&rt, "run_host_session", " that takes six keys", found)?;
-    Ok(())
+    try_session(&rt, rt.alloc(), TAKES, " that takes six keys")
 }

@@ -46,12 +46,7 @@ impl<'a> Step<'a> {
             | Step::Rest(_, told)
             | Step::Errors(told) => *told,
             Step::CommitAll(_, _) => KNOWN,
-            Step::Connect(_)
-            | Step::Say(_, _)
-            | Step::Drip(_)
-            | Step::Flood(_, _)
-            | Step::LeaveAll(_, _)
-            | Step::Passed(_) => "",
+            _ => "",
         }
     }
 }
@@ -170,16 +165,12 @@ pub(crate) fn first_wrong<R: Net<Listener = TcpListener, Stream = TcpStream> + W
     let mut streams = Vec::new(alloc);
     for place in 0..steps.len() {
         let step = &steps[place];
-        match told(rt, alloc, &scene, &mut streams, step) {
-            Ok(told) => {
-                if told.as_str() != step.wanted() {
-                    return Ok(Some(Wrong { place, told }));
-                }
-            }
-            Err(error) => {
-                let told = format!(in alloc; "{error:?}")?;
-                return Ok(Some(Wrong { place, told }));
-            }
+        let told = match told(rt, alloc, &scene, &mut streams, step) {
+            Ok(told) => told,
+            Err(error) => format!(in alloc; "{error:?}")?,
+        };
+        if told.as_str() != step.wanted() {
+            return Ok(Some(Wrong { place, told }));
         }
     }
     Ok(None)
