@@ -84,19 +84,6 @@ pub(crate) fn job_taking(
     Ok(Some(job_with(alloc, library, key, hint)?))
 }
 
-// Such a job and its result in words.
-fn taking_told(
-    alloc: Global,
-    library: &Library,
-    unit: &str,
-    taken: &str,
-) -> Result<(String, String), Fail> {
-    match job_taking(alloc, library, unit, taken)? {
-        Some(job) => Ok((job_told(alloc, &job)?, run_told(alloc, &job)?)),
-        None => Ok((String::new(alloc), String::from_str(alloc, "not taken")?)),
-    }
-}
-
 /// A unit, one whose net is passed, and the job and its result.
 type Row = (&'static str, &'static str, &'static str, &'static str);
 
@@ -134,26 +121,21 @@ const TAKEN: &[Row] = &[
 
 fn compare(rt: &impl Abort, alloc: Global, library: &Library, row: &Row) -> Result<(), Fail> {
     let (unit, taken, job, finished) = *row;
-    let (job_told, run_told) = taking_told(alloc, library, unit, taken)?;
+    let Some(made) = job_taking(alloc, library, unit, taken)? else {
+        assert_eq!(rt; ("", "not taken"), (job, finished), "{unit} {taken}");
+        return Ok(());
+    };
+    let (job_told, run_told) = (job_told(alloc, &made)?, run_told(alloc, &made)?);
     let told = (job_told.as_str(), run_told.as_str());
     assert_eq!(rt; told, (job, finished), "{unit} {taken}");
-    Ok(())
-}
-
-fn compare_all(
-    rt: &impl Abort,
-    alloc: Global,
-    library: &Library,
-    rows: &[Row],
-) -> Result<(), Fail> {
-    for row in rows {
-        compare(rt, alloc, library, row)?;
-    }
     Ok(())
 }
 
 #[test]
 fn jobs_take_chosen_nets_along(rt: HostRuntime) -> Result<(), Fail> {
     let library = library_of(rt.alloc(), NESTED)?;
-    compare_all(&rt, rt.alloc(), &library, TAKEN)
+    for row in TAKEN {
+        compare(&rt, rt.alloc(), &library, row)?;
+    }
+    Ok(())
 }

@@ -21,7 +21,6 @@ use fb_network::Link;
 use fb_text::{Name, same_name};
 use fb_tree::{Mentions, Section, Side};
 use std::alloc::{AllocError, Global};
-use std::process::Abort;
 use std::test::Fail;
 
 const PLANT: &[&str] = &[
@@ -66,11 +65,8 @@ fn interface_told(alloc: Global, library: &Library) -> Result<String, Fail> {
     let mut told = String::new(alloc);
     say_events(&mut told, &ports)?;
     say_data(&mut told, &ports)?;
-    write!(
-        told,
-        "{} plugs, sockets and instances",
-        ports.instances().len()
-    )?;
+    let others = ports.instances().len();
+    write!(told, "{others} plugs, sockets and instances")?;
     Ok(told)
 }
 
@@ -85,32 +81,25 @@ fn faults_told(alloc: Global, library: &Library) -> Result<String, Fail> {
     Ok(format!(in alloc; "{declared} {expressions} {charts} {networks}, {all}")?)
 }
 
-fn own_net_told(alloc: Global, library: &Library) -> Result<String, Fail> {
+// The net of the system, or the same by the call that takes kept nets, without any.
+fn system_net_told(alloc: Global, library: &Library, is_hinted: bool) -> Result<String, Fail> {
     let system = Name::read("Y")?;
     if !has_net(library, &system) {
         return Err(Fail::from("no net"));
     }
-    Ok(net_told(alloc, &net(alloc, library, system)?)?)
-}
-
-// The same by the call that takes kept nets, without any.
-fn hinted_net_told(alloc: Global, library: &Library) -> Result<String, Fail> {
-    let system = Name::read("Y")?;
-    if !has_net(library, &system) {
-        return Err(Fail::from("no net"));
-    }
-    Ok(net_told(alloc, &net_with(alloc, library, system, &NoHints)?)?)
+    let net = if is_hinted {
+        net_with(alloc, library, system, &NoHints)?
+    } else {
+        net(alloc, library, system)?
+    };
+    Ok(net_told(alloc, &net)?)
 }
 
 fn homes_told(alloc: Global, homes: &[Home], cuts: &[Link]) -> Result<String, AllocError> {
     let mut told = String::new(alloc);
     for home in homes {
-        write!(
-            told,
-            "{} ON {}; ",
-            home.path.as_str(),
-            home.resource.as_str()
-        )?;
+        let (path, resource) = (home.path.as_str(), home.resource.as_str());
+        write!(told, "{path} ON {resource}; ")?;
     }
     write!(told, "cut")?;
     say_links(&mut told, cuts)?;
@@ -128,7 +117,8 @@ fn placement_told(alloc: Global, library: &Library) -> Result<String, Fail> {
     }
 }
 
-fn say_resources(told: &mut String, resources: &[ResourcePlan]) -> Result<(), AllocError> {
+fn resources_told(alloc: Global, resources: &[ResourcePlan]) -> Result<String, AllocError> {
+    let mut told = String::new(alloc);
     for resource in resources {
         write!(told, "{}", resource.name().as_str())?;
         for command in resource.commands() {
@@ -136,7 +126,7 @@ fn say_resources(told: &mut String, resources: &[ResourcePlan]) -> Result<(), Al
         }
         told.push_str("; ")?;
     }
-    Ok(())
+    Ok(told)
 }
 
 fn plan_told(alloc: Global, library: &Library) -> Result<String, Fail> {
@@ -145,11 +135,7 @@ fn plan_told(alloc: Global, library: &Library) -> Result<String, Fail> {
         return Err(Fail::from("no system"));
     }
     match plan(alloc, library, system)? {
-        Deploy::Plan(plan) => {
-            let mut told = String::new(alloc);
-            say_resources(&mut told, &plan.plain_resources(alloc)?)?;
-            Ok(told)
-        }
+        Deploy::Plan(plan) => Ok(resources_told(alloc, &plan.plain_resources(alloc)?)?),
         Deploy::Stopped(_) | Deploy::Faulty(_) => Err(Fail::from("no plan")),
     }
 }
@@ -264,8 +250,8 @@ fn part_told(alloc: Global, library: &Library, part: Part) -> Result<String, Fai
     match part {
         Part::Interface => interface_told(alloc, library),
         Part::Faults => faults_told(alloc, library),
-        Part::Net => own_net_told(alloc, library),
-        Part::HintedNet => hinted_net_told(alloc, library),
+        Part::Net => system_net_told(alloc, library, false),
+        Part::HintedNet => system_net_told(alloc, library, true),
         Part::Placement => placement_told(alloc, library),
         Part::Plan => plan_told(alloc, library),
         Part::Users => users_told(alloc, library),
@@ -296,21 +282,12 @@ const WANTED: &[(Part, &str)] = &[
     (Part::Reads, "reads SA TN Y, has read SA TN Y"),
 ];
 
-fn compare(
-    rt: &impl Abort,
-    alloc: Global,
-    library: &Library,
-    wanted: &[(Part, &str)],
-) -> Result<(), Fail> {
-    for (part, told) in wanted {
-        let found = part_told(alloc, library, *part)?;
-        assert_eq!(rt; found.as_str(), *told, "{part:?}");
-    }
-    Ok(())
-}
-
 #[test]
 fn a_plant_through_all_crates(rt: HostRuntime) -> Result<(), Fail> {
     let library = plant_of(rt.alloc(), PLANT)?;
-    compare(&rt, rt.alloc(), &library, WANTED)
+    for (part, told) in WANTED {
+        let found = part_told(rt.alloc(), &library, *part)?;
+        assert_eq!(rt; found.as_str(), *told, "{part:?}");
+    }
+    Ok(())
 }

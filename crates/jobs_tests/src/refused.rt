@@ -9,39 +9,27 @@ use std::alloc::Global;
 use std::io::Print;
 use std::test::Fail;
 
-/// A key of a library.
-#[derive(Clone, Copy)]
-struct Wanted<'a> {
-    library: &'a Library,
-    key: Key,
-}
-
-/// A job that is made for such a key.
+/// A job that is made for a key of a library.
 #[derive(Drop)]
 struct Made<'a> {
-    wanted: &'a Wanted<'a>,
+    setting: (&'a Library, Key),
     job: Option<Job>,
 }
 
 impl<'a> Trial for Made<'a> {
-    type Setting = &'a Wanted<'a>;
+    type Setting = (&'a Library, Key);
 
-    fn new(_alloc: Global, wanted: &'a Wanted<'a>) -> Result<Made<'a>, Fail> {
-        Ok(Made { wanted, job: None })
+    fn new(_alloc: Global, setting: (&'a Library, Key)) -> Result<Made<'a>, Fail> {
+        Ok(Made { setting, job: None })
     }
 
     fn call(&mut self, alloc: Global) -> bool {
-        let wanted = self.wanted;
-        if !has_key(wanted.library, wanted.key) {
+        let (library, key) = self.setting;
+        if !has_key(library, key) {
             return true;
         }
-        match make(alloc, wanted.library, wanted.key) {
-            Ok(job) => {
-                self.job = Some(job);
-                true
-            }
-            Err(_) => false,
-        }
+        self.job = make(alloc, library, key).ok();
+        self.job.is_some()
     }
 
     fn told(&self, alloc: Global) -> Result<String, Fail> {
@@ -70,13 +58,8 @@ impl<'a> Trial for Run<'a> {
     }
 
     fn call(&mut self, alloc: Global) -> bool {
-        match self.job.run(alloc) {
-            Ok(finished) => {
-                self.finished = Some(finished);
-                true
-            }
-            Err(_) => false,
-        }
+        self.finished = self.job.run(alloc).ok();
+        self.finished.is_some()
     }
 
     fn told(&self, alloc: Global) -> Result<String, Fail> {
@@ -85,34 +68,6 @@ impl<'a> Trial for Run<'a> {
             None => Ok(String::new(alloc)),
         }
     }
-}
-
-fn try_making(
-    rt: &impl Print,
-    alloc: Global,
-    library: &Library,
-    key: Key,
-    about: &str,
-) -> Result<(), Fail> {
-    let wanted = Wanted { library, key };
-    try_call::<Made<'_>>(rt, alloc, "Job::make", about, &wanted)
-}
-
-fn try_running(
-    rt: &impl Print,
-    alloc: Global,
-    library: &Library,
-    key: Key,
-    about: &str,
-) -> Result<(), Fail> {
-    let job = job_for(alloc, library, key)?;
-    try_call::<Run<'_>>(rt, alloc, "Job::run", about, &job)
-}
-
-// Runs a job for the net of T that takes that of M along.
-fn try_taking(rt: &impl Print, alloc: Global, library: &Library) -> Result<(), Fail> {
-    let job = job_taking(alloc, library, "T", "M")?.ok_or("not taken")?;
-    try_call::<Run<'_>>(rt, alloc, "Job::run", " for a net with a kept one", &job)
 }
 
 /// A key, and what its job is for.
@@ -124,16 +79,25 @@ const KEYS: &[Row] = &[
     (Kind::Deploy, "Z", " for a plan"),
 ];
 
-fn try_all(rt: &impl Print, alloc: Global, library: &Library, keys: &[Row]) -> Result<(), Fail> {
-    for (kind, unit, about) in keys {
-        try_making(rt, alloc, library, key_of(*kind, unit)?, about)?;
-        try_running(rt, alloc, library, key_of(*kind, unit)?, about)?;
-    }
-    try_taking(rt, alloc, library)
+fn try_row(rt: &impl Print, alloc: Global, library: &Library, row: &Row) -> Result<(), Fail> {
+    let (kind, unit, about) = *row;
+    let key = key_of(kind, unit)?;
+    let job = job_for(alloc, library, key)?;
+    try_call::<Made<'_>>(rt, alloc, "Job::make", about, (library, key))?;
+    try_call::<Run<'_>>(rt, alloc, "Job::run", about, &job)
+}
+
+// Runs a job for the net of T that takes that of M along.
+fn try_taking(rt: &impl Print, alloc: Global, library: &Library) -> Result<(), Fail> {
+    let job = job_taking(alloc, library, "T", "M")?.ok_or("not taken")?;
+    try_call::<Run<'_>>(rt, alloc, "Job::run", " for a net with a kept one", &job)
 }
 
 #[test]
 fn jobs_are_made_and_run(rt: HostRuntime) -> Result<(), Fail> {
     let library = library_of(rt.alloc(), NESTED)?;
-    try_all(&rt, rt.alloc(), &library, KEYS)
+    for row in KEYS {
+        try_row(&rt, rt.alloc(), &library, row)?;
+    }
+    try_taking(&rt, rt.alloc(), &library)
 }

@@ -8,16 +8,11 @@ use std::test::Fail;
 
 // Whether this name was read at the place with a text of this revision, or with none for 0.
 fn is_kept(texts: &TextReads, place: usize, name: &str, revision: u64) -> bool {
-    match texts.get(place) {
-        Some(read) => {
-            let kept = match read.version {
-                Some(version) => version.revision,
-                None => 0,
-            };
-            read.name.as_str() == name && kept == revision
-        }
-        None => false,
-    }
+    let Some(read) = texts.get(place) else {
+        return false;
+    };
+    let kept = read.version.map_or(0, |version| version.revision);
+    read.name.as_str() == name && kept == revision
 }
 
 // Whether these are kept, and nothing behind them.
@@ -61,18 +56,6 @@ fn compare(rt: &impl Abort, alloc: Global, library: &Library, row: &Row) -> Resu
     Ok(())
 }
 
-fn compare_all(
-    rt: &impl Abort,
-    alloc: Global,
-    library: &Library,
-    rows: &[Row],
-) -> Result<(), Fail> {
-    for row in rows {
-        compare(rt, alloc, library, row)?;
-    }
-    Ok(())
-}
-
 // The library in which S has come again.
 fn edited_once(alloc: Global) -> Result<Library, Fail> {
     let again = puts(alloc, 1, &NESTED[1..2])?;
@@ -83,5 +66,8 @@ fn edited_once(alloc: Global) -> Result<Library, Fail> {
 #[test]
 fn reads_are_kept_with_their_revisions(rt: HostRuntime) -> Result<(), Fail> {
     let library = edited_once(rt.alloc())?;
-    compare_all(&rt, rt.alloc(), &library, KEPT)
+    for row in KEPT {
+        compare(&rt, rt.alloc(), &library, row)?;
+    }
+    Ok(())
 }
