@@ -162,38 +162,20 @@ fn refuse_same(a: &Name, b: &Name) -> Result<(), Fail>
 
 // What the text of a unit mentions.
 fn mentions_of<'a>(library: &'a Library, unit: &Name) -> Result<&'a Mentions, Fail> {
-    let source = View::get(library, unit).ok_or("absent")?;
-    Ok(source.mentions())
+    Ok(View::get(library, unit).ok_or("absent")?.mentions())
 }
 
-// Indexes three units of a library by what they mention.
-fn fill(
-    index: &mut Index,
-    alloc: Global,
-    library: &Library,
-    first: Name,
-    second: Name,
-    third: Name,
-) -> Result<(), Fail>
-    requires { index.old ≡ nothing_indexed }
-{
-    refuse_same(&first, &second)?;
-    refuse_same(&first, &third)?;
-    refuse_same(&second, &third)?;
-    let none = nothing(alloc);
-    let mentions = mentions_of(library, &first)?;
-    index.replace(alloc, first, &none, mentions)?;
-    let mentions = mentions_of(library, &second)?;
-    index.replace(alloc, second, &none, mentions)?;
-    let mentions = mentions_of(library, &third)?;
-    index.replace(alloc, third, &none, mentions)?;
-    Ok(())
-}
-
+// The three units, indexed by what they mention.
 fn index_of(alloc: Global, library: &Library) -> Result<Index, Fail> {
     let [system, subapplication, block] = [Name::read("Y")?, Name::read("SA")?, Name::read("TN")?];
+    refuse_same(&system, &subapplication)?;
+    refuse_same(&system, &block)?;
+    refuse_same(&subapplication, &block)?;
+    let none = nothing(alloc);
     let mut index = Index::new(alloc);
-    fill(&mut index, alloc, library, system, subapplication, block)?;
+    index.replace(alloc, system, &none, mentions_of(library, &system)?)?;
+    index.replace(alloc, subapplication, &none, mentions_of(library, &subapplication)?)?;
+    index.replace(alloc, block, &none, mentions_of(library, &block)?)?;
     Ok(index)
 }
 
