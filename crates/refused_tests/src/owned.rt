@@ -1,5 +1,5 @@
 //! The calls with two seats, with the lock and without, of which each allocation is refused in turn.
-use crate::nest::{Given, Which, given_for};
+use crate::nest::{CALLS, Given, Which, given_for};
 use crate::owners::{Outcome, Owner, both_of, outcome_with, owner_for};
 use fb_shared::{Locked, Seat, Shared, SharedRefused};
 use refusing::{Trial, try_call};
@@ -11,9 +11,7 @@ use std::test::Fail;
 /// A call, the workbench that it is made on, the seats, and its result.
 #[derive(Drop)]
 struct Called<'a, R: Wait, T: Owner> {
-    rt: &'a R,
-    which: Which,
-    given: &'a Given,
+    setting: (&'a R, Which, &'a Given),
     owner: T,
     first: Seat,
     second: Seat,
@@ -24,13 +22,10 @@ impl<'a, R: Wait, T: Owner> Trial for Called<'a, R, T> {
     type Setting = (&'a R, Which, &'a Given);
 
     fn new(alloc: Global, setting: (&'a R, Which, &'a Given)) -> Result<Called<'a, R, T>, Fail> {
-        let (rt, which, given) = setting;
-        let (owner, seats) = owner_for::<T>(alloc, which)?;
+        let (owner, seats) = owner_for::<T>(alloc, setting.1)?;
         let (first, second) = both_of(seats).ok_or("no two seats")?;
         Ok(Called {
-            rt,
-            which,
-            given,
+            setting,
             owner,
             first,
             second,
@@ -39,13 +34,8 @@ impl<'a, R: Wait, T: Owner> Trial for Called<'a, R, T> {
     }
 
     fn call(&mut self, _alloc: Global) -> bool {
-        let outcome = outcome_with(
-            self.rt,
-            &mut self.owner,
-            self.which,
-            &mut self.first,
-            self.given,
-        );
+        let (rt, which, given) = self.setting;
+        let outcome = outcome_with(rt, &mut self.owner, which, &mut self.first, given);
         if outcome == Err(SharedRefused::Memory) {
             return false;
         }
@@ -61,54 +51,21 @@ impl<'a, R: Wait, T: Owner> Trial for Called<'a, R, T> {
     }
 }
 
-fn try_locked<R: Wait + Print>(rt: &R, alloc: Global, given: &Given) -> Result<(), Fail> {
-    try_call::<Called<'_, R, Locked>>(rt, alloc, "Locked::commit", "", (rt, Which::Commit, given))?;
-    try_call::<Called<'_, R, Locked>>(rt, alloc, "Locked::take", "", (rt, Which::Take, given))?;
-    try_call::<Called<'_, R, Locked>>(
-        rt,
-        alloc,
-        "Locked::deliver",
-        "",
-        (rt, Which::Deliver, given),
-    )?;
-    try_call::<Called<'_, R, Locked>>(
-        rt,
-        alloc,
-        "Locked::give_back",
-        "",
-        (rt, Which::GiveBack, given),
-    )?;
-    try_call::<Called<'_, R, Locked>>(rt, alloc, "Locked::ask", "", (rt, Which::Ask, given))
+// Tries each of the five calls, whose functions are those of this owner.
+fn try_all<R: Wait + Print, T: Owner>(rt: &R, alloc: Global, owner: &str) -> Result<(), Fail> {
+    let given = given_for(alloc)?;
+    for (which, function, _) in CALLS {
+        try_call::<Called<'_, R, T>>(rt, alloc, owner, function, (rt, *which, &given))?;
+    }
+    Ok(())
 }
 
 #[test]
 fn calls_with_no_lock(rt: HostRuntime) -> Result<(), Fail> {
-    let given = given_for(rt.alloc())?;
-    try_locked(&rt, rt.alloc(), &given)
-}
-
-fn try_shared<R: Wait + Print>(rt: &R, alloc: Global, given: &Given) -> Result<(), Fail> {
-    try_call::<Called<'_, R, Shared>>(rt, alloc, "Shared::commit", "", (rt, Which::Commit, given))?;
-    try_call::<Called<'_, R, Shared>>(rt, alloc, "Shared::take", "", (rt, Which::Take, given))?;
-    try_call::<Called<'_, R, Shared>>(
-        rt,
-        alloc,
-        "Shared::deliver",
-        "",
-        (rt, Which::Deliver, given),
-    )?;
-    try_call::<Called<'_, R, Shared>>(
-        rt,
-        alloc,
-        "Shared::give_back",
-        "",
-        (rt, Which::GiveBack, given),
-    )?;
-    try_call::<Called<'_, R, Shared>>(rt, alloc, "Shared::ask", "", (rt, Which::Ask, given))
+    try_all::<_, Locked>(&rt, rt.alloc(), "Locked")
 }
 
 #[test]
 fn calls_under_the_lock(rt: HostRuntime) -> Result<(), Fail> {
-    let given = given_for(rt.alloc())?;
-    try_shared(&rt, rt.alloc(), &given)
+    try_all::<_, Shared>(&rt, rt.alloc(), "Shared")
 }

@@ -137,16 +137,6 @@ pub(crate) fn pair(alloc: Global, first: Seat, second: Seat) -> Option<Vec<Seat>
 /// The result of a call: the number, caller and turn of its receipt and the sort of its reply, or why it was refused.
 pub(crate) type Outcome = Result<(u64, u32, u64, &'static str), SharedRefused>;
 
-fn outcome_of(made: Result<Receipt, SharedRefused>) -> Outcome {
-    match made {
-        Ok(receipt) => {
-            let word = reply_word(receipt.reply());
-            Ok((receipt.number(), receipt.caller(), receipt.turn(), word))
-        }
-        Err(refused) => Err(refused),
-    }
-}
-
 /// Makes one of the five calls.
 pub(crate) fn outcome_with<R: Wait, T: Owner>(
     rt: &R,
@@ -155,19 +145,17 @@ pub(crate) fn outcome_with<R: Wait, T: Owner>(
     seat: &mut Seat,
     given: &Given,
 ) -> Outcome {
-    outcome_of(owner.receipt(rt, which, seat, given))
+    let receipt = owner.receipt(rt, which, seat, given)?;
+    let word = reply_word(receipt.reply());
+    Ok((receipt.number(), receipt.caller(), receipt.turn(), word))
 }
 
 /// A workbench that has its calls, and the seats of its callers.
 pub(crate) fn taken_over<T: Owner>(alloc: Global, bench: Bench) -> Result<(T, Vec<Seat>), Fail> {
-    match T::resumed(alloc, bench) {
-        Ok(made) => Ok(made),
-        Err(_) => Err(Fail::from("not resumed")),
-    }
+    Ok(T::resumed(alloc, bench).ok().ok_or("not resumed")?)
 }
 
 /// A workbench on which such a call can be made, and the seats of its callers.
 pub(crate) fn owner_for<T: Owner>(alloc: Global, which: Which) -> Result<(T, Vec<Seat>), Fail> {
-    let bench = bench_for(alloc, which)?;
-    taken_over::<T>(alloc, bench)
+    taken_over::<T>(alloc, bench_for(alloc, which)?)
 }

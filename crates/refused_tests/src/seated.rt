@@ -1,5 +1,5 @@
 //! The five calls at the desk of a seat, of which each allocation is refused in turn.
-use crate::nest::{CALLS, Call, Given, Which, given_for};
+use crate::nest::{CALLS, Given, Which, given_for};
 use crate::owners::{both_of, owner_for};
 use crate::ways::{Answer, made_at};
 use fb_bench::DeskError;
@@ -13,53 +13,21 @@ use std::test::Fail;
 /// A call, the workbench that it is made on, the seat, which is there between the calls, what it answered, and how many receipts it left.
 #[derive(Drop)]
 struct OfSeated<'a, R: Wait> {
-    rt: &'a R,
-    which: Which,
-    given: &'a Given,
+    setting: (&'a R, Which, &'a Given),
     owner: Shared,
     seat: Option<Seat>,
     answer: Option<Result<Answer, DeskError>>,
     receipts: usize,
 }
 
-// What a call at a desk comes to, the seat, and how many receipts it left.
-type Sat = (Result<Answer, DeskError>, Seat, usize);
-
-fn sit<R: Wait>(
-    rt: &R,
-    alloc: Global,
-    shared: &Shared,
-    seat: Seat,
-    which: Which,
-    given: &Given,
-) -> Sat {
-    let mut desk = Seated {
-        rt,
-        shared,
-        seat,
-        receipts: Vec::new(alloc),
-    };
-    let answer = made_at(which, &mut desk, given);
-    let Seated {
-        rt: _,
-        shared: _,
-        seat,
-        receipts,
-    } = desk;
-    (answer, seat, receipts.len())
-}
-
 impl<'a, R: Wait> Trial for OfSeated<'a, R> {
     type Setting = (&'a R, Which, &'a Given);
 
     fn new(alloc: Global, setting: (&'a R, Which, &'a Given)) -> Result<OfSeated<'a, R>, Fail> {
-        let (rt, which, given) = setting;
-        let (owner, seats) = owner_for::<Shared>(alloc, which)?;
+        let (owner, seats) = owner_for::<Shared>(alloc, setting.1)?;
         let (first, _second) = both_of(seats).ok_or("no two seats")?;
         Ok(OfSeated {
-            rt,
-            which,
-            given,
+            setting,
             owner,
             seat: Some(first),
             answer: None,
@@ -71,16 +39,22 @@ impl<'a, R: Wait> Trial for OfSeated<'a, R> {
         let Some(seat) = self.seat.take() else {
             return true;
         };
-        let (answer, seat, receipts) = sit(
-            self.rt,
-            alloc,
-            &self.owner,
+        let (rt, which, given) = self.setting;
+        let mut desk = Seated {
+            rt,
+            shared: &self.owner,
             seat,
-            self.which,
-            self.given,
-        );
+            receipts: Vec::new(alloc),
+        };
+        let answer = made_at(which, &mut desk, given);
+        let Seated {
+            rt: _,
+            shared: _,
+            seat,
+            receipts,
+        } = desk;
         self.seat = Some(seat);
-        self.receipts = receipts;
+        self.receipts = receipts.len();
         if answer == Err(DeskError::Memory) {
             return false;
         }
@@ -94,14 +68,10 @@ impl<'a, R: Wait> Trial for OfSeated<'a, R> {
     }
 }
 
-fn try_all<R: Wait + Print>(
-    rt: &R,
-    alloc: Global,
-    given: &Given,
-    calls: &[Call],
-) -> Result<(), Fail> {
-    for (which, about) in calls {
-        let setting = (rt, *which, given);
+fn try_all<R: Wait + Print>(rt: &R, alloc: Global) -> Result<(), Fail> {
+    let given = given_for(alloc)?;
+    for (which, _, about) in CALLS {
+        let setting = (rt, *which, &given);
         try_call::<OfSeated<'_, R>>(rt, alloc, "Seated::perform", about, setting)?;
     }
     Ok(())
@@ -109,6 +79,5 @@ fn try_all<R: Wait + Print>(
 
 #[test]
 fn calls_at_a_seat(rt: HostRuntime) -> Result<(), Fail> {
-    let given = given_for(rt.alloc())?;
-    try_all(&rt, rt.alloc(), &given, CALLS)
+    try_all(&rt, rt.alloc())
 }
