@@ -7,13 +7,16 @@ use std::alloc::{AllocError, Global};
 use std::sync::Wait;
 use std::test::Fail;
 
+/// What holds a workbench for two callers, and their seats.
+pub(crate) type Hall<T> = (T, Vec<Seat>);
+
 /// What holds a workbench for two callers.
 pub(crate) trait Owner: Drop {
-    /// An empty workbench, and the seats of its callers.
-    fn empty(alloc: Global, limits: Limits) -> Result<(Self, Vec<Seat>), AllocError>;
+    /// An empty workbench, and the seats of its callers. If it rolls, a full history begins again by itself.
+    fn empty(alloc: Global, limits: Limits, rolls: bool) -> Result<Hall<Self>, AllocError>;
 
     /// A workbench with the calls that it has, and the seats of its callers.
-    fn resumed(alloc: Global, bench: Bench) -> Result<(Self, Vec<Seat>), NotResumed>;
+    fn resumed(alloc: Global, bench: Bench) -> Result<Hall<Self>, NotResumed>;
 
     /// The receipt of one of the five calls.
     fn receipt<R: Wait>(
@@ -37,11 +40,11 @@ pub(crate) trait Owner: Drop {
 }
 
 impl Owner for Locked {
-    fn empty(alloc: Global, limits: Limits) -> Result<(Locked, Vec<Seat>), AllocError> {
+    fn empty(alloc: Global, limits: Limits, _rolls: bool) -> Result<Hall<Locked>, AllocError> {
         Locked::new(alloc, limits, 2)
     }
 
-    fn resumed(alloc: Global, bench: Bench) -> Result<(Locked, Vec<Seat>), NotResumed> {
+    fn resumed(alloc: Global, bench: Bench) -> Result<Hall<Locked>, NotResumed> {
         Locked::resume(alloc, bench, 2)
     }
 
@@ -80,11 +83,15 @@ impl Owner for Locked {
 
 // Nothing can be read of it but its seats.
 impl Owner for Shared {
-    fn empty(alloc: Global, limits: Limits) -> Result<(Shared, Vec<Seat>), AllocError> {
-        Shared::new(alloc, limits, 2)
+    fn empty(alloc: Global, limits: Limits, rolls: bool) -> Result<Hall<Shared>, AllocError> {
+        if rolls {
+            Shared::rolling(alloc, limits, 2)
+        } else {
+            Shared::new(alloc, limits, 2)
+        }
     }
 
-    fn resumed(alloc: Global, bench: Bench) -> Result<(Shared, Vec<Seat>), NotResumed> {
+    fn resumed(alloc: Global, bench: Bench) -> Result<Hall<Shared>, NotResumed> {
         Shared::resume(alloc, bench, 2)
     }
 
@@ -151,11 +158,11 @@ pub(crate) fn outcome_with<R: Wait, T: Owner>(
 }
 
 /// A workbench that has its calls, and the seats of its callers.
-pub(crate) fn taken_over<T: Owner>(alloc: Global, bench: Bench) -> Result<(T, Vec<Seat>), Fail> {
+pub(crate) fn taken_over<T: Owner>(alloc: Global, bench: Bench) -> Result<Hall<T>, Fail> {
     Ok(T::resumed(alloc, bench).ok().ok_or("not resumed")?)
 }
 
 /// A workbench on which such a call can be made, and the seats of its callers.
-pub(crate) fn owner_for<T: Owner>(alloc: Global, which: Which) -> Result<(T, Vec<Seat>), Fail> {
+pub(crate) fn owner_for<T: Owner>(alloc: Global, which: Which) -> Result<Hall<T>, Fail> {
     taken_over::<T>(alloc, bench_for(alloc, which)?)
 }
