@@ -46,7 +46,7 @@ pub(crate) const BEFORE: u64 = 11;
 const JOBS: u32 = 5;
 
 /// Changes that put units, which are at this revision.
-pub(crate) fn puts(alloc: Global, base: u64, rows: &[Row]) -> Result<Vec<Change>, Fail> {
+pub(crate) fn puts(alloc: Global, base: u64, rows: &[(&str, &str)]) -> Result<Vec<Change>, Fail> {
     let mut changes = Vec::new(alloc);
     for (unit, text) in rows {
         let source = Source::read(alloc, Name::read(unit)?, text)?;

@@ -1,6 +1,6 @@
 //! The calls with two seats, with the lock and without, of which each allocation is refused in turn.
 use crate::nest::{CALLS, Given, Which, given_for};
-use crate::owners::{Outcome, Owner, both_of, outcome_with, owner_for};
+use crate::owners::{Outcome, Owner, both_of, owner_for};
 use fb_shared::{Locked, Seat, Shared, SharedRefused};
 use refusing::{Trial, try_call};
 use std::alloc::Global;
@@ -35,7 +35,7 @@ impl<'a, R: Wait, T: Owner> Trial for Called<'a, R, T> {
 
     fn call(&mut self, _alloc: Global) -> bool {
         let (rt, which, given) = self.setting;
-        let outcome = outcome_with(rt, &mut self.owner, which, &mut self.first, given);
+        let outcome = self.owner.answer(rt, which, &mut self.first, given);
         if outcome == Err(SharedRefused::Memory) {
             return false;
         }

@@ -10,6 +10,15 @@ use std::test::Fail;
 /// What holds a workbench for two callers, and their seats.
 pub(crate) type Hall<T> = (T, Vec<Seat>);
 
+/// The receipt of a call, or why it is refused.
+pub(crate) type Made = Result<Receipt, SharedRefused>;
+
+/// The result of a call: the number, caller and turn of its receipt and the sort of its reply, or why it was refused.
+pub(crate) type Outcome = Result<(u64, u32, u64, &'static str), SharedRefused>;
+
+/// What comes of a close.
+pub(crate) type Close<T> = Result<Closed, NotClosed<T>>;
+
 /// What holds a workbench for two callers.
 pub(crate) trait Owner: Drop {
     /// An empty workbench, and the seats of its callers. If it rolls, a full history begins again by itself.
@@ -19,21 +28,17 @@ pub(crate) trait Owner: Drop {
     fn resumed(alloc: Global, bench: Bench) -> Result<Hall<Self>, NotResumed>;
 
     /// The receipt of one of the five calls.
-    fn receipt<R: Wait>(
-        &mut self,
-        rt: &R,
-        which: Which,
-        seat: &mut Seat,
-        given: &Given,
-    ) -> Result<Receipt, SharedRefused>;
+    fn receipt<R: Wait>(&mut self, rt: &R, which: Which, seat: &mut Seat, given: &Given) -> Made;
+
+    /// The result of one of the five calls.
+    fn answer<R: Wait>(&mut self, rt: &R, which: Which, seat: &mut Seat, given: &Given) -> Outcome {
+        let receipt = self.receipt(rt, which, seat, given)?;
+        let word = reply_word(receipt.reply());
+        Ok((receipt.number(), receipt.caller(), receipt.turn(), word))
+    }
 
     /// Ends the calls.
-    fn closed(
-        self,
-        alloc: Global,
-        seats: Vec<Seat>,
-        receipts: &[Receipt],
-    ) -> Result<Closed, NotClosed<Self>>;
+    fn closed(self, alloc: Global, seats: Vec<Seat>, receipts: &[Receipt]) -> Close<Self>;
 
     /// In words, all that can be read of it.
     fn shown(&self, alloc: Global) -> Result<String, AllocError>;
@@ -48,13 +53,7 @@ impl Owner for Locked {
         Locked::resume(alloc, bench, 2)
     }
 
-    fn receipt<R: Wait>(
-        &mut self,
-        _rt: &R,
-        which: Which,
-        seat: &mut Seat,
-        given: &Given,
-    ) -> Result<Receipt, SharedRefused> {
+    fn receipt<R: Wait>(&mut self, _rt: &R, which: Which, seat: &mut Seat, given: &Given) -> Made {
         match which {
             Which::Commit => self.commit(seat, &given.changes),
             Which::Take => Ok(self.take(seat)?.0),
@@ -64,12 +63,7 @@ impl Owner for Locked {
         }
     }
 
-    fn closed(
-        self,
-        alloc: Global,
-        seats: Vec<Seat>,
-        receipts: &[Receipt],
-    ) -> Result<Closed, NotClosed<Locked>> {
+    fn closed(self, alloc: Global, seats: Vec<Seat>, receipts: &[Receipt]) -> Close<Locked> {
         self.close(alloc, seats, receipts)
     }
 
@@ -95,13 +89,7 @@ impl Owner for Shared {
         Shared::resume(alloc, bench, 2)
     }
 
-    fn receipt<R: Wait>(
-        &mut self,
-        rt: &R,
-        which: Which,
-        seat: &mut Seat,
-        given: &Given,
-    ) -> Result<Receipt, SharedRefused> {
+    fn receipt<R: Wait>(&mut self, rt: &R, which: Which, seat: &mut Seat, given: &Given) -> Made {
         match which {
             Which::Commit => self.commit(rt, seat, &given.changes),
             Which::Take => Ok(self.take(rt, seat)?.0),
@@ -111,12 +99,7 @@ impl Owner for Shared {
         }
     }
 
-    fn closed(
-        self,
-        alloc: Global,
-        seats: Vec<Seat>,
-        receipts: &[Receipt],
-    ) -> Result<Closed, NotClosed<Shared>> {
+    fn closed(self, alloc: Global, seats: Vec<Seat>, receipts: &[Receipt]) -> Close<Shared> {
         self.close(alloc, seats, receipts)
     }
 
@@ -139,22 +122,6 @@ pub(crate) fn pair(alloc: Global, first: Seat, second: Seat) -> Option<Vec<Seat>
     seats.push(first).ok()?;
     seats.push(second).ok()?;
     Some(seats)
-}
-
-/// The result of a call: the number, caller and turn of its receipt and the sort of its reply, or why it was refused.
-pub(crate) type Outcome = Result<(u64, u32, u64, &'static str), SharedRefused>;
-
-/// Makes one of the five calls.
-pub(crate) fn outcome_with<R: Wait, T: Owner>(
-    rt: &R,
-    owner: &mut T,
-    which: Which,
-    seat: &mut Seat,
-    given: &Given,
-) -> Outcome {
-    let receipt = owner.receipt(rt, which, seat, given)?;
-    let word = reply_word(receipt.reply());
-    Ok((receipt.number(), receipt.caller(), receipt.turn(), word))
 }
 
 /// A workbench that has its calls, and the seats of its callers.

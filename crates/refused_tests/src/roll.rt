@@ -1,8 +1,9 @@
 //! A history that begins again, and a key that is given back for a session that ended, of which each allocation is refused in turn.
-use crate::nest::{BEFORE, Given, Which, begun, bench_for, given_for};
+use crate::nest::{BEFORE, Which, begun, given_for};
 use crate::owners::{owner_for, taken_over};
 use crate::told::bench_told;
 use fb_bench::{CheckpointError, Limits};
+use fb_jobs::Key;
 use fb_shared::{Locked, Receipt, Seat, Shared, SharedRefused};
 use refusing::{Trial, try_call};
 use std::alloc::Global;
@@ -40,23 +41,22 @@ fn a_history_begins_anew(rt: HostRuntime) -> Result<(), Fail> {
     try_call::<Rolled>(&rt, rt.alloc(), "Locked::make_room", "", limits)
 }
 
-/// A workbench of which a key is out, and the seat of a session that ended.
+/// A workbench of which this key is out, the seat of a session that ended, and its receipts.
 #[derive(Drop)]
-struct Returned<'a> {
-    given: &'a Given,
+struct Returned {
+    key: Key,
     locked: Locked,
     seat: Seat,
     receipts: Vec<Receipt>,
 }
 
-impl<'a> Trial for Returned<'a> {
-    type Setting = &'a Given;
+impl Trial for Returned {
+    type Setting = Key;
 
-    fn new(alloc: Global, given: &'a Given) -> Result<Returned<'a>, Fail> {
-        let bench = bench_for(alloc, Which::GiveBack)?;
-        let (locked, mut seats) = taken_over::<Locked>(alloc, bench)?;
+    fn new(alloc: Global, key: Key) -> Result<Returned, Fail> {
+        let (locked, mut seats) = owner_for::<Locked>(alloc, Which::GiveBack)?;
         Ok(Returned {
-            given,
+            key,
             locked,
             seat: seats.pop().ok_or("no seat")?,
             receipts: Vec::new(alloc),
@@ -64,46 +64,41 @@ impl<'a> Trial for Returned<'a> {
     }
 
     fn call(&mut self, _alloc: Global) -> bool {
-        let key = self.given.key;
-        let answer = self
-            .locked
-            .return_held(&mut self.seat, &mut self.receipts, key, BEFORE + 1);
+        let seat = &mut self.seat;
+        let receipts = &mut self.receipts;
+        let answer = self.locked.return_held(seat, receipts, self.key, BEFORE + 1);
         answer != Err(SharedRefused::Memory)
     }
 
     fn told(&self, alloc: Global) -> Result<String, Fail> {
-        let mut told = bench_told(alloc, self.locked.bench())?;
-        let (turns, seen, kept) = (self.seat.turns(), self.seat.seen(), self.receipts.len());
-        write!(told, "\n{turns} {seen} {kept}")?;
+        let (mut told, seat) = (bench_told(alloc, self.locked.bench())?, &self.seat);
+        write!(told, "\n{seat:?} {}", self.receipts.len())?;
         Ok(told)
     }
 }
 
 #[test]
 fn a_held_key_is_given_back(rt: HostRuntime) -> Result<(), Fail> {
-    let given = given_for(rt.alloc())?;
-    try_call::<Returned<'_>>(&rt, rt.alloc(), "Locked::return_held", "", &given)
+    let key = given_for(rt.alloc())?.key;
+    try_call::<Returned>(&rt, rt.alloc(), "Locked::return_held", "", key)
 }
 
-/// A shared workbench, the seat of a session that ended, whose key is out, and its receipts.
+/// The same with a shared workbench.
 #[derive(Drop)]
 struct Held<'a, R: Wait> {
-    rt: &'a R,
-    given: &'a Given,
+    setting: (&'a R, Key),
     shared: Shared,
     seat: Seat,
     receipts: Vec<Receipt>,
 }
 
 impl<'a, R: Wait> Trial for Held<'a, R> {
-    type Setting = (&'a R, &'a Given);
+    type Setting = (&'a R, Key);
 
-    fn new(alloc: Global, setting: (&'a R, &'a Given)) -> Result<Held<'a, R>, Fail> {
-        let (rt, given) = setting;
+    fn new(alloc: Global, setting: (&'a R, Key)) -> Result<Held<'a, R>, Fail> {
         let (shared, mut seats) = owner_for::<Shared>(alloc, Which::GiveBack)?;
         Ok(Held {
-            rt,
-            given,
+            setting,
             shared,
             seat: seats.pop().ok_or("no seat")?,
             receipts: Vec::new(alloc),
@@ -111,13 +106,10 @@ impl<'a, R: Wait> Trial for Held<'a, R> {
     }
 
     fn call(&mut self, _alloc: Global) -> bool {
-        let answer = self.shared.give_back_held(
-            self.rt,
-            &mut self.seat,
-            &mut self.receipts,
-            self.given.key,
-            BEFORE + 1,
-        );
+        let (rt, key) = self.setting;
+        let seat = &mut self.seat;
+        let receipts = &mut self.receipts;
+        let answer = self.shared.give_back_held(rt, seat, receipts, key, BEFORE + 1);
         answer != Err(SharedRefused::Memory)
     }
 
@@ -130,24 +122,21 @@ impl<'a, R: Wait> Trial for Held<'a, R> {
 /// A shared workbench whose history is full and begins anew with the next call, and its seat.
 #[derive(Drop)]
 struct Anew<'a, R: Wait> {
-    rt: &'a R,
-    given: &'a Given,
+    setting: (&'a R, Key),
     shared: Shared,
     seat: Seat,
 }
 
 impl<'a, R: Wait> Trial for Anew<'a, R> {
-    type Setting = (&'a R, &'a Given);
+    type Setting = (&'a R, Key);
 
-    fn new(alloc: Global, setting: (&'a R, &'a Given)) -> Result<Anew<'a, R>, Fail> {
-        let (rt, given) = setting;
+    fn new(alloc: Global, setting: (&'a R, Key)) -> Result<Anew<'a, R>, Fail> {
         let limits = Limits::new(4, 1).ok_or("limits")?;
         let (shared, mut seats) = Shared::rolling(alloc, limits, 1)?;
         let mut seat = seats.pop().ok_or("no seat")?;
-        shared.ask(rt, &mut seat, given.key)?;
+        shared.ask(setting.0, &mut seat, setting.1)?;
         Ok(Anew {
-            rt,
-            given,
+            setting,
             shared,
             seat,
         })
@@ -155,9 +144,8 @@ impl<'a, R: Wait> Trial for Anew<'a, R> {
 
     /// Without memory to begin anew the history is still full.
     fn call(&mut self, _alloc: Global) -> bool {
-        self.shared
-            .ask(self.rt, &mut self.seat, self.given.key)
-            .is_ok()
+        let (rt, key) = self.setting;
+        self.shared.ask(rt, &mut self.seat, key).is_ok()
     }
 
     fn told(&self, alloc: Global) -> Result<String, Fail> {
@@ -166,19 +154,14 @@ impl<'a, R: Wait> Trial for Anew<'a, R> {
     }
 }
 
-fn try_shared<R: Wait + Print>(rt: &R, alloc: Global, given: &Given) -> Result<(), Fail> {
-    try_call::<Held<'_, R>>(rt, alloc, "Shared::give_back_held", "", (rt, given))?;
-    try_call::<Anew<'_, R>>(
-        rt,
-        alloc,
-        "Shared::ask",
-        " of a history that begins anew",
-        (rt, given),
-    )
+fn try_shared<R: Wait + Print>(rt: &R, alloc: Global) -> Result<(), Fail> {
+    let setting = (rt, given_for(alloc)?.key);
+    try_call::<Held<'_, R>>(rt, alloc, "Shared::give_back_held", "", setting)?;
+    let about = " of a history that begins anew";
+    try_call::<Anew<'_, R>>(rt, alloc, "Shared::ask", about, setting)
 }
 
 #[test]
 fn a_shared_history_begins_anew(rt: HostRuntime) -> Result<(), Fail> {
-    let given = given_for(rt.alloc())?;
-    try_shared(&rt, rt.alloc(), &given)
+    try_shared(&rt, rt.alloc())
 }
