@@ -12,12 +12,9 @@ const INSTANCES: u32 = 4096;
 const THOUSANDTH: u32 = 1000;
 
 // The type of the instances, and a subapplication that holds the large one.
-const TYPE: &[(&str, &str)] = &[("T", "FUNCTION_BLOCK T END_FUNCTION_BLOCK")];
+const TYPE: &[&str] = &["FUNCTION_BLOCK T END_FUNCTION_BLOCK"];
 
-const OUTER: &[(&str, &str)] = &[(
-    "R",
-    "SUBAPPLICATION R SUBAPPS X:S; END_SUBAPPS END_SUBAPPLICATION",
-)];
+const OUTER: &[&str] = &["SUBAPPLICATION R SUBAPPS X:S; END_SUBAPPS END_SUBAPPLICATION"];
 
 fn large_text(alloc: Global) -> Result<String, Fail> {
     let mut text = String::new(alloc);
@@ -30,8 +27,8 @@ fn large_text(alloc: Global) -> Result<String, Fail> {
 }
 
 // Commits, which makes no thousand allocations, and does the first job then.
-fn commit(alloc: Global, bench: &mut Bench, rows: &[(&str, &str)]) -> Result<(), Fail> {
-    let changes = puts(alloc, 0, rows)?;
+fn commit(alloc: Global, bench: &mut Bench, texts: &[&str]) -> Result<(), Fail> {
+    let changes = puts(alloc, 0, texts)?;
     refuse(alloc, THOUSANDTH);
     let is_done = matches!(bench.commit(1, &changes), Ok(Committed::Done(_)));
     if was_refused(alloc) || !is_done {
@@ -82,7 +79,7 @@ fn worked(alloc: Global) -> Result<(bool, usize), Fail> {
     let mut bench = Bench::new(alloc, limits);
     commit(alloc, &mut bench, TYPE)?;
     let text = large_text(alloc)?;
-    commit(alloc, &mut bench, &[("S", text.as_str())])?;
+    commit(alloc, &mut bench, &[text.as_str()])?;
     let is_refused = settle(alloc, &mut bench)?;
     commit(alloc, &mut bench, OUTER)?;
     Ok((is_refused, take(alloc, &mut bench)?.hints().len()))

@@ -7,37 +7,22 @@ use fb_text::Name;
 use std::alloc::Global;
 use std::test::Fail;
 
-/// A unit and its text.
-pub(crate) type Row = (&'static str, &'static str);
-
 // Subapplications in one another, and a system that maps the outer one.
-const NEST: &[Row] = &[
-    (
-        "T",
-        "FUNCTION_BLOCK T EVENT_INPUT I; END_EVENT END_FUNCTION_BLOCK",
-    ),
-    (
-        "INNER",
-        "SUBAPPLICATION INNER EVENT_INPUT E; END_EVENT FBS X:T; END_FBS EVENT_CONNECTIONS E TO X.I; END_CONNECTIONS END_SUBAPPLICATION",
-    ),
-    (
-        "OUTER",
-        "SUBAPPLICATION OUTER SUBAPPS Y:INNER; END_SUBAPPS END_SUBAPPLICATION",
-    ),
-    (
-        "Z",
-        "SYSTEM Z APPLICATION APP SUBAPPS SUB:OUTER; END_SUBAPPS END_APPLICATION DEVICE D:DT RESOURCE R:RT END_RESOURCE END_DEVICE MAPPINGS APP.SUB ON D.R; END_MAPPINGS END_SYSTEM",
-    ),
+const NEST: &[&str] = &[
+    "FUNCTION_BLOCK T EVENT_INPUT I; END_EVENT END_FUNCTION_BLOCK",
+    "SUBAPPLICATION INNER EVENT_INPUT E; END_EVENT FBS X:T; END_FBS EVENT_CONNECTIONS E TO X.I; END_CONNECTIONS END_SUBAPPLICATION",
+    "SUBAPPLICATION OUTER SUBAPPS Y:INNER; END_SUBAPPS END_SUBAPPLICATION",
+    "SYSTEM Z APPLICATION APP SUBAPPS SUB:OUTER; END_SUBAPPS END_APPLICATION DEVICE D:DT RESOURCE R:RT END_RESOURCE END_DEVICE MAPPINGS APP.SUB ON D.R; END_MAPPINGS END_SYSTEM",
 ];
 
 /// Two blocks without faults.
-pub(crate) const PLAIN: &[Row] = &[
-    ("A", "FUNCTION_BLOCK A END_FUNCTION_BLOCK"),
-    ("B", "FUNCTION_BLOCK B END_FUNCTION_BLOCK"),
+pub(crate) const PLAIN: &[&str] = &[
+    "FUNCTION_BLOCK A END_FUNCTION_BLOCK",
+    "FUNCTION_BLOCK B END_FUNCTION_BLOCK",
 ];
 
 // The innermost type without its event.
-const CHANGED: &[Row] = &[("T", "FUNCTION_BLOCK T END_FUNCTION_BLOCK")];
+const CHANGED: &[&str] = &["FUNCTION_BLOCK T END_FUNCTION_BLOCK"];
 
 /// This number of calls come before: the commit, and two for each of the five jobs. The nets of the outer subapplication and of the system, and
 /// the plan, are left.
@@ -45,10 +30,11 @@ pub(crate) const BEFORE: u64 = 11;
 
 const JOBS: u32 = 5;
 
-/// Changes that put units, which are at this revision.
-pub(crate) fn puts(alloc: Global, base: u64, rows: &[(&str, &str)]) -> Result<Vec<Change>, Fail> {
+/// Changes that put units with these texts, which are at this revision. The name of a unit is the second word of its text.
+pub(crate) fn puts(alloc: Global, base: u64, texts: &[&str]) -> Result<Vec<Change>, Fail> {
     let mut changes = Vec::new(alloc);
-    for (unit, text) in rows {
+    for text in texts {
+        let unit = text.split_whitespace().nth(1).ok_or("no name")?;
         let source = Source::read(alloc, Name::read(unit)?, text)?;
         changes.push(Change::Put { base, source })?;
     }

@@ -25,18 +25,12 @@ fn taken_answer(taken: &Taken) -> Answer {
     }
 }
 
-fn delivered_word(answer: &Delivered) -> &'static str {
-    match answer {
-        Delivered::Accepted => "accepted",
-        _ => "not accepted",
-    }
-}
-
 fn answer_of(answered: &Answered) -> Answer {
     match answered {
         Answered::Commit(answer) => (committed_word(answer), 0, 0),
         Answered::Take(taken) => taken_answer(taken),
-        Answered::Deliver(answer) => (delivered_word(answer), 0, 0),
+        Answered::Deliver(Delivered::Accepted) => ("accepted", 0, 0),
+        Answered::Deliver(_) => ("not accepted", 0, 0),
         Answered::GiveBack(answer) => (returned_word(answer), 0, 0),
         Answered::Ask(answer) => (asked_word(answer), 0, 0),
     }
