@@ -1,10 +1,8 @@
 //! Calls beside a worker that runs jobs of nets and of plans, which read several units: they are answered while each of them runs.
-use fb_jobs::{Finished, Job, Key, Kind};
-use fb_shared::bench::{Limits, Reply};
-use fb_shared::library::Change;
-use fb_shared::parse::Source;
-use fb_shared::{Gate, Plain, Receipt, Seat, Shared, WorkEnd, work_on};
-use fb_text::Name;
+use crate::setup::{Ended, Hall, key_of, new_shared, put, work};
+use fb_jobs::{Finished, Job, Kind};
+use fb_shared::bench::Reply;
+use fb_shared::{Gate, Plain, Seat, Shared, WorkEnd};
 use std::alloc::{AllocError, Global};
 use std::hint::spin_loop;
 use std::sync::Wait;
@@ -62,49 +60,28 @@ impl Answered {
     }
 }
 
-fn plan_of_y() -> Option<Key> {
-    Some(Key {
-        kind: Kind::Deploy,
-        unit: Name::read("Y").ok()?,
-    })
-}
-
-fn puts_all(alloc: Global) -> Option<Vec<Change>> {
+// a workbench with the units, and the seats of its two callers
+fn committed<R: Wait>(rt: &R, alloc: Global) -> Option<Hall<Shared>> {
     let mut changes = Vec::new(alloc);
     for (unit, text) in UNITS {
-        let unit = Name::read(unit).ok()?;
-        let source = Source::read(alloc, unit, text).ok()?;
-        changes.push(Change::Put { base: 0, source }).ok()?;
+        changes.push(put(alloc, 0, unit, text)?).ok()?;
     }
-    Some(changes)
-}
-
-// a workbench with the units, and the seats of its two callers
-fn committed<R: Wait>(rt: &R, alloc: Global) -> Option<(Shared, Seat, Seat)> {
-    let (shared, mut seats) = Shared::new(alloc, Limits::new(4, 1_000_000)?, 2).ok()?;
-    let second = seats.pop()?;
-    let mut first = seats.pop()?;
-    let changes = puts_all(alloc)?;
+    let (shared, mut first, second) = new_shared(alloc, 1_000_000)?;
     shared.commit(rt, &mut first, &changes).ok()?;
     Some((shared, first, second))
 }
 
-// how a worker ends with a turn for each job, and how many receipts it then has
-fn work<R: Wait>(
+// how a worker ends with a turn for each job
+fn work_all<R: Wait>(
     rt: &R,
     alloc: Global,
     shared: &Shared,
     mut seat: Seat,
     gate: &Answered,
-) -> (WorkEnd, usize) {
-    let mut receipts = Vec::new(alloc);
-    let end = work_on(rt, alloc, shared, &mut seat, &mut receipts, gate, JOBS);
+) -> Ended {
+    let ended = work(rt, alloc, shared, &mut seat, gate, JOBS);
     gate.ended.store(1, Ordering::SeqCst);
-    (end, receipts.len())
-}
-
-fn has_plan(receipt: &Receipt) -> bool {
-    matches!(receipt.reply(), Reply::Value(_))
+    ended
 }
 
 // asks for the plan until the worker has ended, and says whether it is known then
@@ -116,10 +93,10 @@ fn ask_meanwhile<R: Wait + Clock>(
 ) -> Option<bool> {
     for _ in 0..100_000u32 {
         let is_over = gate.ended.load(Ordering::SeqCst) == 1;
-        let receipt = shared.ask(rt, &mut seat, plan_of_y()?).ok()?;
+        let receipt = shared.ask(rt, &mut seat, key_of(Kind::Deploy, "Y")?).ok()?;
         gate.calls.fetch_add(1, Ordering::SeqCst);
         if is_over {
-            return Some(has_plan(&receipt));
+            return Some(matches!(receipt.reply(), Reply::Value(_)));
         }
         thread::sleep(rt, Duration::from_millis(1));
     }
@@ -138,7 +115,7 @@ fn calls_are_answered_while_a_long_job_runs(rt: HostRuntime) -> Result<(), Fail>
     };
     let told = join(
         &rt,
-        || work(&rt, alloc, &shared, second, &gate),
+        || work_all(&rt, alloc, &shared, second, &gate),
         || ask_meanwhile(&rt, &shared, first, &gate),
     );
     assert_eq!(rt; told, ((WorkEnd::TurnsOver, 12), Some(true)));

@@ -1,8 +1,7 @@
 //! Two threads that ask, and two that work.
-use crate::play::{Counts, closed, is_accepted, is_done, is_taken, keep};
-use crate::setup::{faults_of, new_shared, puts};
+use crate::play::{Counts, closed, keep};
+use crate::setup::{are_replies, committed, faults_of, new_shared};
 use fb_jobs::{Finished, Job};
-use fb_shared::bench::Limits;
 use fb_shared::{Gate, Plain, Receipt, Seat, Shared, WorkEnd, work_on};
 use std::alloc::{AllocError, Global};
 use std::hint::spin_loop;
@@ -29,21 +28,13 @@ fn ask_often<R: Wait>(
 // A seat after its calls, with their receipts.
 type Asked = Option<(Seat, Vec<Receipt>)>;
 
-// adds the other receipts to the first
-fn add_all(receipts: &mut Vec<Receipt>, others: Vec<Receipt>) -> Option<()> {
-    for receipt in others {
-        receipts.push(receipt).ok()?;
-    }
-    Some(())
-}
-
 // closes a workbench after the calls of two callers; gives how many receipts there are too
 fn closed_after(alloc: Global, shared: Shared, a: Asked, b: Asked) -> Option<(usize, Counts)> {
     let (first, mut receipts) = a?;
-    let (second, others) = b?;
-    add_all(&mut receipts, others)?;
-    let counts = closed(alloc, shared, first, second, &receipts)?;
-    Some((receipts.len(), counts))
+    let (second, mut others) = b?;
+    receipts.append(&mut others).ok()?;
+    let count = receipts.len();
+    Some((count, closed(alloc, (shared, first, second, receipts))?))
 }
 
 #[test]
@@ -91,18 +82,17 @@ impl Meeting {
     }
 }
 
-// How a worker ended, and what it has recorded.
-#[derive(Drop)]
-struct Worked {
-    end: WorkEnd,
-    receipts: Vec<Receipt>,
-}
-
-// works until the stop
-fn work<R: Wait>(rt: &R, alloc: Global, shared: &Shared, mut seat: Seat, gate: &Meeting) -> Worked {
+// how a worker ends at the stop, and what it has recorded
+fn work<R: Wait>(
+    rt: &R,
+    alloc: Global,
+    shared: &Shared,
+    mut seat: Seat,
+    gate: &Meeting,
+) -> (WorkEnd, Vec<Receipt>) {
     let mut receipts = Vec::new(alloc);
     let end = work_on(rt, alloc, shared, &mut seat, &mut receipts, gate, 1_000_000);
-    Worked { end, receipts }
+    (end, receipts)
 }
 
 // makes the workers stop once both jobs have begun
@@ -111,38 +101,11 @@ fn stop_both<R: Wait>(rt: &R, shared: &Shared, gate: &Meeting) {
     shared.stop(rt);
 }
 
-// whether a worker was stopped after one job that it took and whose result was accepted
-fn has_worked(worked: &Worked) -> bool {
-    let is_taken = match worked.receipts.get(0) {
-        Some(receipt) => is_taken(receipt.reply()),
-        None => false,
-    };
-    let is_accepted = match worked.receipts.get(1) {
-        Some(receipt) => is_accepted(receipt.reply()),
-        None => false,
-    };
-    let is_one = worked.receipts.len() == 2;
-    is_one && is_taken && is_accepted && worked.end == WorkEnd::Stopped
-}
-
-// a workbench with jobs for A and for B, and the seats of two callers
-fn with_two_jobs<R: Wait>(rt: &R, alloc: Global) -> Option<(Shared, Seat, Seat)> {
-    let (shared, mut seats) = Shared::new(alloc, Limits::new(4, 1000)?, 3).ok()?;
-    let mut third = seats.pop()?;
-    let changes = puts(alloc, &["A", "B"])?;
-    let receipt = shared.commit(rt, &mut third, &changes).ok()?;
-    if !is_done(receipt.reply()) {
-        return None;
-    }
-    let second = seats.pop()?;
-    let first = seats.pop()?;
-    Some((shared, first, second))
-}
-
 #[test]
 fn two_jobs_run_at_once(rt: HostRuntime) -> Result<(), Fail> {
     let alloc: Global = rt.alloc();
-    let (shared, first, second) = with_two_jobs(&rt, alloc).ok_or("a workbench")?;
+    let hall = committed(&rt, alloc, 1000, &["A", "B"]);
+    let (shared, first, second) = hall.ok_or("a workbench")?;
     let gate = Meeting {
         begun: AtomicU64::new(0),
         late: AtomicU64::new(0),
@@ -158,13 +121,10 @@ fn two_jobs_run_at_once(rt: HostRuntime) -> Result<(), Fail> {
         },
         || stop_both(&rt, &shared, &gate),
     );
-    assert_eq!(rt;
-        [
-            gate.begun.load(Ordering::SeqCst),
-            gate.late.load(Ordering::SeqCst)
-        ],
-        [2, 0]
-    );
-    assert_eq!(rt; [has_worked(&a), has_worked(&b)], [true, true]);
+    assert_eq!(rt; gate.begun.load(Ordering::SeqCst), 2);
+    assert_eq!(rt; gate.late.load(Ordering::SeqCst), 0);
+    assert_eq!(rt; (a.0, b.0), (WorkEnd::Stopped, WorkEnd::Stopped));
+    let one_job = ["job", "accepted"];
+    assert!(rt; are_replies(&a.1, &one_job) && are_replies(&b.1, &one_job));
     Ok(())
 }
