@@ -1,10 +1,9 @@
 //! Calls beside a worker that runs jobs of nets and of plans, which read several units: they are answered while each of them runs.
-use crate::setup::{Ended, Hall, key_of, new_shared, put, work};
+use crate::setup::{Ended, Hall, key_of, new_shared, put, spins_to, work};
 use fb_jobs::{Finished, Job, Kind};
 use fb_shared::bench::Reply;
 use fb_shared::{Gate, Plain, Seat, Shared, WorkEnd};
 use std::alloc::{AllocError, Global};
-use std::hint::spin_loop;
 use std::sync::Wait;
 use std::sync::atomic::{AtomicU64, Ordering};
 use std::test::Fail;
@@ -34,29 +33,15 @@ struct Answered {
     ended: AtomicU64,
 }
 
-const MOST_LOOKS: u64 = 20_000_000;
-
 impl Gate for Answered {
     fn run(&self, alloc: Global, worker: u32, job: &Job) -> Result<Finished, AllocError> {
         self.reads
             .fetch_add(job.reads().len() as u64, Ordering::SeqCst);
-        if self.late.load(Ordering::SeqCst) == 0 {
-            self.wait_for_calls();
+        let calls = self.calls.load(Ordering::SeqCst).saturating_add(2);
+        if self.late.load(Ordering::SeqCst) == 0 && !spins_to(&self.calls, calls) {
+            self.late.store(1, Ordering::SeqCst);
         }
         Plain.run(alloc, worker, job)
-    }
-}
-
-impl Answered {
-    fn wait_for_calls(&self) {
-        let before = self.calls.load(Ordering::SeqCst);
-        for _ in 0..MOST_LOOKS {
-            if self.calls.load(Ordering::SeqCst).saturating_sub(before) >= 2 {
-                return;
-            }
-            spin_loop();
-        }
-        self.late.store(1, Ordering::SeqCst);
     }
 }
 

@@ -6,6 +6,7 @@ use fb_shared::parse::Source;
 use fb_shared::{Gate, Locked, Receipt, Seat, Seated, Shared, WorkEnd, work_on};
 use fb_text::Name;
 use std::alloc::Global;
+use std::hint::spin_loop;
 use std::sync::Wait;
 use std::sync::atomic::{AtomicU64, Ordering};
 use std::thread;
@@ -61,6 +62,20 @@ pub(crate) fn comes_to<R: Clock>(rt: &R, count: &AtomicU64, number: u64) -> bool
             return true;
         }
         thread::sleep(rt, Duration::from_millis(1));
+    }
+    false
+}
+
+/// How often a count is looked at with no pause.
+const MOST_SPINS: u64 = 20_000_000;
+
+/// The same with no pause between the looks.
+pub(crate) fn spins_to(count: &AtomicU64, number: u64) -> bool {
+    for _ in 0..MOST_SPINS {
+        if number <= count.load(Ordering::SeqCst) {
+            return true;
+        }
+        spin_loop();
     }
     false
 }

@@ -1,10 +1,9 @@
 //! Two threads that ask, and two that work.
 use crate::play::{Counts, closed, keep};
-use crate::setup::{are_replies, committed, faults_of, new_shared};
+use crate::setup::{are_replies, committed, faults_of, new_shared, spins_to};
 use fb_jobs::{Finished, Job};
 use fb_shared::{Gate, Plain, Receipt, Seat, Shared, WorkEnd, work_on};
 use std::alloc::{AllocError, Global};
-use std::hint::spin_loop;
 use std::sync::Wait;
 use std::sync::atomic::{AtomicU64, Ordering};
 use std::test::Fail;
@@ -58,8 +57,6 @@ struct Meeting {
     late: AtomicU64,
 }
 
-const MOST_LOOKS: u64 = 20_000_000;
-
 impl Gate for Meeting {
     fn run(&self, alloc: Global, worker: u32, job: &Job) -> Result<Finished, AllocError> {
         if self.begun.fetch_add(1, Ordering::SeqCst) == 0 {
@@ -72,13 +69,9 @@ impl Gate for Meeting {
 impl Meeting {
     // looks until both jobs have begun; a gate that is out of looks is late
     fn wait_for_both(&self) {
-        for _ in 0..MOST_LOOKS {
-            if self.begun.load(Ordering::SeqCst) >= 2 {
-                return;
-            }
-            spin_loop();
+        if !spins_to(&self.begun, 2) {
+            self.late.store(1, Ordering::SeqCst);
         }
-        self.late.store(1, Ordering::SeqCst);
     }
 }
 
