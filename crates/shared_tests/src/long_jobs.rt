@@ -104,10 +104,8 @@ fn calls_are_answered_while_a_long_job_runs(rt: HostRuntime) -> Result<(), Fail>
         || ask_meanwhile(&rt, &shared, first, &gate),
     );
     assert_eq!(rt; told, ((WorkEnd::TurnsOver, 12), Some(true)));
-    let (late, reads) = (
-        gate.late.load(Ordering::SeqCst),
-        gate.reads.load(Ordering::SeqCst),
-    );
+    let late = gate.late.load(Ordering::SeqCst);
+    let reads = gate.reads.load(Ordering::SeqCst);
     assert!(rt; late == 0 && reads > 2 * JOBS, "{late} late, {reads} reads");
     Ok(())
 }
