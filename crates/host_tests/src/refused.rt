@@ -15,9 +15,10 @@ const UNITS: u64 = 8;
 
 const HISTORY: u64 = 2;
 
-/// What a session says before, what two sessions then say one after another, the replies of the first to it, and the end of those of the second.
+/// Which sessions these are: what a session says before, what two sessions then say one after another, the replies of the first to it, and the end of those of the second.
 #[derive(Clone, Copy)]
 struct Talk {
+    about: &'static str,
     before: &'static str,
     requests: &'static str,
     replies: &'static str,
@@ -26,6 +27,7 @@ struct Talk {
 
 // The calls of these lines are more than the history holds.
 const LINES: Talk = Talk {
+    about: " of three lines",
     before: "",
     requests: r#"{"op":"commit","changes":[{"put":"A","base":0,"text":"FUNCTION_BLOCK A END_FUNCTION_BLOCK"}]}
 {"op":"work","turns":9}
@@ -45,6 +47,7 @@ const JOBS: &str = r#"{"job":1,"kind":"faults","unit":"A"}
 
 // More keys than a session has room for from its start.
 const TAKES: Talk = Talk {
+    about: " that takes six keys",
     before: r#"{"op":"commit","changes":[{"put":"A","base":0,"text":"FUNCTION_BLOCK A END_FUNCTION_BLOCK"},{"put":"B","base":0,"text":"FUNCTION_BLOCK B END_FUNCTION_BLOCK"},{"put":"C","base":0,"text":"FUNCTION_BLOCK C END_FUNCTION_BLOCK"},{"put":"D","base":0,"text":"FUNCTION_BLOCK D END_FUNCTION_BLOCK"},{"put":"E","base":0,"text":"FUNCTION_BLOCK E END_FUNCTION_BLOCK"},{"put":"F","base":0,"text":"FUNCTION_BLOCK F END_FUNCTION_BLOCK"}]}
 "#,
     requests: "{\"op\":\"take\"}\n{\"op\":\"take\"}\n{\"op\":\"take\"}\n{\"op\":\"take\"}\n{\"op\":\"take\"}\n{\"op\":\"take\"}\n",
@@ -138,7 +141,7 @@ fn tried<R: Wait>(rt: &R, alloc: Global, talk: Talk, number: u32) -> Result<Sess
 }
 
 // Refuses each allocation of a session in turn, and prints what was found.
-fn try_session<R: Wait + Print>(rt: &R, alloc: Global, talk: Talk, about: &str) -> Result<(), Fail> {
+fn try_session<R: Wait + Print>(rt: &R, alloc: Global, talk: Talk) -> Result<(), Fail> {
     let mut memory = 0u32;
     for number in 1..100_000u32 {
         let session = tried(rt, alloc, talk, number)?;
@@ -147,7 +150,7 @@ fn try_session<R: Wait + Print>(rt: &R, alloc: Global, talk: Talk, about: &str) 
                 allocations: number - 1,
                 memory,
             };
-            return Ok(report(rt, "run_host_session", about, found)?);
+            return Ok(report(rt, "run_host_session", talk.about, found)?);
         }
         memory = memory.saturating_add(u32::from(session.end == RunEnd::Memory));
     }
@@ -156,10 +159,10 @@ fn try_session<R: Wait + Print>(rt: &R, alloc: Global, talk: Talk, about: &str) 
 
 #[test]
 fn each_allocation_of_a_session(rt: HostRuntime) -> Result<(), Fail> {
-    try_session(&rt, rt.alloc(), LINES, " of three lines")
+    try_session(&rt, rt.alloc(), LINES)
 }
 
 #[test]
 fn each_allocation_of_a_session_that_takes_keys(rt: HostRuntime) -> Result<(), Fail> {
-    try_session(&rt, rt.alloc(), TAKES, " that takes six keys")
+    try_session(&rt, rt.alloc(), TAKES)
 }

@@ -64,7 +64,8 @@ const ROLLS_BETWEEN: &[Step<'static>] = &[
 
 #[test]
 fn rolls_are_not_seen(rt: HostRuntime) -> Result<(), Fail> {
-    compare(&rt, rt.alloc(), &one_session(2, ROLLS_BETWEEN, Some((12, 2))))
+    let play = one_session(2, ROLLS_BETWEEN, Some((12, 2)));
+    compare(&rt, rt.alloc(), &play)
 }
 
 // A worker makes more looks than it makes before its receipts go to the store. What it has done is there for the next connection.
@@ -169,7 +170,8 @@ const GIVEN_BACK: &[Step<'static>] = &[
 
 #[test]
 fn keys_are_given_back(rt: HostRuntime) -> Result<(), Fail> {
-    compare(&rt, rt.alloc(), &one_session(100, GIVEN_BACK, Some((36, 36))))
+    let play = one_session(100, GIVEN_BACK, Some((36, 36)));
+    compare(&rt, rt.alloc(), &play)
 }
 
 // The first takes a key, which a commit makes anew, and which the second takes then. It stays out when the first goes, and is given back when the

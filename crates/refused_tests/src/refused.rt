@@ -46,9 +46,9 @@ impl<'a> Trial for Recorded<'a> {
 
 // Tries each of the five calls in this way: by a function of its own, or by the one for all of them.
 fn try_all(rt: &impl Print, alloc: Global, owner: &str, way: Way) -> Result<(), Fail> {
-    let given = given_for(alloc)?;
+    let (given, is_alone) = (given_for(alloc)?, matches!(way, Way::Alone));
     for (which, function, about) in CALLS {
-        let about = if let Way::Alone = way { *function } else { *about };
+        let about = if is_alone { function } else { about };
         try_call::<Recorded<'_>>(rt, alloc, owner, about, (*which, way, &given))?;
     }
     Ok(())

@@ -110,8 +110,8 @@ fn say_counts(told: &mut String, bench: &Bench) -> Result<(), AllocError> {
     let (pages, start) = (bench.pages().len(), bench.start());
     let (before, commits) = (bench.before(), start.commits());
     let (units, turns) = (start.library().len(), start.turns(1));
-    write!(told, "{len} {last} {is_full} {has_work} {first} {second} {pages}")?;
-    write!(told, "\nfrom {before} {commits} {units} {turns}")
+    write!(told, "{len} {last} {is_full} {has_work} {first} {second}")?;
+    write!(told, " {pages}\nfrom {before} {commits} {units} {turns}")
 }
 
 /// All that a workbench shows of itself.

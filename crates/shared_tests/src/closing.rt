@@ -34,7 +34,8 @@ fn close_with_seats(alloc: Global, played: Played<Shared>, stranger: Seat) -> Op
     let (strange, owner, mut seats) = refused(alloc, owner, seats, &receipts)?;
     seats.pop();
     seats.push(second).ok()?;
-    Some((missing, strange, counts_in(owner.close(alloc, seats, &receipts))))
+    let counts = counts_in(owner.close(alloc, seats, &receipts));
+    Some((missing, strange, counts))
 }
 
 #[test]
@@ -104,7 +105,8 @@ fn close_with_receipts(
     receipts.push(stranger).ok()?;
     let (strange, owner, seats) = refused(alloc, owner, seats, &receipts)?;
     receipts.pop();
-    Some((twice, strange, counts_in(owner.close(alloc, seats, &receipts))))
+    let counts = counts_in(owner.close(alloc, seats, &receipts));
+    Some((twice, strange, counts))
 }
 
 #[test]
