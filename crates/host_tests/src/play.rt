@@ -1,7 +1,7 @@
 //! A host in this process, and its peers.
 ghost use Rattle.std.specs.Thread.{IsSync};
 
-use crate::steps::{Step, Wrong, first_wrong};
+use crate::steps::{Step, first_wrong};
 use fb_host::{HostConfig, host_on};
 use fb_serve::Ended;
 use fb_wire::MemorySink;
@@ -86,14 +86,12 @@ fn config_of(play: &Play) -> Option<HostConfig> {
 }
 
 fn close_of(ended: &Ended) -> Option<(u64, usize, usize)> {
-    match &ended.served {
-        Ok(served) => {
-            let bench = &served.closed.bench;
-            let calls = bench.before().saturating_add(bench.len() as u64);
-            Some((calls, bench.len(), served.receipts.len()))
-        }
-        Err(_) => None,
-    }
+    let Ok(served) = &ended.served else {
+        return None;
+    };
+    let bench = &served.closed.bench;
+    let calls = bench.before().saturating_add(bench.len() as u64);
+    Some((calls, bench.len(), served.receipts.len()))
 }
 
 fn host_in_memory<R: Threads + Wait + Clock + Sync>(
@@ -136,31 +134,9 @@ fn act<R: Net<Listener = TcpListener, Stream = TcpStream> + Wait + Clock + Abort
 ) {
     match first_wrong(rt, alloc, port, errors, steps) {
         Ok(None) => assert!(rt; ends(rt, ended), "the host does not end"),
-        Ok(Some(Wrong { place, told })) => panic!(rt; "step {place}: {told}"),
+        Ok(Some((place, told))) => panic!(rt; "step {place}: {told}"),
         Err(error) => panic!(rt; "{error:?}"),
     }
-}
-
-// Compares what the host has come to.
-fn compare_end<R: Wait + Abort>(
-    rt: &R,
-    alloc: Global,
-    play: &Play,
-    port: u16,
-    hosted: Hosted,
-    errors: Vec<u8>,
-) -> Result<(), Fail> {
-    let printed = String::from_utf8(hosted.printed).ok().ok_or("no text")?;
-    let wanted = format!(in alloc; "listening on 127.0.0.1:{port}\nclosed\n")?;
-    assert_eq!(rt; printed.as_str(), wanted.as_str());
-    let errors = String::from_utf8(errors).ok().ok_or("no text")?;
-    assert_eq!(rt; errors.as_str(), play.errors);
-    let (calls, len, receipts) = hosted.close.ok_or("not closed")?;
-    assert_eq!(rt; receipts, len);
-    if let Some(counts) = play.counts {
-        assert_eq!(rt; (calls, receipts), counts);
-    }
-    Ok(())
 }
 
 /// Plays, and compares what comes of it with what is wanted.
@@ -181,5 +157,16 @@ pub(crate) fn compare<
         { host_in_memory(rt, alloc, &listener, config, secret, &errors, &ended) },
         || act(rt, alloc, port, &errors, &ended, steps),
     );
-    compare_end(rt, alloc, play, port, hosted?, errors.into_inner())
+    let hosted = hosted?;
+    let printed = String::from_utf8(hosted.printed).ok().ok_or("no text")?;
+    let wanted = format!(in alloc; "listening on 127.0.0.1:{port}\nclosed\n")?;
+    assert_eq!(rt; printed.as_str(), wanted.as_str());
+    let errors = String::from_utf8(errors.into_inner()).ok().ok_or("no text")?;
+    assert_eq!(rt; errors.as_str(), play.errors);
+    let (calls, len, receipts) = hosted.close.ok_or("not closed")?;
+    assert_eq!(rt; receipts, len);
+    if let Some(counts) = play.counts {
+        assert_eq!(rt; (calls, receipts), counts);
+    }
+    Ok(())
 }

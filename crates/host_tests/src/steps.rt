@@ -142,21 +142,14 @@ fn told<R: Net<Listener = TcpListener, Stream = TcpStream> + Wait + Clock>(
     }
 }
 
-/// The place of a step, and what was got there.
-#[derive(Drop)]
-pub(crate) struct Wrong {
-    pub(crate) place: usize,
-    pub(crate) told: String,
-}
-
-/// Makes the steps, up to the first at which something else comes.
+/// Makes the steps, up to the first at which something else comes. It gives the place of that, and what comes.
 pub(crate) fn first_wrong<R: Net<Listener = TcpListener, Stream = TcpStream> + Wait + Clock>(
     rt: &R,
     alloc: Global,
     port: u16,
     errors: &Mutex<Vec<u8>>,
     steps: &[Step<'_>],
-) -> io::Result<Option<Wrong>> {
+) -> io::Result<Option<(usize, String)>> {
     let scene = Scene {
         port,
         errors,
@@ -170,7 +163,7 @@ pub(crate) fn first_wrong<R: Net<Listener = TcpListener, Stream = TcpStream> + W
             Err(error) => format!(in alloc; "{error:?}")?,
         };
         if told.as_str() != step.wanted() {
-            return Ok(Some(Wrong { place, told }));
+            return Ok(Some((place, told)));
         }
     }
     Ok(None)

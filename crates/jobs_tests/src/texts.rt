@@ -6,23 +6,19 @@ use std::alloc::Global;
 use std::process::Abort;
 use std::test::Fail;
 
-// Whether this name was read at the place with a text of this revision, or with none for 0.
-fn is_kept(texts: &TextReads, place: usize, name: &str, revision: u64) -> bool {
-    let Some(read) = texts.get(place) else {
-        return false;
-    };
-    let kept = read.version.map_or(0, |version| version.revision);
-    read.name.as_str() == name && kept == revision
-}
-
-// Whether these are kept, and nothing behind them.
+// Whether these names were read with texts of these revisions, or with none for 0, and no others.
 fn are_kept(texts: &TextReads, wanted: &[(&str, u64)]) -> bool {
-    let mut are_kept = texts.len() == wanted.len() && texts.get(wanted.len()).is_none();
     for place in 0..wanted.len() {
         let (name, revision) = wanted[place];
-        are_kept = are_kept && is_kept(texts, place, name, revision);
+        let Some(read) = texts.get(place) else {
+            return false;
+        };
+        let kept = read.version.map_or(0, |version| version.revision);
+        if read.name.as_str() != name || kept != revision {
+            return false;
+        }
     }
-    are_kept
+    texts.len() == wanted.len() && texts.get(wanted.len()).is_none()
 }
 
 // Whether a job and its result keep these.

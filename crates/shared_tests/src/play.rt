@@ -22,7 +22,7 @@ pub(crate) fn played_shared<R: Wait>(
     alloc: Global,
     history: u64,
 ) -> Option<Played<Shared>> {
-    let (changes, key) = (puts(alloc, &["A"])?, faults_of("A")?);
+    let (key, changes) = (faults_of("A")?, puts(alloc, &["A"])?);
     let (owner, mut first, mut second) = new_shared(alloc, history)?;
     let mut receipts = Vec::new(alloc);
     keep(&mut receipts, owner.commit(rt, &mut first, &changes))?;
@@ -39,7 +39,7 @@ pub(crate) fn played_shared<R: Wait>(
 
 /// The same with no lock.
 pub(crate) fn played_locked(alloc: Global) -> Option<Played<Locked>> {
-    let (changes, key) = (puts(alloc, &["A"])?, faults_of("A")?);
+    let (key, changes) = (faults_of("A")?, puts(alloc, &["A"])?);
     let (mut owner, mut first, mut second) = new_locked(alloc, 1000)?;
     let mut receipts = Vec::new(alloc);
     keep(&mut receipts, owner.commit(&mut first, &changes))?;
@@ -54,8 +54,10 @@ pub(crate) fn played_locked(alloc: Global) -> Option<Played<Locked>> {
     Some((owner, first, second, receipts))
 }
 
-// Number, caller, turn and reply of each receipt.
-const PLAYED: &[(u64, u32, u64, &str)] = &[
+// Number, caller, turn and reply of a receipt.
+type Row = (u64, u32, u64, &'static str);
+
+const PLAYED: &[Row] = &[
     (1, 1, 1, "first commit"),
     (2, 2, 1, "pending"),
     (3, 2, 2, "job"),
@@ -64,24 +66,22 @@ const PLAYED: &[(u64, u32, u64, &str)] = &[
     (6, 2, 5, "nothing out"),
 ];
 
+fn row_of(receipt: &Receipt) -> Row {
+    let word = word_of(receipt.reply());
+    (receipt.number(), receipt.caller(), receipt.turn(), word)
+}
+
 /// Whether these are the receipts of the conversation.
 pub(crate) fn are_played(receipts: &[Receipt]) -> bool {
-    let mut are_played = receipts.len() == PLAYED.len();
-    for (receipt, row) in receipts.iter().zip(PLAYED.iter()) {
-        let word = word_of(receipt.reply());
-        let found = (receipt.number(), receipt.caller(), receipt.turn(), word);
-        are_played = are_played && found == *row;
-    }
-    are_played
+    let mut pairs = receipts.iter().zip(PLAYED.iter());
+    let are_played = pairs.all(|(receipt, row)| row_of(receipt) == *row);
+    are_played && receipts.len() == PLAYED.len()
 }
 
 /// Whether both have the same receipts by content.
 pub(crate) fn are_same(receipts: &[Receipt], others: &[Receipt]) -> bool {
-    let mut are_same = receipts.len() == others.len();
-    for (receipt, other) in receipts.iter().zip(others.iter()) {
-        are_same = are_same && receipt.is_same(other);
-    }
-    are_same
+    let mut pairs = receipts.iter().zip(others.iter());
+    pairs.all(|(receipt, other)| receipt.is_same(other)) && receipts.len() == others.len()
 }
 
 /// How many records there are, and how many of them the callers 1 and 2 have.

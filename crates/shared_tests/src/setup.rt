@@ -125,11 +125,9 @@ pub(crate) fn word_of(reply: &Reply) -> &'static str {
 
 /// Whether these are the replies in words.
 pub(crate) fn are_replies(receipts: &[Receipt], words: &[&str]) -> bool {
-    let mut are_replies = receipts.len() == words.len();
-    for (receipt, word) in receipts.iter().zip(words.iter()) {
-        are_replies = are_replies && word_of(receipt.reply()) == *word;
-    }
-    are_replies
+    let mut pairs = receipts.iter().zip(words.iter());
+    let are_replies = pairs.all(|(receipt, word)| word_of(receipt.reply()) == *word);
+    are_replies && receipts.len() == words.len()
 }
 
 /// A shared workbench in which the first of its two callers has made the first commit, of these units.
