@@ -54,10 +54,8 @@ pub(crate) fn played_locked(alloc: Global) -> Option<Played<Locked>> {
     Some((owner, first, second, receipts))
 }
 
-// Number, caller, turn and reply of a receipt.
-type Row = (u64, u32, u64, &'static str);
-
-const PLAYED: &[Row] = &[
+// Number, caller, turn and reply of each receipt.
+const PLAYED: &[(u64, u32, u64, &str)] = &[
     (1, 1, 1, "first commit"),
     (2, 2, 1, "pending"),
     (3, 2, 2, "job"),
@@ -66,16 +64,15 @@ const PLAYED: &[Row] = &[
     (6, 2, 5, "nothing out"),
 ];
 
-fn row_of(receipt: &Receipt) -> Row {
-    let word = word_of(receipt.reply());
-    (receipt.number(), receipt.caller(), receipt.turn(), word)
-}
-
 /// Whether these are the receipts of the conversation.
 pub(crate) fn are_played(receipts: &[Receipt]) -> bool {
-    let mut pairs = receipts.iter().zip(PLAYED.iter());
-    let are_played = pairs.all(|(receipt, row)| row_of(receipt) == *row);
-    are_played && receipts.len() == PLAYED.len()
+    let mut are_played = receipts.len() == PLAYED.len();
+    for (receipt, row) in receipts.iter().zip(PLAYED.iter()) {
+        let word = word_of(receipt.reply());
+        let found = (receipt.number(), receipt.caller(), receipt.turn(), word);
+        are_played = are_played && found == *row;
+    }
+    are_played
 }
 
 /// Whether both have the same receipts by content.
