@@ -78,19 +78,6 @@ fn a_refused_close_of_a_history_that_begins_again(rt: HostRuntime) -> Result<(),
     Ok(())
 }
 
-// the first receipt of the conversation on a workbench of its own
-fn first_of_another(alloc: Global) -> Option<Receipt> {
-    let (_owner, _first, _second, mut receipts) = played_locked(alloc)?;
-    receipts.truncate(1);
-    receipts.pop()
-}
-
-// a first receipt of another call
-fn strange_receipt(alloc: Global) -> Option<Receipt> {
-    let (mut locked, mut first, _second) = new_locked(alloc, 1000)?;
-    locked.ask(&mut first, faults_of("A")?).ok()
-}
-
 // closes with the first of these receipts behind its own, then with the other one, and then with none
 fn close_with_receipts(
     alloc: Global,
@@ -109,11 +96,15 @@ fn close_with_receipts(
     Some((twice, strange, counts))
 }
 
+// The first receipt of the conversation on a workbench of its own, and a first receipt of another call.
 #[test]
 fn receipts_that_do_not_fit(rt: HostRuntime) -> Result<(), Fail> {
     let alloc: Global = rt.alloc();
-    let again = first_of_another(alloc).ok_or("a receipt")?;
-    let stranger = strange_receipt(alloc).ok_or("a receipt")?;
+    let (_, _, _, mut receipts) = played_locked(alloc).ok_or("a conversation")?;
+    receipts.truncate(1);
+    let again = receipts.pop().ok_or("a receipt")?;
+    let (mut locked, mut first, _second) = new_locked(alloc, 1000).ok_or("a workbench")?;
+    let stranger = locked.ask(&mut first, faults_of("A").ok_or("a key")?)?;
     let played = played_shared(&rt, alloc, 1000).ok_or("a conversation")?;
     let attempts = close_with_receipts(alloc, played, again, stranger);
     let faults = (CloseError::ReceiptTwice(1), CloseError::ReceiptDiffers(1));

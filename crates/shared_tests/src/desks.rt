@@ -12,7 +12,7 @@ use std::test::Fail;
 
 // commits A, works, gives back what is not out, asks for the value and asks again: whether all goes well, and why the last call is refused
 fn answers_at<D: Desk>(alloc: Global, desk: &mut D) -> Option<(bool, DeskError)> {
-    let is_done = desk.commit(&puts(alloc, &["A"])?).ok()? == Committed::Done(1);
+    let is_done = desk.commit(&puts(alloc, 0, &["A"])?).ok()? == Committed::Done(1);
     let Taken::Job(job) = desk.take().ok()? else {
         return None;
     };
@@ -46,7 +46,7 @@ fn a_desk_keeps_its_receipts(rt: HostRuntime) -> Result<(), Fail> {
 
 // why the five calls are refused at a desk, if each is for the same cause
 fn refusal_at<D: Desk>(alloc: Global, desk: &mut D, finished: &Finished) -> Option<DeskError> {
-    let commit = desk.commit(&puts(alloc, &["B"])?).err()?;
+    let commit = desk.commit(&puts(alloc, 0, &["B"])?).err()?;
     let take = desk.take().err()?;
     let deliver = desk.deliver(finished).err()?;
     let give_back = desk.give_back(faults_of("A")?).err()?;

@@ -1,5 +1,5 @@
 //! Workers whose jobs give nothing, each by itself.
-use crate::setup::{are_replies, committed, put_again, work};
+use crate::setup::{are_replies, committed, puts, work};
 use fb_jobs::{Finished, Job};
 use fb_shared::{Gate, Plain, Seat, Shared, WorkEnd, work_on};
 use std::alloc::{AllocError, Global};
@@ -49,7 +49,7 @@ impl<R: Wait> Gate for Beside<'_, R> {
     fn run(&self, alloc: Global, worker: u32, job: &Job) -> Result<Finished, AllocError> {
         let mut seat = self.seat.lock(self.rt);
         if self.puts_again {
-            if let Some(changes) = put_again(alloc, seat.turns()) {
+            if let Some(changes) = puts(alloc, seat.turns(), &["A"]) {
                 let _ = self.shared.commit(self.rt, &mut *seat, &changes);
             }
             return Plain.run(alloc, worker, job);

@@ -1,7 +1,7 @@
 //! A conversation of two callers, with the lock and without: the first commits A; the second, which is shown that, asks
 //! for its faults, takes the job, runs it, delivers the result, asks again and gives back what is not out.
 use crate::setup::{faults_of, new_locked, new_shared, pair, puts, word_of};
-use fb_shared::{Closed, Locked, NotClosed, Receipt, Seat, Shared, SharedRefused};
+use fb_shared::{CloseError, Closed, Locked, NotClosed, Receipt, Seat, Shared, SharedRefused};
 use std::alloc::Global;
 use std::sync::Wait;
 
@@ -22,7 +22,7 @@ pub(crate) fn played_shared<R: Wait>(
     alloc: Global,
     history: u64,
 ) -> Option<Played<Shared>> {
-    let (key, changes) = (faults_of("A")?, puts(alloc, &["A"])?);
+    let (key, changes) = (faults_of("A")?, puts(alloc, 0, &["A"])?);
     let (owner, mut first, mut second) = new_shared(alloc, history)?;
     let mut receipts = Vec::new(alloc);
     keep(&mut receipts, owner.commit(rt, &mut first, &changes))?;
@@ -39,7 +39,7 @@ pub(crate) fn played_shared<R: Wait>(
 
 /// The same with no lock.
 pub(crate) fn played_locked(alloc: Global) -> Option<Played<Locked>> {
-    let (key, changes) = (faults_of("A")?, puts(alloc, &["A"])?);
+    let (key, changes) = (faults_of("A")?, puts(alloc, 0, &["A"])?);
     let (mut owner, mut first, mut second) = new_locked(alloc, 1000)?;
     let mut receipts = Vec::new(alloc);
     keep(&mut receipts, owner.commit(&mut first, &changes))?;
@@ -90,6 +90,11 @@ pub(crate) fn counts_in<T: Drop>(closed: Result<Closed, NotClosed<T>>) -> Option
     let first = closed.counts.get(&1).copied()?;
     let second = closed.counts.get(&2).copied()?;
     (closed.counts.len() == 2).then_some((closed.bench.len(), first, second))
+}
+
+/// Why a workbench was not closed.
+pub(crate) fn fault_in<T: Drop>(closed: Result<Closed, NotClosed<T>>) -> Option<CloseError> {
+    Some(closed.err()?.fault)
 }
 
 /// Closes a shared workbench.

@@ -1,5 +1,5 @@
 //! A workbench that comes under a lock with the calls that it has: after a checkpoint and without one.
-use crate::play::{Counts, closed, closed_locked, keep, played_shared};
+use crate::play::{closed, closed_locked, fault_in, keep, played_shared};
 use crate::setup::{Hall, faults_of, hall_of, new_shared, pair, puts, word_of, work};
 use fb_shared::bench::{Bench, Limits};
 use fb_shared::{
@@ -78,6 +78,12 @@ fn resumed_locked(alloc: Global, bench: Bench) -> Option<Hall<Locked>> {
     hall_of(Locked::resume(alloc, bench, 2).ok()?)
 }
 
+// a workbench after a checkpoint, again with its seats
+fn kept_shared<R: Wait>(rt: &R, alloc: Global) -> Option<Hall<Shared>> {
+    let (bench, _receipts) = kept_bench(rt, alloc)?;
+    resumed_shared(alloc, bench)
+}
+
 // Caller, calls and greatest number seen of a seat.
 type Row = (u32, u64, u64);
 
@@ -99,8 +105,7 @@ fn is_next(receipts: &[Receipt]) -> bool {
 #[test]
 fn numbers_and_turns_go_on_under_the_lock(rt: HostRuntime) -> Result<(), Fail> {
     let alloc: Global = rt.alloc();
-    let (bench, _receipts) = kept_bench(&rt, alloc).ok_or("a workbench")?;
-    let (shared, mut first, second) = resumed_shared(alloc, bench).ok_or("a workbench")?;
+    let (shared, mut first, second) = kept_shared(&rt, alloc).ok_or("a workbench")?;
     assert_eq!(rt; (row_of(&first), row_of(&second)), ROWS);
     let (key, mut receipts) = (faults_of("A").ok_or("a key")?, Vec::new(alloc));
     keep(&mut receipts, shared.ask(&rt, &mut first, key)).ok_or("a receipt")?;
@@ -124,58 +129,36 @@ fn numbers_and_turns_go_on_with_no_lock(rt: HostRuntime) -> Result<(), Fail> {
     Ok(())
 }
 
-// why a shared workbench does not close with the last receipt of an earlier time
-fn fault_of_last(alloc: Global, bench: Bench, receipts: &[Receipt]) -> Option<CloseError> {
-    let (shared, first, second) = resumed_shared(alloc, bench)?;
-    let seats = pair(alloc, first, second)?;
-    let refused = shared.close(alloc, seats, receipts.get(5..)?).err()?;
-    Some(refused.fault)
-}
-
-// the same with no lock
-fn fault_of_last_locked(alloc: Global, bench: Bench, receipts: &[Receipt]) -> Option<CloseError> {
-    let (locked, first, second) = resumed_locked(alloc, bench)?;
-    let seats = pair(alloc, first, second)?;
-    let refused = locked.close(alloc, seats, receipts.get(5..)?).err()?;
-    Some(refused.fault)
-}
-
+// The last receipt of an earlier time.
 #[test]
 fn an_old_receipt_differs(rt: HostRuntime) -> Result<(), Fail> {
-    let (bench, receipts) = kept_bench(&rt, rt.alloc()).ok_or("a workbench")?;
-    let (other, others) = kept_bench(&rt, rt.alloc()).ok_or("a workbench")?;
+    let alloc: Global = rt.alloc();
     let differs = Some(CloseError::ReceiptDiffers(6));
-    assert_eq!(rt; fault_of_last(rt.alloc(), bench, &receipts), differs);
-    assert_eq!(rt; fault_of_last_locked(rt.alloc(), other, &others), differs);
+    let (bench, receipts) = kept_bench(&rt, alloc).ok_or("a workbench")?;
+    let (shared, first, second) = resumed_shared(alloc, bench).ok_or("a workbench")?;
+    let seats = pair(alloc, first, second).ok_or("seats")?;
+    let last = receipts.get(5..).ok_or("a receipt")?;
+    assert_eq!(rt; fault_in(shared.close(alloc, seats, last)), differs);
+    let (bench, receipts) = kept_bench(&rt, alloc).ok_or("a workbench")?;
+    let (locked, first, second) = resumed_locked(alloc, bench).ok_or("a workbench")?;
+    let seats = pair(alloc, first, second).ok_or("seats")?;
+    let last = receipts.get(5..).ok_or("a receipt")?;
+    assert_eq!(rt; fault_in(locked.close(alloc, seats, last)), differs);
     Ok(())
-}
-
-// the counts at the close with these receipts
-fn counts_with(alloc: Global, bench: Bench, receipts: Vec<Receipt>) -> Option<Counts> {
-    let (shared, first, second) = resumed_shared(alloc, bench)?;
-    closed(alloc, (shared, first, second, receipts))
-}
-
-// the same with no lock
-fn counts_with_locked(alloc: Global, bench: Bench, receipts: Vec<Receipt>) -> Option<Counts> {
-    let (locked, first, second) = resumed_locked(alloc, bench)?;
-    closed_locked(alloc, (locked, first, second, receipts))
 }
 
 #[test]
 fn old_receipts_are_right_without_a_checkpoint(rt: HostRuntime) -> Result<(), Fail> {
-    let (bench, receipts) = played_bench(&rt, rt.alloc()).ok_or("a workbench")?;
-    let (other, others) = played_bench(&rt, rt.alloc()).ok_or("a workbench")?;
-    let counts = Some((6, 1, 5));
-    assert_eq!(rt; counts_with(rt.alloc(), bench, receipts), counts);
-    assert_eq!(rt; counts_with_locked(rt.alloc(), other, others), counts);
+    let alloc: Global = rt.alloc();
+    let (bench, receipts) = played_bench(&rt, alloc).ok_or("a workbench")?;
+    let (shared, first, second) = resumed_shared(alloc, bench).ok_or("a workbench")?;
+    let counts = closed(alloc, (shared, first, second, receipts));
+    assert_eq!(rt; counts, Some((6, 1, 5)));
+    let (bench, receipts) = played_bench(&rt, alloc).ok_or("a workbench")?;
+    let (locked, first, second) = resumed_locked(alloc, bench).ok_or("a workbench")?;
+    let counts = closed_locked(alloc, (locked, first, second, receipts));
+    assert_eq!(rt; counts, Some((6, 1, 5)));
     Ok(())
-}
-
-// a workbench after a checkpoint, again with its seats
-fn kept_shared<R: Wait>(rt: &R, alloc: Global) -> Option<Hall<Shared>> {
-    let (bench, _receipts) = kept_bench(rt, alloc)?;
-    resumed_shared(alloc, bench)
 }
 
 // A seat that was shown the next receipt of another workbench, and one that is another's.
@@ -200,7 +183,7 @@ fn a_worker_works_where_it_is_resumed(rt: HostRuntime) -> Result<(), Fail> {
     let alloc: Global = rt.alloc();
     let limits = Limits::new(4, 1000).ok_or("limits")?;
     let mut bench = Bench::new(alloc, limits);
-    bench.commit(1, &puts(alloc, &["A"]).ok_or("changes")?)?;
+    bench.commit(1, &puts(alloc, 0, &["A"]).ok_or("changes")?)?;
     let (shared, _first, mut second) = resumed_shared(alloc, bench).ok_or("a workbench")?;
     let ended = work(&rt, alloc, &shared, &mut second, &Plain, 1);
     assert_eq!(rt; ended, (WorkEnd::TurnsOver, 2));

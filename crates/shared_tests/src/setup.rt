@@ -31,19 +31,12 @@ pub(crate) fn put(alloc: Global, base: u64, unit: &str, text: &str) -> Option<Ch
     Some(Change::Put { base, source })
 }
 
-/// Changes that put each of the units, which are new.
-pub(crate) fn puts(alloc: Global, units: &[&str]) -> Option<Vec<Change>> {
+/// Changes that put each of the units, which are at this revision.
+pub(crate) fn puts(alloc: Global, base: u64, units: &[&str]) -> Option<Vec<Change>> {
     let mut changes = Vec::new(alloc);
     for unit in units {
-        changes.push(put(alloc, 0, unit, PLAIN)?).ok()?;
+        changes.push(put(alloc, base, unit, PLAIN)?).ok()?;
     }
-    Some(changes)
-}
-
-/// Changes that put A again, which has this revision.
-pub(crate) fn put_again(alloc: Global, base: u64) -> Option<Vec<Change>> {
-    let mut changes = Vec::new(alloc);
-    changes.push(put(alloc, base, "A", PLAIN)?).ok()?;
     Some(changes)
 }
 
@@ -138,7 +131,7 @@ pub(crate) fn committed<R: Wait>(
     units: &[&str],
 ) -> Option<Hall<Shared>> {
     let (shared, mut first, second) = new_shared(alloc, history)?;
-    let done = shared.commit(rt, &mut first, &puts(alloc, units)?).ok()?;
+    let done = shared.commit(rt, &mut first, &puts(alloc, 0, units)?).ok()?;
     (word_of(done.reply()) == "first commit").then_some((shared, first, second))
 }
 

@@ -93,7 +93,7 @@ fn bring_all<R: Wait + Clock>(
     let mut run = 0u64;
     for unit in play.units {
         run = run.saturating_add(1);
-        shared.commit(rt, seat, &puts(alloc, &[*unit])?).ok()?;
+        shared.commit(rt, seat, &puts(alloc, 0, &[*unit])?).ok()?;
         if !comes_to(rt, &gate.run, run) {
             return None;
         }

@@ -65,7 +65,7 @@ fn call_with<R: Wait>(
 ) -> Option<()> {
     let mut receipts = Vec::new(alloc);
     match call {
-        Call::Commit => drop(shared.commit(rt, seat, &puts(alloc, &["A"])?).ok()?),
+        Call::Commit => drop(shared.commit(rt, seat, &puts(alloc, 0, &["A"])?).ok()?),
         Call::Take => drop(shared.take(rt, seat).ok()?),
         Call::Deliver => drop(shared.deliver(rt, seat, finished).ok()?),
         Call::GiveBack => drop(shared.give_back(rt, seat, faults_of("A")?).ok()?),
@@ -82,7 +82,7 @@ fn call_with<R: Wait>(
 // makes the call at a desk
 fn call_at<D: Desk>(alloc: Global, desk: &mut D, finished: &Finished, call: Call) -> Option<()> {
     match call {
-        Call::Commit => drop(desk.commit(&puts(alloc, &["A"])?).ok()?),
+        Call::Commit => drop(desk.commit(&puts(alloc, 0, &["A"])?).ok()?),
         Call::Take => drop(desk.take().ok()?),
         Call::Deliver => drop(desk.deliver(finished).ok()?),
         Call::GiveBack | Call::GiveBackHeld => drop(desk.give_back(faults_of("A")?).ok()?),
