@@ -131,7 +131,8 @@ pub(crate) fn committed<R: Wait>(
     units: &[&str],
 ) -> Option<Hall<Shared>> {
     let (shared, mut first, second) = new_shared(alloc, history)?;
-    let done = shared.commit(rt, &mut first, &puts(alloc, 0, units)?).ok()?;
+    let changes = puts(alloc, 0, units)?;
+    let done = shared.commit(rt, &mut first, &changes).ok()?;
     (word_of(done.reply()) == "first commit").then_some((shared, first, second))
 }
 
