@@ -25,7 +25,7 @@ const LOOKS: u32 = 10_000;
 const PAUSE: u64 = 2;
 
 /// How many calls were made, and how many of them since the start. If workers make calls these numbers are left out.
-type Counts = Option<(u64, usize)>;
+pub(crate) type Counts = Option<(u64, usize)>;
 
 /// A host, the steps of its peers, and its result: what it printed on its errors, and its calls. After the last peer it closes.
 #[derive(Clone, Copy)]

@@ -1,5 +1,5 @@
 //! In words, all that can be read of a workbench.
-use fb_bench::{Asked, Bench, Call, Committed, GivenBack, Record, Reply, Shown};
+use fb_bench::{Asked, Bench, Call, Committed, GivenBack, Reply, Shown};
 use fb_jobs::{Key, Value};
 use std::alloc::{AllocError, Global};
 
