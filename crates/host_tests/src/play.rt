@@ -57,11 +57,7 @@ pub(crate) fn one_session(history: u64, steps: &'static [Step<'static>], counts:
 }
 
 /// What a host printed, and its close: how many calls were made, how many of them since the start, and how many receipts there are.
-#[derive(Drop)]
-struct Hosted {
-    printed: Vec<u8>,
-    close: Option<(u64, usize, usize)>,
-}
+type Hosted = (Vec<u8>, Option<(u64, usize, usize)>);
 
 fn peers_in(steps: &[Step<'_>]) -> u64 {
     let mut peers = 0u64;
@@ -106,10 +102,7 @@ fn host_in_memory<R: Threads + Wait + Clock + Sync>(
     let mut out = MemorySink::new(alloc, 8192, u64::MAX);
     let end = host_on(rt, alloc, listener, config, secret, &mut out, errors);
     ended.store(true, Ordering::SeqCst);
-    Ok(Hosted {
-        printed: out.as_slice().to_vec(alloc)?,
-        close: close_of(&end),
-    })
+    Ok((out.as_slice().to_vec(alloc)?, close_of(&end)))
 }
 
 // Whether the host ends.
@@ -157,13 +150,13 @@ pub(crate) fn compare<
         { host_in_memory(rt, alloc, &listener, config, secret, &errors, &ended) },
         || act(rt, alloc, port, &errors, &ended, steps),
     );
-    let hosted = hosted?;
-    let printed = String::from_utf8(hosted.printed).ok().ok_or("no text")?;
+    let (printed, close) = hosted?;
+    let printed = String::from_utf8(printed).ok().ok_or("no text")?;
     let wanted = format!(in alloc; "listening on 127.0.0.1:{port}\nclosed\n")?;
     assert_eq!(rt; printed.as_str(), wanted.as_str());
     let errors = String::from_utf8(errors.into_inner()).ok().ok_or("no text")?;
     assert_eq!(rt; errors.as_str(), play.errors);
-    let (calls, len, receipts) = hosted.close.ok_or("not closed")?;
+    let (calls, len, receipts) = close.ok_or("not closed")?;
     assert_eq!(rt; receipts, len);
     if let Some(counts) = play.counts {
         assert_eq!(rt; (calls, receipts), counts);

@@ -15,7 +15,8 @@ const UNITS: u64 = 8;
 
 const HISTORY: u64 = 2;
 
-/// Which sessions these are: what a session says before, what two sessions then say one after another, the replies of the first to it, and the end of those of the second.
+/// What is tried, what a session says before, what two sessions then say one after another, the replies of the first to it, and the end of those of the
+/// second.
 #[derive(Clone, Copy)]
 struct Talk {
     about: &'static str,
