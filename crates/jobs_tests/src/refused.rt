@@ -81,9 +81,9 @@ const KEYS: &[Row] = &[
 
 fn try_row(rt: &impl Print, alloc: Global, library: &Library, row: &Row) -> Result<(), Fail> {
     let (kind, unit, about) = *row;
-    let key = key_of(kind, unit)?;
-    let job = job_for(alloc, library, key)?;
-    try_call::<Made<'_>>(rt, alloc, "Job::make", about, (library, key))?;
+    let setting = (library, key_of(kind, unit)?);
+    try_call::<Made<'_>>(rt, alloc, "Job::make", about, setting)?;
+    let job = job_for(alloc, library, key_of(kind, unit)?)?;
     try_call::<Run<'_>>(rt, alloc, "Job::run", about, &job)
 }
 

@@ -22,8 +22,8 @@ fn the_lock_changes_no_receipt(rt: HostRuntime) -> Result<(), Fail> {
     Ok(())
 }
 
-// why it is refused to ask for the faults of A
-fn refused_ask<R: Wait>(rt: &R, shared: &Shared, seat: &mut Seat) -> Option<SharedRefused> {
+/// Why it is refused to ask for the faults of A.
+pub(crate) fn refused_ask<R: Wait>(rt: &R, shared: &Shared, seat: &mut Seat) -> Option<SharedRefused> {
     shared.ask(rt, seat, faults_of("A")?).err()
 }
 

@@ -22,34 +22,36 @@ pub(crate) fn played_shared<R: Wait>(
     alloc: Global,
     history: u64,
 ) -> Option<Played<Shared>> {
-    let (key, changes) = (faults_of("A")?, puts(alloc, 0, &["A"])?);
+    let changes = puts(alloc, 0, &["A"])?;
     let (owner, mut first, mut second) = new_shared(alloc, history)?;
     let mut receipts = Vec::new(alloc);
     keep(&mut receipts, owner.commit(rt, &mut first, &changes))?;
     second.show(receipts.get(0)?);
-    keep(&mut receipts, owner.ask(rt, &mut second, key))?;
+    keep(&mut receipts, owner.ask(rt, &mut second, faults_of("A")?))?;
     let (receipt, job) = owner.take(rt, &mut second).ok()?;
     receipts.push(receipt).ok()?;
     let finished = job?.run(alloc).ok()?;
     keep(&mut receipts, owner.deliver(rt, &mut second, &finished))?;
-    keep(&mut receipts, owner.ask(rt, &mut second, key))?;
+    keep(&mut receipts, owner.ask(rt, &mut second, faults_of("A")?))?;
+    let key = faults_of("A")?;
     keep(&mut receipts, owner.give_back(rt, &mut second, key))?;
     Some((owner, first, second, receipts))
 }
 
 /// The same with no lock.
 pub(crate) fn played_locked(alloc: Global) -> Option<Played<Locked>> {
-    let (key, changes) = (faults_of("A")?, puts(alloc, 0, &["A"])?);
+    let changes = puts(alloc, 0, &["A"])?;
     let (mut owner, mut first, mut second) = new_locked(alloc, 1000)?;
     let mut receipts = Vec::new(alloc);
     keep(&mut receipts, owner.commit(&mut first, &changes))?;
     second.show(receipts.get(0)?);
-    keep(&mut receipts, owner.ask(&mut second, key))?;
+    keep(&mut receipts, owner.ask(&mut second, faults_of("A")?))?;
     let (receipt, job) = owner.take(&mut second).ok()?;
     receipts.push(receipt).ok()?;
     let finished = job?.run(alloc).ok()?;
     keep(&mut receipts, owner.deliver(&mut second, &finished))?;
-    keep(&mut receipts, owner.ask(&mut second, key))?;
+    keep(&mut receipts, owner.ask(&mut second, faults_of("A")?))?;
+    let key = faults_of("A")?;
     keep(&mut receipts, owner.give_back(&mut second, key))?;
     Some((owner, first, second, receipts))
 }

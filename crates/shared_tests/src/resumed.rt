@@ -1,4 +1,5 @@
 //! A workbench that comes under a lock with the calls that it has: after a checkpoint and without one.
+use crate::calls::refused_ask;
 use crate::play::{closed, closed_locked, fault_in, keep, played_shared};
 use crate::setup::{Hall, faults_of, hall_of, new_shared, pair, puts, word_of, work};
 use fb_shared::bench::{Bench, Limits};
@@ -164,15 +165,14 @@ fn old_receipts_are_right_without_a_checkpoint(rt: HostRuntime) -> Result<(), Fa
 // A seat that was shown the next receipt of another workbench, and one that is another's.
 #[test]
 fn seats_that_do_not_fit_a_resumed_workbench(rt: HostRuntime) -> Result<(), Fail> {
-    let key = faults_of("A").ok_or("a key")?;
     let (other, mut ahead, _second) = kept_shared(&rt, rt.alloc()).ok_or("a workbench")?;
-    let receipt = other.ask(&rt, &mut ahead, key)?;
+    let receipt = other.ask(&rt, &mut ahead, faults_of("A").ok_or("a key")?)?;
     let (shared, mut first, _other) = kept_shared(&rt, rt.alloc()).ok_or("a workbench")?;
     first.show(&receipt);
-    let refused = shared.ask(&rt, &mut first, key).err();
+    let refused = refused_ask(&rt, &shared, &mut first);
     assert_eq!(rt; refused, Some(SharedRefused::Behind { seen: 7, len: 6 }));
     let (_fresh, mut stranger, _other) = new_shared(rt.alloc(), 1000).ok_or("a workbench")?;
-    let refused = shared.ask(&rt, &mut stranger, key).err();
+    let refused = refused_ask(&rt, &shared, &mut stranger);
     let differs = SharedRefused::SeatDiffers { turns: 0, book: 1 };
     assert_eq!(rt; refused, Some(differs));
     Ok(())
