@@ -1,5 +1,5 @@
 //! A history that begins again, and a key that is given back for a session that ended, of which each allocation is refused in turn.
-use crate::nest::{BEFORE, Which, begun, given_for};
+use crate::nest::{BEFORE, Given, Which, begun, given_for};
 use crate::owners::{owner_for, taken_over};
 use crate::told::bench_told;
 use fb_bench::{CheckpointError, Limits};
@@ -86,16 +86,16 @@ fn a_held_key_is_given_back(rt: HostRuntime) -> Result<(), Fail> {
 /// The same with a shared workbench.
 #[derive(Drop)]
 struct Held<'a, R: Wait> {
-    setting: (&'a R, Key),
+    setting: (&'a R, &'a Given),
     shared: Shared,
     seat: Seat,
     receipts: Vec<Receipt>,
 }
 
 impl<'a, R: Wait> Trial for Held<'a, R> {
-    type Setting = (&'a R, Key);
+    type Setting = (&'a R, &'a Given);
 
-    fn new(alloc: Global, setting: (&'a R, Key)) -> Result<Held<'a, R>, Fail> {
+    fn new(alloc: Global, setting: (&'a R, &'a Given)) -> Result<Held<'a, R>, Fail> {
         let (shared, mut seats) = owner_for::<Shared>(alloc, Which::GiveBack)?;
         Ok(Held {
             setting,
@@ -106,10 +106,10 @@ impl<'a, R: Wait> Trial for Held<'a, R> {
     }
 
     fn call(&mut self, _alloc: Global) -> bool {
-        let (rt, key) = self.setting;
+        let (rt, given) = self.setting;
         let seat = &mut self.seat;
         let receipts = &mut self.receipts;
-        let answer = self.shared.give_back_held(rt, seat, receipts, key, BEFORE + 1);
+        let answer = self.shared.give_back_held(rt, seat, receipts, given.key, BEFORE + 1);
         answer != Err(SharedRefused::Memory)
     }
 
@@ -122,19 +122,19 @@ impl<'a, R: Wait> Trial for Held<'a, R> {
 /// A shared workbench whose history is full and begins anew with the next call, and its seat.
 #[derive(Drop)]
 struct Anew<'a, R: Wait> {
-    setting: (&'a R, Key),
+    setting: (&'a R, &'a Given),
     shared: Shared,
     seat: Seat,
 }
 
 impl<'a, R: Wait> Trial for Anew<'a, R> {
-    type Setting = (&'a R, Key);
+    type Setting = (&'a R, &'a Given);
 
-    fn new(alloc: Global, setting: (&'a R, Key)) -> Result<Anew<'a, R>, Fail> {
+    fn new(alloc: Global, setting: (&'a R, &'a Given)) -> Result<Anew<'a, R>, Fail> {
         let limits = Limits::new(4, 1).ok_or("limits")?;
         let (shared, mut seats) = Shared::rolling(alloc, limits, 1)?;
         let mut seat = seats.pop().ok_or("no seat")?;
-        shared.ask(setting.0, &mut seat, setting.1)?;
+        shared.ask(setting.0, &mut seat, setting.1.key)?;
         Ok(Anew {
             setting,
             shared,
@@ -144,8 +144,8 @@ impl<'a, R: Wait> Trial for Anew<'a, R> {
 
     /// Without memory to begin anew the history is still full.
     fn call(&mut self, _alloc: Global) -> bool {
-        let (rt, key) = self.setting;
-        self.shared.ask(rt, &mut self.seat, key).is_ok()
+        let (rt, given) = self.setting;
+        self.shared.ask(rt, &mut self.seat, given.key).is_ok()
     }
 
     fn told(&self, alloc: Global) -> Result<String, Fail> {
@@ -155,10 +155,10 @@ impl<'a, R: Wait> Trial for Anew<'a, R> {
 }
 
 fn try_shared<R: Wait + Print>(rt: &R, alloc: Global) -> Result<(), Fail> {
-    let setting = (rt, given_for(alloc)?.key);
-    try_call::<Held<'_, R>>(rt, alloc, "Shared::give_back_held", "", setting)?;
+    let given = given_for(alloc)?;
+    try_call::<Held<'_, R>>(rt, alloc, "Shared::give_back_held", "", (rt, &given))?;
     let about = " of a history that begins anew";
-    try_call::<Anew<'_, R>>(rt, alloc, "Shared::ask", about, setting)
+    try_call::<Anew<'_, R>>(rt, alloc, "Shared::ask", about, (rt, &given))
 }
 
 #[test]
