@@ -154,7 +154,9 @@ pub(crate) fn compare<
     let printed = String::from_utf8(printed).ok().ok_or("no text")?;
     let wanted = format!(in alloc; "listening on 127.0.0.1:{port}\nclosed\n")?;
     assert_eq!(rt; printed.as_str(), wanted.as_str());
-    let errors = String::from_utf8(errors.into_inner()).ok().ok_or("no text")?;
+    let errors = String::from_utf8(errors.into_inner())
+        .ok()
+        .ok_or("no text")?;
     assert_eq!(rt; errors.as_str(), play.errors);
     let (calls, len, receipts) = close.ok_or("not closed")?;
     assert_eq!(rt; receipts, len);

@@ -174,7 +174,12 @@ fn index_of(alloc: Global, library: &Library) -> Result<Index, Fail> {
     let none = nothing(alloc);
     let mut index = Index::new(alloc);
     index.replace(alloc, system, &none, mentions_of(library, &system)?)?;
-    index.replace(alloc, subapplication, &none, mentions_of(library, &subapplication)?)?;
+    index.replace(
+        alloc,
+        subapplication,
+        &none,
+        mentions_of(library, &subapplication)?,
+    )?;
     index.replace(alloc, block, &none, mentions_of(library, &block)?)?;
     Ok(index)
 }

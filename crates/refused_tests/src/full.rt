@@ -97,7 +97,12 @@ fn receipt_elsewhere(alloc: Global, given: &Given, recorded: Recorded) -> Result
 }
 
 // whether the calls with both seats are refused where a history is full, the second of which has seen one call more, and it shows what it did before
-fn is_full<R: Wait, T: Owner>(rt: &R, alloc: Global, given: &Given, row: &Row) -> Result<bool, Fail> {
+fn is_full<R: Wait, T: Owner>(
+    rt: &R,
+    alloc: Global,
+    given: &Given,
+    row: &Row,
+) -> Result<bool, Fail> {
     let (_, recorded, len) = *row;
     let seen = len.saturating_add(1);
     let elsewhere = receipt_elsewhere(alloc, given, recorded)?;

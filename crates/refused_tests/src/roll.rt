@@ -64,9 +64,10 @@ impl Trial for Returned {
     }
 
     fn call(&mut self, _alloc: Global) -> bool {
-        let seat = &mut self.seat;
-        let receipts = &mut self.receipts;
-        let answer = self.locked.return_held(seat, receipts, self.key, BEFORE + 1);
+        let key = self.key;
+        let answer = self
+            .locked
+            .return_held(&mut self.seat, &mut self.receipts, key, BEFORE + 1);
         answer != Err(SharedRefused::Memory)
     }
 
@@ -109,7 +110,9 @@ impl<'a, R: Wait> Trial for Held<'a, R> {
         let (rt, given) = self.setting;
         let seat = &mut self.seat;
         let receipts = &mut self.receipts;
-        let answer = self.shared.give_back_held(rt, seat, receipts, given.key, BEFORE + 1);
+        let answer = self
+            .shared
+            .give_back_held(rt, seat, receipts, given.key, BEFORE + 1);
         answer != Err(SharedRefused::Memory)
     }
 

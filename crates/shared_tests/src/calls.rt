@@ -23,7 +23,11 @@ fn the_lock_changes_no_receipt(rt: HostRuntime) -> Result<(), Fail> {
 }
 
 /// Why it is refused to ask for the faults of A.
-pub(crate) fn refused_ask<R: Wait>(rt: &R, shared: &Shared, seat: &mut Seat) -> Option<SharedRefused> {
+pub(crate) fn refused_ask<R: Wait>(
+    rt: &R,
+    shared: &Shared,
+    seat: &mut Seat,
+) -> Option<SharedRefused> {
     shared.ask(rt, seat, faults_of("A")?).err()
 }
 

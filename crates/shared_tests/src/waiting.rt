@@ -134,7 +134,11 @@ fn ended_beside<R: Threads + Wait + Clock + Abort + Sync>(
     let turns = play.turns;
     join(
         rt,
-        || map_vec(rt, seats, &|seat| work_turns(rt, alloc, shared, seat, gate, turns)),
+        || map_vec(
+            rt,
+            seats,
+            &|seat| work_turns(rt, alloc, shared, seat, gate, turns),
+        ),
         || bring(rt, alloc, shared, first, gate, play),
     )
 }
@@ -162,7 +166,10 @@ fn compare<R: Threads + Wait + Clock + Abort + Sync>(
     let ended = ended?;
     let ended = ended.as_slice();
     assert!(rt; is_good && ended.len() == wanted.len(), "{ended:?}");
-    assert!(rt; are_among(ended, wanted) && are_among(wanted, ended), "{ended:?}");
+    assert!(rt;
+        are_among(ended, wanted) && are_among(wanted, ended),
+        "{ended:?}"
+    );
     Ok(())
 }
 
