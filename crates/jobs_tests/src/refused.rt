@@ -9,26 +9,33 @@ use std::alloc::Global;
 use std::io::Print;
 use std::test::Fail;
 
-/// A job that is made for a key of a library.
+/// A key of a library.
+#[derive(Clone, Copy)]
+struct Wanted<'a> {
+    library: &'a Library,
+    key: Key,
+}
+
+/// A job that is made for such a key.
 #[derive(Drop)]
 struct Made<'a> {
-    setting: (&'a Library, Key),
+    wanted: &'a Wanted<'a>,
     job: Option<Job>,
 }
 
 impl<'a> Trial for Made<'a> {
-    type Setting = (&'a Library, Key);
+    type Setting = &'a Wanted<'a>;
 
-    fn new(_alloc: Global, setting: (&'a Library, Key)) -> Result<Made<'a>, Fail> {
-        Ok(Made { setting, job: None })
+    fn new(_alloc: Global, wanted: &'a Wanted<'a>) -> Result<Made<'a>, Fail> {
+        Ok(Made { wanted, job: None })
     }
 
     fn call(&mut self, alloc: Global) -> bool {
-        let (library, key) = self.setting;
-        if !has_key(library, key) {
+        let wanted = self.wanted;
+        if !has_key(wanted.library, wanted.key) {
             return true;
         }
-        self.job = make(alloc, library, key).ok();
+        self.job = make(alloc, wanted.library, wanted.key).ok();
         self.job.is_some()
     }
 
@@ -79,10 +86,20 @@ const KEYS: &[Row] = &[
     (Kind::Deploy, "Z", " for a plan"),
 ];
 
+fn try_making(
+    rt: &impl Print,
+    alloc: Global,
+    library: &Library,
+    key: Key,
+    about: &str,
+) -> Result<(), Fail> {
+    let wanted = Wanted { library, key };
+    try_call::<Made<'_>>(rt, alloc, "Job::make", about, &wanted)
+}
+
 fn try_row(rt: &impl Print, alloc: Global, library: &Library, row: &Row) -> Result<(), Fail> {
     let (kind, unit, about) = *row;
-    let setting = (library, key_of(kind, unit)?);
-    try_call::<Made<'_>>(rt, alloc, "Job::make", about, setting)?;
+    try_making(rt, alloc, library, key_of(kind, unit)?, about)?;
     let job = job_for(alloc, library, key_of(kind, unit)?)?;
     try_call::<Run<'_>>(rt, alloc, "Job::run", about, &job)
 }

@@ -23,20 +23,25 @@ fn shown_of<T: Owner>(alloc: Global, hall: &Option<Hall<T>>) -> Result<String, F
 /// An empty workbench that is made, whose history begins anew or not.
 #[derive(Drop)]
 struct Made<T: Owner> {
-    how: (Limits, bool),
+    limits: Limits,
+    rolls: bool,
     made: Option<Hall<T>>,
 }
 
 impl<T: Owner> Trial for Made<T> {
     type Setting = (Limits, bool);
 
-    fn new(_alloc: Global, how: (Limits, bool)) -> Result<Made<T>, Fail> {
-        Ok(Made { how, made: None })
+    fn new(_alloc: Global, setting: (Limits, bool)) -> Result<Made<T>, Fail> {
+        let (limits, rolls) = setting;
+        Ok(Made {
+            limits,
+            rolls,
+            made: None,
+        })
     }
 
     fn call(&mut self, alloc: Global) -> bool {
-        let (limits, rolls) = self.how;
-        self.made = T::empty(alloc, limits, rolls).ok();
+        self.made = T::empty(alloc, self.limits, self.rolls).ok();
         self.made.is_some()
     }
 

@@ -11,7 +11,9 @@ use std::test::Fail;
 /// A call, the workbench that it is made on, the seats, and its result.
 #[derive(Drop)]
 struct Called<'a, R: Wait, T: Owner> {
-    setting: (&'a R, Which, &'a Given),
+    rt: &'a R,
+    which: Which,
+    given: &'a Given,
     owner: T,
     first: Seat,
     second: Seat,
@@ -22,10 +24,13 @@ impl<'a, R: Wait, T: Owner> Trial for Called<'a, R, T> {
     type Setting = (&'a R, Which, &'a Given);
 
     fn new(alloc: Global, setting: (&'a R, Which, &'a Given)) -> Result<Called<'a, R, T>, Fail> {
-        let (owner, seats) = owner_for::<T>(alloc, setting.1)?;
+        let (rt, which, given) = setting;
+        let (owner, seats) = owner_for::<T>(alloc, which)?;
         let (first, second) = both_of(seats).ok_or("no two seats")?;
         Ok(Called {
-            setting,
+            rt,
+            which,
+            given,
             owner,
             first,
             second,
@@ -34,7 +39,7 @@ impl<'a, R: Wait, T: Owner> Trial for Called<'a, R, T> {
     }
 
     fn call(&mut self, _alloc: Global) -> bool {
-        let (rt, which, given) = self.setting;
+        let (rt, which, given) = (self.rt, self.which, self.given);
         let outcome = self.owner.answer(rt, which, &mut self.first, given);
         if outcome == Err(SharedRefused::Memory) {
             return false;

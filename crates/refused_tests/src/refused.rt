@@ -11,7 +11,9 @@ use std::test::Fail;
 /// A call, the workbench that it is made on, and what it answered.
 #[derive(Drop)]
 struct Recorded<'a> {
-    setting: (Which, Way, &'a Given),
+    which: Which,
+    way: Way,
+    given: &'a Given,
     bench: Bench,
     answer: Option<Result<Answer, Refused>>,
 }
@@ -20,16 +22,18 @@ impl<'a> Trial for Recorded<'a> {
     type Setting = (Which, Way, &'a Given);
 
     fn new(alloc: Global, setting: (Which, Way, &'a Given)) -> Result<Recorded<'a>, Fail> {
+        let (which, way, given) = setting;
         Ok(Recorded {
-            setting,
-            bench: bench_for(alloc, setting.0)?,
+            which,
+            way,
+            given,
+            bench: bench_for(alloc, which)?,
             answer: None,
         })
     }
 
     fn call(&mut self, _alloc: Global) -> bool {
-        let (which, way, given) = self.setting;
-        let answer = made(way, which, &mut self.bench, given);
+        let answer = made(self.way, self.which, &mut self.bench, self.given);
         if answer == Err(Refused::Memory) {
             return false;
         }

@@ -87,7 +87,8 @@ fn a_held_key_is_given_back(rt: HostRuntime) -> Result<(), Fail> {
 /// The same with a shared workbench.
 #[derive(Drop)]
 struct Held<'a, R: Wait> {
-    setting: (&'a R, &'a Given),
+    rt: &'a R,
+    given: &'a Given,
     shared: Shared,
     seat: Seat,
     receipts: Vec<Receipt>,
@@ -97,9 +98,11 @@ impl<'a, R: Wait> Trial for Held<'a, R> {
     type Setting = (&'a R, &'a Given);
 
     fn new(alloc: Global, setting: (&'a R, &'a Given)) -> Result<Held<'a, R>, Fail> {
+        let (rt, given) = setting;
         let (shared, mut seats) = owner_for::<Shared>(alloc, Which::GiveBack)?;
         Ok(Held {
-            setting,
+            rt,
+            given,
             shared,
             seat: seats.pop().ok_or("no seat")?,
             receipts: Vec::new(alloc),
@@ -107,7 +110,7 @@ impl<'a, R: Wait> Trial for Held<'a, R> {
     }
 
     fn call(&mut self, _alloc: Global) -> bool {
-        let (rt, given) = self.setting;
+        let (rt, given) = (self.rt, self.given);
         let seat = &mut self.seat;
         let receipts = &mut self.receipts;
         let answer = self
@@ -125,7 +128,8 @@ impl<'a, R: Wait> Trial for Held<'a, R> {
 /// A shared workbench whose history is full and begins anew with the next call, and its seat.
 #[derive(Drop)]
 struct Anew<'a, R: Wait> {
-    setting: (&'a R, &'a Given),
+    rt: &'a R,
+    given: &'a Given,
     shared: Shared,
     seat: Seat,
 }
@@ -134,12 +138,14 @@ impl<'a, R: Wait> Trial for Anew<'a, R> {
     type Setting = (&'a R, &'a Given);
 
     fn new(alloc: Global, setting: (&'a R, &'a Given)) -> Result<Anew<'a, R>, Fail> {
+        let (rt, given) = setting;
         let limits = Limits::new(4, 1).ok_or("limits")?;
         let (shared, mut seats) = Shared::rolling(alloc, limits, 1)?;
         let mut seat = seats.pop().ok_or("no seat")?;
-        shared.ask(setting.0, &mut seat, setting.1.key)?;
+        shared.ask(rt, &mut seat, given.key)?;
         Ok(Anew {
-            setting,
+            rt,
+            given,
             shared,
             seat,
         })
@@ -147,7 +153,7 @@ impl<'a, R: Wait> Trial for Anew<'a, R> {
 
     /// Without memory to begin anew the history is still full.
     fn call(&mut self, _alloc: Global) -> bool {
-        let (rt, given) = self.setting;
+        let (rt, given) = (self.rt, self.given);
         self.shared.ask(rt, &mut self.seat, given.key).is_ok()
     }
 

@@ -13,7 +13,9 @@ use std::test::Fail;
 /// A call, the workbench that it is made on, the seat, which is there between the calls, what it answered, and how many receipts it left.
 #[derive(Drop)]
 struct OfSeated<'a, R: Wait> {
-    setting: (&'a R, Which, &'a Given),
+    rt: &'a R,
+    which: Which,
+    given: &'a Given,
     owner: Shared,
     seat: Option<Seat>,
     answer: Option<Result<Answer, DeskError>>,
@@ -24,10 +26,13 @@ impl<'a, R: Wait> Trial for OfSeated<'a, R> {
     type Setting = (&'a R, Which, &'a Given);
 
     fn new(alloc: Global, setting: (&'a R, Which, &'a Given)) -> Result<OfSeated<'a, R>, Fail> {
-        let (owner, seats) = owner_for::<Shared>(alloc, setting.1)?;
+        let (rt, which, given) = setting;
+        let (owner, seats) = owner_for::<Shared>(alloc, which)?;
         let (first, _second) = both_of(seats).ok_or("no two seats")?;
         Ok(OfSeated {
-            setting,
+            rt,
+            which,
+            given,
             owner,
             seat: Some(first),
             answer: None,
@@ -39,14 +44,13 @@ impl<'a, R: Wait> Trial for OfSeated<'a, R> {
         let Some(seat) = self.seat.take() else {
             return true;
         };
-        let (rt, which, given) = self.setting;
         let mut desk = Seated {
-            rt,
+            rt: self.rt,
             shared: &self.owner,
             seat,
             receipts: Vec::new(alloc),
         };
-        let answer = made_at(which, &mut desk, given);
+        let answer = made_at(self.which, &mut desk, self.given);
         let Seated {
             rt: _,
             shared: _,
