@@ -33,7 +33,7 @@ pub use Rattle.fb_expr.specs.References.{class_of_element, class_of_referent, cl
 pub use Rattle.fb_expr.specs.{Rules.{allows}, Spans.{names_span, span_of, through_second}}
 pub use Rattle.fb_expr.specs.{declared.references.Referent.TheVariants.{NoMember, Unjudged, Variable}, declared.references.Referent.{Referent}}
 pub use Rattle.fb_laws.specs.Alone.{ReadsAlone, nearer, nearer_constant, nearer_simple, nearer_span}
-pub use Rattle.fb_laws.specs.Chains.{BordersAreComposed, CrossesFrom, CrossesOnce, EntersInner, FlatBordersAreComposed, FlatLinksAreComposed, FlatUnitsAreClean, HasFlatNet, InnerBordersAreListed, InnerNetsAreFlat, IsAfter, IsOwnNetwork, LeavesInner, LinksAreComposed, Passed, StaysInside, border_after, border_before, nothing_after, nothing_before, passed_at, passed_by}
+pub use Rattle.fb_laws.specs.Chains.{BordersAreComposed, CrossesFrom, CrossesOnce, FlatBordersAreComposed, FlatLinksAreComposed, FlatUnitsAreClean, HasFlatNet, InnerBordersAreListed, InnerNetsAreFlat, IsAfter, IsOwnNetwork, LinksAreComposed, Passed, StaysInside, border_after, border_before, nothing_after, nothing_before, passed_at, passed_by}
 pub use Rattle.fb_laws.specs.Classes.{Calculates, Changes, Combines, Compares, Divides, Fits, HasClass, IsArithmetic, IsLogical, IsPairIn, Joins, JoinsTruths, Makes, Results, RowHasClass, Spoils, Takes, first_pair, later_pair, of_broken, of_element, of_literal, of_no_array, of_no_variable, of_operator, of_parentheses, of_row, of_variable}
 pub use Rattle.fb_laws.specs.Common.{AlgorithmTree, AlgorithmUnknown, Any, ApplicationTree, B, BinaryUse, Block, ChartTree, ClassPlace, Condition, ConditionTree, Connection, ConstantTree, Count, Counter, DataType, DeclTree, DeclaredEvent, DeclaredInstance, DeclaredVariable, Destination, DeviceTree, Duplicate, End, EventTree, EventUnknown, Fault, FlatBlock, Free, I, Input, InstanceTree, InterfaceTree, Kind, Lexeme, Link, Literal, MappedTwice, MappingTree, Member, MemberUnknown, MixedKind, NameDiffers, NameUse, NetworkTree, NoSuchResource, O, OfInstance, OfPlug, OfSocket, Output, Own, ParameterTree, ParameterUnknown, PassThrough, PlainFlat, PlainResource, Plug, PortSide, PortUnknown, Position, ResourceTree, Role, SecondAdapter, SecondSource, Section, Selector, Side, Socket, Sort, Source, Span, StateTree, StateUnknown, StructRecursive, StructureTree, Subapplication, Syntax, SystemTree, Token, TransitionTree, TypeTree, TypeUse, UnaryUse, UnitKind, UnknownType, VariableUnknown, VariablesTree, WithUnknown, WrongKind, adapter_type, block_type, constant_span, guard, guarded, one_value, structure_type, subapplication_type, system_configuration, value_list, value_span}
 pub use Rattle.fb_laws.specs.Declarations.{DuplicatesAreReported, HasDuplicate, HasMixedKind, HasOtherName, HasSelfCarrying, HasUnknownType, HasUnknownWith, HasWrongKind, IsDeclaredAt, IsMisfit, MisfitsAreReported, MixedKindsAreReported, OtherNamesAreReported, RecursiveStructuresAreReported, Suits, UnknownTypesAreReported, UnknownWithsAreReported, WrongKindsAreReported, no_array, no_list}

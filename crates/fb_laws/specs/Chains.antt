@@ -29,64 +29,27 @@ passed_by (One step) = passed_at step ∷ []
 passed_by (More place step border rest) = passed_at step ∷ passed_by rest
 
 -- All that is passed lies inside one subapplication instance, and is behind a link of the inner network.
-pub record StaysInside (view : View) (sort : Sort) (network : PlainNetwork) (a b : Place) (passed : List Passed) : Type 0 where
-  pub name : List ℕ
-  pub inner : PlainNetwork
-  pub is_inner : IsInner view network name inner
-  pub from : Place
-  pub to : Place
-  pub from_is : a ≡ name ∷ from
-  pub to_is : b ≡ name ∷ to
-  pub link : IsLink view inner sort from to
-  pub whole : passed ≡ map (inside name) (passed_by link.chain)
+pub data StaysInside (view : View) (sort : Sort) (network : PlainNetwork) : Place → Place → List Passed → Type 0 where
+  by_inner_link : {name : List ℕ} {inner : PlainNetwork} {from to : Place} → IsInner view network name inner
+      → (link : IsLink view inner sort from to)
+      → StaysInside view sort network (name ∷ from) (name ∷ to) (map (inside name) (passed_by link.chain))
 
--- All that is passed lies inside one subapplication instance, and leads to the port that the end names.
-pub record LeavesInner (view : View) (sort : Sort) (network : PlainNetwork) (a : Place) (end : End) (passed : List Passed) : Type 0 where
-  pub name : List ℕ
-  pub inner : PlainNetwork
-  pub is_inner : IsInner view network name inner
-  pub port : List ℕ
-  pub from : Place
-  pub end_is : end ≡ Of name port
-  pub from_is : a ≡ name ∷ from
-  pub chain : Chain view sort inner from (port ∷ [])
-  pub whole : passed ≡ map (inside name) (passed_by chain)
+-- What is passed from a place to the source of a connection of the network itself: nothing, or what lies inside one subapplication instance, leads
+-- to the port that the source names, and is behind a border of the inner network.
+pub data IsBefore (view : View) (sort : Sort) (network : PlainNetwork) : Place → End → List Passed → Type 0 where
+  nothing_before : (source : End) → IsBefore view sort network (place_of source) source []
+  border_before : {name port : List ℕ} {inner : PlainNetwork} {from : Place} → IsInner view network name inner
+      → (border : IsBorder view inner sort port from) (chain : Chain view sort inner from (port ∷ []))
+      → border.chain ≡ inr chain
+      → IsBefore view sort network (name ∷ from) (Of name port) (map (inside name) (passed_by chain))
 
--- and is behind a border of the inner network
-pub record LeavesByBorder (view : View) (sort : Sort) (network : PlainNetwork) (a : Place) (end : End) (passed : List Passed) : Type 0 where
-  pub leaves : LeavesInner view sort network a end passed
-  pub border : IsBorder view leaves.inner sort leaves.port leaves.from
-  pub behind : border.chain ≡ inr leaves.chain
-
--- All that is passed lies inside one subapplication instance, and leads on from the port that the end names.
-pub record EntersInner (view : View) (sort : Sort) (network : PlainNetwork) (end : End) (b : Place) (passed : List Passed) : Type 0 where
-  pub name : List ℕ
-  pub inner : PlainNetwork
-  pub is_inner : IsInner view network name inner
-  pub port : List ℕ
-  pub to : Place
-  pub end_is : end ≡ Of name port
-  pub to_is : b ≡ name ∷ to
-  pub chain : Chain view sort inner (port ∷ []) to
-  pub whole : passed ≡ map (inside name) (passed_by chain)
-
--- and is behind a border of the inner network
-pub record EntersByBorder (view : View) (sort : Sort) (network : PlainNetwork) (end : End) (b : Place) (passed : List Passed) : Type 0 where
-  pub enters : EntersInner view sort network end b passed
-  pub border : IsBorder view enters.inner sort enters.port enters.to
-  pub behind : border.chain ≡ inl enters.chain
-
--- what is passed from a place to the source of a connection of the network itself: nothing, or a border
-pub data IsBefore (view : View) (sort : Sort) (network : PlainNetwork) (a : Place) (source : End) : List Passed → Type 0 where
-  nothing_before : a ≡ place_of source → IsBefore view sort network a source []
-  border_before : {passed : List Passed} → LeavesByBorder view sort network a source passed
-      → IsBefore view sort network a source passed
-
--- what is passed from its destination to a place: nothing, or a border
-pub data IsAfter (view : View) (sort : Sort) (network : PlainNetwork) (destination : End) (b : Place) : List Passed → Type 0 where
-  nothing_after : b ≡ place_of destination → IsAfter view sort network destination b []
-  border_after : {passed : List Passed} → EntersByBorder view sort network destination b passed
-      → IsAfter view sort network destination b passed
+-- What is passed from its destination to a place: nothing, or what leads on from the port that the destination names, and is behind a border.
+pub data IsAfter (view : View) (sort : Sort) (network : PlainNetwork) : End → Place → List Passed → Type 0 where
+  nothing_after : (destination : End) → IsAfter view sort network destination (place_of destination) []
+  border_after : {name port : List ℕ} {inner : PlainNetwork} {to : Place} → IsInner view network name inner
+      → (border : IsBorder view inner sort port to) (chain : Chain view sort inner (port ∷ []) to)
+      → border.chain ≡ inl chain
+      → IsAfter view sort network (Of name port) (name ∷ to) (map (inside name) (passed_by chain))
 
 -- Exactly one connection of the network itself is passed, and before and after it nothing or a border of an inner network.
 pub record CrossesOnce (view : View) (sort : Sort) (network : PlainNetwork) (a b : Place) (passed : List Passed) : Type 0 where
