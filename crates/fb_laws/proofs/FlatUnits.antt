@@ -1,5 +1,5 @@
 -- The networks of units whose nets are flat, and the nets of the types of their subapplication instances.
-use Rattle.fb_laws.proofs.Common.{arith, ℕ, ◌≡◌, List, Option, Some, None, length, inl, refl, ap, subst, Contains, contains_flat_map, unit_kind_of, DeclTree, adapter_type, block_type, structure_type, subapplication_type, system_configuration, Sources, parts_at, tree_at, IsSound, flat_net, done_part, net_at_is, unit_faultless, sound_part, sound_tree, IsClean, IsCleanThroughout, IsFlat, Held, AreInstances, IsInner, PlainNetwork, Instance, applications_of, applications_at, declared, kind_at, Holds, IsWithinLimit, OfSubapplication, own_instances, Application, FlatBordersAreComposed, FlatLinksAreComposed, FlatUnitsAreClean, HasFlatNet, InnerBordersAreListed, InnerNetsAreFlat, IsOwnNetwork, option_map}
+use Rattle.fb_laws.proofs.Common.{arith, ℕ, ◌≡◌, List, Option, Some, None, length, inl, refl, ap, subst, Contains, contains_flat_map, unit_kind_of, DeclTree, subapplication_type, system_configuration, Sources, parts_at, tree_at, IsSound, flat_net, done_part, net_at_is, unit_faultless, sound_part, sound_tree, IsClean, IsCleanThroughout, IsFlat, Held, AreInstances, IsInner, PlainNetwork, Instance, applications_of, applications_at, declared, kind_at, Holds, IsWithinLimit, OfSubapplication, own_instances, Application, FlatBordersAreComposed, FlatLinksAreComposed, FlatUnitsAreClean, HasFlatNet, InnerBordersAreListed, InnerNetsAreFlat, IsOwnNetwork, option_map}
 use Rattle.fb_laws.proofs.ChainParts.{borders_composed, links_composed}
 use Rattle.fb_tree.specs.declared.kinds.UnitKind.TheVariants as kinds
 use Rattle.fb_deploy.specs.Flatten.Far.{far_of}
@@ -13,35 +13,18 @@ type_holds : (sources : Sources) (name : List ℕ) → kind_at sources name ≡ 
 type_holds sources name kind network held d is = by (tree_at sources name) refl
   where
     by : (o : Option DeclTree) → tree_at sources name ≡ o → Holds sources name held
-    by None e = let two : kind_at sources name ≡ None = ap (option_map unit_kind_of) e in absurd (let no : ⊥ = cc in no)
-    by (Some (block_type t)) e = let two : kind_at sources name ≡ Some kinds.Block = ap (option_map unit_kind_of) e in absurd (let no : ⊥ = cc in no)
-    by (Some (adapter_type t)) e = let two : kind_at sources name ≡ Some kinds.Adapter = ap (option_map unit_kind_of) e in absurd (let no : ⊥ = cc in no)
-    by (Some (system_configuration t)) e = let two : kind_at sources name ≡ Some kinds.System = ap (option_map unit_kind_of) e in absurd (let no : ⊥ = cc in no)
-    by (Some (structure_type t)) e = let two : kind_at sources name ≡ Some kinds.Structure = ap (option_map unit_kind_of) e in absurd (let no : ⊥ = cc in no)
     by (Some (subapplication_type t)) e = grind (arith, option_map)
+    by o e = let other : kind_at sources name ≡ option_map unit_kind_of o = ap (option_map unit_kind_of) e in absurd (let no : ⊥ = cc in no)
 
-module _ (sources : Sources) (unit : List ℕ) where
-  of_type : (network : PlainNetwork) → kind_at sources unit ≡ Some kinds.Subapplication → declared sources unit ≡ Some network → (i : Instance) → Contains network.instances i → (tree : DeclTree) → tree_at sources unit ≡ Some tree → Contains (own_instances tree) i
-  of_type network kind is i c (block_type t) e = let two : kind_at sources unit ≡ Some kinds.Block = ap (option_map unit_kind_of) e in absurd (let no : ⊥ = cc in no)
-  of_type network kind is i c (adapter_type t) e = let two : kind_at sources unit ≡ Some kinds.Adapter = ap (option_map unit_kind_of) e in absurd (let no : ⊥ = cc in no)
-  of_type network kind is i c (system_configuration t) e = let two : kind_at sources unit ≡ Some kinds.System = ap (option_map unit_kind_of) e in absurd (let no : ⊥ = cc in no)
-  of_type network kind is i c (structure_type t) e = let two : kind_at sources unit ≡ Some kinds.Structure = ap (option_map unit_kind_of) e in absurd (let no : ⊥ = cc in no)
-  of_type network kind is i c (subapplication_type t) e = grind (arith, option_map)
-
-  of_system : (list : List Application) (a : Application) → kind_at sources unit ≡ Some kinds.System → applications_at sources unit ≡ Some list → Contains list a → (i : Instance) → Contains a.network.instances i → (tree : DeclTree) → tree_at sources unit ≡ Some tree → Contains (own_instances tree) i
-  of_system list a kind is among i c (block_type t) e = let two : kind_at sources unit ≡ Some kinds.Block = ap (option_map unit_kind_of) e in absurd (let no : ⊥ = cc in no)
-  of_system list a kind is among i c (adapter_type t) e = let two : kind_at sources unit ≡ Some kinds.Adapter = ap (option_map unit_kind_of) e in absurd (let no : ⊥ = cc in no)
-  of_system list a kind is among i c (subapplication_type t) e = let two : kind_at sources unit ≡ Some kinds.Subapplication = ap (option_map unit_kind_of) e in absurd (let no : ⊥ = cc in no)
-  of_system list a kind is among i c (structure_type t) e = let two : kind_at sources unit ≡ Some kinds.Structure = ap (option_map unit_kind_of) e in absurd (let no : ⊥ = cc in no)
-  of_system list a kind is among i c (system_configuration s) e =
-      let there : applications_at sources unit ≡ Some (applications_of (system_configuration s)) = ap (option_map applications_of) e in
-      let same : list ≡ applications_of (system_configuration s) = cc in
-      contains_flat_map (λ (x : Application). x.network.instances) (applications_of (system_configuration s)) a i (subst (λ (l : List Application). Contains l a) same among) c
-
-  -- the instances of an own network are the unit's
-  in_unit : (network : PlainNetwork) → IsOwnNetwork sources unit network → (i : Instance) → Contains network.instances i → (tree : DeclTree) → tree_at sources unit ≡ Some tree → Contains (own_instances tree) i
-  in_unit network (of_subapplication kind is) i c tree e = of_type network kind is i c tree e
-  in_unit network (of_application {applications = list} {application = a} kind is among) i c tree e = of_system list a kind is among i c tree e
+-- the instances of an own network are the unit's
+in_unit : (sources : Sources) (unit : List ℕ) (network : PlainNetwork) → IsOwnNetwork sources unit network → (i : Instance) → Contains network.instances i → (tree : DeclTree) → tree_at sources unit ≡ Some tree → Contains (own_instances tree) i
+in_unit sources unit network (of_subapplication kind is) i c (subapplication_type t) e = grind (arith, option_map)
+in_unit sources unit network (of_subapplication kind is) i c tree e = let other : kind_at sources unit ≡ Some (unit_kind_of tree) = ap (option_map unit_kind_of) e in absurd (let no : ⊥ = cc in no)
+in_unit sources unit network (of_application {applications = list} {application = a} kind is among) i c (system_configuration s) e =
+    let there : applications_at sources unit ≡ Some (applications_of (system_configuration s)) = ap (option_map applications_of) e in
+    let same : list ≡ applications_of (system_configuration s) = cc in
+    contains_flat_map (λ (x : Application). x.network.instances) (applications_of (system_configuration s)) a i (subst (λ (l : List Application). Contains l a) same among) c
+in_unit sources unit network (of_application kind is among) i c tree e = let other : kind_at sources unit ≡ Some (unit_kind_of tree) = ap (option_map unit_kind_of) e in absurd (let no : ⊥ = cc in no)
 
 module _ (sources : Sources) (unit : List ℕ) (sound : IsSound sources unit) where
   -- the types of its instances are parts of the unit
