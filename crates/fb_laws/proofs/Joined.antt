@@ -5,6 +5,10 @@ use Rattle.fb_laws.proofs.Common.{arith, zero, suc, ◌≡◌, ℕ, Bool, true, 
 pub of_either : {X : Type 0} {P : X → Type 0} (a b : List X) → ((y : X) → Contains a y → P y) → ((y : X) → Contains b y → P y) → (y : X) → Contains (a ++ b) y → P y
 of_either {P = P} a b left right y c = elim (Contains-append_cases a b y c) [ inl h ↦ left y h | inr h ↦ right y h ]
 
+-- and of the first one, and of those behind it
+pub of_first : {X : Type 0} {P : X → Type 0} (x : X) (xs : List X) → P x → ((y : X) → Contains xs y → P y) → (y : X) → Contains (x ∷ xs) y → P y
+of_first {P = P} x xs first later y c = elim (contains_cases x xs y c) [ inl e ↦ subst P e first | inr h ↦ later y h ]
+
 -- a list, and others behind it
 abbrev pub joined : {X : Type 0} → List X → List (List X) → List X
 joined first [] = first
