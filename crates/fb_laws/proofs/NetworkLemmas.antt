@@ -40,9 +40,6 @@ parameter_reported here n f o =
     let typed = subst (λ (m : Option Meanings). Contains (typed_parameters m o.instance.parameters) f) (sym o.usable) one in
     contains_flat_map (instance_parameters here.scope) n.instances o.instance f o.listed (subst (λ (role : Role). Contains (judged_parameters here.scope role o.instance) f) (sym o.is_block) typed)
 
-code_of : (f g : Fault) → f ≡ g → f.code ≡ g.code
-code_of f g e = ap (λ (h : Fault). h.code) e
-
 -- the faults of a network, by their codes
 
 module _ (sources : Sources) (here : NetworkPlace) (n : NetworkTree) where
@@ -67,50 +64,48 @@ module _ (sources : Sources) (here : NetworkPlace) (n : NetworkTree) where
   part Literal = all_parameters here.scope n.instances
   part code = []
 
-  moved : (f : Fault) (code : Code) → code ≡ f.code → Contains (part code) f → Contains (part f.code) f
-  moved f code e c = subst (λ (k : Code). Contains (part k) f) e c
+  moved : (g f : Fault) → g ≡ f → Contains (part g.code) f → Contains (part f.code) f
+  moved g f e c = subst (λ (h : Fault). Contains (part h.code) f) e c
 
   end_part : (c : Connection) → Contains n.connections c → (position : Position) (end : End) (t : Target) (f : Fault) → Contains (at_source c ++ at_destination c) f → Contains (end_faults position end t) f → Contains (part f.code) f
   end_part c among position end Unknown f both h =
-      moved f PortUnknown (code_of _ f (contains_single (fault_of PortUnknown end) f h)) (contains_flat_map (λ (x : Connection). at_source x ++ at_destination x) n.connections c f among both)
+      moved (fault_of PortUnknown end) f (contains_single (fault_of PortUnknown end) f h) (contains_flat_map (λ (x : Connection). at_source x ++ at_destination x) n.connections c f among both)
   end_part c among position end NotJudged f both h = absurd (contains_nothing f h)
   end_part c among position end (Found holder port) f both h =
-      moved f PortSide (code_of _ f (in_unless (same_side port.side (right_side position holder)) (fault_of PortSide end) f h).1) (contains_flat_map (λ (x : Connection). at_source x ++ at_destination x) n.connections c f among both)
+      moved (fault_of PortSide end) f (in_unless (same_side port.side (right_side position holder)) (fault_of PortSide end) f h).1 (contains_flat_map (λ (x : Connection). at_source x ++ at_destination x) n.connections c f among both)
 
-  pass_code : (kind : UnitKind) (c : Connection) (source destination : Target) (f : Fault) → Contains (pass_through_faults kind c source destination) f → PassThrough ≡ f.code
-  pass_code kinds.Subapplication c source destination f h = code_of _ f (in_where (is_own_port Source source && is_own_port Destination destination) (record { code = PassThrough; span = connection_span c }) f h).1
-  pass_code kind c source destination f h = absurd (contains_nothing f h)
+  pass_part : (c : Connection) → Contains n.connections c → (f : Fault) → Contains (at_both c) f → Contains (part f.code) f
+  pass_part c among f h = by here.kind h
+    where
+      by : (kind : UnitKind) → Contains (pass_through_faults kind c (target here c.sort c.source) (target here c.sort c.destination)) f → Contains (part f.code) f
+      by kinds.Subapplication d = moved _ f (in_where _ (record { code = PassThrough; span = connection_span c }) f d).1 (contains_flat_map at_both n.connections c f among h)
+      by kind d = absurd (contains_nothing f d)
 
   connection_part : (c : Connection) → Contains n.connections c → (f : Fault) → Contains (connection_faults here c) f → Contains (part f.code) f
   connection_part c among =
-      of_either _ _
-      (of_either _ _ (λ f h. end_part c among Source c.source (target here c.sort c.source) f (Contains-append_left (at_source c) (at_destination c) f h) h) (λ f h. end_part c among Destination c.destination (target here c.sort c.destination) f (Contains-append_right (at_source c) (at_destination c) f h) h))
-      (λ f h. moved f PassThrough (pass_code here.kind c (target here c.sort c.source) (target here c.sort c.destination) f h) (contains_flat_map at_both n.connections c f among h))
-
-  connections_part : (f : Fault) → Contains (flat_map (connection_faults here) n.connections) f → Contains (part f.code) f
-  connections_part f c = let o = origin_in_flat_map (connection_faults here) n.connections f c in connection_part o.origin o.among f o.has
-
-  types_part : (f : Fault) → Contains (flat_map (joined_types sources here) n.connections) f → Contains (part f.code) f
-  types_part f c = let o = origin_in_flat_map (joined_types sources here) n.connections f c in moved f DataType (code_of _ f (in_where _ (fault_of DataType o.origin.destination) f o.has).1) c
-
-  sources_part : (f : Fault) → Contains (second_sources n.connections) f → Contains (part f.code) f
-  sources_part f c = moved f SecondSource (code_of _ f (origin_in_map (fault_at_path SecondSource) (repeated (map end_path (data_destinations n.connections))) f c).gives) c
-
-  adapters_part : (f : Fault) → Contains (second_adapters n.connections) f → Contains (part f.code) f
-  adapters_part f c = moved f SecondAdapter (code_of _ f (origin_in_map (fault_at_path SecondAdapter) (repeated (map end_path (all_adapter_ends n.connections))) f c).gives) c
+      of_either _ _ (of_either _ _
+      (λ f h. end_part c among Source c.source (target here c.sort c.source) f (Contains-append_left (at_source c) (at_destination c) f h) h)
+      (λ f h. end_part c among Destination c.destination (target here c.sort c.destination) f (Contains-append_right (at_source c) (at_destination c) f h) h))
+      (pass_part c among)
 
   parameters_part : (f : Fault) → Contains (all_parameters here.scope n.instances) f → Contains (part f.code) f
   parameters_part f c = let o = parameter_origin here n f c in by (stands_for o.ports.variables o.parameter.name.name) o.parameter o.has
     where
       other : (p : ParameterTree) → Contains (fault_at ParameterUnknown p.name ∷ []) f → Contains (part f.code) f
-      other p h = moved f ParameterUnknown (code_of _ f (contains_single (fault_at ParameterUnknown p.name) f h)) c
+      other p h = moved (fault_at ParameterUnknown p.name) f (contains_single (fault_at ParameterUnknown p.name) f h) c
 
       by : (v : Option DeclaredVariable) (p : ParameterTree) → Contains (parameter_faults v p) f → Contains (part f.code) f
       by None p h = other p h
-      by (Some v) p h = (elim v.section as (λ section. (used : TypeUse) → (p : ParameterTree) → Contains (value_faults section used p) f → Contains (part f.code) f) [ sections.Input ↦ λ used p h. moved f Literal (sym (misfit_origin used p.value f h).0) c | o ↦ λ used p h. other p h ]) v.type_use p h
+      by (Some v) p h = (elim v.section as (λ section. Contains (value_faults section v.type_use p) f → Contains (part f.code) f) [ sections.Input ↦ λ h. subst (λ (k : Code). Contains (part k) f) (sym (misfit_origin v.type_use p.value f h).0) c | o ↦ λ h. other p h ]) h
 
   in_part : (f : Fault) → Contains (network_faults sources here n) f → Contains (part f.code) f
-  in_part = of_either _ _ (of_either _ _ (of_either _ _ (of_either _ _ connections_part types_part) sources_part) adapters_part) parameters_part
+  in_part =
+      of_either _ _ (of_either _ _ (of_either _ _ (of_either _ _
+      (λ f c. let o = origin_in_flat_map (connection_faults here) n.connections f c in connection_part o.origin o.among f o.has)
+      (λ f c. let o = origin_in_flat_map (joined_types sources here) n.connections f c in moved _ f (in_where _ (fault_of DataType o.origin.destination) f o.has).1 c))
+      (λ f c. moved _ f (origin_in_map (fault_at_path SecondSource) (repeated (map end_path (data_destinations n.connections))) f c).gives c))
+      (λ f c. moved _ f (origin_in_map (fault_at_path SecondAdapter) (repeated (map end_path (all_adapter_ends n.connections))) f c).gives c))
+      parameters_part
 
 -- the network that has a fault
 
