@@ -4,11 +4,10 @@ use Rattle.std.specs.Prelude.{◌≡◌, ℕ, Bool, true, false, List, [], ◌�
 use mathlib.Core.Logic.{inl, inr}
 use Rattle.fb_tree.specs.declared.kinds.UnitKind.TheVariants.{Subapplication, System}
 use Rattle.fb_laws.specs.Common.{Sort, Sources, flat_net, net_at, PlainFlat}
-use Rattle.fb_wiring.specs.{Network.declared.network.End.{End}, Network.declared.network.End.TheVariants.{Of}, Network.Clean.{IsCleanThroughout}}
-use Rattle.fb_wiring.specs.Network.FlatNet.{IsFlat}
 use Rattle.fb_wiring.specs.Network.Network.{View, Place, place_of, IsInner, IsConnected, Step, Holds, Within, Chain, One, More, IsLink, IsBorder}
-use Rattle.fb_wiring.specs.{Network.Plain.{PlainNetwork}, Network.Printed.{printed}, ByName.{applications_at, declared, kind_at}}
-use Rattle.fb_wiring.specs.declared.systems.Application.{Application}
+use Rattle.fb_wiring.specs.{Network.Clean.{IsCleanThroughout}, Network.Plain.{PlainNetwork}, declared.systems.Application.{Application}}
+use Rattle.fb_wiring.specs.{Network.FlatNet.{IsFlat}, Network.Printed.{printed}}
+use Rattle.fb_wiring.specs.{Network.declared.network.End.{End}, Network.declared.network.End.TheVariants.{Of}, ByName.{applications_at, declared, kind_at}}
 
 -- A connection that a chain passes: one of the network itself, or one inside the subapplication instance of that name.
 pub data Passed : Type 0 where
