@@ -1,12 +1,13 @@
 -- Connections of ports of different types, and through a subapplication, by what the list of faults has.
-use Rattle.fb_laws.proofs.Common.{arith, ◌≡◌, ℕ, Bool, true, false, not, ◌&&◌, ◌||◌, List, ◌++◌, refl, sym, ap, ◌∙◌, subst, true≢false, bytes_decides, same_text, Contains, Contains-append_right, false_from_ne_true, and_from, and_parts, or_from, or_parts, not_true, Span, NetworkTree, TypeForm, TypeUse, UnitKind, Connection, Sources, class_of_type, is_free, first_ones, is_same, instances_in, DataType, PassThrough, Fault, contains_flat_map, contains_nothing, origin_in_flat_map, same_exact, same_itself, Own, Source, Destination, Target, connection_faults, is_right, target, NetworkPlace, connection_span, fault_of, is_own_port, pass_through_faults, flows_agree, joined_types, same_at_ends, targets_agree, IsNetworkOf, NamesRight, Site, DifferInType, IsSameType, of_names, of_sizes, of_arrays, HasOtherType, HasPassThrough, NothingPassesThrough, TypesAgree, data_types, adapter_types}
+use Rattle.fb_laws.proofs.Common.{arith, ◌≡◌, ℕ, Bool, true, false, not, ◌&&◌, ◌||◌, List, ◌++◌, refl, sym, ap, ◌∙◌, subst, true≢false, bytes_decides, same_text, Contains, Contains-append_right, false_from_ne_true, and_from, and_parts, or_from, or_parts, not_true, Span, NetworkTree, TypeForm, TypeUse, UnitKind, Connection, Sources, class_of_type, is_free, first_ones, is_same, instances_in, DataType, PassThrough, Fault, contains_nothing, same_exact, same_itself, Own, Source, Destination, Target, connection_faults, is_right, target, NetworkPlace, connection_span, fault_of, is_own_port, pass_through_faults, flows_agree, joined_types, same_at_ends, targets_agree, NamesRight, Site, DifferInType, IsSameType, of_names, of_sizes, of_arrays, data_types, adapter_types}
 use Rattle.fb_laws.proofs.{RuleLemmas.{judged, not_free}, NetworkEnds.{end_target, known_end, known_own, told_end, told_home, told_own}}
-use Rattle.fb_laws.proofs.Joined.{iff, in_where, where_passes}
-use Rattle.fb_laws.proofs.NetworkLemmas.{at_both, at_destination, at_source, end_place, network_origin, own_instances, place_at, reported}
+use Rattle.fb_laws.proofs.Joined.{in_where, where_passes}
+use Rattle.fb_laws.proofs.NetworkLemmas.{Finds, at_both, at_destination, at_source, end_place, own_instances, place_at}
 use Rattle.fb_tree.specs.declared.interface.TypeForm.TheVariants as forms
 use Rattle.fb_tree.specs.declared.kinds.UnitKind.TheVariants as kinds
 use Rattle.fb_netcheck.specs.{declared.ends.Flow.{Flow}, Spellings.{same_by_form, same_type, same_words, words_at}}
 use Rattle.fb_netcheck.specs.declared.ends.Flow.TheVariants as flows
+use Rattle.fb_laws.specs.Networks.{ConnectionOf}
 
 -- types
 
@@ -51,55 +52,50 @@ module _ (sources : Sources) (here : Site) (n : NetworkTree) (own : here.own.ins
       (λ i. targets_agree (same_at_ends sources (place_at sources here n) c) (end_target sources here n own c.sort Source c.source from i) (end_target sources here n own c.sort Destination c.destination to i))
       ∙ (λ i. flows_agree (λ a b. same_type sources (first i) a (second i) b) from.port.flow to.port.flow)
 
-abbrev fault_through : Connection → Fault
+abbrev pub fault_through : Connection → Fault
 fault_through c = record { code = PassThrough; span = connection_span c }
 
 -- the faults of a connection
 
-module _ (sources : Sources) (unit : List ℕ) (here : Site) (n : NetworkTree) (stands : IsNetworkOf sources unit here n) (c : Connection) (listed : Contains n.connections c) where
+module _ (sources : Sources) (unit : List ℕ) (o : ConnectionOf sources unit) where
   abbrev at : NetworkPlace
-  at = place_at sources here n
+  at = place_at sources o.here o.network
 
   abbrev source : Target
-  source = target at c.sort c.source
+  source = target at o.connection.sort o.connection.source
 
   abbrev destination : Target
-  destination = target at c.sort c.destination
+  destination = target at o.connection.sort o.connection.destination
 
   abbrev both_right : Bool
   both_right = is_right Source source && is_right Destination destination
 
   abbrev agree : Bool
-  agree = targets_agree (same_at_ends sources at c) source destination
+  agree = targets_agree (same_at_ends sources at o.connection) source destination
 
-  own : here.own.instances ≡ first_ones (instances_in n)
-  own = own_instances sources unit here n stands
+  abbrev From : Type 0
+  From = NamesRight sources o.here o.connection.sort Source o.connection.source
 
-  type_found : (f : Fault) → Contains (joined_types sources at c) f → HasOtherType sources unit f.span
+  abbrev To : Type 0
+  To = NamesRight sources o.here o.connection.sort Destination o.connection.destination
+
+  own : o.here.own.instances ≡ first_ones (instances_in o.network)
+  own = own_instances sources unit o.here o.network o.stands
+
+  pub type_found : (f : Fault) → Contains (joined_types sources at o.connection) f → Finds sources unit f
   type_found f h =
-      let test = in_where (both_right && not agree) (fault_of DataType c.destination) f h in
+      let test = in_where (both_right && not agree) (fault_of DataType o.connection.destination) f h in
       let tests = and_parts both_right (not agree) test.0 in
       let sides = and_parts (is_right Source source) (is_right Destination destination) tests.0 in
-      let from = known_end sources here n own c.sort Source c.source sides.0 in
-      let to = known_end sources here n own c.sort Destination c.destination sides.1 in
-      let apart = not_true agree tests.1 in
-      subst (λ (g : Fault). HasOtherType sources unit g.span) test.1
-      (record {
-        here = here;
-        network = n;
-        stands = stands;
-        connection = c;
-        listed = listed;
-        from = from;
-        to = to;
-        differ = known_differ sources from.unit to.unit from.port.flow to.port.flow (sym (agreed sources here n own c from to) ∙ apart);
-        place = end_place c.destination;
-      })
+      let from = known_end sources o.here o.network own o.connection.sort Source o.connection.source sides.0 in
+      let to = known_end sources o.here o.network own o.connection.sort Destination o.connection.destination sides.1 in
+      let differ = known_differ sources from.unit to.unit from.port.flow to.port.flow (sym (agreed sources o.here o.network own o.connection from to) ∙ not_true agree tests.1) in
+      subst (Finds sources unit) test.1 (record { of = o; from = from; to = to; differ = differ; place = end_place o.connection.destination })
 
-  type_reported : (from : NamesRight sources here c.sort Source c.source) (to : NamesRight sources here c.sort Destination c.destination) → DifferInType sources from.unit to.unit from.port.flow to.port.flow → Contains (joined_types sources at c) (fault_of DataType c.destination)
+  pub type_reported : (from : From) (to : To) → DifferInType sources from.unit to.unit from.port.flow to.port.flow → Contains (joined_types sources at o.connection) (fault_of DataType o.connection.destination)
   type_reported from to differ =
-      let sides = and_from (is_right Source source) (is_right Destination destination) (told_end sources here n own c.sort Source c.source from) (told_end sources here n own c.sort Destination c.destination to) in
-      where_passes (both_right && not agree) (fault_of DataType c.destination) (and_from both_right (not agree) sides (ap not (agreed sources here n own c from to ∙ told_differ sources from.unit to.unit from.port.flow to.port.flow differ)))
+      let sides = and_from (is_right Source source) (is_right Destination destination) (told_end sources o.here o.network own o.connection.sort Source o.connection.source from) (told_end sources o.here o.network own o.connection.sort Destination o.connection.destination to) in
+      where_passes (both_right && not agree) (fault_of DataType o.connection.destination) (and_from both_right (not agree) sides (ap not (agreed sources o.here o.network own o.connection from to ∙ told_differ sources from.unit to.unit from.port.flow to.port.flow differ)))
 
   abbrev own_source : Bool
   own_source = is_own_port Source source
@@ -107,50 +103,24 @@ module _ (sources : Sources) (unit : List ℕ) (here : Site) (n : NetworkTree) (
   abbrev own_destination : Bool
   own_destination = is_own_port Destination destination
 
-  pass_found : (f : Fault) → Contains (at_both sources at n c) f → HasPassThrough sources unit f.span
-  pass_found f h = by here.kind refl h
+  pub pass_found : (f : Fault) → Contains (at_both at o.connection) f → Finds sources unit f
+  pass_found f h = by o.here.kind refl h
     where
-      by : (kind : UnitKind) → here.kind ≡ kind → Contains (pass_through_faults kind c source destination) f → HasPassThrough sources unit f.span
+      by : (kind : UnitKind) → o.here.kind ≡ kind → Contains (pass_through_faults kind o.connection source destination) f → Finds sources unit f
       by kinds.Subapplication k h =
-          let test = in_where (own_source && own_destination) (fault_through c) f h in
-          let from = known_own sources here n own c.sort Source c.source (and_parts own_source own_destination test.0).0 in
-          let to = known_own sources here n own c.sort Destination c.destination (and_parts own_source own_destination test.0).1 in
-          subst (λ (g : Fault). HasPassThrough sources unit g.span) test.1
-          (record {
-            here = here;
-            network = n;
-            stands = stands;
-            in_subapplication = k;
-            connection = c;
-            listed = listed;
-            from = from.0;
-            to = to.0;
-            own_source = from.1;
-            own_destination = to.1;
-            starts = ap (λ (s : Span). s.start) (end_place c.source);
-            ends = ap (λ (s : Span). s.end) (end_place c.destination);
-          })
+          let test = in_where (own_source && own_destination) (fault_through o.connection) f h in
+          let both = and_parts own_source own_destination test.0 in
+          let from = known_own sources o.here o.network own o.connection.sort Source o.connection.source both.0 in
+          let to = known_own sources o.here o.network own o.connection.sort Destination o.connection.destination both.1 in
+          let starts = ap (λ (s : Span). s.start) (end_place o.connection.source) in
+          let ends = ap (λ (s : Span). s.end) (end_place o.connection.destination) in
+          subst (Finds sources unit) test.1
+          (record { of = o; in_subapplication = k; from = from.0; to = to.0; own_source = from.1; own_destination = to.1; starts = starts; ends = ends })
       by kind k h = absurd (contains_nothing f h)
 
-  pass_reported : (from : NamesRight sources here c.sort Source c.source) (to : NamesRight sources here c.sort Destination c.destination) → here.kind ≡ kinds.Subapplication → from.holder ≡ Own → to.holder ≡ Own → Contains (connection_faults at c) (fault_through c)
+  pub pass_reported : (from : From) (to : To) → o.here.kind ≡ kinds.Subapplication → from.holder ≡ Own → to.holder ≡ Own → Contains (connection_faults at o.connection) (fault_through o.connection)
   pass_reported from to kind from_own to_own =
-      let both = and_from own_source own_destination (told_own sources here n own c.sort Source c.source from from_own) (told_own sources here n own c.sort Destination c.destination to to_own) in
-      let one : Contains (pass_through_faults kinds.Subapplication c source destination) (fault_through c) = where_passes (own_source && own_destination) (fault_through c) both in
-      Contains-append_right (at_source sources at n c ++ at_destination sources at n c) (at_both sources at n c) (fault_through c)
-      (subst (λ (k : UnitKind). Contains (pass_through_faults k c source destination) (fault_through c)) (sym kind) one)
-
-pub of_one_type : TypesAgree
-of_one_type sources unit span =
-    iff (λ h. let o = network_origin sources unit _ h in let c = origin_in_flat_map (joined_types sources (place_at sources o.here o.network)) o.network.connections _ o.has in type_found sources unit o.here o.network o.stands c.origin c.among _ c.has)
-    (λ h. let one = type_reported sources unit h.here h.network h.stands h.connection h.listed h.from h.to h.differ in
-    reported sources unit h.here h.network h.stands 1 _ refl (h.place ∙ sym (end_place h.connection.destination))
-    (contains_flat_map (joined_types sources (place_at sources h.here h.network)) h.network.connections h.connection (fault_of DataType h.connection.destination) h.listed one))
-
-pub passes_nothing : NothingPassesThrough
-passes_nothing sources unit span =
-    iff (λ h. let o = network_origin sources unit _ h in let c = origin_in_flat_map (at_both sources (place_at sources o.here o.network) o.network) o.network.connections _ o.has in pass_found sources unit o.here o.network o.stands c.origin c.among _ c.has)
-    (λ h. let starts = h.starts ∙ sym (ap (λ (s : Span). s.start) (end_place h.connection.source)) in
-    let ends = h.ends ∙ sym (ap (λ (s : Span). s.end) (end_place h.connection.destination)) in
-    let one = pass_reported sources unit h.here h.network h.stands h.connection h.listed h.from h.to h.in_subapplication h.own_source h.own_destination in
-    reported sources unit h.here h.network h.stands 0 _ refl (λ i. record { start = starts i; end = ends i })
-    (contains_flat_map (connection_faults (place_at sources h.here h.network)) h.network.connections h.connection (fault_through h.connection) h.listed one))
+      let both = and_from own_source own_destination (told_own sources o.here o.network own o.connection.sort Source o.connection.source from from_own) (told_own sources o.here o.network own o.connection.sort Destination o.connection.destination to to_own) in
+      let one : Contains (pass_through_faults kinds.Subapplication o.connection source destination) (fault_through o.connection) = where_passes (own_source && own_destination) (fault_through o.connection) both in
+      Contains-append_right (at_source at o.connection ++ at_destination at o.connection) (at_both at o.connection) (fault_through o.connection)
+      (subst (λ (k : UnitKind). Contains (pass_through_faults k o.connection source destination) (fault_through o.connection)) (sym kind) one)

@@ -32,6 +32,7 @@ pub mod RepeatRows
 pub mod EndRows
 pub mod ConnectionRows
 pub mod ParameterRows
+pub mod NetworkRows
 pub mod ExpressionLemmas
 pub mod StatementLemmas
 pub mod UnitDemands

@@ -131,13 +131,6 @@ module _ (sources : Sources) (here : Site) (n : NetworkTree) (own : here.own.ins
       by : (t : Target) → IsTarget sources here sort name port t → t ≡ Unknown
       by t is = grind arith
 
-  pub known_names : (name : NameUse) (port : Option NameUse) (holder : Holder) (p : Port) → target_named at sort name.name port ≡ Found holder p → (unit : List ℕ) × Names sources here sort name port holder unit p
-  known_names name port holder p e = by (target_named at sort name.name port) (is_target name port) e
-    where
-      by : (t : Target) → IsTarget sources here sort name port t → t ≡ Found holder p → (unit : List ℕ) × Names sources here sort name port holder unit p
-      by t (is_found {holder = h} {p = q} unit n) e = grind arith
-      by t none e = absurd (let fails : ⊥ = cc in fails)
-
 -- the right sides
 
 ruleset sides = (instance_source, instance_destination, plug_source, plug_destination, socket_source, socket_destination)
@@ -172,18 +165,19 @@ module _ (sources : Sources) (here : Site) (n : NetworkTree) (own : here.own.ins
   pub told_end : NamesRight sources here sort position end → is_right position there ≡ true
   told_end r = ap (is_right position) (end_target r) ∙ told_right position r.holder r.port.side r.right
 
+  -- own ones among them
+
+  own_right : (t : Target) → is_own_port position t ≡ true → is_right position t ≡ true
+  own_right t e = grind (arith, and_parts)
+
   own_exact : (holder : Holder) → is_own holder ≡ true → holder ≡ Own
   own_exact holder e = grind arith
 
-  -- own ones among them
   pub known_own : is_own_port position there ≡ true → (r : NamesRight sources here sort position end) × (r.holder ≡ Own)
-  known_own e = by there (is_target sources here n own sort end.name end.port) e
-    where
-      by : (t : Target) → IsTarget sources here sort end.name end.port t → is_own_port position t ≡ true → (r : NamesRight sources here sort position end) × (r.holder ≡ Own)
-      by t (is_found {holder = holder} {p = p} unit n) e =
-          let test = same_side p.side (right_side position holder) in
-          (record { holder = holder; unit = unit; port = p; names = n; right = known_right position holder p.side (and_parts (is_own holder) test e).1 }, own_exact holder (and_parts (is_own holder) test e).0)
-      by t none e = absurd (true≢false (sym e))
+  known_own e =
+      let r = known_end (own_right there e) in
+      let both = and_parts (is_own r.holder) (same_side r.port.side (right_side position r.holder)) (sym (ap (is_own_port position) (end_target r)) ∙ e) in
+      (r, own_exact r.holder both.0)
 
   pub told_own : (r : NamesRight sources here sort position end) → r.holder ≡ Own → is_own_port position there ≡ true
   told_own r e = ap (is_own_port position) (end_target r) ∙ and_from (is_own r.holder) (same_side r.port.side (right_side position r.holder)) (ap is_own e) (told_right position r.holder r.port.side r.right)

@@ -1,77 +1,62 @@
 -- Parameters that stand for no data input, and values that don't fit, by what the list of faults has.
-use Rattle.fb_laws.proofs.Common.{arith, ◌≡◌, ◌≢◌, ℕ, Bool, true, false, List, [], ◌∷◌, Option, Some, None, refl, sym, ap, ◌∙◌, subst, true≢false, Contains, Span, InstanceTree, NetworkTree, ParameterTree, Section, Sources, fault_at, literal_fault, stands_for, Meanings, IsMisfit, Code, Literal, ParameterUnknown, Fault, DeclaredVariable, contains_here, contains_single, net_faults_of, all_parameters, parameter_faults, value_faults, NetworkPlace, IsNetworkOf, Site, IsUsable, HasMisfit, HasUnknownParameter, ParametersAreKnown, ParametersFit}
-use Rattle.fb_laws.proofs.DeclarationRows.{misfit_origin, misfit_reported}
-use Rattle.fb_laws.proofs.NetworkLemmas.{ParameterOrigin, network_origin, parameter_origin, parameter_reported, place_at, reported}
-use Rattle.fb_laws.proofs.{UsableTypes.{known_type, listed_type, told_type}, Joined.{iff}}
+use Rattle.fb_laws.proofs.Common.{arith, ◌≡◌, ◌≢◌, ℕ, List, [], ◌∷◌, Option, Some, None, refl, sym, ap, ◌∙◌, subst, Contains, Span, InstanceTree, NetworkTree, ParameterTree, Section, Role, Sources, tree_at, fault_at, literal_fault, stands_for, Meanings, type_ports_of, usable, IsMisfit, Code, ParameterUnknown, Fault, DeclaredVariable, contains_flat_map, contains_here, contains_nothing, contains_single, origin_in_flat_map, net_faults_of, all_parameters, instance_parameters, judged_parameters, parameter_faults, typed_parameters, value_faults, NetworkPlace, IsNetworkOf, Site}
+use Rattle.fb_laws.proofs.{DeclarationRows.{misfit_origin, misfit_reported}, NetworkLemmas.{Finds, Has, place_at, reported}}
+use Rattle.fb_laws.proofs.UsableTypes.{known_type, listed_type, told_type}
 use Rattle.fb_tree.specs.declared.interface.Section.TheVariants as sections
 use Rattle.fb_tree.specs.declared.network.Role.TheVariants as roles
+use Rattle.fb_laws.specs.Networks.{ParameterOf}
 
--- what is so where a unit has a fault of a parameter
-abbrev Has : Code → Sources → List ℕ → Span → Type 0
-Has ParameterUnknown = HasUnknownParameter
-Has Literal = HasMisfit
-Has code = λ sources unit span. ⊥
-
-abbrev is_input : Section → Bool
-is_input sections.Input = true
-is_input o = false
-
-other_section : (s : Section) → is_input s ≡ false → s ≢ sections.Input
-other_section s e is = true≢false (sym (ap is_input is) ∙ e)
-
-input_missing : (o : Option DeclaredVariable) (p : ParameterTree) → ((v : DeclaredVariable) → o ≡ Some v → v.section ≢ sections.Input) → Contains (parameter_faults o p) (fault_at ParameterUnknown p.name)
+pub input_missing : (o : Option DeclaredVariable) (p : ParameterTree) → ((v : DeclaredVariable) → o ≡ Some v → v.section ≢ sections.Input) → Contains (parameter_faults o p) (fault_at ParameterUnknown p.name)
 input_missing None p none = contains_here (fault_at ParameterUnknown p.name) []
 input_missing (Some d) p none =
     (elim d.section as (λ s. s ≢ sections.Input → Contains (value_faults s d.type_use p) (fault_at ParameterUnknown p.name)) [ sections.Input ↦ λ other. absurd (other refl) | o ↦ λ other. contains_here (fault_at ParameterUnknown p.name) [] ]) (none d refl)
 
-input_unfit : (o : Option DeclaredVariable) (p : ParameterTree) (v : DeclaredVariable) (span : Span) → o ≡ Some v → v.section ≡ sections.Input → IsMisfit v.type_use p.value span → Contains (parameter_faults o p) (literal_fault span)
+pub input_unfit : (o : Option DeclaredVariable) (p : ParameterTree) (v : DeclaredVariable) (span : Span) → o ≡ Some v → v.section ≡ sections.Input → IsMisfit v.type_use p.value span → Contains (parameter_faults o p) (literal_fault span)
 input_unfit o p v span e is m = grind (arith, misfit_reported)
 
-module _ (sources : Sources) (unit : List ℕ) (here : Site) (n : NetworkTree) (stands : IsNetworkOf sources unit here n) where
+module _ (sources : Sources) (unit : List ℕ) (o : ParameterOf sources unit) where
   abbrev at : NetworkPlace
-  at = place_at sources here n
+  at = place_at sources o.here o.network
 
-  abbrev Finds : Fault → Type 0
-  Finds f = Has f.code sources unit f.span
+  abbrev meant : Option DeclaredVariable
+  meant = stands_for o.ports.variables o.parameter.name.name
 
-  found : (f : Fault) → Contains (all_parameters at.scope n.instances) f → Finds f
-  found f c = let o = parameter_origin at n f c in (elim (stands_for o.ports.variables o.parameter.name.name) as (λ v. stands_for o.ports.variables o.parameter.name.name ≡ v → Contains (parameter_faults v o.parameter) f → Finds f) [ None ↦ λ e h. unknown o (λ v same. let fails : ⊥ = cc in absurd fails) h | Some d ↦ λ e h. by_section o d d.section e refl h ]) refl o.has
+  written_found : (f : Fault) → Contains (parameter_faults meant o.parameter) f → Finds sources unit f
+  written_found f h = by meant refl h
     where
-      usable_type : (o : ParameterOrigin at n f) → IsUsable sources o.instance.type_name.name roles.Block o.ports
-      usable_type o = known_type sources o.instance.type_name.name roles.Block o.ports (sym (listed_type sources n o.instance o.listed roles.Block) ∙ o.usable)
+      missing : ((v : DeclaredVariable) → meant ≡ Some v → v.section ≢ sections.Input) → Contains (fault_at ParameterUnknown o.parameter.name ∷ []) f → Finds sources unit f
+      missing none h = subst (Finds sources unit) (contains_single (fault_at ParameterUnknown o.parameter.name) f h) (record { of = o; no_input = none; place = refl })
 
-      unknown : (o : ParameterOrigin at n f) → ((v : DeclaredVariable) → stands_for o.ports.variables o.parameter.name.name ≡ Some v → v.section ≢ sections.Input) → Contains (fault_at ParameterUnknown o.parameter.name ∷ []) f → Finds f
-      unknown o none h =
-          subst Finds (contains_single (fault_at ParameterUnknown o.parameter.name) f h)
-          (grind (arith, usable_type))
+      by_section : (d : DeclaredVariable) (s : Section) → meant ≡ Some d → d.section ≡ s → Contains (value_faults s d.type_use o.parameter) f → Finds sources unit f
+      by_section d sections.Input e is h =
+          let m = misfit_origin d.type_use o.parameter.value f h in
+          subst (λ (code : Code). Has code sources unit f.span) (sym m.0) (record { of = o; input = d; first = e; is_input = is; misfit = m.1 })
+      by_section d s e is h = missing (λ v same input. let fails : ⊥ = cc in fails) h
 
-      unfit : (o : ParameterOrigin at n f) (v : DeclaredVariable) → stands_for o.ports.variables o.parameter.name.name ≡ Some v → v.section ≡ sections.Input → (f.code ≡ Literal) × IsMisfit v.type_use o.parameter.value f.span → Finds f
-      unfit o v e is m =
-          subst (λ (code : Code). Has code sources unit f.span) (sym m.0)
-          (grind (arith, usable_type))
-
-      outside : (o : ParameterOrigin at n f) (d : DeclaredVariable) (s : Section) → stands_for o.ports.variables o.parameter.name.name ≡ Some d → d.section ≡ s → is_input s ≡ false → (v : DeclaredVariable) → stands_for o.ports.variables o.parameter.name.name ≡ Some v → v.section ≢ sections.Input
-      outside o d s e is other v same = let it : d ≡ v = cc in other_section v.section (ap (λ (w : DeclaredVariable). is_input w.section) (sym it) ∙ ap is_input is ∙ other)
-
-      by_section : (o : ParameterOrigin at n f) (d : DeclaredVariable) (s : Section) → stands_for o.ports.variables o.parameter.name.name ≡ Some d → d.section ≡ s → Contains (value_faults s d.type_use o.parameter) f → Finds f
-      by_section o d sections.Input e is h = unfit o d e is (misfit_origin d.type_use o.parameter.value f h)
-      by_section o d sections.Output e is h = unknown o (outside o d sections.Output e is refl) h
-      by_section o d sections.Internal e is h = unknown o (outside o d sections.Internal e is refl) h
-      by_section o d sections.Field e is h = unknown o (outside o d sections.Field e is refl) h
+      by : (v : Option DeclaredVariable) → meant ≡ v → Contains (parameter_faults v o.parameter) f → Finds sources unit f
+      by None e h = missing (λ v same. let fails : ⊥ = cc in absurd fails) h
+      by (Some d) e h = by_section d d.section e refl h
 
   -- and the other way
-  known_reported : {span there : Span} (code : Code) (i : InstanceTree) (ports : Meanings) (p : ParameterTree) → Contains n.instances i → i.role ≡ roles.Block → IsUsable sources i.type_name.name roles.Block ports → Contains i.parameters p → span ≡ there → Contains (parameter_faults (stands_for ports.variables p.name.name) p) (record { code = code; span = there }) → Contains (net_faults_of sources unit) (record { code = code; span = span })
-  known_reported {there = there} code i ports p listed is_block usable written place has =
-      let type = listed_type sources n i listed roles.Block ∙ told_type sources i.type_name.name roles.Block ports usable in
-      reported sources unit here n stands 4 _ refl place
-      (parameter_reported at n (record { code = code; span = there }) (record { instance = i; listed = listed; is_block = is_block; ports = ports; usable = type; parameter = p; written = written; has = has }))
+  pub parameter_reported : {code : Code} {span there : Span} → span ≡ there → Contains (parameter_faults meant o.parameter) (record { code = code; span = there }) → Contains (net_faults_of sources unit) (record { code = code; span = span })
+  parameter_reported {code = code} {there = there} place has =
+      let f : Fault = record { code = code; span = there } in
+      let one = contains_flat_map (λ (p : ParameterTree). parameter_faults (stands_for o.ports.variables p.name.name) p) o.instance.parameters o.parameter f o.written has in
+      let type = listed_type sources o.network o.instance o.listed roles.Block ∙ told_type sources o.instance.type_name.name roles.Block o.ports o.usable in
+      let typed = subst (λ (m : Option Meanings). Contains (typed_parameters m o.instance.parameters) f) (sym type) one in
+      reported sources unit o.here o.network o.stands 4 _ refl place
+      (contains_flat_map (instance_parameters at.scope) o.network.instances o.instance f o.listed (subst (λ (role : Role). Contains (judged_parameters at.scope role o.instance) f) (sym o.is_block) typed))
 
-pub known : ParametersAreKnown
-known sources unit span =
-    iff (λ c. let o = network_origin sources unit _ c in found sources unit o.here o.network o.stands _ o.has)
-    (λ h. known_reported sources unit h.here h.network h.stands ParameterUnknown h.instance h.ports h.parameter h.listed h.is_block h.usable h.written h.place (input_missing (stands_for h.ports.variables h.parameter.name.name) h.parameter h.no_input))
+pub parameter_found : (sources : Sources) (unit : List ℕ) (here : Site) (n : NetworkTree) → IsNetworkOf sources unit here n → (f : Fault) → Contains (all_parameters (place_at sources here n).scope n.instances) f → Finds sources unit f
+parameter_found sources unit here n stands f c = let i = origin_in_flat_map (instance_parameters (place_at sources here n).scope) n.instances f c in by_role i.origin i.among i.origin.role refl i.has
+  where
+    by_ports : (i : InstanceTree) → Contains n.instances i → i.role ≡ roles.Block → (m : Option Meanings) → usable roles.Block (tree_at sources i.type_name.name) ≡ m → Contains (typed_parameters m i.parameters) f → Finds sources unit f
+    by_ports i among is None e h = absurd (contains_nothing f h)
+    by_ports i among is (Some m) e h =
+        let p = origin_in_flat_map (λ (p : ParameterTree). parameter_faults (stands_for m.variables p.name.name) p) i.parameters f h in
+        let type = known_type sources i.type_name.name roles.Block m e in
+        written_found sources unit (record { here = here; network = n; stands = stands; instance = i; listed = among; is_block = is; ports = m; usable = type; parameter = p.origin; written = p.among }) f p.has
 
-pub fit : ParametersFit
-fit sources unit span =
-    iff (λ c. let o = network_origin sources unit _ c in found sources unit o.here o.network o.stands _ o.has)
-    (λ h. known_reported sources unit h.here h.network h.stands Literal h.instance h.ports h.parameter h.listed h.is_block h.usable h.written refl (input_unfit (stands_for h.ports.variables h.parameter.name.name) h.parameter h.input span h.first h.is_input h.misfit))
+    by_role : (i : InstanceTree) → Contains n.instances i → (role : Role) → i.role ≡ role → Contains (judged_parameters (place_at sources here n).scope role i) f → Finds sources unit f
+    by_role i among roles.Block is h = by_ports i among is (type_ports_of sources n roles.Block i.type_name.name) (sym (listed_type sources n i among roles.Block)) h
+    by_role i among role is h = absurd (contains_nothing f h)

@@ -1,7 +1,7 @@
 -- Ends that stand twice, by what the list of faults has.
-use Rattle.fb_laws.proofs.Common.{arith, ◌≡◌, List, [], ◌∷◌, ◌++◌, map, ◌⊎◌, inl, inr, refl, sym, ap, ◌∙◌, subst, Contains, flat_map, Contains-append_left, Contains-append_right, Contains-append_cases, NetworkTree, Connection, End, Sort, Code, SecondAdapter, SecondSource, Fault, ComesThrough, contains_cases, contains_flat_map, contains_here, contains_later, contains_nothing, contains_single, origin_in_flat_map, Position, Source, Destination, net_faults_of, Path, fault_at_path, repeated_faults, adapter_ends, data_destination, end_path, path_named, HaveSameNames, IsEndOf, IsNetworkOf, Site, source, destination, AdaptersHaveOneEnd, DestinationsHaveOneSource, HasSecondAdapter, HasSecondSource, IsTaken, by_earlier, by_source, option_map}
-use Rattle.fb_laws.proofs.{NetworkLemmas.{end_place, fault_at_end, network_origin, reported}, RepeatedPaths.{repeat_origin, repeat_reported}}
-use Rattle.fb_laws.proofs.{SplitLemmas.{nothing_split, split_through, through_split}, Joined.{iff}}
+use Rattle.fb_laws.proofs.Common.{arith, ◌≡◌, ℕ, List, [], ◌∷◌, ◌++◌, map, ◌⊎◌, inl, inr, refl, sym, ap, ◌∙◌, subst, Contains, flat_map, Contains-append_left, Contains-append_right, Contains-append_cases, Span, NetworkTree, Connection, End, Sort, Sources, Code, SecondAdapter, SecondSource, Fault, ComesThrough, contains_cases, contains_flat_map, contains_here, contains_later, contains_nothing, contains_single, origin_in_flat_map, Position, Source, Destination, Path, fault_at_path, repeated_faults, adapter_ends, data_destination, end_path, path_named, second_adapters, second_sources, HaveSameNames, IsEndOf, IsNetworkOf, Site, place_of, source, destination, HasSecondAdapter, HasSecondSource, IsTaken, by_earlier, by_source, option_map}
+use Rattle.fb_laws.proofs.{NetworkLemmas.{Finds, end_place, fault_at_end}, RepeatedPaths.{repeat_origin, repeat_reported}}
+use Rattle.fb_laws.proofs.SplitLemmas.{nothing_split, split_through, through_split}
 use Rattle.fb_tree.specs.declared.network.Sort.TheVariants as sorts
 
 -- ends of connections
@@ -87,10 +87,21 @@ in_data o d e c = absurd (contains_nothing e c)
 data_is : (sort : Sort) (d : End) → sort ≡ sorts.Data → data_destination sort d ≡ d ∷ []
 data_is sort d e = ap (λ s. data_destination s d) e
 
-pub one_source : DestinationsHaveOneSource
-one_source sources unit span =
-    iff (λ c. let o = network_origin sources unit it c in let s = second_origin SecondSource destinations o.network.connections it o.has in by o.here o.network o.stands s.end s.is s.second s.second.taken)
-    (λ h. let second : IsSecond destinations h.network.connections h.again.destination = record {
+module _ (sources : Sources) (unit : List ℕ) (here : Site) (n : NetworkTree) (stands : IsNetworkOf sources unit here n) where
+  in_earlier : (e : End) (s : IsSecond destinations n.connections e) → ComesThrough destinations s.earlier s.other → HasSecondSource sources unit (place_of e)
+  in_earlier e s o = grind (arith, data_parts, in_data)
+
+  second_source : (e : End) (s : IsSecond destinations n.connections e) → ComesThrough destinations s.earlier s.other ⊎ Contains s.inside s.other → HasSecondSource sources unit (place_of e)
+  second_source e s (inl o) = in_earlier e s o
+  second_source e s (inr c) = absurd (contains_nothing s.other (subst (λ (l : List End). Contains l s.other) (data_parts s.again.sort s.again.destination s.inside s.rest e s.parts).2 c))
+
+  pub sources_found : (f : Fault) → Contains (second_sources n.connections) f → Finds sources unit f
+  sources_found f c = let s = second_origin SecondSource destinations n.connections f c in subst (Finds sources unit) s.is (second_source s.end s.second s.second.taken)
+
+pub source_reported : {sources : Sources} {unit : List ℕ} {span : Span} (h : HasSecondSource sources unit span) → Contains (second_sources h.network.connections) (fault_at_end SecondSource h.again.destination)
+source_reported h =
+    second_reported SecondSource destinations h.network.connections h.again.destination
+    (record {
       earlier = h.before;
       again = h.again;
       later = h.after;
@@ -101,18 +112,7 @@ one_source sources unit span =
       other = h.first.destination;
       same = h.same;
       taken = inl (record { origin = h.first; among = h.earlier; has = subst (λ (l : List End). Contains l h.first.destination) (sym (data_is h.first.sort h.first.destination h.first_of_data)) (contains_here h.first.destination []) });
-    } in
-    reported sources unit h.here h.network h.stands 2 _ refl h.place (second_reported SecondSource destinations h.network.connections h.again.destination second))
-  where
-    it : Fault
-    it = record { code = SecondSource; span = span }
-
-    in_earlier : (here : Site) (n : NetworkTree) → IsNetworkOf sources unit here n → (e : End) → fault_at_end SecondSource e ≡ it → (s : IsSecond destinations n.connections e) → ComesThrough destinations s.earlier s.other → HasSecondSource sources unit span
-    in_earlier here n stands e is s o = grind (arith, data_parts, in_data)
-
-    by : (here : Site) (n : NetworkTree) → IsNetworkOf sources unit here n → (e : End) → fault_at_end SecondSource e ≡ it → (s : IsSecond destinations n.connections e) → ComesThrough destinations s.earlier s.other ⊎ Contains s.inside s.other → HasSecondSource sources unit span
-    by here n stands e is s (inl o) = in_earlier here n stands e is s o
-    by here n stands e is s (inr c) = absurd (contains_nothing s.other (subst (λ (l : List End). Contains l s.other) (data_parts s.again.sort s.again.destination s.inside s.rest e s.parts).2 c))
+    })
 
 -- ends of adapter connections
 
@@ -160,66 +160,58 @@ around : (c : Connection) (position : Position) (e : End) → IsEndOf c position
 around c Source e source = ([], c.destination ∷ [], refl)
 around c Destination e destination = (c.source ∷ [], [], refl)
 
-pub one_end : AdaptersHaveOneEnd
-one_end sources unit span =
-    iff to
-    (λ h. let again = second h.network.connections h.before h.after h.again h.position h.end h.listed h.of_adapter h.is_end h.taken in
-    reported sources unit h.here h.network h.stands 3 _ refl h.place (second_reported SecondAdapter both_ends h.network.connections h.end again))
-  where
-    it : Fault
-    it = record { code = SecondAdapter; span = span }
+module _ (sources : Sources) (unit : List ℕ) (here : Site) (n : NetworkTree) (stands : IsNetworkOf sources unit here n) where
+  made : (e : End) (s : IsSecond both_ends n.connections e) (position : Position) → s.again.sort ≡ sorts.Adapter → IsEndOf s.again position e → IsTaken s.earlier s.again position e → HasSecondAdapter sources unit (place_of e)
+  made e s position sort end taken = grind arith
 
-    made : (here : Site) (n : NetworkTree) → IsNetworkOf sources unit here n → (e : End) → fault_at_end SecondAdapter e ≡ it → (s : IsSecond both_ends n.connections e) → (position : Position) → s.again.sort ≡ sorts.Adapter → IsEndOf s.again position e → IsTaken s.earlier s.again position e → HasSecondAdapter sources unit span
-    made here n stands e is s position sort end taken = grind arith
+  position_of : (c : Connection) (inside : List End) (e : End) → IsPart c.source c.destination inside e → (position : Position) × IsEndOf c position e
+  position_of c inside e part = grind (arith, is_source, is_destination)
 
-    position_of : (c : Connection) (inside : List End) (e : End) → IsPart c.source c.destination inside e → (position : Position) × IsEndOf c position e
-    position_of c inside e part = grind (arith, is_source, is_destination)
+  -- the source of its own connection
+  own : (earlier : List Connection) (c : Connection) (inside : List End) (e other : End) → IsPart c.source c.destination inside e → Contains inside other → HaveSameNames other e → (position : Position) × IsEndOf c position e × IsTaken earlier c position e
+  own earlier c inside e other part h names = grind (arith, contains_nothing, contains_single, is_destination, by_source)
 
-    -- the source of its own connection
-    own : (earlier : List Connection) (c : Connection) (inside : List End) (e other : End) → IsPart c.source c.destination inside e → Contains inside other → HaveSameNames other e → (position : Position) × IsEndOf c position e × IsTaken earlier c position e
-    own earlier c inside e other part h names = grind (arith, contains_nothing, contains_single, is_destination, by_source)
+  second_adapter : (e : End) (s : IsSecond both_ends n.connections e) → ComesThrough both_ends s.earlier s.other ⊎ Contains s.inside s.other → HasSecondAdapter sources unit (place_of e)
+  second_adapter e s taken =
+      let again = adapter_parts s.again.sort s.again.source s.again.destination s.inside s.rest e s.parts in
+      elim taken [
+        | inl o ↦
+            let at = position_of s.again s.inside e again.1 in
+            let first = in_both o.origin s.other o.has in
+            made e s at.0 again.0 at.1 (by_earlier o.origin first.position s.other o.among first.of_adapter first.is_end s.same)
+        | inr c ↦ let at = own s.earlier s.again s.inside e s.other again.1 c s.same in made e s at.0 again.0 at.1 at.2
+      ]
 
-    by : (here : Site) (n : NetworkTree) → IsNetworkOf sources unit here n → (e : End) → fault_at_end SecondAdapter e ≡ it → (s : IsSecond both_ends n.connections e) → ComesThrough both_ends s.earlier s.other ⊎ Contains s.inside s.other → HasSecondAdapter sources unit span
-    by here n stands e is s (inl o) =
-        let again = adapter_parts s.again.sort s.again.source s.again.destination s.inside s.rest e s.parts in
-        let at = position_of s.again s.inside e again.1 in
-        let first = in_both o.origin s.other o.has in
-        made here n stands e is s at.0 again.0 at.1 (by_earlier o.origin first.position s.other o.among first.of_adapter first.is_end s.same)
-    by here n stands e is s (inr c) =
-        let again = adapter_parts s.again.sort s.again.source s.again.destination s.inside s.rest e s.parts in
-        let at = own s.earlier s.again s.inside e s.other again.1 c s.same in
-        made here n stands e is s at.0 again.0 at.1 at.2
+  pub adapters_found : (f : Fault) → Contains (second_adapters n.connections) f → Finds sources unit f
+  adapters_found f c = let s = second_origin SecondAdapter both_ends n.connections f c in subst (Finds sources unit) s.is (second_adapter s.end s.second s.second.taken)
 
-    to : Contains (net_faults_of sources unit) it → HasSecondAdapter sources unit span
-    to c =
-        let o = network_origin sources unit it c in
-        let s = second_origin SecondAdapter both_ends o.network.connections it o.has in
-        by o.here o.network o.stands s.end s.is s.second s.second.taken
-
-    second : (connections before after : List Connection) (c : Connection) (position : Position) (e : End) → connections ≡ before ++ c ∷ after → c.sort ≡ sorts.Adapter → IsEndOf c position e → IsTaken before c position e → IsSecond both_ends connections e
-    second connections before after c position e listed sort end (by_earlier first other taken among first_sort first_end same) =
-        let parts = around c position e end in
-        record {
-          earlier = before;
-          again = c;
-          later = after;
-          listed = listed;
-          inside = parts.0;
-          rest = parts.1;
-          parts = both_is c sort ∙ parts.2;
-          other = taken;
-          same = same;
-          taken = inl (record { origin = first; among = among; has = both_have first other taken first_sort first_end });
-        }
-    second connections before after c position e listed sort end (by_source same) = record {
+taken_second : (connections before after : List Connection) (c : Connection) (position : Position) (e : End) → connections ≡ before ++ c ∷ after → c.sort ≡ sorts.Adapter → IsEndOf c position e → IsTaken before c position e → IsSecond both_ends connections e
+taken_second connections before after c position e listed sort end (by_earlier first other taken among first_sort first_end same) =
+    let parts = around c position e end in
+    record {
       earlier = before;
       again = c;
       later = after;
       listed = listed;
-      inside = c.source ∷ [];
-      rest = [];
-      parts = both_is c sort;
-      other = c.source;
+      inside = parts.0;
+      rest = parts.1;
+      parts = both_is c sort ∙ parts.2;
+      other = taken;
       same = same;
-      taken = inr (contains_here c.source []);
+      taken = inl (record { origin = first; among = among; has = both_have first other taken first_sort first_end });
     }
+taken_second connections before after c position e listed sort end (by_source same) = record {
+  earlier = before;
+  again = c;
+  later = after;
+  listed = listed;
+  inside = c.source ∷ [];
+  rest = [];
+  parts = both_is c sort;
+  other = c.source;
+  same = same;
+  taken = inr (contains_here c.source []);
+}
+
+pub adapter_reported : {sources : Sources} {unit : List ℕ} {span : Span} (h : HasSecondAdapter sources unit span) → Contains (second_adapters h.network.connections) (fault_at_end SecondAdapter h.end)
+adapter_reported h = second_reported SecondAdapter both_ends h.network.connections h.end (taken_second h.network.connections h.before h.after h.again h.position h.end h.listed h.of_adapter h.is_end h.taken)

@@ -11,16 +11,26 @@ use Rattle.fb_tree.specs.declared.network.Sort.TheVariants as sorts
 use Rattle.fb_netcheck.specs.{declared.ends.Flow.{Flow}, Spellings.{words_at}}
 use Rattle.fb_netcheck.specs.declared.ends.Flow.TheVariants as flows
 
--- an end that names no port of the connection's sort, and is none of an instance that connections of this sort reach and whose type is not usable
-pub record HasUnknownPort (sources : Sources) (unit : List ℕ) (span : Span) : Type 0 where
+-- a connection of a network of the unit
+pub record ConnectionOf (sources : Sources) (unit : List ℕ) : Type 0 where
   pub here : Site
   pub network : NetworkTree
   pub stands : IsNetworkOf sources unit here network
   pub connection : Connection
   pub listed : Contains network.connections connection
+
+-- an end of one
+pub record EndOf (sources : Sources) (unit : List ℕ) : Type 0 where
+  pub joined : ConnectionOf sources unit
+  pub open joined use *
   pub position : Position
   pub end : End
   pub is_end : IsEndOf connection position end
+
+-- an end that names no port of the connection's sort, and is none of an instance that connections of this sort reach and whose type is not usable
+pub record HasUnknownPort (sources : Sources) (unit : List ℕ) (span : Span) : Type 0 where
+  pub of : EndOf sources unit
+  pub open of use *
   pub unknown : (holder : Holder) (home : List ℕ) (port : Port)
       → ¬ Names sources here connection.sort end.name end.port holder home port
   pub judged : ¬ IsNotJudged sources here.own (IsReachedBy here connection.sort) end.name end.port
@@ -28,14 +38,8 @@ pub record HasUnknownPort (sources : Sources) (unit : List ℕ) (span : Span) : 
 
 -- an end that names a port of the wrong side
 pub record HasWrongSide (sources : Sources) (unit : List ℕ) (span : Span) : Type 0 where
-  pub here : Site
-  pub network : NetworkTree
-  pub stands : IsNetworkOf sources unit here network
-  pub connection : Connection
-  pub listed : Contains network.connections connection
-  pub position : Position
-  pub end : End
-  pub is_end : IsEndOf connection position end
+  pub of : EndOf sources unit
+  pub open of use *
   pub holder : Holder
   pub home : List ℕ
   pub port : Port
@@ -66,11 +70,8 @@ pub data DifferInType (sources : Sources) (unit other : List ℕ) : Flow → Flo
 
 -- a connection of two ports of the right sides and of different types
 pub record HasOtherType (sources : Sources) (unit : List ℕ) (span : Span) : Type 0 where
-  pub here : Site
-  pub network : NetworkTree
-  pub stands : IsNetworkOf sources unit here network
-  pub connection : Connection
-  pub listed : Contains network.connections connection
+  pub of : ConnectionOf sources unit
+  pub open of use *
   pub from : NamesRight sources here connection.sort Source connection.source
   pub to : NamesRight sources here connection.sort Destination connection.destination
   pub differ : DifferInType sources from.unit to.unit from.port.flow to.port.flow
@@ -117,12 +118,9 @@ pub record HasSecondAdapter (sources : Sources) (unit : List ℕ) (span : Span) 
 
 -- a connection of a subapplication type from an own port to an own port, both of the right sides
 pub record HasPassThrough (sources : Sources) (unit : List ℕ) (span : Span) : Type 0 where
-  pub here : Site
-  pub network : NetworkTree
-  pub stands : IsNetworkOf sources unit here network
+  pub of : ConnectionOf sources unit
+  pub open of use *
   pub in_subapplication : here.kind ≡ kinds.Subapplication
-  pub connection : Connection
-  pub listed : Contains network.connections connection
   pub from : NamesRight sources here connection.sort Source connection.source
   pub to : NamesRight sources here connection.sort Destination connection.destination
   pub own_source : from.holder ≡ Own
@@ -130,8 +128,8 @@ pub record HasPassThrough (sources : Sources) (unit : List ℕ) (span : Span) : 
   pub starts : span.start ≡ (place_of connection.source).start
   pub ends : span.end ≡ (place_of connection.destination).end
 
--- a parameter of a block instance that stands for no data input of its type, where this is usable
-pub record HasUnknownParameter (sources : Sources) (unit : List ℕ) (span : Span) : Type 0 where
+-- a parameter of a block instance whose type is usable
+pub record ParameterOf (sources : Sources) (unit : List ℕ) : Type 0 where
   pub here : Site
   pub network : NetworkTree
   pub stands : IsNetworkOf sources unit here network
@@ -142,22 +140,19 @@ pub record HasUnknownParameter (sources : Sources) (unit : List ℕ) (span : Spa
   pub usable : IsUsable sources instance.type_name.name roles.Block ports
   pub parameter : ParameterTree
   pub written : Contains instance.parameters parameter
+
+-- a parameter of a block instance that stands for no data input of its type, where this is usable
+pub record HasUnknownParameter (sources : Sources) (unit : List ℕ) (span : Span) : Type 0 where
+  pub of : ParameterOf sources unit
+  pub open of use *
   pub no_input : (v : DeclaredVariable) → stands_for ports.variables parameter.name.name ≡ Some v
       → v.section ≢ sections.Input
   pub place : span ≡ parameter.name.span
 
 -- a parameter of a block instance that stands for a data input of its type, and whose value doesn't fit the input's type
 pub record HasMisfit (sources : Sources) (unit : List ℕ) (span : Span) : Type 0 where
-  pub here : Site
-  pub network : NetworkTree
-  pub stands : IsNetworkOf sources unit here network
-  pub instance : InstanceTree
-  pub listed : Contains network.instances instance
-  pub is_block : instance.role ≡ roles.Block
-  pub ports : Meanings
-  pub usable : IsUsable sources instance.type_name.name roles.Block ports
-  pub parameter : ParameterTree
-  pub written : Contains instance.parameters parameter
+  pub of : ParameterOf sources unit
+  pub open of use *
   pub input : DeclaredVariable
   pub first : stands_for ports.variables parameter.name.name ≡ Some input
   pub is_input : input.section ≡ sections.Input

@@ -1,2 +1,2 @@
 pub returns : Rattle.fb_laws.proofs.networks.adapters_have_one_end.Goals.returns
-returns c = Rattle.fb_laws.proofs.RepeatRows.one_end
+returns c = Rattle.fb_laws.proofs.NetworkRows.one_end

@@ -1,2 +1,2 @@
 pub returns : Rattle.fb_laws.proofs.networks.destinations_have_one_source.Goals.returns
-returns c = Rattle.fb_laws.proofs.RepeatRows.one_source
+returns c = Rattle.fb_laws.proofs.NetworkRows.one_source

@@ -1,2 +1,2 @@
 pub returns : Rattle.fb_laws.proofs.networks.nothing_passes_through.Goals.returns
-returns c = Rattle.fb_laws.proofs.ConnectionRows.passes_nothing
+returns c = Rattle.fb_laws.proofs.NetworkRows.passes_nothing

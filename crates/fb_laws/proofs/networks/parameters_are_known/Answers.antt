@@ -1,2 +1,2 @@
 pub returns : Rattle.fb_laws.proofs.networks.parameters_are_known.Goals.returns
-returns c = Rattle.fb_laws.proofs.ParameterRows.known
+returns c = Rattle.fb_laws.proofs.NetworkRows.parameters_known
