@@ -16,59 +16,33 @@ ends_same : (a b : End) → HaveSameNames a b → names_of a ≡ names_of b
 ends_same a b e = grind (arith, option_map)
 
 -- an end of those that each connection has, with one of the same names before it
-record IsSecond (f : Connection → List End) (connections : List Connection) (e : End) : Type 0 where
-  earlier : List Connection
-  again : Connection
-  later : List Connection
-  listed : connections ≡ earlier ++ again ∷ later
-  inside : List End
-  rest : List End
-  parts : f again ≡ inside ++ e ∷ rest
-  other : End
-  same : HaveSameNames other e
-  taken : ComesThrough f earlier other ⊎ Contains inside other
+data IsSecond (f : Connection → List End) (connections : List Connection) (e : End) : Type 0 where
+  second : (earlier later : List Connection) (again : Connection) (inside rest : List End) (other : End)
+      → connections ≡ earlier ++ again ∷ later → f again ≡ inside ++ e ∷ rest
+      → HaveSameNames other e → ComesThrough f earlier other ⊎ Contains inside other → IsSecond f connections e
 
 path_fault : (code : Code) (e : End) → fault_at_path code (end_path e) ≡ fault_at_end code e
 path_fault code e = λ i. record { code = code; span = end_place e i }
 
-record SecondOrigin (code : Code) (f : Connection → List End) (connections : List Connection) (fault : Fault) : Type 0 where
-  end : End
-  second : IsSecond f connections end
-  is : fault_at_end code end ≡ fault
-
 taken_in : (f : Connection → List End) (earlier : List Connection) (inside : List End) (other : End) → Contains (flat_map f earlier ++ inside) other → ComesThrough f earlier other ⊎ Contains inside other
 taken_in f earlier inside other c = elim (Contains-append_cases (flat_map f earlier) inside other c) [ inl h ↦ inl (origin_in_flat_map f earlier other h) | inr h ↦ inr h ]
 
-second_origin : (code : Code) (f : Connection → List End) (connections : List Connection) (fault : Fault) → Contains (repeated_faults code (map end_path (flat_map f connections))) fault → SecondOrigin code f connections fault
+second_origin : (code : Code) (f : Connection → List End) (connections : List Connection) (fault : Fault) → Contains (repeated_faults code (map end_path (flat_map f connections))) fault → (e : End) × IsSecond f connections e × (fault_at_end code e ≡ fault)
 second_origin code f connections fault c =
     let e = repeat_origin end_path (flat_map f connections) code fault c in
     let t = split_through f connections e.before e.after e.item e.split in
-    record {
-      end = e.item;
-      second = record {
-        earlier = t.earlier;
-        again = t.origin;
-        later = t.later;
-        listed = t.split;
-        inside = t.inside;
-        rest = t.rest;
-        parts = t.parts;
-        other = e.other;
-        same = same_ends e.other e.item e.same;
-        taken = taken_in f t.earlier t.inside e.other (subst (λ (l : List End). Contains l e.other) t.passed e.seen);
-      };
-      is = sym (path_fault code e.item) ∙ e.is;
-    }
+    let taken = taken_in f t.earlier t.inside e.other (subst (λ (l : List End). Contains l e.other) t.passed e.seen) in
+    (e.item, second t.earlier t.later t.origin t.inside t.rest e.other t.split t.parts (same_ends e.other e.item e.same) taken, sym (path_fault code e.item) ∙ e.is)
 
 second_reported : (code : Code) (f : Connection → List End) (connections : List Connection) (e : End) → IsSecond f connections e → Contains (repeated_faults code (map end_path (flat_map f connections))) (fault_at_end code e)
-second_reported code f connections e h =
-    let split = ap (flat_map f) h.listed ∙ through_split f h.earlier h.later h.again h.inside h.rest e h.parts in
-    let seen = repeat_reported end_path code (flat_map f connections) (flat_map f h.earlier ++ h.inside) (h.rest ++ flat_map f h.later) e h.other split (among h.taken) (ends_same h.other e h.same) in
+second_reported code f connections e (second earlier later again inside rest other listed parts same taken) =
+    let split = ap (flat_map f) listed ∙ through_split f earlier later again inside rest e parts in
+    let seen = repeat_reported end_path code (flat_map f connections) (flat_map f earlier ++ inside) (rest ++ flat_map f later) e other split (among taken) (ends_same other e same) in
     subst (λ (g : Fault). Contains (repeated_faults code (map end_path (flat_map f connections))) g) (path_fault code e) seen
   where
-    among : ComesThrough f h.earlier h.other ⊎ Contains h.inside h.other → Contains (flat_map f h.earlier ++ h.inside) h.other
-    among (inl o) = Contains-append_left (flat_map f h.earlier) h.inside h.other (contains_flat_map f h.earlier o.origin h.other o.among o.has)
-    among (inr c) = Contains-append_right (flat_map f h.earlier) h.inside h.other c
+    among : ComesThrough f earlier other ⊎ Contains inside other → Contains (flat_map f earlier ++ inside) other
+    among (inl o) = Contains-append_left (flat_map f earlier) inside other (contains_flat_map f earlier o.origin other o.among o.has)
+    among (inr c) = Contains-append_right (flat_map f earlier) inside other c
 
 -- destinations of data
 
@@ -88,31 +62,23 @@ data_is : (sort : Sort) (d : End) → sort ≡ sorts.Data → data_destination s
 data_is sort d e = ap (λ s. data_destination s d) e
 
 module _ (sources : Sources) (unit : List ℕ) (here : Site) (n : NetworkTree) (stands : IsNetworkOf sources unit here n) where
-  in_earlier : (e : End) (s : IsSecond destinations n.connections e) → ComesThrough destinations s.earlier s.other → HasSecondSource sources unit (place_of e)
-  in_earlier e s o = grind (arith, data_parts, in_data)
+  in_earlier : (earlier later : List Connection) (again : Connection) (inside rest : List End) (e other : End) → n.connections ≡ earlier ++ again ∷ later → destinations again ≡ inside ++ e ∷ rest → HaveSameNames other e → ComesThrough destinations earlier other → HasSecondSource sources unit (place_of e)
+  in_earlier earlier later again inside rest e other listed parts same o = grind (arith, data_parts, in_data)
 
-  second_source : (e : End) (s : IsSecond destinations n.connections e) → ComesThrough destinations s.earlier s.other ⊎ Contains s.inside s.other → HasSecondSource sources unit (place_of e)
-  second_source e s (inl o) = in_earlier e s o
-  second_source e s (inr c) = absurd (contains_nothing s.other (subst (λ (l : List End). Contains l s.other) (data_parts s.again.sort s.again.destination s.inside s.rest e s.parts).2 c))
+  second_source : (e : End) → IsSecond destinations n.connections e → HasSecondSource sources unit (place_of e)
+  second_source e (second earlier later again inside rest other listed parts same (inl o)) = in_earlier earlier later again inside rest e other listed parts same o
+  second_source e (second earlier later again inside rest other listed parts same (inr c)) =
+      absurd (contains_nothing other (subst (λ (l : List End). Contains l other) (data_parts again.sort again.destination inside rest e parts).2 c))
 
   pub sources_found : (f : Fault) → Contains (second_sources n.connections) f → Finds sources unit f
-  sources_found f c = let s = second_origin SecondSource destinations n.connections f c in subst (Finds sources unit) s.is (second_source s.end s.second s.second.taken)
+  sources_found f c = let s = second_origin SecondSource destinations n.connections f c in subst (Finds sources unit) s.2 (second_source s.0 s.1)
 
 pub source_reported : {sources : Sources} {unit : List ℕ} {span : Span} (h : HasSecondSource sources unit span) → Contains (second_sources h.network.connections) (fault_at_end SecondSource h.again.destination)
 source_reported h =
+    let has = subst (λ (l : List End). Contains l h.first.destination) (sym (data_is h.first.sort h.first.destination h.first_of_data)) (contains_here h.first.destination []) in
+    let taken = inl (record { origin = h.first; among = h.earlier; has = has }) in
     second_reported SecondSource destinations h.network.connections h.again.destination
-    (record {
-      earlier = h.before;
-      again = h.again;
-      later = h.after;
-      listed = h.listed;
-      inside = [];
-      rest = [];
-      parts = data_is h.again.sort h.again.destination h.of_data;
-      other = h.first.destination;
-      same = h.same;
-      taken = inl (record { origin = h.first; among = h.earlier; has = subst (λ (l : List End). Contains l h.first.destination) (sym (data_is h.first.sort h.first.destination h.first_of_data)) (contains_here h.first.destination []) });
-    })
+    (second h.before h.after h.again [] [] h.first.destination h.listed (data_is h.again.sort h.again.destination h.of_data) h.same taken)
 
 -- ends of adapter connections
 
@@ -161,8 +127,8 @@ around c Source e source = ([], c.destination ∷ [], refl)
 around c Destination e destination = (c.source ∷ [], [], refl)
 
 module _ (sources : Sources) (unit : List ℕ) (here : Site) (n : NetworkTree) (stands : IsNetworkOf sources unit here n) where
-  made : (e : End) (s : IsSecond both_ends n.connections e) (position : Position) → s.again.sort ≡ sorts.Adapter → IsEndOf s.again position e → IsTaken s.earlier s.again position e → HasSecondAdapter sources unit (place_of e)
-  made e s position sort end taken = grind arith
+  made : (earlier later : List Connection) (again : Connection) (e : End) (position : Position) → n.connections ≡ earlier ++ again ∷ later → again.sort ≡ sorts.Adapter → IsEndOf again position e → IsTaken earlier again position e → HasSecondAdapter sources unit (place_of e)
+  made earlier later again e position listed sort end taken = grind arith
 
   position_of : (c : Connection) (inside : List End) (e : End) → IsPart c.source c.destination inside e → (position : Position) × IsEndOf c position e
   position_of c inside e part = grind (arith, is_source, is_destination)
@@ -171,47 +137,26 @@ module _ (sources : Sources) (unit : List ℕ) (here : Site) (n : NetworkTree) (
   own : (earlier : List Connection) (c : Connection) (inside : List End) (e other : End) → IsPart c.source c.destination inside e → Contains inside other → HaveSameNames other e → (position : Position) × IsEndOf c position e × IsTaken earlier c position e
   own earlier c inside e other part h names = grind (arith, contains_nothing, contains_single, is_destination, by_source)
 
-  second_adapter : (e : End) (s : IsSecond both_ends n.connections e) → ComesThrough both_ends s.earlier s.other ⊎ Contains s.inside s.other → HasSecondAdapter sources unit (place_of e)
-  second_adapter e s taken =
-      let again = adapter_parts s.again.sort s.again.source s.again.destination s.inside s.rest e s.parts in
-      elim taken [
-        | inl o ↦
-            let at = position_of s.again s.inside e again.1 in
-            let first = in_both o.origin s.other o.has in
-            made e s at.0 again.0 at.1 (by_earlier o.origin first.position s.other o.among first.of_adapter first.is_end s.same)
-        | inr c ↦ let at = own s.earlier s.again s.inside e s.other again.1 c s.same in made e s at.0 again.0 at.1 at.2
-      ]
+  second_adapter : (e : End) → IsSecond both_ends n.connections e → HasSecondAdapter sources unit (place_of e)
+  second_adapter e (second earlier later again inside rest other listed parts same (inl o)) =
+      let part = adapter_parts again.sort again.source again.destination inside rest e parts in
+      let at = position_of again inside e part.1 in
+      let first = in_both o.origin other o.has in
+      made earlier later again e at.0 listed part.0 at.1 (by_earlier o.origin first.position other o.among first.of_adapter first.is_end same)
+  second_adapter e (second earlier later again inside rest other listed parts same (inr c)) =
+      let part = adapter_parts again.sort again.source again.destination inside rest e parts in
+      let at = own earlier again inside e other part.1 c same in
+      made earlier later again e at.0 listed part.0 at.1 at.2
 
   pub adapters_found : (f : Fault) → Contains (second_adapters n.connections) f → Finds sources unit f
-  adapters_found f c = let s = second_origin SecondAdapter both_ends n.connections f c in subst (Finds sources unit) s.is (second_adapter s.end s.second s.second.taken)
+  adapters_found f c = let s = second_origin SecondAdapter both_ends n.connections f c in subst (Finds sources unit) s.2 (second_adapter s.0 s.1)
 
 taken_second : (connections before after : List Connection) (c : Connection) (position : Position) (e : End) → connections ≡ before ++ c ∷ after → c.sort ≡ sorts.Adapter → IsEndOf c position e → IsTaken before c position e → IsSecond both_ends connections e
 taken_second connections before after c position e listed sort end (by_earlier first other taken among first_sort first_end same) =
     let parts = around c position e end in
-    record {
-      earlier = before;
-      again = c;
-      later = after;
-      listed = listed;
-      inside = parts.0;
-      rest = parts.1;
-      parts = both_is c sort ∙ parts.2;
-      other = taken;
-      same = same;
-      taken = inl (record { origin = first; among = among; has = both_have first other taken first_sort first_end });
-    }
-taken_second connections before after c position e listed sort end (by_source same) = record {
-  earlier = before;
-  again = c;
-  later = after;
-  listed = listed;
-  inside = c.source ∷ [];
-  rest = [];
-  parts = both_is c sort;
-  other = c.source;
-  same = same;
-  taken = inr (contains_here c.source []);
-}
+    let has = inl (record { origin = first; among = among; has = both_have first other taken first_sort first_end }) in
+    second before after c parts.0 parts.1 taken listed (both_is c sort ∙ parts.2) same has
+taken_second connections before after c position e listed sort end (by_source same) = second before after c (c.source ∷ []) [] c.source listed (both_is c sort) same (inr (contains_here c.source []))
 
 pub adapter_reported : {sources : Sources} {unit : List ℕ} {span : Span} (h : HasSecondAdapter sources unit span) → Contains (second_adapters h.network.connections) (fault_at_end SecondAdapter h.end)
 adapter_reported h = second_reported SecondAdapter both_ends h.network.connections h.end (taken_second h.network.connections h.before h.after h.again h.position h.end h.listed h.of_adapter h.is_end h.taken)
