@@ -1,5 +1,5 @@
 -- What a unit is made of is what it rests on, and what blocks its net is reported there.
-use Rattle.fb_laws.proofs.Common.{arith, ◌≡◌, ◌≢◌, ℕ, false, List, [], ◌∷◌, Option, Some, None, inl, inr, refl, sym, ap, ◌∙◌, subst, get, Contains, option_and_then, Contains-append_cases, is_elementary, contains_flat_map, contains_here, contains_map, contains_nothing, origin_in_flat_map, origin_in_map, passes_in_filter, instance_types, types_in, value_types, variable_types, ApplicationTree, DeclTree, InstanceTree, TypeTree, VariablesTree, adapter_type, block_type, structure_type, subapplication_type, system_configuration, Rests, itself, Sources, mentions_at, parts_at, parts_in, tree_at, tree_of, values_at, values_in, variables_of, instances_of, UnknownType, Fault, faults_of, IsNet, IsWhole, PlainNet, blocked, flat_net, recursive, too_large, part_mention, rests_more, value_mention, net_at_is, no_names_sorted, HasUnknownType, IsDeclaredAt, AreDeclaredIn, IsHeldIn, IsType, instance_of_application, instance_of_type, of_adapter, of_block, of_subapplication, Declarations, filter, from_names}
+use Rattle.fb_laws.proofs.Common.{arith, ◌≡◌, ◌≢◌, ℕ, false, List, [], ◌∷◌, ◌++◌, map, flat_map, map-append, Option, Some, None, inl, inr, refl, sym, ap, ◌∙◌, subst, get, Contains, option_and_then, Contains-append_cases, is_elementary, contains_flat_map, contains_here, contains_map, contains_nothing, origin_in_flat_map, origin_in_map, passes_in_filter, instance_types, types_in, value_types, variable_types, ApplicationTree, DeclTree, InstanceTree, TypeTree, VariablesTree, adapter_type, block_type, structure_type, subapplication_type, system_configuration, Rests, itself, Sources, mentions_at, parts_at, parts_in, tree_at, tree_of, values_at, values_in, variables_of, instances_of, UnknownType, Fault, faults_of, IsNet, IsWhole, PlainNet, blocked, flat_net, recursive, too_large, part_mention, rests_more, value_mention, net_at_is, no_names_sorted, HasUnknownType, IsDeclaredAt, AreDeclaredIn, IsHeldIn, IsType, instance_of_application, instance_of_type, of_adapter, of_block, of_subapplication, Declarations, filter, from_names}
 use Rattle.fb_laws.proofs.{CarriedTypes.{is_plain, no_elementary, value_of}, DeclarationRows.{among_declared, declared_in, unknown_types}}
 use Rattle.fb_laws.proofs.{PartLemmas.{whole_units}, PathHolders.{part_among}}
 use Rattle.fb_deploy.specs.{Library.Rests.{through}, Flatten.Blocking.{AreThose, IsBlocking}}
@@ -9,26 +9,20 @@ use Rattle.fb_laws.specs.MadeOf.{BlockedIsTold, BlockedUnitsHaveFaultsBelow, Has
 
 -- ---- declarations
 
--- an instance of this type
-record HasInstance (decl : DeclTree) (name : List ℕ) : Type 0 where
-  instance : InstanceTree
-  held : IsHeldIn decl instance
-  typed : instance.type_name.name ≡ name
+map_through : {X Y Z : Type 0} (f : Y → Z) (g : X → List Y) (xs : List X) → map f (flat_map g xs) ≡ flat_map (λ x. map f (g x)) xs
+map_through f g [] = refl
+map_through f g (x ∷ xs) = map-append f (g x) (flat_map g xs) ∙ ap (λ l. map f (g x) ++ l) (map_through f g xs)
 
-in_type : (decl : DeclTree) (type : TypeTree) (name : List ℕ) → IsType decl type → Contains (types_in type.network.instances) name → HasInstance decl name
-in_type decl type name is c =
-    let o = origin_in_map (λ (i : InstanceTree). i.type_name.name) type.network.instances name c in
-    record { instance = o.origin; held = instance_of_type is o.among; typed = o.gives }
+types_by_instances : (decl : DeclTree) → instance_types decl ≡ types_in (instances_of decl)
+types_by_instances (system_configuration s) = sym (map_through (λ (i : InstanceTree). i.type_name.name) (λ (a : ApplicationTree). a.network.instances) s.applications)
+types_by_instances decl = refl
 
-instance_there : (decl : DeclTree) (name : List ℕ) → Contains (instance_types decl) name → HasInstance decl name
-instance_there (block_type d) name c = in_type (block_type d) d name (of_block d) c
-instance_there (adapter_type d) name c = in_type (adapter_type d) d name (of_adapter d) c
-instance_there (subapplication_type d) name c = in_type (subapplication_type d) d name (of_subapplication d) c
-instance_there (system_configuration s) name c =
-    let a = origin_in_flat_map (λ (a : ApplicationTree). types_in a.network.instances) s.applications name c in
-    let o = origin_in_map (λ (i : InstanceTree). i.type_name.name) a.origin.network.instances name a.has in
-    record { instance = o.origin; held = instance_of_application a.among o.among; typed = o.gives }
-instance_there (structure_type s) name c = absurd (contains_nothing name c)
+listed_held : (decl : DeclTree) (i : InstanceTree) → Contains (instances_of decl) i → IsHeldIn decl i
+listed_held (block_type d) i c = instance_of_type (of_block d) c
+listed_held (adapter_type d) i c = instance_of_type (of_adapter d) c
+listed_held (subapplication_type d) i c = instance_of_type (of_subapplication d) c
+listed_held (system_configuration s) i c = let a = origin_in_flat_map (λ (a : ApplicationTree). a.network.instances) s.applications i c in instance_of_application a.among a.has
+listed_held (structure_type s) i c = absurd (contains_nothing i c)
 
 of_type_held : (decl : DeclTree) (type : TypeTree) (i : InstanceTree) → IsType decl type → Contains type.network.instances i → Contains (instances_of decl) i
 of_type_held decl type i is c = grind (arith, of_block)
@@ -37,20 +31,8 @@ held_listed : (decl : DeclTree) (i : InstanceTree) → IsHeldIn decl i → Conta
 held_listed decl i (instance_of_type {type = type} is c) = of_type_held decl type i is c
 held_listed decl i (instance_of_application {s = s} {application = a} among c) = contains_flat_map (λ (b : ApplicationTree). b.network.instances) s.applications a i among c
 
--- variables or fields of this type
-record HasVariables (decl : DeclTree) (name : List ℕ) : Type 0 where
-  variables : VariablesTree
-  declared : AreDeclaredIn decl variables
-  typed : variables.type_use.name.name ≡ name
-
 types_by_variables : (decl : DeclTree) → value_types decl ≡ variable_types (variables_of decl)
 types_by_variables decl = grind (arith, block_type)
-
-variables_there : (decl : DeclTree) (name : List ℕ) → Contains (value_types decl) name → HasVariables decl name
-variables_there decl name c =
-    let among = subst (λ (l : List (List ℕ)). Contains l name) (types_by_variables decl) c in
-    let o = origin_in_map (λ (v : VariablesTree). v.type_use.name.name) (variables_of decl) name among in
-    record { variables = o.origin; declared = declared_in decl o.origin o.among; typed = o.gives }
 
 type_among : (decl : DeclTree) (v : VariablesTree) → AreDeclaredIn decl v → Contains (value_types decl) v.type_use.name.name
 type_among decl v declared =
@@ -66,7 +48,10 @@ of_parts sources holder P each name = by (tree_at sources holder) refl
   where
     by : (tree : Option DeclTree) → tree_at sources holder ≡ tree → Contains (parts_in tree) name → P name
     by None is c = absurd (contains_nothing name c)
-    by (Some decl) is c = let i = instance_there decl name (from_names (instance_types decl) name c) in subst P i.typed (each decl i.instance is i.held)
+    by (Some decl) is c =
+        let listed = subst (λ (l : List (List ℕ)). Contains l name) (types_by_instances decl) (from_names (instance_types decl) name c) in
+        let i = origin_in_map (λ (i : InstanceTree). i.type_name.name) (instances_of decl) name listed in
+        subst P i.gives (each decl i.origin is (listed_held decl i.origin i.among))
 
 -- ---- what a unit holds
 
@@ -94,10 +79,11 @@ module _ (sources : Sources) (unit : List ℕ) where
   value_made : (holder name : List ℕ) → IsMadeOf sources unit holder → (tree : Option DeclTree) → tree_at sources holder ≡ tree → Contains (values_in tree) name → IsMadeOf sources unit name
   value_made holder name made None is c = absurd (contains_nothing name c)
   value_made holder name made (Some decl) is c =
-      let listed = from_names (filter is_plain (value_types decl)) name c in
-      let v = variables_there decl name (passes_in_filter is_plain (value_types decl) name listed).among in
-      let plain : is_elementary v.variables.type_use.name.name ≡ false = ap is_elementary v.typed ∙ no_elementary sources (Some decl) name c in
-      subst (λ (n : List ℕ). IsMadeOf sources unit n) v.typed (type_of_value decl v.variables made is v.declared plain)
+      let listed = passes_in_filter is_plain (value_types decl) name (from_names (filter is_plain (value_types decl)) name c) in
+      let among = subst (λ (l : List (List ℕ)). Contains l name) (types_by_variables decl) listed.among in
+      let v = origin_in_map (λ (v : VariablesTree). v.type_use.name.name) (variables_of decl) name among in
+      let plain : is_elementary v.origin.type_use.name.name ≡ false = ap is_elementary v.gives ∙ no_elementary sources (Some decl) name c in
+      subst (λ (n : List ℕ). IsMadeOf sources unit n) v.gives (type_of_value decl v.origin made is (declared_in decl v.origin v.among) plain)
 
   mention_made : (holder name : List ℕ) → IsMadeOf sources unit holder → Contains (mentions_at sources holder) name → IsMadeOf sources unit name
   mention_made holder name made m =

@@ -76,9 +76,8 @@ module _ (sources : Sources) (unit : List ℕ) (here : Site) (n : NetworkTree) (
 pub source_reported : {sources : Sources} {unit : List ℕ} {span : Span} (h : HasSecondSource sources unit span) → Contains (second_sources h.network.connections) (fault_at_end SecondSource h.again.destination)
 source_reported h =
     let has = subst (λ (l : List End). Contains l h.first.destination) (sym (data_is h.first.sort h.first.destination h.first_of_data)) (contains_here h.first.destination []) in
-    let taken = inl (record { origin = h.first; among = h.earlier; has = has }) in
     second_reported SecondSource destinations h.network.connections h.again.destination
-    (second h.before h.after h.again [] [] h.first.destination h.listed (data_is h.again.sort h.again.destination h.of_data) h.same taken)
+    (second h.before h.after h.again [] [] h.first.destination h.listed (data_is h.again.sort h.again.destination h.of_data) h.same (inl (record { origin = h.first; among = h.earlier; has = has })))
 
 -- ends of adapter connections
 
@@ -154,8 +153,7 @@ module _ (sources : Sources) (unit : List ℕ) (here : Site) (n : NetworkTree) (
 taken_second : (connections before after : List Connection) (c : Connection) (position : Position) (e : End) → connections ≡ before ++ c ∷ after → c.sort ≡ sorts.Adapter → IsEndOf c position e → IsTaken before c position e → IsSecond both_ends connections e
 taken_second connections before after c position e listed sort end (by_earlier first other taken among first_sort first_end same) =
     let parts = around c position e end in
-    let has = inl (record { origin = first; among = among; has = both_have first other taken first_sort first_end }) in
-    second before after c parts.0 parts.1 taken listed (both_is c sort ∙ parts.2) same has
+    second before after c parts.0 parts.1 taken listed (both_is c sort ∙ parts.2) same (inl (record { origin = first; among = among; has = both_have first other taken first_sort first_end }))
 taken_second connections before after c position e listed sort end (by_source same) = second before after c (c.source ∷ []) [] c.source listed (both_is c sort) same (inr (contains_here c.source []))
 
 pub adapter_reported : {sources : Sources} {unit : List ℕ} {span : Span} (h : HasSecondAdapter sources unit span) → Contains (second_adapters h.network.connections) (fault_at_end SecondAdapter h.end)
