@@ -1,5 +1,5 @@
 -- Which part of the check has a code, and a fault of a unit.
-use Rattle.fb_laws.proofs.Common.{arith, ◌≡◌, ◌≢◌, ℕ, Bool, true, false, List, [], ◌∷◌, Some, None, ◌⊎◌, inl, inr, refl, sym, ap, ◌∙◌, subst, true≢false, Contains, slice_get, get, option_and_then, none-some, BrokenAt, body_of, Sources, tree_at, tree_in, tree_of, iface_faults_of, Code, Syntax, StateUnknown, EventUnknown, AlgorithmUnknown, VariableUnknown, PortUnknown, PortSide, DataType, SecondSource, SecondAdapter, PassThrough, ParameterUnknown, Literal, MappedTwice, NoSuchResource, MemberUnknown, Fault, expr_faults_of, ecc_faults_of, net_faults_of, mapping_faults_of, faults_of, reported_of, syntax_faults_of, text_faults, contains_nothing, contains_single, in_written, those_reported, CodesAreOfTheirParts, ConstantsAreOfTwoParts, HasPart, IsCodeOf, IsOfConstants, Declarations, Charts, Networks, Mappings, PartsHaveAllOtherCodes, PartsShareOneCode, WholeUnitsHaveFaultsOfParts, faults_by, of_constant, parameter_value}
+use Rattle.fb_laws.proofs.Common.{arith, ◌≡◌, ◌≢◌, ℕ, Bool, true, false, List, [], ◌∷◌, Some, None, ◌⊎◌, inl, inr, refl, sym, ap, ◌∙◌, subst, true≢false, Contains, slice_get, get, option_and_then, none-some, BrokenAt, body_of, Sources, tree_at, tree_in, tree_of, iface_faults_of, Code, Syntax, StateUnknown, EventUnknown, AlgorithmUnknown, VariableUnknown, PortUnknown, PortSide, DataType, SecondSource, SecondAdapter, PassThrough, ParameterUnknown, Literal, MappedTwice, NoSuchResource, MemberUnknown, Fault, expr_faults_of, ecc_faults_of, net_faults_of, mapping_faults_of, faults_of, reported_of, syntax_faults_of, text_faults, contains_nothing, contains_single, in_written, those_reported, CodesAreOfTheirParts, ConstantsAreOfTwoParts, HasPart, IsCodeOf, IsOfConstants, Declarations, Charts, Networks, Mappings, PartsHaveAllOtherCodes, PartsShareOneCode, WholeUnitsHaveFaultsOfParts, faults_by, of_constant, initial_value, parameter_value}
 use Rattle.fb_laws.proofs.{CodeLemmas.{own_codes, codes}, Joined.{in_joined, of_either}}
 use Rattle.fb_deploy.specs.Iface.declared.code.Code.TheVariants.{Class}
 use Rattle.fb_laws.specs.UnitParts.{Part, Expressions}
@@ -25,26 +25,23 @@ own_part MappedTwice = Mappings
 own_part NoSuchResource = Mappings
 own_part code = Declarations
 
-abbrev pub is_of_texts : Code → Bool
-is_of_texts Syntax = true
-is_of_texts code = false
-
 abbrev IsHome : Part → Code → Type 0
-IsHome part code = (is_of_texts code ≡ false) × ((part ≡ own_part code) ⊎ ((part ≡ Networks) × (code ≡ Literal)))
+IsHome part code = (part ≡ own_part code) ⊎ ((part ≡ Networks) × (code ≡ Literal))
 
 home_of : (part : Part) (code : Code) → IsCodeOf part code → IsHome part code
-home_of part code parameter_value = (refl, inr (refl, refl))
-home_of part code is = (refl, inl refl)
+home_of part code parameter_value = inr (refl, refl)
+home_of part code is = inl refl
 
 pub one_shared : PartsShareOneCode
-one_shared p q code differ a b = by (home_of p code a).1 (home_of q code b).1
+one_shared p q code differ a b = by (home_of p code a) (home_of q code b)
   where
-    by : (p ≡ own_part code) ⊎ ((p ≡ Networks) × (code ≡ Literal)) → (q ≡ own_part code) ⊎ ((q ≡ Networks) × (code ≡ Literal)) → IsOfConstants p q code
+    by : IsHome p code → IsHome q code → IsOfConstants p q code
     by first second = grind arith
 
 -- a code of a part is none of texts
 pub no_text_code : (part : Part) (code : Code) → IsCodeOf part code → code ≡ Syntax → ⊥
-no_text_code part code c e = true≢false (sym (ap is_of_texts e) ∙ (home_of part code c).0)
+no_text_code part code parameter_value e = let no : ⊥ = cc in no
+no_text_code part code c e = let no : ⊥ = cc in no
 
 -- the list that has a code
 listed_code : (code : Code) → code ≢ Syntax → HasPart code
@@ -104,28 +101,21 @@ pub whole_units : WholeUnitsHaveFaultsOfParts
 whole_units sources unit decl there f = (λ c. (elim (is_found sources unit f c) [ of_text o ↦ absurd (none-some decl (sym (no_tree sources unit f o) ∙ there)) | of_part part h ↦ record { part = part; reported = h } ]), λ o. part_found sources unit f o.part o.reported)
 
 pub of_their_parts : CodesAreOfTheirParts
-of_their_parts part sources unit f code other = (λ c. (elim (is_found sources unit f c) [ of_text o ↦ absurd (no_text_code part f.code code o.code) | of_part q h ↦ subst (λ (p : Part). Contains (faults_by p sources unit) f) (same q (home_of part f.code code).1 (home_of q f.code (own_codes q sources unit f h)).1) h ]), λ h. part_found sources unit f part h)
+of_their_parts part sources unit f code other = (λ c. (elim (is_found sources unit f c) [ of_text o ↦ absurd (no_text_code part f.code code o.code) | of_part q h ↦ subst (λ (p : Part). Contains (faults_by p sources unit) f) (same q (home_of part f.code code) (home_of q f.code (own_codes q sources unit f h))) h ]), λ h. part_found sources unit f part h)
   where
-    same : (q : Part) → (part ≡ own_part f.code) ⊎ ((part ≡ Networks) × (f.code ≡ Literal)) → (q ≡ own_part f.code) ⊎ ((q ≡ Networks) × (f.code ≡ Literal)) → q ≡ part
+    same : (q : Part) → IsHome part f.code → IsHome q f.code → q ≡ part
     same q first second = grind arith
 
 pub of_two_parts : ConstantsAreOfTwoParts
-of_two_parts sources unit span = (λ c. by (is_found sources unit it c), from)
+of_two_parts sources unit span = (λ c. by (is_found sources unit it c), λ h. elim h [ inl c ↦ part_found sources unit it Declarations c | inr c ↦ part_found sources unit it Networks c ])
   where
     it : Fault
     it = of_constant span
 
-    moved : (q p : Part) → q ≡ p → Contains (faults_by q sources unit) it → Contains (faults_by p sources unit) it
-    moved q p e h = subst (λ (r : Part). Contains (faults_by r sources unit) it) e h
-
-    in_one : (q : Part) → Contains (faults_by q sources unit) it → (q ≡ own_part Literal) ⊎ ((q ≡ Networks) × (Literal ≡ Literal)) → Contains (iface_faults_of sources unit) it ⊎ Contains (net_faults_of sources unit) it
-    in_one q h (inl e) = inl (moved q Declarations e h)
-    in_one q h (inr e) = inr (moved q Networks e.0 h)
+    in_one : (q : Part) → Contains (faults_by q sources unit) it → IsCodeOf q Literal → Contains (iface_faults_of sources unit) it ⊎ Contains (net_faults_of sources unit) it
+    in_one q h initial_value = inl h
+    in_one q h parameter_value = inr h
 
     by : IsReported sources unit it → Contains (iface_faults_of sources unit) it ⊎ Contains (net_faults_of sources unit) it
-    by (of_text o) = absurd (true≢false (sym (ap is_of_texts o.code)))
-    by (of_part q h) = in_one q h (home_of q Literal (own_codes q sources unit it h)).1
-
-    from : Contains (iface_faults_of sources unit) it ⊎ Contains (net_faults_of sources unit) it → Contains (faults_of sources unit) it
-    from (inl h) = part_found sources unit it Declarations h
-    from (inr h) = part_found sources unit it Networks h
+    by (of_text o) = let same : Literal ≡ Syntax = o.code in let no : ⊥ = cc in no
+    by (of_part q h) = in_one q h (own_codes q sources unit it h)
