@@ -58,10 +58,10 @@ module _ (i : InterfaceTree) where
       let v = variable_of name m o in
       record { row = v.row; spelled = v.spelled; there = v.stands; named = ap (λ (x : List ℕ × DeclaredVariable). x.0) v.is; first = none_earlier name m o }
 
-  is_variable : (name : List ℕ) (m : DeclaredVariable) → IsFirst (variables_in i) name m → IsVariableIn i m.section name m.type_use
-  is_variable name m o =
+  is_variable : (section : Section) (name : List ℕ) (type_use : TypeUse) (m : DeclaredVariable) → m.section ≡ section → m.type_use ≡ type_use → IsFirst (variables_in i) name m → IsVariableIn i section name type_use
+  is_variable section name type_use m s t o =
       let v = variable_of name m o in
-      record { place = v.place; declared = first_of name m o; in_section = ap (λ (x : List ℕ × DeclaredVariable). x.1.section) v.is; typed = ap (λ (x : List ℕ × DeclaredVariable). x.1.type_use) v.is }
+      record { place = v.place; declared = first_of name m o; in_section = ap (λ (x : List ℕ × DeclaredVariable). x.1.section) v.is ∙ s; typed = ap (λ (x : List ℕ × DeclaredVariable). x.1.type_use) v.is ∙ t }
 
   none_before : (name : List ℕ) (place : Cell) → IsFirstVariable i name place → NoneBefore (variables_in i) (number place) name
   none_before name place v k y less at same =
@@ -70,19 +70,14 @@ module _ (i : InterfaceTree) where
       let before : IsBefore o.place place = before_by_numbers variables_together i.variables o.place place (declared_as v.row v.spelled) (is_there place v.row v.spelled v.there) earlier in
       v.first o.place o.row o.spelled before o.stands (ap (λ (x : List ℕ × DeclaredVariable). x.0) o.is ∙ same)
 
-  variable_is : (name : List ℕ) (m : DeclaredVariable) → IsVariableIn i m.section name m.type_use → IsFirst (variables_in i) name m
-  variable_is name m h =
+  variable_is : (section : Section) (name : List ℕ) (type_use : TypeUse) → IsVariableIn i section name type_use → IsFirst (variables_in i) name (record { section = section; type_use = type_use })
+  variable_is section name type_use h =
       let v = h.declared in
-      let means : meaning_of v.row ≡ m = λ j. record { section = h.in_section j; type_use = h.typed j } in
+      let means : meaning_of v.row ≡ record { section = section; type_use = type_use } = λ j. record { section = h.in_section j; type_use = h.typed j } in
       record { place = number h.place; there = listed h.place v.row v.spelled v.there ∙ (λ j. Some (v.named j, means j)); first = none_before name h.place v }
 
   pub variables_stand : (name : List ℕ) (m : DeclaredVariable) → stands_for (first_ones (variables_in i)) name ≡ Some m ↔ IsVariableIn i m.section name m.type_use
-  variables_stand name m = (λ e. is_variable name m (stands_first (variables_in i) name m e), λ h. first_stands (variables_in i) name m (variable_is name m h))
-
-  in_section : (section : Section) (name : List ℕ) (type_use : TypeUse) (m : DeclaredVariable) → m.section ≡ section → m.type_use ≡ type_use → IsFirst (variables_in i) name m → IsVariableIn i section name type_use
-  in_section section name type_use m s t o =
-      let v = is_variable name m o in
-      record { place = v.place; declared = v.declared; in_section = v.in_section ∙ s; typed = v.typed ∙ t }
+  variables_stand name m = (λ e. is_variable m.section name m.type_use m refl refl (stands_first (variables_in i) name m e), λ h. first_stands (variables_in i) name m (variable_is m.section name m.type_use h))
 
   module _ (side : Side) where
     abbrev stands_on : DeclaredVariable → Bool
@@ -106,16 +101,12 @@ module _ (i : InterfaceTree) where
         }
 
   is_data : (side : Side) (name : List ℕ) (type_use : TypeUse) → IsPort (stands_on side) (type_of side) (variables_in i) name type_use → IsDataOn i side name type_use
-  is_data sides.Input name type_use o = data_input (in_section sections.Input name type_use o.meaning (input_section o.meaning.section o.kept) o.gives o.origin)
-  is_data sides.Output name type_use o = data_output (in_section sections.Output name type_use o.meaning (output_section o.meaning.section o.kept) o.gives o.origin)
+  is_data sides.Input name type_use o = data_input (is_variable sections.Input name type_use o.meaning (input_section o.meaning.section o.kept) o.gives o.origin)
+  is_data sides.Output name type_use o = data_output (is_variable sections.Output name type_use o.meaning (output_section o.meaning.section o.kept) o.gives o.origin)
 
   data_is : (side : Side) (name : List ℕ) (type_use : TypeUse) → IsDataOn i side name type_use → IsPort (stands_on side) (type_of side) (variables_in i) name type_use
-  data_is side name type_use (data_input h) =
-      let m : DeclaredVariable = record { section = sections.Input; type_use = type_use } in
-      record { meaning = m; origin = variable_is name m h; kept = refl; gives = refl }
-  data_is side name type_use (data_output h) =
-      let m : DeclaredVariable = record { section = sections.Output; type_use = type_use } in
-      record { meaning = m; origin = variable_is name m h; kept = refl; gives = refl }
+  data_is side name type_use (data_input h) = record { meaning = _; origin = variable_is sections.Input name type_use h; kept = refl; gives = refl }
+  data_is side name type_use (data_output h) = record { meaning = _; origin = variable_is sections.Output name type_use h; kept = refl; gives = refl }
 
   data_ports : (side : Side) → AreExactly (ports (stands_on side) (type_of side) (variables_in i)) (IsDataOn i side)
   data_ports side name type_use = (
