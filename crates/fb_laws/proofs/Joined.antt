@@ -1,5 +1,6 @@
 -- Members of lists that are joined from others, of lists with one item where a test passes, and of what a list gives.
-use Rattle.fb_laws.proofs.Common.{arith, zero, suc, ◌≡◌, ℕ, Bool, true, cond, List, [], ◌∷◌, ◌++◌, Some, ◌↔◌, inl, inr, refl, sym, subst, Contains, slice_get, Contains-append_left, Contains-append_right, Contains-append_cases, contains_here, contains_nothing, contains_single, Option, None, filter_map, cons_option, contains_cases, contains_later, ◌⊎◌, ap, ◌∙◌}
+use Rattle.fb_laws.proofs.Common.{arith, zero, suc, ◌≡◌, ℕ, Bool, true, cond, List, [], ◌∷◌, ◌++◌, Some, ◌↔◌, inl, inr, sym, subst, Contains, slice_get, Contains-append_left, Contains-append_right, Contains-append_cases, contains_here, contains_nothing, contains_single, Option, None, filter_map, cons_option, contains_cases, contains_later, ◌⊎◌, ap, ◌∙◌}
+pub use Rattle.fb_deploy.proofs.Flatten.NameLemmas.{origin_in_filter_map as given}
 
 -- what is so of the members of each of two lists
 pub of_either : {X : Type 0} {P : X → Type 0} (a b : List X) → ((y : X) → Contains a y → P y) → ((y : X) → Contains b y → P y) → (y : X) → Contains (a ++ b) y → P y
@@ -36,23 +37,7 @@ where_passes b x e = grind (arith, contains_here)
 pub by_option : {A P : Type 0} (o : Option A) → (o ≡ None → P) → ((a : A) → o ≡ Some a → P) → P
 by_option o none some = grind arith
 
--- an element of the first list that gives the member
-pub record IsGiven {X Y : Type 0} (h : X → Option Y) (xs : List X) (y : Y) : Type 0 where
-  pub origin : X
-  pub among : Contains xs origin
-  pub gives : h origin ≡ Some y
-
-pub given : {X Y : Type 0} (h : X → Option Y) (xs : List X) (y : Y) → Contains (filter_map h xs) y → IsGiven h xs y
-given h [] y c = absurd (contains_nothing y c)
-given {X = X} {Y = Y} h (x ∷ xs) y c = by_given (h x) refl c (given h xs y)
-  where
-    later : IsGiven h xs y → IsGiven h (x ∷ xs) y
-    later o = record { origin = o.origin; among = contains_later x xs o.origin o.among; gives = o.gives }
-
-    by_given : (o : Option Y) → h x ≡ o → Contains (cons_option o (filter_map h xs)) y → (Contains (filter_map h xs) y → IsGiven h xs y) → IsGiven h (x ∷ xs) y
-    by_given None e d more = later (more d)
-    by_given (Some z) e d more = elim (contains_cases z (filter_map h xs) y d) [ inl same ↦ record { origin = x; among = contains_here x xs; gives = e ∙ ap (λ (w : Y). Some w) same } | inr d ↦ later (more d) ]
-
+-- a list of what is given
 pub gives_member : {X Y : Type 0} (h : X → Option Y) (xs : List X) (x : X) (y : Y) → Contains xs x → h x ≡ Some y → Contains (filter_map h xs) y
 gives_member h [] x y c e = absurd (contains_nothing x c)
 gives_member {X = X} {Y = Y} h (z ∷ zs) x y c e = by_case (contains_cases z zs x c) (λ d. gives_member h zs x y d e)
