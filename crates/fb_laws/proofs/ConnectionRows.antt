@@ -1,13 +1,13 @@
--- Connections of ports of different types, and through a subapplication, by what the list of faults has.
-use Rattle.fb_laws.proofs.Common.{arith, ◌≡◌, ℕ, Bool, true, false, not, ◌&&◌, ◌||◌, List, ◌++◌, refl, sym, ap, ◌∙◌, subst, true≢false, bytes_decides, same_text, Contains, Contains-append_right, false_from_ne_true, and_from, and_parts, or_from, or_parts, not_true, Span, NetworkTree, TypeForm, TypeUse, UnitKind, Connection, Sources, class_of_type, is_free, first_ones, is_same, instances_in, DataType, PassThrough, Fault, contains_nothing, same_exact, same_itself, Own, Source, Destination, Target, connection_faults, is_right, target, NetworkPlace, connection_span, fault_of, is_own_port, pass_through_faults, flows_agree, joined_types, same_at_ends, targets_agree, NamesRight, Site, DifferInType, IsSameType, of_names, of_sizes, of_arrays, data_types, adapter_types}
-use Rattle.fb_laws.proofs.{RuleLemmas.{judged, not_free}, NetworkEnds.{end_target, known_end, known_own, told_end, told_home, told_own}}
-use Rattle.fb_laws.proofs.Joined.{in_where, where_passes}
-use Rattle.fb_laws.proofs.NetworkLemmas.{Finds, at_both, at_destination, at_source, end_place, own_instances, place_at}
+-- Connections of ports of different types and through a subapplication, and ends that name no port or one of the wrong side, by what the list of faults has.
+use Rattle.fb_laws.proofs.Common.{arith, ◌≡◌, ℕ, Bool, true, false, not, ◌&&◌, ◌||◌, List, ◌++◌, refl, sym, ap, ◌∙◌, subst, true≢false, bytes_decides, same_text, Contains, Contains-append_right, false_from_ne_true, and_from, and_parts, or_from, or_parts, not_true, Span, NetworkTree, TypeForm, TypeUse, UnitKind, Connection, Sources, class_of_type, is_free, first_ones, is_same, instances_in, DataType, PassThrough, Fault, contains_nothing, same_exact, same_itself, Own, Source, Destination, Target, connection_faults, is_right, target, NetworkPlace, connection_span, fault_of, is_own_port, pass_through_faults, flows_agree, joined_types, same_at_ends, targets_agree, NamesRight, Site, DifferInType, IsSameType, of_names, of_sizes, of_arrays, data_types, adapter_types, Contains-append_left, End, same_side, Code, PortSide, PortUnknown, contains_single, in_unless, Position, right_side, net_faults_of, end_faults, IsEndOf, place_of, source, destination}
+use Rattle.fb_laws.proofs.{RuleLemmas.{judged, not_free}, Joined.{in_where, where_passes}}
+use Rattle.fb_laws.proofs.NetworkEnds.{IsTarget, end_target, is_found, is_not_judged, is_target, is_unknown, known_end, known_own, told_end, told_home, told_own, told_right, unknown_judged, unknown_names}
+use Rattle.fb_laws.proofs.NetworkLemmas.{Finds, at_both, at_destination, at_source, connection_reported, end_place, own_instances, place_at}
 use Rattle.fb_tree.specs.declared.interface.TypeForm.TheVariants as forms
 use Rattle.fb_tree.specs.declared.kinds.UnitKind.TheVariants as kinds
 use Rattle.fb_netcheck.specs.{declared.ends.Flow.{Flow}, Spellings.{same_by_form, same_type, same_words, words_at}}
 use Rattle.fb_netcheck.specs.declared.ends.Flow.TheVariants as flows
-use Rattle.fb_laws.specs.Networks.{ConnectionOf}
+use Rattle.fb_laws.specs.Networks.{ConnectionOf, EndOf}
 
 -- types
 
@@ -61,17 +61,17 @@ module _ (sources : Sources) (unit : List ℕ) (o : ConnectionOf sources unit) w
   abbrev at : NetworkPlace
   at = place_at sources o.here o.network
 
-  abbrev source : Target
-  source = target at o.connection.sort o.connection.source
+  abbrev named_source : Target
+  named_source = target at o.connection.sort o.connection.source
 
-  abbrev destination : Target
-  destination = target at o.connection.sort o.connection.destination
+  abbrev named_destination : Target
+  named_destination = target at o.connection.sort o.connection.destination
 
   abbrev both_right : Bool
-  both_right = is_right Source source && is_right Destination destination
+  both_right = is_right Source named_source && is_right Destination named_destination
 
   abbrev agree : Bool
-  agree = targets_agree (same_at_ends sources at o.connection) source destination
+  agree = targets_agree (same_at_ends sources at o.connection) named_source named_destination
 
   abbrev From : Type 0
   From = NamesRight sources o.here o.connection.sort Source o.connection.source
@@ -86,7 +86,7 @@ module _ (sources : Sources) (unit : List ℕ) (o : ConnectionOf sources unit) w
   type_found f h =
       let test = in_where (both_right && not agree) (fault_of DataType o.connection.destination) f h in
       let tests = and_parts both_right (not agree) test.0 in
-      let sides = and_parts (is_right Source source) (is_right Destination destination) tests.0 in
+      let sides = and_parts (is_right Source named_source) (is_right Destination named_destination) tests.0 in
       let from = known_end sources o.here o.network own o.connection.sort Source o.connection.source sides.0 in
       let to = known_end sources o.here o.network own o.connection.sort Destination o.connection.destination sides.1 in
       let differ = known_differ sources from.unit to.unit from.port.flow to.port.flow (sym (agreed sources o.here o.network own o.connection from to) ∙ not_true agree tests.1) in
@@ -94,19 +94,19 @@ module _ (sources : Sources) (unit : List ℕ) (o : ConnectionOf sources unit) w
 
   pub type_reported : (from : From) (to : To) → DifferInType sources from.unit to.unit from.port.flow to.port.flow → Contains (joined_types sources at o.connection) (fault_of DataType o.connection.destination)
   type_reported from to differ =
-      let sides = and_from (is_right Source source) (is_right Destination destination) (told_end sources o.here o.network own o.connection.sort Source o.connection.source from) (told_end sources o.here o.network own o.connection.sort Destination o.connection.destination to) in
+      let sides = and_from (is_right Source named_source) (is_right Destination named_destination) (told_end sources o.here o.network own o.connection.sort Source o.connection.source from) (told_end sources o.here o.network own o.connection.sort Destination o.connection.destination to) in
       where_passes (both_right && not agree) (fault_of DataType o.connection.destination) (and_from both_right (not agree) sides (ap not (agreed sources o.here o.network own o.connection from to ∙ told_differ sources from.unit to.unit from.port.flow to.port.flow differ)))
 
   abbrev own_source : Bool
-  own_source = is_own_port Source source
+  own_source = is_own_port Source named_source
 
   abbrev own_destination : Bool
-  own_destination = is_own_port Destination destination
+  own_destination = is_own_port Destination named_destination
 
   pub pass_found : (f : Fault) → Contains (at_both at o.connection) f → Finds sources unit f
   pass_found f h = by o.here.kind refl h
     where
-      by : (kind : UnitKind) → o.here.kind ≡ kind → Contains (pass_through_faults kind o.connection source destination) f → Finds sources unit f
+      by : (kind : UnitKind) → o.here.kind ≡ kind → Contains (pass_through_faults kind o.connection named_source named_destination) f → Finds sources unit f
       by kinds.Subapplication k h =
           let test = in_where (own_source && own_destination) (fault_through o.connection) f h in
           let both = and_parts own_source own_destination test.0 in
@@ -121,6 +121,39 @@ module _ (sources : Sources) (unit : List ℕ) (o : ConnectionOf sources unit) w
   pub pass_reported : (from : From) (to : To) → o.here.kind ≡ kinds.Subapplication → from.holder ≡ Own → to.holder ≡ Own → Contains (connection_faults at o.connection) (fault_through o.connection)
   pass_reported from to kind from_own to_own =
       let both = and_from own_source own_destination (told_own sources o.here o.network own o.connection.sort Source o.connection.source from from_own) (told_own sources o.here o.network own o.connection.sort Destination o.connection.destination to to_own) in
-      let one : Contains (pass_through_faults kinds.Subapplication o.connection source destination) (fault_through o.connection) = where_passes (own_source && own_destination) (fault_through o.connection) both in
+      let one : Contains (pass_through_faults kinds.Subapplication o.connection named_source named_destination) (fault_through o.connection) = where_passes (own_source && own_destination) (fault_through o.connection) both in
       Contains-append_right (at_source at o.connection ++ at_destination at o.connection) (at_both at o.connection) (fault_through o.connection)
-      (subst (λ (k : UnitKind). Contains (pass_through_faults k o.connection source destination) (fault_through o.connection)) (sym kind) one)
+      (subst (λ (k : UnitKind). Contains (pass_through_faults k o.connection named_source named_destination) (fault_through o.connection)) (sym kind) one)
+
+-- ends that name no port, or one of the wrong side
+
+module _ (sources : Sources) (unit : List ℕ) (o : EndOf sources unit) where
+  abbrev named : Target
+  named = target (at sources unit o.joined) o.connection.sort o.end
+
+  pub end_found : (f : Fault) → Contains (end_faults o.position o.end named) f → Finds sources unit f
+  end_found f h = by named refl (is_target sources o.here o.network (own sources unit o.joined) o.connection.sort o.end.name o.end.port) h
+    where
+      by : (t : Target) → named ≡ t → IsTarget sources o.here o.connection.sort o.end.name o.end.port t → Contains (end_faults o.position o.end t) f → Finds sources unit f
+      by t e is_unknown h =
+          let unknown = unknown_names sources o.here o.network (own sources unit o.joined) o.connection.sort o.end.name o.end.port e in
+          let judged = unknown_judged sources o.here o.network (own sources unit o.joined) o.connection.sort o.end.name o.end.port e in
+          subst (Finds sources unit) (contains_single (fault_of PortUnknown o.end) f h) (record { of = o; unknown = unknown; judged = judged; place = end_place o.end })
+      by t e (is_not_judged q) h = absurd (contains_nothing f h)
+      by t e (is_found {holder = holder} {p = port} home names) h =
+          let fails = in_unless (same_side port.side (right_side o.position holder)) (fault_of PortSide o.end) f h in
+          subst (Finds sources unit) fails.1
+          (record { of = o; holder = holder; home = home; port = port; names = names; wrong = λ right. true≢false (sym (told_right o.position holder port.side right) ∙ fails.0); place = end_place o.end })
+
+  -- and the other way
+  pub end_reported : {span : Span} (code : Code) (t : Target) → span ≡ place_of o.end → named ≡ t → Contains (end_faults o.position o.end t) (fault_of code o.end) → Contains (net_faults_of sources unit) (record { code = code; span = span })
+  end_reported code t place e h =
+      connection_reported sources unit o.joined (place ∙ sym (end_place o.end))
+      (Contains-append_left (at_source (at sources unit o.joined) o.connection ++ at_destination (at sources unit o.joined) o.connection) (at_both (at sources unit o.joined) o.connection) it (by o.position o.end o.is_end (subst (λ (u : Target). Contains (end_faults o.position o.end u) it) (sym e) h)))
+    where
+      it : Fault
+      it = fault_of code o.end
+
+      by : (position : Position) (end : End) → IsEndOf o.connection position end → Contains (end_faults position end (target (at sources unit o.joined) o.connection.sort end)) it → Contains (at_source (at sources unit o.joined) o.connection ++ at_destination (at sources unit o.joined) o.connection) it
+      by Source end source h = Contains-append_left (at_source (at sources unit o.joined) o.connection) (at_destination (at sources unit o.joined) o.connection) it h
+      by Destination end destination h = Contains-append_right (at_source (at sources unit o.joined) o.connection) (at_destination (at sources unit o.joined) o.connection) it h

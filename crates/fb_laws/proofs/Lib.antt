@@ -29,7 +29,6 @@ pub mod NetworkLemmas
 pub mod UsableTypes
 pub mod NetworkEnds
 pub mod RepeatRows
-pub mod EndRows
 pub mod ConnectionRows
 pub mod ParameterRows
 pub mod NetworkRows
