@@ -73,12 +73,6 @@ module _ (sources : Sources) (unit : List ℕ) (o : ConnectionOf sources unit) w
   abbrev agree : Bool
   agree = targets_agree (same_at_ends sources at o.connection) named_source named_destination
 
-  abbrev From : Type 0
-  From = NamesRight sources o.here o.connection.sort Source o.connection.source
-
-  abbrev To : Type 0
-  To = NamesRight sources o.here o.connection.sort Destination o.connection.destination
-
   own : o.here.own.instances ≡ first_ones (instances_in o.network)
   own = own_instances sources unit o.here o.network o.stands
 
@@ -92,7 +86,7 @@ module _ (sources : Sources) (unit : List ℕ) (o : ConnectionOf sources unit) w
       let differ = known_differ sources from.unit to.unit from.port.flow to.port.flow (sym (agreed sources o.here o.network own o.connection from to) ∙ not_true agree tests.1) in
       subst (Finds sources unit) test.1 (record { of = o; from = from; to = to; differ = differ; place = end_place o.connection.destination })
 
-  pub type_reported : (from : From) (to : To) → DifferInType sources from.unit to.unit from.port.flow to.port.flow → Contains (joined_types sources at o.connection) (fault_of DataType o.connection.destination)
+  pub type_reported : (from : NamesRight sources o.here o.connection.sort Source o.connection.source) (to : NamesRight sources o.here o.connection.sort Destination o.connection.destination) → DifferInType sources from.unit to.unit from.port.flow to.port.flow → Contains (joined_types sources at o.connection) (fault_of DataType o.connection.destination)
   type_reported from to differ =
       let sides = and_from (is_right Source named_source) (is_right Destination named_destination) (told_end sources o.here o.network own o.connection.sort Source o.connection.source from) (told_end sources o.here o.network own o.connection.sort Destination o.connection.destination to) in
       where_passes (both_right && not agree) (fault_of DataType o.connection.destination) (and_from both_right (not agree) sides (ap not (agreed sources o.here o.network own o.connection from to ∙ told_differ sources from.unit to.unit from.port.flow to.port.flow differ)))
@@ -118,7 +112,7 @@ module _ (sources : Sources) (unit : List ℕ) (o : ConnectionOf sources unit) w
           (record { of = o; in_subapplication = k; from = from.0; to = to.0; own_source = from.1; own_destination = to.1; starts = starts; ends = ends })
       by kind k h = absurd (contains_nothing f h)
 
-  pub pass_reported : (from : From) (to : To) → o.here.kind ≡ kinds.Subapplication → from.holder ≡ Own → to.holder ≡ Own → Contains (connection_faults at o.connection) (fault_through o.connection)
+  pub pass_reported : (from : NamesRight sources o.here o.connection.sort Source o.connection.source) (to : NamesRight sources o.here o.connection.sort Destination o.connection.destination) → o.here.kind ≡ kinds.Subapplication → from.holder ≡ Own → to.holder ≡ Own → Contains (connection_faults at o.connection) (fault_through o.connection)
   pass_reported from to kind from_own to_own =
       let both = and_from own_source own_destination (told_own sources o.here o.network own o.connection.sort Source o.connection.source from from_own) (told_own sources o.here o.network own o.connection.sort Destination o.connection.destination to to_own) in
       let one : Contains (pass_through_faults kinds.Subapplication o.connection named_source named_destination) (fault_through o.connection) = where_passes (own_source && own_destination) (fault_through o.connection) both in
