@@ -2,6 +2,7 @@
 use Rattle.fb_laws.proofs.Common.{refl, ◌≡◌, inl, inr, List, [], ◌∷◌, ◌++◌, map, Option, Some, None, sym, subst, flat_map, NameUse, Form, one, both, either, option, many, as_value, Spells, SpellsOption, SpellsEach, key, before, behind, or_none, optional_list, cons, separated, name, names, is_among, name_kinds, name_use, Kind, Lexeme, Part, name_part, mark_part, name_parts, option_parts, part_span, SpellsPart, IsWritten, mark, true, flat_map-append}
 use Rattle.fb_laws.proofs.{Filling.{Filled, filled_as, filled_token, filled_name}, Tokens.{Each, each_append, each_left, each_right, written_whole}}
 use Rattle.fb_sections.specs.Sections.{section, optional_name}
+use Rattle.std.proofs.lemmas.List.Concat.{flat_map_single}
 
 pub record Sound {A : Type 0} (x : Form A) (parts : A → List Part) : Type 0 where
   pub stands : (us : List Lexeme) (v : A) → Spells x us v → Each (IsWritten us) (parts v)
@@ -36,12 +37,10 @@ sound_as {B = B} f x p h = record { stands = λ us v s. subst (λ (z : B). Each 
 pub sound_either : {A : Type 0} (x y : Form A) (p : A → List Part) → Sound x p → Sound y p → Sound (either x y) p
 sound_either x y p h k = record { stands = λ us v s. elim s [ inl q ↦ h.stands us v q | inr q ↦ k.stands us v q ] }
 
-stands_option : {A : Type 0} (x : Form A) (f : A → List Part) → Sound x f → (us : List Lexeme) (v : Option A) → SpellsOption (Spells x) us v → Each (IsWritten us) (option_parts f v)
-stands_option x f h us None s = tt
-stands_option x f h us (Some v) s = h.stands us v s
-
 pub sound_option : {A : Type 0} (x : Form A) (f : A → List Part) → Sound x f → Sound (option x) (option_parts f)
-sound_option x f h = record { stands = stands_option x f h }
+sound_option x f h = record {
+  stands = λ us v. elim v as (λ o. SpellsOption (Spells x) us o → Each (IsWritten us) (option_parts f o)) [ None ↦ λ s. tt | Some w ↦ h.stands us w ];
+}
 
 stands_each : {A : Type 0} (x : Form A) (f : A → List Part) → Sound x f → (us : List Lexeme) (vs : List A) → SpellsEach (Spells x) us vs → Each (IsWritten us) (flat_map f vs)
 stands_each x f h us [] s = tt
@@ -52,6 +51,10 @@ stands_each x f h us (v ∷ vs) s =
 pub sound_many : {A : Type 0} (x : Form A) (f : A → List Part) → Sound x f → Sound (many x) (flat_map f)
 sound_many x f h = record { stands = stands_each x f h }
 
+-- the parts are others, which stand where those stand
+pub sound_same : {A : Type 0} (x : Form A) (f g : A → List Part) → ((P : Part → Type 0) (v : A) → Each P (f v) → Each P (g v)) → Sound x f → Sound x g
+sound_same x f g same h = record { stands = λ us v s. same (IsWritten us) v (h.stands us v s) }
+
 -- Words
 
 pub sound_behind : {A B : Type 0} (x : Form A) (y : Form B) (p : B → List Part) → Sound y p → Sound (behind x y) p
@@ -60,12 +63,10 @@ sound_behind x y p h = sound_as (λ v. v.1) (both x y) p (sound_second x y p h)
 pub sound_before : {A B : Type 0} (x : Form A) (y : Form B) (p : A → List Part) → Sound x p → Sound (before x y) p
 sound_before x y p h = sound_as (λ v. v.0) (both x y) p (sound_first x y p h)
 
-stands_or_none : {A : Type 0} (f : A → List Part) (us : List Lexeme) (v : Option (List A)) → Each (IsWritten us) (option_parts (flat_map f) v) → Each (IsWritten us) (flat_map f (or_none v))
-stands_or_none f us None h = tt
-stands_or_none f us (Some vs) h = h
-
 pub sound_optional_list : {A : Type 0} (x : Form (List A)) (f : A → List Part) → Sound x (flat_map f) → Sound (optional_list x) (flat_map f)
-sound_optional_list x f h = sound_as or_none (option x) (flat_map f) (record { stands = λ us v s. stands_or_none f us v (stands_option x (flat_map f) h us v s) })
+sound_optional_list x f h =
+    sound_as or_none (option x) (flat_map f) (sound_same (option x) (option_parts (flat_map f)) (λ v. flat_map f (or_none v)) (λ P v.
+    elim v as (λ o. Each P (option_parts (flat_map f) o) → Each P (flat_map f (or_none o))) [ None ↦ λ e. e | Some vs ↦ λ e. e ]) (sound_option x (flat_map f) h))
 
 pub sound_separated : {A : Type 0} (kind : Kind) (x : Form A) (f : A → List Part) → Sound x f → Sound (separated kind x) (flat_map f)
 sound_separated kind x f h =
@@ -95,13 +96,9 @@ unfolding name
 sound_name_of kinds within =
     sound_own (as_value name_use (one kinds)) name_part (λ _. []) (λ us n s. (s.0, (s.1.0, within s.0.kind s.1.1), s.2)) (filled_as name_use _ (λ n. n.span) (filled_token _)) (sound_nothing _)
 
-each_name : (P : Part → Type 0) (ns : List NameUse) → Each P (flat_map name_parts ns) → Each P (map name_part ns)
-each_name P [] h = tt
-each_name P (n ∷ ns) h = (h.0, each_name P ns h.1)
-
 -- parts of names that are written one behind the other
 pub sound_named : (x : Form (List NameUse)) → Sound x (flat_map name_parts) → Sound x (map name_part)
-sound_named x h = record { stands = λ us v s. each_name (IsWritten us) v (h.stands us v s) }
+sound_named x h = subst (Sound x) (λ i ns. flat_map_single name_part ns i) h
 
 pub sound_names : Sound names (flat_map name_parts)
 unfolding names
@@ -110,10 +107,6 @@ sound_names = sound_separated _ name name_parts sound_name
 pub sound_optional_name : (kind : Kind) → Sound (optional_name kind) (option_parts name_parts)
 unfolding optional_name
 sound_optional_name kind = sound_option (behind (key kind) name) name_parts (sound_behind (key kind) name name_parts sound_name)
-
--- the parts are others, which stand where those stand
-pub sound_same : {A : Type 0} (x : Form A) (f g : A → List Part) → ((P : Part → Type 0) (v : A) → Each P (f v) → Each P (g v)) → Sound x f → Sound x g
-sound_same x f g same h = record { stands = λ us v s. same (IsWritten us) v (h.stands us v s) }
 
 pub each_none : (P : Part → Type 0) (ps : List Part) → Each P ps → Each P (ps ++ [])
 each_none P ps h = each_append P ps [] h tt
