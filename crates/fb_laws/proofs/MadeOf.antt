@@ -173,11 +173,7 @@ recursive_told sources unit names is name =
 pub others_finite : OtherNetsHoldNothingInItself
 others_finite sources unit net is unblocked finite = by net ((net_at_is sources unit net).0 is).1 unblocked finite
   where
-    none : AreThose sources unit (IsRecursive sources) [] → (name : List ℕ) → IsMadeOf sources unit name → Holds sources name name → ⊥
-    none those name made holds = contains_nothing name ((those.members name).1 (made_rests sources unit made, holds_reaches sources name holds))
-
     by : (net : PlainNet) → IsNet sources unit net → ((names : List (List ℕ)) → net ≢ blocked names) → ((names : List (List ℕ)) → net ≢ recursive names) → (name : List ℕ) → IsMadeOf sources unit name → Holds sources name name → ⊥
     by (blocked names) is unblocked finite = absurd (unblocked names refl)
     by (recursive names) is unblocked finite = absurd (finite names refl)
-    by too_large is unblocked finite = none is.0.finite
-    by (flat_net flat) is unblocked finite = none is.0.finite
+    by net is unblocked finite = λ name made holds. contains_nothing name ((is.0.finite.members name).1 (made_rests sources unit made, holds_reaches sources name holds))
