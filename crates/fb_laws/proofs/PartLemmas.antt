@@ -72,16 +72,6 @@ module _ (sources : Sources) (unit : List ℕ) (f : Fault) where
   abbrev of_parts : List (List Fault)
   of_parts = iface_faults_of sources unit ∷ expr_faults_of sources unit ∷ ecc_faults_of sources unit ∷ net_faults_of sources unit ∷ mapping_faults_of sources unit ∷ []
 
-  abbrev place_of : Part → ℕ
-  place_of Declarations = 1
-  place_of Expressions = 2
-  place_of Charts = 3
-  place_of Networks = 4
-  place_of Mappings = 5
-
-  part_at : (part : Part) → slice_get (syntax_faults_of sources unit ∷ of_parts) (place_of part) ≡ Some (faults_by part sources unit)
-  part_at part = grind arith
-
   is_reported : (g : Fault) → Contains (reported_of sources unit) g → IsReported sources unit g
   is_reported = of_either _ _ (of_either _ _ (of_either _ _ (of_either _ _ (of_either _ _ (λ g h. of_text (text_origin sources unit g h)) (λ g. of_part Declarations)) (λ g. of_part Expressions)) (λ g. of_part Charts)) (λ g. of_part Networks)) (λ g. of_part Mappings)
 
@@ -90,7 +80,11 @@ module _ (sources : Sources) (unit : List ℕ) (f : Fault) where
   is_found c = is_reported f ((those_reported sources unit f).0 c)
 
   part_found : (part : Part) → Contains (faults_by part sources unit) f → Contains (faults_of sources unit) f
-  part_found part c = (those_reported sources unit f).1 (in_joined (syntax_faults_of sources unit) of_parts (place_of part) (faults_by part sources unit) f (part_at part) c)
+  part_found Declarations c = (those_reported sources unit f).1 (in_joined (syntax_faults_of sources unit) of_parts 1 _ f refl c)
+  part_found Expressions c = (those_reported sources unit f).1 (in_joined (syntax_faults_of sources unit) of_parts 2 _ f refl c)
+  part_found Charts c = (those_reported sources unit f).1 (in_joined (syntax_faults_of sources unit) of_parts 3 _ f refl c)
+  part_found Networks c = (those_reported sources unit f).1 (in_joined (syntax_faults_of sources unit) of_parts 4 _ f refl c)
+  part_found Mappings c = (those_reported sources unit f).1 (in_joined (syntax_faults_of sources unit) of_parts 5 _ f refl c)
 
 -- units that are whole
 
