@@ -72,12 +72,10 @@ module _ (sources : Sources) (unit : List ℕ) (f : Fault) where
   abbrev of_parts : List (List Fault)
   of_parts = iface_faults_of sources unit ∷ expr_faults_of sources unit ∷ ecc_faults_of sources unit ∷ net_faults_of sources unit ∷ mapping_faults_of sources unit ∷ []
 
-  is_reported : (g : Fault) → Contains (reported_of sources unit) g → IsReported sources unit g
-  is_reported = of_either _ _ (of_either _ _ (of_either _ _ (of_either _ _ (of_either _ _ (λ g h. of_text (text_origin sources unit g h)) (λ g. of_part Declarations)) (λ g. of_part Expressions)) (λ g. of_part Charts)) (λ g. of_part Networks)) (λ g. of_part Mappings)
-
-  -- the same of the faults in order
   pub is_found : Contains (faults_of sources unit) f → IsReported sources unit f
-  is_found c = is_reported f ((those_reported sources unit f).0 c)
+  is_found c =
+      of_either {P = IsReported sources unit} _ _ (of_either _ _ (of_either _ _ (of_either _ _ (of_either _ _ (λ g h. of_text (text_origin sources unit g h)) (λ g. of_part Declarations)) (λ g. of_part Expressions)) (λ g. of_part Charts)) (λ g. of_part Networks)) (λ g. of_part Mappings)
+      f ((those_reported sources unit f).0 c)
 
   part_found : (part : Part) → Contains (faults_by part sources unit) f → Contains (faults_of sources unit) f
   part_found Declarations c = (those_reported sources unit f).1 (in_joined (syntax_faults_of sources unit) of_parts 1 _ f refl c)
