@@ -43,16 +43,13 @@ in_network sources unit f found c = by (tree_at sources unit) refl c
     by (Some (system_configuration s)) e h = let a = origin_in_flat_map (application_network sources unit) s.applications f h in found _ a.origin.network (of_application s a.origin e a.among) a.has
     by o e h = absurd (contains_nothing f h)
 
-module _ (sources : Sources) (unit : List ℕ) (here : Site) (n : NetworkTree) (stands : IsNetworkOf sources unit here n) where
-  network_reported : (f : Fault) → Contains (network_faults sources (place_at sources here n) n) f → Contains (net_faults_of sources unit) f
-  network_reported f c = by here n stands c
-    where
-      by : (here : Site) (n : NetworkTree) → IsNetworkOf sources unit here n → Contains (network_faults sources (place_at sources here n) n) f → Contains (net_faults_of sources unit) f
-      by here n (of_block d e) h = subst (λ (o : Option DeclTree). Contains (tree_faults sources unit o) f) (sym e) h
-      by here n (of_subapplication d e) h = subst (λ (o : Option DeclTree). Contains (tree_faults sources unit o) f) (sym e) h
-      by here n (of_application s a e among) h =
-          subst (λ (o : Option DeclTree). Contains (tree_faults sources unit o) f) (sym e) (contains_flat_map (application_network sources unit) s.applications a f among h)
+network_reported : (sources : Sources) (unit : List ℕ) (here : Site) (n : NetworkTree) → IsNetworkOf sources unit here n → (f : Fault) → Contains (network_faults sources (place_at sources here n) n) f → Contains (net_faults_of sources unit) f
+network_reported sources unit here n (of_block d e) f h = subst (λ (o : Option DeclTree). Contains (tree_faults sources unit o) f) (sym e) h
+network_reported sources unit here n (of_subapplication d e) f h = subst (λ (o : Option DeclTree). Contains (tree_faults sources unit o) f) (sym e) h
+network_reported sources unit here n (of_application s a e among) f h =
+    subst (λ (o : Option DeclTree). Contains (tree_faults sources unit o) f) (sym e) (contains_flat_map (application_network sources unit) s.applications a f among h)
 
+module _ (sources : Sources) (unit : List ℕ) (here : Site) (n : NetworkTree) (stands : IsNetworkOf sources unit here n) where
   abbrev pub of_connections : List Fault
   of_connections = flat_map (connection_faults (place_at sources here n)) n.connections
 
@@ -63,7 +60,7 @@ module _ (sources : Sources) (unit : List ℕ) (here : Site) (n : NetworkTree) (
   pub reported : {code : Code} {span there : Span} (place : ℕ) (list : List Fault) → slice_get (of_connections ∷ of_others) place ≡ Some list → span ≡ there → Contains list (record { code = code; span = there }) → Contains (net_faults_of sources unit) (record { code = code; span = span })
   reported {code = code} {span = span} place list e at c =
       let one = subst (λ (s : Span). Contains list (record { code = code; span = s })) (sym at) c in
-      network_reported (record { code = code; span = span }) (in_joined of_connections of_others place list (record { code = code; span = span }) e one)
+      network_reported sources unit here n stands (record { code = code; span = span }) (in_joined of_connections of_others place list (record { code = code; span = span }) e one)
 
 -- a fault of a connection
 pub connection_reported : (sources : Sources) (unit : List ℕ) (o : ConnectionOf sources unit) {code : Code} {span there : Span} → span ≡ there → Contains (connection_faults (place_at sources o.here o.network) o.connection) (record { code = code; span = there }) → Contains (net_faults_of sources unit) (record { code = code; span = span })
