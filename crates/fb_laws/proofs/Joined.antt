@@ -39,7 +39,11 @@ by_option o none some = grind arith
 
 pub gives_member : {X Y : Type 0} (h : X → Option Y) (xs : List X) (x : X) (y : Y) → Contains xs x → h x ≡ Some y → Contains (filter_map h xs) y
 gives_member h [] x y c e = absurd (contains_nothing x c)
-gives_member {X = X} {Y = Y} h (z ∷ zs) x y c e = grind (arith, contains_cases, contains_here, contains_later, cons_option, gives_member h zs x y)
+gives_member {X = X} {Y = Y} h (z ∷ zs) x y c e = by_case (contains_cases z zs x c) (λ d. gives_member h zs x y d e)
+  where
+    by_case : (z ≡ x) ⊎ Contains zs x → (Contains zs x → Contains (filter_map h zs) y) → Contains (filter_map h (z ∷ zs)) y
+    by_case (inl same) more = (elim (h z) as (λ o. o ≡ Some y → Contains (cons_option o (filter_map h zs)) y) [ None ↦ λ e. absurd (cc) | Some w ↦ λ e. let same : w ≡ y = cc in subst (λ (v : Y). Contains (w ∷ filter_map h zs) v) same (contains_here w (filter_map h zs)) ]) (ap h same ∙ e)
+    by_case (inr d) more = (elim (h z) as (λ o. Contains (filter_map h zs) y → Contains (cons_option o (filter_map h zs)) y) [ None ↦ λ d. d | Some w ↦ λ d. contains_later w (filter_map h zs) y d ]) (more d)
 
 -- a law in both directions
 pub iff : {A B : Type 0} → (A → B) → (B → A) → A ↔ B

@@ -109,5 +109,5 @@ of_two_parts sources unit span = (λ c. by (is_found sources unit it c), λ h. e
     in_one q h parameter_value = inr h
 
     by : IsReported sources unit it → Contains (iface_faults_of sources unit) it ⊎ Contains (net_faults_of sources unit) it
-    by (of_text o) = let same : Literal ≡ Syntax = o.code in let no : ⊥ = cc in no
+    by (of_text o) = absurd (let same : Literal ≡ Syntax = o.code in let no : ⊥ = cc in no)
     by (of_part q h) = in_one q h (own_codes q sources unit it h)

@@ -1,5 +1,5 @@
 -- Name spaces, by the function of the check.
-use Rattle.fb_laws.proofs.Common.{arith, ◌≡◌, ℕ, List, [], ◌∷◌, ◌++◌, map, if◌then◌else◌, Some, ◌⊎◌, inl, inr, refl, sym, ap, subst, Contains, slice_get, Contains-append_left, Contains-append_right, NameUse, contains_flat_map, contains_later, contains_map, contains_single, origin_in_flat_map, origin_in_map, ApplicationTree, DeclTree, InstanceTree, NetworkTree, ParameterTree, SystemTree, TypeTree, adapter_type, block_type, structure_type, subapplication_type, system_configuration, Role, Block, chart_spaces, interface_spaces, is_block, network_spaces, parameter_names, resource_names, spaces_of, system_spaces, type_spaces, IsHeldIn, IsType, instance_of_application, instance_of_type, of_adapter, of_block, of_subapplication, flat_map}
+use Rattle.fb_laws.proofs.Common.{AlgorithmTree, VariablesTree, arith, ◌≡◌, ℕ, List, [], ◌∷◌, ◌++◌, map, if◌then◌else◌, Some, ◌⊎◌, inl, inr, refl, sym, ap, subst, Contains, slice_get, Contains-append_left, Contains-append_right, NameUse, contains_flat_map, contains_later, contains_map, contains_single, origin_in_flat_map, origin_in_map, ApplicationTree, DeclTree, InstanceTree, NetworkTree, ParameterTree, SystemTree, TypeTree, adapter_type, block_type, structure_type, subapplication_type, system_configuration, Role, Block, chart_spaces, interface_spaces, is_block, network_spaces, parameter_names, resource_names, spaces_of, system_spaces, type_spaces, IsHeldIn, IsType, instance_of_application, instance_of_type, of_adapter, of_block, of_subapplication, flat_map}
 use Rattle.fb_laws.proofs.Joined.{of_either, of_first}
 use Rattle.fb_laws.specs.Spaces.{IsSpace, algorithms, applications, devices, events, fields, instances, instances_of_application, parameters, resources, states, variables}
 
@@ -26,9 +26,10 @@ known_network decl n named held =
 
 known_type : (decl : DeclTree) (d : TypeTree) → IsType decl d → (space : List NameUse) → Contains (type_spaces d) space → IsSpaceOrNone decl space
 known_type decl d is =
-    of_first {P = IsSpaceOrNone decl} _ _ (inl (events is)) (of_first {P = IsSpaceOrNone decl} _ _ (inl (variables is))
-    (of_first {P = IsSpaceOrNone decl} _ _ (inl (states is)) (of_first {P = IsSpaceOrNone decl} _ _ (inl (algorithms is))
-    (known_network decl d.network (instances is) (λ i. instance_of_type is)))))
+    of_either {P = IsSpaceOrNone decl} (interface_spaces d.interface ++ chart_spaces d.chart) (network_spaces d.network) (of_either {P = IsSpaceOrNone decl} (interface_spaces d.interface) (chart_spaces d.chart)
+    (of_first {P = IsSpaceOrNone decl} _ _ (inl (events is)) (λ space h. inl (subst (IsSpace decl) (contains_single (flat_map (λ (v : VariablesTree). v.names) d.interface.variables) space h) (variables is))))
+    (of_first {P = IsSpaceOrNone decl} _ _ (inl (states is)) (λ space h. inl (subst (IsSpace decl) (contains_single (map (λ (a : AlgorithmTree). a.name) d.chart.algorithms) space h) (algorithms is)))))
+    (known_network decl d.network (instances is) (λ i. instance_of_type is))
 
 -- those of the applications of a system
 abbrev inner_spaces : SystemTree → List (List NameUse)
@@ -46,7 +47,7 @@ known (block_type d) space c = known_type (block_type d) d (of_block d) space c
 known (adapter_type d) space c = known_type (adapter_type d) d (of_adapter d) space c
 known (subapplication_type d) space c = known_type (subapplication_type d) d (of_subapplication d) space c
 known (system_configuration s) space c = known_system s space c
-known (structure_type s) space c = inl (subst (IsSpace (structure_type s)) (contains_single _ space c) (fields s))
+known (structure_type s) space c = inl (subst (IsSpace (structure_type s)) (contains_single (flat_map (λ (v : VariablesTree). v.names) s.fields) space c) (fields s))
 
 -- what the function lists, where it has a name
 pub known_space : (decl : DeclTree) (space : List NameUse) (place : ℕ) (name : NameUse) → Contains (spaces_of decl) space → slice_get space place ≡ Some name → IsSpace decl space
