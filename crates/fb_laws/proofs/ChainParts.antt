@@ -1,5 +1,5 @@
 -- A chain of a clean network, by the connections that it passes.
-use Rattle.fb_laws.proofs.Common.{arith, ℕ, ◌≡◌, List, [], ◌∷◌, ◌++◌, map, Some, ◌⊎◌, inl, inr, refl, sym, ◌∙◌, ap, subst, Sort, Input, PlainNetwork, View, Place, IsInner, IsConnected, Step, Within, IsBorderPlace, IsLeafPlace, Chain, One, More, side_at, IsCleanThroughout, Passed, passed_at, passed_by, StaysInside, nothing_before, border_before, IsAfter, nothing_after, border_after, CrossesOnce, LinksAreComposed, CrossesFrom, BordersAreComposed, filter}
+use Rattle.fb_laws.proofs.Common.{arith, ℕ, ◌≡◌, List, [], ◌∷◌, ◌++◌, map, Some, ◌⊎◌, inl, inr, refl, sym, ◌∙◌, ap, subst, Sort, Input, PlainNetwork, View, Place, IsInner, IsConnected, Step, Within, IsBorderPlace, IsLeafPlace, Chain, One, More, side_at, IsCleanThroughout, Passed, passed_at, passed_by, StaysInside, nothing_before, border_before, IsAfter, nothing_after, border_after, CrossesOnce, LinksAreComposed, CrossesFrom, BordersAreComposed, filter, filter-append}
 use Rattle.fb_wiring.specs.{Network.declared.network.End.{End}, Network.declared.network.End.TheVariants.{Own, Of}, Network.Network.{IsLink, place_of, Holds}}
 use Rattle.fb_wiring.proofs.Network.Chains.{no_step_from_nothing, no_step_to_nothing, moved, here, input_step, border_inside, no_chain_from_output, inner_at_border}
 use Rattle.fb_wiring.proofs.Network.LinkLemmas.{leaf_inside}
@@ -96,13 +96,8 @@ none_own : (name : List ℕ) (list : List Passed) → filter is_own (map (inside
 none_own name [] = refl
 none_own name (p ∷ list) = none_own name list
 
-own_after : {view : View} {sort : Sort} {network : PlainNetwork} {b : Place} {destination : End} {list : List Passed} → IsAfter view sort network destination b list → filter is_own list ≡ []
-own_after (nothing_after destination) = refl
-own_after (border_after i border chain behind) = none_own _ (passed_by chain)
-
 once : {view : View} {sort : Sort} {network : PlainNetwork} {a b : Place} {before after : List Passed} (s d : End) → IsBefore view sort network a s before → IsAfter view sort network d b after → filter is_own (before ++ (own s d ∷ after)) ≡ own s d ∷ []
-once s d (nothing_before source) after = ap (λ (l : List Passed). own s d ∷ l) (own_after after)
-once s d (border_before i border chain behind) after = past _ (passed_by chain) _ ∙ ap (λ (l : List Passed). own s d ∷ l) (own_after after)
+once s d before after = grind (arith, filter-append, none_own)
 
 crossed : {view : View} {sort : Sort} {network : PlainNetwork} {a b : Place} {before after : List Passed} (s d : End) → IsConnected network sort s d → IsBefore view sort network a s before → IsAfter view sort network d b after → CrossesOnce view sort network a b (before ++ (own s d ∷ after))
 crossed {before = before} {after = after} s d k p q = record { source = s; destination = d; connected = k; once = once s d p q; before = before; after = after; whole = refl; is_before = p; is_after = q }

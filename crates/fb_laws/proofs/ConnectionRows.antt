@@ -28,14 +28,7 @@ module _ (sources : Sources) (unit other : List ℕ) where
   told_same a b alike = grind (arith, of_names, same_itself, of_sizes, bytes_decides, of_arrays)
 
   known_differ : (f g : Flow) → flows_agree same f g ≡ false → DifferInType sources unit other f g
-  known_differ (flows.Data a) (flows.Data b) e =
-      let free = is_free (class_of_type a) || is_free (class_of_type b) in
-      let neither_free = or_parts (is_free (class_of_type a)) (is_free (class_of_type b)) (or_parts free (same a b) e).0 in
-      let first = not_free (class_of_type a) neither_free.0 in
-      let second = not_free (class_of_type b) neither_free.1 in
-      data_types first second (λ alike. true≢false (sym (told_same a b alike) ∙ (or_parts free (same a b) e).1))
-  known_differ (flows.Adapter a) (flows.Adapter b) e = adapter_types (λ alike. true≢false (sym (same_itself a.name b.name alike) ∙ e))
-  known_differ f g e = absurd (true≢false e)
+  known_differ f g e = grind (arith, data_types, adapter_types, or_parts, not_free, told_same, same_itself)
 
   told_differ : (f g : Flow) → DifferInType sources unit other f g → flows_agree same f g ≡ false
   told_differ f g (data_types {a = a} {b = b} first second apart) =

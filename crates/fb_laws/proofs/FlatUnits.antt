@@ -10,11 +10,7 @@ use Rattle.fb_laws.specs.Chains.{of_application, of_subapplication}
 
 -- the instances of the network of a subapplication are its own
 type_holds : (sources : Sources) (name : List ℕ) → kind_at sources name ≡ Some kinds.Subapplication → (network : PlainNetwork) (held : List Held) → declared sources name ≡ Some network → AreInstances (declared sources) network.instances held → Holds sources name held
-type_holds sources name kind network held d is = by (tree_at sources name) refl
-  where
-    by : (o : Option DeclTree) → tree_at sources name ≡ o → Holds sources name held
-    by (Some (subapplication_type t)) e = grind (arith, option_map)
-    by o e = let other : kind_at sources name ≡ option_map unit_kind_of o = ap (option_map unit_kind_of) e in absurd (let no : ⊥ = cc in no)
+type_holds sources name kind network held d is = grind (arith, option_map)
 
 -- the instances of an own network are the unit's
 in_unit : (sources : Sources) (unit : List ℕ) (network : PlainNetwork) → IsOwnNetwork sources unit network → (i : Instance) → Contains network.instances i → (tree : DeclTree) → tree_at sources unit ≡ Some tree → Contains (own_instances tree) i

@@ -12,61 +12,20 @@ use Rattle.fb_laws.specs.Ends.{Names, data_input, data_output}
 -- ports
 
 module _ (ports : Meanings) (name : List ℕ) where
-  known_event : (p : Port) (o : Option DeclaredEvent) → stands_for ports.events name ≡ o → option_map event_port o ≡ Some p → IsPort ports name sorts.Event p
-  known_event p None g e = absurd (let fails : ⊥ = cc in fails)
-  known_event p (Some d) g e = let same : event_port d ≡ p = cc in subst (IsPort ports name sorts.Event) same (event d g)
-
-  known_section : (p : Port) (v : DeclaredVariable) → stands_for ports.variables name ≡ Some v → (s : Section) → v.section ≡ s → port_in_section s v.type_use ≡ Some p → IsPort ports name sorts.Data p
-  known_section p v g sections.Input is e = let same : record { side = Input; flow = flows.Data v.type_use } ≡ p = cc in subst (IsPort ports name sorts.Data) same (data_input v g is)
-  known_section p v g sections.Output is e = let same : record { side = Output; flow = flows.Data v.type_use } ≡ p = cc in subst (IsPort ports name sorts.Data) same (data_output v g is)
-  known_section p v g o is e = absurd (let fails : ⊥ = cc in fails)
-
-  known_data : (p : Port) (o : Option DeclaredVariable) → stands_for ports.variables name ≡ o → option_and_then data_port o ≡ Some p → IsPort ports name sorts.Data p
-  known_data p o g e = grind (arith, known_section)
-
-  known_role : (p : Port) (i : DeclaredInstance) → stands_for ports.instances name ≡ Some i → (r : Role) → i.role ≡ r → port_in_role r i.type_name ≡ Some p → IsPort ports name sorts.Adapter p
-  known_role p i g roles.Socket is e = let same : record { side = Input; flow = flows.Adapter i.type_name } ≡ p = cc in subst (IsPort ports name sorts.Adapter) same (socket i g is)
-  known_role p i g roles.Plug is e = let same : record { side = Output; flow = flows.Adapter i.type_name } ≡ p = cc in subst (IsPort ports name sorts.Adapter) same (plug i g is)
-  known_role p i g o is e = absurd (let fails : ⊥ = cc in fails)
-
-  known_adapter : (p : Port) (o : Option DeclaredInstance) → stands_for ports.instances name ≡ o → option_and_then adapter_port o ≡ Some p → IsPort ports name sorts.Adapter p
-  known_adapter p o g e = grind (arith, known_role)
-
   known_port : (sort : Sort) (p : Port) → port_in sort ports name ≡ Some p → IsPort ports name sort p
-  known_port sorts.Event p e = known_event p (stands_for ports.events name) refl e
-  known_port sorts.Data p e = known_data p (stands_for ports.variables name) refl e
-  known_port sorts.Adapter p e = known_adapter p (stands_for ports.instances name) refl e
+  known_port sort p e = grind (arith, event, data_input, data_output, socket, plug)
 
   told_port : (sort : Sort) (p : Port) → IsPort ports name sort p → port_in sort ports name ≡ Some p
-  told_port sort p (event d g) = ap (option_map event_port) g
-  told_port sort p (data_input v g is) = ap (option_and_then data_port) g ∙ ap (λ s. port_in_section s v.type_use) is
-  told_port sort p (data_output v g is) = ap (option_and_then data_port) g ∙ ap (λ s. port_in_section s v.type_use) is
-  told_port sort p (socket i g is) = ap (option_and_then adapter_port) g ∙ ap (λ r. port_in_role r i.type_name) is
-  told_port sort p (plug i g is) = ap (option_and_then adapter_port) g ∙ ap (λ r. port_in_role r i.type_name) is
+  told_port sort p is = grind arith
 
 -- whose they are
 
 module _ (here : Site) (sort : Sort) (i : DeclaredInstance) where
   known_holder : (holder : Holder) → holder_of here.kind sort i.role ≡ Some holder → IsReached here sort i holder
-  known_holder holder e = by here.kind sort i.role refl refl refl e
-    where
-      by : (kind : UnitKind) (s : Sort) (role : Role) → here.kind ≡ kind → sort ≡ s → i.role ≡ role → holder_of kind s role ≡ Some holder → IsReached here sort i holder
-      by kind s roles.Block k t r e = let same : OfInstance ≡ holder = cc in subst (IsReached here sort i) same (of_block_instance r)
-      by kind s roles.Subapplication k t r e = let same : OfInstance ≡ holder = cc in subst (IsReached here sort i) same (of_subapplication_instance r)
-      by kinds.Block sorts.Event roles.Plug k t r e = let same : OfPlug ≡ holder = cc in subst (IsReached here sort i) same (of_plug r k (λ a. let both : sorts.Event ≡ sorts.Adapter = sym t ∙ a in cc both))
-      by kinds.Block sorts.Data roles.Plug k t r e = let same : OfPlug ≡ holder = cc in subst (IsReached here sort i) same (of_plug r k (λ a. let both : sorts.Data ≡ sorts.Adapter = sym t ∙ a in cc both))
-      by kinds.Block sorts.Event roles.Socket k t r e = let same : OfSocket ≡ holder = cc in subst (IsReached here sort i) same (of_socket r k (λ a. let both : sorts.Event ≡ sorts.Adapter = sym t ∙ a in cc both))
-      by kinds.Block sorts.Data roles.Socket k t r e = let same : OfSocket ≡ holder = cc in subst (IsReached here sort i) same (of_socket r k (λ a. let both : sorts.Data ≡ sorts.Adapter = sym t ∙ a in cc both))
-      by kind s role k t r e = absurd (let fails : ⊥ = cc in fails)
-
-  plug_holder : (s : Sort) → s ≢ sorts.Adapter → holder_of kinds.Block s roles.Plug ≡ Some OfPlug
-  plug_holder s other = grind arith
-
-  socket_holder : (s : Sort) → s ≢ sorts.Adapter → holder_of kinds.Block s roles.Socket ≡ Some OfSocket
-  socket_holder s other = grind arith
+  known_holder holder e = grind (arith, of_block_instance, of_subapplication_instance, of_plug, of_socket)
 
   told_holder : (holder : Holder) → IsReached here sort i holder → holder_of here.kind sort i.role ≡ Some holder
-  told_holder holder reached = grind (arith, of_block_instance, of_subapplication_instance, of_plug, plug_holder, of_socket, socket_holder)
+  told_holder holder reached = grind arith
 
 -- what an end names, by its target
 
@@ -126,19 +85,14 @@ module _ (sources : Sources) (here : Site) (n : NetworkTree) (own : here.own.ins
   unknown_judged name port e n = let both : NotJudged ≡ Unknown = sym (told_not_judged name port n) ∙ e in let fails : ⊥ = cc in fails
 
   pub known_unknown : (name : NameUse) (port : Option NameUse) → ((holder : Holder) (unit : List ℕ) (p : Port) → ¬ Names sources here sort name port holder unit p) → ¬ IsNotJudged sources here.own (IsReachedBy here sort) name port → target_named at sort name.name port ≡ Unknown
-  known_unknown name port none judged = by (target_named at sort name.name port) (is_target name port)
-    where
-      by : (t : Target) → IsTarget sources here sort name port t → t ≡ Unknown
-      by t is = grind arith
+  known_unknown name port none judged = grind (arith, is_target name port)
 
 -- the right sides
 
 ruleset sides = (instance_source, instance_destination, plug_source, plug_destination, socket_source, socket_destination)
 
 is_side : (position : Position) (holder : Holder) → IsRightSide position holder (right_side position holder)
-is_side Source Own = own_source
-is_side Destination Own = own_destination
-is_side position holder = search sides
+is_side position holder = grind (arith, own_source, own_destination, sides)
 
 pub known_right : (position : Position) (holder : Holder) (side : Side) → same_side side (right_side position holder) ≡ true → IsRightSide position holder side
 known_right position holder side e = subst (IsRightSide position holder) (sym (same_sides side (right_side position holder) e)) (is_side position holder)
@@ -153,11 +107,7 @@ module _ (sources : Sources) (here : Site) (n : NetworkTree) (own : here.own.ins
   there = target (place_at sources here n) sort end
 
   pub known_end : is_right position there ≡ true → NamesRight sources here sort position end
-  known_end e = by there (is_target sources here n own sort end.name end.port) e
-    where
-      by : (t : Target) → IsTarget sources here sort end.name end.port t → is_right position t ≡ true → NamesRight sources here sort position end
-      by t (is_found {holder = holder} {p = p} unit n) e = record { holder = holder; unit = unit; port = p; names = n; right = known_right position holder p.side e }
-      by t none e = absurd (true≢false (sym e))
+  known_end e = grind (arith, known_right, is_target sources here n own sort end.name end.port)
 
   pub end_target : (r : NamesRight sources here sort position end) → there ≡ Found r.holder r.port
   end_target r = told_names sources here n own sort end.name end.port r.holder r.unit r.port r.names

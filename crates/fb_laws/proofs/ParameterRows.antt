@@ -7,9 +7,7 @@ use Rattle.fb_tree.specs.declared.network.Role.TheVariants as roles
 use Rattle.fb_laws.specs.Networks.{ParameterOf}
 
 pub input_missing : (o : Option DeclaredVariable) (p : ParameterTree) → ((v : DeclaredVariable) → o ≡ Some v → v.section ≢ sections.Input) → Contains (parameter_faults o p) (fault_at ParameterUnknown p.name)
-input_missing None p none = contains_here (fault_at ParameterUnknown p.name) []
-input_missing (Some d) p none =
-    (elim d.section as (λ s. s ≢ sections.Input → Contains (value_faults s d.type_use p) (fault_at ParameterUnknown p.name)) [ sections.Input ↦ λ other. absurd (other refl) | o ↦ λ other. contains_here (fault_at ParameterUnknown p.name) [] ]) (none d refl)
+input_missing o p none = grind (arith, contains_here)
 
 pub input_unfit : (o : Option DeclaredVariable) (p : ParameterTree) (v : DeclaredVariable) (span : Span) → o ≡ Some v → v.section ≡ sections.Input → IsMisfit v.type_use p.value span → Contains (parameter_faults o p) (literal_fault span)
 input_unfit o p v span e is m = grind (arith, misfit_reported)

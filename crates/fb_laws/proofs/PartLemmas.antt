@@ -40,8 +40,7 @@ one_shared p q code differ a b = by (home_of p code a) (home_of q code b)
 
 -- a code of a part is none of texts
 pub no_text_code : (part : Part) (code : Code) → IsCodeOf part code → code ≡ Syntax → ⊥
-no_text_code part code parameter_value e = let no : ⊥ = cc in no
-no_text_code part code c e = let no : ⊥ = cc in no
+no_text_code part code c e = grind arith
 
 -- the list that has a code
 listed_code : (code : Code) → code ≢ Syntax → HasPart code

@@ -55,8 +55,7 @@ data_parts sorts.Data d (x ∷ inside) rest e p = let tails : [] ≡ inside ++ e
 data_parts sort d inside rest e p = absurd (nothing_split inside e rest p)
 
 in_data : (sort : Sort) (d e : End) → Contains (data_destination sort d) e → (sort ≡ sorts.Data) × (d ≡ e)
-in_data sorts.Data d e c = (refl, contains_single d e c)
-in_data o d e c = absurd (contains_nothing e c)
+in_data sort d e c = grind (arith, contains_single, contains_nothing)
 
 data_is : (sort : Sort) (d : End) → sort ≡ sorts.Data → data_destination sort d ≡ d ∷ []
 data_is sort d e = ap (λ s. data_destination s d) e
@@ -108,11 +107,7 @@ is_destination : (c : Connection) (e : End) → c.destination ≡ e → IsEndOf 
 is_destination c e same = subst (IsEndOf c Destination) same destination
 
 in_both : (c : Connection) (e : End) → Contains (both_ends c) e → IsAdapterEnd c e
-in_both c e h = by c.sort refl h
-  where
-    by : (sort : Sort) → c.sort ≡ sort → Contains (adapter_ends sort c.source c.destination) e → IsAdapterEnd c e
-    by sorts.Adapter is h = elim (contains_cases c.source (c.destination ∷ []) e h) [ inl same ↦ record { of_adapter = is; position = Source; is_end = is_source c e same } | inr d ↦ record { of_adapter = is; position = Destination; is_end = is_destination c e (contains_single c.destination e d) } ]
-    by o is h = absurd (contains_nothing e h)
+in_both c e h = grind (arith, contains_cases, contains_single, contains_nothing, is_source, is_destination)
 
 both_is : (c : Connection) → c.sort ≡ sorts.Adapter → both_ends c ≡ c.source ∷ c.destination ∷ []
 both_is c e = ap (λ s. adapter_ends s c.source c.destination) e

@@ -1,5 +1,5 @@
 -- Name spaces, by the function of the check.
-use Rattle.fb_laws.proofs.Common.{AlgorithmTree, VariablesTree, arith, ◌≡◌, ℕ, List, [], ◌∷◌, ◌++◌, map, if◌then◌else◌, Some, ◌⊎◌, inl, inr, refl, sym, ap, subst, Contains, slice_get, Contains-append_left, Contains-append_right, NameUse, contains_flat_map, contains_later, contains_map, contains_single, origin_in_flat_map, origin_in_map, ApplicationTree, DeclTree, InstanceTree, NetworkTree, ParameterTree, SystemTree, TypeTree, adapter_type, block_type, structure_type, subapplication_type, system_configuration, Role, Block, chart_spaces, interface_spaces, is_block, network_spaces, parameter_names, resource_names, spaces_of, system_spaces, type_spaces, IsHeldIn, IsType, instance_of_application, instance_of_type, of_adapter, of_block, of_subapplication, flat_map}
+use Rattle.fb_laws.proofs.Common.{AlgorithmTree, EventTree, StateTree, VariablesTree, arith, ◌≡◌, ℕ, List, [], ◌∷◌, ◌++◌, map, if◌then◌else◌, Some, ◌⊎◌, inl, inr, refl, sym, ap, subst, Contains, slice_get, Contains-append_left, Contains-append_right, NameUse, contains_flat_map, contains_later, contains_map, contains_single, origin_in_flat_map, origin_in_map, ApplicationTree, DeclTree, InstanceTree, NetworkTree, ParameterTree, SystemTree, TypeTree, adapter_type, block_type, structure_type, subapplication_type, system_configuration, Role, Block, chart_spaces, interface_spaces, is_block, network_spaces, parameter_names, resource_names, spaces_of, system_spaces, type_spaces, IsHeldIn, IsType, instance_of_application, instance_of_type, of_adapter, of_block, of_subapplication, flat_map}
 use Rattle.fb_laws.proofs.Joined.{of_either, of_first}
 use Rattle.fb_laws.specs.Spaces.{IsSpace, algorithms, applications, devices, events, fields, instances, instances_of_application, parameters, resources, states, variables}
 
@@ -12,11 +12,7 @@ IsSpaceOrNone decl space = IsSpace decl space ⊎ (space ≡ [])
 
 -- the parameters of a block instance are judged, and those of others are not
 known_parameters : (decl : DeclTree) (i : InstanceTree) → IsHeldIn decl i → IsSpaceOrNone decl (parameter_names i)
-known_parameters decl i held = by i.role refl
-  where
-    by : (role : Role) → i.role ≡ role → IsSpaceOrNone decl (if is_block role then written i else [])
-    by Block e = inl (parameters held e)
-    by role e = inr refl
+known_parameters decl i held = grind (arith, parameters)
 
 -- the spaces of a network, of a type or of an application
 known_network : (decl : DeclTree) (n : NetworkTree) → IsSpace decl (map (λ (i : InstanceTree). i.name) n.instances) → ((i : InstanceTree) → Contains n.instances i → IsHeldIn decl i) → (space : List NameUse) → Contains (network_spaces n) space → IsSpaceOrNone decl space
@@ -27,8 +23,8 @@ known_network decl n named held =
 known_type : (decl : DeclTree) (d : TypeTree) → IsType decl d → (space : List NameUse) → Contains (type_spaces d) space → IsSpaceOrNone decl space
 known_type decl d is =
     of_either {P = IsSpaceOrNone decl} (interface_spaces d.interface ++ chart_spaces d.chart) (network_spaces d.network) (of_either {P = IsSpaceOrNone decl} (interface_spaces d.interface) (chart_spaces d.chart)
-    (of_first {P = IsSpaceOrNone decl} _ _ (inl (events is)) (λ space h. inl (subst (IsSpace decl) (contains_single (flat_map (λ (v : VariablesTree). v.names) d.interface.variables) space h) (variables is))))
-    (of_first {P = IsSpaceOrNone decl} _ _ (inl (states is)) (λ space h. inl (subst (IsSpace decl) (contains_single (map (λ (a : AlgorithmTree). a.name) d.chart.algorithms) space h) (algorithms is)))))
+    (of_first {P = IsSpaceOrNone decl} (map (λ (e : EventTree). e.name) d.interface.events) (flat_map (λ (v : VariablesTree). v.names) d.interface.variables ∷ []) (inl (events is)) (λ space h. inl (subst (IsSpace decl) (contains_single (flat_map (λ (v : VariablesTree). v.names) d.interface.variables) space h) (variables is))))
+    (of_first {P = IsSpaceOrNone decl} (map (λ (s : StateTree). s.name) d.chart.states) (map (λ (a : AlgorithmTree). a.name) d.chart.algorithms ∷ []) (inl (states is)) (λ space h. inl (subst (IsSpace decl) (contains_single (map (λ (a : AlgorithmTree). a.name) d.chart.algorithms) space h) (algorithms is)))))
     (known_network decl d.network (instances is) (λ i. instance_of_type is))
 
 -- those of the applications of a system
