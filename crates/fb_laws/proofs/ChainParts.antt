@@ -1,5 +1,5 @@
 -- A chain of a clean network, by the connections that it passes.
-use Rattle.fb_laws.proofs.Common.{arith, ℕ, ◌≡◌, List, [], ◌∷◌, ◌++◌, map, Some, ◌⊎◌, inl, inr, refl, sym, ◌∙◌, ap, subst, Sort, Input, PlainNetwork, View, Place, IsInner, IsConnected, Step, Within, IsBorderPlace, IsLeafPlace, Chain, One, More, side_at, IsCleanThroughout, Passed, passed_at, passed_by, StaysInside, nothing_before, border_before, IsAfter, nothing_after, border_after, CrossesOnce, LinksAreComposed, CrossesFrom, BordersAreComposed, filter, filter-append}
+use Rattle.fb_laws.proofs.Common.{arith, ℕ, ◌≡◌, List, [], ◌∷◌, ◌++◌, map, Some, ◌⊎◌, inl, inr, refl, sym, ◌∙◌, subst, Sort, Input, PlainNetwork, View, Place, IsInner, IsConnected, Step, Within, IsBorderPlace, IsLeafPlace, Chain, One, More, side_at, IsCleanThroughout, Passed, passed_at, passed_by, StaysInside, nothing_before, border_before, IsAfter, nothing_after, border_after, CrossesOnce, LinksAreComposed, CrossesFrom, BordersAreComposed, filter, filter-append}
 use Rattle.fb_wiring.specs.{Network.declared.network.End.{End}, Network.declared.network.End.TheVariants.{Own, Of}, Network.Network.{IsLink, place_of, Holds}}
 use Rattle.fb_wiring.proofs.Network.Chains.{no_step_from_nothing, no_step_to_nothing, moved, here, input_step, border_inside, no_chain_from_output, inner_at_border}
 use Rattle.fb_wiring.proofs.Network.LinkLemmas.{leaf_inside}

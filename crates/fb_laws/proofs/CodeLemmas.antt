@@ -1,5 +1,5 @@
 -- The codes that each part of the check gives.
-use Rattle.fb_laws.proofs.Common.{arith, ℕ, List, sym, subst, Contains, Span, Sources, Code, MappedTwice, NameDiffers, PortUnknown, StateUnknown, Fault, Demand, code_of_demand, names_field, names_variable, contains_nothing, IsCodeOf, Declarations, Charts, Networks, Mappings, PartsHaveOwnCodes, other_name, duplicate, mixed_kind, unknown_type, wrong_kind, unknown_with, initial_value, recursive_structure, unknown_variable, unknown_member, class, unknown_state, unknown_event, unknown_algorithm, unknown_port, wrong_side, other_type, second_source, second_adapter, passage, unknown_parameter, parameter_value, second_mapping, lost_mapping}
+use Rattle.fb_laws.proofs.Common.{arith, ℕ, List, sym, subst, Span, Sources, Code, MappedTwice, NameDiffers, PortUnknown, StateUnknown, Fault, Demand, code_of_demand, contains_nothing, IsCodeOf, Declarations, Charts, Networks, Mappings, PartsHaveOwnCodes, other_name, duplicate, mixed_kind, unknown_type, wrong_kind, unknown_with, initial_value, recursive_structure, unknown_variable, unknown_member, class, unknown_state, unknown_event, unknown_algorithm, unknown_port, wrong_side, other_type, second_source, second_adapter, passage, unknown_parameter, parameter_value, second_mapping, lost_mapping}
 use Rattle.fb_laws.proofs.{NetworkLemmas.{Has}, NetworkRows.{found}, UnitDemands.{unmet}}
 use Rattle.fb_laws.specs.UnitParts.{Expressions}
 use Rattle.fb_laws.proofs.ChartRows as charts

@@ -6,7 +6,6 @@ use Rattle.fb_laws.proofs.NetworkLemmas.{Finds, at_both, at_destination, at_sour
 use Rattle.fb_tree.specs.declared.interface.TypeForm.TheVariants as forms
 use Rattle.fb_tree.specs.declared.kinds.UnitKind.TheVariants as kinds
 use Rattle.fb_netcheck.specs.{declared.ends.Flow.{Flow}, Spellings.{same_by_form, same_type, same_words, words_at}}
-use Rattle.fb_netcheck.specs.declared.ends.Flow.TheVariants as flows
 use Rattle.fb_laws.specs.Networks.{ConnectionOf, EndOf}
 
 -- types

@@ -3,7 +3,7 @@ use Rattle.fb_laws.proofs.Common.{arith, ◌≡◌, ◌≢◌, ℕ, false, List,
 use Rattle.fb_laws.proofs.{CarriedTypes.{is_plain, no_elementary, value_of}, DeclarationRows.{among_declared, declared_in, unknown_types}}
 use Rattle.fb_laws.proofs.{PartLemmas.{whole_units}, PathHolders.{part_among}}
 use Rattle.fb_deploy.specs.{Library.Rests.{through}, Flatten.Blocking.{AreThose, IsBlocking}}
-use Rattle.fb_wiring.specs.Reaches.{IsRecursive, Reaches, directly, onward}
+use Rattle.fb_wiring.specs.Reaches.{Reaches, directly, onward}
 use Rattle.fb_wiring.proofs.StackLemmas.{reaches_more}
 use Rattle.fb_laws.specs.MadeOf.{BlockedIsTold, BlockedUnitsHaveFaultsBelow, HasFaultBelow, HasNoFaultsBelow, Holds, IsInTheWay, IsMadeOf, OtherNetsHaveNoFaultsBelow, OtherNetsHoldNothingInItself, RecursiveIsTold, WholeUnitsHaveNoFaultsBelow, absent_type, faulty_unit, inner_part, own_part, own_unit, type_of_part, type_of_value}
 

@@ -1,11 +1,6 @@
 -- What ends name, by the tests of the check.
-use Rattle.fb_laws.proofs.Common.{◌≡◌, ◌≢◌, ℕ, true, List, Option, Some, None, refl, sym, ap, ◌∙◌, subst, true≢false, option_map, option_and_then, and_from, and_parts, NameUse, NetworkTree, Section, Side, Input, Output, UnitKind, End, Role, Sort, Sources, tree_at, DeclaredEvent, DeclaredInstance, DeclaredVariable, first_ones, stands_for, Meanings, instances_in, same_side, instance_ports, usable, Own, OfInstance, OfPlug, OfSocket, Position, Source, Destination, Target, Unknown, NotJudged, Found, adapter_port, data_port, event_port, holder_of, is_right, port_in, port_in_role, port_in_section, right_side, target, target_held, target_in, target_named, target_of, target_of_instance, NetworkPlace, is_own, is_own_port, home_of, IsPort, IsReached, IsReachedBy, IsRightSide, NamesRight, Site, event, socket, plug, of_block_instance, of_subapplication_instance, of_plug, of_socket, own_port, port_of, own_source, own_destination, instance_source, instance_destination, plug_source, plug_destination, socket_source, socket_destination, IsNotJudged, of_unusable, arith}
+use Rattle.fb_laws.proofs.Common.{◌≡◌, ℕ, true, List, Option, Some, None, refl, sym, ap, ◌∙◌, subst, option_and_then, and_from, and_parts, NameUse, NetworkTree, Side, End, Sort, Sources, tree_at, DeclaredInstance, first_ones, stands_for, Meanings, instances_in, same_side, instance_ports, usable, Own, Position, Target, Unknown, NotJudged, Found, holder_of, is_right, port_in, right_side, target, target_held, target_in, target_named, target_of, target_of_instance, NetworkPlace, is_own, is_own_port, home_of, IsPort, IsReached, IsReachedBy, IsRightSide, NamesRight, Site, event, socket, plug, of_block_instance, of_subapplication_instance, of_plug, of_socket, own_port, port_of, own_source, own_destination, instance_source, instance_destination, plug_source, plug_destination, socket_source, socket_destination, IsNotJudged, of_unusable, arith}
 use Rattle.fb_laws.proofs.{ItemRows.{same_sides}, NetworkLemmas.{place_at}, UsableTypes.{declared_type, known_type, no_type, told_type, type_missing}}
-use Rattle.fb_tree.specs.declared.interface.Section.TheVariants as sections
-use Rattle.fb_tree.specs.declared.kinds.UnitKind.TheVariants as kinds
-use Rattle.fb_tree.specs.declared.network.Role.TheVariants as roles
-use Rattle.fb_tree.specs.declared.network.Sort.TheVariants as sorts
-use Rattle.fb_netcheck.specs.declared.ends.Flow.TheVariants as flows
 use Rattle.fb_netcheck.specs.{declared.ends.Holder.{Holder}, declared.ends.Port.{Port}}
 use Rattle.fb_laws.specs.Ends.{Names, data_input, data_output}
 

@@ -1,5 +1,5 @@
 -- Each code of networks, by what the list of faults has.
-use Rattle.fb_laws.proofs.Common.{◌≡◌, List, [], refl, sym, ap, ◌∙◌, Contains, contains_flat_map, contains_here, false_from_ne_true, Span, Sources, ℕ, Connection, Fault, DataType, PortSide, PortUnknown, NetworkTree, origin_in_flat_map, same_side, unless, Source, Destination, Unknown, Found, connection_faults, fault_of, joined_types, net_faults_of, network_faults, right_side, stands_for, IsNetworkOf, Site, source, destination, AdaptersHaveOneEnd, DestinationsHaveOneSource, NothingPassesThrough, ParametersAreKnown, ParametersFit, PortsAreKnown, PortsAreOfRightSides, TypesAgree}
+use Rattle.fb_laws.proofs.Common.{List, [], refl, sym, ap, ◌∙◌, Contains, contains_flat_map, contains_here, false_from_ne_true, Span, Sources, ℕ, Connection, Fault, DataType, PortSide, PortUnknown, NetworkTree, origin_in_flat_map, same_side, unless, Source, Destination, Unknown, Found, connection_faults, fault_of, joined_types, net_faults_of, network_faults, right_side, stands_for, IsNetworkOf, Site, source, destination, AdaptersHaveOneEnd, DestinationsHaveOneSource, NothingPassesThrough, ParametersAreKnown, ParametersFit, PortsAreKnown, PortsAreOfRightSides, TypesAgree}
 use Rattle.fb_laws.proofs.ConnectionRows.{end_found, end_reported, pass_found, pass_reported, type_found, type_reported}
 use Rattle.fb_laws.proofs.{Joined.{iff, of_either}, NetworkEnds.{known_right, known_unknown, told_names}}
 use Rattle.fb_laws.proofs.NetworkLemmas.{Finds, connection_reported, end_place, in_network, own_instances, place_at, reported}

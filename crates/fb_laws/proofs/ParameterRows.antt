@@ -1,5 +1,5 @@
 -- Parameters that stand for no data input, and values that don't fit, by what the list of faults has.
-use Rattle.fb_laws.proofs.Common.{arith, ◌≡◌, ◌≢◌, ℕ, List, [], ◌∷◌, Option, Some, None, refl, sym, ap, ◌∙◌, subst, Contains, Span, InstanceTree, NetworkTree, ParameterTree, Section, Role, Sources, tree_at, fault_at, literal_fault, stands_for, Meanings, type_ports_of, usable, IsMisfit, Code, ParameterUnknown, Fault, DeclaredVariable, contains_flat_map, contains_here, contains_nothing, contains_single, origin_in_flat_map, net_faults_of, all_parameters, instance_parameters, judged_parameters, parameter_faults, typed_parameters, value_faults, NetworkPlace, IsNetworkOf, Site}
+use Rattle.fb_laws.proofs.Common.{arith, ◌≡◌, ◌≢◌, ℕ, List, [], ◌∷◌, Option, Some, None, refl, sym, ◌∙◌, subst, Contains, Span, InstanceTree, NetworkTree, ParameterTree, Section, Role, Sources, tree_at, fault_at, literal_fault, stands_for, Meanings, type_ports_of, usable, IsMisfit, Code, ParameterUnknown, Fault, DeclaredVariable, contains_flat_map, contains_here, contains_nothing, contains_single, origin_in_flat_map, net_faults_of, all_parameters, instance_parameters, judged_parameters, parameter_faults, typed_parameters, value_faults, NetworkPlace, IsNetworkOf, Site}
 use Rattle.fb_laws.proofs.{DeclarationRows.{misfit_origin, misfit_reported}, NetworkLemmas.{Finds, Has, place_at, reported}}
 use Rattle.fb_laws.proofs.UsableTypes.{known_type, listed_type, told_type}
 use Rattle.fb_tree.specs.declared.interface.Section.TheVariants as sections

@@ -1,5 +1,5 @@
 -- Which part of the check has a code, and a fault of a unit.
-use Rattle.fb_laws.proofs.Common.{arith, ◌≡◌, ◌≢◌, ℕ, Bool, true, false, List, [], ◌∷◌, Some, None, ◌⊎◌, inl, inr, refl, sym, ap, ◌∙◌, subst, true≢false, Contains, slice_get, get, option_and_then, none-some, BrokenAt, body_of, Sources, tree_at, tree_in, tree_of, iface_faults_of, Code, Syntax, StateUnknown, EventUnknown, AlgorithmUnknown, VariableUnknown, PortUnknown, PortSide, DataType, SecondSource, SecondAdapter, PassThrough, ParameterUnknown, Literal, MappedTwice, NoSuchResource, MemberUnknown, Fault, expr_faults_of, ecc_faults_of, net_faults_of, mapping_faults_of, faults_of, reported_of, syntax_faults_of, text_faults, contains_nothing, contains_single, in_written, those_reported, CodesAreOfTheirParts, ConstantsAreOfTwoParts, HasPart, IsCodeOf, IsOfConstants, Declarations, Charts, Networks, Mappings, PartsHaveAllOtherCodes, PartsShareOneCode, WholeUnitsHaveFaultsOfParts, faults_by, of_constant, initial_value, parameter_value}
+use Rattle.fb_laws.proofs.Common.{arith, ◌≡◌, ◌≢◌, ℕ, List, [], ◌∷◌, Some, None, ◌⊎◌, inl, inr, refl, sym, ap, ◌∙◌, subst, Contains, get, option_and_then, none-some, BrokenAt, body_of, Sources, tree_at, tree_in, tree_of, iface_faults_of, Code, Syntax, StateUnknown, EventUnknown, AlgorithmUnknown, VariableUnknown, PortUnknown, PortSide, DataType, SecondSource, SecondAdapter, PassThrough, ParameterUnknown, Literal, MappedTwice, NoSuchResource, MemberUnknown, Fault, expr_faults_of, ecc_faults_of, net_faults_of, mapping_faults_of, faults_of, syntax_faults_of, text_faults, contains_nothing, contains_single, in_written, those_reported, CodesAreOfTheirParts, ConstantsAreOfTwoParts, HasPart, IsCodeOf, IsOfConstants, Declarations, Charts, Networks, Mappings, PartsHaveAllOtherCodes, PartsShareOneCode, WholeUnitsHaveFaultsOfParts, faults_by, of_constant, initial_value, parameter_value}
 use Rattle.fb_laws.proofs.{CodeLemmas.{own_codes, codes}, Joined.{in_joined, of_either}}
 use Rattle.fb_deploy.specs.Iface.declared.code.Code.TheVariants.{Class}
 use Rattle.fb_laws.specs.UnitParts.{Part, Expressions}

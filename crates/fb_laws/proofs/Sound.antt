@@ -1,5 +1,5 @@
 -- The parts of what a form reads are written in the tokens that spell it.
-use Rattle.fb_laws.proofs.Common.{refl, ◌≡◌, inl, inr, List, [], ◌∷◌, ◌++◌, map, Option, Some, None, sym, subst, flat_map, NameUse, Form, one, both, either, option, many, as_value, Spells, SpellsOption, SpellsEach, key, before, behind, or_none, optional_list, cons, separated, name, names, is_among, name_kinds, name_use, Kind, Lexeme, Part, name_part, mark_part, name_parts, option_parts, part_span, SpellsPart, IsWritten, mark, true, flat_map-append}
+use Rattle.fb_laws.proofs.Common.{refl, ◌≡◌, inl, inr, List, [], ◌∷◌, ◌++◌, map, Some, None, sym, subst, flat_map, NameUse, Form, one, both, either, option, many, as_value, Spells, SpellsOption, SpellsEach, key, before, behind, or_none, optional_list, cons, separated, name, names, is_among, name_kinds, name_use, Kind, Lexeme, Part, name_part, mark_part, name_parts, option_parts, part_span, SpellsPart, IsWritten, mark, true, flat_map-append}
 use Rattle.fb_laws.proofs.{Filling.{Filled, filled_as, filled_token, filled_name}, Tokens.{Each, each_append, each_left, each_right, written_whole}}
 use Rattle.fb_sections.specs.Sections.{section, optional_name}
 use Rattle.std.proofs.lemmas.List.Concat.{flat_map_single}
