@@ -1,8 +1,10 @@
 //! Conversations with a workbench, and whether its replies are those wanted.
 //!
-//! A conversation is a text of lines `REQUEST => REPLY`, of remarks after `// ` and of empty lines. The requests `plant` and `misplaced`
-//! mean commits that several conversations begin with. If one text has several conversations, each has a heading: `== TITLE`,
-//! or `== TITLE / UNITS / CALLS` where its workbench has other limits than the program's own.
+//! A conversation is a text of lines `REQUEST => REPLY`, of remarks behind `// ` and of empty lines. The requests `plant` and `misplaced`
+//! stand for commits that several conversations begin with, and `each KIND UNIT UNIT` for a question about each unit, all with this reply.
+//! It has a heading: `== TITLE`, or `== TITLE / UNITS / CALLS` where its workbench has other limits than the program's own. A conversation
+//! in steps has each of them behind an `@`: `@2 REQUEST => REPLY` is a run of caller 2, to which the lines behind it belong and whose jobs
+//! have numbers from 1, and `@LOOK => TOLD` looks at the workbench.
 ghost use Rattle.std.specs.Prelude.{◌<◌};
 
 use fb_wire::bench::{Bench, Limits};
@@ -22,20 +24,10 @@ const MISPLACED: &str =
 /// A number that nothing reaches.
 pub(crate) const ALWAYS: u64 = u64::MAX;
 
-/// How bytes come and go: how many a read or a write moves and how many of them are good; and how many turns there are.
-#[derive(Clone, Copy)]
-pub(crate) struct Streams {
-    pub(crate) read: (usize, u64),
-    pub(crate) write: (usize, u64),
-    pub(crate) turns: u64,
-}
+/// How many bytes a read or a write of a stream moves, and how many of them are good.
+pub(crate) type Pace = (usize, u64);
 
-/// Streams that do not fail.
-pub(crate) const GOOD: Streams = Streams {
-    read: (100, ALWAYS),
-    write: (100, ALWAYS),
-    turns: 1_000_000,
-};
+pub(crate) const WIDE: Pace = (100, ALWAYS);
 
 /// How a run ended, what it wrote, whether a read reached the end, and whether a read or a write has failed.
 #[derive(Drop)]
@@ -52,19 +44,19 @@ pub(crate) fn new_bench(alloc: Global, units: u64, history: u64) -> Result<Bench
     Ok(Bench::new(alloc, limits))
 }
 
-/// A run of this caller over the streams.
+/// A run of this caller of at most so many turns, with these reads and writes.
 pub(crate) fn run_over(
     alloc: Global,
     bench: &mut Bench,
     caller: u32,
     input: &[u8],
-    streams: Streams,
+    (read, good_reads): Pace,
+    (write, good_writes): Pace,
+    turns: u64,
 ) -> Result<Run, AllocError> {
-    let (read, good_reads) = streams.read;
-    let (write, good_writes) = streams.write;
     let mut feed = MemoryFeed::new(input, read.max(1), good_reads);
     let mut sink = MemorySink::new(alloc, write.max(1), good_writes);
-    let end = run_script(alloc, &mut feed, &mut sink, bench, caller, streams.turns);
+    let end = run_script(alloc, &mut feed, &mut sink, bench, caller, turns);
     Ok(Run {
         end,
         output: sink.as_slice().to_vec(alloc)?,
@@ -83,42 +75,66 @@ fn exchange_in(line: &str) -> Option<(&str, &str)> {
     }
 }
 
-/// The request lines of a conversation.
-pub(crate) fn requests_in(alloc: Global, text: &str) -> Result<String, Fail> {
-    let mut requests = String::new(alloc);
+// The questions in words such as `faults A B`, each with this reply.
+fn ask_each(
+    requests: &mut String,
+    replies: &mut String,
+    words: &str,
+    reply: &str,
+) -> Result<(), Fail> {
+    let (kind, units) = words.split_once(' ').ok_or("units")?;
+    for unit in units.split(' ') {
+        writeln!(
+            requests,
+            r#"{{"op":"ask","kind":"{kind}","unit":"{unit}"}}"#
+        )?;
+        writeln!(replies, "{reply}")?;
+    }
+    Ok(())
+}
+
+/// The request lines of a conversation, and the replies to them.
+pub(crate) fn exchanges_in(alloc: Global, text: &str) -> Result<(String, String), Fail> {
+    let (mut requests, mut replies) = (String::new(alloc), String::new(alloc));
     for line in text.split('\n') {
-        if let Some((request, _)) = exchange_in(line) {
-            writeln!(requests, "{request}")?;
+        if let Some((request, reply)) = exchange_in(line) {
+            if let Some(words) = request.strip_prefix("each ") {
+                ask_each(&mut requests, &mut replies, words, reply)?;
+            } else {
+                writeln!(requests, "{request}")?;
+                writeln!(replies, "{reply}")?;
+            }
         } else if !line.is_empty() && !line.starts_with("// ") {
             return Err(Fail::from("a line of no kind"));
         }
     }
-    Ok(requests)
+    Ok((requests, replies))
 }
 
-/// The replies of a conversation to the request lines that end within the first bytes of these.
-pub(crate) fn replies_within(
+/// The replies to a caller with these requests, in a run that reaches its end.
+pub(crate) fn said(
     alloc: Global,
-    text: &str,
-    bytes: usize,
-) -> Result<String, AllocError> {
-    let mut replies = String::new(alloc);
-    let mut left = bytes;
-    for line in text.split('\n') {
-        if let Some((request, reply)) = exchange_in(line) {
-            if left <= request.len() {
-                return Ok(replies);
-            }
-            left -= request.len() + 1;
-            writeln!(replies, "{reply}")?;
-        }
+    bench: &mut Bench,
+    caller: u32,
+    requests: &str,
+) -> Result<String, Fail> {
+    let input = requests.as_bytes();
+    let run = run_over(alloc, bench, caller, input, WIDE, WIDE, 1_000_000)?;
+    match run.end {
+        RunEnd::End => Ok(String::from_utf8(run.output)?),
+        _ => Err(Fail::from("the run did not come to its end")),
     }
-    Ok(replies)
 }
 
-/// All replies of a conversation.
-pub(crate) fn replies_in(alloc: Global, text: &str) -> Result<String, AllocError> {
-    replies_within(alloc, text, usize::MAX)
+/// The replies to a caller that says the requests of a conversation, and those that are wanted.
+fn exchanged(
+    alloc: Global,
+    bench: &mut Bench,
+    caller: u32,
+    text: &str,
+) -> Result<(String, String), Fail> {
+    let (requests, replies) = exchanges_in(alloc, text)?;
+    Ok((said(alloc, bench, caller, requests.as_str())?, replies))
 }
 
 // How many lines at the front are the same in both texts, where these differ.
@@ -130,72 +146,101 @@ fn alike(a: &str, b: &str) -> Option<usize> {
     Some(place.unwrap_or(0))
 }
 
-/// The replies to a caller with these requests, in a run that reaches its end.
-pub(crate) fn said(
+/// Compares the replies to a caller that says the requests of a conversation with those that are there.
+pub(crate) fn converse(
+    rt: &impl Abort,
     alloc: Global,
     bench: &mut Bench,
     caller: u32,
-    requests: &str,
-) -> Result<String, Fail> {
-    let run = run_over(alloc, bench, caller, requests.as_bytes(), GOOD)?;
-    match run.end {
-        RunEnd::End => Ok(String::from_utf8(run.output)?),
-        _ => Err(Fail::from("the run did not come to its end")),
+    text: &str,
+) -> Result<(), Fail> {
+    let (told, wanted) = exchanged(alloc, bench, caller, text)?;
+    assert!(rt; !wanted.is_empty(), "no lines");
+    assert_eq!(rt; alike(told.as_str(), wanted.as_str()), None, "{told}");
+    Ok(())
+}
+
+// The title of a conversation that stands behind `== `, a new workbench for it, and its lines.
+fn opened(alloc: Global, conversation: &str) -> Result<(&str, Bench, &str), Fail> {
+    let (heading, text) = conversation.split_once('\n').ok_or("a line")?;
+    let (title, limits) = heading
+        .split_once(" / ")
+        .unwrap_or((heading, "1024 / 100000"));
+    let (units, history) = limits.split_once(" / ").ok_or("limits")?;
+    let bench = new_bench(alloc, units.parse()?, history.parse()?)?;
+    Ok((title, bench, text))
+}
+
+/// Has caller 1 say each of these conversations to a workbench of its own. One alone may have no lines, by its title.
+pub(crate) fn compare(rt: &impl Abort, alloc: Global, text: &str) -> Result<(), Fail> {
+    let conversations = text.strip_prefix("\n== ").ok_or("a heading")?;
+    for conversation in conversations.split("\n== ") {
+        let (title, mut bench, text) = opened(alloc, conversation)?;
+        let (told, wanted) = exchanged(alloc, &mut bench, 1, text)?;
+        assert_eq!(rt; wanted.is_empty(), title == "no lines", "{conversation}");
+        assert_eq!(rt;
+            alike(told.as_str(), wanted.as_str()),
+            None,
+            "{conversation}"
+        );
+    }
+    Ok(())
+}
+
+/// What is looked at in conversations in steps.
+pub(crate) trait Look {
+    /// What is told of a look.
+    fn look(alloc: Global, bench: &mut Bench, look: &str) -> Result<String, Fail>;
+}
+
+// What is told at a step, and what is wanted.
+fn step_told<L: Look>(
+    alloc: Global,
+    bench: &mut Bench,
+    step: &str,
+) -> Result<(String, String), Fail> {
+    match step.split_once(' ') {
+        Some(("1", lines)) => exchanged(alloc, bench, 1, lines),
+        Some(("2", lines)) => exchanged(alloc, bench, 2, lines),
+        _ => {
+            let (look, wanted) = step.trim_end().split_once(" => ").ok_or("a look")?;
+            Ok((L::look(alloc, bench, look)?, wanted.to_string(alloc)?))
+        }
     }
 }
 
-/// Has a caller say the requests of a conversation. Where the replies are not those that are there, it gives how many at
-/// the start are.
-pub(crate) fn converse(
+fn go_through<L: Look>(
+    rt: &impl Abort,
     alloc: Global,
+    title: &str,
     bench: &mut Bench,
-    caller: u32,
-    text: &str,
-) -> Result<Option<usize>, Fail> {
-    let requests = requests_in(alloc, text)?;
-    let said = said(alloc, bench, caller, requests.as_str())?;
-    let wanted = replies_in(alloc, text)?;
-    Ok(alike(said.as_str(), wanted.as_str()))
+    steps: &str,
+) -> Result<(), Fail> {
+    let mut place = 0u32;
+    for step in steps.split('@') {
+        let (told, wanted) = step_told::<L>(alloc, bench, step)?;
+        assert!(rt; !wanted.is_empty(), "{title}, step {place}");
+        assert_eq!(rt;
+            alike(told.as_str(), wanted.as_str()),
+            None,
+            "{title}, step {place}: {told}"
+        );
+        place = place.saturating_add(1);
+    }
+    Ok(())
 }
 
-/// The same with a new workbench of these limits.
-pub(crate) fn converse_within(
+/// Goes through the steps of each of these conversations with a workbench of its own.
+pub(crate) fn compare_steps<L: Look>(
+    rt: &impl Abort,
     alloc: Global,
-    units: u64,
-    history: u64,
     text: &str,
-) -> Result<Option<usize>, Fail> {
-    let mut bench = new_bench(alloc, units, history)?;
-    converse(alloc, &mut bench, 1, text)
-}
-
-/// The same with a new workbench of the program's own limits.
-pub(crate) fn converse_alone(alloc: Global, text: &str) -> Result<Option<usize>, Fail> {
-    converse_within(alloc, 1024, 100_000, text)
-}
-
-/// Fails if there is a wrong place, as a reply or a step.
-pub(crate) fn all_right(rt: &impl Abort, wrong: Option<usize>, about: &str) {
-    assert_eq!(rt; wrong, None, "{about}");
-}
-
-/// The title in a heading after `== `, and the most units and calls of the workbench.
-fn heading_in(heading: &str) -> Result<(&str, u64, u64), Fail> {
-    let Some((title, limits)) = heading.split_once(" / ") else {
-        return Ok((heading, 1024, 100_000));
-    };
-    let (units, history) = limits.split_once(" / ").ok_or("limits")?;
-    Ok((title, units.parse()?, history.parse()?))
-}
-
-/// Has a caller say each of these conversations to a workbench of its own.
-pub(crate) fn compare(rt: &impl Abort, alloc: Global, text: &str) -> Result<(), Fail> {
-    let (before, conversations) = text.split_once("== ").ok_or("a heading")?;
-    assert_eq!(rt; before, "\n");
+) -> Result<(), Fail> {
+    let conversations = text.strip_prefix("\n== ").ok_or("a heading")?;
     for conversation in conversations.split("\n== ") {
-        let (heading, text) = conversation.split_once('\n').ok_or("a line")?;
-        let (title, units, history) = heading_in(heading)?;
-        all_right(rt, converse_within(alloc, units, history, text)?, title);
+        let (title, mut bench, text) = opened(alloc, conversation)?;
+        let steps = text.strip_prefix('@').ok_or("a step")?;
+        go_through::<L>(rt, alloc, title, &mut bench, steps)?;
     }
     Ok(())
 }

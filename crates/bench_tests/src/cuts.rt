@@ -1,7 +1,5 @@
 //! A conversation over streams of std of which each read, each write and each flush fails in turn, or a write takes nothing.
-use crate::conversation::{
-    ALWAYS, GOOD, new_bench, replies_in, replies_within, requests_in, run_over,
-};
+use crate::conversation::{exchanges_in, new_bench, said};
 use fb_wire::bench::Bench;
 use fb_wire::{FromRead, IntoWrite, RunEnd, run_script};
 use std::alloc::Global;
@@ -28,7 +26,7 @@ pub(crate) const LATE: &str = r#"
 pub(crate) const LATE_CALLS: &[usize] = &[0, 1, 2, 3, 3, 4, 5, 6, 7, 12, 13];
 
 /// What fails once this number of its kind were good.
-#[derive(Clone, Copy)]
+#[derive(Clone, Copy, Debug)]
 enum Fault {
     /// A read, where each gives at most this number of bytes.
     Read(usize),
@@ -42,21 +40,37 @@ enum Fault {
 /// More bytes than a line of the conversation has.
 const LONG: usize = 8192;
 
-/// Bytes that come in reads of at most `piece`, of which this number of are good.
+/// Bytes that are read, those that were written, and how many reads, writes or flushes are good, whichever the fault is of.
 #[derive(Drop)]
-struct Source<'a> {
+struct Stream<'a> {
     bytes: &'a [u8],
-    piece: usize,
-    reads: u64,
+    held: Vec<u8>,
+    fault: Fault,
+    good: u64,
 }
 
-impl Read for Source<'_> {
-    fn read(&mut self, buffer: &mut [u8]) -> io::Result<usize> {
-        if self.reads == 0 {
-            return Err(io::Error::from(ErrorKind::ConnectionReset));
+impl Stream<'_> {
+    // One of these fails, or one less is good.
+    fn pass(&mut self, kind: ErrorKind) -> io::Result<()> {
+        if self.good == 0 {
+            return Err(io::Error::from(kind));
         }
-        self.reads -= 1;
-        let count = self.piece.min(self.bytes.len()).min(buffer.len());
+        self.good -= 1;
+        Ok(())
+    }
+}
+
+impl Read for Stream<'_> {
+    fn read(&mut self, buffer: &mut [u8]) -> io::Result<usize> {
+        let fault = self.fault;
+        let piece = match fault {
+            Fault::Read(piece) => {
+                self.pass(ErrorKind::ConnectionReset)?;
+                piece
+            }
+            _ => LONG,
+        };
+        let count = piece.min(self.bytes.len()).min(buffer.len());
         let bytes = self.bytes;
         buffer[..count].copy_from_slice(&bytes[..count]);
         self.bytes = &bytes[count..];
@@ -64,72 +78,63 @@ impl Read for Source<'_> {
     }
 }
 
-/// What is written in writes of at most `piece` bytes, of which this number of are good, and this number of flushes.
-#[derive(Drop)]
-struct Store {
-    held: Vec<u8>,
-    piece: usize,
-    writes: u64,
-    flushes: u64,
-    takes_nothing: bool,
-}
-
-impl Write for Store {
+impl Write for Stream<'_> {
     fn write(&mut self, bytes: &[u8]) -> io::Result<usize> {
-        if self.writes == 0 {
-            if self.takes_nothing {
-                return Ok(0);
+        let fault = self.fault;
+        let piece = match fault {
+            Fault::EmptyWrite(_) if self.good == 0 => 0,
+            Fault::Write(piece) | Fault::EmptyWrite(piece) => {
+                self.pass(ErrorKind::BrokenPipe)?;
+                piece
             }
-            return Err(io::Error::from(ErrorKind::BrokenPipe));
-        }
-        self.writes -= 1;
-        let count = self.piece.min(bytes.len());
+            _ => LONG,
+        };
+        let count = piece.min(bytes.len());
         self.held.extend_from_slice(&bytes[..count])?;
         Ok(count)
     }
 
     fn flush(&mut self) -> io::Result<()> {
-        if self.flushes == 0 {
-            return Err(io::Error::from(ErrorKind::BrokenPipe));
+        match self.fault {
+            Fault::Flush => self.pass(ErrorKind::BrokenPipe),
+            _ => Ok(()),
         }
-        self.flushes -= 1;
-        Ok(())
     }
 }
 
-fn source_of(bytes: &[u8], fault: Fault, good: u64) -> Source<'_> {
-    let (piece, reads) = match fault {
-        Fault::Read(piece) => (piece, good),
-        _ => (LONG, ALWAYS),
-    };
-    Source {
+fn stream_of(alloc: Global, bytes: &[u8], fault: Fault, good: usize) -> Stream<'_> {
+    Stream {
         bytes,
-        piece,
-        reads,
-    }
-}
-
-fn store_of(alloc: Global, fault: Fault, good: u64) -> Store {
-    let (piece, writes, flushes) = match fault {
-        Fault::Read(_) => (LONG, ALWAYS, ALWAYS),
-        Fault::Write(piece) | Fault::EmptyWrite(piece) => (piece, good, ALWAYS),
-        Fault::Flush => (LONG, ALWAYS, good),
-    };
-    Store {
         held: Vec::new(alloc),
-        piece,
-        writes,
-        flushes,
-        takes_nothing: matches!(fault, Fault::EmptyWrite(_)),
+        fault,
+        good: good as u64,
     }
 }
 
-/// Request lines, the replies to them, and a workbench that has answered them.
+/// Request lines, the replies to them, how many calls are recorded once this number of them are answered, and a workbench that has
+/// answered them.
 #[derive(Drop)]
-pub(crate) struct Conversation<'a> {
-    pub(crate) requests: &'a str,
-    pub(crate) replies: &'a str,
-    pub(crate) whole: &'a Bench,
+pub(crate) struct Conversation {
+    pub(crate) requests: String,
+    pub(crate) replies: String,
+    pub(crate) calls: &'static [usize],
+    pub(crate) whole: Bench,
+}
+
+pub(crate) fn conversation_of(
+    alloc: Global,
+    text: &str,
+    calls: &'static [usize],
+) -> Result<Conversation, Fail> {
+    let (requests, replies) = exchanges_in(alloc, text)?;
+    let mut whole = new_bench(alloc, 10, 1000)?;
+    said(alloc, &mut whole, 1, requests.as_str())?;
+    Ok(Conversation {
+        requests,
+        replies,
+        calls,
+        whole,
+    })
 }
 
 // Whether the records of this number say the same.
@@ -148,44 +153,6 @@ pub(crate) fn is_prefix(bench: &Bench, whole: &Bench) -> bool {
         }
     }
     true
-}
-
-/// How a run ended, what it wrote, and how many calls it recorded: whether they are the first ones of the whole run.
-#[derive(Drop)]
-struct Cut {
-    end: RunEnd,
-    output: Vec<u8>,
-    calls: usize,
-    is_prefix: bool,
-}
-
-fn cut_on(
-    alloc: Global,
-    bench: &mut Bench,
-    conversation: &Conversation<'_>,
-    fault: Fault,
-    good: u64,
-) -> Cut {
-    let mut feed = FromRead::new(source_of(conversation.requests.as_bytes(), fault, good));
-    let mut store = store_of(alloc, fault, good);
-    let mut sink = IntoWrite::new(&mut store);
-    let end = run_script(alloc, &mut feed, &mut sink, bench, 1, 1_000_000);
-    Cut {
-        end,
-        output: store.held,
-        calls: bench.len(),
-        is_prefix: is_prefix(bench, conversation.whole),
-    }
-}
-
-fn cut_anew(
-    alloc: Global,
-    conversation: &Conversation<'_>,
-    fault: Fault,
-    good: u64,
-) -> Result<Cut, Fail> {
-    let mut bench = new_bench(alloc, 10, 1000)?;
-    Ok(cut_on(alloc, &mut bench, conversation, fault, good))
 }
 
 /// How many lines end in these bytes.
@@ -210,14 +177,21 @@ fn len_of(text: &str, lines: usize) -> usize {
     text.len().saturating_sub(behind(text, lines).len())
 }
 
-// How many bytes of the replies are written: to each line that has come, or as many as were taken.
-fn bytes_wanted(alloc: Global, replies: &str, fault: Fault, good: usize) -> Result<usize, Fail> {
-    match fault {
-        Fault::Read(piece) => Ok(replies_within(alloc, LATE, piece.saturating_mul(good))?.len()),
-        Fault::Write(1) | Fault::EmptyWrite(1) => Ok(good),
-        Fault::Write(_) | Fault::EmptyWrite(_) => Ok(len_of(replies, good)),
-        Fault::Flush => Ok(len_of(replies, good.saturating_add(1))),
-    }
+// What is written of the replies: those to each line that has come, or as many bytes as were taken.
+fn output_wanted(conversation: &Conversation, fault: Fault, good: usize) -> &[u8] {
+    let requests = conversation.requests.as_bytes();
+    let replies = conversation.replies.as_str();
+    let bytes = match fault {
+        Fault::Read(piece) => {
+            let bytes = piece.saturating_mul(good);
+            len_of(replies, lines_in(requests.get(..bytes).unwrap_or(requests)))
+        }
+        Fault::Write(1) | Fault::EmptyWrite(1) => good,
+        Fault::Write(_) | Fault::EmptyWrite(_) => len_of(replies, good),
+        Fault::Flush => len_of(replies, good.saturating_add(1)),
+    };
+    let replies = replies.as_bytes();
+    replies.get(..bytes).unwrap_or(replies)
 }
 
 // How a run with this fault ends, and whether the calls of one line more are made than are answered whole.
@@ -229,35 +203,35 @@ fn end_wanted(fault: Fault) -> (RunEnd, bool) {
     }
 }
 
-// Whether a run ended so, wrote this, and recorded the calls of its lines, or of one more.
-fn is_cut(cut: &Cut, output: &[u8], end: RunEnd, is_one_more: bool) -> bool {
-    let lines = lines_in(output).saturating_add(usize::from(is_one_more));
-    let is_said = cut.end == end && cut.output.as_slice() == output;
-    is_said && cut.is_prefix && LATE_CALLS.get(lines) == Some(&cut.calls)
-}
-
-// Whether a run is right of which so many are good, or all.
+// Whether a run of which so many are good, or all, ends so, writes this, and records the calls of its lines, or of one more.
 fn is_right(
     alloc: Global,
-    conversation: &Conversation<'_>,
+    conversation: &Conversation,
     fault: Fault,
     good: usize,
     are_all: bool,
 ) -> Result<bool, Fail> {
-    let replies = conversation.replies.as_bytes();
-    let bytes = bytes_wanted(alloc, conversation.replies, fault, good)?;
-    let output = replies.get(..bytes).unwrap_or(replies);
-    let (end, is_one_more) = if are_all {
+    let requests = conversation.requests.as_bytes();
+    let mut feed = FromRead::new(stream_of(alloc, requests, fault, good));
+    let mut store = stream_of(alloc, b"", fault, good);
+    let mut sink = IntoWrite::new(&mut store);
+    let mut bench = new_bench(alloc, 10, 1000)?;
+    let end = run_script(alloc, &mut feed, &mut sink, &mut bench, 1, 1_000_000);
+    let (end_wanted, is_one_more) = if are_all {
         (RunEnd::End, false)
     } else {
         end_wanted(fault)
     };
-    let cut = cut_anew(alloc, conversation, fault, good as u64)?;
-    Ok(is_cut(&cut, output, end, is_one_more))
+    let output = output_wanted(conversation, fault, good);
+    let lines = lines_in(output).saturating_add(usize::from(is_one_more));
+    let calls = bench.len();
+    let is_said = end == end_wanted && store.held.as_slice() == output;
+    let are_calls = conversation.calls.get(lines) == Some(&calls);
+    Ok(is_said && are_calls && is_prefix(&bench, &conversation.whole))
 }
 
 // How many of its kind there are in the whole run. The last read finds the end.
-fn good_in_all(conversation: &Conversation<'_>, fault: Fault) -> usize {
+fn good_in_all(conversation: &Conversation, fault: Fault) -> usize {
     match fault {
         Fault::Read(piece) => conversation
             .requests
@@ -269,47 +243,12 @@ fn good_in_all(conversation: &Conversation<'_>, fault: Fault) -> usize {
     }
 }
 
-// The least number of good ones with which a run is wrong.
-fn first_wrong(
-    alloc: Global,
-    conversation: &Conversation<'_>,
-    fault: Fault,
-) -> Result<Option<usize>, Fail> {
-    let all = good_in_all(conversation, fault);
+fn compare(rt: &impl Abort, alloc: Global, fault: Fault) -> Result<(), Fail> {
+    let conversation = conversation_of(alloc, LATE, LATE_CALLS)?;
+    let all = good_in_all(&conversation, fault);
     for good in 0..all.saturating_add(1) {
-        if !is_right(alloc, conversation, fault, good, good == all)? {
-            return Ok(Some(good));
-        }
-    }
-    Ok(None)
-}
-
-fn wrong_beside(
-    alloc: Global,
-    whole: &mut Bench,
-    requests: &str,
-    replies: &str,
-    fault: Fault,
-) -> Result<Option<usize>, Fail> {
-    run_over(alloc, whole, 1, requests.as_bytes(), GOOD)?;
-    let conversation = Conversation {
-        requests,
-        replies,
-        whole,
-    };
-    first_wrong(alloc, &conversation, fault)
-}
-
-fn wrong(alloc: Global, fault: Fault) -> Result<Option<usize>, Fail> {
-    let requests = requests_in(alloc, LATE)?;
-    let replies = replies_in(alloc, LATE)?;
-    let mut whole = new_bench(alloc, 10, 1000)?;
-    wrong_beside(alloc, &mut whole, &requests, &replies, fault)
-}
-
-fn compare(rt: &impl Abort, alloc: Global, faults: &[Fault]) -> Result<(), Fail> {
-    for fault in faults {
-        assert_eq!(rt; wrong(alloc, *fault)?, None);
+        let is_right = is_right(alloc, &conversation, fault, good, good == all)?;
+        assert!(rt; is_right, "{fault:?}, {good} are good");
     }
     Ok(())
 }
@@ -317,32 +256,27 @@ fn compare(rt: &impl Abort, alloc: Global, faults: &[Fault]) -> Result<(), Fail>
 // A run answers the lines that have come whole.
 #[test]
 fn each_read_fails(rt: HostRuntime) -> Result<(), Fail> {
-    let faults = [
-        Fault::Read(1),
-        Fault::Read(7),
-        Fault::Read(50),
-        Fault::Read(LONG),
-    ];
-    compare(&rt, rt.alloc(), &faults)
+    for piece in [1, 7, 50, LONG] {
+        compare(&rt, rt.alloc(), Fault::Read(piece))?;
+    }
+    Ok(())
 }
 
 // What is written is a prefix of the replies; the calls are made of the line whose reply is cut.
 #[test]
 fn each_write_fails(rt: HostRuntime) -> Result<(), Fail> {
-    compare(&rt, rt.alloc(), &[Fault::Write(1), Fault::Write(LONG)])
+    compare(&rt, rt.alloc(), Fault::Write(1))?;
+    compare(&rt, rt.alloc(), Fault::Write(LONG))
 }
 
 #[test]
 fn each_write_takes_nothing(rt: HostRuntime) -> Result<(), Fail> {
-    compare(
-        &rt,
-        rt.alloc(),
-        &[Fault::EmptyWrite(1), Fault::EmptyWrite(LONG)],
-    )
+    compare(&rt, rt.alloc(), Fault::EmptyWrite(1))?;
+    compare(&rt, rt.alloc(), Fault::EmptyWrite(LONG))
 }
 
 // The reply is written whose flush fails, and none behind it.
 #[test]
 fn each_flush_fails(rt: HostRuntime) -> Result<(), Fail> {
-    compare(&rt, rt.alloc(), &[Fault::Flush])
+    compare(&rt, rt.alloc(), Fault::Flush)
 }

@@ -1,57 +1,41 @@
 //! Jobs with what they read, results that come from another workbench, and calls that are made as requests.
-use crate::conversation::{converse, new_bench};
+use crate::conversation::{Look, compare_steps, converse, new_bench};
 use fb_library::Change;
 use fb_library::parse::Source;
 use fb_text::Name;
 use fb_wire::bench::{Answered, Bench, Call, Delivered, Request, Shown, Taken, TextChange};
 use fb_wire::jobs::{Finished, Job, Key, Kind};
-use std::alloc::Global;
+use std::alloc::{AllocError, Global};
 use std::process::Abort;
 use std::test::Fail;
-
-const PLAIN: &str = r#"
-{"op":"commit","changes":[{"put":"A","base":0,"text":"FUNCTION_BLOCK A END_FUNCTION_BLOCK"}]} => {"commit":1}
-"#;
-
-const EMPTY: &str = r#"
-{"op":"commit","changes":[{"put":"B","base":0,"text":""}]} => {"commit":1}
-"#;
-
-// Mentions as little as the plain text does.
-const OTHER: &str = r#"
-{"op":"commit","changes":[{"put":"A","base":0,"text":"FUNCTION_BLOCK A EVENT_INPUT E; END_EVENT END_FUNCTION_BLOCK"}]} => {"commit":1}
-"#;
-
-// Has another name in it.
-const RENAMED: &str = r#"
-{"op":"commit","changes":[{"put":"A","base":0,"text":"FUNCTION_BLOCK B END_FUNCTION_BLOCK"}]} => {"commit":1}
-"#;
-
-// Rests on B.
-const USER: &str = r#"
-{"op":"commit","changes":[{"put":"A","base":0,"text":"FUNCTION_BLOCK A FBS X:B; END_FBS END_FUNCTION_BLOCK"}]} => {"commit":1}
-"#;
 
 pub(crate) fn key_of(kind: Kind, unit: &str) -> Result<Key, Fail> {
     let unit = Name::read(unit)?;
     Ok(Key { kind, unit })
 }
 
-fn faults_of_a() -> Result<Key, Fail> {
-    key_of(Kind::Faults, "A")
+/// The key in words such as `faults A`.
+pub(crate) fn key_in(words: &str) -> Result<Key, Fail> {
+    match words.split_once(' ') {
+        Some(("faults", unit)) => key_of(Kind::Faults, unit),
+        Some(("net", unit)) => key_of(Kind::Net, unit),
+        Some(("deploy", unit)) => key_of(Kind::Deploy, unit),
+        _ => Err(Fail::from("a key")),
+    }
 }
 
-// A new workbench after a conversation.
-pub(crate) fn bench_after(alloc: Global, text: &str) -> Result<Bench, Fail> {
-    let mut bench = new_bench(alloc, 4, 100)?;
-    match converse(alloc, &mut bench, 1, text)? {
-        None => Ok(bench),
-        Some(_) => Err(Fail::from("another reply")),
+/// What is known of a key, in a word.
+pub(crate) fn shown(bench: &Bench, key: &Key) -> &'static str {
+    let shown = bench.peek(key);
+    match &shown {
+        Shown::NoSuchKey => "none",
+        Shown::Pending => "pending",
+        Shown::Value(_) => "value",
     }
 }
 
 // The job for a key, which is one of the next eight.
-pub(crate) fn job_for(bench: &mut Bench, key: Key) -> Result<Job, Fail> {
+fn job_for(bench: &mut Bench, key: Key) -> Result<Job, Fail> {
     for _ in 0..8u8 {
         if let Taken::Job(job) = bench.take(1)? {
             if job.key() == key {
@@ -62,222 +46,168 @@ pub(crate) fn job_for(bench: &mut Bench, key: Key) -> Result<Job, Fail> {
     Err(Fail::from("no such job"))
 }
 
-fn has_value(bench: &Bench, key: Key) -> bool {
-    let shown = bench.peek(&key);
-    matches!(&shown, Shown::Value(_))
-}
+/// What jobs of a workbench tell. The result of a job is delivered, and accepted.
+pub(crate) struct Jobs;
 
-fn is_pending(bench: &Bench, key: Key) -> bool {
-    let shown = bench.peek(&key);
-    matches!(&shown, Shown::Pending)
-}
-
-fn is_no_key(bench: &Bench, key: Key) -> bool {
-    let shown = bench.peek(&key);
-    matches!(&shown, Shown::NoSuchKey)
-}
-
-// Whether a job and its result are for the key and have read these names at these revisions, with a source for each
-// revision but 0.
-fn have_read(job: &Job, finished: &Finished, key: Key, wanted: &[(&str, u64)]) -> bool {
-    for reads in [job.reads(), finished.reads()] {
-        let are_same = reads.iter().zip(wanted).all(|(read, (name, revision))| {
-            let is_there = read.source.is_some() == (*revision > 0);
-            is_there && read.name.as_str() == *name && read.revision == *revision
-        });
-        if !are_same || reads.len() != wanted.len() {
-            return false;
+impl Look for Jobs {
+    fn look(alloc: Global, bench: &mut Bench, look: &str) -> Result<String, Fail> {
+        let (what, key) = look.split_once(' ').ok_or("a look")?;
+        let key = key_in(key)?;
+        match what {
+            "shown" => Ok(shown(bench, &key).to_string(alloc)?),
+            "next" => next_told(alloc, bench, key),
+            _ => job_told(alloc, bench, what, key),
         }
     }
-    job.key() == key && finished.key() == key
 }
 
-// Whether a result is taken in.
-pub(crate) fn is_accepted(bench: &mut Bench, finished: &Finished) -> Result<bool, Fail> {
-    Ok(bench.deliver(1, finished)? == Delivered::Accepted)
+// The nets that the next job takes along, which is for this key.
+fn next_told(alloc: Global, bench: &mut Bench, key: Key) -> Result<String, Fail> {
+    if let Taken::Job(job) = bench.take(1)? {
+        if job.key() == key {
+            return Ok(hints_told(alloc, &job)?);
+        }
+    }
+    Err(Fail::from("another job"))
 }
 
-/// A commit, a key, what a job for it reads, and the reply about it then.
-type Row = (
-    &'static str,
-    Kind,
-    &'static str,
-    &'static [(&'static str, u64)],
-    &'static str,
-);
-
-const JOBS: &[Row] = &[
-    (
-        r#"
-{"op":"commit","changes":[{"put":"A","base":0,"text":"FUNCTION_BLOCK A EVENT_INPUT"}]} => {"commit":1}
-"#,
-        Kind::Faults,
-        "A",
-        &[("A", 1)],
-        r#"
-{"op":"ask","kind":"faults","unit":"A"} => {"faults":[["SYNTAX",28,28]]}
-"#,
-    ),
-    (
-        r#"
-{"op":"commit","changes":[{"put":"S","base":0,"text":"SUBAPPLICATION S FBS X:T; END_FBS END_SUBAPPLICATION"}]} => {"commit":1}
-"#,
-        Kind::Net,
-        "S",
-        &[("S", 1), ("T", 0)],
-        r#"
-{"op":"ask","kind":"net","unit":"S"} => {"net":{"blocked":["S","T"]}}
-"#,
-    ),
-    (
-        r#"
-plant => {"commit":1}
-"#,
-        Kind::Deploy,
-        "Y",
-        &[("SA", 1), ("TN", 1), ("Y", 1)],
-        r#"
-{"op":"ask","kind":"deploy","unit":"Y"} => {"deploy":{"cuts":[["event","APP.SUB.F.O","APP.SUB.G.I"]],"resources":[["D.R1",["CREATE FB APP.SUB.G TN","CREATE FB APP.SUB.H TN","WRITE APP.SUB.G.DT T#250ms","CREATE CONNECTION APP.SUB.G.O APP.SUB.H.I","START D.R1"]],["D.R2",["CREATE FB APP.SUB.F TN","START D.R2"]]]}}
-"#,
-    ),
-];
-
-// Whether a job has read these names, and its result is taken in.
-fn is_run(
-    alloc: Global,
-    bench: &mut Bench,
-    job: &Job,
-    key: Key,
-    reads: &[(&str, u64)],
-) -> Result<bool, Fail> {
+// What a job for the key and its result have read, the nets that it takes along, or those that its result has found.
+fn job_told(alloc: Global, bench: &mut Bench, what: &str, key: Key) -> Result<String, Fail> {
+    let job: Job = job_for(bench, key)?;
     let finished = job.run(alloc)?;
-    if !have_read(job, &finished, key, reads) {
-        return Ok(false);
+    if bench.deliver(1, &finished)? != Delivered::Accepted {
+        return Err(Fail::from("not accepted"));
     }
-    is_accepted(bench, &finished)
-}
-
-// Whether a key is pending, and there is such a job for it.
-fn is_worked(
-    alloc: Global,
-    bench: &mut Bench,
-    key: Key,
-    reads: &[(&str, u64)],
-) -> Result<bool, Fail> {
-    let was_pending = is_pending(bench, key);
-    let job = job_for(bench, key)?;
-    Ok(is_run(alloc, bench, &job, key, reads)? && was_pending)
-}
-
-// Whether the key of a row is worked, and what is said then.
-fn goes(
-    alloc: Global,
-    bench: &mut Bench,
-    key: Key,
-    reads: &[(&str, u64)],
-    after: &str,
-) -> Result<bool, Fail> {
-    Ok(is_worked(alloc, bench, key, reads)? && converse(alloc, bench, 1, after)?.is_none())
-}
-
-// The same on a new workbench.
-fn goes_after(
-    alloc: Global,
-    before: &str,
-    key: Key,
-    reads: &[(&str, u64)],
-    after: &str,
-) -> Result<bool, Fail> {
-    let mut bench = bench_after(alloc, before)?;
-    goes(alloc, &mut bench, key, reads, after)
-}
-
-fn compare_jobs(rt: &impl Abort, alloc: Global, rows: &[Row]) -> Result<(), Fail> {
-    for (before, kind, unit, reads, after) in rows {
-        let key = key_of(*kind, unit)?;
-        let goes = goes_after(alloc, before, key, reads, after)?;
-        assert!(rt; goes, "{unit}");
+    match what {
+        "reads" => Ok(reads_told(alloc, &job, &finished)?),
+        "along" => Ok(hints_told(alloc, &job)?),
+        "finds" => Ok(found_told(alloc, &finished)?),
+        _ => Err(Fail::from("a look of no kind")),
     }
-    Ok(())
 }
+
+// The names that were read with their revisions, and which of them have no source.
+fn reads_told(alloc: Global, job: &Job, finished: &Finished) -> Result<String, AllocError> {
+    let is_same = job.key() == finished.key();
+    let mut told = String::from_str(alloc, if is_same { "" } else { "another key, " })?;
+    for (whose, reads) in [("job", job.reads()), (", result", finished.reads())] {
+        told.push_str(whose)?;
+        for read in reads {
+            let absent = if read.source.is_none() { " absent" } else { "" };
+            write!(told, " {} {}{absent}", read.name.as_str(), read.revision)?;
+        }
+    }
+    Ok(told)
+}
+
+fn hints_told(alloc: Global, job: &Job) -> Result<String, AllocError> {
+    let mut told = String::from_str(alloc, "nets")?;
+    for hint in job.hints() {
+        write!(told, " {}", hint.unit.as_str())?;
+    }
+    Ok(told)
+}
+
+fn found_told(alloc: Global, finished: &Finished) -> Result<String, AllocError> {
+    let mut told = String::from_str(alloc, "nets")?;
+    for found in finished.found() {
+        write!(told, " {}", found.unit.as_str())?;
+    }
+    Ok(told)
+}
+
+const CONVERSATIONS: &str = r#"
+== A job reads one text / 4 / 100
+@1 {"op":"commit","changes":[{"put":"A","base":0,"text":"FUNCTION_BLOCK A EVENT_INPUT"}]} => {"commit":1}
+@shown faults A => pending
+@reads faults A => job A 1, result A 1
+@1 {"op":"ask","kind":"faults","unit":"A"} => {"faults":[["SYNTAX",28,28]]}
+
+== A job reads a text and one that is absent / 4 / 100
+@1 {"op":"commit","changes":[{"put":"S","base":0,"text":"SUBAPPLICATION S FBS X:T; END_FBS END_SUBAPPLICATION"}]} => {"commit":1}
+@shown net S => pending
+@reads net S => job S 1 T 0 absent, result S 1 T 0 absent
+@1 {"op":"ask","kind":"net","unit":"S"} => {"net":{"blocked":["S","T"]}}
+
+== A job reads all that a system rests on / 4 / 100
+@1 plant => {"commit":1}
+@shown deploy Y => pending
+@reads deploy Y => job SA 1 TN 1 Y 1, result SA 1 TN 1 Y 1
+@1 {"op":"ask","kind":"deploy","unit":"Y"} => {"deploy":{"cuts":[["event","APP.SUB.F.O","APP.SUB.G.I"]],"resources":[["D.R1",["CREATE FB APP.SUB.G TN","CREATE FB APP.SUB.H TN","WRITE APP.SUB.G.DT T#250ms","CREATE CONNECTION APP.SUB.G.O APP.SUB.H.I","START D.R1"]],["D.R2",["CREATE FB APP.SUB.F TN","START D.R2"]]]}}
+"#;
 
 #[test]
 fn jobs_of_one_text(rt: HostRuntime) -> Result<(), Fail> {
-    compare_jobs(&rt, rt.alloc(), JOBS)
+    compare_steps::<Jobs>(&rt, rt.alloc(), CONVERSATIONS)
 }
 
-// What is no key where B alone is a unit, and its text is empty.
-const NO_KEYS: &[(Kind, &str)] = &[
-    (Kind::Faults, "A"),
-    (Kind::Net, "A"),
-    (Kind::Net, "B"),
-    (Kind::Deploy, "A"),
-    (Kind::Deploy, "B"),
-];
+const EMPTY: &str = r#"
+== An empty text has the key of its faults alone / 4 / 100
+@1 {"op":"commit","changes":[{"put":"B","base":0,"text":""}]} => {"commit":1}
+@shown faults A => none
+@shown net A => none
+@shown net B => none
+@shown deploy A => none
+@shown deploy B => none
+@shown faults B => pending
+"#;
 
-// Whether the faults of B are the one key.
-fn has_faults_alone(bench: &Bench) -> Result<bool, Fail> {
-    for (kind, unit) in NO_KEYS {
-        if !is_no_key(bench, key_of(*kind, unit)?) {
-            return Ok(false);
-        }
-    }
-    Ok(is_pending(bench, key_of(Kind::Faults, "B")?))
-}
-
-// An empty text has the key of its faults alone.
 #[test]
 fn keys_of_an_empty_text(rt: HostRuntime) -> Result<(), Fail> {
-    let bench = bench_after(rt.alloc(), EMPTY)?;
-    assert!(rt; has_faults_alone(&bench)?);
-    Ok(())
-}
-
-// Whether the first key comes before the second.
-fn is_before(first: Key, second: Key) -> bool {
-    first < second
+    compare_steps::<Jobs>(&rt, rt.alloc(), EMPTY)
 }
 
 // Keys that follow each other: by kind, and then by unit.
-const KEYS: &[(Kind, &str, Kind, &str)] = &[
-    (Kind::Faults, "A", Kind::Faults, "B"),
-    (Kind::Faults, "B", Kind::Net, "A"),
-    (Kind::Net, "A", Kind::Net, "B"),
-    (Kind::Net, "B", Kind::Deploy, "A"),
-    (Kind::Deploy, "A", Kind::Deploy, "B"),
+const KEYS: &[&str] = &[
+    "faults A", "faults B", "net A", "net B", "deploy A", "deploy B",
 ];
 
 #[test]
 fn keys_in_order(rt: HostRuntime) -> Result<(), Fail> {
-    for (kind, unit, next_kind, next_unit) in KEYS {
-        let is_before = is_before(key_of(*kind, unit)?, key_of(*next_kind, next_unit)?);
-        assert!(rt; is_before, "{unit} {next_unit}");
+    for place in 1..KEYS.len() {
+        let (first, next) = (key_in(KEYS[place - 1])?, key_in(KEYS[place])?);
+        assert!(rt; first < next, "{place}");
     }
     Ok(())
 }
 
-// The result of a workbench for the faults of A.
-fn result_of(alloc: Global, bench: &mut Bench) -> Result<Finished, Fail> {
-    let job = job_for(bench, faults_of_a()?)?;
+const PLAIN: &str = "FUNCTION_BLOCK A END_FUNCTION_BLOCK";
+
+// It has another name in it, mentions as little as the plain text does, or rests on B.
+const OTHERS: [&str; 3] = [
+    "FUNCTION_BLOCK B END_FUNCTION_BLOCK",
+    "FUNCTION_BLOCK A EVENT_INPUT E; END_EVENT END_FUNCTION_BLOCK",
+    "FUNCTION_BLOCK A FBS X:B; END_FBS END_FUNCTION_BLOCK",
+];
+
+/// Adds a change that puts a unit, which stands at this revision.
+pub(crate) fn put(
+    alloc: Global,
+    changes: &mut Vec<Change>,
+    unit: &str,
+    base: u64,
+    text: &str,
+) -> Result<(), Fail> {
+    let source = Source::read(alloc, Name::read(unit)?, text)?;
+    changes.push(Change::Put { base, source })?;
+    Ok(())
+}
+
+// A new workbench with this text of A.
+fn bench_with(rt: &impl Abort, alloc: Global, text: &str) -> Result<Bench, Fail> {
+    let mut bench = new_bench(alloc, 4, 100)?;
+    let commit = format!(in alloc;
+        r#"{{"op":"commit","changes":[{{"put":"A","base":0,"text":"{text}"}}]}} => {{"commit":1}}"#
+    )?;
+    converse(rt, alloc, &mut bench, 1, commit.as_str())?;
+    Ok(bench)
+}
+
+// The result of a new workbench for the faults of A, which has this text.
+fn result_with(rt: &impl Abort, alloc: Global, text: &str) -> Result<Finished, Fail> {
+    let mut bench = bench_with(rt, alloc, text)?;
+    let job: Job = job_for(&mut bench, key_in("faults A")?)?;
     Ok(job.run(alloc)?)
-}
-
-// The result of a new workbench after a conversation.
-fn result_after(alloc: Global, text: &str) -> Result<Finished, Fail> {
-    let mut bench = bench_after(alloc, text)?;
-    result_of(alloc, &mut bench)
-}
-
-// Whether the result for the faults of A after a conversation with another workbench is stale.
-fn is_stale(alloc: Global, bench: &mut Bench, text: &str) -> Result<bool, Fail> {
-    let strange = result_after(alloc, text)?;
-    Ok(bench.deliver(1, &strange)? == Delivered::Stale(Name::read("A")?))
-}
-
-// Whether this caller says a conversation, after which the faults of A are known.
-fn is_known_after(alloc: Global, bench: &mut Bench, caller: u32, text: &str) -> Result<bool, Fail> {
-    let is_said = converse(alloc, bench, caller, text)?.is_none();
-    Ok(is_said && has_value(bench, faults_of_a()?))
 }
 
 const TAKEN_IN: &str = r#"
@@ -287,33 +217,43 @@ const TAKEN_IN: &str = r#"
 {"op":"ask","kind":"faults","unit":"A"} => {"faults":[]}
 "#;
 
-// Whether the results of other texts are stale.
-fn are_stale(alloc: Global, bench: &mut Bench, texts: &[&str]) -> Result<bool, Fail> {
-    for text in texts {
-        if !is_stale(alloc, bench, text)? {
-            return Ok(false);
-        }
-    }
-    Ok(true)
-}
-
-// Whether the results of other texts are stale, and that of A's own is taken in.
-fn is_own_taken(alloc: Global, bench: &mut Bench) -> Result<bool, Fail> {
-    let are_stale = are_stale(alloc, bench, &[RENAMED, OTHER, USER])?;
-    Ok(are_stale && is_known_after(alloc, bench, 1, TAKEN_IN)?)
-}
-
-fn is_own_taken_alone(alloc: Global) -> Result<bool, Fail> {
-    let mut bench = bench_after(alloc, PLAIN)?;
-    is_own_taken(alloc, &mut bench)
-}
-
 // A result of another workbench, which holds another text at the same revision, is stale.
 #[test]
 fn a_result_of_another_text(rt: HostRuntime) -> Result<(), Fail> {
-    assert!(rt; is_own_taken_alone(rt.alloc())?);
+    let mut bench: Bench = bench_with(&rt, rt.alloc(), PLAIN)?;
+    for text in OTHERS {
+        let strange = result_with(&rt, rt.alloc(), text)?;
+        let is_stale = bench.deliver(1, &strange)? == Delivered::Stale(Name::read("A")?);
+        assert!(rt; is_stale, "{text}");
+    }
+    converse(&rt, rt.alloc(), &mut bench, 1, TAKEN_IN)?;
+    assert_eq!(rt; shown(&bench, &key_in("faults A")?), "value");
     Ok(())
 }
+
+// The changes that a workbench has recorded first, with their texts read anew.
+fn recorded(alloc: Global, bench: &Bench) -> Result<Vec<Change>, Fail> {
+    let record = bench.record(1).ok_or("a record")?;
+    let mut changes = Vec::new(alloc);
+    if let Call::Commit(recorded) = record.call() {
+        for change in recorded.iter() {
+            match change {
+                TextChange::Put { unit, base, text } => {
+                    put(alloc, &mut changes, unit.as_str(), *base, text.as_str())?;
+                }
+                TextChange::Remove { unit, base } => changes.push(Change::Remove {
+                    unit: *unit,
+                    base: *base,
+                })?,
+            }
+        }
+    }
+    Ok(changes)
+}
+
+const KNOWN: &str = r#"
+{"op":"ask","kind":"faults","unit":"A"} => {"faults":[]}
+"#;
 
 // Whether a call of caller 3 is its call of this number, and hands out a job or not.
 fn is_made(
@@ -332,8 +272,8 @@ fn are_made<'a>(
     bench: &mut Bench,
     changes: &'a [Change],
     finished: &'a Finished,
+    key: Key,
 ) -> Result<bool, Fail> {
-    let key = faults_of_a()?;
     let requests = [
         Request::Commit(changes),
         Request::Take,
@@ -349,62 +289,16 @@ fn are_made<'a>(
     Ok(true)
 }
 
-// The change that is recorded, with its text read anew.
-fn change_again(alloc: Global, recorded: &TextChange) -> Result<Change, Fail> {
-    match recorded {
-        TextChange::Put { unit, base, text } => {
-            let source = Source::read(alloc, *unit, text.as_str())?;
-            Ok(Change::Put {
-                base: *base,
-                source,
-            })
-        }
-        TextChange::Remove { unit, base } => Ok(Change::Remove {
-            unit: *unit,
-            base: *base,
-        }),
-    }
-}
-
-// The same on a new workbench, by the commit that another one has recorded.
-fn are_made_as_there(
-    alloc: Global,
-    bench: &mut Bench,
-    other: &Bench,
-    finished: &Finished,
-) -> Result<bool, Fail> {
-    let record = other.record(1).ok_or("a record")?;
-    let mut changes = Vec::new(alloc);
-    if let Call::Commit(recorded) = record.call() {
-        for change in recorded.iter() {
-            changes.push(change_again(alloc, change)?)?;
-        }
-    }
-    are_made(bench, &changes, finished)
-}
-
-// The same with what another workbench has committed and worked out.
-fn are_made_anew(alloc: Global, bench: &mut Bench) -> Result<bool, Fail> {
-    let finished = result_after(alloc, PLAIN)?;
-    let other = bench_after(alloc, PLAIN)?;
-    are_made_as_there(alloc, bench, &other, &finished)
-}
-
-const KNOWN: &str = r#"
-{"op":"ask","kind":"faults","unit":"A"} => {"faults":[]}
-"#;
-
-fn are_made_and_known(alloc: Global, bench: &mut Bench) -> Result<bool, Fail> {
-    Ok(are_made_anew(alloc, bench)? && is_known_after(alloc, bench, 2, KNOWN)?)
-}
-
-fn are_made_alone(alloc: Global) -> Result<bool, Fail> {
-    let mut bench = new_bench(alloc, 4, 100)?;
-    are_made_and_known(alloc, &mut bench)
-}
-
+// Each call is made as a request, with what another workbench has committed and worked out.
 #[test]
 fn calls_as_requests(rt: HostRuntime) -> Result<(), Fail> {
-    assert!(rt; are_made_alone(rt.alloc())?);
+    let other = bench_with(&rt, rt.alloc(), PLAIN)?;
+    let changes = recorded(rt.alloc(), &other)?;
+    let finished = result_with(&rt, rt.alloc(), PLAIN)?;
+    let key = key_in("faults A")?;
+    let mut bench: Bench = new_bench(rt.alloc(), 4, 100)?;
+    assert!(rt; are_made(&mut bench, &changes, &finished, key)?);
+    converse(&rt, rt.alloc(), &mut bench, 2, KNOWN)?;
+    assert_eq!(rt; shown(&bench, &key), "value");
     Ok(())
 }

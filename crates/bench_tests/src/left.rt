@@ -3,8 +3,7 @@ use crate::conversation::compare;
 use std::test::Fail;
 
 const CONVERSATIONS: &str = r#"
-== a changed algorithm
-// The block type of the plant gets an algorithm, then a fault, and then it is mended; its units are the same to look at.
+== The block type of the plant gets an algorithm, then a fault, and then it is mended; its units are the same to look at
 plant => {"commit":1}
 {"op":"work","turns":9} => {"accepted":6}
 {"op":"commit","changes":[{"put":"TN","base":1,"text":"FUNCTION_BLOCK TN (* later *) EVENT_INPUT I; END_EVENT EVENT_OUTPUT O; END_EVENT VAR_INPUT DT:TIME; END_VAR VAR N:INT; END_VAR ALGORITHM A IN ST: N := 2; END_ALGORITHM END_FUNCTION_BLOCK"}]} => {"commit":2}
@@ -21,8 +20,7 @@ plant => {"commit":1}
 {"op":"work","turns":9} => {"accepted":5}
 {"op":"ask","kind":"net","unit":"SA"} => {"net":{"blocks":[["F","TN"],["G","TN"],["H","TN"]],"borders":[],"links":[["event","F.O","G.I"],["event","G.O","H.I"]]}}
 
-== changed ports
-// A port goes, and comes back; then the type goes.
+== A port goes, and comes back; then the type goes
 plant => {"commit":1}
 {"op":"work","turns":9} => {"accepted":6}
 {"op":"commit","changes":[{"put":"TN","base":1,"text":"FUNCTION_BLOCK TN EVENT_INPUT I; END_EVENT EVENT_OUTPUT O; END_EVENT END_FUNCTION_BLOCK"}]} => {"commit":2}

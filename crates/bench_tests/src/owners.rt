@@ -1,13 +1,10 @@
 //! How many owners a text and a value have before and after each call: what is kept of both, and what is handed out, is shared and never copied.
 use crate::conversation::new_bench;
-use crate::jobs::key_of;
+use crate::jobs::{key_in, put};
 use fb_library::Change;
-use fb_library::parse::Source;
-use fb_text::Name;
 use fb_wire::bench::{Asked, Bench, Taken};
-use fb_wire::jobs::{Finished, Job, Kind};
+use fb_wire::jobs::{Finished, Job};
 use std::alloc::Global;
-use std::process::Abort;
 use std::sync::Arc;
 use std::test::Fail;
 
@@ -64,19 +61,6 @@ struct Scene {
     answers: Vec<Asked>,
 }
 
-// Adds a change that puts a unit, which stands at this revision.
-fn put(
-    alloc: Global,
-    changes: &mut Vec<Change>,
-    unit: &str,
-    base: u64,
-    text: &str,
-) -> Result<(), Fail> {
-    let source = Source::read(alloc, Name::read(unit)?, text)?;
-    changes.push(Change::Put { base, source })?;
-    Ok(())
-}
-
 const INNER: &str = "SUBAPPLICATION A END_SUBAPPLICATION";
 
 const OUTER: &str = "SUBAPPLICATION B SUBAPPS X:A; END_SUBAPPS END_SUBAPPLICATION";
@@ -97,53 +81,36 @@ fn new_scene(alloc: Global) -> Result<Scene, Fail> {
 }
 
 impl Scene {
-    fn take(&mut self) -> Result<(), Fail> {
-        match self.bench.take(1)? {
-            Taken::Job(job) => Ok(self.jobs.push(job)?),
-            Taken::Nothing => Err(Fail::from("no job")),
-        }
-    }
-
-    fn run(&mut self, alloc: Global) -> Result<(), Fail> {
-        let job = self.jobs.last().ok_or("no job")?;
-        self.results.push(job.run(alloc)?)?;
-        Ok(())
-    }
-
-    fn deliver(&mut self) -> Result<(), Fail> {
-        let finished = self.results.last().ok_or("no result")?;
-        self.bench.deliver(1, finished)?;
-        Ok(())
-    }
-
-    fn ask(&mut self) -> Result<(), Fail> {
-        let answer = self.bench.ask(1, key_of(Kind::Net, "A")?)?;
-        self.answers.push(answer)?;
-        Ok(())
-    }
-
-    fn give_back(&mut self) -> Result<(), Fail> {
-        let key = self.jobs.last().ok_or("no job")?.key();
-        self.bench.give_back(1, key)?;
-        Ok(())
-    }
-
     fn go(&mut self, alloc: Global, step: Step) -> Result<(), Fail> {
         match step {
             Step::Commit => {
                 self.bench.commit(1, &self.changes)?;
-                Ok(())
             }
             Step::CommitAgain => {
                 self.bench.commit(1, &self.again)?;
-                Ok(())
             }
-            Step::Take => self.take(),
-            Step::Run => self.run(alloc),
-            Step::Deliver => self.deliver(),
-            Step::Ask => self.ask(),
-            Step::GiveBack => self.give_back(),
+            Step::Take => match self.bench.take(1)? {
+                Taken::Job(job) => self.jobs.push(job)?,
+                Taken::Nothing => return Err(Fail::from("no job")),
+            },
+            Step::Run => {
+                let job = self.jobs.last().ok_or("no job")?;
+                self.results.push(job.run(alloc)?)?;
+            }
+            Step::Deliver => {
+                let finished = self.results.last().ok_or("no result")?;
+                self.bench.deliver(1, finished)?;
+            }
+            Step::Ask => {
+                let answer = self.bench.ask(1, key_in("net A")?)?;
+                self.answers.push(answer)?;
+            }
+            Step::GiveBack => {
+                let key = self.jobs.last().ok_or("no job")?.key();
+                self.bench.give_back(1, key)?;
+            }
         }
+        Ok(())
     }
 
     fn value_owners(&self) -> usize {
@@ -165,23 +132,14 @@ impl Scene {
     }
 }
 
-fn compare(
-    rt: &impl Abort,
-    alloc: Global,
-    scene: &mut Scene,
-    steps: &[(Step, Owners)],
-) -> Result<(), Fail> {
-    for place in 0..steps.len() {
-        let (step, owners) = steps[place];
-        scene.go(alloc, step)?;
-        assert_eq!(rt; scene.owners(), owners, "{step:?}, step {place}");
-    }
-    Ok(())
-}
-
 #[test]
 fn texts_and_values_are_shared(rt: HostRuntime) -> Result<(), Fail> {
     let mut scene = new_scene(rt.alloc())?;
     assert_eq!(rt; scene.owners(), (1, 1, 0), "before any call");
-    compare(&rt, rt.alloc(), &mut scene, STEPS)
+    for place in 0..STEPS.len() {
+        let (step, owners) = STEPS[place];
+        scene.go(rt.alloc(), step)?;
+        assert_eq!(rt; scene.owners(), owners, "{step:?}, step {place}");
+    }
+    Ok(())
 }

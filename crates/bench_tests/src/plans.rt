@@ -3,8 +3,7 @@ use crate::conversation::compare;
 use std::test::Fail;
 
 const CONVERSATIONS: &str = r#"
-== blocks on two resources
-// A system with blocks on two resources; then one block that no mapping places, and a mapping that is of nothing.
+== A system with blocks on two resources; then one block that no mapping places, and a mapping that is of nothing
 plant => {"commit":1}
 {"op":"ask","kind":"deploy","unit":"Y"} => {"answer":"pending"}
 {"op":"work","turns":9} => {"accepted":6}
@@ -17,14 +16,12 @@ misplaced => {"commit":2}
 {"op":"ask","kind":"deploy","unit":"Y"} => {"deploy":{"faulty":[["UNMAPPED","APP.SUB.G"],["UNMAPPED","APP.SUB.H"],["NO_SUCH_BLOCK","APP.Z"]]}}
 {"op":"take"} => {"job":0}
 
-== no flat network
-// A system whose subapplication is absent has no flat network, and so no commands.
+== A system whose subapplication is absent has no flat network, and so no commands
 {"op":"commit","changes":[{"put":"Y","base":0,"text":"SYSTEM Y APPLICATION APP SUBAPPS SUB:SA; END_SUBAPPS END_APPLICATION DEVICE D:DT RESOURCE R1:RT END_RESOURCE RESOURCE R2:RT END_RESOURCE END_DEVICE MAPPINGS APP ON D.R1; END_MAPPINGS END_SYSTEM"}]} => {"commit":1}
 {"op":"work","turns":9} => {"accepted":3}
 {"op":"ask","kind":"deploy","unit":"Y"} => {"deploy":{"stopped":{"blocked":["SA","Y"]}}}
 
-== a late plan
-// A plan is late where a type has changed that the system does not mention; and a unit that is no system any more has no plan.
+== A plan is late where a type has changed that the system does not mention; and a unit that is no system any more has no plan
 {"op":"commit","changes":[{"put":"T","base":0,"text":"FUNCTION_BLOCK T END_FUNCTION_BLOCK"},{"put":"P","base":0,"text":"SUBAPPLICATION P FBS X:T; END_FBS END_SUBAPPLICATION"},{"put":"Q","base":0,"text":"SYSTEM Q APPLICATION A SUBAPPS Y:P; END_SUBAPPS END_APPLICATION DEVICE D:DT RESOURCE R:RT END_RESOURCE END_DEVICE MAPPINGS A ON D.R; END_MAPPINGS END_SYSTEM"}]} => {"commit":1}
 {"op":"work","turns":5} => {"accepted":5}
 {"op":"take"} => {"job":1,"kind":"deploy","unit":"Q"}

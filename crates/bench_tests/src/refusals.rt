@@ -1,13 +1,12 @@
 //! Lines that are no request or that are refused, by their form, by the limits or by the state of the workbench.
-use crate::conversation::{all_right, compare, converse_alone, converse_within};
+use crate::conversation::compare;
 use std::alloc::{AllocError, Global};
 use std::test::Fail;
 
 const CONVERSATIONS: &str = r#"
 == no lines
 
-== typing errors
-// Typing errors, and what is refused for another reason.
+== Typing errors, and what is refused for another reason
 ask faults A => {"refused":"BadRequest"}
 {"op":"ask","kind":"faults","unit":"A" => {"refused":"BadRequest"}
 {"op":"ask","kind":"faults","unit":"A"}, => {"refused":"BadRequest"}
@@ -25,13 +24,11 @@ ask faults A => {"refused":"BadRequest"}
 // What is not asked for is passed over.
 {"why":"?","unit":"A","kind":"faults","op":"ask"} => {"refused":"NoSuchKey"}
 
-== nested lists
-// A value of 100 nested lists is read, one of 200 is not.
+== A value of 100 nested lists is read, one of 200 is not
 {"op":"take","x":[[[[[[[[[[[[[[[[[[[[[[[[[[[[[[[[[[[[[[[[[[[[[[[[[[[[[[[[[[[[[[[[[[[[[[[[[[[[[[[[[[[[[[[[[[[[[[[[[[[[]]]]]]]]]]]]]]]]]]]]]]]]]]]]]]]]]]]]]]]]]]]]]]]]]]]]]]]]]]]]]]]]]]]]]]]]]]]]]]]]]]]]]]]]]]]]]]]]]]]]} => {"job":0}
 {"op":"take","x":[[[[[[[[[[[[[[[[[[[[[[[[[[[[[[[[[[[[[[[[[[[[[[[[[[[[[[[[[[[[[[[[[[[[[[[[[[[[[[[[[[[[[[[[[[[[[[[[[[[[[[[[[[[[[[[[[[[[[[[[[[[[[[[[[[[[[[[[[[[[[[[[[[[[[[[[[[[[[[[[[[[[[[[[[[[[[[[[[[[[[[[[[[[[[[[[[[[[[[[[]]]]]]]]]]]]]]]]]]]]]]]]]]]]]]]]]]]]]]]]]]]]]]]]]]]]]]]]]]]]]]]]]]]]]]]]]]]]]]]]]]]]]]]]]]]]]]]]]]]]]]]]]]]]]]]]]]]]]]]]]]]]]]]]]]]]]]]]]]]]]]]]]]]]]]]]]]]]]]]]]]]]]]]]]]]]]]]]]]]]]]]]]]]]]]]]]]]]]]]]} => {"refused":"BadRequest"}
 
-== refused changes
-// A change with both or none of `put` and `remove`, also where one is null, and what comes first of two refusals.
+== A change with both or none of `put` and `remove`, also where one is null, and what comes first of two refusals
 {"op":"commit","changes":[{"base":0,"text":""}]} => {"refused":"BadRequest"}
 {"op":"commit","changes":[{"put":"A","base":0,"text":"","remove":null}]} => {"refused":"BadRequest"}
 {"op":"commit","changes":[{"remove":"A","put":null,"base":0}]} => {"refused":"BadRequest"}
@@ -42,8 +39,7 @@ ask faults A => {"refused":"BadRequest"}
 {"op":"ask","kind":"net","unit":"9"} => {"refused":"BadName"}
 {"op":"ask","kind":"deploy","unit":"A"} => {"refused":"NoSuchKey"}
 
-== a refused commit
-// A commit of three changes of which the last is refused.
+== A commit of three changes of which the last is refused
 {"op":"commit","changes":[{"put":"A","base":0,"text":"FUNCTION_BLOCK A END_FUNCTION_BLOCK"}]} => {"commit":1}
 {"op":"commit","changes":[{"put":"B","base":0,"text":"FUNCTION_BLOCK B END_FUNCTION_BLOCK"},{"put":"C","base":0,"text":"FUNCTION_BLOCK C FBS S:E_SPLIT; END_FBS END_FUNCTION_BLOCK"},{"put":"A","base":7,"text":"FUNCTION_BLOCK A END_FUNCTION_BLOCK"}]} => {"current":1,"refused":"StaleBase","unit":"A"}
 {"op":"ask","kind":"faults","unit":"B"} => {"refused":"NoSuchKey"}
@@ -68,8 +64,7 @@ ask faults A => {"refused":"BadRequest"}
 {"op":"ask","kind":"faults","unit":"A"} => {"refused":"HistoryFull"}
 {"op":"work","turns":1} => {"accepted":0,"refused":"HistoryFull"}
 
-== a full library / 1 / 100000
-// As many units as the words allow.
+== As many units as the words allow / 1 / 100000
 {"op":"commit","changes":[{"put":"A","base":0,"text":"FUNCTION_BLOCK A END_FUNCTION_BLOCK"}]} => {"commit":1}
 {"op":"commit","changes":[{"put":"B","base":0,"text":"FUNCTION_BLOCK B END_FUNCTION_BLOCK"}]} => {"refused":"TooManyUnits"}
 {"op":"commit","changes":[{"put":"B","base":0,"text":"FUNCTION_BLOCK B END_FUNCTION_BLOCK"},{"remove":"A","base":1}]} => {"commit":2}
@@ -80,34 +75,32 @@ fn conversations(rt: HostRuntime) -> Result<(), Fail> {
     compare(&rt, rt.alloc(), CONVERSATIONS)
 }
 
-// A conversation with a text of these spaces, and one of a space more.
-fn with_spaces(alloc: Global, spaces: &str) -> Result<String, AllocError> {
-    format!(in alloc;
+// A text of the greatest length, and one of a byte more.
+#[test]
+fn long_texts(rt: HostRuntime) -> Result<(), Fail> {
+    let spaces = " ".repeat(rt.alloc(), 65_536)?;
+    let text = format!(in rt.alloc();
         r#"
+== long texts
 {{"op":"commit","changes":[{{"put":"A","base":0,"text":"{0}"}}]}} => {{"commit":1}}
 {{"op":"work","turns":1}} => {{"accepted":1}}
 {{"op":"ask","kind":"faults","unit":"A"}} => {{"faults":[["SYNTAX",65536,65536]]}}
 {{"op":"commit","changes":[{{"put":"A","base":1,"text":"{0} "}},{{"remove":"9","base":0}}]}} => {{"refused":"TextTooLong"}}
 "#,
         spaces
-    )
+    )?;
+    compare(&rt, rt.alloc(), text.as_str())
 }
 
-// A text of the greatest length, and one of a byte more.
-#[test]
-fn long_texts(rt: HostRuntime) -> Result<(), Fail> {
-    let spaces = " ".repeat(rt.alloc(), 65_536)?;
-    let text = with_spaces(rt.alloc(), spaces.as_str())?;
-    all_right(
-        &rt,
-        converse_alone(rt.alloc(), text.as_str())?,
-        "long texts",
-    );
-    Ok(())
-}
-
-// Adds 64 jobs that are taken and given back.
-fn say_jobs(text: &mut String) -> Result<(), AllocError> {
+// A conversation in which 64 jobs are taken and given back, and then one more is asked for.
+fn jobs(alloc: Global) -> Result<String, AllocError> {
+    let mut text = String::from_str(
+        alloc,
+        r#"
+== too many jobs / 1024 / 129
+{"op":"commit","changes":[{"put":"A","base":0,"text":"FUNCTION_BLOCK A END_FUNCTION_BLOCK"}]} => {"commit":1}
+"#,
+    )?;
     for job in 1..65u32 {
         write!(
             text,
@@ -117,18 +110,6 @@ fn say_jobs(text: &mut String) -> Result<(), AllocError> {
 "#
         )?;
     }
-    Ok(())
-}
-
-// A conversation with these jobs, in which then one more is asked for.
-fn jobs(alloc: Global) -> Result<String, AllocError> {
-    let mut text = String::from_str(
-        alloc,
-        r#"
-{"op":"commit","changes":[{"put":"A","base":0,"text":"FUNCTION_BLOCK A END_FUNCTION_BLOCK"}]} => {"commit":1}
-"#,
-    )?;
-    say_jobs(&mut text)?;
     text.push_str(
         r#"
 {"op":"take"} => {"refused":"TooManyJobs"}
@@ -141,8 +122,5 @@ fn jobs(alloc: Global) -> Result<String, AllocError> {
 // A run holds at most 64 jobs. With 129 records of them the history is full.
 #[test]
 fn too_many_jobs(rt: HostRuntime) -> Result<(), Fail> {
-    let text = jobs(rt.alloc())?;
-    let wrong = converse_within(rt.alloc(), 1024, 129, text.as_str())?;
-    all_right(&rt, wrong, "too many jobs");
-    Ok(())
+    compare(&rt, rt.alloc(), jobs(rt.alloc())?.as_str())
 }

@@ -1,7 +1,7 @@
 //! Conversations of which each allocation is refused in turn. One that ends for lack of memory has made the calls of the lines that it answered, and none,
 //! some or all of one more. If no line names a job of another line, it continues with the lines that were not answered.
-use crate::conversation::{ALWAYS, GOOD, new_bench, replies_in, requests_in, run_over, said};
-use crate::cuts::{Conversation, LATE, LATE_CALLS, behind, is_prefix, lines_in};
+use crate::conversation::{ALWAYS, new_bench, said};
+use crate::cuts::{Conversation, LATE, LATE_CALLS, behind, conversation_of, is_prefix, lines_in};
 use fb_wire::bench::Bench;
 use fb_wire::{IntoWrite, MemoryFeed, RunEnd, run_script};
 use refusing::{Refusals, refuse, report, was_refused};
@@ -29,200 +29,118 @@ const GIVE_BACK: &str = "{\"op\":\"give_back\",\"kind\":\"faults\",\"unit\":\"C\
 
 const RETURNED: &str = "{\"returned\":true}\n";
 
-// A run of which the allocation of this number is refused, and whether it was. What it writes has room.
-fn run_without(
-    alloc: Global,
-    bench: &mut Bench,
-    requests: &str,
-    output: &mut Vec<u8>,
-    number: u32,
-) -> (RunEnd, bool) {
-    let mut feed = MemoryFeed::new(requests.as_bytes(), 8192, ALWAYS);
-    let mut sink = IntoWrite::new(output);
-    refuse(alloc, number);
-    let end = run_script(alloc, &mut feed, &mut sink, bench, 1, 1000);
-    (end, was_refused(alloc))
-}
-
-// How many lines have made their calls, where so many are answered and so many calls recorded: as many, or one more. None where a line has made some of its calls.
-fn lines_made(answered: usize, calls: usize) -> Option<usize> {
-    let next = answered.saturating_add(1);
-    if CALLS.get(answered) == Some(&calls) {
-        Some(answered)
-    } else if CALLS.get(next) == Some(&calls) {
-        Some(next)
-    } else {
-        None
-    }
-}
-
-// Whether a key that was taken and not delivered is given back.
-fn is_given_back(alloc: Global, bench: &mut Bench) -> Result<bool, Fail> {
-    let reply = said(alloc, bench, 1, GIVE_BACK)?;
-    Ok(reply.as_str() == RETURNED)
-}
-
-// Whether a run that was cut goes on as the whole one, from the first line on that has not made its calls.
+// Whether a run that was cut goes on as the whole one, from the first line on that has not made its calls. A key that was taken and not
+// delivered is given back.
 fn goes_on(
     alloc: Global,
     bench: &mut Bench,
-    conversation: &Conversation<'_>,
+    conversation: &Conversation,
     answered: usize,
 ) -> Result<bool, Fail> {
-    let made = lines_made(answered, bench.len());
-    if made.is_none() && !is_given_back(alloc, bench)? {
-        return Ok(false);
-    }
-    let lines = made.unwrap_or(answered);
-    let rest = said(alloc, bench, 1, behind(conversation.requests, lines))?;
-    Ok(rest.as_str() == behind(conversation.replies, lines))
-}
-
-// Whether a run wrote whole lines from the prefix of the replies, and made the first calls of the whole run.
-fn is_prefix_of(bench: &Bench, conversation: &Conversation<'_>, output: &[u8]) -> bool {
-    let is_whole = output.is_empty() || output.last() == Some(&b'\n');
-    let is_said = conversation.replies.as_bytes().starts_with(output);
-    is_whole && is_said && is_prefix(bench, conversation.whole)
-}
-
-/// Which conversation it is.
-#[derive(Clone, Copy)]
-enum Which {
-    /// That of the lines here, which can be stated again in another run.
-    Lines,
-    /// A late result, of a job that another run does not hold.
-    Late,
-}
-
-// Whether so many calls are recorded where so many lines of the late result are answered: theirs, and none, some or all of one more.
-fn are_late_calls(answered: usize, calls: usize) -> bool {
     let next = answered.saturating_add(1);
-    match (LATE_CALLS.get(answered), LATE_CALLS.get(next)) {
-        (Some(least), Some(most)) => *least <= calls && calls <= *most,
-        _ => false,
+    let calls = bench.len();
+    let lines = if conversation.calls.get(answered) == Some(&calls) {
+        answered
+    } else if conversation.calls.get(next) == Some(&calls) {
+        next
+    } else if said(alloc, bench, 1, GIVE_BACK)?.as_str() == RETURNED {
+        answered
+    } else {
+        return Ok(false);
+    };
+    let requests = behind(conversation.requests.as_str(), lines);
+    let rest = said(alloc, bench, 1, requests)?;
+    Ok(rest.as_str() == behind(conversation.replies.as_str(), lines))
+}
+
+// Whether so many calls are recorded where so many lines are answered: theirs, and none, some or all of one more.
+fn are_calls(conversation: &Conversation, answered: usize, calls: usize) -> bool {
+    let next = answered.saturating_add(1);
+    match conversation.calls.get(answered) {
+        Some(least) => {
+            let most = conversation.calls.get(next).unwrap_or(least);
+            *least <= calls && calls <= *most
+        }
+        None => false,
     }
 }
 
-// Whether a run that was cut has made the calls that it should, and goes on if it can.
-fn is_cut_right(
-    alloc: Global,
-    bench: &mut Bench,
-    conversation: &Conversation<'_>,
-    which: Which,
-    answered: usize,
-) -> Result<bool, Fail> {
-    match which {
-        Which::Lines => goes_on(alloc, bench, conversation, answered),
-        Which::Late => Ok(are_late_calls(answered, bench.len())),
-    }
-}
-
-// Whether a run that ended so is the whole one, or has ended for want of memory behind whole replies.
+// Whether a run that ended so is the whole one, or has ended for want of memory behind whole replies, with the first calls of the whole run.
+// Then it goes on if it can.
 fn is_right(
     alloc: Global,
     bench: &mut Bench,
-    conversation: &Conversation<'_>,
-    which: Which,
+    conversation: &Conversation,
+    can_go_on: bool,
     output: &[u8],
     end: RunEnd,
 ) -> Result<bool, Fail> {
-    if !is_prefix_of(bench, conversation, output) {
+    let is_whole = output.is_empty() || output.last() == Some(&b'\n');
+    let is_said = conversation.replies.as_bytes().starts_with(output);
+    if !is_whole || !is_said || !is_prefix(bench, &conversation.whole) {
         return Ok(false);
     }
+    let answered = lines_in(output);
     match end {
         RunEnd::End => Ok(
             output.len() == conversation.replies.len() && bench.len() == conversation.whole.len(),
         ),
-        RunEnd::Memory => is_cut_right(alloc, bench, conversation, which, lines_in(output)),
+        RunEnd::Memory => Ok(
+            are_calls(conversation, answered, bench.len())
+                && (!can_go_on || goes_on(alloc, bench, conversation, answered)?),
+        ),
         _ => Ok(false),
     }
 }
 
-/// Whether an allocation was refused, whether the run ended for lack of memory, and whether it is right.
-#[derive(Clone, Copy)]
-struct Ended {
-    is_refused: bool,
-    is_short: bool,
-    is_right: bool,
-}
-
-fn ended_on(
+// Whether the allocation of this number is refused in a run, and whether the run ends for lack of memory. What it writes has room.
+fn tried(
     alloc: Global,
-    bench: &mut Bench,
-    conversation: &Conversation<'_>,
-    which: Which,
-    output: &mut Vec<u8>,
+    conversation: &Conversation,
+    can_go_on: bool,
     number: u32,
-) -> Result<Ended, Fail> {
-    let (end, is_refused) = run_without(alloc, bench, conversation.requests, output, number);
-    Ok(Ended {
-        is_refused,
-        is_short: end == RunEnd::Memory,
-        is_right: is_right(alloc, bench, conversation, which, output, end)?,
-    })
-}
-
-fn ended_anew(
-    alloc: Global,
-    conversation: &Conversation<'_>,
-    which: Which,
-    number: u32,
-) -> Result<Ended, Fail> {
+) -> Result<(bool, bool), Fail> {
     let mut output = Vec::with_capacity(alloc, 1000)?;
     let mut bench = new_bench(alloc, 10, 1000)?;
-    ended_on(alloc, &mut bench, conversation, which, &mut output, number)
+    let mut feed = MemoryFeed::new(conversation.requests.as_bytes(), 8192, ALWAYS);
+    let mut sink = IntoWrite::new(&mut output);
+    refuse(alloc, number);
+    let end = run_script(alloc, &mut feed, &mut sink, &mut bench, 1, 1000);
+    let is_refused = was_refused(alloc);
+    let is_short = end == RunEnd::Memory;
+    let is_right = is_right(alloc, &mut bench, conversation, can_go_on, &output, end)?;
+    if !is_right || (is_short && !is_refused) {
+        return Err(Fail::from("another end"));
+    }
+    Ok((is_refused, is_short))
 }
 
 fn each_refused(
     alloc: Global,
-    conversation: &Conversation<'_>,
-    which: Which,
+    conversation: &Conversation,
+    can_go_on: bool,
 ) -> Result<Refusals, Fail> {
     let mut memory = 0u32;
     for number in 1..100_000u32 {
-        let ended = ended_anew(alloc, conversation, which, number)?;
-        if !ended.is_right || (ended.is_short && !ended.is_refused) {
-            return Err(Fail::from("another end"));
-        }
-        if !ended.is_refused {
+        let (is_refused, is_short) = tried(alloc, conversation, can_go_on, number)?;
+        if !is_refused {
             return Ok(Refusals {
                 allocations: number - 1,
                 memory,
             });
         }
-        memory = memory.saturating_add(u32::from(ended.is_short));
+        memory = memory.saturating_add(u32::from(is_short));
     }
     Err(Fail::from("ever more allocations"))
 }
 
-fn refused_beside(
-    alloc: Global,
-    whole: &mut Bench,
-    requests: &str,
-    replies: &str,
-    which: Which,
-) -> Result<Refusals, Fail> {
-    run_over(alloc, whole, 1, requests.as_bytes(), GOOD)?;
-    let conversation = Conversation {
-        requests,
-        replies,
-        whole,
-    };
-    each_refused(alloc, &conversation, which)
-}
-
-fn refused_anew(alloc: Global, text: &str, which: Which) -> Result<Refusals, Fail> {
-    let requests = requests_in(alloc, text)?;
-    let replies = replies_in(alloc, text)?;
-    let mut whole = new_bench(alloc, 10, 1000)?;
-    refused_beside(alloc, &mut whole, &requests, &replies, which)
-}
-
 #[test]
 fn each_allocation_of_a_run(rt: HostRuntime) -> Result<(), Fail> {
-    let found = refused_anew(rt.alloc(), LINES, Which::Lines)?;
+    let lines = conversation_of(rt.alloc(), LINES, CALLS)?;
+    let found = each_refused(rt.alloc(), &lines, true)?;
     report(&rt, "run_script", " of nine lines", found)?;
-    let found = refused_anew(rt.alloc(), LATE, Which::Late)?;
+    let late = conversation_of(rt.alloc(), LATE, LATE_CALLS)?;
+    let found = each_refused(rt.alloc(), &late, false)?;
     report(&rt, "run_script", " of a late result", found)?;
     Ok(())
 }

@@ -3,20 +3,16 @@ use crate::conversation::compare;
 use std::test::Fail;
 
 const CONVERSATIONS: &str = r#"
-== missing type
-// A unit that uses a type which another one adds later.
+== A unit that uses a type which another one adds later
 {"op":"commit","changes":[{"put":"C","base":0,"text":"FUNCTION_BLOCK C FBS S:E_SPLIT; END_FBS END_FUNCTION_BLOCK"}]} => {"commit":1}
 {"op":"work","turns":9} => {"accepted":1}
 {"op":"ask","kind":"faults","unit":"C"} => {"faults":[["UNKNOWN_TYPE",23,30]]}
 {"op":"commit","changes":[{"put":"E_SPLIT","base":0,"text":"FUNCTION_BLOCK E_SPLIT EVENT_INPUT EI; END_EVENT EVENT_OUTPUT EO1; EO2; END_EVENT END_FUNCTION_BLOCK"}]} => {"commit":2}
-{"op":"ask","kind":"faults","unit":"C"} => {"answer":"pending"}
-{"op":"ask","kind":"faults","unit":"E_SPLIT"} => {"answer":"pending"}
+each faults C E_SPLIT => {"answer":"pending"}
 {"op":"work","turns":9} => {"accepted":2}
-{"op":"ask","kind":"faults","unit":"C"} => {"faults":[]}
-{"op":"ask","kind":"faults","unit":"E_SPLIT"} => {"faults":[]}
+each faults C E_SPLIT => {"faults":[]}
 
-== removed type
-// A type that is removed.
+== A type that is removed
 {"op":"commit","changes":[{"put":"C","base":0,"text":"FUNCTION_BLOCK C FBS S:E_SPLIT; END_FBS END_FUNCTION_BLOCK"},{"put":"E_SPLIT","base":0,"text":"FUNCTION_BLOCK E_SPLIT EVENT_INPUT EI; END_EVENT EVENT_OUTPUT EO1; EO2; END_EVENT END_FUNCTION_BLOCK"}]} => {"commit":1}
 {"op":"work","turns":9} => {"accepted":2}
 {"op":"commit","changes":[{"remove":"E_SPLIT","base":1}]} => {"commit":2}
@@ -26,15 +22,13 @@ const CONVERSATIONS: &str = r#"
 {"op":"commit","changes":[{"remove":"E_SPLIT","base":1}]} => {"refused":"NoSuchUnit","unit":"E_SPLIT"}
 {"op":"commit","changes":[{"put":"E_SPLIT","base":1,"text":"FUNCTION_BLOCK E_SPLIT EVENT_INPUT EI; END_EVENT EVENT_OUTPUT EO1; EO2; END_EVENT END_FUNCTION_BLOCK"}]} => {"current":0,"refused":"StaleBase","unit":"E_SPLIT"}
 
-== initial values
-// Initial values that do not fit, and an adapter that is none.
+== Initial values that do not fit, and an adapter that is none
 {"op":"commit","changes":[{"put":"L","base":0,"text":"FUNCTION_BLOCK L VAR_INPUT A:BOOL:=7; B:INT:=TRUE; END_VAR END_FUNCTION_BLOCK"},{"put":"A","base":0,"text":"FUNCTION_BLOCK A END_FUNCTION_BLOCK"},{"put":"W","base":0,"text":"FUNCTION_BLOCK W PLUGS P:A; END_PLUGS END_FUNCTION_BLOCK"}]} => {"commit":1}
 {"op":"work","turns":9} => {"accepted":3}
 {"op":"ask","kind":"faults","unit":"L"} => {"faults":[["LITERAL",35,36],["LITERAL",45,49]]}
 {"op":"ask","kind":"faults","unit":"W"} => {"faults":[["WRONG_KIND",25,26]]}
 
-== nesting
-// Parentheses and conditions at the last level and one deeper.
+== Parentheses and conditions at the last level and one deeper
 {"op":"commit","changes":[{"put":"P","base":0,"text":"FUNCTION_BLOCK P VAR X:INT; END_VAR ALGORITHM G IN ST: X := ((((((((((((((((((((((((((((((((((((((((((((((((((((((((((((((((X)))))))))))))))))))))))))))))))))))))))))))))))))))))))))))))))); END_ALGORITHM END_FUNCTION_BLOCK"}]} => {"commit":1}
 {"op":"work","turns":1} => {"accepted":1}
 {"op":"ask","kind":"faults","unit":"P"} => {"faults":[]}
@@ -45,8 +39,7 @@ const CONVERSATIONS: &str = r#"
 {"op":"work","turns":1} => {"accepted":1}
 {"op":"ask","kind":"faults","unit":"P"} => {"faults":[["SYNTAX",696,698]]}
 
-== late results
-// Results that come late, twice, or for a type that is there again.
+== Results that come late, twice, or for a type that is there again
 {"op":"commit","changes":[{"put":"C","base":0,"text":"FUNCTION_BLOCK C FBS S:E_SPLIT; END_FBS END_FUNCTION_BLOCK"},{"put":"E_SPLIT","base":0,"text":"FUNCTION_BLOCK E_SPLIT EVENT_INPUT EI; END_EVENT EVENT_OUTPUT EO1; EO2; END_EVENT END_FUNCTION_BLOCK"}]} => {"commit":1}
 {"op":"take"} => {"job":1,"kind":"faults","unit":"C"}
 {"op":"commit","changes":[{"put":"E_SPLIT","base":1,"text":"FUNCTION_BLOCK E_SPLIT EVENT_INPUT EI; END_EVENT EVENT_OUTPUT EO1; EO2; END_EVENT END_FUNCTION_BLOCK"}]} => {"commit":2}
@@ -56,8 +49,7 @@ const CONVERSATIONS: &str = r#"
 {"op":"work","turns":9} => {"accepted":2}
 {"op":"deliver","job":1} => {"refused":"NotPending"}
 
-== absent as then
-// A result that read an absent type, which came and went meanwhile.
+== A result that read an absent type, which came and went meanwhile
 {"op":"commit","changes":[{"put":"C","base":0,"text":"FUNCTION_BLOCK C FBS S:E_SPLIT; END_FBS END_FUNCTION_BLOCK"}]} => {"commit":1}
 {"op":"take"} => {"job":1,"kind":"faults","unit":"C"}
 {"op":"commit","changes":[{"put":"E_SPLIT","base":0,"text":"FUNCTION_BLOCK E_SPLIT EVENT_INPUT EI; END_EVENT EVENT_OUTPUT EO1; EO2; END_EVENT END_FUNCTION_BLOCK"}]} => {"commit":2}
@@ -88,8 +80,7 @@ const CONVERSATIONS: &str = r#"
 {"op":"commit","changes":[{"put":"A","base":1,"text":"FUNCTION_BLOCK B END_FUNCTION_BLOCK"}]} => {"current":2,"refused":"StaleBase","unit":"A"}
 {"op":"ask","kind":"faults","unit":"A"} => {"faults":[]}
 
-== held jobs
-// Jobs that a run holds.
+== Jobs that a run holds
 {"op":"commit","changes":[{"put":"A","base":0,"text":"FUNCTION_BLOCK A END_FUNCTION_BLOCK"}]} => {"commit":1}
 {"op":"take"} => {"job":1,"kind":"faults","unit":"A"}
 {"op":"take"} => {"job":0}
@@ -99,16 +90,14 @@ const CONVERSATIONS: &str = r#"
 {"op":"deliver","job":1} => {"refused":"NotPending"}
 {"op":"give_back","kind":"faults","unit":"A"} => {"returned":false}
 
-== back again
-// A text that was changed and changed back has another revision.
+== A text that was changed and changed back has another revision
 {"op":"commit","changes":[{"put":"A","base":0,"text":"FUNCTION_BLOCK A END_FUNCTION_BLOCK"}]} => {"commit":1}
 {"op":"take"} => {"job":1,"kind":"faults","unit":"A"}
 {"op":"commit","changes":[{"put":"A","base":1,"text":"FUNCTION_BLOCK B END_FUNCTION_BLOCK"}]} => {"commit":2}
 {"op":"commit","changes":[{"put":"A","base":2,"text":"FUNCTION_BLOCK A END_FUNCTION_BLOCK"}]} => {"commit":3}
 {"op":"deliver","job":1} => {"refused":"Stale","unit":"A"}
 
-== two engineers
-// Two engineers at one system, as in `examples/two_engineers.jsonl`: each request with its reply.
+== Two engineers at one system, as in `examples/two_engineers.jsonl`: each request with its reply
 // Ada commits a pump that uses a valve which is not there yet.
 {"op":"commit","changes":[{"put":"PUMP","base":0,"text":"FUNCTION_BLOCK PUMP\n  EVENT_INPUT START; END_EVENT\n  FBS V: VALVE; END_FBS\nEND_FUNCTION_BLOCK"}]} => {"commit":1}
 {"op":"ask","kind":"faults","unit":"PUMP"} => {"answer":"pending"}
@@ -117,11 +106,9 @@ const CONVERSATIONS: &str = r#"
 {"op":"ask","kind":"faults","unit":"VALVE"} => {"refused":"NoSuchKey"}
 // Bert adds the valve; the pump is looked at again.
 {"op":"commit","changes":[{"put":"VALVE","base":0,"text":"FUNCTION_BLOCK VALVE\n  EVENT_INPUT OPEN; END_EVENT\nEND_FUNCTION_BLOCK"}]} => {"commit":2}
-{"op":"ask","kind":"faults","unit":"PUMP"} => {"answer":"pending"}
-{"op":"ask","kind":"faults","unit":"VALVE"} => {"answer":"pending"}
+each faults PUMP VALVE => {"answer":"pending"}
 {"op":"work","turns":10} => {"accepted":2}
-{"op":"ask","kind":"faults","unit":"PUMP"} => {"faults":[]}
-{"op":"ask","kind":"faults","unit":"VALVE"} => {"faults":[]}
+each faults PUMP VALVE => {"faults":[]}
 // Bert renames it in one commit, and forgets the name in the text.
 {"op":"commit","changes":[{"remove":"VALVE","base":2},{"put":"GATE","base":0,"text":"FUNCTION_BLOCK VALVE\n  EVENT_INPUT OPEN; END_EVENT\nEND_FUNCTION_BLOCK"}]} => {"commit":3}
 {"op":"ask","kind":"faults","unit":"VALVE"} => {"refused":"NoSuchKey"}
@@ -135,8 +122,7 @@ const CONVERSATIONS: &str = r#"
 {"op":"ask","kind":"faults","unit":"PUMP"} => {"faults":[["UNKNOWN_TYPE",60,65]]}
 {"op":"commit","changes":[{"put":"PUMP","base":1,"text":"FUNCTION_BLOCK PUMP\n  EVENT_INPUT START; END_EVENT\n  FBS V: GATE; END_FBS\nEND_FUNCTION_BLOCK"}]} => {"commit":5}
 {"op":"work","turns":10} => {"accepted":2}
-{"op":"ask","kind":"faults","unit":"GATE"} => {"faults":[]}
-{"op":"ask","kind":"faults","unit":"PUMP"} => {"faults":[]}
+each faults GATE PUMP => {"faults":[]}
 // Bert removes the gate while a worker looks at Ada's next text: its result is late.
 {"op":"commit","changes":[{"put":"PUMP","base":5,"text":"FUNCTION_BLOCK PUMP\n  EVENT_INPUT START; STOP; END_EVENT\n  FBS V: GATE; END_FBS\nEND_FUNCTION_BLOCK"}]} => {"commit":6}
 {"op":"take"} => {"job":1,"kind":"faults","unit":"PUMP"}
@@ -150,14 +136,12 @@ const CONVERSATIONS: &str = r#"
 {"op":"commit","changes":[{"put":"PUMP","base":5,"text":"FUNCTION_BLOCK PUMP\n  EVENT_INPUT START; END_EVENT\n  FBS V: VALVE; END_FBS\nEND_FUNCTION_BLOCK"}]} => {"current":6,"refused":"StaleBase","unit":"PUMP"}
 {"op":"commit","changes":[{"remove":"GATE","base":4}]} => {"refused":"NoSuchUnit","unit":"GATE"}
 
-== data connections
-// Ends and types of data connections.
+== Ends and types of data connections
 {"op":"commit","changes":[{"put":"N","base":0,"text":"FUNCTION_BLOCK N VAR_INPUT A:INT; END_VAR FBS F:M; END_FBS DATA_CONNECTIONS A TO F.X; A TO F.X; F.X TO F.Z; END_CONNECTIONS END_FUNCTION_BLOCK"},{"put":"M","base":0,"text":"FUNCTION_BLOCK M VAR_INPUT X:BOOL; END_VAR END_FUNCTION_BLOCK"}]} => {"commit":1}
 {"op":"work","turns":9} => {"accepted":2}
 {"op":"ask","kind":"faults","unit":"N"} => {"faults":[["DATA_TYPE",81,84],["DATA_TYPE",91,94],["SECOND_SOURCE",91,94],["PORT_SIDE",96,99],["PORT_UNKNOWN",103,106]]}
 
-== structure
-// A structure has its own faults and nothing else.
+== A structure has its own faults and nothing else
 {"op":"commit","changes":[{"put":"S","base":0,"text":"TYPE S : STRUCT F:INT; G:U; END_STRUCT; END_TYPE"}]} => {"commit":1}
 {"op":"ask","kind":"faults","unit":"S"} => {"answer":"pending"}
 {"op":"ask","kind":"net","unit":"S"} => {"refused":"NoSuchKey"}
@@ -171,8 +155,7 @@ const CONVERSATIONS: &str = r#"
 {"op":"work","turns":9} => {"accepted":1}
 {"op":"ask","kind":"faults","unit":"S"} => {"faults":[["SYNTAX",23,31]]}
 
-== chart
-// A chart and its algorithm.
+== A chart and its algorithm
 {"op":"commit","changes":[{"put":"K","base":0,"text":"FUNCTION_BLOCK K EVENT_INPUT E; END_EVENT VAR X:INT; B:BOOL; END_VAR EC_STATES S0; S1: G; END_STATES EC_TRANSITIONS S0 TO S1 := E[X]; S1 TO S2 := 1; END_TRANSITIONS ALGORITHM G IN ST: B := X + TRUE; END_ALGORITHM END_FUNCTION_BLOCK"}]} => {"commit":1}
 {"op":"work","turns":9} => {"accepted":1}
 {"op":"ask","kind":"faults","unit":"K"} => {"faults":[["CLASS",130,131],["STATE_UNKNOWN",140,142],["CLASS",191,192]]}
