@@ -7,7 +7,7 @@ use fb_wire::jobs::Kind;
 use std::alloc::{AllocError, Global};
 use std::test::Fail;
 
-/// What a workbench tells by itself.
+/// What a workbench shows by itself.
 struct Calls;
 
 impl Look for Calls {

@@ -1,9 +1,9 @@
 //! Conversations with a workbench, and whether its replies are those wanted.
 //!
-//! A conversation is a text of lines `REQUEST => REPLY`, of remarks behind `// ` and of empty lines. The requests `plant` and `misplaced`
-//! stand for commits that several conversations begin with, and `each KIND UNIT UNIT` for a question about each unit, all with this reply.
+//! A conversation is a text of lines `REQUEST => REPLY`, of remarks after `// ` and of empty lines. The requests `plant` and `misplaced`
+//! mean commits that several conversations begin with, and `each KIND UNIT UNIT` for a question about each unit, all with this reply.
 //! It has a heading: `== TITLE`, or `== TITLE / UNITS / CALLS` where its workbench has other limits than the program's own. A conversation
-//! in steps has each of them behind an `@`: `@2 REQUEST => REPLY` is a run of caller 2, to which the lines behind it belong and whose jobs
+//! in steps has each of them after an `@`: `@2 REQUEST => REPLY` is a run of caller 2, to which the lines after it belong and whose jobs
 //! have numbers from 1, and `@LOOK => TOLD` looks at the workbench.
 ghost use Rattle.std.specs.Prelude.{◌<◌};
 
@@ -44,7 +44,7 @@ pub(crate) fn new_bench(alloc: Global, units: u64, history: u64) -> Result<Bench
     Ok(Bench::new(alloc, limits))
 }
 
-/// A run of this caller of at most so many turns, with these reads and writes.
+/// A run of this caller of at most this number of turns, with these reads and writes.
 pub(crate) fn run_over(
     alloc: Global,
     bench: &mut Bench,
@@ -189,7 +189,7 @@ pub(crate) fn compare(rt: &impl Abort, alloc: Global, text: &str) -> Result<(), 
 
 /// What is looked at in conversations in steps.
 pub(crate) trait Look {
-    /// What is told of a look.
+    /// What a look shows.
     fn look(alloc: Global, bench: &mut Bench, look: &str) -> Result<String, Fail>;
 }
 

@@ -46,7 +46,7 @@ fn job_for(bench: &mut Bench, key: Key) -> Result<Job, Fail> {
     Err(Fail::from("no such job"))
 }
 
-/// What jobs of a workbench tell. The result of a job is delivered, and accepted.
+/// What jobs of a workbench show. The result of a job is delivered, and accepted.
 pub(crate) struct Jobs;
 
 impl Look for Jobs {
@@ -180,7 +180,7 @@ const OTHERS: [&str; 3] = [
     "FUNCTION_BLOCK A FBS X:B; END_FBS END_FUNCTION_BLOCK",
 ];
 
-/// Adds a change that puts a unit, which stands at this revision.
+/// Adds a change that puts a unit, which has this revision.
 pub(crate) fn put(
     alloc: Global,
     changes: &mut Vec<Change>,
