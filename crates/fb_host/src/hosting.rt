@@ -13,7 +13,7 @@ use fb_wire::bench::Limits;
 use fb_wire::{Sink, write_all};
 use std::alloc::Global;
 use std::io::Write;
-use std::net::{Net, TcpListener, TcpStream};
+use std::net::TcpListener;
 use std::sync::{Mutex, Wait};
 use std::thread::Threads;
 use std::time::Clock;
@@ -129,40 +129,4 @@ pub fn host_on<R: Threads + Wait + Clock + Sync, S: Sink, E: Write + Send>(
     ensures status { result.status ≡ (if is_ok result.served then 0 else 1) }
 {
     Ended::of(host_and_close(rt, alloc, listener, config, secret, out, errors))
-}
-
-/// Hosts as `host_on` does, on this port of 127.0.0.1; any free one for 0. If it cannot listen there, it says so on `errors`.
-pub fn host<
-    R: Net<Listener = TcpListener, Stream = TcpStream> + Threads + Wait + Clock + Sync,
-    S: Sink,
-    E: Write + Send,
->(
-    rt: &R,
-    alloc: Global,
-    port: u16,
-    config: HostConfig,
-    secret: &[u8],
-    out: &mut S,
-    errors: &Mutex<E>,
-) -> Ended
-    requires { S.has_failed out.old ≡ false }
-    ensures all { IfOk result.served
-        (λ served. ShowsAll served.closed.bench served.receipts.items) }
-    ensures counts { IfOk result.served
-        (λ served. IsBookOf served.closed.counts (config.sessions + config.workers)
-        served.closed.bench) }
-    ensures said { SaysLines (is_ok result.served) (S.held out.old) (S.held out.new) }
-    ensures flushed { OnOk result.served (S.is_flushed out.new ≡ true) }
-    ensures status { result.status ≡ (if is_ok result.served then 0 else 1) }
-{
-    match TcpListener::bind(rt, ("127.0.0.1", port)) {
-        Ok(listener) => host_on(rt, alloc, &listener, config, secret, out, errors),
-        Err(_) => {
-            let _ = writeln!(
-                &mut *errors.lock(rt),
-                "bench61499: cannot listen on 127.0.0.1:{port}"
-            );
-            Ended::of(Err(NotServed))
-        }
-    }
 }

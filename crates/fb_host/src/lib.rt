@@ -14,7 +14,7 @@ mod session_receipts;
 mod threads;
 
 pub use head::{is_secret, speaks_http};
-pub use hosting::{FIRST_LINE_TIMEOUT, HostConfig, host, host_on};
+pub use hosting::{FIRST_LINE_TIMEOUT, HostConfig, host_on};
 pub use receipt_store::ReceiptStore;
 pub use session::{SessionResult, give_back_all, run_host_session};
 pub use session_desk::SessionDesk;
