@@ -4,7 +4,7 @@ use Rattle.std.specs.{declared.sync.Arc.{Arc}, declared.alloc.Global.{Global}}
 use Rattle.fb_deploy.specs.{Library.Filed.{filed_text}, Library.declared.filed.Version.{Version}}
 use Rattle.fb_jobs.specs.{Reads.{Seen}, Texts.{there}, declared.texts.Replacement.{Replacement}}
 
--- a text stands in the place of what was read there
+-- a text in place of what was read there
 abbrev pub replaced : List Seen → Replacement → List Seen
 replaced reads it = set reads it.place (there (filed_text it.version.value))
 
@@ -13,7 +13,7 @@ abbrev pub all_replaced : List Seen → List Replacement → List Seen
 all_replaced reads [] = reads
 all_replaced reads (it ∷ more) = all_replaced (replaced reads it) more
 
--- what was read, or the text that stands there now
+-- what was read, or the text that is there now
 abbrev pub latest_or : Seen → Option Version → Seen
 latest_or before None = before
 latest_or before (Some version) = there (filed_text version)

@@ -11,7 +11,7 @@ use std::alloc::{AllocError, Global};
 use std::marker::Model;
 use std::sync::Arc;
 
-/// From how many replacements on a new list is made.
+/// With this number of replacements a new list is made.
 const MOST_REPLACEMENTS: usize = 8;
 
 /// What was read under a name: a text with its revision, or nothing.
@@ -91,7 +91,7 @@ impl TextReads {
         }
     }
 
-    /// Whether the list serves for the texts that differ from these in so many places. One with absent names does not, as these are counted at each look.
+    /// Whether the list serves for texts that differ from these in this number of places. One with absent names does not, as these are counted at each look.
     pub(crate) fn serves(&self, count: usize) -> bool {
         count < MOST_REPLACEMENTS
             && self.replacements.len() < MOST_REPLACEMENTS
@@ -155,7 +155,7 @@ fn latest(replacements: &[Replacement], place: usize) -> Option<&Version>
     }
 }
 
-/// The same replacements, with room for so many more.
+/// The same replacements, with room for this number of others.
 fn shared(
     alloc: Global,
     replacements: &[Replacement],
@@ -174,7 +174,7 @@ fn shared(
     Ok(all)
 }
 
-/// Whether both texts are the same, with the same revision, or both are none.
+/// Whether both are the same text with the same revision, or neither is there.
 fn is_same_version(a: Option<&Version>, b: Option<&Version>) -> bool
     ensures { IsTrue result
         ↔ (option_map version_held (option_copied a.entry) ≡ option_map version_held (option_copied b.entry)) }
@@ -186,7 +186,7 @@ fn is_same_version(a: Option<&Version>, b: Option<&Version>) -> bool
     }
 }
 
-/// Whether both reads are of the same name and text, or both are none.
+/// Whether both are reads of the same name and text, or neither is there.
 fn is_same_read(a: &Option<TextRead<'_>>, b: &Option<TextRead<'_>>) -> bool
     ensures { IsTrue result ↔ (option_map text_seen a.now ≡ option_map text_seen b.now) }
 {
