@@ -156,7 +156,7 @@ fn version_under(library: &Library, name: &Name) -> Result<Option<Arc<Version>>,
     }
 }
 
-/// What is kept of these reads, looked up anew.
+/// What is kept of these reads, looked up again.
 fn texts_of(alloc: Global, library: &Library, reads: &[Read]) -> Result<TextReads, AllocError>
     ensures { IfOk result
         (λ texts. texts ≡ reads_under library.now (read_names (all_seen reads.now))) }
