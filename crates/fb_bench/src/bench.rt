@@ -322,7 +322,8 @@ impl Bench {
         // For the proof: the key is named before the call gets it.
         let wanted = key;
         let job = Job::for_kept(self.alloc, &self.library, wanted, &self.entries)?;
-        let answer = reply_of_job(self.alloc, &job)?;
+        let shared = self.shared_key(wanted)?;
+        let answer = reply_of_job(self.alloc, shared, &job)?;
         Ok((job, answer))
     }
 
@@ -446,7 +447,8 @@ impl Bench {
             return Err(Refused::HistoryFull);
         }
         let answer = self.judged(finished.key(), finished.reads());
-        let call = call_of_result(self.alloc, finished)?;
+        let shared = self.shared_key(finished.key())?;
+        let call = call_of_result(self.alloc, shared, finished)?;
         match answer {
             Delivered::Accepted => {
                 // For the proof: a result whose reads are current has the value of the present texts, and so have the nets found on its way.
@@ -513,15 +515,21 @@ impl Bench {
         }
     }
 
+    /// A share of the key: that of its entry, if it has one.
+    fn shared_key(&self, key: Key) -> Result<Arc<Key>, AllocError>
+        ensures { IfOk result (λ shared. shared.value ≡ key) }
+    {
+        match self.entries.get(&key) {
+            None => Ok(Arc::new(self.alloc, key)?),
+            Some(entry) => entry.share_of(self.alloc, key),
+        }
+    }
+
     /// The call that gives a key back, as it is recorded.
     fn giving_back(&self, key: Key) -> Result<Call, AllocError>
         ensures { IfOk result (λ call. call_of call ≡ ToGiveBack key) }
     {
-        let shared = match self.entries.get(&key) {
-            None => Arc::new(self.alloc, key)?,
-            Some(entry) => entry.share_of(self.alloc, key)?,
-        };
-        Ok(Call::GiveBack(shared))
+        Ok(Call::GiveBack(self.shared_key(key)?))
     }
 
     /// Clears the mark that a key is handed out.

@@ -6,6 +6,7 @@ use fb_entries::jobs::{Finished, Job, Key};
 use fb_entries::library::Change;
 use fb_history::{Call, Reply, Wanted};
 use std::alloc::{AllocError, Global};
+use std::sync::Arc;
 
 /// A call to be made.
 #[derive(Clone, Copy)]
@@ -18,23 +19,25 @@ pub enum Request<'a> {
 }
 
 /// The delivery of a result, sharing its texts.
-pub(crate) fn call_of_result(alloc: Global, finished: &Finished) -> Result<Call, AllocError>
+pub(crate) fn call_of_result(
+    alloc: Global,
+    key: Arc<Key>,
+    finished: &Finished,
+) -> Result<Call, AllocError>
+    requires { key.value ≡ finished.now.key }
     ensures { IfOk result (λ it. call_of it ≡ ToDeliver finished.now) }
 {
-    let wanted = Wanted {
-        key: finished.key(),
-        reads: finished.texts().clone()?,
-    };
+    let reads = finished.texts().clone()?;
+    let wanted = Wanted { key, reads };
     Ok(Call::Deliver(Box::new(alloc, wanted)?))
 }
 
 /// The job that is handed out, sharing its texts.
-pub(crate) fn reply_of_job(alloc: Global, job: &Job) -> Result<Reply, AllocError>
+pub(crate) fn reply_of_job(alloc: Global, key: Arc<Key>, job: &Job) -> Result<Reply, AllocError>
+    requires { key.value ≡ job.now.key }
     ensures { IfOk result (λ it. reply_of it ≡ OfTake (Some job.now)) }
 {
-    let wanted = Wanted {
-        key: job.key(),
-        reads: job.texts().clone()?,
-    };
+    let reads = job.texts().clone()?;
+    let wanted = Wanted { key, reads };
     Ok(Reply::Job(Box::new(alloc, wanted)?))
 }

@@ -11,7 +11,7 @@ use Rattle.fb_history.specs.{declared.record.Call.TheVariants.{Commit, Take, Del
 use Rattle.fb_history.specs.declared.record.Reply.TheVariants as kept
 
 abbrev pub wanted_job : Wanted → PlainJob
-wanted_job it = record { key = it.key; reads = it.reads.value }
+wanted_job it = record { key = it.key.value; reads = it.reads.value }
 
 abbrev pub text_edit : TextChange → Edit
 text_edit (Put unit base text) = Puts unit base (string_bytes text.value)

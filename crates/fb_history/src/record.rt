@@ -14,9 +14,9 @@ use std::alloc::{AllocError, Global};
 use std::marker::Model;
 use std::sync::Arc;
 
-/// A key with the texts that a job for it has read.
+/// A key with the texts that a job for it has read. Both are shared with what the workbench keeps.
 pub struct Wanted {
-    pub key: Key,
+    pub key: Arc<Key>,
     pub reads: Arc<TextReads>,
 }
 

@@ -10,6 +10,7 @@ pub mod CachedLemmas
 pub mod WorkLemmas
 pub mod Searches
 pub mod TextLemmas
+pub mod ReplacedLemmas
 pub mod ReuseLemmas
 pub mod Again
 -- Of the crates below, for the crates above.

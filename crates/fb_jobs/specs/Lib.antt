@@ -5,6 +5,7 @@ pub mod Kinds
 pub mod Reads
 pub mod Values
 pub mod Texts
+pub mod Replaced
 pub mod Cache
 pub mod Reach
 pub mod Hints

@@ -1,18 +1,20 @@
 //! Values with the reads that gave them.
 ghost use Rattle.std.specs.Prelude.{◌≡◌, IfOk};
-ghost use Rattle.fb_jobs.specs.{Finished.{plain_job}, Keys.{scratch}, Reuse.{IsDerived}, Reads.{IsRight, read_texts}, Values.{all_seen, finding_of}};
+ghost use Rattle.fb_jobs.specs.{Finished.{plain_job}, Keys.{scratch}, Reuse.{IsDerivation}, Reads.{IsRight, read_texts}, Values.{all_seen, finding_of}};
 
 use crate::key::Key;
 use crate::read::Read;
+use crate::texts::TextReads;
 use crate::value::Value;
 use std::alloc::AllocError;
 use std::marker::Model;
 use std::sync::Arc;
 
-/// A value of a key, with the reads that give it. Both are shared with all others that keep them.
+/// A value of a key, with the reads that give it, and their texts. All are shared with all others that keep them.
 pub struct Derivation {
     key: Key,
     reads: Arc<Vec<Read>>,
+    texts: Arc<TextReads>,
     value: Arc<Value>,
 }
 
@@ -21,6 +23,7 @@ impl Drop for Derivation {
         let Self {
             key: _,
             reads: _,
+            texts: _,
             value: _,
         } = self;
     }
@@ -31,19 +34,29 @@ impl Model for Derivation {
 
     ghost Value = { PlainJob };
 
-    ghost use Rattle.fb_jobs.specs.{Finished.{plain_job}, Reuse.{IsDerived}, Values.{all_seen}};
+    ghost use Rattle.fb_jobs.specs.{Finished.{plain_job}, Reuse.{IsDerivation}};
 
     ghost view = { λ it. plain_job it.key it.reads.value.items };
 
-    ghost invariant = { λ it. IsDerived it.key (all_seen it.reads.value.items) it.value.value };
+    ghost invariant = { λ it. IsDerivation it.key it.reads.value.items it.texts.value it.value.value };
 }
 
 impl Derivation {
-    pub(crate) fn new(key: Key, reads: Arc<Vec<Read>>, value: Arc<Value>) -> Derivation
-        requires { IsDerived key (all_seen reads.value.items) value.value }
+    pub(crate) fn new(
+        key: Key,
+        reads: Arc<Vec<Read>>,
+        texts: Arc<TextReads>,
+        value: Arc<Value>,
+    ) -> Derivation
+        requires { IsDerivation key reads.value.items texts.value value.value }
         ensures { result ≡ plain_job key reads.value.items }
     {
-        Derivation { key, reads, value }
+        Derivation {
+            key,
+            reads,
+            texts,
+            value,
+        }
     }
 
     /// The same value of the same reads.
@@ -51,10 +64,12 @@ impl Derivation {
         ensures { IfOk result (λ made. made ≡ self.now) }
     {
         let reads = self.reads.clone()?;
+        let texts = self.texts.clone()?;
         let value = self.value.clone()?;
         Ok(Derivation {
             key: self.key,
             reads,
+            texts,
             value,
         })
     }
@@ -70,6 +85,12 @@ impl Derivation {
         ensures right { IsRight self.now }
     {
         &self.reads
+    }
+
+    pub(crate) fn texts(&self) -> &TextReads
+        ensures { result.now ≡ self.now.reads }
+    {
+        &self.texts
     }
 
     /// The value that the reads give from scratch.

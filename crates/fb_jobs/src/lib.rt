@@ -11,6 +11,7 @@ mod key;
 mod kinds;
 mod laws;
 mod read;
+mod read_list;
 mod reads;
 mod result;
 mod reuse;

@@ -1,13 +1,15 @@
 //! The reads of a library for a key.
-ghost use Rattle.std.specs.Prelude.{◌≡◌, IfOk, IfSome};
+ghost use Rattle.std.specs.Prelude.{◌≡◌, true, IfOk, IfSome, OnOk};
 ghost use Rattle.fb_deploy.specs.Library.Texts.{held};
-ghost use Rattle.fb_jobs.specs.{Keys.{needs}, Again.{AreReadAgain, AreReads}, Texts.{seen_under, text_of}, Values.{all_seen, seen_of, IsOwn}};
+ghost use Rattle.fb_jobs.specs.{Keys.{needs}, Again.{AreReadAgain, AreReads, IsReadAgain}, Reads.{read_names, reads_under}, Replaced.{all_replaced, more_replaced}};
+ghost use Rattle.fb_jobs.specs.{Texts.{seen_under, text_of}, Values.{all_seen, seen_of, IsOwn}};
 
 use crate::derivation::Derivation;
 use crate::key::{Key, Kind};
 use crate::read::Read;
+use crate::read_list::ReadList;
 use crate::reuse::mentions_the_same;
-use crate::texts::TextReads;
+use crate::texts::{Replacement, TextReads};
 use fb_deploy::flatten::all_far;
 use fb_deploy::library::{Library, Version, near};
 use fb_text::Name;
@@ -59,39 +61,149 @@ pub(crate) fn reads_anew(
 {
     let names = needed(alloc, library, key)?;
     let mut reads = Vec::with_capacity(alloc, names.len())?;
-    let mut texts = TextReads::with_capacity(alloc, names.len())?;
+    let mut texts = ReadList::with_capacity(alloc, names.len())?;
     for name in &names {
         let (read, version) = read_under(library, *name)?;
         reads.push(read)?;
         texts = texts.with(*name, version)?;
     }
+    let texts = TextReads::of_list(alloc, texts)?;
     Ok((reads, texts))
 }
 
-/// What is read now under the names of earlier reads, and what is kept of that. None if one of the names mentions something else now.
-fn read_again(
+/// Whether the same was read under the same name.
+fn is_same_read(before: &Read, now: &Read) -> bool
+    requires { before.now.name ≡ now.now.name }
+    ensures { result ≡ true → seen_of before.now ≡ seen_of now.now }
+{
+    match (&before.source, &now.source) {
+        (None, None) => true,
+        (Some(source), Some(other)) => {
+            before.revision == now.revision && source.text() == other.text()
+        }
+        _ => false,
+    }
+}
+
+/// The text that replaces what was read under a name, if it is another. None if it mentions something else, or none is there now.
+fn text_instead(
+    before: &Read,
+    now: &Read,
+    version: Option<Arc<Version>>,
+) -> Option<Option<Arc<Version>>>
+    requires name { before.now.name ≡ now.now.name }
+    requires version { seen_under now.now.name (text_of version) ≡ seen_of now.now }
+    ensures { IfSome result (IsReadAgain (seen_of before.now) (seen_of now.now)) }
+{
+    if is_same_read(before, now) {
+        return Some(None);
+    }
+    if !mentions_the_same(before, now) {
+        return None;
+    }
+    match version {
+        Some(version) => Some(Some(version)),
+        None => None,
+    }
+}
+
+/// Adds the text that replaces the one at a place, if there is one.
+fn add_replacement(
+    replacements: &mut Vec<Replacement>,
+    place: usize,
+    text: Option<Arc<Version>>,
+) -> Result<(), AllocError>
+    ensures { OnOk result (replacements.new.items ≡ more_replaced replacements.old.items place text) }
+{
+    if let Some(version) = text {
+        replacements.push(Replacement { place, version })?;
+    }
+    Ok(())
+}
+
+/// What is read now under the names of earlier reads, and the texts that replace those that were read. None if one of the names mentions something else now.
+fn read_each_again(
     alloc: Global,
     library: &Library,
     before: &[Read],
-) -> Result<Option<(Vec<Read>, TextReads)>, AllocError>
+) -> Result<Option<(Vec<Read>, Vec<Replacement>)>, AllocError>
     ensures { IfOk result (λ again. IfSome again
-        (λ made. AreReadAgain library.now (all_seen before.now) made.0.items made.1)) }
+        (λ made. AreReadAgain library.now (all_seen before.now) made.0.items
+        (all_replaced (all_seen before.now) made.1.items))) }
 {
     let mut reads = Vec::with_capacity(alloc, before.len())?;
-    let mut texts = TextReads::with_capacity(alloc, before.len())?;
-    for it in before {
+    let mut replacements = Vec::new(alloc);
+    for place in 0..before.len() {
+        let it = &before[place];
         let (read, version) = read_under(library, it.name)?;
-        if !mentions_the_same(it, &read) {
+        let Some(text) = text_instead(it, &read, version) else {
             return Ok(None);
-        }
+        };
+        add_replacement(&mut replacements, place, text)?;
         reads.push(read)?;
-        texts = texts.with(it.name, version)?;
     }
+    Ok(Some((reads, replacements)))
+}
+
+/// What is kept of a name.
+fn version_under(library: &Library, name: &Name) -> Result<Option<Arc<Version>>, AllocError>
+    ensures { IfOk result (λ version. seen_under name.now (text_of version)
+        ≡ record { name = name.now; found = held library.now name.now }) }
+{
+    match library.filed(name) {
+        Some(filed) => Ok(Some(filed.version().clone()?)),
+        None => Ok(None),
+    }
+}
+
+/// What is kept of these reads, looked up again.
+fn texts_of(alloc: Global, library: &Library, reads: &[Read]) -> Result<TextReads, AllocError>
+    ensures { IfOk result
+        (λ texts. texts ≡ reads_under library.now (read_names (all_seen reads.now))) }
+{
+    let mut texts = ReadList::with_capacity(alloc, reads.len())?;
+    for read in reads {
+        texts = texts.with(read.name, version_under(library, &read.name)?)?;
+    }
+    TextReads::of_list(alloc, texts)
+}
+
+/// What is kept of these reads: the texts of before but for those that are replaced, or new ones if too many are.
+fn texts_again(
+    alloc: Global,
+    library: &Library,
+    before: &TextReads,
+    reads: &[Read],
+    replacements: Vec<Replacement>,
+) -> Result<TextReads, AllocError>
+    requires replaced { all_replaced before.now replacements.items ≡ all_seen reads.now }
+    requires there { all_seen reads.now ≡ reads_under library.now (read_names (all_seen reads.now)) }
+    ensures { IfOk result (λ texts. texts ≡ all_seen reads.now) }
+{
+    if before.serves(replacements.len()) {
+        return before.replaced(alloc, replacements);
+    }
+    texts_of(alloc, library, reads)
+}
+
+/// What a job for the key of a value reads now, and what is kept of that, if each name that was read for the value mentions what it mentioned: then
+/// the key still needs the same names.
+fn read_again(
+    alloc: Global,
+    library: &Library,
+    before: &Derivation,
+) -> Result<Option<(Vec<Read>, TextReads)>, AllocError>
+    ensures { IfOk result (λ again. IfSome again
+        (λ made. AreReads library.now before.now.key made.0.items made.1)) }
+{
+    let Some((reads, replacements)) = read_each_again(alloc, library, before.reads())? else {
+        return Ok(None);
+    };
+    let texts = texts_again(alloc, library, before.texts(), &reads, replacements)?;
     Ok(Some((reads, texts)))
 }
 
-/// What a job for the key reads, and what is kept of that, if each name that was read for it before mentions what it mentioned: then
-/// the key still needs the same names.
+/// What a job for the key reads, and what is kept of that, by what was read for it before, if that serves.
 fn reads_as_before(
     alloc: Global,
     library: &Library,
@@ -107,7 +219,7 @@ fn reads_as_before(
     if derivation.key() != key {
         return Ok(None);
     }
-    read_again(alloc, library, derivation.reads())
+    read_again(alloc, library, derivation)
 }
 
 /// What a job for the key reads, and what is kept of that. What was read for it before saves the walk if its mentions are unchanged.

@@ -96,8 +96,9 @@ impl Finished {
         ensures { IfOk result (λ made. made ≡ self.now) }
     {
         let reads = self.reads.clone()?;
+        let texts = self.texts.clone()?;
         let value = self.work.value.clone()?;
-        Ok(Derivation::new(self.key, reads, value))
+        Ok(Derivation::new(self.key, reads, texts, value))
     }
 
     /// The nets of other units that were computed on the way, from scratch by the same reads.

@@ -1,13 +1,18 @@
 //! What a history keeps of reads.
-//! Absent names are in a separate list, so that thousands of them take no allocation each.
-ghost use Rattle.std.specs.Prelude.{◌≡◌, count_by, is_none};
+//! A job for a key that had a value reads the same names, and nearly always the same texts: it shares the list of that value, and keeps only what differs.
+ghost use Rattle.std.specs.{Prelude.{◌≡◌, ◌↔◌, ◌++◌, IfOk, IsTrue, Some, List, slice_get, option_copied}, Option.{option_map}};
+ghost use Rattle.fb_jobs.specs.{Reads.{Seen}, Replaced.{all_replaced, latest_or}, Values.{text_seen, version_held}};
 
-use crate::same::{are_equal, are_same_texts};
+use crate::read_list::ReadList;
+use crate::same::is_one_name;
 use fb_deploy::library::Version;
 use fb_text::Name;
 use std::alloc::{AllocError, Global};
 use std::marker::Model;
 use std::sync::Arc;
+
+/// With this number of replacements a new list is made.
+const MOST_REPLACEMENTS: usize = 8;
 
 /// What was read under a name: a text with its revision, or nothing.
 #[derive(Clone, Copy)]
@@ -16,111 +21,180 @@ pub struct TextRead<'a> {
     pub version: Option<&'a Version>,
 }
 
-/// The texts of reads, in their order, without the trees that they spell. Each is shared with all that keep it, so that a read of a text takes 16 bytes here.
+/// A text in place of one that was read before.
+#[derive(Drop)]
+pub(crate) struct Replacement {
+    pub(crate) place: usize,
+    pub(crate) version: Arc<Version>,
+}
+
+/// The texts of reads, in their order, without the trees that they spell: a list, which is shared, and the texts that replace some of it.
 pub struct TextReads {
-    versions: Vec<Option<Arc<Version>>>,
-    // the names of the reads without a text, in the same order
-    absent: Vec<Name>,
+    list: Arc<ReadList>,
+    // later ones replace earlier ones
+    replacements: Vec<Replacement>,
 }
 
 impl Drop for TextReads {
     fn drop(self) {
         let Self {
-            versions: _,
-            absent: _,
+            list: _,
+            replacements: _,
         } = self;
     }
 }
 
-const _: () = prove!(size_of::<Option<Arc<Version>>>() == 16);
-
 impl Model for TextReads {
-    ghost use Rattle.std.specs.Prelude.{List, map};
+    ghost use Rattle.std.specs.Prelude.{List};
     ghost use Rattle.fb_jobs.specs.Reads.{Seen};
 
     ghost Value = { List Seen };
 
-    ghost use Rattle.fb_jobs.specs.Texts.{text_of, texts_seen, AreNamed};
+    ghost use Rattle.fb_jobs.specs.Replaced.{all_replaced};
 
-    ghost view = { λ it. texts_seen it.versions.items it.absent.items };
-
-    ghost invariant = { λ it. AreNamed (map text_of it.versions.items) it.absent.items };
+    ghost view = { λ it. all_replaced it.list.value it.replacements.items };
 }
 
 impl TextReads {
-    ghost use Rattle.std.specs.{Prelude.{◌≡◌, ◌++◌, ◌↔◌, ◌∷◌, [], IfOk, IsTrue, length, slice_get}, Option.{option_map}};
-    ghost use Rattle.fb_jobs.specs.{Texts.{seen_under, text_of}, Values.{text_seen}};
+    ghost use Rattle.std.specs.Prelude.{◌↔◌, IfOk, IsTrue, length, slice_get};
 
-    /// None yet, with room for this number.
-    pub(crate) fn with_capacity(alloc: Global, count: usize) -> Result<TextReads, AllocError>
-        ensures { IfOk result (λ texts. texts ≡ []) }
+    /// These texts.
+    pub(crate) fn of_list(alloc: Global, list: ReadList) -> Result<TextReads, AllocError>
+        ensures { IfOk result (λ texts. texts ≡ list) }
     {
         Ok(TextReads {
-            versions: Vec::with_capacity(alloc, count)?,
-            absent: Vec::new(alloc),
+            list: Arc::new(alloc, list)?,
+            replacements: Vec::new(alloc),
         })
-    }
-
-    /// These, and after them what was read under a name.
-    pub(crate) fn with(
-        self,
-        name: Name,
-        version: Option<Arc<Version>>,
-    ) -> Result<TextReads, AllocError>
-        ensures { IfOk result (λ texts. texts ≡ self ++ seen_under name (text_of version) ∷ []) }
-    {
-        let TextReads {
-            mut versions,
-            mut absent,
-        } = self;
-        if version.is_none() {
-            absent.push(name)?;
-        }
-        versions.push(version)?;
-        Ok(TextReads { versions, absent })
     }
 
     /// How many names were read.
     pub fn len(&self) -> usize
         ensures { result ≡ length self.now }
     {
-        self.versions.len()
+        self.list.len()
     }
 
-    /// What was read at a place, counted from 0. It passes over those before it.
+    /// What was read at a place, counted from 0. It passes over absent names before it.
     pub fn get(&self, place: usize) -> Option<TextRead<'_>>
         ensures { option_map text_seen result ≡ slice_get self.now place }
     {
-        match self.versions.get(place) {
+        match self.list.get(place) {
             None => None,
-            Some(Some(version)) => Some(TextRead {
-                name: version.unit,
-                version: Some(version),
-            }),
-            Some(None) => Some(TextRead {
-                name: self.absent[absent_count(&self.versions[..place])],
-                version: None,
-            }),
+            Some(first) => match latest(&self.replacements, place) {
+                None => Some(first),
+                Some(version) => Some(TextRead {
+                    name: version.unit,
+                    version: Some(version),
+                }),
+            },
         }
+    }
+
+    /// Whether the list serves for texts that differ from these in this number of places. One with absent names does not, as these are counted at each look.
+    pub(crate) fn serves(&self, count: usize) -> bool {
+        count < MOST_REPLACEMENTS
+            && self.replacements.len() < MOST_REPLACEMENTS
+            && !self.list.has_absent()
+    }
+
+    /// These texts but for some, which are replaced.
+    pub(crate) fn replaced(
+        &self,
+        alloc: Global,
+        mut later: Vec<Replacement>,
+    ) -> Result<TextReads, AllocError>
+        ensures { IfOk result (λ texts. texts ≡ all_replaced self.now later.items) }
+    {
+        let mut replacements = shared(alloc, &self.replacements, later.len())?;
+        replacements.append(&mut later)?;
+        let list = self.list.clone()?;
+        Ok(TextReads { list, replacements })
     }
 
     /// Whether the same was read, by content: under the same names the same texts with the same revisions.
     pub fn is_same(&self, other: &TextReads) -> bool
         ensures { IsTrue result ↔ (self.now ≡ other.now) }
     {
-        are_same_texts(&self.versions, &other.versions) && are_equal(&self.absent, &other.absent)
+        if self.replacements.is_empty() && other.replacements.is_empty() {
+            return self.list.is_same(&other.list);
+        }
+        self.is_same_by_place(other)
+    }
+
+    fn is_same_by_place(&self, other: &TextReads) -> bool
+        ensures { IsTrue result ↔ (self.now ≡ other.now) }
+    {
+        if self.len() != other.len() {
+            return false;
+        }
+        for place in 0..self.len() {
+            if !is_same_read(&self.get(place), &other.get(place)) {
+                return false;
+            }
+        }
+        true
     }
 }
 
-/// How many of these are absent.
-fn absent_count(versions: &[Option<Arc<Version>>]) -> usize
-    ensures { result ≡ count_by is_none versions.now }
+/// The last text that replaces the one at a place, if there is one.
+fn latest(replacements: &[Replacement], place: usize) -> Option<&Version>
+    ensures { (reads : List Seen) (before : Seen) → slice_get reads place ≡ Some before
+        → slice_get (all_replaced reads replacements.now) place
+        ≡ Some (latest_or before (option_copied result)) }
 {
-    let mut count = 0;
-    for version in versions {
-        if version.is_none() {
-            count += 1;
+    match replacements.split_last() {
+        None => None,
+        Some((last, earlier)) => {
+            if last.place == place {
+                Some(&last.version)
+            } else {
+                latest(earlier, place)
+            }
         }
     }
-    count
+}
+
+/// The same replacements, with room for this number of others.
+fn shared(
+    alloc: Global,
+    replacements: &[Replacement],
+    more: usize,
+) -> Result<Vec<Replacement>, AllocError>
+    ensures { IfOk result (λ all. (reads : List Seen)
+        → all_replaced reads all.items ≡ all_replaced reads replacements.now) }
+{
+    let mut all = Vec::with_capacity(alloc, replacements.len().saturating_add(more))?;
+    for it in replacements {
+        all.push(Replacement {
+            place: it.place,
+            version: it.version.clone()?,
+        })?;
+    }
+    Ok(all)
+}
+
+/// Whether both are the same text with the same revision, or neither is there.
+fn is_same_version(a: Option<&Version>, b: Option<&Version>) -> bool
+    ensures { IsTrue result
+        ↔ (option_map version_held (option_copied a.entry) ≡ option_map version_held (option_copied b.entry)) }
+{
+    match (a, b) {
+        (None, None) => true,
+        (Some(a), Some(b)) => a.revision == b.revision && a.text.as_str() == b.text.as_str(),
+        _ => false,
+    }
+}
+
+/// Whether both are reads of the same name and text, or neither is there.
+fn is_same_read(a: &Option<TextRead<'_>>, b: &Option<TextRead<'_>>) -> bool
+    ensures { IsTrue result ↔ (option_map text_seen a.now ≡ option_map text_seen b.now) }
+{
+    match (a, b) {
+        (None, None) => true,
+        (Some(a), Some(b)) => {
+            is_one_name(&a.name, &b.name) && is_same_version(a.version, b.version)
+        }
+        _ => false,
+    }
 }

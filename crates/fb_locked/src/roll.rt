@@ -110,7 +110,7 @@ fn takes(it: &Record, key: &Key) -> bool
     ensures { result ≡ takes key.now it.now }
 {
     match it.reply() {
-        Reply::Job(wanted) => wanted.key == *key,
+        Reply::Job(wanted) => *wanted.key == *key,
         _ => false,
     }
 }

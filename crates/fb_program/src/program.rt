@@ -11,6 +11,7 @@ use fb_wire::bench::{Bench, Limits};
 use fb_wire::{Feed, RunEnd, Sink, error_of, run_script};
 use std::alloc::Global;
 use std::io::{self, Write};
+use std::mem;
 
 /// The caller whose calls those of a script are.
 const SCRIPT_CALLER: u32 = 1;
@@ -35,7 +36,7 @@ pub enum Outcome<'a> {
     Hosts(HostSettings<'a>),
 }
 
-/// Runs the script on a new workbench, and gives the status.
+/// Runs the script on a new workbench, and gives the status. The memory of the workbench is not given back.
 fn script<F: Feed, S: Sink, E: Write>(
     alloc: Global,
     limits: Limits,
@@ -58,6 +59,8 @@ fn script<F: Feed, S: Sink, E: Write>(
 {
     let mut bench = Bench::new(alloc, limits);
     let end = run_script(alloc, reader, writer, &mut bench, SCRIPT_CALLER, turns);
+    // The program ends next, and the system then takes all memory back at once.
+    mem::forget(bench);
     match error_of(end) {
         None => DONE,
         Some(fault) => {

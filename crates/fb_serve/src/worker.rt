@@ -74,7 +74,7 @@ fn unsettled(receipts: &[Receipt]) -> Option<Held> {
     let receipt = receipts.last()?;
     match receipt.reply() {
         Reply::Job(wanted) => Some(Held {
-            key: wanted.key,
+            key: *wanted.key,
             since: receipt.number(),
         }),
         _ => None,

@@ -1,11 +1,8 @@
--- There is a place for each read.
-use Rattle.std.proofs.{Common.{◌≡◌, length, map, arith, sym, ap, ◌∙◌}, lemmas.List.{length-map}}
-use Rattle.fb_jobs.specs.Texts.{text_of}
-use Rattle.fb_jobs.proofs.TextLemmas.{seen_count}
+-- A text that replaces another takes its place.
+use Rattle.std.proofs.Common.{length, ap, sym, ◌∙◌}
+use Rattle.fb_jobs.proofs.ReplacedLemmas.{replaced_count}
 use Rattle.fb_jobs.proofs.texts.TextReads.len.Goals as goal
 
 pub returns : goal.returns
 returns c =
-    let versions = c.self.inside.versions.items in
-    let all : c.len.result ≡ length versions = omega (arith, c.len.ensures, c.self.inside.versions.ok.0) in
-    all ∙ sym (length-map versions text_of) ∙ sym (seen_count (map text_of versions) c.self.inside.absent.items c.self.invariant) ∙ ap length c.self.view_is
+    c.len.ensures ∙ ap length c.deref.ensures ∙ sym (replaced_count c.self.inside.list.value c.self.inside.replacements.items) ∙ ap length c.self.view_is

@@ -2,7 +2,7 @@
 use Rattle.std.proofs.{Common.{◌≡◌, map, sym, ap, ◌∙◌}, lemmas.Bool.{false≢true}}
 use Rattle.fb_jobs.specs.Texts.{text_of, seen_in}
 use Rattle.fb_jobs.proofs.TextLemmas.{same_texts, same_names}
-use Rattle.fb_jobs.proofs.texts.TextReads.is_same.Goals as goal
+use Rattle.fb_jobs.proofs.read_list.ReadList.is_same.Goals as goal
 
 pub returns-then-are_same_texts : goal.returns-then-are_same_texts
 returns-then-are_same_texts c =

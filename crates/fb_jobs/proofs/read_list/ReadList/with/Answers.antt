@@ -3,8 +3,8 @@ use Rattle.std.proofs.Common.{◌≡◌, List, ℕ, [], ◌∷◌, ◌++◌, map
 use Rattle.std.proofs.lemmas.Bool.{false≢true}
 use Rattle.std.specs.declared.alloc.Global.{Global}
 use Rattle.fb_jobs.specs.Texts.{text_of, seen_in, seen_under, AreNamed}
-use Rattle.fb_jobs.proofs.{TextLemmas.{more_named, more_seen}, texts.TextReads.with.Goals.{then-is_none+in_ok-push, else-is_none}}
-use Rattle.fb_jobs.proofs.texts.TextReads.with.Goals as goal
+use Rattle.fb_jobs.proofs.{TextLemmas.{more_named, more_seen}, read_list.ReadList.with.Goals.{then-is_none+in_ok-push, else-is_none}}
+use Rattle.fb_jobs.proofs.read_list.ReadList.with.Goals as goal
 
 told : {X : Type 0} (v : Option X) (answer known : Bool) → is_some v ≡ not answer → answer ≡ known → known ≡ is_none v
 told None true known is same = sym same
