@@ -1,5 +1,5 @@
 -- A workbench as one caller's desk.
-use Rattle.std.specs.Prelude.{◌≡◌, ℕ, ◌≤◌, ◌<◌, length, Result, Ok, Err}
+use Rattle.std.specs.Prelude.{◌≡◌, ℕ, ◌≤◌, ◌<◌, length, Result, Err}
 use Rattle.fb_history.specs.{Checkpoints.{KeptUpTo, checking, bench_checked}, Limits.{Bounds}, Machine.{Call, reply}, BenchView.{BenchView, state_of, recorded}}
 use Rattle.fb_bench.specs.Calls.{Answer, Replied, FullHistory, BehindHistory, CheckpointAnswer, Checked, SharedHistory, Exchange, Exchanges}
 use Rattle.fb_bench.specs.{declared.desk.DeskError.{DeskError}, declared.desk.DeskCheckpointError.{DeskCheckpointError}, declared.desk.Solo.{Solo}}

@@ -322,7 +322,7 @@ impl Bench {
         // For the proof: the key is named before the call gets it.
         let wanted = key;
         let job = Job::for_kept(self.alloc, &self.library, wanted, &self.entries)?;
-        let shared = self.shared_key(wanted)?;
+        let shared = self.shared_key(job.key())?;
         let answer = reply_of_job(self.alloc, shared, &job)?;
         Ok((job, answer))
     }
