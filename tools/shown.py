@@ -218,12 +218,14 @@ def tests_of(call, row):
 
 @functools.cache
 def trials():
-    """Under each call of which allocations are refused in turn the tests that do it."""
+    """Under each call of which allocations are refused in turn the tests that do it. A test may name the type alone, and a table the calls, as "::commit"."""
     found = {}
     for it, items in parts.tests():
-        for item in items:
-            for label in re.findall(r'(?:try_call::<[^(]+>|\breport)\((?:[^",]*,)*\s*"([\w:]+)"', item.text):
-                found.setdefault(label, {})[f"`{it.crate}`: `{it.name}`"] = None
+        text = "\n".join(item.text for item in items)
+        labels = re.findall(r'\b(?:try_\w+(?:::<[^(]+>)?|report)\((?:[^",]*,)*\s*"([\w:]+)"', text)
+        labels += [label + call for label in labels for call in re.findall(r'"(::\w+)"', text)]
+        for label in labels:
+            found.setdefault(label, {})[f"`{it.crate}`: `{it.name}`"] = None
     return found
 
 

@@ -1,7 +1,5 @@
 //! What connections say first.
-use crate::lines::{NO_JOB, NO_SEAT, TAKE};
-use crate::play::{LONG, Play, compare};
-use crate::steps::Step;
+use crate::play::compare;
 use fb_host::{is_secret, speaks_http};
 use std::process::Abort;
 use std::test::Fail;
@@ -43,105 +41,54 @@ fn browsers_are_known(rt: HostRuntime) {
     }
 }
 
-// Who does not say the secret is told nothing, also where all seats are taken. Who does gets a seat, or is told that there is none.
-const SECRETS: &[Step<'static>] = &[
-    Step::Connect(6),
-    Step::Say(0, TAKE),
-    Step::Leave(0, ""),
-    Step::Say(1, "sesamf\n{\"op\":\"take\"}\n"),
-    Step::Leave(1, ""),
-    Step::Say(2, "sesam\n{\"op\":\"take\"}\n"),
-    Step::Leave(2, ""),
-    Step::Say(3, "sesame \n{\"op\":\"take\"}\n"),
-    Step::Leave(3, ""),
-    Step::Say(4, "\n{\"op\":\"take\"}\n"),
-    Step::Leave(4, ""),
-    Step::Say(5, "sesame"),
-    Step::Leave(5, ""),
-    Step::Connect(3),
-    Step::Ask(6, "sesame\n{\"op\":\"take\"}\n", NO_JOB),
-    Step::Say(7, "sesame\n{\"op\":\"take\"}\n"),
-    Step::Leave(7, NO_SEAT),
-    Step::Say(8, "sesamf\n{\"op\":\"take\"}\n"),
-    Step::Leave(8, ""),
-    Step::Ask(6, TAKE, NO_JOB),
-    Step::Leave(6, ""),
-];
+const CONVERSATIONS: &str = r#"
+== Who does not say the secret gets no reply, also where all seats are taken / secret sesame / connections 9 / calls 2, 2
+// Who says it gets a seat, or learns that there is none.
+connect 6
+0 says {"op":"take"}\n
+0 leaves
+1 says sesamf\n{"op":"take"}\n
+1 leaves
+2 says sesam\n{"op":"take"}\n
+2 leaves
+3 says sesame \n{"op":"take"}\n
+3 leaves
+4 says \n{"op":"take"}\n
+4 leaves
+5 says sesame
+5 leaves
+connect 3
+6 asks sesame\n{"op":"take"} => {"job":0}
+7 says sesame\n{"op":"take"}\n
+7 leaves => {"refused":"NoSeat"}
+8 says sesamf\n{"op":"take"}\n
+8 leaves
+6 asks {"op":"take"} => {"job":0}
+6 leaves
+
+== A secret comes in two pieces, and another connection comes and goes between them / secret sesame / connections 2 / calls 2, 2
+// A request follows the second piece.
+connect 2
+0 says ses
+1 asks sesame\n{"op":"take"} => {"job":0}
+1 leaves
+0 asks ame\n{"op":"take"} => {"job":0}
+0 leaves
+
+== A page in a browser may send lines after its header, of which none is read / connections 4 / calls 1, 1
+connect 4
+0 says POST / HTTP/1.1\r\nContent-Length: 14\r\n\r\n{"op":"take"}\n
+0 leaves
+1 says GET / HTTP/1.1\r\n\r\n
+1 leaves
+2 says PRI * HTTP/2.0\r\n\r\nSM\r\n\r\n
+2 leaves
+3 asks POST => {"refused":"BadRequest"}
+3 asks {"op":"take"} => {"job":0}
+3 leaves
+"#;
 
 #[test]
 fn a_secret_is_asked_for(rt: HostRuntime) -> Result<(), Fail> {
-    let play = Play {
-        sessions: 1,
-        workers: 0,
-        history: 20,
-        first_line_timeout: LONG,
-        idle_timeout: 0,
-        connections: 9,
-        secret: "sesame",
-        steps: SECRETS,
-        errors: "",
-        counts: Some((2, 2)),
-    };
-    compare(&rt, rt.alloc(), &play)
-}
-
-// The secret comes in two pieces, and another connection comes and goes between them. A request stands behind the second.
-const PIECES: &[Step<'static>] = &[
-    Step::Connect(2),
-    Step::Say(0, "ses"),
-    Step::Ask(1, "sesame\n{\"op\":\"take\"}\n", NO_JOB),
-    Step::Leave(1, ""),
-    Step::Ask(0, "ame\n{\"op\":\"take\"}\n", NO_JOB),
-    Step::Leave(0, ""),
-];
-
-#[test]
-fn a_secret_in_pieces(rt: HostRuntime) -> Result<(), Fail> {
-    let play = Play {
-        sessions: 1,
-        workers: 0,
-        history: 20,
-        first_line_timeout: LONG,
-        idle_timeout: 0,
-        connections: 2,
-        secret: "sesame",
-        steps: PIECES,
-        errors: "",
-        counts: Some((2, 2)),
-    };
-    compare(&rt, rt.alloc(), &play)
-}
-
-// A page in a browser may send lines behind its header. None is read.
-const BROWSERS: &[Step<'static>] = &[
-    Step::Connect(4),
-    Step::Say(
-        0,
-        "POST / HTTP/1.1\r\nContent-Length: 14\r\n\r\n{\"op\":\"take\"}\n",
-    ),
-    Step::Leave(0, ""),
-    Step::Say(1, "GET / HTTP/1.1\r\n\r\n"),
-    Step::Leave(1, ""),
-    Step::Say(2, "PRI * HTTP/2.0\r\n\r\nSM\r\n\r\n"),
-    Step::Leave(2, ""),
-    Step::Ask(3, "POST\n", "{\"refused\":\"BadRequest\"}\n"),
-    Step::Ask(3, TAKE, NO_JOB),
-    Step::Leave(3, ""),
-];
-
-#[test]
-fn browsers_are_not_let_in(rt: HostRuntime) -> Result<(), Fail> {
-    let play = Play {
-        sessions: 1,
-        workers: 0,
-        history: 20,
-        first_line_timeout: LONG,
-        idle_timeout: 0,
-        connections: 4,
-        secret: "",
-        steps: BROWSERS,
-        errors: "",
-        counts: Some((1, 1)),
-    };
-    compare(&rt, rt.alloc(), &play)
+    compare(&rt, rt.alloc(), CONVERSATIONS)
 }

@@ -1,10 +1,8 @@
-//! Tests of hosts: peers come and go over loopback by tables of steps, and each step is compared.
+//! Tests of hosts: peers come and go over loopback by texts of steps, and each step is compared.
 #![tactic(auto)]
 
 #[cfg(test)]
 mod admission;
-#[cfg(test)]
-mod lines;
 #[cfg(test)]
 mod peers;
 #[cfg(test)]

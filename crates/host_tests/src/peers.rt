@@ -1,5 +1,4 @@
 //! What a peer does, and what it gets then.
-use crate::lines::{ASK_LAST, PENDING};
 use std::alloc::Global;
 use std::io::{ErrorKind, Read, Write};
 use std::net::{Net, OpenStream, Shutdown, TcpListener, TcpStream};
@@ -20,6 +19,9 @@ const BETWEEN_LINES: u64 = 200;
 /// How often a peer asks at most, until a worker has checked a unit or its stream ends.
 const LOOKS: u32 = 200_000;
 
+/// The question about the last of the units U0, U1 and so on, if there are 10 to 99: names are in order.
+const ASK_LAST: &str = r#"{"op":"ask","kind":"faults","unit":"U9"}"#;
+
 /// A peer that has connected.
 pub(crate) fn connect<R: Net<Listener = TcpListener, Stream = TcpStream>>(
     rt: &R,
@@ -38,29 +40,40 @@ pub(crate) fn say(stream: &TcpStream, text: &str) -> io::Result<()> {
     stream.write_all(text.as_bytes())
 }
 
-// Sends a line, and reads one.
-fn ask(alloc: Global, stream: &TcpStream, line: &str) -> io::Result<String> {
-    say(stream, line)?;
+// Reads one line, or all that comes. If the other side closes before all is read, that is the end too.
+fn read(alloc: Global, stream: &TcpStream, is_line: bool) -> io::Result<String> {
     let mut stream = stream;
     let mut told = String::new(alloc);
     let mut byte = [0u8; 1];
     for _ in 0..1_000u32 {
-        if stream.read(&mut byte)? == 0 {
-            break;
+        match stream.read(&mut byte) {
+            Ok(0) => break,
+            Ok(_) => told.push(char::from(byte[0]))?,
+            Err(error) => {
+                if !is_line && error.kind() == ErrorKind::ConnectionReset {
+                    break;
+                }
+                return Err(error);
+            }
         }
-        told.push(char::from(byte[0]))?;
-        if byte[0] == b'\n' {
+        if is_line && byte[0] == b'\n' {
             break;
         }
     }
     Ok(told)
 }
 
-/// Sends the line so often. It gives the last reply, or the first that is not the wanted one.
+// Sends a line, and reads one.
+fn ask(alloc: Global, stream: &TcpStream, line: &str) -> io::Result<String> {
+    say(stream, format!(in alloc; "{line}\n")?.as_str())?;
+    read(alloc, stream, true)
+}
+
+/// Sends the line this number of times. It gives the last reply, or the first that is not the wanted one.
 pub(crate) fn repeat(
     alloc: Global,
     stream: &TcpStream,
-    times: u32,
+    times: usize,
     line: &str,
     wanted: &str,
 ) -> io::Result<String> {
@@ -74,18 +87,13 @@ pub(crate) fn repeat(
     Ok(told)
 }
 
-// A commit of the unit U with this number.
-fn commit_unit(alloc: Global, number: u32) -> io::Result<String> {
-    let line = format!(in alloc;
-        "{{\"op\":\"commit\",\"changes\":[{{\"put\":\"U{number}\",\"base\":0,\"text\":\"FUNCTION_BLOCK U{number} END_FUNCTION_BLOCK\"}}]}}\n"
-    )?;
-    Ok(line)
-}
-
 // Commits so many units, U0, U1 and so on, one after another.
-fn commit_units(alloc: Global, stream: &TcpStream, count: u32) -> io::Result<()> {
+fn commit_units(alloc: Global, stream: &TcpStream, count: usize) -> io::Result<()> {
     for number in 0..count {
-        ask(alloc, stream, commit_unit(alloc, number)?.as_str())?;
+        let line = format!(in alloc;
+            r#"{{"op":"commit","changes":[{{"put":"U{number}","base":0,"text":"FUNCTION_BLOCK U{number} END_FUNCTION_BLOCK"}}]}}"#
+        )?;
+        ask(alloc, stream, line.as_str())?;
     }
     Ok(())
 }
@@ -95,17 +103,17 @@ pub(crate) fn commit_all<R: Clock>(
     rt: &R,
     alloc: Global,
     stream: &TcpStream,
-    count: u32,
+    count: usize,
 ) -> io::Result<String> {
     let begun = Instant::now(rt)?;
     commit_units(alloc, stream, count)?;
-    let mut known = ask(alloc, stream, ASK_LAST)?;
+    let mut known = String::new(alloc);
     for _ in 0..LOOKS {
+        known = ask(alloc, stream, ASK_LAST)?;
         let is_late = Duration::from_millis(BOUND) < begun.elapsed(rt)?;
-        if is_late || known.as_str() != PENDING {
+        if is_late || known.as_str() != "{\"answer\":\"pending\"}\n" {
             break;
         }
-        known = ask(alloc, stream, ASK_LAST)?;
     }
     Ok(known)
 }
@@ -118,8 +126,7 @@ pub(crate) fn drip(alloc: Global, stream: &TcpStream) -> io::Result<String> {
             return rest(alloc, stream);
         }
     }
-    let open = String::from_str(alloc, "open")?;
-    Ok(open)
+    Ok(String::from_str(alloc, "open")?)
 }
 
 // Whether nothing comes, and no end, for some time.
@@ -139,17 +146,17 @@ pub(crate) fn flood<R: Clock>(
     line: &str,
 ) -> io::Result<String> {
     let begun = Instant::now(rt)?;
+    let line = format!(in alloc; "{line}\n")?;
     stream.set_write_timeout(Some(Duration::from_millis(NOW_AND_THEN)))?;
     let mut is_open = true;
     for _ in 0..LOOKS {
-        is_open = takes(stream, line);
+        is_open = takes(stream, line.as_str());
         if !is_open || Duration::from_millis(BOUND) < begun.elapsed(rt)? {
             break;
         }
         thread::sleep(rt, Duration::from_micros(BETWEEN_LINES));
     }
-    let told = String::from_str(alloc, if is_open { "open" } else { "" })?;
-    Ok(told)
+    Ok(String::from_str(alloc, if is_open { "open" } else { "" })?)
 }
 
 // Whether a stream takes the text, or is only full.
@@ -166,22 +173,7 @@ pub(crate) fn leave(alloc: Global, stream: &TcpStream) -> io::Result<String> {
     rest(alloc, stream)
 }
 
-/// Reads all that it gets. If the other side closes before it has read all, that is the end too.
+/// Reads all that it gets.
 pub(crate) fn rest(alloc: Global, stream: &TcpStream) -> io::Result<String> {
-    let mut stream = stream;
-    let mut told = String::new(alloc);
-    let mut byte = [0u8; 1];
-    for _ in 0..1_000u32 {
-        match stream.read(&mut byte) {
-            Ok(0) => break,
-            Ok(_) => told.push(char::from(byte[0]))?,
-            Err(error) => {
-                if error.kind() == ErrorKind::ConnectionReset {
-                    break;
-                }
-                return Err(error);
-            }
-        }
-    }
-    Ok(told)
+    read(alloc, stream, false)
 }

@@ -1,7 +1,11 @@
-//! A host in this process, and its peers.
+//! Hosts in this process, each with its peers.
+//!
+//! A text has conversations, each a heading and steps. A heading is `== TITLE / SETTING VALUE / SETTING VALUE`, and so on. The settings are `connections`,
+//! after which the host closes, and `calls`: how many are made, and how many of them since the start of the history, or `any`. Unless others are there, a host has
+//! `sessions 1`, `workers 0`, `history 20`, `first-line 600000`, which are milliseconds, and `idle 0`, no `secret`, and prints no `errors`.
 ghost use Rattle.std.specs.Thread.{IsSync};
 
-use crate::steps::{Step, Wrong, first_wrong};
+use crate::steps::{first_wrong, lines_in};
 use fb_host::{HostConfig, host_on};
 use fb_serve::Ended;
 use fb_wire::MemorySink;
@@ -16,58 +20,45 @@ use std::thread;
 use std::thread::{Threads, join};
 use std::time::{Clock, Duration};
 
-/// More milliseconds than a test has.
-pub(crate) const LONG: u64 = 600_000;
-
 /// How often it is looked whether the host has ended, and how many milliseconds pass from one look to the next.
 const LOOKS: u32 = 10_000;
 
 const PAUSE: u64 = 2;
 
-/// A host, the steps of its peers, and its result: what it printed on its errors, how many calls were made, and how many of them since the
-/// start. If workers make calls these numbers are left out.
-#[derive(Drop)]
-pub(crate) struct Play<'a> {
-    pub(crate) sessions: u8,
-    pub(crate) workers: u8,
-    pub(crate) history: u64,
-    pub(crate) first_line_timeout: u64,
-    pub(crate) idle_timeout: u64,
-    pub(crate) connections: u64,
-    pub(crate) secret: &'a str,
-    pub(crate) steps: &'a [Step<'a>],
-    pub(crate) errors: &'a str,
-    pub(crate) counts: Option<(u64, usize)>,
-}
-
 /// What a host printed, and its close: how many calls were made, how many of them since the start, and how many receipts there are.
-#[derive(Drop)]
-struct Hosted {
-    printed: Vec<u8>,
-    close: Option<(u64, usize, usize)>,
+type Hosted = (Vec<u8>, Option<(u64, usize, usize)>);
+
+// The value of a setting in a heading, or this one if it is not there.
+fn setting<'a>(heading: &'a str, name: &str, default: &'a str) -> &'a str {
+    for part in heading.split(" / ") {
+        if let Some((word, value)) = part.split_once(' ') {
+            if word == name {
+                return value;
+            }
+        }
+    }
+    default
 }
 
-fn config_of(play: &Play<'_>) -> Option<HostConfig> {
-    let limits = Limits::new(100, play.history)?;
-    Some(HostConfig {
-        workers: play.workers,
-        sessions: play.sessions,
-        limits,
-        first_line_timeout: play.first_line_timeout,
-        idle_timeout: play.idle_timeout,
-        connections: play.connections,
+fn config_of(heading: &str) -> Result<HostConfig, Fail> {
+    let history: u64 = setting(heading, "history", "20").parse()?;
+    Ok(HostConfig {
+        workers: setting(heading, "workers", "0").parse()?,
+        sessions: setting(heading, "sessions", "1").parse()?,
+        limits: Limits::new(100, history).ok_or("limits")?,
+        first_line_timeout: setting(heading, "first-line", "600000").parse()?,
+        idle_timeout: setting(heading, "idle", "0").parse()?,
+        connections: setting(heading, "connections", "").parse()?,
     })
 }
 
 fn close_of(ended: &Ended) -> Option<(u64, usize, usize)> {
-    match &ended.served {
-        Ok(served) => {
-            let bench = &served.closed.bench;
-            let calls = bench.before().saturating_add(bench.len() as u64);
-            Some((calls, bench.len(), served.receipts.len()))
-        }
-        Err(_) => None,
-    }
+    let Ok(served) = &ended.served else {
+        return None;
+    };
+    let bench = &served.closed.bench;
+    let calls = bench.before().saturating_add(bench.len() as u64);
+    Some((calls, bench.len(), served.receipts.len()))
 }
 
 fn host_in_memory<R: Threads + Wait + Clock + Sync>(
@@ -82,10 +73,7 @@ fn host_in_memory<R: Threads + Wait + Clock + Sync>(
     let mut out = MemorySink::new(alloc, 8192, u64::MAX);
     let end = host_on(rt, alloc, listener, config, secret, &mut out, errors);
     ended.store(true, Ordering::SeqCst);
-    Ok(Hosted {
-        printed: out.as_slice().to_vec(alloc)?,
-        close: close_of(&end),
-    })
+    Ok((out.as_slice().to_vec(alloc)?, close_of(&end)))
 }
 
 // Whether the host ends.
@@ -106,46 +94,27 @@ fn act<R: Net<Listener = TcpListener, Stream = TcpStream> + Wait + Clock + Abort
     port: u16,
     errors: &Mutex<Vec<u8>>,
     ended: &AtomicBool,
-    steps: &[Step<'_>],
+    conversation: &str,
+    steps: &str,
 ) {
     match first_wrong(rt, alloc, port, errors, steps) {
-        Ok(None) => assert!(rt; ends(rt, ended), "the host does not end"),
-        Ok(Some(Wrong { place, told })) => panic!(rt; "step {place}: {told}"),
-        Err(error) => panic!(rt; "{error:?}"),
+        Ok(None) => assert!(rt; ends(rt, ended), "the host does not end: {conversation}"),
+        Ok(Some(wrong)) => panic!(rt; "{wrong}: {conversation}"),
+        Err(error) => panic!(rt; "{error:?}: {conversation}"),
     }
 }
 
-// Compares what the host has come to.
-fn compare_end<R: Wait + Abort>(
+// Plays a conversation, and compares what comes of it with what its heading names.
+fn play<R: Net<Listener = TcpListener, Stream = TcpStream> + Threads + Wait + Clock + Sync + Abort>(
     rt: &R,
     alloc: Global,
-    play: &Play<'_>,
-    port: u16,
-    hosted: Hosted,
-    errors: Vec<u8>,
+    conversation: &str,
 ) -> Result<(), Fail> {
-    let printed = String::from_utf8(hosted.printed).ok().ok_or("no text")?;
-    let wanted = format!(in alloc; "listening on 127.0.0.1:{port}\nclosed\n")?;
-    assert_eq!(rt; printed.as_str(), wanted.as_str());
-    let errors = String::from_utf8(errors).ok().ok_or("no text")?;
-    assert_eq!(rt; errors.as_str(), play.errors);
-    let (calls, len, receipts) = hosted.close.ok_or("not closed")?;
-    assert_eq!(rt; receipts, len);
-    if let Some(counts) = play.counts {
-        assert_eq!(rt; (calls, receipts), counts);
-    }
-    Ok(())
-}
-
-/// Plays, and compares what comes of it with what is wanted.
-pub(crate) fn compare<
-    R: Net<Listener = TcpListener, Stream = TcpStream> + Threads + Wait + Clock + Sync + Abort,
->(rt: &R, alloc: Global, play: &Play<'_>) -> Result<(), Fail> {
+    let (heading, steps) = conversation.split_once('\n').ok_or("a heading alone")?;
     let listener = TcpListener::bind(rt, "127.0.0.1:0")?;
     let port = listener.local_addr()?.port();
-    let config = config_of(play).ok_or("limits")?;
-    let secret = play.secret.as_bytes();
-    let steps = play.steps;
+    let config = config_of(heading)?;
+    let secret = setting(heading, "secret", "").as_bytes();
     let errors = Mutex::new(Vec::new(alloc));
     let ended = AtomicBool::new(false);
     let (hosted, ()) = join(
@@ -153,7 +122,33 @@ pub(crate) fn compare<
         || -> Result<Hosted, AllocError>
             requires { IsSync R.row }
         { host_in_memory(rt, alloc, &listener, config, secret, &errors, &ended) },
-        || act(rt, alloc, port, &errors, &ended, steps),
+        || act(rt, alloc, port, &errors, &ended, conversation, steps),
     );
-    compare_end(rt, alloc, play, port, hosted?, errors.into_inner())
+    let (printed, close) = hosted?;
+    let printed = String::from_utf8(printed)?;
+    let wanted = format!(in alloc; "listening on 127.0.0.1:{port}\nclosed\n")?;
+    assert_eq!(rt; printed.as_str(), wanted.as_str());
+    let errors = String::from_utf8(errors.into_inner())?;
+    let wanted = lines_in(alloc, setting(heading, "errors", ""))?;
+    assert_eq!(rt; errors.as_str(), wanted.as_str(), "{heading}");
+    let (calls, len, receipts) = close.ok_or("not closed")?;
+    assert_eq!(rt; receipts, len, "{heading}");
+    let found = format!(in alloc; "{calls}, {len}")?;
+    let wanted = setting(heading, "calls", "");
+    assert!(rt;
+        wanted == "any" || found.as_str() == wanted,
+        "{found}: {heading}"
+    );
+    Ok(())
+}
+
+/// Plays each conversation of a text with a host of its own.
+pub(crate) fn compare<
+    R: Net<Listener = TcpListener, Stream = TcpStream> + Threads + Wait + Clock + Sync + Abort,
+>(rt: &R, alloc: Global, text: &str) -> Result<(), Fail> {
+    let conversations = text.strip_prefix("\n== ").ok_or("a heading")?;
+    for conversation in conversations.split("\n== ") {
+        play(rt, alloc, conversation)?;
+    }
+    Ok(())
 }

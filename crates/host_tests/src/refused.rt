@@ -7,27 +7,32 @@ use fb_wire::bench::Limits;
 use fb_wire::{IntoWrite, MemoryFeed, RunEnd};
 use refusing::{Refusals, refuse, report, was_refused};
 use std::alloc::Global;
+use std::io::Print;
 use std::sync::Wait;
 use std::test::Fail;
 
+/// What is tried, what a session says before, what two sessions then say one after another, the replies of the first to it, and the end of those of the
+/// second.
+#[derive(Clone, Copy)]
+struct Talk {
+    about: &'static str,
+    before: &'static str,
+    requests: &'static str,
+    replies: &'static str,
+    last: &'static str,
+}
+
 // The calls of these lines are more than the history holds.
-const REQUESTS: &str =
-    r#"{"op":"commit","changes":[{"put":"A","base":0,"text":"FUNCTION_BLOCK A END_FUNCTION_BLOCK"}]}
+const LINES: Talk = Talk {
+    about: " of three lines",
+    before: "",
+    requests: r#"{"op":"commit","changes":[{"put":"A","base":0,"text":"FUNCTION_BLOCK A END_FUNCTION_BLOCK"}]}
 {"op":"work","turns":9}
 {"op":"ask","kind":"faults","unit":"A"}
-"#;
-
-const REPLIES: &str = "{\"commit\":1}\n{\"accepted\":1}\n{\"faults\":[]}\n";
-
-const LAST: &str = "{\"faults\":[]}\n";
-
-const COMMIT: &str =
-    r#"{"op":"commit","changes":[{"put":"A","base":0,"text":"FUNCTION_BLOCK A END_FUNCTION_BLOCK"},{"put":"B","base":0,"text":"FUNCTION_BLOCK B END_FUNCTION_BLOCK"},{"put":"C","base":0,"text":"FUNCTION_BLOCK C END_FUNCTION_BLOCK"},{"put":"D","base":0,"text":"FUNCTION_BLOCK D END_FUNCTION_BLOCK"},{"put":"E","base":0,"text":"FUNCTION_BLOCK E END_FUNCTION_BLOCK"},{"put":"F","base":0,"text":"FUNCTION_BLOCK F END_FUNCTION_BLOCK"}]}
-"#;
-
-// More keys than a session has room for from its start.
-const TAKES: &str =
-    "{\"op\":\"take\"}\n{\"op\":\"take\"}\n{\"op\":\"take\"}\n{\"op\":\"take\"}\n{\"op\":\"take\"}\n{\"op\":\"take\"}\n";
+"#,
+    replies: "{\"commit\":1}\n{\"accepted\":1}\n{\"faults\":[]}\n",
+    last: "{\"faults\":[]}\n",
+};
 
 const JOBS: &str = r#"{"job":1,"kind":"faults","unit":"A"}
 {"job":2,"kind":"faults","unit":"B"}
@@ -37,18 +42,15 @@ const JOBS: &str = r#"{"job":1,"kind":"faults","unit":"A"}
 {"job":6,"kind":"faults","unit":"F"}
 "#;
 
-const UNITS: u64 = 8;
-
-const HISTORY: u64 = 2;
-
-/// What a session says before, what two sessions then say one after another, the replies of the first to it, and the end of those of the second.
-#[derive(Clone, Copy)]
-struct Talk {
-    before: &'static str,
-    requests: &'static str,
-    replies: &'static str,
-    last: &'static str,
-}
+// More keys than a session has room for from its start.
+const TAKES: Talk = Talk {
+    about: " that takes six keys",
+    before: r#"{"op":"commit","changes":[{"put":"A","base":0,"text":"FUNCTION_BLOCK A END_FUNCTION_BLOCK"},{"put":"B","base":0,"text":"FUNCTION_BLOCK B END_FUNCTION_BLOCK"},{"put":"C","base":0,"text":"FUNCTION_BLOCK C END_FUNCTION_BLOCK"},{"put":"D","base":0,"text":"FUNCTION_BLOCK D END_FUNCTION_BLOCK"},{"put":"E","base":0,"text":"FUNCTION_BLOCK E END_FUNCTION_BLOCK"},{"put":"F","base":0,"text":"FUNCTION_BLOCK F END_FUNCTION_BLOCK"}]}
+"#,
+    requests: "{\"op\":\"take\"}\n{\"op\":\"take\"}\n{\"op\":\"take\"}\n{\"op\":\"take\"}\n{\"op\":\"take\"}\n{\"op\":\"take\"}\n",
+    replies: JOBS,
+    last: JOBS,
+};
 
 /// How a session ended, what it replied, and whether an allocation was refused.
 #[derive(Drop)]
@@ -120,9 +122,9 @@ fn is_closed<R: Wait>(
 
 // Sessions with one seat, the first of the two without the allocation of this number.
 fn tried<R: Wait>(rt: &R, alloc: Global, talk: Talk, number: u32) -> Result<Session, Fail> {
-    let limits = Limits::new(UNITS, HISTORY).ok_or("limits")?;
+    let limits = Limits::new(8, 2).ok_or("limits")?;
     let (shared, mut seats) = Shared::rolling(alloc, limits, 1)?;
-    let store = ReceiptStore::new(alloc, HISTORY);
+    let store = ReceiptStore::new(alloc, limits.history());
     let state = CallerState::new(alloc, seats.pop().ok_or("no seat")?);
     let (state, _) = say_lines(rt, alloc, &shared, &store, state, talk.before, 0)?;
     let (state, first) = say_lines(rt, alloc, &shared, &store, state, talk.requests, number)?;
@@ -135,15 +137,17 @@ fn tried<R: Wait>(rt: &R, alloc: Global, talk: Talk, number: u32) -> Result<Sess
     Ok(first)
 }
 
-fn each_refused<R: Wait>(rt: &R, alloc: Global, talk: Talk) -> Result<Refusals, Fail> {
+// Refuses each allocation of a session in turn, and prints what was found.
+fn try_session<R: Wait + Print>(rt: &R, alloc: Global, talk: Talk) -> Result<(), Fail> {
     let mut memory = 0u32;
     for number in 1..100_000u32 {
         let session = tried(rt, alloc, talk, number)?;
         if !session.is_refused {
-            return Ok(Refusals {
+            let found = Refusals {
                 allocations: number - 1,
                 memory,
-            });
+            };
+            return Ok(report(rt, "run_host_session", talk.about, found)?);
         }
         memory = memory.saturating_add(u32::from(session.end == RunEnd::Memory));
     }
@@ -152,26 +156,10 @@ fn each_refused<R: Wait>(rt: &R, alloc: Global, talk: Talk) -> Result<Refusals, 
 
 #[test]
 fn each_allocation_of_a_session(rt: HostRuntime) -> Result<(), Fail> {
-    let talk = Talk {
-        before: "",
-        requests: REQUESTS,
-        replies: REPLIES,
-        last: LAST,
-    };
-    let found = each_refused(&rt, rt.alloc(), talk)?;
-    report(&rt, "run_host_session", " of three lines", found)?;
-    Ok(())
+    try_session(&rt, rt.alloc(), LINES)
 }
 
 #[test]
 fn each_allocation_of_a_session_that_takes_keys(rt: HostRuntime) -> Result<(), Fail> {
-    let talk = Talk {
-        before: COMMIT,
-        requests: TAKES,
-        replies: JOBS,
-        last: JOBS,
-    };
-    let found = each_refused(&rt, rt.alloc(), talk)?;
-    report(&rt, "run_host_session", " that takes six keys", found)?;
-    Ok(())
+    try_session(&rt, rt.alloc(), TAKES)
 }

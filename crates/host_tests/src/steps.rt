@@ -1,62 +1,28 @@
-//! Steps of peers.
-use crate::lines::KNOWN;
+//! Steps of peers, each in a line of its own, and remarks after `// `. Peers have numbers from 0 as they come.
+//!
+//! | Step | What it is |
+//! |---|---|
+//! | `connect 6` | this number of peers connect; the next one also connects by its first step |
+//! | `0 says TEXT` | the peer sends this, where `\n` and `\r` are ends of lines |
+//! | `0 asks LINE => REPLY` | it sends a line, and gets one |
+//! | `0 repeats 30 LINE => REPLY` | the same, this number of times |
+//! | `0 commits 80 => REPLY` | it commits this number of units, from 10 to 99, and gets this of the last one once workers have checked all of them |
+//! | `0 drips` | it sends a byte now and then, until it is closed |
+//! | `0 floods LINE` | it sends a line again and again and reads no reply, until it is closed |
+//! | `0 leaves => REPLY` | it ends its sending, and gets this to the end, or nothing |
+//! | `leave 1 to 31` | the same of all these peers, which get nothing |
+//! | `0 is closed => REPLY` | it gets this to the end, or nothing |
+//! | `errors => TEXT` | this is what the host has printed on its errors |
+//! | `passed 90` | at least this number of milliseconds have passed since the first step |
 use crate::peers::{commit_all, connect, drip, flood, leave, repeat, rest, say};
-use std::alloc::Global;
+use std::alloc::{AllocError, Global};
 use std::io;
 use std::io::ErrorKind;
 use std::net::{Net, TcpListener, TcpStream};
 use std::sync::{Mutex, Wait};
 use std::time::{Clock, Duration, Instant};
 
-/// What a peer does, and what it gets then. Peers are numbered as they come, from 0.
-pub(crate) enum Step<'a> {
-    /// This number of peers connect.
-    Connect(usize),
-    /// It sends this.
-    Say(usize, &'a str),
-    /// It sends a line, and gets one.
-    Ask(usize, &'a str, &'a str),
-    /// The same, this number of times.
-    Repeat(usize, u32, &'a str, &'a str),
-    /// It commits this number of units, from 10 to 99, and waits until workers have checked all of them.
-    CommitAll(usize, u32),
-    /// It sends a byte now and then, until it is closed.
-    Drip(usize),
-    /// It sends a line again and again and reads no reply, until it is closed.
-    Flood(usize, &'a str),
-    /// It ends its sending, and gets this to the end.
-    Leave(usize, &'a str),
-    /// The same of all peers from one number on and below another, who get nothing.
-    LeaveAll(usize, usize),
-    /// It gets this to the end.
-    Rest(usize, &'a str),
-    /// This is what the host has said on its errors.
-    Errors(&'a str),
-    /// At least this number of milliseconds have passed since the first step.
-    Passed(u64),
-}
-
-impl<'a> Step<'a> {
-    /// What it must get.
-    fn wanted(&self) -> &'a str {
-        match self {
-            Step::Ask(_, _, told)
-            | Step::Repeat(_, _, _, told)
-            | Step::Leave(_, told)
-            | Step::Rest(_, told)
-            | Step::Errors(told) => *told,
-            Step::CommitAll(_, _) => KNOWN,
-            Step::Connect(_)
-            | Step::Say(_, _)
-            | Step::Drip(_)
-            | Step::Flood(_, _)
-            | Step::LeaveAll(_, _)
-            | Step::Passed(_) => "",
-        }
-    }
-}
-
-/// Where a host listens, what it says on its errors, and when the first step was made.
+/// Where a host listens, what it prints on its errors, and when the first step was made.
 #[derive(Drop)]
 struct Scene<'a> {
     port: u16,
@@ -64,14 +30,26 @@ struct Scene<'a> {
     begun: Instant,
 }
 
-fn peer(streams: &[TcpStream], number: usize) -> io::Result<&TcpStream> {
-    match streams.get(number) {
-        Some(stream) => Ok(stream),
-        None => Err(io::Error::from(ErrorKind::NotFound)),
-    }
+fn number_in(word: &str) -> io::Result<usize> {
+    Ok(word.parse::<usize>().ok().ok_or(ErrorKind::InvalidInput)?)
 }
 
-// So many peers more.
+// What is written, with the ends of its lines.
+fn text_in(alloc: Global, written: &str) -> Result<String, AllocError> {
+    let text = written.replace(alloc, "\\r", "\r")?;
+    text.as_str().replace(alloc, "\\n", "\n")
+}
+
+/// The same with the end of the last line, if there is one.
+pub(crate) fn lines_in(alloc: Global, written: &str) -> Result<String, AllocError> {
+    let mut lines = text_in(alloc, written)?;
+    if !lines.is_empty() {
+        lines.push('\n')?;
+    }
+    Ok(lines)
+}
+
+// More peers, of this number.
 fn connect_all<R: Net<Listener = TcpListener, Stream = TcpStream>>(
     rt: &R,
     alloc: Global,
@@ -85,15 +63,15 @@ fn connect_all<R: Net<Listener = TcpListener, Stream = TcpStream>>(
     Ok(String::new(alloc))
 }
 
-// They leave one after another. It gives what the last of them is told, or the first that is told anything.
-fn leave_all(
-    alloc: Global,
-    streams: &[TcpStream],
-    first: usize,
-    behind: usize,
-) -> io::Result<String> {
+fn peer(streams: &[TcpStream], number: usize) -> io::Result<&TcpStream> {
+    Ok(streams.get(number).ok_or(ErrorKind::NotFound)?)
+}
+
+// Peers leave one after another. It gives what the last of them gets, or the first that gets anything.
+fn leave_all(alloc: Global, streams: &[TcpStream], range: &str) -> io::Result<String> {
+    let (first, last) = range.split_once(" to ").ok_or(ErrorKind::InvalidInput)?;
     let mut told = String::new(alloc);
-    for number in first..behind {
+    for number in number_in(first)?..=number_in(last)? {
         told = leave(alloc, peer(streams, number)?)?;
         if !told.is_empty() {
             break;
@@ -102,84 +80,91 @@ fn leave_all(
     Ok(told)
 }
 
-fn said<R: Wait>(rt: &R, alloc: Global, errors: &Mutex<Vec<u8>>) -> io::Result<String> {
+fn printed<R: Wait>(rt: &R, alloc: Global, errors: &Mutex<Vec<u8>>) -> io::Result<String> {
     let bytes = errors.lock(rt).as_slice().to_vec(alloc)?;
-    match String::from_utf8(bytes) {
-        Ok(text) => Ok(text),
-        Err(_) => Err(io::Error::from(ErrorKind::InvalidData)),
+    Ok(String::from_utf8(bytes).ok().ok_or(ErrorKind::InvalidData)?)
+}
+
+fn passed<R: Clock>(rt: &R, alloc: Global, begun: Instant, least: usize) -> io::Result<String> {
+    let is_soon = begun.elapsed(rt)? < Duration::from_millis(least as u64);
+    Ok(String::from_str(alloc, if is_soon { "too soon" } else { "" })?)
+}
+
+// Makes the step of a peer. It gives what the peer gets, which should be this.
+fn got<R: Clock>(
+    rt: &R,
+    alloc: Global,
+    stream: &TcpStream,
+    step: &str,
+    wanted: &str,
+) -> io::Result<String> {
+    match step.split_once(' ').unwrap_or((step, "")) {
+        ("says", text) => {
+            say(stream, text)?;
+            Ok(String::new(alloc))
+        }
+        ("asks", line) => repeat(alloc, stream, 1, line, wanted),
+        ("repeats", words) => {
+            let (times, line) = words.split_once(' ').ok_or(ErrorKind::InvalidInput)?;
+            repeat(alloc, stream, number_in(times)?, line, wanted)
+        }
+        ("commits", count) => commit_all(rt, alloc, stream, number_in(count)?),
+        ("drips", "") => drip(alloc, stream),
+        ("floods", line) => flood(rt, alloc, stream, line),
+        ("leaves", "") => leave(alloc, stream),
+        ("is", "closed") => rest(alloc, stream),
+        _ => Err(io::Error::from(ErrorKind::InvalidInput)),
     }
 }
 
-fn passed<R: Clock>(rt: &R, alloc: Global, begun: Instant, least: u64) -> io::Result<String> {
-    let mut told = String::new(alloc);
-    if begun.elapsed(rt)? < Duration::from_millis(least) {
-        told.push_str("too soon")?;
-    }
-    Ok(told)
-}
-
-// Makes the step. It gives what is told.
+// Makes the step in a line, if there is one. It gives what comes, which should be this.
 fn told<R: Net<Listener = TcpListener, Stream = TcpStream> + Wait + Clock>(
     rt: &R,
     alloc: Global,
     scene: &Scene<'_>,
     streams: &mut Vec<TcpStream>,
-    step: &Step<'_>,
+    step: &str,
+    wanted: &str,
 ) -> io::Result<String> {
-    match step {
-        Step::Connect(count) => connect_all(rt, alloc, scene.port, streams, *count),
-        Step::Say(number, text) => {
-            say(peer(streams, *number)?, text)?;
-            Ok(String::new(alloc))
+    match step.split_once(' ').unwrap_or((step, "")) {
+        ("", _) | ("//", _) => Ok(String::new(alloc)),
+        ("connect", count) => connect_all(rt, alloc, scene.port, streams, number_in(count)?),
+        ("leave", range) => leave_all(alloc, streams, range),
+        ("errors", "") => printed(rt, alloc, scene.errors),
+        ("passed", least) => passed(rt, alloc, scene.begun, number_in(least)?),
+        (number, step) => {
+            let number = number_in(number)?;
+            let missing = usize::from(number == streams.len());
+            connect_all(rt, alloc, scene.port, streams, missing)?;
+            got(rt, alloc, peer(streams, number)?, step, wanted)
         }
-        Step::Ask(number, line, reply) => repeat(alloc, peer(streams, *number)?, 1, line, reply),
-        Step::Repeat(number, times, line, reply) => {
-            repeat(alloc, peer(streams, *number)?, *times, line, reply)
-        }
-        Step::CommitAll(number, count) => commit_all(rt, alloc, peer(streams, *number)?, *count),
-        Step::Drip(number) => drip(alloc, peer(streams, *number)?),
-        Step::Flood(number, line) => flood(rt, alloc, peer(streams, *number)?, line),
-        Step::Leave(number, _) => leave(alloc, peer(streams, *number)?),
-        Step::LeaveAll(first, behind) => leave_all(alloc, streams, *first, *behind),
-        Step::Rest(number, _) => rest(alloc, peer(streams, *number)?),
-        Step::Errors(_) => said(rt, alloc, scene.errors),
-        Step::Passed(least) => passed(rt, alloc, scene.begun, *least),
     }
 }
 
-/// The place of a step, and what was got there.
-#[derive(Drop)]
-pub(crate) struct Wrong {
-    pub(crate) place: usize,
-    pub(crate) told: String,
-}
-
-/// Makes the steps, up to the first at which something else comes.
+/// Makes the steps, up to the first at which something else comes. It gives the line of that, and what comes.
 pub(crate) fn first_wrong<R: Net<Listener = TcpListener, Stream = TcpStream> + Wait + Clock>(
     rt: &R,
     alloc: Global,
     port: u16,
     errors: &Mutex<Vec<u8>>,
-    steps: &[Step<'_>],
-) -> io::Result<Option<Wrong>> {
+    steps: &str,
+) -> io::Result<Option<String>> {
     let scene = Scene {
         port,
         errors,
         begun: Instant::now(rt)?,
     };
     let mut streams = Vec::new(alloc);
-    for place in 0..steps.len() {
-        let step = &steps[place];
-        match told(rt, alloc, &scene, &mut streams, step) {
+    for line in steps.split('\n') {
+        let (step, wanted) = line.split_once(" => ").unwrap_or((line, ""));
+        let (step, wanted) = (text_in(alloc, step)?, lines_in(alloc, wanted)?);
+        match told(rt, alloc, &scene, &mut streams, &step, &wanted) {
             Ok(told) => {
-                if told.as_str() != step.wanted() {
-                    return Ok(Some(Wrong { place, told }));
+                if told.as_str() != wanted.as_str() {
+                    return Ok(Some(format!(in alloc; "{line}: {told}")?));
                 }
             }
-            Err(error) => {
-                let told = format!(in alloc; "{error:?}")?;
-                return Ok(Some(Wrong { place, told }));
-            }
+            Err(error) => return Ok(Some(format!(in alloc; "{line}: {error:?}")?)),
         }
     }
     Ok(None)

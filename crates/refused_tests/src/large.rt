@@ -3,9 +3,6 @@
 use crate::nest::{puts, work};
 use fb_bench::{Bench, Committed, Delivered, Limits, Taken};
 use fb_jobs::{Finished, Job};
-use fb_shared::library::Change;
-use fb_shared::parse::Source;
-use fb_text::Name;
 use refusing::{Refusals, refuse, report, was_refused};
 use std::alloc::Global;
 use std::test::Fail;
@@ -15,12 +12,9 @@ const INSTANCES: u32 = 4096;
 const THOUSANDTH: u32 = 1000;
 
 // The type of the instances, and a subapplication that holds the large one.
-const TYPE: &[(&str, &str)] = &[("T", "FUNCTION_BLOCK T END_FUNCTION_BLOCK")];
+const TYPE: &[&str] = &["FUNCTION_BLOCK T END_FUNCTION_BLOCK"];
 
-const OUTER: &[(&str, &str)] = &[(
-    "R",
-    "SUBAPPLICATION R SUBAPPS X:S; END_SUBAPPS END_SUBAPPLICATION",
-)];
+const OUTER: &[&str] = &["SUBAPPLICATION R SUBAPPS X:S; END_SUBAPPS END_SUBAPPLICATION"];
 
 fn large_text(alloc: Global) -> Result<String, Fail> {
     let mut text = String::new(alloc);
@@ -32,22 +26,15 @@ fn large_text(alloc: Global) -> Result<String, Fail> {
     Ok(text)
 }
 
-fn large_put(alloc: Global) -> Result<Vec<Change>, Fail> {
-    let text = large_text(alloc)?;
-    let source = Source::read(alloc, Name::read("S")?, &text)?;
-    let mut changes = Vec::new(alloc);
-    changes.push(Change::Put { base: 0, source })?;
-    Ok(changes)
-}
-
-// a commit that makes no thousand allocations
-fn commit(alloc: Global, bench: &mut Bench, changes: &[Change]) -> Result<(), Fail> {
+// Commits, which makes no thousand allocations, and does the first job then.
+fn commit(alloc: Global, bench: &mut Bench, texts: &[&str]) -> Result<(), Fail> {
+    let changes = puts(alloc, 0, texts)?;
     refuse(alloc, THOUSANDTH);
-    let is_done = matches!(bench.commit(1, changes), Ok(Committed::Done(_)));
+    let is_done = matches!(bench.commit(1, &changes), Ok(Committed::Done(_)));
     if was_refused(alloc) || !is_done {
         return Err(Fail::from("a commit"));
     }
-    Ok(())
+    work(alloc, bench)
 }
 
 // the job of a take that makes no thousand allocations
@@ -63,16 +50,6 @@ fn take(alloc: Global, bench: &mut Bench) -> Result<Job, Fail> {
     }
 }
 
-// a result whose delivery makes no thousand allocations
-fn deliver(alloc: Global, bench: &mut Bench, finished: &Finished) -> Result<(), Fail> {
-    refuse(alloc, THOUSANDTH);
-    let is_accepted = matches!(bench.deliver(1, finished), Ok(Delivered::Accepted));
-    if was_refused(alloc) || !is_accepted {
-        return Err(Fail::from("a result"));
-    }
-    Ok(())
-}
-
 // Runs a job of which that allocation is refused, and then with ample memory. Whether it was refused: just then the job finds no memory.
 fn run(alloc: Global, job: &Job) -> Result<(bool, Finished), Fail> {
     refuse(alloc, THOUSANDTH);
@@ -84,38 +61,28 @@ fn run(alloc: Global, job: &Job) -> Result<(bool, Finished), Fail> {
     Ok((is_refused, job.run(alloc)?))
 }
 
-// the net of the large subapplication, and whether its job was refused an allocation
-fn work_large(alloc: Global, bench: &mut Bench) -> Result<bool, Fail> {
-    let changes = large_put(alloc)?;
-    commit(alloc, bench, &changes)?;
-    work(alloc, bench)?;
+// Does the next job. Its delivery makes no thousand allocations. Whether the job was refused one.
+fn settle(alloc: Global, bench: &mut Bench) -> Result<bool, Fail> {
     let job = take(alloc, bench)?;
     let (is_refused, finished) = run(alloc, &job)?;
-    deliver(alloc, bench, &finished)?;
+    refuse(alloc, THOUSANDTH);
+    let is_accepted = matches!(bench.deliver(1, &finished), Ok(Delivered::Accepted));
+    if was_refused(alloc) || !is_accepted {
+        return Err(Fail::from("a result"));
+    }
     Ok(is_refused)
 }
 
-// how many nets the job for the outer subapplication takes along
-fn take_outer(alloc: Global, bench: &mut Bench) -> Result<usize, Fail> {
-    let changes = puts(alloc, 0, OUTER)?;
-    commit(alloc, bench, &changes)?;
-    work(alloc, bench)?;
-    let job = take(alloc, bench)?;
-    Ok(job.hints().len())
-}
-
-fn work_all(alloc: Global, bench: &mut Bench) -> Result<(bool, usize), Fail> {
-    let changes = puts(alloc, 0, TYPE)?;
-    commit(alloc, bench, &changes)?;
-    work(alloc, bench)?;
-    let is_refused = work_large(alloc, bench)?;
-    Ok((is_refused, take_outer(alloc, bench)?))
-}
-
+// Whether the job for the net of the large subapplication was refused an allocation, and how many nets that for the outer one takes along.
 fn worked(alloc: Global) -> Result<(bool, usize), Fail> {
     let limits = Limits::new(3, 100).ok_or("limits")?;
     let mut bench = Bench::new(alloc, limits);
-    work_all(alloc, &mut bench)
+    commit(alloc, &mut bench, TYPE)?;
+    let text = large_text(alloc)?;
+    commit(alloc, &mut bench, &[text.as_str()])?;
+    let is_refused = settle(alloc, &mut bench)?;
+    commit(alloc, &mut bench, OUTER)?;
+    Ok((is_refused, take(alloc, &mut bench)?.hints().len()))
 }
 
 #[test]

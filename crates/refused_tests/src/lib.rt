@@ -11,8 +11,6 @@ mod making;
 #[cfg(test)]
 mod nest;
 #[cfg(test)]
-mod owned;
-#[cfg(test)]
 mod owners;
 #[cfg(test)]
 mod refused;

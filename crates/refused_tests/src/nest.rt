@@ -1,43 +1,28 @@
 //! A nest of subapplications of which half the values are known, and what is handed to the five calls on its workbench.
 use fb_bench::{Bench, Limits, Taken};
-use fb_jobs::{Finished, Job, Key, Kind};
+use fb_jobs::{Finished, Key, Kind};
 use fb_shared::library::Change;
 use fb_shared::parse::Source;
 use fb_text::Name;
 use std::alloc::Global;
 use std::test::Fail;
 
-/// A unit and its text.
-pub(crate) type Row = (&'static str, &'static str);
-
 // Subapplications in one another, and a system that maps the outer one.
-const NEST: &[Row] = &[
-    (
-        "T",
-        "FUNCTION_BLOCK T EVENT_INPUT I; END_EVENT END_FUNCTION_BLOCK",
-    ),
-    (
-        "INNER",
-        "SUBAPPLICATION INNER EVENT_INPUT E; END_EVENT FBS X:T; END_FBS EVENT_CONNECTIONS E TO X.I; END_CONNECTIONS END_SUBAPPLICATION",
-    ),
-    (
-        "OUTER",
-        "SUBAPPLICATION OUTER SUBAPPS Y:INNER; END_SUBAPPS END_SUBAPPLICATION",
-    ),
-    (
-        "Z",
-        "SYSTEM Z APPLICATION APP SUBAPPS SUB:OUTER; END_SUBAPPS END_APPLICATION DEVICE D:DT RESOURCE R:RT END_RESOURCE END_DEVICE MAPPINGS APP.SUB ON D.R; END_MAPPINGS END_SYSTEM",
-    ),
+const NEST: &[&str] = &[
+    "FUNCTION_BLOCK T EVENT_INPUT I; END_EVENT END_FUNCTION_BLOCK",
+    "SUBAPPLICATION INNER EVENT_INPUT E; END_EVENT FBS X:T; END_FBS EVENT_CONNECTIONS E TO X.I; END_CONNECTIONS END_SUBAPPLICATION",
+    "SUBAPPLICATION OUTER SUBAPPS Y:INNER; END_SUBAPPS END_SUBAPPLICATION",
+    "SYSTEM Z APPLICATION APP SUBAPPS SUB:OUTER; END_SUBAPPS END_APPLICATION DEVICE D:DT RESOURCE R:RT END_RESOURCE END_DEVICE MAPPINGS APP.SUB ON D.R; END_MAPPINGS END_SYSTEM",
 ];
 
 /// Two blocks without faults.
-pub(crate) const PLAIN: &[Row] = &[
-    ("A", "FUNCTION_BLOCK A END_FUNCTION_BLOCK"),
-    ("B", "FUNCTION_BLOCK B END_FUNCTION_BLOCK"),
+pub(crate) const PLAIN: &[&str] = &[
+    "FUNCTION_BLOCK A END_FUNCTION_BLOCK",
+    "FUNCTION_BLOCK B END_FUNCTION_BLOCK",
 ];
 
 // The innermost type without its event.
-const CHANGED: &[Row] = &[("T", "FUNCTION_BLOCK T END_FUNCTION_BLOCK")];
+const CHANGED: &[&str] = &["FUNCTION_BLOCK T END_FUNCTION_BLOCK"];
 
 /// This number of calls come before: the commit, and two for each of the five jobs. The nets of the outer subapplication and of the system, and
 /// the plan, are left.
@@ -45,35 +30,23 @@ pub(crate) const BEFORE: u64 = 11;
 
 const JOBS: u32 = 5;
 
-// Adds a change that puts a unit, which stands at this revision.
-fn put(alloc: Global, changes: &mut Vec<Change>, base: u64, row: &Row) -> Result<(), Fail> {
-    let (unit, text) = *row;
-    let source = Source::read(alloc, Name::read(unit)?, text)?;
-    changes.push(Change::Put { base, source })?;
-    Ok(())
-}
-
-/// Changes that put units, which are at this revision.
-pub(crate) fn puts(alloc: Global, base: u64, rows: &[Row]) -> Result<Vec<Change>, Fail> {
+/// Changes that put units with these texts, which are at this revision. The name of a unit is the second word of its text.
+pub(crate) fn puts(alloc: Global, base: u64, texts: &[&str]) -> Result<Vec<Change>, Fail> {
     let mut changes = Vec::new(alloc);
-    for row in rows {
-        put(alloc, &mut changes, base, row)?;
+    for text in texts {
+        let unit = text.split_whitespace().nth(1).ok_or("no name")?;
+        let source = Source::read(alloc, Name::read(unit)?, text)?;
+        changes.push(Change::Put { base, source })?;
     }
     Ok(changes)
 }
 
-// The next job of a workbench.
-fn job_of(bench: &mut Bench) -> Result<Job, Fail> {
-    match bench.take(1)? {
-        Taken::Job(job) => Ok(job),
-        Taken::Nothing => Err(Fail::from("no job")),
-    }
-}
-
 // The result of the next job of a workbench.
 fn result_of(alloc: Global, bench: &mut Bench) -> Result<Finished, Fail> {
-    let job = job_of(bench)?;
-    Ok(job.run(alloc)?)
+    match bench.take(1)? {
+        Taken::Job(job) => Ok(job.run(alloc)?),
+        Taken::Nothing => Err(Fail::from("no job")),
+    }
 }
 
 /// Takes a job, runs it and delivers the result.
@@ -83,21 +56,14 @@ pub(crate) fn work(alloc: Global, bench: &mut Bench) -> Result<(), Fail> {
     Ok(())
 }
 
-// Commits the nest, and does half of its jobs.
-fn begin(alloc: Global, bench: &mut Bench) -> Result<(), Fail> {
-    let changes = puts(alloc, 0, NEST)?;
-    bench.commit(1, &changes)?;
-    for _ in 0..JOBS {
-        work(alloc, bench)?;
-    }
-    Ok(())
-}
-
 /// A workbench with the nest half done, and with room for this number of records.
 pub(crate) fn begun(alloc: Global, history: u64) -> Result<Bench, Fail> {
     let limits = Limits::new(5, history).ok_or("limits")?;
     let mut bench = Bench::new(alloc, limits);
-    begin(alloc, &mut bench)?;
+    bench.commit(1, &puts(alloc, 0, NEST)?)?;
+    for _ in 0..JOBS {
+        work(alloc, &mut bench)?;
+    }
     Ok(bench)
 }
 
@@ -111,16 +77,13 @@ pub(crate) enum Which {
     Ask,
 }
 
-/// A call, and what it is of.
-pub(crate) type Call = (Which, &'static str);
-
-/// The five calls.
-pub(crate) const CALLS: &[Call] = &[
-    (Which::Commit, " of a commit"),
-    (Which::Take, " of a take"),
-    (Which::Deliver, " of a result"),
-    (Which::GiveBack, " of a key given back"),
-    (Which::Ask, " of a question"),
+/// The five calls, each with its function and what it is of.
+pub(crate) const CALLS: &[(Which, &str, &str)] = &[
+    (Which::Commit, "::commit", " of a commit"),
+    (Which::Take, "::take", " of a take"),
+    (Which::Deliver, "::deliver", " of a result"),
+    (Which::GiveBack, "::give_back", " of a key given back"),
+    (Which::Ask, "::ask", " of a question"),
 ];
 
 /// A workbench for such a call, where a key is handed out if it must be given back.
@@ -140,21 +103,18 @@ pub(crate) struct Given {
     pub(crate) key: Key,
 }
 
-fn result_elsewhere(alloc: Global) -> Result<Finished, Fail> {
-    let mut bench = begun(alloc, 100)?;
-    result_of(alloc, &mut bench)
-}
-
 /// What is handed to the calls.
 pub(crate) fn given_for(alloc: Global) -> Result<Given, Fail> {
+    let mut bench = begun(alloc, 100)?;
+    let finished = result_of(alloc, &mut bench)?;
+    let changes = puts(alloc, 1, CHANGED)?;
     let key = Key {
         kind: Kind::Net,
         unit: Name::read("OUTER")?,
     };
-    let changes = puts(alloc, 1, CHANGED)?;
     Ok(Given {
-        finished: result_elsewhere(alloc)?,
         changes,
+        finished,
         key,
     })
 }

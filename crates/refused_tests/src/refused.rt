@@ -1,5 +1,5 @@
 //! The calls of a workbench of one thread, of which each allocation is refused in turn.
-use crate::nest::{CALLS, Call, Given, Which, bench_for, given_for};
+use crate::nest::{CALLS, Given, Which, bench_for, given_for};
 use crate::told::bench_told;
 use crate::ways::{Answer, Way, made};
 use fb_bench::{Bench, CheckpointError, Limits, Refused};
@@ -48,59 +48,29 @@ impl<'a> Trial for Recorded<'a> {
     }
 }
 
-fn try_alone(rt: &impl Print, alloc: Global, given: &Given) -> Result<(), Fail> {
-    let way = Way::Alone;
-    try_call::<Recorded<'_>>(rt, alloc, "Bench::commit", "", (Which::Commit, way, given))?;
-    try_call::<Recorded<'_>>(rt, alloc, "Bench::take", "", (Which::Take, way, given))?;
-    try_call::<Recorded<'_>>(
-        rt,
-        alloc,
-        "Bench::deliver",
-        "",
-        (Which::Deliver, way, given),
-    )?;
-    try_call::<Recorded<'_>>(
-        rt,
-        alloc,
-        "Bench::give_back",
-        "",
-        (Which::GiveBack, way, given),
-    )?;
-    try_call::<Recorded<'_>>(rt, alloc, "Bench::ask", "", (Which::Ask, way, given))
-}
-
-fn try_requests(rt: &impl Print, alloc: Global, given: &Given, calls: &[Call]) -> Result<(), Fail> {
-    for (which, about) in calls {
-        let setting = (*which, Way::AsRequest, given);
-        try_call::<Recorded<'_>>(rt, alloc, "Bench::perform", about, setting)?;
-    }
-    Ok(())
-}
-
-fn try_desk(rt: &impl Print, alloc: Global, given: &Given, calls: &[Call]) -> Result<(), Fail> {
-    for (which, about) in calls {
-        let setting = (*which, Way::AtDesk, given);
-        try_call::<Recorded<'_>>(rt, alloc, "Solo::perform", about, setting)?;
+// Tries each of the five calls in this way: by a function of its own, or by the one for all of them.
+fn try_all(rt: &impl Print, alloc: Global, owner: &str, way: Way) -> Result<(), Fail> {
+    let (given, is_alone) = (given_for(alloc)?, matches!(way, Way::Alone));
+    for (which, function, about) in CALLS {
+        let about = if is_alone { function } else { about };
+        try_call::<Recorded<'_>>(rt, alloc, owner, about, (*which, way, &given))?;
     }
     Ok(())
 }
 
 #[test]
 fn calls_alone(rt: HostRuntime) -> Result<(), Fail> {
-    let given = given_for(rt.alloc())?;
-    try_alone(&rt, rt.alloc(), &given)
+    try_all(&rt, rt.alloc(), "Bench", Way::Alone)
 }
 
 #[test]
 fn calls_as_requests(rt: HostRuntime) -> Result<(), Fail> {
-    let given = given_for(rt.alloc())?;
-    try_requests(&rt, rt.alloc(), &given, CALLS)
+    try_all(&rt, rt.alloc(), "Bench::perform", Way::AsRequest)
 }
 
 #[test]
 fn calls_at_a_desk(rt: HostRuntime) -> Result<(), Fail> {
-    let given = given_for(rt.alloc())?;
-    try_desk(&rt, rt.alloc(), &given, CALLS)
+    try_all(&rt, rt.alloc(), "Solo::perform", Way::AtDesk)
 }
 
 /// A workbench with pending keys, one of which is handed out, and the number of calls before its checkpoint.

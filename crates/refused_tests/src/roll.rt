@@ -1,9 +1,9 @@
 //! A history that begins again, and a key that is given back for a session that ended, of which each allocation is refused in turn.
-use crate::nest::{BEFORE, Given, Which, begun, bench_for, given_for};
-use crate::owners::{owner_for, taken_over};
+use crate::nest::{BEFORE, Given, Which, begun, given_for};
+use crate::owners::{Owner, Session, owner_for, taken_over};
 use crate::told::bench_told;
 use fb_bench::{CheckpointError, Limits};
-use fb_shared::{Locked, Receipt, Seat, Shared, SharedRefused};
+use fb_shared::{Locked, Seat, Shared};
 use refusing::{Trial, try_call};
 use std::alloc::Global;
 use std::io::Print;
@@ -40,91 +40,53 @@ fn a_history_begins_anew(rt: HostRuntime) -> Result<(), Fail> {
     try_call::<Rolled>(&rt, rt.alloc(), "Locked::make_room", "", limits)
 }
 
-/// A workbench of which a key is out, and the seat of a session that ended.
+/// What holds a workbench of which a key is out, and the session that took it.
 #[derive(Drop)]
-struct Returned<'a> {
+struct Held<'a, R: Wait, T: Owner> {
+    rt: &'a R,
     given: &'a Given,
-    locked: Locked,
-    seat: Seat,
-    receipts: Vec<Receipt>,
+    owner: T,
+    session: Session,
 }
 
-impl<'a> Trial for Returned<'a> {
-    type Setting = &'a Given;
+impl<'a, R: Wait, T: Owner> Trial for Held<'a, R, T> {
+    type Setting = (&'a R, &'a Given);
 
-    fn new(alloc: Global, given: &'a Given) -> Result<Returned<'a>, Fail> {
-        let bench = bench_for(alloc, Which::GiveBack)?;
-        let (locked, mut seats) = taken_over::<Locked>(alloc, bench)?;
-        Ok(Returned {
-            given,
-            locked,
+    fn new(alloc: Global, setting: (&'a R, &'a Given)) -> Result<Held<'a, R, T>, Fail> {
+        let (rt, given) = setting;
+        let (owner, mut seats) = owner_for::<T>(alloc, Which::GiveBack)?;
+        let session = Session {
             seat: seats.pop().ok_or("no seat")?,
             receipts: Vec::new(alloc),
+        };
+        Ok(Held {
+            rt,
+            given,
+            owner,
+            session,
         })
     }
 
     fn call(&mut self, _alloc: Global) -> bool {
-        let key = self.given.key;
-        let answer = self
-            .locked
-            .return_held(&mut self.seat, &mut self.receipts, key, BEFORE + 1);
-        answer != Err(SharedRefused::Memory)
+        let (rt, given) = (self.rt, self.given);
+        self.owner.gives_back(rt, &mut self.session, given.key)
     }
 
     fn told(&self, alloc: Global) -> Result<String, Fail> {
-        let mut told = bench_told(alloc, self.locked.bench())?;
-        let (turns, seen, kept) = (self.seat.turns(), self.seat.seen(), self.receipts.len());
-        write!(told, "\n{turns} {seen} {kept}")?;
+        let (mut told, seat) = (self.owner.shown(alloc)?, &self.session.seat);
+        write!(told, "\n{seat:?} {}", self.session.receipts.len())?;
         Ok(told)
     }
 }
 
+fn try_held<R: Wait + Print, T: Owner>(rt: &R, alloc: Global, function: &str) -> Result<(), Fail> {
+    let given = given_for(alloc)?;
+    try_call::<Held<'_, R, T>>(rt, alloc, function, "", (rt, &given))
+}
+
 #[test]
 fn a_held_key_is_given_back(rt: HostRuntime) -> Result<(), Fail> {
-    let given = given_for(rt.alloc())?;
-    try_call::<Returned<'_>>(&rt, rt.alloc(), "Locked::return_held", "", &given)
-}
-
-/// A shared workbench, the seat of a session that ended, whose key is out, and its receipts.
-#[derive(Drop)]
-struct Held<'a, R: Wait> {
-    rt: &'a R,
-    given: &'a Given,
-    shared: Shared,
-    seat: Seat,
-    receipts: Vec<Receipt>,
-}
-
-impl<'a, R: Wait> Trial for Held<'a, R> {
-    type Setting = (&'a R, &'a Given);
-
-    fn new(alloc: Global, setting: (&'a R, &'a Given)) -> Result<Held<'a, R>, Fail> {
-        let (rt, given) = setting;
-        let (shared, mut seats) = owner_for::<Shared>(alloc, Which::GiveBack)?;
-        Ok(Held {
-            rt,
-            given,
-            shared,
-            seat: seats.pop().ok_or("no seat")?,
-            receipts: Vec::new(alloc),
-        })
-    }
-
-    fn call(&mut self, _alloc: Global) -> bool {
-        let answer = self.shared.give_back_held(
-            self.rt,
-            &mut self.seat,
-            &mut self.receipts,
-            self.given.key,
-            BEFORE + 1,
-        );
-        answer != Err(SharedRefused::Memory)
-    }
-
-    fn told(&self, alloc: Global) -> Result<String, Fail> {
-        let (seat, kept) = (&self.seat, self.receipts.len());
-        Ok(format!(in alloc; "{seat:?} {kept}")?)
-    }
+    try_held::<_, Locked>(&rt, rt.alloc(), "Locked::return_held")
 }
 
 /// A shared workbench whose history is full and begins again with the next call, and its seat.
@@ -155,9 +117,8 @@ impl<'a, R: Wait> Trial for Anew<'a, R> {
 
     /// Without memory to begin again the history is still full.
     fn call(&mut self, _alloc: Global) -> bool {
-        self.shared
-            .ask(self.rt, &mut self.seat, self.given.key)
-            .is_ok()
+        let (rt, given) = (self.rt, self.given);
+        self.shared.ask(rt, &mut self.seat, given.key).is_ok()
     }
 
     fn told(&self, alloc: Global) -> Result<String, Fail> {
@@ -166,19 +127,13 @@ impl<'a, R: Wait> Trial for Anew<'a, R> {
     }
 }
 
-fn try_shared<R: Wait + Print>(rt: &R, alloc: Global, given: &Given) -> Result<(), Fail> {
-    try_call::<Held<'_, R>>(rt, alloc, "Shared::give_back_held", "", (rt, given))?;
-    try_call::<Anew<'_, R>>(
-        rt,
-        alloc,
-        "Shared::ask",
-        " of a history that begins anew",
-        (rt, given),
-    )
+fn try_anew<R: Wait + Print>(rt: &R, alloc: Global) -> Result<(), Fail> {
+    let (given, about) = (given_for(alloc)?, " of a history that begins anew");
+    try_call::<Anew<'_, R>>(rt, alloc, "Shared::ask", about, (rt, &given))
 }
 
 #[test]
 fn a_shared_history_begins_anew(rt: HostRuntime) -> Result<(), Fail> {
-    let given = given_for(rt.alloc())?;
-    try_shared(&rt, rt.alloc(), &given)
+    try_held::<_, Shared>(&rt, rt.alloc(), "Shared::give_back_held")?;
+    try_anew(&rt, rt.alloc())
 }

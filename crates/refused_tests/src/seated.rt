@@ -1,14 +1,81 @@
-//! The five calls at the desk of a seat, of which each allocation is refused in turn.
-use crate::nest::{CALLS, Call, Given, Which, given_for};
-use crate::owners::{both_of, owner_for};
+//! The calls with two seats, with the lock and without, and at the desk of a seat, of which each allocation is refused in turn.
+use crate::nest::{CALLS, Given, Which, given_for};
+use crate::owners::{Outcome, Owner, both_of, owner_for};
 use crate::ways::{Answer, made_at};
 use fb_bench::DeskError;
-use fb_shared::{Seat, Seated, Shared};
+use fb_shared::{Locked, Seat, Seated, Shared, SharedRefused};
 use refusing::{Trial, try_call};
 use std::alloc::Global;
 use std::io::Print;
 use std::sync::Wait;
 use std::test::Fail;
+
+/// A call, the workbench that it is made on, the seats, and its result.
+#[derive(Drop)]
+struct Called<'a, R: Wait, T: Owner> {
+    rt: &'a R,
+    which: Which,
+    given: &'a Given,
+    owner: T,
+    first: Seat,
+    second: Seat,
+    outcome: Option<Outcome>,
+}
+
+impl<'a, R: Wait, T: Owner> Trial for Called<'a, R, T> {
+    type Setting = (&'a R, Which, &'a Given);
+
+    fn new(alloc: Global, setting: (&'a R, Which, &'a Given)) -> Result<Called<'a, R, T>, Fail> {
+        let (rt, which, given) = setting;
+        let (owner, seats) = owner_for::<T>(alloc, which)?;
+        let (first, second) = both_of(seats).ok_or("no two seats")?;
+        Ok(Called {
+            rt,
+            which,
+            given,
+            owner,
+            first,
+            second,
+            outcome: None,
+        })
+    }
+
+    fn call(&mut self, _alloc: Global) -> bool {
+        let (rt, which, given) = (self.rt, self.which, self.given);
+        let outcome = self.owner.answer(rt, which, &mut self.first, given);
+        if outcome == Err(SharedRefused::Memory) {
+            return false;
+        }
+        self.outcome = Some(outcome);
+        true
+    }
+
+    fn told(&self, alloc: Global) -> Result<String, Fail> {
+        let mut told = self.owner.shown(alloc)?;
+        let (first, second, outcome) = (&self.first, &self.second, self.outcome);
+        write!(told, "\n{first:?} {second:?} {outcome:?}")?;
+        Ok(told)
+    }
+}
+
+// Tries each of the five calls, whose functions are those of this owner.
+fn try_all<R: Wait + Print, T: Owner>(rt: &R, alloc: Global, owner: &str) -> Result<(), Fail> {
+    let given = given_for(alloc)?;
+    for (which, function, _) in CALLS {
+        try_call::<Called<'_, R, T>>(rt, alloc, owner, function, (rt, *which, &given))?;
+    }
+    Ok(())
+}
+
+#[test]
+fn calls_with_no_lock(rt: HostRuntime) -> Result<(), Fail> {
+    try_all::<_, Locked>(&rt, rt.alloc(), "Locked")
+}
+
+#[test]
+fn calls_under_the_lock(rt: HostRuntime) -> Result<(), Fail> {
+    try_all::<_, Shared>(&rt, rt.alloc(), "Shared")
+}
 
 /// A call, the workbench that it is made on, the seat, which is there between the calls, what it answered, and how many receipts it left.
 #[derive(Drop)]
@@ -20,33 +87,6 @@ struct OfSeated<'a, R: Wait> {
     seat: Option<Seat>,
     answer: Option<Result<Answer, DeskError>>,
     receipts: usize,
-}
-
-// What a call at a desk comes to, the seat, and how many receipts it left.
-type Sat = (Result<Answer, DeskError>, Seat, usize);
-
-fn sit<R: Wait>(
-    rt: &R,
-    alloc: Global,
-    shared: &Shared,
-    seat: Seat,
-    which: Which,
-    given: &Given,
-) -> Sat {
-    let mut desk = Seated {
-        rt,
-        shared,
-        seat,
-        receipts: Vec::new(alloc),
-    };
-    let answer = made_at(which, &mut desk, given);
-    let Seated {
-        rt: _,
-        shared: _,
-        seat,
-        receipts,
-    } = desk;
-    (answer, seat, receipts.len())
 }
 
 impl<'a, R: Wait> Trial for OfSeated<'a, R> {
@@ -71,16 +111,21 @@ impl<'a, R: Wait> Trial for OfSeated<'a, R> {
         let Some(seat) = self.seat.take() else {
             return true;
         };
-        let (answer, seat, receipts) = sit(
-            self.rt,
-            alloc,
-            &self.owner,
+        let mut desk = Seated {
+            rt: self.rt,
+            shared: &self.owner,
             seat,
-            self.which,
-            self.given,
-        );
+            receipts: Vec::new(alloc),
+        };
+        let answer = made_at(self.which, &mut desk, self.given);
+        let Seated {
+            rt: _,
+            shared: _,
+            seat,
+            receipts,
+        } = desk;
         self.seat = Some(seat);
-        self.receipts = receipts;
+        self.receipts = receipts.len();
         if answer == Err(DeskError::Memory) {
             return false;
         }
@@ -94,14 +139,10 @@ impl<'a, R: Wait> Trial for OfSeated<'a, R> {
     }
 }
 
-fn try_all<R: Wait + Print>(
-    rt: &R,
-    alloc: Global,
-    given: &Given,
-    calls: &[Call],
-) -> Result<(), Fail> {
-    for (which, about) in calls {
-        let setting = (rt, *which, given);
+fn try_desk<R: Wait + Print>(rt: &R, alloc: Global) -> Result<(), Fail> {
+    let given = given_for(alloc)?;
+    for (which, _, about) in CALLS {
+        let setting = (rt, *which, &given);
         try_call::<OfSeated<'_, R>>(rt, alloc, "Seated::perform", about, setting)?;
     }
     Ok(())
@@ -109,6 +150,5 @@ fn try_all<R: Wait + Print>(
 
 #[test]
 fn calls_at_a_seat(rt: HostRuntime) -> Result<(), Fail> {
-    let given = given_for(rt.alloc())?;
-    try_all(&rt, rt.alloc(), &given, CALLS)
+    try_desk(&rt, rt.alloc())
 }

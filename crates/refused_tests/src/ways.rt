@@ -1,7 +1,7 @@
 //! The ways to make one of the five calls on a workbench of one thread and at a desk, and what it answers.
 use crate::nest::{Given, Which};
-use crate::told::{asked_word, committed_word, returned_word};
-use fb_bench::{Answered, Bench, Delivered, Desk, DeskError, Refused, Request, Solo, Taken};
+use crate::told::{committed_word, returned_word};
+use fb_bench::{Answered, Asked, Bench, Delivered, Desk, DeskError, Refused, Request, Solo, Taken};
 use fb_jobs::Finished;
 use fb_shared::library::Change;
 
@@ -18,27 +18,17 @@ pub(crate) enum Way {
 /// What a call answers, in a word, with how many units a job has read and how many hints it has.
 pub(crate) type Answer = (&'static str, usize, usize);
 
-fn taken_answer(taken: &Taken) -> Answer {
-    match taken {
-        Taken::Job(job) => ("job", job.reads().len(), job.hints().len()),
-        Taken::Nothing => ("nothing", 0, 0),
-    }
-}
-
-fn delivered_word(answer: &Delivered) -> &'static str {
-    match answer {
-        Delivered::Accepted => "accepted",
-        _ => "not accepted",
-    }
-}
-
 fn answer_of(answered: &Answered) -> Answer {
     match answered {
         Answered::Commit(answer) => (committed_word(answer), 0, 0),
-        Answered::Take(taken) => taken_answer(taken),
-        Answered::Deliver(answer) => (delivered_word(answer), 0, 0),
+        Answered::Take(Taken::Job(job)) => ("job", job.reads().len(), job.hints().len()),
+        Answered::Take(Taken::Nothing) => ("nothing", 0, 0),
+        Answered::Deliver(Delivered::Accepted) => ("accepted", 0, 0),
+        Answered::Deliver(_) => ("not accepted", 0, 0),
         Answered::GiveBack(answer) => (returned_word(answer), 0, 0),
-        Answered::Ask(answer) => (asked_word(answer), 0, 0),
+        Answered::Ask(Asked::Value(_)) => ("value", 0, 0),
+        Answered::Ask(Asked::Pending) => ("pending", 0, 0),
+        Answered::Ask(Asked::NoSuchKey) => ("no key", 0, 0),
     }
 }
 

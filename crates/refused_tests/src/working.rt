@@ -8,40 +8,18 @@ use std::alloc::Global;
 use std::sync::Wait;
 use std::test::Fail;
 
-/// How many jobs were taken, whose results were taken in, and were given back.
-#[derive(Clone, Copy)]
-struct Jobs {
-    taken: u64,
-    accepted: u64,
-    returned: u64,
-}
-
-fn is_taken(reply: &Reply) -> bool {
-    matches!(reply, Reply::Job(_))
-}
-
-fn is_accepted(reply: &Reply) -> bool {
-    matches!(reply, Reply::Accepted)
-}
-
-fn is_returned(reply: &Reply) -> bool {
-    matches!(reply, Reply::GivenBack(GivenBack::Returned))
-}
-
-// what the receipts tell of jobs
-fn jobs_of(receipts: &[Receipt]) -> Jobs {
+// how many jobs were taken, of how many the results were taken in, and how many were given back
+fn jobs_of(receipts: &[Receipt]) -> (u64, u64, u64) {
     let (mut taken, mut accepted, mut returned) = (0u64, 0u64, 0u64);
     for receipt in receipts {
-        let reply = receipt.reply();
-        taken = taken.saturating_add(u64::from(is_taken(reply)));
-        accepted = accepted.saturating_add(u64::from(is_accepted(reply)));
-        returned = returned.saturating_add(u64::from(is_returned(reply)));
+        match receipt.reply() {
+            Reply::Job(_) => taken = taken.saturating_add(1),
+            Reply::Accepted => accepted = accepted.saturating_add(1),
+            Reply::GivenBack(GivenBack::Returned) => returned = returned.saturating_add(1),
+            _ => {}
+        }
     }
-    Jobs {
-        taken,
-        accepted,
-        returned,
-    }
+    (taken, accepted, returned)
 }
 
 // whether no job is out, and another worker does what is left of two
@@ -52,102 +30,48 @@ fn is_done_by_another<R: Wait>(
     seat: &mut Seat,
     receipts: &mut Vec<Receipt>,
 ) -> bool {
-    let jobs = jobs_of(receipts);
-    if jobs.taken != jobs.accepted.saturating_add(jobs.returned) {
+    let (taken, accepted, returned) = jobs_of(receipts);
+    if taken != accepted.saturating_add(returned) {
         return false;
     }
-    let left = 2u64.saturating_sub(jobs.accepted);
+    let left = 2u64.saturating_sub(accepted);
     let end = work_on(rt, alloc, shared, seat, receipts, &Plain, left);
-    end == WorkEnd::TurnsOver && jobs_of(receipts).accepted == 2
+    end == WorkEnd::TurnsOver && jobs_of(receipts).1 == 2
 }
 
-/// How a worker ended, whether an allocation was refused, and whether another one did what was left.
-#[derive(Clone, Copy)]
-struct Worked {
-    end: WorkEnd,
-    is_refused: bool,
-    is_done: bool,
-}
-
-// two turns of a worker, of which the allocation of this number is refused, and those of another
-fn work_without<R: Wait>(
-    rt: &R,
-    alloc: Global,
-    shared: &Shared,
-    first: &mut Seat,
-    second: &mut Seat,
-    receipts: &mut Vec<Receipt>,
-    number: u32,
-) -> Worked {
-    refuse(alloc, number);
-    let end = work_on(rt, alloc, shared, second, receipts, &Plain, 2);
-    let is_refused = was_refused(alloc);
-    Worked {
-        end,
-        is_refused,
-        is_done: is_done_by_another(rt, alloc, shared, first, receipts),
-    }
-}
-
-// the first commits two units, which the second judges
-fn commit_and_work<R: Wait>(
-    rt: &R,
-    alloc: Global,
-    shared: &Shared,
-    first: &mut Seat,
-    second: &mut Seat,
-    receipts: &mut Vec<Receipt>,
-    number: u32,
-) -> Result<Worked, Fail> {
-    let changes = puts(alloc, 0, PLAIN)?;
-    receipts.push(shared.commit(rt, first, &changes)?)?;
-    Ok(work_without(rt, alloc, shared, first, second, receipts, number))
-}
-
-// a shared workbench, and the seats of its two callers
-fn new_shared(alloc: Global) -> Option<(Shared, Seat, Seat)> {
-    let (shared, seats) = Shared::new(alloc, Limits::new(4, 1000)?, 2).ok()?;
-    let (first, second) = both_of(seats)?;
-    Some((shared, first, second))
-}
-
-// the same on a new workbench, and whether that then closes with all receipts
-fn work_anew<R: Wait>(rt: &R, alloc: Global, number: u32) -> Result<(Worked, bool), Fail> {
-    let (shared, mut first, mut second) = new_shared(alloc).ok_or("no workbench")?;
+// The first caller commits two units, and a worker has two turns with the second seat, of which the allocation of this number is refused. How the worker
+// ends, whether it was refused, and whether another one does what is left and the workbench closes with all receipts.
+fn work_anew<R: Wait>(rt: &R, alloc: Global, number: u32) -> Result<(WorkEnd, bool, bool), Fail> {
+    let limits = Limits::new(4, 1000).ok_or("limits")?;
+    let (shared, seats) = Shared::new(alloc, limits, 2)?;
+    let (mut first, mut second) = both_of(seats).ok_or("no two seats")?;
     let mut receipts = Vec::new(alloc);
-    let worked = commit_and_work(
-        rt,
-        alloc,
-        &shared,
-        &mut first,
-        &mut second,
-        &mut receipts,
-        number,
-    )?;
+    receipts.push(shared.commit(rt, &mut first, &puts(alloc, 0, PLAIN)?)?)?;
+    refuse(alloc, number);
+    let end = work_on(rt, alloc, &shared, &mut second, &mut receipts, &Plain, 2);
+    let is_refused = was_refused(alloc);
+    let is_done = is_done_by_another(rt, alloc, &shared, &mut first, &mut receipts);
     let seats = pair(alloc, first, second).ok_or("no seats")?;
-    Ok((worked, shared.close(alloc, seats, &receipts).is_ok()))
+    let is_closed = shared.close(alloc, seats, &receipts).is_ok();
+    Ok((end, is_refused, is_done && is_closed))
 }
 
 // A worker has used its turns, or found no memory where an allocation was refused.
-fn is_right(worked: Worked, is_closed: bool) -> bool {
-    let is_memory = worked.is_refused && worked.end == WorkEnd::Memory;
-    is_closed && worked.is_done && (is_memory || worked.end == WorkEnd::TurnsOver)
-}
-
 fn each_refused<R: Wait>(rt: &R, alloc: Global) -> Result<Refusals, Fail> {
     let mut memory = 0u32;
     for number in 1..10_000u32 {
-        let (worked, is_closed) = work_anew(rt, alloc, number)?;
-        if !is_right(worked, is_closed) {
+        let (end, is_refused, is_right) = work_anew(rt, alloc, number)?;
+        let is_memory = end == WorkEnd::Memory;
+        if !is_right || !(is_refused && is_memory || end == WorkEnd::TurnsOver) {
             return Err(Fail::from("another end"));
         }
-        if !worked.is_refused {
+        if !is_refused {
             return Ok(Refusals {
                 allocations: number - 1,
                 memory,
             });
         }
-        memory = memory.saturating_add(u32::from(worked.end == WorkEnd::Memory));
+        memory = memory.saturating_add(u32::from(is_memory));
     }
     Err(Fail::from("ever more allocations"))
 }
@@ -155,6 +79,5 @@ fn each_refused<R: Wait>(rt: &R, alloc: Global) -> Result<Refusals, Fail> {
 #[test]
 fn a_worker_finds_no_memory(rt: HostRuntime) -> Result<(), Fail> {
     let found = each_refused(&rt, rt.alloc())?;
-    report(&rt, "work_on", "", found)?;
-    Ok(())
+    Ok(report(&rt, "work_on", "", found)?)
 }
