@@ -1,16 +1,15 @@
 -- What stands at the front of a text ends between two characters.
-use Rattle.std.proofs.Common.{◌≡◌, ◌≢◌, ℕ, zero, suc, ◌+◌, ◌-◌, ◌/◌, ◌<◌, ◌≤◌, Bool, true, false, not, cond, ◌&&◌, ◌||◌, ltb, List, [], ◌∷◌, ◌++◌, length, get_or, take, drop, sym, refl, ap, subst, ◌∙◌, arith, length-drop, length-take-le, Option, Some, None, ⊎_elim, lit<}
+use Rattle.std.proofs.Common.{◌≡◌, ◌≢◌, ℕ, zero, suc, ◌+◌, ◌-◌, ◌<◌, ◌≤◌, Bool, true, false, not, ◌&&◌, ◌||◌, ltb, List, [], ◌∷◌, ◌++◌, length, get_or, take, drop, sym, refl, ap, subst, ◌∙◌, arith, length-drop, length-take-le, Option, Some, None, ⊎_elim, lit<}
 use Rattle.std.proofs.lemmas.List.Sums.{prefix_len-le-length, prefix_len_stops}
 use Rattle.std.proofs.lemmas.Str.{IsCharBoundary-after_ascii, IsCharBoundary-before_ascii, IsCharBoundary-end, IsCharBoundary-at_seam}
 use Rattle.std.proofs.{Math.Utf8.{encode, encodes, scalar, scalars}, lemmas.Bool.Decides.{nat_tests}}
-use Rattle.std.proofs.{lemmas.Bool.{cond-true, cond-false, cond_both, and_parts, eqb-true, ltb-true, cases_lt}, lemmas.List.{get_or-drop, get_or-take}}
-use Rattle.std.specs.{Prelude.{◌==◌, codes, nat_eq, nat_lt, option_map, unwrap_or, IfSome}, List.{prefix_len, list_all, starts_with}, Char.{is_ascii_digit}}
+use Rattle.std.proofs.{lemmas.Bool.{cond_both, and_parts, eqb-true, ltb-true, cases_lt}, lemmas.List.{get_or-drop, get_or-take}, lemmas.Option.{same_Some}}
+use Rattle.std.specs.{Prelude.{◌==◌, codes, nat_eq, nat_lt, option_map, IfSome}, List.{prefix_len, list_all, starts_with}, Char.{is_ascii_digit}}
 use Rattle.std.specs.Str.{IsAscii, IsUtf8, IsCharBoundary, continuation_len}
 use Rattle.fb_text.specs.Bytes.{is_blank, is_word_start, is_word_byte, is_number_byte, is_sign, is_exponent_mark, is_line_end, is_quote, hash, point, escape, first}
-use Rattle.fb_text.specs.Words.{is_word}
 use Rattle.fb_text.specs.Forms.{are_some, sign_len, after_sign, is_exponent, is_fraction, is_number_tail, is_number, is_value_byte, are_value_bytes, is_value, is_typed_tail, is_typed, is_date, is_real, leading_word, after_word, is_string, is_string_rest, is_symbol, is_symbol_byte, is_symbol_pair, form_of, HasForm}
 use Rattle.fb_text.specs.Tokens.{of_kind, longest, token_or_char, token_at, char_len, before_close, comment_at, piece_at, IsPrefix, FitsIn, IsLongest}
-use Rattle.fb_text.specs.declared.token.TokenKind.TheVariants.{Other}
+use Rattle.fb_text.specs.declared.token.TokenKind.TheVariants.{Word, Number, Typed, String, Symbol, Other}
 use Rattle.fb_text.specs.{declared.token.TokenKind.{TokenKind}, declared.scan.Piece.{Piece}, declared.scan.Piece.TheVariants.{Gap, Unclosed, Found}}
 use Rattle.fb_text.proofs.{NameLemmas.{is_word_byte-ascii, is_word-ascii}, Longest.{by_test}, LongestForms.{prefix_len-pos}}
 use Rattle.fb_text.proofs.LongestToken.{any-byte, any-second}
@@ -37,34 +36,26 @@ ascii-run : (p : ℕ → Bool) → ((b : ℕ) → p b ≡ true → b < 128) → 
 ascii-run p low [] h = ascii-nil
 ascii-run p low (b ∷ bs) h =
     by_test (p b)
-    (λ e. ascii-cons b bs (low b e) (ascii-run p low bs (let one : cond (p b) (1 + prefix_len p bs) 0 ≡ suc (prefix_len p bs) = cond-true (p b) (1 + prefix_len p bs) 0 e ∙ (let s : 1 + prefix_len p bs ≡ suc (prefix_len p bs) = omega arith in s) in subst (λ n. IsAscii (drop n (b ∷ bs))) one h)))
-    (λ e. subst (λ n. IsAscii (drop n (b ∷ bs))) (cond-false (p b) (1 + prefix_len p bs) 0 e) h)
+    (λ e. let one : 1 + prefix_len p bs ≡ suc (prefix_len p bs) = omega arith in ascii-cons b bs (low b e) (ascii-run p low bs (rw (e, one) at h)))
+    (λ e. rw e at h)
 
 ascii-sign : (bs : List ℕ) → IsAscii (after_sign bs) → IsAscii bs
 unfolding sign_len is_sign
 ascii-sign [] h = ascii-nil
 ascii-sign (b ∷ bs) h =
     by_test (b == 43 || b == 45)
-    (λ e. ascii-cons b bs (grind (arith, nat_tests)) (subst (λ n. IsAscii (drop n (b ∷ bs))) (cond-true (b == 43 || b == 45) 1 0 e) h))
-    (λ e. subst (λ n. IsAscii (drop n (b ∷ bs))) (cond-false (b == 43 || b == 45) 1 0 e) h)
+    (λ e. ascii-cons b bs (grind (arith, nat_tests)) (rw e at h))
+    (λ e. rw e at h)
 
 digit-low : (b : ℕ) → is_ascii_digit b ≡ true → b < 128
 digit-low b h = grind (arith, nat_tests)
 
-number-byte-low : (b : ℕ) → is_number_byte b ≡ true → b < 128
-unfolding is_number_byte
-number-byte-low b h = grind (arith, nat_tests)
-
-mark-low : (b : ℕ) → is_exponent_mark b ≡ true → b < 128
-unfolding is_exponent_mark
-mark-low b h = grind (arith, nat_tests)
-
 exponent-ascii : (bs : List ℕ) → is_exponent bs ≡ true → IsAscii bs
-unfolding is_exponent
+unfolding is_exponent is_exponent_mark
 exponent-ascii [] h = ascii-nil
 exponent-ascii (b ∷ bs) h =
     let parts = and_parts (is_exponent_mark b) (are_some is_ascii_digit (after_sign bs)) h in
-    ascii-cons b bs (mark-low b parts.0) (ascii-sign bs (ascii-some is_ascii_digit digit-low (after_sign bs) parts.1))
+    ascii-cons b bs (grind (arith, nat_tests, parts.0)) (ascii-sign bs (ascii-some is_ascii_digit digit-low (after_sign bs) parts.1))
 
 fraction-ascii : (bs : List ℕ) → is_fraction bs ≡ true → IsAscii bs
 unfolding is_fraction
@@ -76,26 +67,22 @@ unfolding is_number_tail
 tail-ascii [] h = ascii-nil
 tail-ascii (b ∷ bs) h =
     by_test (b == hash)
-    (λ e. ascii-cons b bs (omega (arith, eqb-true b hash e)) (ascii-some is_word_byte is_word_byte-ascii bs (sym (cond-true (b == hash) (are_some is_word_byte bs) (b == point && is_fraction bs) e) ∙ h)))
+    (λ e. ascii-cons b bs (omega (arith, eqb-true b hash e)) (ascii-some is_word_byte is_word_byte-ascii bs (rw e at h)))
     (λ e.
-    let parts = and_parts (b == point) (is_fraction bs) (sym (cond-false (b == hash) (are_some is_word_byte bs) (b == point && is_fraction bs) e) ∙ h) in
+    let parts = and_parts (b == point) (is_fraction bs) (rw e at h) in
     ascii-cons b bs (omega (arith, eqb-true b point parts.0)) (fraction-ascii bs parts.1))
 
 number-ascii : (bs : List ℕ) → is_number bs ≡ true → IsAscii bs
-unfolding is_number
+unfolding is_number is_number_byte
 number-ascii bs h =
-    ascii-run is_number_byte number-byte-low bs (tail-ascii _ (and_parts (is_ascii_digit (first bs)) (is_number_tail (drop (prefix_len is_number_byte bs) bs)) h).1)
-
-value-byte-low : (date real : Bool) (before b after : ℕ) → is_value_byte date real before b after ≡ true → b < 128
-unfolding is_value_byte is_word_byte is_sign
-value-byte-low date real before b after h = grind (arith, nat_tests)
+    ascii-run is_number_byte (λ b low. grind (arith, nat_tests)) bs (tail-ascii _ (and_parts (is_ascii_digit (first bs)) (is_number_tail (drop (prefix_len is_number_byte bs) bs)) h).1)
 
 values-ascii : (date real : Bool) (before : ℕ) (bs : List ℕ) → are_value_bytes date real before bs ≡ true → IsAscii bs
-unfolding are_value_bytes
+unfolding are_value_bytes is_value_byte is_word_byte is_sign
 values-ascii date real before [] h = ascii-nil
 values-ascii date real before (b ∷ bs) h =
     let parts = and_parts (is_value_byte date real before b (first bs)) (are_value_bytes date real b bs) h in
-    ascii-cons b bs (value-byte-low date real before b (first bs) parts.0) (values-ascii date real b bs parts.1)
+    ascii-cons b bs (grind (arith, nat_tests, parts.0)) (values-ascii date real b bs parts.1)
 
 value-ascii : (date real : Bool) (bs : List ℕ) → is_value date real bs ≡ true → IsAscii bs
 unfolding is_value
@@ -131,16 +118,9 @@ unfolding is_string_rest
 string-rest-ends quote [] low h = cc
 string-rest-ends quote (b ∷ []) low h = omega (arith, eqb-true b quote h)
 string-rest-ends quote (b ∷ c ∷ cs) low h =
-    let plain = not (b == quote) && not (is_line_end b) in
     by_test (b == escape)
-    (λ e.
-    let rest = (and_parts (not (is_line_end c)) (is_string_rest quote cs) (sym (cond-true (b == escape) (not (is_line_end c) && is_string_rest quote cs) (plain && is_string_rest quote (c ∷ cs)) e) ∙ h)).1 in
-    escaped-ends quote b c cs rest (string-rest-ends quote cs low rest))
-    (λ e. ends-cons b c cs (string-rest-ends quote (c ∷ cs) low (and_parts plain (is_string_rest quote (c ∷ cs)) (sym (cond-false (b == escape) (not (is_line_end c) && is_string_rest quote cs) (plain && is_string_rest quote (c ∷ cs)) e) ∙ h)).1))
-
-quote-low : (b : ℕ) → is_quote b ≡ true → b < 128
-unfolding is_quote
-quote-low b h = grind (arith, nat_tests)
+    (λ e. let rest = (and_parts (not (is_line_end c)) (is_string_rest quote cs) (rw e at h)).1 in escaped-ends quote b c cs rest (string-rest-ends quote cs low rest))
+    (λ e. ends-cons b c cs (string-rest-ends quote (c ∷ cs) low (and_parts (not (b == quote) && not (is_line_end b)) (is_string_rest quote (c ∷ cs)) (rw e at h)).1))
 
 quoted-ends : (b : ℕ) (bs : List ℕ) → is_string_rest b bs ≡ true → EndsAscii bs → EndsAscii (b ∷ bs)
 unfolding is_string_rest
@@ -148,11 +128,11 @@ quoted-ends b [] h k = cc
 quoted-ends b (c ∷ cs) h k = ends-cons b c cs k
 
 string-ends : (bs : List ℕ) → is_string bs ≡ true → EndsAscii bs
-unfolding is_string
+unfolding is_string is_quote
 string-ends [] h = cc
 string-ends (b ∷ bs) h =
     let parts = and_parts (is_quote b) (is_string_rest b bs) h in
-    quoted-ends b bs parts.1 (string-rest-ends b bs (quote-low b parts.0) parts.1)
+    quoted-ends b bs parts.1 (string-rest-ends b bs (grind (arith, nat_tests, parts.0)) parts.1)
 
 symbol-ends : (bs : List ℕ) → is_symbol bs ≡ true → EndsAscii bs
 unfolding is_symbol is_symbol_byte is_symbol_pair
@@ -161,19 +141,25 @@ symbol-ends (a ∷ []) h = omega (arith, ltb-true a 128 (any-byte (λ b. nat_lt 
 symbol-ends (a ∷ b ∷ []) h = omega (arith, ltb-true b 128 (any-second (λ c. nat_lt c 128) (codes ":=" ∷ codes "<=" ∷ codes ">=" ∷ codes "<>" ∷ codes "**" ∷ codes "->" ∷ codes ".." ∷ []) a b h refl))
 symbol-ends (a ∷ b ∷ c ∷ cs) h = cc
 
+-- what has a form is of its kind
+form-kind : (bs : List ℕ) (kind : TokenKind) → form_of bs ≡ Some kind → HasForm kind bs
+unfolding form_of
+form-kind bs Word h = grind arith
+form-kind bs Number h = grind arith
+form-kind bs Typed h = grind arith
+form-kind bs String h = grind arith
+form-kind bs Symbol h = grind arith
+form-kind bs Other h = tt
+
 -- a token with a form ends in ASCII
 form-ends : (bs : List ℕ) (kind : TokenKind) → form_of bs ≡ Some kind → EndsAscii bs
 unfolding form_of
-form-ends bs kind h =
-    by_test (is_word bs) (λ e. is_word-ascii bs e (length bs - 1))
-    (λ w. by_test (is_number bs) (λ e. number-ascii bs e (length bs - 1))
-    (λ n. by_test (is_typed bs) (λ e. typed-ascii bs e (length bs - 1))
-    (λ t. by_test (is_string bs) (string-ends bs)
-    (λ s. by_test (is_symbol bs) (symbol-ends bs)
-    (λ y. let never = sym h ∙ cond-false (is_word bs) _ _ w ∙ cond-false (is_number bs) _ _ n ∙ cond-false (is_typed bs) _ _ t ∙ cond-false (is_string bs) _ _ s ∙ cond-false (is_symbol bs) _ _ y in cc)))))
-
-some-inj : {A : Type 0} {x y : A} → Some x ≡ Some y → x ≡ y
-some-inj {x = x} h = ap (λ o. unwrap_or o x) h
+form-ends bs Word h = is_word-ascii bs (form-kind bs Word h) (length bs - 1)
+form-ends bs Number h = number-ascii bs (form-kind bs Number h) (length bs - 1)
+form-ends bs Typed h = typed-ascii bs (form-kind bs Typed h) (length bs - 1)
+form-ends bs String h = string-ends bs (form-kind bs String h)
+form-ends bs Symbol h = symbol-ends bs (form-kind bs Symbol h)
+form-ends bs Other h = absurd (grind arith)
 
 -- what the longest prefix is
 pub record IsFound (text : List ℕ) (m : ℕ) (found : TokenKind × ℕ) : Type 0 where
@@ -193,7 +179,7 @@ found-case None text m found e h shorter =
           ⊎_elim (λ below. before.longer j k (omega arith)) (λ above. let last : j ≡ suc m = omega arith in ap (λ i. form_of (take i text)) last ∙ e) (cases_lt j (suc m));
     }
 found-case (Some kind) text m found e h shorter =
-    let same : (kind, suc m) ≡ found = some-inj h in
+    let same = same_Some (kind, suc m) found h in
     subst (IsFound text (suc m)) same (record { some = omega arith; within = omega arith; form = e; longer = λ j k l. absurd (omega arith) })
 
 pub longest-is : (m : ℕ) (text : List ℕ) (found : TokenKind × ℕ) → longest m text ≡ Some found → IsFound text m found
@@ -205,28 +191,16 @@ longest-is (suc m) text found h = found-case (form_of (take (suc m) text)) text 
 pub record TellsLength (xs : List ℕ) : Type 0 where
   pub tells : (ys : List ℕ) → continuation_len (get_or (xs ++ ys) 0 0) + 1 ≡ length xs
 
-one-byte : (c : ℕ) → c < 128 → continuation_len c ≡ 0
-one-byte c h = grind (arith, nat_tests)
-
-two-bytes : (c : ℕ) → 128 ≤ c → c < 224 → continuation_len c ≡ 1
-two-bytes c h k = grind (arith, nat_tests)
-
-three-bytes : (c : ℕ) → 224 ≤ c → c < 240 → continuation_len c ≡ 2
-three-bytes c h k = grind (arith, nat_tests)
-
-four-bytes : (c : ℕ) → 240 ≤ c → continuation_len c ≡ 3
-four-bytes c h = grind (arith, nat_tests)
-
 encode-tells : (c : ℕ) → TellsLength (encode c)
 unfolding encode
 encode-tells c =
     cond_both (ltb c 128) _ _ TellsLength
-    (λ e. record { tells = λ ys. omega (arith, one-byte c (ltb-true c 128 e)) })
+    (λ e. record { tells = λ ys. grind (arith, nat_tests, ltb-true c 128 e) })
     (λ a. cond_both (ltb c 2048) _ _ TellsLength
-    (λ e. record { tells = λ ys. omega (arith, two-bytes (192 + c / 64) (omega arith) (omega (arith, ltb-true c 2048 e))) })
+    (λ e. record { tells = λ ys. grind (arith, nat_tests, ltb-true c 2048 e) })
     (λ b. cond_both (ltb c 65536) _ _ TellsLength
-    (λ e. record { tells = λ ys. omega (arith, three-bytes (224 + c / 4096) (omega arith) (omega (arith, ltb-true c 65536 e))) })
-    (λ d. record { tells = λ ys. omega (arith, four-bytes (240 + c / 262144) (omega arith)) })))
+    (λ e. record { tells = λ ys. grind (arith, nat_tests, ltb-true c 65536 e) })
+    (λ d. record { tells = λ ys. grind (arith, nat_tests) })))
 
 char-case : (cs text : List ℕ) → scalars cs ≡ true → encodes cs ≡ text → 0 < length text → IsCharBoundary text (char_len text)
 char-case [] text valid spells pos = absurd (omega (arith, ap length spells))
@@ -302,9 +276,6 @@ comment-fits : (text : List ℕ) → IsUtf8 text → starts_with nat_eq text (co
 unfolding comment_at
 comment-fits text utf8 e = comment-case text (before_close (drop 2 text)) utf8 (begins 40 42 text e).long (closed (drop 2 text))
 
-line-end-low : (b : ℕ) → not (b == 10) ≡ false → b < 128
-line-end-low b h = grind (arith, nat_tests)
-
 line-fits : (text : List ℕ) → starts_with nat_eq text (codes "//") ≡ true → IsPrefix text (prefix_len (λ b. not (b == 10)) text)
 line-fits text e =
     let prefix = begins 47 47 text e in
@@ -313,7 +284,7 @@ line-fits text e =
     record {
       some = prefix_len-pos p text (omega (arith, prefix.long)) (ap p prefix.first);
       ends = ⊎_elim
-          (λ below. IsCharBoundary-before_ascii text n below (line-end-low (get_or text n 0) (prefix_len_stops p text 0 below)))
+          (λ below. IsCharBoundary-before_ascii text n below (grind (arith, nat_tests, prefix_len_stops p text 0 below)))
           (λ above. let all : n ≡ length text = omega (arith, prefix_len-le-length p text) in subst (IsCharBoundary text) (sym all) (IsCharBoundary-end text))
           (cases_lt n (length text));
     }
@@ -347,17 +318,6 @@ longest-case text kind n (Some found) e h other =
 pub longest-token : (text : List ℕ) (kind : TokenKind) (n : ℕ) → token_at text ≡ Found kind n → kind ≢ Other → IsLongest text kind n
 unfolding token_at
 longest-token text kind n h other = longest-case text kind n (longest (length text) text) refl h other
-
--- what has a form is of its kind
-form-kind : (bs : List ℕ) (kind : TokenKind) → form_of bs ≡ Some kind → HasForm kind bs
-unfolding form_of
-form-kind bs kind h =
-    by_test (is_word bs) (λ e. subst (λ k. HasForm k bs) (some-inj (sym (cond-true (is_word bs) _ _ e) ∙ h)) e)
-    (λ w. by_test (is_number bs) (λ e. subst (λ k. HasForm k bs) (some-inj (sym (cond-false (is_word bs) _ _ w ∙ cond-true (is_number bs) _ _ e) ∙ h)) e)
-    (λ n. by_test (is_typed bs) (λ e. subst (λ k. HasForm k bs) (some-inj (sym (cond-false (is_word bs) _ _ w ∙ cond-false (is_number bs) _ _ n ∙ cond-true (is_typed bs) _ _ e) ∙ h)) e)
-    (λ t. by_test (is_string bs) (λ e. subst (λ k. HasForm k bs) (some-inj (sym (cond-false (is_word bs) _ _ w ∙ cond-false (is_number bs) _ _ n ∙ cond-false (is_typed bs) _ _ t ∙ cond-true (is_string bs) _ _ e) ∙ h)) e)
-    (λ s. by_test (is_symbol bs) (λ e. subst (λ k. HasForm k bs) (some-inj (sym (cond-false (is_word bs) _ _ w ∙ cond-false (is_number bs) _ _ n ∙ cond-false (is_typed bs) _ _ t ∙ cond-false (is_string bs) _ _ s ∙ cond-true (is_symbol bs) _ _ e) ∙ h)) e)
-    (λ y. let never = sym h ∙ cond-false (is_word bs) _ _ w ∙ cond-false (is_number bs) _ _ n ∙ cond-false (is_typed bs) _ _ t ∙ cond-false (is_string bs) _ _ s ∙ cond-false (is_symbol bs) _ _ y in cc)))))
 
 found-kind : (text : List ℕ) (kind : TokenKind) (n : ℕ) (o : Option (TokenKind × ℕ)) → longest (length text) text ≡ o → token_or_char o (char_len text) ≡ Found kind n → HasForm kind (take n text)
 found-kind text kind n None e h = subst (λ k. HasForm k (take n text)) (let same : Other ≡ kind = cc in same) tt
