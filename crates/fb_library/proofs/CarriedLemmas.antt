@@ -1,5 +1,5 @@
 -- What units carry is what their value mentions lead to; what is near a unit is in its list.
-use Rattle.std.proofs.Common.{◌≡◌, ℕ, Bool, true, false, List, [], ◌∷◌, ◌++◌, ◌⊎◌, inl, inr, if◌then◌else◌, refl, sym, subst}
+use Rattle.std.proofs.Common.{◌≡◌, ℕ, Bool, true, false, List, [], ◌∷◌, ◌++◌, ◌⊎◌, inl, inr, ⊎_elim, if◌then◌else◌, refl, sym, subst}
 use Rattle.std.proofs.lemmas.List.Elements.{Contains-append_left, Contains-append_right, Contains-append_cases}
 use Rattle.std.specs.{Cmp.Lexicographic.{nat_list_cmp_total}, List.{Contains, flat_map}, List.Sorted.{IsStrictlySortedBy}}
 use Rattle.fb_parse.proofs.Text.Members.{contains_nothing, contains_flat_map, origin_in_flat_map, contains_here, contains_single}
@@ -61,17 +61,13 @@ carried_at_end sources units seen sorted walk =
 -- ---- near
 
 module _ (sources : Sources) (unit : List ℕ) where
-  base_near : (v : List ℕ) → Contains (parts_at sources unit) v ⊎ Contains (unit ∷ []) v → IsNear sources unit v
-  base_near v (inl p) = part p
-  base_near v (inr o) = subst (IsNear sources unit) (contains_single unit v o) own
-
-  carried_near : (v u : List ℕ) → Carries sources u v → Contains (parts_at sources unit) u ⊎ Contains (unit ∷ []) u → IsNear sources unit v
-  carried_near v u r (inl p) = carried_by_part p r
-  carried_near v u r (inr o) = carried (subst (λ n. Carries sources n v) (sym (contains_single unit u o)) r)
-
   all_near : (v : List ℕ) → Contains (carried_of sources (bases_at sources unit)) v ⊎ Contains (bases_at sources unit) v → IsNear sources unit v
-  all_near v (inl c) = let some = ((carried_is_all sources (bases_at sources unit)).1 v).0 c in carried_near v some.0 some.2 (Contains-append_cases (parts_at sources unit) (unit ∷ []) some.0 some.1)
-  all_near v (inr b) = base_near v (Contains-append_cases (parts_at sources unit) (unit ∷ []) v b)
+  all_near v (inl c) =
+      let some = ((carried_is_all sources (bases_at sources unit)).1 v).0 c in
+      ⊎_elim (λ p. carried_by_part p some.2) (λ (o : Contains (unit ∷ []) some.0). carried (rw (contains_single unit some.0 o) some.2))
+      (Contains-append_cases (parts_at sources unit) (unit ∷ []) some.0 some.1)
+  all_near v (inr b) =
+      ⊎_elim (λ p. part p) (λ (o : Contains (unit ∷ []) v). rw (← contains_single unit v o) own) (Contains-append_cases (parts_at sources unit) (unit ∷ []) v b)
 
   part_base : (p : List ℕ) → Contains (parts_at sources unit) p → Contains (bases_at sources unit) p
   part_base p m = Contains-append_left (parts_at sources unit) (unit ∷ []) p m

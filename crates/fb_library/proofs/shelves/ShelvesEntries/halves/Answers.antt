@@ -9,16 +9,15 @@ counted-requires g c =
     let entries = g.E.Entries.entries in
     let shelves = c.as_slice-shelves.result.now in
     let half = length shelves / 2 in
-    let order = subst (λ (ss : List (Shelf g.row.E.Denot)). AreShelves (shelves_of entries ss)) (sym c.as_slice-shelves.ensures.value) c.self.invariant.order in
-    subst AreShelves (take-map (shelf_of entries) half shelves) (lower_half (shelves_of entries shelves) half order)
+    subst AreShelves (take-map (shelf_of entries) half shelves) (lower_half (shelves_of entries shelves) half (rw c.as_slice-shelves.ensures.value c.self.invariant.order))
 
 pub counted-requires-2 : goal.counted-requires-2
 counted-requires-2 g c =
     let entries = g.E.Entries.entries in
     let shelves = c.as_slice-shelves.result.now in
     let half = length shelves / 2 in
-    let order = subst (λ (ss : List (Shelf g.row.E.Denot)). AreShelves (shelves_of entries ss)) (sym c.as_slice-shelves.ensures.value) c.self.invariant.order in
-    subst (λ (ss : List (Shelf g.row.E.Denot)). AreShelves (shelves_of entries ss)) (sym (take_rest shelves half)) (subst AreShelves (drop-map (shelf_of entries) half shelves) (upper_half (shelves_of entries shelves) half order))
+    rw (take_rest shelves half)
+    (subst AreShelves (drop-map (shelf_of entries) half shelves) (upper_half (shelves_of entries shelves) half (rw c.as_slice-shelves.ensures.value c.self.invariant.order)))
 
 pub returns : goal.returns
 returns g c =

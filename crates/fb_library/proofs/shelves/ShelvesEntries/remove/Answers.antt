@@ -3,7 +3,7 @@ use Rattle.std.proofs.Common.{ap, sym, ◌∙◌, length, arith}
 use Rattle.std.specs.{Map.{lookup}, BTreeMap.{is_at}}
 use Rattle.fb_parse.specs.Text.Order.{name_cmp}
 use Rattle.fb_library.specs.Entries.{shelves_of, entries_on}
-use Rattle.fb_library.proofs.{Counts.{length_removed, nothing_removed}, Tables.{some_found, none_found, reaches_found}}
+use Rattle.fb_library.proofs.{Counts.{length_removed}, Places.{nothing_removed}, Tables.{some_found, none_found, reaches_found}}
 use Rattle.fb_library.proofs.shelves.ShelvesEntries.remove.Goals as goal
 
 pub remove-requires-clause-there : goal.remove-requires-clause-there
