@@ -42,9 +42,10 @@ module _ (next : List ℕ → List (List ℕ)) (all : List (List ℕ)) (within :
   opened_closed names closed n q c m =
       opened_has names q (closed n q (⊎_elim (λ (i : ComesThrough next names n). closed i.origin n i.among i.has) (λ h. h) (opened_only names n c)) m)
 
-  stays_closed : (times : ℕ) (names : List (List ℕ)) → IsClosed names → IsClosed (opened_times times next names)
-  stays_closed zero names closed = closed
-  stays_closed (suc times) names closed = stays_closed times (opened next names) (opened_closed names closed)
+  -- what a step keeps is there after all steps
+  at_end : (P : List (List ℕ) → Type 0) → ((names : List (List ℕ)) → P names → P (opened next names)) → (times : ℕ) (names : List (List ℕ)) → P names → P (opened_times times next names)
+  at_end P step zero names p = p
+  at_end P step (suc times) names p = at_end P step times (opened next names) (step names p)
 
   grows : (names : List (List ℕ)) → Grows names (opened next names)
   grows names q h = has-Contains q (opened next names) (opened_has names q (Contains-has q names h))
@@ -62,24 +63,12 @@ module _ (next : List ℕ → List (List ℕ)) (all : List (List ℕ)) (within :
   closed_at_end (suc times) names le =
       ⊎_elim
       (λ less. closed_at_end times (opened next names) (omega (arith, less, le)))
-      (λ none. stays_closed times (opened next names) (opened_closed names (closed_if_none names none)))
+      (λ none. at_end IsClosed opened_closed times (opened next names) (opened_closed names (closed_if_none names none)))
       (cases_lt (unseen (opened next names) all) (unseen names all))
-
-  opened_times_has : (times : ℕ) (names : List (List ℕ)) (q : List ℕ) → Contains names q → Contains (opened_times times next names) q
-  opened_times_has zero names q c = c
-  opened_times_has (suc times) names q c = opened_times_has times (opened next names) q (opened_has names q c)
 
   opened_sound : (starts names : List (List ℕ)) → ((q : List ℕ) → Contains names q → LedFrom next starts q) → (q : List ℕ) → Contains (opened next names) q → LedFrom next starts q
   opened_sound starts names sound q c =
       ⊎_elim (λ (i : ComesThrough next names q). let from = sound i.origin i.among in (from.0, from.1, leads_more from.2 i.has)) (sound q) (opened_only names q c)
-
-  sound_at_end : (starts : List (List ℕ)) (times : ℕ) (names : List (List ℕ)) → ((q : List ℕ) → Contains names q → LedFrom next starts q) → (q : List ℕ) → Contains (opened_times times next names) q → LedFrom next starts q
-  sound_at_end starts zero names sound q c = sound q c
-  sound_at_end starts (suc times) names sound q c = sound_at_end starts times (opened next names) (opened_sound starts names sound) q c
-
-  sorted_at_end : (times : ℕ) (names : List (List ℕ)) → IsStrictlySortedBy name_cmp names → IsStrictlySortedBy name_cmp (opened_times times next names)
-  sorted_at_end zero names sorted = sorted
-  sorted_at_end (suc times) names sorted = sorted_at_end times (opened next names) (in_order-sorted name_cmp nat_list_cmp_total (flat_map next names ++ names))
 
   reached : (names : List (List ℕ)) → IsClosed names → {u v : List ℕ} → Contains names u → Leads next u v → Contains names v
   reached names closed c itself = c
@@ -88,11 +77,11 @@ module _ (next : List ℕ → List (List ℕ)) (all : List (List ℕ)) (within :
 pub led_from_is_all : (next : List ℕ → List (List ℕ)) (all starts : List (List ℕ)) → IsWithin next all → AreLedFrom next starts (led_from all next starts)
 unfolding led_from
 led_from_is_all next all starts within = (
-  sorted_at_end next all within (length all) (names_in_order starts) (in_order-sorted name_cmp nat_list_cmp_total starts),
+  at_end next all within (IsStrictlySortedBy name_cmp) (λ names s. in_order-sorted name_cmp nat_list_cmp_total (flat_map next names ++ names)) (length all) (names_in_order starts) (in_order-sorted name_cmp nat_list_cmp_total starts),
   λ v. (
-    sound_at_end next all within starts (length all) (names_in_order starts) (λ q c. (q, from_names starts q c, itself)) v,
+    at_end next all within (λ names. (q : List ℕ) → Contains names q → LedFrom next starts q) (opened_sound next all within starts) (length all) (names_in_order starts) (λ q c. (q, from_names starts q c, itself)) v,
     λ led. reached next all within (opened_times (length all) next (names_in_order starts))
         (closed_at_end next all within (length all) (names_in_order starts) (all_unseen (names_in_order starts) all))
-        (opened_times_has next all within (length all) (names_in_order starts) led.0 (in_names starts led.0 led.1)) led.2,
+        (at_end next all within (λ names. Contains names led.0) (λ names c. opened_has next all within names led.0 c) (length all) (names_in_order starts) (in_names starts led.0 led.1)) led.2,
   ),
 )

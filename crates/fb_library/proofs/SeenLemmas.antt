@@ -70,35 +70,28 @@ Opens-none seen pending = record {
 }
 
 module _ (names seen pending seen1 pending1 seen2 : List (List ℕ)) (x : List ℕ) (opens : Opens names seen pending seen1 pending1) (adds : (q : List ℕ) → has_name seen2 q ≡ (has_name seen1 q || same q x)) where
-  marked : (q : List ℕ) → has_name seen2 q ≡ (has_name seen q || has_name (names ++ x ∷ []) q)
-  marked q = adds q ∙ ap (λ b. b || same q x) (opens.marks q) ∙ sym (or_assoc (has_name seen q) (has_name names q) (same q x)) ∙ ap (λ b. has_name seen q || b) (sym (has-push names x q))
-
   grown : (q : List ℕ) → has_name seen1 q ≡ true → has_name seen2 q ≡ true
   grown q h = adds q ∙ or_left (has_name seen1 q) (same q x) h
 
-  wider : (pending2 : List (List ℕ)) (q : List ℕ) → (has_name pending q || has_name names q) ≡ true → (has_name pending q || has_name (names ++ x ∷ []) q) ≡ true
-  wider pending2 q h = or_cases (has_name pending q) (has_name names q) h (λ l. or_left (has_name pending q) _ l) (λ r. or_right (has_name pending q) _ (has-push names x q ∙ or_left (has_name names q) (same q x) r))
-
   pub Opens-new : has_name seen1 x ≡ false → Opens (names ++ x ∷ []) seen pending seen2 (pending1 ++ x ∷ [])
   Opens-new new = record {
-    marks = marked;
+    marks = λ q. grind (arith, adds q, opens.marks q, has-push names x q);
     keeps = λ q h. has-push pending1 x q ∙ or_left (has_name pending1 q) (same q x) (opens.keeps q h);
-    opened = λ q t f. has-push pending1 x q ∙ or_cases (has_name seen1 q) (same q x) (sym (adds q) ∙ t) (λ l. or_left (has_name pending1 q) (same q x) (opens.opened q l f)) (λ r. or_right (has_name pending1 q) (same q x) r);
-    only = λ q h. or_cases (has_name pending1 q) (same q x) (sym (has-push pending1 x q) ∙ h) (λ l. wider pending1 q (opens.only q l)) (λ r. or_right (has_name pending q) _ (has-push names x q ∙ or_right (has_name names q) (same q x) r));
+    opened = λ q t f. grind (arith, adds q, opens.opened q, has-push pending1 x q);
+    only = λ q h. grind (arith, opens.only q, has-push names x q, has-push pending1 x q);
     falls = λ all within.
         let before = opens.falls all (λ q h. within q (has-push names x q ∙ or_left (has_name names q) (same q x) h)) in
         let there = within x (has-push names x x ∙ or_right (has_name names x) (same x x) (same_self x)) in
         let less = one_fewer seen1 seen2 x new (adds x ∙ or_right (has_name seen1 x) (same x x) (same_self x)) grown all there in
-        let longer = length-append pending1 (x ∷ []) in
-        omega (arith, before, less, longer);
+        omega (arith, before, less, length-append pending1 (x ∷ []));
   }
 
   pub Opens-old : has_name seen1 x ≡ true → Opens (names ++ x ∷ []) seen pending seen2 pending1
   Opens-old old = record {
-    marks = marked;
+    marks = λ q. grind (arith, adds q, opens.marks q, has-push names x q);
     keeps = opens.keeps;
     opened = λ q t f. or_cases (has_name seen1 q) (same q x) (sym (adds q) ∙ t) (λ l. opens.opened q l f) (λ r. opens.opened q (ap (has_name seen1) (same_is q x r) ∙ old) f);
-    only = λ q h. wider pending1 q (opens.only q h);
+    only = λ q h. grind (arith, opens.only q h, has-push names x q);
     falls = λ all within.
         let before = opens.falls all (λ q h. within q (has-push names x q ∙ or_left (has_name names q) (same q x) h)) in
         let less = fewer seen1 seen2 all grown in

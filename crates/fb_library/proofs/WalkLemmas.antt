@@ -31,9 +31,8 @@ module _ (next : List ℕ → List (List ℕ)) (starts : List (List ℕ)) where
     pub IsWalk-step : IsWalk next starts seen (pending ++ name ∷ []) → Opens (next name) seen pending seen' pending' → IsWalk next starts seen' pending'
     IsWalk-step walk opens =
         let named : has_name seen name ≡ true = walk.within name (has-push pending name name ∙ or_right (has_name pending name) (same name name) (same_self name)) in
-        let grows : (q : List ℕ) → has_name seen q ≡ true → has_name seen' q ≡ true = λ q h. opens.marks q ∙ or_left (has_name seen q) _ h in
         record {
-          start = λ q h. grows q (walk.start q h);
+          start = λ q h. opens.marks q ∙ or_left (has_name seen q) _ (walk.start q h);
           sound = λ q h. or_cases (has_name seen q) (has_name (next name) q) (sym (opens.marks q) ∙ h)
               (walk.sound q)
               (λ m. let from = walk.sound name named in (from.0, from.1, leads_more from.2 (Contains-has q (next name) m)));
