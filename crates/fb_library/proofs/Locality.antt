@@ -1,6 +1,6 @@
 -- Near and far depend on the texts that they reach alone.
 use Rattle.std.proofs.Common.{◌≡◌, ℕ, List, [], ◌∷◌, ◌++◌, ⊎_elim, sym, ap, ◌∙◌}
-use Rattle.std.proofs.lemmas.List.Elements.{Contains-append_left, Contains-append_right, Contains-append_cases}
+use Rattle.std.proofs.lemmas.List.Elements.{Contains-append_left, Contains-append_right, Contains-push_cases}
 use Rattle.std.specs.{List.{Contains}, Option.{option_and_then}, FinMap.{get}}
 use Rattle.fb_parse.specs.Text.Order.{names_in_order}
 use Rattle.fb_parse.proofs.Text.Members.{contains_single}
@@ -34,7 +34,7 @@ module _ (sources : Sources) (unit : List ℕ) where
   -- the unit and its parts, and what they carry
   pub near_base : (name : List ℕ) → Contains (bases_at sources unit) name → Contains (near_of sources unit) name
   near_base name b =
-      ⊎_elim (near_part name) (λ (o : Contains (unit ∷ []) name). rw (← contains_single unit name o) near_unit) (Contains-append_cases (parts_at sources unit) (unit ∷ []) name b)
+      ⊎_elim (near_part name) (λ (e : unit ≡ name). rw (← e) near_unit) (Contains-push_cases (parts_at sources unit) unit name b)
 
   pub near_carried : (name : List ℕ) → Contains (carried_of sources (bases_at sources unit)) name → Contains (near_of sources unit) name
   near_carried name c = listed_carried sources unit name c

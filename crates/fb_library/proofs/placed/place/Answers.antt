@@ -9,5 +9,5 @@ returns g c =
     let facts = c.binary_search_by_key.ensures in
     let by_name = facts.position (λ placed. placed.name) (answers_always _ _ _ (λ f a r s called. search rules)) in
     let named = places_named c.args.places.now in
-    let ends = searched (λ (p : Placed g.row.V.Denot). p.name) c.args.places.now c.args.name.now _ (rw named at c.requires) facts.bound by_name in
+    let ends = searched (λ (p : Placed g.row.V.Denot). p.name) c.args.places.now c.args.name.now c.binary_search_by_key.result (rw named at c.requires) facts.bound by_name in
     record { found = rw named ends.found; absent = rw named ends.absent }
