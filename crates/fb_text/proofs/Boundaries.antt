@@ -12,7 +12,7 @@ use Rattle.fb_text.specs.Tokens.{of_kind, longest, token_or_char, token_at, char
 use Rattle.fb_text.specs.declared.token.TokenKind.TheVariants.{Word, Number, Typed, String, Symbol, Other}
 use Rattle.fb_text.specs.{declared.token.TokenKind.{TokenKind}, declared.scan.Piece.{Piece}, declared.scan.Piece.TheVariants.{Gap, Unclosed, Found}}
 use Rattle.fb_text.proofs.{NameLemmas.{is_word_byte-ascii, is_word-ascii}, Longest.{by_test}, LongestForms.{prefix_len-pos}}
-use Rattle.fb_text.proofs.LongestToken.{any-byte, any-second}
+use Rattle.fb_text.proofs.LongestToken.{any-byte, any-pair}
 
 -- all bytes are ASCII
 ascii-nil : IsAscii []
@@ -138,7 +138,7 @@ symbol-ends : (bs : List ℕ) → is_symbol bs ≡ true → EndsAscii bs
 unfolding is_symbol is_symbol_byte is_symbol_pair
 symbol-ends [] h = cc
 symbol-ends (a ∷ []) h = omega (arith, ltb-true a 128 (any-byte (λ b. nat_lt b 128) (codes ";:,.()[]=<>+-*/&") a h refl))
-symbol-ends (a ∷ b ∷ []) h = omega (arith, ltb-true b 128 (any-second (λ c. nat_lt c 128) (codes ":=" ∷ codes "<=" ∷ codes ">=" ∷ codes "<>" ∷ codes "**" ∷ codes "->" ∷ codes ".." ∷ []) a b h refl))
+symbol-ends (a ∷ b ∷ []) h = omega (arith, ltb-true b 128 (any-pair (λ s. nat_lt (first (drop 1 s)) 128) (codes ":=" ∷ codes "<=" ∷ codes ">=" ∷ codes "<>" ∷ codes "**" ∷ codes "->" ∷ codes ".." ∷ []) a b h refl))
 symbol-ends (a ∷ b ∷ c ∷ cs) h = cc
 
 -- what has a form is of its kind

@@ -30,22 +30,19 @@ any-byte p [] b h k = cc
 any-byte p (x ∷ xs) b h k =
     ⊎_elim (λ e. sym (ap p (eqb-true x b e)) ∙ (and_parts (p x) (list_all p xs) k).0) (λ e. any-byte p xs b e (and_parts (p x) (list_all p xs) k).1) (or_cases (x == b) (list_any (λ s. s == b) xs) h)
 
-pub any-pair : (p : ℕ → Bool) (xs : List (List ℕ)) (a b : ℕ) → list_any (λ s. pointwise (λ x y. x == y) s (a ∷ b ∷ [])) xs ≡ true → list_all (λ s. p (first s)) xs ≡ true → p a ≡ true
-any-pair p [] a b h k = cc
-any-pair p ([] ∷ xs) a b h k = any-pair p xs a b h (and_parts (p 0) (list_all (λ s. p (first s)) xs) k).1
-any-pair p ((x ∷ s) ∷ xs) a b h k = grind (arith, nat_tests, any-pair p xs a b)
-
-pub any-second : (p : ℕ → Bool) (xs : List (List ℕ)) (a b : ℕ) → list_any (λ s. pointwise (λ x y. x == y) s (a ∷ b ∷ [])) xs ≡ true → list_all (λ s. p (first (drop 1 s))) xs ≡ true → p b ≡ true
-any-second p [] a b h k = cc
-any-second p ([] ∷ xs) a b h k = any-second p xs a b h (and_parts (p 0) (list_all (λ s. p (first (drop 1 s))) xs) k).1
-any-second p ((x ∷ []) ∷ xs) a b h k = grind (arith, any-second p xs a b)
-any-second p ((x ∷ y ∷ s) ∷ xs) a b h k = grind (arith, nat_tests, any-second p xs a b)
+-- and of a list of two
+pub any-pair : (q : List ℕ → Bool) (xs : List (List ℕ)) (a b : ℕ) → list_any (λ s. pointwise (λ x y. x == y) s (a ∷ b ∷ [])) xs ≡ true → list_all q xs ≡ true → q (a ∷ b ∷ []) ≡ true
+any-pair q [] a b h k = cc
+any-pair q ([] ∷ xs) a b h k = grind (arith, any-pair q xs a b)
+any-pair q ((x ∷ []) ∷ xs) a b h k = grind (arith, any-pair q xs a b)
+any-pair q ((x ∷ y ∷ []) ∷ xs) a b h k = grind (arith, nat_tests, any-pair q xs a b)
+any-pair q ((x ∷ y ∷ z ∷ s) ∷ xs) a b h k = grind (arith, any-pair q xs a b)
 
 symbol-plain : (bs : List ℕ) → is_symbol bs ≡ true → is_plain (first bs) ≡ true
 unfolding is_symbol is_symbol_byte is_symbol_pair is_word_start is_quote
 symbol-plain [] h = cc
 symbol-plain (a ∷ []) h = any-byte is_plain (codes ";:,.()[]=<>+-*/&") a h refl
-symbol-plain (a ∷ b ∷ []) h = any-pair is_plain (codes ":=" ∷ codes "<=" ∷ codes ">=" ∷ codes "<>" ∷ codes "**" ∷ codes "->" ∷ codes ".." ∷ []) a b h refl
+symbol-plain (a ∷ b ∷ []) h = any-pair (λ s. is_plain (first s)) (codes ":=" ∷ codes "<=" ∷ codes ">=" ∷ codes "<>" ∷ codes "**" ∷ codes "->" ∷ codes ".." ∷ []) a b h refl
 symbol-plain (a ∷ b ∷ c ∷ cs) h = cc
 
 not-symbol : (bs : List ℕ) → is_plain (first bs) ≡ false → is_symbol bs ≡ false

@@ -11,15 +11,6 @@ cmp_bytes = slice_cmp nat_cmp
 abbrev AreBytes : List ℕ → Type 0
 AreBytes xs = (k : ℕ) → Fits w8 (get_or xs k 0)
 
-level : (x y : ℕ) → x ≡ y → nat_cmp x y ≡ Equal
-level x y e = sym (nat_cmp_is x y Equal e)
-
-below : (x y : ℕ) → x < y → nat_cmp x y ≡ Less
-below x y l = sym (nat_cmp_is x y Less l)
-
-above : (x y : ℕ) → y < x → nat_cmp x y ≡ Greater
-above x y l = sym (nat_cmp_is x y Greater l)
-
 -- a lesser number in front stays less with further bytes
 rises : (n a b : ℕ) (xs ys : List ℕ) → n ≤ length xs → n ≤ length ys → AreBytes xs → a < b → big_endian a (take n xs) < big_endian b (take n ys)
 rises zero a b xs ys p q h l = l
@@ -32,14 +23,14 @@ rises (suc n) a b (x ∷ xs) (y ∷ ys) p q h l =
 -- the first n bytes as numbers, and then the other bytes
 pub by_number : (n a : ℕ) (xs ys : List ℕ) → n ≤ length xs → n ≤ length ys → AreBytes xs → AreBytes ys
     → cmp_bytes xs ys ≡ ordering_then (nat_cmp (big_endian a (take n xs)) (big_endian a (take n ys))) (cmp_bytes (drop n xs) (drop n ys))
-by_number zero a xs ys p q g h = sym (ap (λ r. ordering_then r (cmp_bytes xs ys)) (level a a refl))
+by_number zero a xs ys p q g h = rw (← nat_cmp_is a a Equal refl)
 by_number (suc n) a [] ys p q g h = absurd (omega arith)
 by_number (suc n) a (x ∷ xs) [] p q g h = absurd (omega arith)
 by_number (suc n) a (x ∷ xs) (y ∷ ys) p q g h =
-    ⊎_elim (λ (same : x ≡ y). rw (← same, level x x refl) (by_number n (a * 256 + x) xs ys (omega arith) (omega arith) (λ k. g (suc k)) (λ k. h (suc k))))
+    ⊎_elim (λ (same : x ≡ y). rw (← same, ← nat_cmp_is x x Equal refl) (by_number n (a * 256 + x) xs ys (omega arith) (omega arith) (λ k. g (suc k)) (λ k. h (suc k))))
     (⊎_elim
-    (λ (l : x < y). rw (below x y l, below _ _ (rises n (a * 256 + x) (a * 256 + y) xs ys (omega arith) (omega arith) (λ k. g (suc k)) (omega arith))))
-    (λ (l : y < x). rw (above x y l, above _ _ (rises n (a * 256 + y) (a * 256 + x) ys xs (omega arith) (omega arith) (λ k. h (suc k)) (omega arith)))))
+    (λ (l : x < y). rw (← nat_cmp_is x y Less l, ← nat_cmp_is _ _ Less (rises n (a * 256 + x) (a * 256 + y) xs ys (omega arith) (omega arith) (λ k. g (suc k)) (omega arith))))
+    (λ (l : y < x). rw (← nat_cmp_is x y Greater l, ← nat_cmp_is _ _ Greater (rises n (a * 256 + y) (a * 256 + x) ys xs (omega arith) (omega arith) (λ k. h (suc k)) (omega arith)))))
     (cases_order x y)
 
 -- ---- zeros after a name
@@ -53,9 +44,9 @@ padded [] [] m n e g h =
     let same : m ≡ n = omega (arith, e) in
     ap (λ k. cmp_bytes (replicate m 0) (replicate k 0)) (sym same) ∙ tied_itself nat_list_cmp_total (replicate m 0)
 padded [] (y ∷ b) zero n e g h = absurd (omega (arith, e))
-padded [] (y ∷ b) (suc m) n e g h = ap (λ r. ordering_then r (cmp_bytes (replicate m 0) (b ++ replicate n 0))) (below 0 y (not_zero y (and_parts _ _ h).0))
+padded [] (y ∷ b) (suc m) n e g h = ap (λ r. ordering_then r (cmp_bytes (replicate m 0) (b ++ replicate n 0))) (sym (nat_cmp_is 0 y Less (not_zero y (and_parts _ _ h).0)))
 padded (x ∷ a) [] m zero e g h = absurd (omega (arith, e))
-padded (x ∷ a) [] m (suc n) e g h = ap (λ r. ordering_then r (cmp_bytes (a ++ replicate m 0) (replicate n 0))) (above x 0 (not_zero x (and_parts _ _ g).0))
+padded (x ∷ a) [] m (suc n) e g h = ap (λ r. ordering_then r (cmp_bytes (a ++ replicate m 0) (replicate n 0))) (sym (nat_cmp_is x 0 Greater (not_zero x (and_parts _ _ g).0)))
 padded (x ∷ a) (y ∷ b) m n e g h = ap (ordering_then (nat_cmp x y)) (padded a b m n (omega (arith, e)) (and_parts _ _ g).1 (and_parts _ _ h).1)
 
 whole : (bytes : List ℕ) (len : ℕ) → IsStoredIn 64 bytes len → take len bytes ++ replicate (64 - len) 0 ≡ bytes
@@ -141,7 +132,7 @@ module _ (a b xs ys : List ℕ) (m n i x y : ℕ) (g : IsStoredIn 64 xs m) (h : 
   unequal_words differ = decided x y _ differ ∙ sym step
 
   pub equal_words : x ≡ y → IsLeft a b xs ys (i + 8)
-  equal_words e = step ∙ ap (λ r. ordering_then r (cmp_bytes (drop (i + 8) xs) (drop (i + 8) ys))) (level x y e)
+  equal_words e = step ∙ ap (λ r. ordering_then r (cmp_bytes (drop (i + 8) xs) (drop (i + 8) ys))) (sym (nat_cmp_is x y Equal e))
 
   -- equal words that end with a zero are the last ones
   pub last_words : x ≡ y → x % 256 ≡ 0 → Equal ≡ cmp_bytes a b

@@ -46,7 +46,7 @@ begins_pair b = list_any (λ s. s == b) (codes ":<>*-.")
 
 pair-begins : (a b : ℕ) → is_symbol_pair a b ≡ true → begins_pair a ≡ true
 unfolding is_symbol_pair
-pair-begins a b h = any-pair begins_pair (codes ":=" ∷ codes "<=" ∷ codes ">=" ∷ codes "<>" ∷ codes "**" ∷ codes "->" ∷ codes ".." ∷ []) a b h refl
+pair-begins a b h = any-pair (λ s. begins_pair (first s)) (codes ":=" ∷ codes "<=" ∷ codes ">=" ∷ codes "<>" ∷ codes "**" ∷ codes "->" ∷ codes ".." ∷ []) a b h refl
 
 -- what no symbol is
 no-symbol : (p : ℕ → Bool) → list_all (λ s. not (p s)) (codes ";:,.()[]=<>+-*/&") ≡ true → (b : ℕ) → is_symbol_byte b ≡ true → p b ≡ false
