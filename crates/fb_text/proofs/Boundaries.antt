@@ -1,5 +1,5 @@
 -- What stands at the front of a text ends between two characters.
-use Rattle.std.proofs.Common.{◌≡◌, ◌≢◌, ℕ, zero, suc, ◌+◌, ◌-◌, ◌<◌, ◌≤◌, Bool, true, false, not, ◌&&◌, ◌||◌, ltb, List, [], ◌∷◌, ◌++◌, length, get_or, take, drop, sym, refl, ap, subst, ◌∙◌, arith, length-drop, length-take-le, Option, Some, None, ⊎_elim, lit<}
+use Rattle.std.proofs.Common.{◌≡◌, ◌≢◌, ℕ, zero, suc, ◌+◌, ◌-◌, ◌<◌, ◌≤◌, Bool, true, not, ◌&&◌, ◌||◌, ltb, List, [], ◌∷◌, ◌++◌, length, get_or, take, drop, sym, refl, ap, subst, ◌∙◌, arith, length-drop, length-take-le, Option, Some, None, ⊎_elim, lit<}
 use Rattle.std.proofs.lemmas.List.Sums.{prefix_len-le-length, prefix_len_stops}
 use Rattle.std.proofs.lemmas.Str.{IsCharBoundary-after_ascii, IsCharBoundary-before_ascii, IsCharBoundary-end, IsCharBoundary-at_seam}
 use Rattle.std.proofs.{Math.Utf8.{encode, encodes, scalar, scalars}, lemmas.Bool.Decides.{nat_tests}}
@@ -10,7 +10,7 @@ use Rattle.fb_text.specs.Bytes.{is_blank, is_word_start, is_word_byte, is_number
 use Rattle.fb_text.specs.Forms.{are_some, sign_len, after_sign, is_exponent, is_fraction, is_number_tail, is_number, is_value_byte, are_value_bytes, is_value, is_typed_tail, is_typed, is_date, is_real, leading_word, after_word, is_string, is_string_rest, is_symbol, is_symbol_byte, is_symbol_pair, form_of, HasForm}
 use Rattle.fb_text.specs.Tokens.{of_kind, longest, token_or_char, token_at, char_len, before_close, comment_at, piece_at, IsPrefix, FitsIn, IsLongest}
 use Rattle.fb_text.specs.declared.token.TokenKind.TheVariants.{Word, Number, Typed, String, Symbol, Other}
-use Rattle.fb_text.specs.{declared.token.TokenKind.{TokenKind}, declared.scan.Piece.{Piece}, declared.scan.Piece.TheVariants.{Gap, Unclosed, Found}}
+use Rattle.fb_text.specs.{declared.token.TokenKind.{TokenKind}, declared.scan.Piece.TheVariants.{Gap, Unclosed, Found}}
 use Rattle.fb_text.proofs.{NameLemmas.{is_word_byte-ascii, is_word-ascii}, Longest.{by_test}, LongestForms.{prefix_len-pos}}
 use Rattle.fb_text.proofs.LongestToken.{any-byte, any-pair}
 
@@ -105,13 +105,14 @@ typed-ascii bs h =
 abbrev EndsAscii : List ℕ → Type 0
 EndsAscii bs = get_or bs (length bs - 1) 0 < 128
 
-ends-cons : (b c : ℕ) (cs : List ℕ) → EndsAscii (c ∷ cs) → EndsAscii (b ∷ c ∷ cs)
-ends-cons b c cs h = let e : suc (suc (length cs)) - 1 ≡ suc (suc (length cs) - 1) = omega arith in subst (λ n. get_or (b ∷ c ∷ cs) n 0 < 128) (sym e) h
+ends-behind : (b : ℕ) (bs : List ℕ) → 0 < length bs → EndsAscii bs → EndsAscii (b ∷ bs)
+ends-behind b [] some h = absurd (omega arith)
+ends-behind b (c ∷ cs) some h = let e : suc (suc (length cs)) - 1 ≡ suc (suc (length cs) - 1) = omega arith in rw e h
 
-escaped-ends : (quote b c : ℕ) (cs : List ℕ) → is_string_rest quote cs ≡ true → EndsAscii cs → EndsAscii (b ∷ c ∷ cs)
+rest-some : (quote : ℕ) (bs : List ℕ) → is_string_rest quote bs ≡ true → 0 < length bs
 unfolding is_string_rest
-escaped-ends quote b c [] h k = cc
-escaped-ends quote b c (d ∷ ds) h k = ends-cons b c (d ∷ ds) (ends-cons c d ds k)
+rest-some quote [] h = cc
+rest-some quote (b ∷ bs) h = omega arith
 
 string-rest-ends : (quote : ℕ) (bs : List ℕ) → quote < 128 → is_string_rest quote bs ≡ true → EndsAscii bs
 unfolding is_string_rest
@@ -119,20 +120,17 @@ string-rest-ends quote [] low h = cc
 string-rest-ends quote (b ∷ []) low h = omega (arith, eqb-true b quote h)
 string-rest-ends quote (b ∷ c ∷ cs) low h =
     by_test (b == escape)
-    (λ e. let rest = (and_parts (not (is_line_end c)) (is_string_rest quote cs) (rw e at h)).1 in escaped-ends quote b c cs rest (string-rest-ends quote cs low rest))
-    (λ e. ends-cons b c cs (string-rest-ends quote (c ∷ cs) low (and_parts (not (b == quote) && not (is_line_end b)) (is_string_rest quote (c ∷ cs)) (rw e at h)).1))
-
-quoted-ends : (b : ℕ) (bs : List ℕ) → is_string_rest b bs ≡ true → EndsAscii bs → EndsAscii (b ∷ bs)
-unfolding is_string_rest
-quoted-ends b [] h k = cc
-quoted-ends b (c ∷ cs) h k = ends-cons b c cs k
+    (λ e.
+    let rest = (and_parts (not (is_line_end c)) (is_string_rest quote cs) (rw e at h)).1 in
+    ends-behind b (c ∷ cs) (omega arith) (ends-behind c cs (rest-some quote cs rest) (string-rest-ends quote cs low rest)))
+    (λ e. ends-behind b (c ∷ cs) (omega arith) (string-rest-ends quote (c ∷ cs) low (and_parts (not (b == quote) && not (is_line_end b)) (is_string_rest quote (c ∷ cs)) (rw e at h)).1))
 
 string-ends : (bs : List ℕ) → is_string bs ≡ true → EndsAscii bs
 unfolding is_string is_quote
 string-ends [] h = cc
 string-ends (b ∷ bs) h =
     let parts = and_parts (is_quote b) (is_string_rest b bs) h in
-    quoted-ends b bs parts.1 (string-rest-ends b bs (grind (arith, nat_tests, parts.0)) parts.1)
+    ends-behind b bs (rest-some b bs parts.1) (string-rest-ends b bs (grind (arith, nat_tests, parts.0)) parts.1)
 
 symbol-ends : (bs : List ℕ) → is_symbol bs ≡ true → EndsAscii bs
 unfolding is_symbol is_symbol_byte is_symbol_pair
@@ -208,9 +206,6 @@ char-case (c ∷ cs) text valid spells pos =
     let long = ap (λ xs. continuation_len (get_or xs 0 0) + 1) (sym spells) ∙ (encode-tells c).tells (encodes cs) in
     subst (IsCharBoundary text) (sym long) (IsCharBoundary-at_seam text (encode c) (encodes cs) (sym spells) (cs, ((and_parts (scalar c) (scalars cs) valid).1, refl)))
 
-char-boundary : (text : List ℕ) → IsUtf8 text → 0 < length text → IsCharBoundary text (char_len text)
-char-boundary text utf8 pos = char-case utf8.0 text utf8.1.0 utf8.1.1 pos
-
 -- behind an ASCII byte
 after-ascii : (text : List ℕ) (n : ℕ) → IsUtf8 text → 0 < n → n ≤ length text → get_or text (n - 1) 0 < 128 → IsPrefix text n
 after-ascii text n utf8 pos l low =
@@ -223,11 +218,7 @@ found-fits text (Some found) utf8 pos e =
     let long : length (take found.1 text) ≡ found.1 = length-take-le found.1 text is.within in
     let last : get_or (take found.1 text) (length (take found.1 text) - 1) 0 ≡ get_or text (found.1 - 1) 0 = ap (λ n. get_or (take found.1 text) (n - 1) 0) long ∙ get_or-take found.1 text (found.1 - 1) 0 (omega (arith, is.some)) in
     after-ascii text found.1 utf8 is.some is.within (omega (arith, last, form-ends (take found.1 text) found.0 is.form))
-found-fits text None utf8 pos e = record { some = omega arith; ends = char-boundary text utf8 pos }
-
-token-fits : (text : List ℕ) → IsUtf8 text → 0 < length text → FitsIn text (token_at text)
-unfolding token_at
-token-fits text utf8 pos = found-fits text (longest (length text) text) utf8 pos refl
+found-fits text None utf8 pos e = record { some = omega arith; ends = char-case utf8.0 text utf8.1.0 utf8.1.1 pos }
 
 -- the texts that begin with two bytes
 pub record BeginsWith (a b : ℕ) (text : List ℕ) : Type 0 where
@@ -237,14 +228,8 @@ pub record BeginsWith (a b : ℕ) (text : List ℕ) : Type 0 where
 
 pub begins : (a b : ℕ) (text : List ℕ) → starts_with nat_eq text (a ∷ b ∷ []) ≡ true → BeginsWith a b text
 begins a b [] h = cc
-begins a b (x ∷ []) h = let never = (and_parts (nat_eq a x) false h).1 in cc
-begins a b (x ∷ y ∷ text) h =
-    let prefix = and_parts (nat_eq a x) (nat_eq b y && true) h in
-    record {
-      long = omega arith;
-      first = sym (eqb-true a x prefix.0);
-      second = sym (eqb-true b y (and_parts (nat_eq b y) true prefix.1).0);
-    }
+begins a b (x ∷ []) h = grind arith
+begins a b (x ∷ y ∷ text) h = record { long = omega arith; first = grind (arith, nat_tests); second = grind (arith, nat_tests) }
 
 -- where a comment is closed
 pub record IsClosed (text : List ℕ) (n : ℕ) : Type 0 where
@@ -272,10 +257,6 @@ comment-case text (Some n) utf8 long h =
     let last : get_or text (n + 4 - 1) 0 ≡ 41 = ap (λ k. get_or text k 0) place ∙ sym (get_or-drop 2 text (n + 1) 0) ∙ h.closes in
     after-ascii text (n + 4) utf8 (omega arith) (omega (arith, h.within, length-drop 2 text)) (omega (arith, last))
 
-comment-fits : (text : List ℕ) → IsUtf8 text → starts_with nat_eq text (codes "(*") ≡ true → FitsIn text (comment_at text)
-unfolding comment_at
-comment-fits text utf8 e = comment-case text (before_close (drop 2 text)) utf8 (begins 40 42 text e).long (closed (drop 2 text))
-
 line-fits : (text : List ℕ) → starts_with nat_eq text (codes "//") ≡ true → IsPrefix text (prefix_len (λ b. not (b == 10)) text)
 line-fits text e =
     let prefix = begins 47 47 text e in
@@ -289,18 +270,14 @@ line-fits text e =
           (cases_lt n (length text));
     }
 
-blank-low : (b : ℕ) → is_blank b ≡ true → b < 128
-unfolding is_blank
-blank-low b h = grind (arith, nat_tests)
-
 -- what stands at the front of a text ends between two characters
 pub piece-fits : (text : List ℕ) → IsUtf8 text → 0 < length text → FitsIn text (piece_at text)
-unfolding piece_at
+unfolding piece_at token_at comment_at is_blank
 piece-fits text utf8 pos =
     cond_both (is_blank (first text)) _ _ (FitsIn text)
-    (λ e. after-ascii text 1 utf8 (omega arith) pos (blank-low (first text) e))
-    (λ n. cond_both (starts_with nat_eq text (codes "(*")) _ _ (FitsIn text) (comment-fits text utf8)
-    (λ m. cond_both (starts_with nat_eq text (codes "//")) _ _ (FitsIn text) (line-fits text) (λ t. token-fits text utf8 pos)))
+    (λ e. after-ascii text 1 utf8 (omega arith) pos (grind (arith, nat_tests)))
+    (λ n. cond_both (starts_with nat_eq text (codes "(*")) _ _ (FitsIn text) (λ e. comment-case text (before_close (drop 2 text)) utf8 (begins 40 42 text e).long (closed (drop 2 text)))
+    (λ m. cond_both (starts_with nat_eq text (codes "//")) _ _ (FitsIn text) (line-fits text) (λ t. found-fits text (longest (length text) text) utf8 pos refl)))
 
 longest-case : (text : List ℕ) (kind : TokenKind) (n : ℕ) (o : Option (TokenKind × ℕ)) → longest (length text) text ≡ o → token_or_char o (char_len text) ≡ Found kind n → kind ≢ Other → IsLongest text kind n
 longest-case text kind n None e h other = absurd (other (sym (let same : Other ≡ kind = cc in same)))
@@ -308,11 +285,7 @@ longest-case text kind n (Some found) e h other =
     let is = longest-is (length text) text found e in
     let kinds : found.0 ≡ kind = cc in
     let lens : found.1 ≡ n = cc in
-    record {
-      within = subst (λ j. j ≤ length text) lens is.within;
-      form = ap (λ j. form_of (take j text)) (sym lens) ∙ is.form ∙ ap Some kinds;
-      longer = λ j k l. is.longer j (omega (arith, lens)) l;
-    }
+    rw (← kinds, ← lens) (record { within = is.within; form = is.form; longer = is.longer })
 
 -- a token of another kind than `Other` is the longest prefix that has a form
 pub longest-token : (text : List ℕ) (kind : TokenKind) (n : ℕ) → token_at text ≡ Found kind n → kind ≢ Other → IsLongest text kind n
@@ -324,17 +297,13 @@ found-kind text kind n None e h = subst (λ k. HasForm k (take n text)) (let sam
 found-kind text kind n (Some found) e h =
     let kinds : found.0 ≡ kind = cc in
     let lens : found.1 ≡ n = cc in
-    form-kind (take n text) kind (ap (λ j. form_of (take j text)) (sym lens) ∙ (longest-is (length text) text found e).form ∙ ap Some kinds)
-
-no-comment : (o : Option ℕ) (kind : TokenKind) (n : ℕ) → ◌≡◌ {A = Piece} (elim o [ Some m ↦ Gap (m + 4) | None ↦ Unclosed ]) (Found kind n) → ⊥
-no-comment None kind n h = cc
-no-comment (Some m) kind n h = cc
+    rw (← kinds, ← lens) (form-kind (take found.1 text) found.0 (longest-is (length text) text found e).form)
 
 -- the token at the front has the form of its kind
 pub piece-spelled : (text : List ℕ) (kind : TokenKind) (n : ℕ) → piece_at text ≡ Found kind n → HasForm kind (take n text)
 unfolding piece_at token_at comment_at
 piece-spelled text kind n =
     cond_both (is_blank (first text)) (Gap 1) _ (λ p. p ≡ Found kind n → HasForm kind (take n text)) (λ e h. cc)
-    (λ a. cond_both (starts_with nat_eq text (codes "(*")) _ _ (λ p. p ≡ Found kind n → HasForm kind (take n text)) (λ e h. absurd (no-comment (before_close (drop 2 text)) kind n h))
+    (λ a. cond_both (starts_with nat_eq text (codes "(*")) _ _ (λ p. p ≡ Found kind n → HasForm kind (take n text)) (λ e h. grind arith)
     (λ b. cond_both (starts_with nat_eq text (codes "//")) (Gap (prefix_len (λ c. not (c == 10)) text)) _ (λ p. p ≡ Found kind n → HasForm kind (take n text)) (λ e h. cc)
     (λ c h. found-kind text kind n (longest (length text) text) refl h)))

@@ -82,11 +82,8 @@ in_line b = not (b == 10)
 
 line-len : (line rest : List ℕ) → All (λ b. b ≢ 10) line → EndsLine rest → prefix_len in_line (line ++ rest) ≡ length line
 line-len [] [] a e = refl
-line-len [] (b ∷ bs) a e = cond-false (in_line b) (1 + prefix_len in_line bs) 0 (grind (arith, nat_tests))
-line-len (b ∷ line) rest a e =
-    let plain = All-head (λ c. c ≢ 10) b line a in
-    let passes : in_line b ≡ true = grind (arith, nat_tests) in
-    cond-true (in_line b) (1 + prefix_len in_line (line ++ rest)) 0 passes ∙ omega (arith, line-len line rest (All-tail (λ c. c ≢ 10) b line a) e)
+line-len [] (b ∷ bs) a e = grind (arith, nat_tests)
+line-len (b ∷ line) rest a e = grind (arith, nat_tests, line-len line rest (All-tail (λ c. c ≢ 10) b line a) e, All-head (λ c. c ≢ 10) b line a)
 
 one-more : (b : ℕ) (bs : List ℕ) → in_line b ≡ true → prefix_len in_line (b ∷ bs) ≡ suc (prefix_len in_line bs)
 one-more b bs h = cond-true (in_line b) (1 + prefix_len in_line bs) 0 h ∙ omega arith

@@ -1,8 +1,8 @@
 use Rattle.std.proofs.Common.{◌≡◌, ◌+◌, not, ◌&&◌, eqb, false, arith, ap, ◌∙◌, sym, get_or, drop, suc, Some, eq-eqb}
-use Rattle.std.proofs.lemmas.Bool.{cond-true, cond-false, and_from, and_left, and_right, not_from_true, not_from_false, ne_eqb}
+use Rattle.std.proofs.lemmas.{Bool.{cond-true, cond-false, and_from, and_left, and_right, not_from_true, not_from_false, ne_eqb}, List.{at_drop_all}}
 use Rattle.std.specs.Prelude.{option_map}
 use Rattle.fb_text.specs.Scan.{through_quote}
-use Rattle.fb_text.proofs.ScanLemmas.{through_quote-at, through_quote-end, nowhere, right_here, further_on}
+use Rattle.fb_text.proofs.ScanLemmas.{through_quote-at, nowhere, right_here, further_on}
 use Rattle.fb_text.proofs.quotes.through_quote.Goals.{else-not-escaped-via-then-not-escaped+else-b-quote, else-not-escaped-via-else-not-escaped, then-not-escaped-2, else-not-escaped-2}
 use Rattle.fb_text.proofs.quotes.through_quote.Goals as goal
 
@@ -33,4 +33,5 @@ loop-i-preserved c =
     ∙ ap (λ t. option_map suc (through_quote c.args.quote t (drop (c.loop-i.i + 1) c.args.bytes.now))) (sym escapes))
 
 pub returns-clause-value : goal.returns-clause-value
-returns-clause-value c = nowhere c.loop-i.i c.loop-i.invariant (through_quote-end c.args.quote c.loop-i.escaped c.args.bytes.now c.loop-i.i (omega arith))
+unfolding through_quote
+returns-clause-value c = nowhere c.loop-i.i c.loop-i.invariant (at_drop_all (through_quote c.args.quote c.loop-i.escaped) c.args.bytes.now c.loop-i.i (omega arith))
