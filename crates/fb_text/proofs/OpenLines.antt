@@ -1,6 +1,6 @@
 -- Quotes that are not closed on their line.
-use Rattle.std.proofs.Common.{◌≡◌, ⊎_elim, take, ℕ, zero, suc, ◌+◌, ◌-◌, ◌<◌, Bool, true, false, not, ◌&&◌, List, [], ◌∷◌, drop, get_or, sym, refl, ap, ◌∙◌, arith, None, true≢false}
-use Rattle.std.proofs.{lemmas.Bool.Decides.{nat_tests}, lemmas.Bool.{cond-true, cond-false, eqb-true, cases_lt}, lemmas.List.{drop-drop, get_or-drop}}
+use Rattle.std.proofs.Common.{◌≡◌, take, ℕ, zero, suc, ◌+◌, ◌-◌, ◌<◌, Bool, true, false, not, ◌&&◌, List, [], ◌∷◌, drop, get_or, sym, refl, ap, ◌∙◌, arith, None}
+use Rattle.std.proofs.{lemmas.Bool.Decides.{nat_tests}, lemmas.Bool.{cond-true, cond-false, eqb-true}, lemmas.List.{drop-drop, get_or-drop}}
 use Rattle.std.specs.{Prelude.{◌==◌}, List.{prefix_len}, Char.{is_ascii_digit}}
 use Rattle.fb_text.specs.Bytes.{is_blank, is_line_end, is_quote, is_word_start, escape, first}
 use Rattle.fb_text.specs.Scan.{AreOpen, NoString, no_quotes, extended, line_rest, reach_of, string_len, symbol_len, through_quote}
@@ -106,12 +106,7 @@ unfolding is_quote is_word_start
 quote-only b h = grind (arith, nat_tests)
 
 quote-no_symbol : (bs : List ℕ) → is_quote (first bs) ≡ true → symbol_len bs ≡ 0
-quote-no_symbol bs q =
-    let t = Takes-symbol bs in
-    ⊎_elim
-    (λ some. absurd (true≢false (sym (t.passes some) ∙ string-no-symbol (take (symbol_len bs) bs) (ap is_quote (first-take bs (symbol_len bs) some) ∙ q))))
-    (λ none. omega (arith, none))
-    (cases_lt 0 (symbol_len bs))
+quote-no_symbol bs q = grind (arith, (Takes-symbol bs).passes, string-no-symbol (take (symbol_len bs) bs), first-take bs (symbol_len bs))
 
 pub quote-piece : (bs : List ℕ) → is_quote (first bs) ≡ true → piece_at bs ≡ token_at bs
 unfolding is_quote is_blank
