@@ -1,5 +1,5 @@
-use Rattle.std.proofs.{Common.{sym, ap, ◌∙◌, Ok, not, true≢false}, lemmas.Bool.{cond-true}}
-use Rattle.fb_text.proofs.{Reading.{all-scanned, nothing-scanned, open-comment, past-gap, past-token}, lexer.tokens.Goals.{then-not-refused, else-not-refused}}
+use Rattle.std.proofs.{Common.{sym, ap, ◌∙◌, Ok, arith}, lemmas.Grind.{common_steps}}
+use Rattle.fb_text.proofs.Reading.{all-scanned, nothing-scanned, open-comment, past-gap, past-token}
 use Rattle.fb_text.proofs.lexer.tokens.Goals as goal
 
 pub loop-place-init : goal.loop-place-init
@@ -16,13 +16,7 @@ returns-in-Unclosed-clause-exact c =
 pub loop-place-preserved : goal.loop-place-preserved
 loop-place-preserved c =
     past-token _ _ _ _ _ _ c.loop-place.invariant c.loop-place-test.true c.in-Found.ensures.quotes c.in-Found.kind c.in-Found.len c.if-not-refused.tokens.items c.if-not-refused.refused (sym c.in-Found.ensures.value) c.in-Found.ensures.fits
-    (elim c.if-not-refused.branch [
-      | then-not-refused w ↦ λ f. (
-        w.if-not-refused.true,
-        ap (λ v. v.items) w.tokens-is ∙ w.push.ensures.items ∙ cond-true _ _ _ (w.is_err-refused.ensures.negation ∙ ap not (sym w.refused-is ∙ f)),
-      )
-      | else-not-refused w ↦ λ f. absurd (true≢false (sym w.if-not-refused.false ∙ sym w.refused-is ∙ f))
-    ])
+    (λ f. grind (arith, common_steps))
 
 pub returns-then-refused-clause-exact : goal.returns-then-refused-clause-exact
 returns-then-refused-clause-exact c =
