@@ -1,17 +1,17 @@
 -- What stands at the front of a text ends between two characters.
-use Rattle.std.proofs.Common.{◌≡◌, ◌≢◌, ℕ, zero, suc, ◌+◌, ◌-◌, ◌<◌, ◌≤◌, Bool, true, not, ◌&&◌, ◌||◌, ltb, List, [], ◌∷◌, ◌++◌, length, get_or, take, drop, sym, refl, ap, subst, ◌∙◌, arith, length-drop, length-take-le, Option, Some, None, ⊎_elim, lit<}
+use Rattle.std.proofs.Common.{◌≡◌, ◌≢◌, ℕ, zero, suc, ◌+◌, ◌-◌, ◌<◌, ◌≤◌, Bool, true, not, ◌&&◌, ◌||◌, ltb, List, [], ◌∷◌, ◌++◌, length, get_or, take, drop, sym, refl, ap, subst, ◌∙◌, arith, length-append, length-drop, length-take-le, Option, Some, None, ⊎_elim, lit<}
 use Rattle.std.proofs.lemmas.List.Sums.{prefix_len-le-length, prefix_len_stops}
 use Rattle.std.proofs.lemmas.Str.{IsCharBoundary-after_ascii, IsCharBoundary-before_ascii, IsCharBoundary-end, IsCharBoundary-at_seam}
 use Rattle.std.proofs.{Math.Utf8.{encode, encodes, scalar, scalars}, lemmas.Bool.Decides.{nat_tests}}
-use Rattle.std.proofs.{lemmas.Bool.{cond_both, and_parts, eqb-true, ltb-true, cases_lt}, lemmas.List.{get_or-drop, get_or-take}, lemmas.Option.{same_Some}}
-use Rattle.std.specs.{Prelude.{◌==◌, codes, nat_eq, nat_lt, option_map, IfSome}, List.{prefix_len, list_all, starts_with}, Char.{is_ascii_digit}}
+use Rattle.std.proofs.{lemmas.Bool.{cond_both, and_parts, eqb-true, ltb-true, cases_lt}, lemmas.List.{get_or-drop, get_or-take, get_or-append-add}, lemmas.Option.{same_Some}}
+use Rattle.std.specs.{Prelude.{◌==◌, codes, nat_eq, nat_lt}, List.{prefix_len, list_all, starts_with}, Char.{is_ascii_digit}}
 use Rattle.std.specs.Str.{IsAscii, IsUtf8, IsCharBoundary, continuation_len}
 use Rattle.fb_text.specs.Bytes.{is_blank, is_word_start, is_word_byte, is_number_byte, is_sign, is_exponent_mark, is_line_end, is_quote, hash, point, escape, first}
 use Rattle.fb_text.specs.Forms.{are_some, sign_len, after_sign, is_exponent, is_fraction, is_number_tail, is_number, is_value_byte, are_value_bytes, is_value, is_typed_tail, is_typed, is_date, is_real, leading_word, after_word, is_string, is_string_rest, is_symbol, is_symbol_byte, is_symbol_pair, form_of, HasForm}
 use Rattle.fb_text.specs.Tokens.{of_kind, longest, token_or_char, token_at, char_len, before_close, comment_at, piece_at, IsPrefix, FitsIn, IsLongest}
 use Rattle.fb_text.specs.declared.token.TokenKind.TheVariants.{Word, Number, Typed, String, Symbol, Other}
 use Rattle.fb_text.specs.{declared.token.TokenKind.{TokenKind}, declared.scan.Piece.TheVariants.{Gap, Unclosed, Found}}
-use Rattle.fb_text.proofs.{NameLemmas.{is_word_byte-ascii, is_word-ascii}, Longest.{by_test}, LongestForms.{prefix_len-pos}}
+use Rattle.fb_text.proofs.{NameLemmas.{is_word_byte-ascii, is_word-ascii}, Longest.{by_test}, LongestForms.{prefix_len-pos}, ScanLemmas.{closes-at}}
 use Rattle.fb_text.proofs.LongestToken.{any-byte, any-pair}
 
 -- all bytes are ASCII
@@ -231,31 +231,19 @@ begins a b [] h = cc
 begins a b (x ∷ []) h = grind arith
 begins a b (x ∷ y ∷ text) h = record { long = omega arith; first = grind (arith, nat_tests); second = grind (arith, nat_tests) }
 
--- where a comment is closed
-pub record IsClosed (text : List ℕ) (n : ℕ) : Type 0 where
-  pub within : n + 2 ≤ length text
-  pub closes : get_or text (n + 1) 0 ≡ 41
-
-closed-suc : (b : ℕ) (bs : List ℕ) (o : Option ℕ) → IfSome o (IsClosed bs) → IfSome (option_map suc o) (IsClosed (b ∷ bs))
-closed-suc b bs None h = tt
-closed-suc b bs (Some n) h =
-    let next : suc n + 1 ≡ suc (n + 1) = omega arith in
-    record { within = omega (arith, h.within); closes = ap (λ k. get_or (b ∷ bs) k 0) next ∙ h.closes }
-
-closed : (text : List ℕ) → IfSome (before_close text) (IsClosed text)
-unfolding before_close
-closed [] = tt
-closed (b ∷ bs) =
-    cond_both (starts_with nat_eq (b ∷ bs) (codes "*)")) (Some 0) (option_map suc (before_close bs)) (λ o. IfSome o (IsClosed (b ∷ bs)))
-    (λ e. let prefix = begins 42 41 (b ∷ bs) e in record { within = prefix.long; closes = prefix.second })
-    (λ e. closed-suc b bs (before_close bs) (closed bs))
-
-comment-case : (text : List ℕ) (o : Option ℕ) → IsUtf8 text → 2 ≤ length text → IfSome o (IsClosed (drop 2 text)) → FitsIn text (elim o [ Some n ↦ Gap (n + 4) | None ↦ Unclosed ])
-comment-case text None utf8 long h = tt
-comment-case text (Some n) utf8 long h =
+-- a comment is closed by an ASCII byte
+comment-case : (text : List ℕ) (o : Option ℕ) → IsUtf8 text → 2 ≤ length text → before_close (drop 2 text) ≡ o → FitsIn text (elim o [ Some n ↦ Gap (n + 4) | None ↦ Unclosed ])
+comment-case text None utf8 long e = tt
+comment-case text (Some n) utf8 long e =
+    let rest = drop 2 text in
+    let at = closes-at rest n e in
+    let front : length (take n rest) ≡ n = length-take-le n rest at.within in
+    let fits : n + 4 ≤ length text = omega (arith, front, ap length at.parts, length-append (take n rest) (codes "*)" ++ drop (suc (suc n)) rest), length-drop 2 text) in
     let place : n + 4 - 1 ≡ 2 + (n + 1) = omega arith in
-    let last : get_or text (n + 4 - 1) 0 ≡ 41 = ap (λ k. get_or text k 0) place ∙ sym (get_or-drop 2 text (n + 1) 0) ∙ h.closes in
-    after-ascii text (n + 4) utf8 (omega arith) (omega (arith, h.within, length-drop 2 text)) (omega (arith, last))
+    let index : n + 1 ≡ length (take n rest) + 1 = omega (arith, front) in
+    let last : get_or text (n + 4 - 1) 0 ≡ 41 = ap (λ k. get_or text k 0) place ∙ sym (get_or-drop 2 text (n + 1) 0) ∙ (λ i. get_or (at.parts i) (index i) 0)
+    ∙ get_or-append-add (take n rest) (codes "*)" ++ drop (suc (suc n)) rest) 1 0 in
+    after-ascii text (n + 4) utf8 (omega arith) fits (omega (arith, last))
 
 line-fits : (text : List ℕ) → starts_with nat_eq text (codes "//") ≡ true → IsPrefix text (prefix_len (λ b. not (b == 10)) text)
 line-fits text e =
@@ -276,7 +264,7 @@ unfolding piece_at token_at comment_at is_blank
 piece-fits text utf8 pos =
     cond_both (is_blank (first text)) _ _ (FitsIn text)
     (λ e. after-ascii text 1 utf8 (omega arith) pos (grind (arith, nat_tests)))
-    (λ n. cond_both (starts_with nat_eq text (codes "(*")) _ _ (FitsIn text) (λ e. comment-case text (before_close (drop 2 text)) utf8 (begins 40 42 text e).long (closed (drop 2 text)))
+    (λ n. cond_both (starts_with nat_eq text (codes "(*")) _ _ (FitsIn text) (λ e. comment-case text (before_close (drop 2 text)) utf8 (begins 40 42 text e).long refl)
     (λ m. cond_both (starts_with nat_eq text (codes "//")) _ _ (FitsIn text) (line-fits text) (λ t. found-fits text (longest (length text) text) utf8 pos refl)))
 
 longest-case : (text : List ℕ) (kind : TokenKind) (n : ℕ) (o : Option (TokenKind × ℕ)) → longest (length text) text ≡ o → token_or_char o (char_len text) ≡ Found kind n → kind ≢ Other → IsLongest text kind n

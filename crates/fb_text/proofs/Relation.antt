@@ -8,12 +8,9 @@ use Rattle.fb_text.specs.Tokens.{IsLongest, before_close, char_len, comment_at, 
 use Rattle.fb_text.specs.Reads.{AtBlank, AtComment, AtEnd, AtLineComment, AtOpenComment, AtOther, AtToken, BeginsToken, EndsLine, HasNoForm, IsFirstClose, NeverCloses, Reads, token_of}
 use Rattle.fb_text.specs.{declared.token.Span.{Span}, declared.token.Token.{Token}, declared.token.TokenKind.{TokenKind}}
 use Rattle.fb_text.specs.{declared.token.TokenKind.TheVariants.{Other}, declared.scan.Piece.{Piece}, declared.scan.Piece.TheVariants.{Gap, Unclosed}}
-use Rattle.fb_text.proofs.{Boundaries.{longest-is}, Longest.{by_test}, LongestToken.{found, longest-none}, Pieces.{blank-piece}, Reading.{found-step, gap-step, unclosed-step}}
+use Rattle.fb_text.proofs.{Boundaries.{longest-is}, Longest.{by_test}, LongestToken.{found, longest-none}, Pieces.{blank-piece}, ScanLemmas.{starts, closes-at}, Reading.{found-step, gap-step, unclosed-step}}
 
 -- prefixes
-starts : (needle text : List ℕ) → starts_with nat_eq text needle ≡ true → text ≡ needle ++ drop (length needle) text
-starts needle text h = (starts_is Decides-eqb text needle (starts_with nat_eq text needle) refl).0 h
-
 starting : (needle text rest : List ℕ) → text ≡ needle ++ rest → starts_with nat_eq text needle ≡ true
 starting needle text rest e = (starts_is Decides-eqb text needle (starts_with nat_eq text needle) refl).1 rest e
 
@@ -29,24 +26,6 @@ close-by (b ∷ prefix) back =
     by_test (starts_with nat_eq (b ∷ (prefix ++ (codes "*)" ++ back))) (codes "*)"))
     (λ t. (0, cond-true _ (Some 0) (option_map suc (before_close (prefix ++ (codes "*)" ++ back)))) t, omega arith))
     (λ f. (suc later.0, cond-false _ (Some 0) (option_map suc (before_close (prefix ++ (codes "*)" ++ back)))) f ∙ ap (option_map suc) later.1, omega (arith, later.2)))
-
-record ClosesAt (text : List ℕ) (n : ℕ) : Type 0 where
-  pub parts : text ≡ take n text ++ (codes "*)" ++ drop (suc (suc n)) text)
-  pub within : n ≤ length text
-
-closes-later : (b : ℕ) (bs : List ℕ) (n : ℕ) (o : Option ℕ) → before_close bs ≡ o → option_map suc o ≡ Some n → ((m : ℕ) → before_close bs ≡ Some m → ClosesAt bs m) → ClosesAt (b ∷ bs) n
-closes-later b bs n None e h more = cc
-closes-later b bs n (Some m) e h more =
-    let at = more m e in
-    subst (ClosesAt (b ∷ bs)) (same_Some (suc m) n h) (record { parts = ap (λ xs. b ∷ xs) at.parts; within = omega (arith, at.within) })
-
-closes-at : (text : List ℕ) (n : ℕ) → before_close text ≡ Some n → ClosesAt text n
-unfolding before_close
-closes-at [] n e = cc
-closes-at (b ∷ bs) n e =
-    by_test (starts_with nat_eq (b ∷ bs) (codes "*)"))
-    (λ t. subst (ClosesAt (b ∷ bs)) (same_Some 0 n (sym (cond-true _ _ _ t) ∙ e)) (record { parts = starts (codes "*)") (b ∷ bs) t; within = omega arith }))
-    (λ f. closes-later b bs n (before_close bs) refl (sym (cond-false _ _ _ f) ∙ e) (closes-at bs))
 
 never : (text : List ℕ) → before_close text ≡ None → NeverCloses text
 never text e prefix back is =
