@@ -91,19 +91,16 @@ module _ {V : Type 0} where
   named : (P : List ℕ → Type 0) (es : List (List ℕ × V)) (k : ℕ) → k < length es → AllByRecursion P (names_of es) → P (name_at es k)
   named P es k lt all = All-get_or P (names_of es) k [] (omega (arith, lt, length-map es (λ e. e.0))) (All-from_recursion P (names_of es) all)
 
-  pub sorted_low : (es : List (List ℕ × V)) (k : ℕ) → IsStrictlySortedBy name_cmp (names_of es) → IsStrictlySortedBy name_cmp (names_of (take k es))
+  sorted_parts : (xs ys : List (List ℕ × V)) → IsStrictlySortedBy name_cmp (names_of (xs ++ ys)) → IsStrictlySortedBy name_cmp (names_of xs) × IsStrictlySortedBy name_cmp (names_of ys)
   unfolding IsStrictlySortedBy
-  sorted_low [] zero s = tt
-  sorted_low [] (suc k) s = tt
-  sorted_low (e ∷ es) zero s = tt
-  sorted_low (e ∷ es) (suc k) s = (taken (λ m. name_cmp e.0 m ≡ Less) es k s.0, sorted_low es k s.1)
+  sorted_parts [] ys s = (tt, s)
+  sorted_parts (x ∷ xs) ys s = let rest = sorted_parts xs ys s.1 in ((all_left (λ m. name_cmp x.0 m ≡ Less) xs ys s.0, rest.0), rest.1)
+
+  pub sorted_low : (es : List (List ℕ × V)) (k : ℕ) → IsStrictlySortedBy name_cmp (names_of es) → IsStrictlySortedBy name_cmp (names_of (take k es))
+  sorted_low es k s = (sorted_parts (take k es) (drop k es) (rw (take-append-drop k es) s)).0
 
   pub sorted_high : (es : List (List ℕ × V)) (k : ℕ) → IsStrictlySortedBy name_cmp (names_of es) → IsStrictlySortedBy name_cmp (names_of (drop k es))
-  unfolding IsStrictlySortedBy
-  sorted_high [] zero s = s
-  sorted_high [] (suc k) s = s
-  sorted_high (e ∷ es) zero s = s
-  sorted_high (e ∷ es) (suc k) s = sorted_high es k s.1
+  sorted_high es k s = (sorted_parts (take k es) (drop k es) (rw (take-append-drop k es) s)).1
 
   -- the names up to k are not greater than the k-th, and the others are
   up_to : (es : List (List ℕ × V)) (k : ℕ) → k < length es → IsStrictlySortedBy name_cmp (names_of es) → AllByRecursion (λ m. is_le (name_cmp m (name_at es k)) ≡ true) (names_of (take (suc k) es))
