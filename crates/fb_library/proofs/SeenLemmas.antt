@@ -4,7 +4,7 @@ use Rattle.std.proofs.{lemmas.Bool.{false≢true}, lemmas.Map.Views.{Contains-fr
 pub use Rattle.std.proofs.lemmas.Bool.{or_left, or_right}
 use Rattle.std.specs.{List.{Contains}, Ordering.{eq_by_cmp}, Cmp.{eq_by_cmp_equiv}, Cmp.Lexicographic.{slice_cmp, nat_list_cmp_total}}
 use Rattle.std.specs.{BTreeSet.{BTreeSet, Updates}, FinMap.{slice_cmp-IsAntisymmetric, nat_cmp-IsAntisymmetric}}
-use Rattle.fb_parse.proofs.{Text.OrderLemmas.{has-append as any-append}, Text.Tests.{by_bool, or_cases, or_assoc, or_false, no_both}}
+use Rattle.fb_parse.proofs.{Text.OrderLemmas.{has-append as any-append}, Text.Tests.{by_bool, or_cases, or_false, no_both}}
 use Rattle.fb_parse.specs.Text.Order.{name_cmp}
 use Rattle.fb_library.specs.Seen.{has_name, unseen, Opens}
 
