@@ -4,14 +4,14 @@ use Rattle.std.proofs.lemmas.List.Sums.{prefix_len-le-length, prefix_len_stops}
 use Rattle.std.proofs.lemmas.Str.{IsCharBoundary-after_ascii, IsCharBoundary-before_ascii, IsCharBoundary-end, IsCharBoundary-at_seam}
 use Rattle.std.proofs.{Math.Utf8.{encode, encodes, scalar, scalars}, lemmas.Bool.Decides.{nat_tests}}
 use Rattle.std.proofs.{lemmas.Bool.{cond_both, and_parts, eqb-true, ltb-true, cases_lt}, lemmas.List.{get_or-drop, get_or-take, get_or-append-add}, lemmas.Option.{same_Some}}
-use Rattle.std.specs.{Prelude.{◌==◌, codes, nat_eq, nat_lt}, List.{prefix_len, list_all, starts_with}, Char.{is_ascii_digit}}
+use Rattle.std.specs.{Prelude.{◌==◌, codes, nat_eq, nat_lt}, List.{prefix_len, starts_with}, Char.{is_ascii_digit}}
 use Rattle.std.specs.Str.{IsAscii, IsUtf8, IsCharBoundary, continuation_len}
 use Rattle.fb_text.specs.Bytes.{is_blank, is_word_start, is_word_byte, is_number_byte, is_sign, is_exponent_mark, is_line_end, is_quote, hash, point, escape, first}
 use Rattle.fb_text.specs.Forms.{are_some, sign_len, after_sign, is_exponent, is_fraction, is_number_tail, is_number, is_value_byte, are_value_bytes, is_value, is_typed_tail, is_typed, is_date, is_real, leading_word, after_word, is_string, is_string_rest, is_symbol, is_symbol_byte, is_symbol_pair, form_of, HasForm}
 use Rattle.fb_text.specs.Tokens.{of_kind, longest, token_or_char, token_at, char_len, before_close, comment_at, piece_at, IsPrefix, FitsIn, IsLongest}
 use Rattle.fb_text.specs.declared.token.TokenKind.TheVariants.{Word, Number, Typed, String, Symbol, Other}
 use Rattle.fb_text.specs.{declared.token.TokenKind.{TokenKind}, declared.scan.Piece.TheVariants.{Gap, Unclosed, Found}}
-use Rattle.fb_text.proofs.{NameLemmas.{is_word_byte-ascii, is_word-ascii}, Longest.{by_test}, LongestForms.{prefix_len-pos}, ScanLemmas.{closes-at}}
+use Rattle.fb_text.proofs.{NameLemmas.{is_word_byte-ascii, is_word-ascii, list_all-ascii}, Longest.{by_test}, LongestForms.{prefix_len-pos}, ScanLemmas.{closes-at}}
 use Rattle.fb_text.proofs.LongestToken.{any-byte, any-pair}
 
 -- all bytes are ASCII
@@ -22,15 +22,9 @@ ascii-cons : (b : ℕ) (bs : List ℕ) → b < 128 → IsAscii bs → IsAscii (b
 ascii-cons b bs h k zero = h
 ascii-cons b bs h k (suc i) = k i
 
-ascii-all : (p : ℕ → Bool) → ((b : ℕ) → p b ≡ true → b < 128) → (bs : List ℕ) → list_all p bs ≡ true → IsAscii bs
-ascii-all p low [] h = ascii-nil
-ascii-all p low (b ∷ bs) h =
-    let parts = and_parts (p b) (list_all p bs) h in
-    ascii-cons b bs (low b parts.0) (ascii-all p low bs parts.1)
-
 ascii-some : (p : ℕ → Bool) → ((b : ℕ) → p b ≡ true → b < 128) → (bs : List ℕ) → are_some p bs ≡ true → IsAscii bs
 ascii-some p low [] h = ascii-nil
-ascii-some p low (b ∷ bs) h = ascii-all p low (b ∷ bs) h
+ascii-some p low (b ∷ bs) h = list_all-ascii p low (b ∷ bs) h
 
 ascii-run : (p : ℕ → Bool) → ((b : ℕ) → p b ≡ true → b < 128) → (bs : List ℕ) → IsAscii (drop (prefix_len p bs) bs) → IsAscii bs
 ascii-run p low [] h = ascii-nil
