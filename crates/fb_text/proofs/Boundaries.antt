@@ -1,5 +1,5 @@
 -- What stands at the front of a text ends between two characters.
-use Rattle.std.proofs.Common.{◌≡◌, ◌≢◌, ℕ, zero, suc, ◌+◌, ◌-◌, ◌<◌, ◌≤◌, Bool, true, not, ◌&&◌, ◌||◌, ltb, List, [], ◌∷◌, ◌++◌, length, get_or, take, drop, sym, refl, ap, subst, ◌∙◌, arith, length-append, length-drop, length-take-le, Option, Some, None, ⊎_elim, lit<}
+use Rattle.std.proofs.Common.{◌≡◌, ◌≢◌, ℕ, zero, suc, ◌+◌, ◌-◌, ◌<◌, ◌≤◌, Bool, true, not, ◌&&◌, ◌||◌, ltb, List, [], ◌∷◌, ◌++◌, length, get_or, take, drop, sym, refl, ap, subst, ◌∙◌, arith, length-append, length-drop, length-take-le, Option, Some, None, ◌⊎◌, inl, inr, ⊎_elim, lit<}
 use Rattle.std.proofs.lemmas.List.Sums.{prefix_len-le-length, prefix_len_stops}
 use Rattle.std.proofs.lemmas.Str.{IsCharBoundary-after_ascii, IsCharBoundary-before_ascii, IsCharBoundary-end, IsCharBoundary-at_seam}
 use Rattle.std.proofs.{Math.Utf8.{encode, encodes, scalar, scalars}, lemmas.Bool.Decides.{nat_tests}}
@@ -261,25 +261,20 @@ piece-fits text utf8 pos =
     (λ n. cond_both (starts_with nat_eq text (codes "(*")) _ _ (FitsIn text) (λ e. comment-case text (before_close (drop 2 text)) utf8 (begins 40 42 text e).long refl)
     (λ m. cond_both (starts_with nat_eq text (codes "//")) _ _ (FitsIn text) (line-fits text) (λ t. found-fits text (longest (length text) text) utf8 pos refl)))
 
-longest-case : (text : List ℕ) (kind : TokenKind) (n : ℕ) (o : Option (TokenKind × ℕ)) → longest (length text) text ≡ o → token_or_char o (char_len text) ≡ Found kind n → kind ≢ Other → IsLongest text kind n
-longest-case text kind n None e h other = absurd (other (sym (let same : Other ≡ kind = cc in same)))
-longest-case text kind n (Some found) e h other =
-    let is = longest-is (length text) text found e in
+-- a token that was found is the longest prefix with a form, or is of the kind `Other`
+is-found : (text : List ℕ) (kind : TokenKind) (n : ℕ) (o : Option (TokenKind × ℕ)) → longest (length text) text ≡ o → token_or_char o (char_len text) ≡ Found kind n → (kind ≡ Other) ⊎ IsFound text (length text) (kind, n)
+is-found text kind n None e h = inl cc
+is-found text kind n (Some found) e h =
     let kinds : found.0 ≡ kind = cc in
     let lens : found.1 ≡ n = cc in
-    rw (← kinds, ← lens) (record { within = is.within; form = is.form; longer = is.longer })
+    inr (rw (← kinds, ← lens) (longest-is (length text) text found e))
 
 -- a token of another kind than `Other` is the longest prefix that has a form
 pub longest-token : (text : List ℕ) (kind : TokenKind) (n : ℕ) → token_at text ≡ Found kind n → kind ≢ Other → IsLongest text kind n
 unfolding token_at
-longest-token text kind n h other = longest-case text kind n (longest (length text) text) refl h other
-
-found-kind : (text : List ℕ) (kind : TokenKind) (n : ℕ) (o : Option (TokenKind × ℕ)) → longest (length text) text ≡ o → token_or_char o (char_len text) ≡ Found kind n → HasForm kind (take n text)
-found-kind text kind n None e h = subst (λ k. HasForm k (take n text)) (let same : Other ≡ kind = cc in same) tt
-found-kind text kind n (Some found) e h =
-    let kinds : found.0 ≡ kind = cc in
-    let lens : found.1 ≡ n = cc in
-    rw (← kinds, ← lens) (form-kind (take found.1 text) found.0 (longest-is (length text) text found e).form)
+longest-token text kind n h other =
+    ⊎_elim (λ same. absurd (other same)) (λ (is : IsFound text (length text) (kind, n)). record { within = is.within; form = is.form; longer = is.longer })
+    (is-found text kind n (longest (length text) text) refl h)
 
 -- the token at the front has the form of its kind
 pub piece-spelled : (text : List ℕ) (kind : TokenKind) (n : ℕ) → piece_at text ≡ Found kind n → HasForm kind (take n text)
@@ -288,4 +283,4 @@ piece-spelled text kind n =
     cond_both (is_blank (first text)) (Gap 1) _ (λ p. p ≡ Found kind n → HasForm kind (take n text)) (λ e h. cc)
     (λ a. cond_both (starts_with nat_eq text (codes "(*")) _ _ (λ p. p ≡ Found kind n → HasForm kind (take n text)) (λ e h. grind arith)
     (λ b. cond_both (starts_with nat_eq text (codes "//")) (Gap (prefix_len (λ c. not (c == 10)) text)) _ (λ p. p ≡ Found kind n → HasForm kind (take n text)) (λ e h. cc)
-    (λ c h. found-kind text kind n (longest (length text) text) refl h)))
+    (λ c h. ⊎_elim (λ same. rw same tt) (λ (is : IsFound text (length text) (kind, n)). form-kind (take n text) kind is.form) (is-found text kind n (longest (length text) text) refl h))))
