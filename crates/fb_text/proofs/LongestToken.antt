@@ -1,7 +1,7 @@
 -- The token at the front of a text, by its first byte.
-use Rattle.std.proofs.Common.{◌≡◌, ℕ, zero, suc, ◌+◌, ◌-◌, ◌<◌, ◌≤◌, Bool, true, false, not, cond, ◌&&◌, List, [], ◌∷◌, length, take, drop, sym, refl, ap, ◌∙◌, arith, length-drop, Some, None, ⊎_elim}
+use Rattle.std.proofs.Common.{◌≡◌, ℕ, zero, suc, ◌+◌, ◌-◌, ◌<◌, ◌≤◌, Bool, true, false, not, cond, ◌&&◌, List, [], ◌∷◌, length, take, refl, ap, ◌∙◌, arith, length-drop, Some, None, ⊎_elim}
 use Rattle.std.proofs.lemmas.Bool.Decides.{nat_tests}
-use Rattle.std.proofs.lemmas.Bool.{cond-true, cond-false, and_left, and_parts, or_cases, eqb-true, cases_lt}
+use Rattle.std.proofs.lemmas.Bool.{cond-true, cond-false, and_left, cases_lt}
 use Rattle.std.proofs.lemmas.List.Sums.{prefix_len-le-length}
 use Rattle.std.specs.{Prelude.{◌==◌, codes}, List.{prefix_len, list_all, list_any}, Char.{is_ascii_digit}, Cmp.Lexicographic.{pointwise}}
 use Rattle.fb_text.specs.{Bytes.{is_word_start, is_word_byte, is_quote, first}, Words.{is_word}}
@@ -27,8 +27,7 @@ digit-only b h = grind (arith, nat_tests)
 -- what holds of each byte of a list holds of one that equals one of them
 pub any-byte : (p : ℕ → Bool) (xs : List ℕ) (b : ℕ) → list_any (λ s. s == b) xs ≡ true → list_all p xs ≡ true → p b ≡ true
 any-byte p [] b h k = cc
-any-byte p (x ∷ xs) b h k =
-    ⊎_elim (λ e. sym (ap p (eqb-true x b e)) ∙ (and_parts (p x) (list_all p xs) k).0) (λ e. any-byte p xs b e (and_parts (p x) (list_all p xs) k).1) (or_cases (x == b) (list_any (λ s. s == b) xs) h)
+any-byte p (x ∷ xs) b h k = grind (arith, nat_tests, any-byte p xs b)
 
 -- and of a list of two
 pub any-pair : (q : List ℕ → Bool) (xs : List (List ℕ)) (a b : ℕ) → list_any (λ s. pointwise (λ x y. x == y) s (a ∷ b ∷ [])) xs ≡ true → list_all q xs ≡ true → q (a ∷ b ∷ []) ≡ true

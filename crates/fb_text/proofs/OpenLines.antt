@@ -1,40 +1,20 @@
 -- Quotes that are not closed on their line.
 use Rattle.std.proofs.Common.{◌≡◌, take, ℕ, zero, suc, ◌+◌, ◌-◌, ◌<◌, Bool, true, false, not, ◌&&◌, List, [], ◌∷◌, drop, get_or, sym, refl, ap, ◌∙◌, arith, None}
 use Rattle.std.proofs.{lemmas.Bool.Decides.{nat_tests}, lemmas.Bool.{cond-true, cond-false, eqb-true}, lemmas.List.{drop-drop, get_or-drop}}
-use Rattle.std.specs.{Prelude.{◌==◌}, List.{prefix_len}, Char.{is_ascii_digit}}
-use Rattle.fb_text.specs.Bytes.{is_blank, is_line_end, is_quote, is_word_start, escape, first}
+use Rattle.std.specs.{Prelude.{◌==◌}, Char.{is_ascii_digit}}
+use Rattle.fb_text.specs.Bytes.{is_blank, is_quote, is_word_start, escape, first}
 use Rattle.fb_text.specs.Scan.{AreOpen, NoString, no_quotes, extended, line_rest, reach_of, string_len, symbol_len, through_quote}
 use Rattle.fb_text.specs.declared.quotes.OpenQuotes.{OpenQuotes}
 use Rattle.fb_text.specs.{Tokens.{char_len, piece_at, token_at}, declared.token.TokenKind.TheVariants.{String, Other}, declared.scan.Piece.TheVariants.{Found}}
-use Rattle.fb_text.proofs.{Tests.{not_true}, Longest.{by_test}, Pieces.{token-piece}, LongestForms.{first-take, Takes-symbol}}
+use Rattle.fb_text.proofs.{Longest.{by_test}, Pieces.{token-piece}, LongestForms.{first-take, Takes-symbol}}
 use Rattle.fb_text.proofs.LongestToken.{string-no-symbol, token-string, token-other}
 
--- what an open quote says of the next byte
-record OnTheLine (quote : ℕ) (escaped : Bool) (b : ℕ) (bs : List ℕ) : Type 0 where
-  pub unclosed : (not escaped && b == quote) ≡ false
-  pub later : through_quote quote (not escaped && b == escape) bs ≡ None
-
-on-the-line : (quote : ℕ) (escaped : Bool) (b : ℕ) (bs : List ℕ) → is_line_end b ≡ false → through_quote quote escaped (b ∷ bs) ≡ None → OnTheLine quote escaped b bs
-unfolding through_quote
-on-the-line quote escaped b bs inner e = record { unclosed = grind arith; later = grind arith }
-
 -- a quote of that kind on the line was escaped, so it closes nothing and opens nothing that is closed
-inner-run : (p : ℕ → Bool) (b : ℕ) (bs : List ℕ) (k : ℕ) → k < prefix_len p (b ∷ bs) → (p b ≡ true) × (k < suc (prefix_len p bs))
-inner-run p b bs k h = grind arith
-
-escaped-is : (escaped : Bool) (b quote : ℕ) → (not escaped && b == quote) ≡ false → b ≡ quote → (not escaped && b == escape) ≡ false
-escaped-is escaped b quote h e = grind (arith, nat_tests)
-
 open-after : (quote : ℕ) (escaped : Bool) (bs : List ℕ) (k : ℕ) → through_quote quote escaped bs ≡ None → k < line_rest bs → get_or bs k 0 ≡ quote → through_quote quote false (drop (suc k) bs) ≡ None
+unfolding through_quote
 open-after quote escaped [] k e h q = absurd (omega arith)
-open-after quote escaped (b ∷ bs) zero e h q =
-    let run = inner-run (λ c. not (is_line_end c)) b bs 0 h in
-    let line = on-the-line quote escaped b bs (not_true (is_line_end b) run.0) e in
-    ap (λ t. through_quote quote t bs) (sym (escaped-is escaped b quote line.unclosed q)) ∙ line.later
-open-after quote escaped (b ∷ bs) (suc k) e h q =
-    let run = inner-run (λ c. not (is_line_end c)) b bs (suc k) h in
-    let line = on-the-line quote escaped b bs (not_true (is_line_end b) run.0) e in
-    open-after quote (not escaped && b == escape) bs k line.later (omega (arith, run.1)) q
+open-after quote escaped (b ∷ bs) zero e h q = grind (arith, nat_tests)
+open-after quote escaped (b ∷ bs) (suc k) e h q = grind (arith, nat_tests, open-after quote (not escaped && b == escape) bs k)
 
 -- no string begins at an open quote
 no-string-at : (bs : List ℕ) → through_quote (first bs) false (drop 1 bs) ≡ None → string_len bs ≡ 0
@@ -51,11 +31,11 @@ no-string-later : (bs : List ℕ) (k : ℕ) → is_quote (first bs) ≡ true →
 no-string-later bs zero q e h same = e
 no-string-later [] (suc k) q e h same = absurd (omega arith)
 no-string-later (b ∷ bs) (suc k) q e h same =
-    let run = inner-run (λ c. not (is_line_end c)) b bs (suc k) h in
+    let more : k < line_rest bs = grind arith in
     no-string-at (drop k bs)
     (ap (λ c. through_quote c false (drop 1 (drop k bs))) (get_or-drop k bs 0 0 ∙ ap (λ n. get_or bs n 0) (let e : k + 0 ≡ k = omega arith in e) ∙ same)
     ∙ ap (through_quote b false) (drop-drop 1 k bs ∙ ap (λ n. drop n bs) (let e : k + 1 ≡ suc k = omega arith in e))
-    ∙ open-after b false bs k (open-at (b ∷ bs) q e) (omega (arith, run.1)) same)
+    ∙ open-after b false bs k (open-at (b ∷ bs) q e) more same)
 
 pub first-at : (text : List ℕ) (place : ℕ) → first (drop place text) ≡ get_or text place 0
 first-at text place = get_or-drop place text 0 0 ∙ ap (λ n. get_or text n 0) (let z : place + 0 ≡ place = omega arith in z)

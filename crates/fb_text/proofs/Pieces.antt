@@ -1,5 +1,5 @@
 -- Pieces that the first byte tells.
-use Rattle.std.proofs.Common.{◌≡◌, ◌≢◌, ℕ, ◌+◌, ◌<◌, Bool, true, false, not, List, [], ◌∷◌, length, refl, ap, sym, ◌∙◌, arith, true≢false}
+use Rattle.std.proofs.Common.{◌≡◌, ◌≢◌, ℕ, ◌+◌, ◌<◌, Bool, true, false, not, List, [], ◌∷◌, length, refl, ap, ◌∙◌, arith}
 use Rattle.std.proofs.{lemmas.Bool.Decides.{nat_tests}, lemmas.Bool.{cond-true, cond-false, false_from_ne_true, not-true}}
 use Rattle.std.specs.{Prelude.{◌==◌, codes, nat_eq}, List.{list_all, list_any, prefix_len, starts_with}, Char.{is_ascii_digit}}
 use Rattle.fb_text.specs.Bytes.{is_blank, is_quote, is_word_byte, is_word_start, hash, first}
@@ -33,7 +33,7 @@ typed-piece bs start some = letter-piece bs start ∙ token-typed bs start some
 no-tail : (date real : Bool) (bs : List ℕ) → first bs ≢ hash → typed_tail_len date real bs ≡ 0
 unfolding typed_tail_len
 no-tail date real [] h = refl
-no-tail date real (b ∷ bs) h = cond-false (b == hash) _ 0 (false_from_ne_true _ (λ t. h (grind (arith, nat_tests))))
+no-tail date real (b ∷ bs) h = grind (arith, nat_tests)
 
 -- a word that no `#` follows begins no typed literal
 pub no-typed : (bs : List ℕ) → first (after_word bs) ≢ hash → typed_len bs ≡ 0
@@ -63,8 +63,7 @@ one-byte : (bs : List ℕ) → 0 < length bs → is_symbol_byte (first bs) ≡ t
 unfolding symbol_len
 one-byte [] some h alone = absurd (omega arith)
 one-byte (a ∷ []) some h alone = cond-true (is_symbol_byte a) 1 0 h
-one-byte (a ∷ b ∷ bs) some h alone =
-    cond-false (is_symbol_pair a b) 2 _ (false_from_ne_true _ (λ t. true≢false (sym (pair-begins a b t) ∙ alone))) ∙ cond-true (is_symbol_byte a) 1 0 h
+one-byte (a ∷ b ∷ bs) some h alone = grind (arith, pair-begins a b)
 
 -- a symbol that begins neither a longer one nor a comment
 pub symbol-piece : (bs : List ℕ) → 0 < length bs → is_symbol_byte (first bs) ≡ true → begins_pair (first bs) ≡ false → first bs ≢ 40 → first bs ≢ 47 → piece_at bs ≡ Found Symbol 1

@@ -24,8 +24,8 @@ close-by [] back = (0, refl, omega arith)
 close-by (b ∷ prefix) back =
     let later = close-by prefix back in
     by_test (starts_with nat_eq (b ∷ (prefix ++ (codes "*)" ++ back))) (codes "*)"))
-    (λ t. (0, cond-true _ (Some 0) (option_map suc (before_close (prefix ++ (codes "*)" ++ back)))) t, omega arith))
-    (λ f. (suc later.0, cond-false _ (Some 0) (option_map suc (before_close (prefix ++ (codes "*)" ++ back)))) f ∙ ap (option_map suc) later.1, omega (arith, later.2)))
+    (λ t. (0, rw t, omega arith))
+    (λ f. (suc later.0, rw f (ap (option_map suc) later.1), omega (arith, later.2)))
 
 never : (text : List ℕ) → before_close text ≡ None → NeverCloses text
 never text e prefix back is =
