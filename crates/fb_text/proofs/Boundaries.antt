@@ -1,12 +1,12 @@
 -- What stands at the front of a text ends between two characters.
-use Rattle.std.proofs.Common.{◌≡◌, ◌≢◌, ℕ, zero, suc, ◌+◌, ◌-◌, ◌<◌, ◌≤◌, Bool, true, not, ◌&&◌, ◌||◌, ltb, List, [], ◌∷◌, ◌++◌, length, get_or, take, drop, sym, refl, ap, subst, ◌∙◌, arith, length-append, length-drop, length-take-le, Option, Some, None, ◌⊎◌, inl, inr, ⊎_elim, lit<}
+use Rattle.std.proofs.Common.{◌≡◌, ◌≢◌, ℕ, zero, suc, ◌+◌, ◌-◌, ◌<◌, ◌≤◌, Bool, true, not, ◌||◌, ltb, List, [], ◌∷◌, ◌++◌, length, get_or, take, drop, sym, refl, ap, subst, ◌∙◌, arith, length-append, length-drop, length-take-le, Option, Some, None, ◌⊎◌, inl, inr, ⊎_elim, lit<}
 use Rattle.std.proofs.lemmas.List.Sums.{prefix_len-le-length, prefix_len_stops}
 use Rattle.std.proofs.lemmas.Str.{IsCharBoundary-after_ascii, IsCharBoundary-before_ascii, IsCharBoundary-end, IsCharBoundary-at_seam}
 use Rattle.std.proofs.{Math.Utf8.{encode, encodes, scalar, scalars}, lemmas.Bool.Decides.{nat_tests}}
 use Rattle.std.proofs.{lemmas.Bool.{cond_both, and_parts, eqb-true, ltb-true, cases_lt}, lemmas.List.{get_or-drop, get_or-take, get_or-append-add}, lemmas.Option.{same_Some}}
 use Rattle.std.specs.{Prelude.{◌==◌, codes, nat_eq, nat_lt}, List.{prefix_len, starts_with}, Char.{is_ascii_digit}}
 use Rattle.std.specs.Str.{IsAscii, IsUtf8, IsCharBoundary, continuation_len}
-use Rattle.fb_text.specs.Bytes.{is_blank, is_word_start, is_word_byte, is_number_byte, is_sign, is_exponent_mark, is_line_end, is_quote, hash, point, escape, first}
+use Rattle.fb_text.specs.Bytes.{is_blank, is_word_byte, is_number_byte, is_sign, is_exponent_mark, is_quote, hash, escape, first}
 use Rattle.fb_text.specs.Forms.{are_some, sign_len, after_sign, is_exponent, is_fraction, is_number_tail, is_number, is_value_byte, are_value_bytes, is_value, is_typed_tail, is_typed, is_date, is_real, leading_word, after_word, is_string, is_string_rest, is_symbol, is_symbol_byte, is_symbol_pair, form_of, HasForm}
 use Rattle.fb_text.specs.Tokens.{of_kind, longest, token_or_char, token_at, char_len, before_close, comment_at, piece_at, IsPrefix, FitsIn, IsLongest}
 use Rattle.fb_text.specs.declared.token.TokenKind.TheVariants.{Word, Number, Typed, String, Symbol, Other}
@@ -47,14 +47,11 @@ digit-low b h = grind (arith, nat_tests)
 exponent-ascii : (bs : List ℕ) → is_exponent bs ≡ true → IsAscii bs
 unfolding is_exponent is_exponent_mark
 exponent-ascii [] h = ascii-nil
-exponent-ascii (b ∷ bs) h =
-    let parts = and_parts (is_exponent_mark b) (are_some is_ascii_digit (after_sign bs)) h in
-    ascii-cons b bs (grind (arith, nat_tests, parts.0)) (ascii-sign bs (ascii-some is_ascii_digit digit-low (after_sign bs) parts.1))
+exponent-ascii (b ∷ bs) h = ascii-cons b bs (grind (arith, nat_tests)) (ascii-sign bs (ascii-some is_ascii_digit digit-low (after_sign bs) (grind arith)))
 
 fraction-ascii : (bs : List ℕ) → is_fraction bs ≡ true → IsAscii bs
 unfolding is_fraction
-fraction-ascii bs h =
-    ascii-run is_ascii_digit digit-low bs (exponent-ascii _ (and_parts (nat_lt 0 (prefix_len is_ascii_digit bs)) (is_exponent (drop (prefix_len is_ascii_digit bs) bs)) h).1)
+fraction-ascii bs h = ascii-run is_ascii_digit digit-low bs (exponent-ascii (drop (prefix_len is_ascii_digit bs) bs) (grind arith))
 
 tail-ascii : (bs : List ℕ) → is_number_tail bs ≡ true → IsAscii bs
 unfolding is_number_tail
@@ -62,14 +59,11 @@ tail-ascii [] h = ascii-nil
 tail-ascii (b ∷ bs) h =
     by_test (b == hash)
     (λ e. ascii-cons b bs (omega (arith, eqb-true b hash e)) (ascii-some is_word_byte is_word_byte-ascii bs (rw e at h)))
-    (λ e.
-    let parts = and_parts (b == point) (is_fraction bs) (rw e at h) in
-    ascii-cons b bs (omega (arith, eqb-true b point parts.0)) (fraction-ascii bs parts.1))
+    (λ e. ascii-cons b bs (grind (arith, nat_tests)) (fraction-ascii bs (grind arith)))
 
 number-ascii : (bs : List ℕ) → is_number bs ≡ true → IsAscii bs
 unfolding is_number is_number_byte
-number-ascii bs h =
-    ascii-run is_number_byte (λ b low. grind (arith, nat_tests)) bs (tail-ascii _ (and_parts (is_ascii_digit (first bs)) (is_number_tail (drop (prefix_len is_number_byte bs) bs)) h).1)
+number-ascii bs h = ascii-run is_number_byte (λ b low. grind (arith, nat_tests)) bs (tail-ascii (drop (prefix_len is_number_byte bs) bs) (grind arith))
 
 values-ascii : (date real : Bool) (before : ℕ) (bs : List ℕ) → are_value_bytes date real before bs ≡ true → IsAscii bs
 unfolding are_value_bytes is_value_byte is_word_byte is_sign
@@ -86,14 +80,12 @@ value-ascii date real (b ∷ bs) h = values-ascii date real hash (b ∷ bs) h
 typed-tail-ascii : (date real : Bool) (bs : List ℕ) → is_typed_tail date real bs ≡ true → IsAscii bs
 unfolding is_typed_tail
 typed-tail-ascii date real [] h = ascii-nil
-typed-tail-ascii date real (b ∷ bs) h =
-    let parts = and_parts (b == hash) (is_value date real (after_sign bs)) h in
-    ascii-cons b bs (omega (arith, eqb-true b hash parts.0)) (ascii-sign bs (value-ascii date real (after_sign bs) parts.1))
+typed-tail-ascii date real (b ∷ bs) h = ascii-cons b bs (grind (arith, nat_tests)) (ascii-sign bs (value-ascii date real (after_sign bs) (grind arith)))
 
 typed-ascii : (bs : List ℕ) → is_typed bs ≡ true → IsAscii bs
 unfolding is_typed
 typed-ascii bs h =
-    ascii-run is_word_byte is_word_byte-ascii bs (typed-tail-ascii (is_date (leading_word bs)) (is_real (leading_word bs)) (after_word bs) (and_parts (is_word_start (first bs)) (is_typed_tail (is_date (leading_word bs)) (is_real (leading_word bs)) (after_word bs)) h).1)
+    ascii-run is_word_byte is_word_byte-ascii bs (typed-tail-ascii (is_date (leading_word bs)) (is_real (leading_word bs)) (after_word bs) (grind arith))
 
 -- the last byte is ASCII
 abbrev EndsAscii : List ℕ → Type 0
@@ -115,16 +107,16 @@ string-rest-ends quote (b ∷ []) low h = omega (arith, eqb-true b quote h)
 string-rest-ends quote (b ∷ c ∷ cs) low h =
     by_test (b == escape)
     (λ e.
-    let rest = (and_parts (not (is_line_end c)) (is_string_rest quote cs) (rw e at h)).1 in
+    let rest : is_string_rest quote cs ≡ true = grind arith in
     ends-behind b (c ∷ cs) (omega arith) (ends-behind c cs (rest-some quote cs rest) (string-rest-ends quote cs low rest)))
-    (λ e. ends-behind b (c ∷ cs) (omega arith) (string-rest-ends quote (c ∷ cs) low (and_parts (not (b == quote) && not (is_line_end b)) (is_string_rest quote (c ∷ cs)) (rw e at h)).1))
+    (λ e. ends-behind b (c ∷ cs) (omega arith) (string-rest-ends quote (c ∷ cs) low (grind arith)))
 
 string-ends : (bs : List ℕ) → is_string bs ≡ true → EndsAscii bs
 unfolding is_string is_quote
 string-ends [] h = cc
 string-ends (b ∷ bs) h =
-    let parts = and_parts (is_quote b) (is_string_rest b bs) h in
-    ends-behind b bs (rest-some b bs parts.1) (string-rest-ends b bs (grind (arith, nat_tests, parts.0)) parts.1)
+    let rest : is_string_rest b bs ≡ true = grind arith in
+    ends-behind b bs (rest-some b bs rest) (string-rest-ends b bs (grind (arith, nat_tests)) rest)
 
 symbol-ends : (bs : List ℕ) → is_symbol bs ≡ true → EndsAscii bs
 unfolding is_symbol is_symbol_byte is_symbol_pair

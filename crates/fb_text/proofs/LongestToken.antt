@@ -52,14 +52,6 @@ unfolding is_word
 not-word [] h = refl
 not-word (b ∷ bs) h = and_left (is_word_start b) (list_all is_word_byte bs) h
 
-not-number : (bs : List ℕ) → is_ascii_digit (first bs) ≡ false → is_number bs ≡ false
-unfolding is_number
-not-number bs h = and_left (is_ascii_digit (first bs)) _ h
-
-not-typed : (bs : List ℕ) → is_word_start (first bs) ≡ false → is_typed bs ≡ false
-unfolding is_typed
-not-typed bs h = and_left (is_word_start (first bs)) _ h
-
 not-string : (bs : List ℕ) → is_quote (first bs) ≡ false → is_string bs ≡ false
 unfolding is_string
 not-string [] h = refl
@@ -67,16 +59,16 @@ not-string (b ∷ bs) h = and_left (is_quote b) (is_string_rest b bs) h
 
 -- the forms that begin with a letter or `_`
 form-letter : (bs : List ℕ) → is_word_start (first bs) ≡ true → form_of bs ≡ cond (is_word bs) (Some Word) (cond (is_typed bs) (Some Typed) None)
-unfolding form_of
-form-letter bs h = grind (arith, not-number bs, not-string bs, not-symbol bs, letter-only (first bs))
+unfolding form_of is_number is_typed
+form-letter bs h = grind (arith, not-string bs, not-symbol bs, letter-only (first bs))
 
 form-digit : (bs : List ℕ) → is_ascii_digit (first bs) ≡ true → form_of bs ≡ cond (is_number bs) (Some Number) None
-unfolding form_of
-form-digit bs h = grind (arith, not-word bs, not-typed bs, not-string bs, not-symbol bs, digit-only (first bs))
+unfolding form_of is_number is_typed
+form-digit bs h = grind (arith, not-word bs, not-string bs, not-symbol bs, digit-only (first bs))
 
 form-other : (bs : List ℕ) → is_word_start (first bs) ≡ false → is_ascii_digit (first bs) ≡ false → form_of bs ≡ cond (is_string bs) (Some String) (cond (is_symbol bs) (Some Symbol) None)
-unfolding form_of
-form-other bs h k = grind (arith, not-word bs h, not-number bs k, not-typed bs h)
+unfolding form_of is_number is_typed
+form-other bs h k = grind (arith, not-word bs h)
 
 -- the longest prefix
 longest-found : (text : List ℕ) (n : ℕ) (kind : TokenKind) (m : ℕ) → 0 < n → n ≤ m → form_of (take n text) ≡ Some kind → ((j : ℕ) → n < j → j ≤ m → form_of (take j text) ≡ None) → longest m text ≡ Some (kind, n)
