@@ -16,6 +16,9 @@ open-after quote escaped [] k e h q = absurd (omega arith)
 open-after quote escaped (b ∷ bs) zero e h q = grind (arith, nat_tests)
 open-after quote escaped (b ∷ bs) (suc k) e h q = grind (arith, nat_tests, open-after quote (not escaped && b == escape) bs k)
 
+pub first-at : (text : List ℕ) (place : ℕ) → first (drop place text) ≡ get_or text place 0
+first-at text place = get_or-drop place text 0 0 ∙ ap (λ n. get_or text n 0) (let z : place + 0 ≡ place = omega arith in z)
+
 -- no string begins at an open quote
 no-string-at : (bs : List ℕ) → through_quote (first bs) false (drop 1 bs) ≡ None → string_len bs ≡ 0
 unfolding string_len
@@ -33,12 +36,9 @@ no-string-later [] (suc k) q e h same = absurd (omega arith)
 no-string-later (b ∷ bs) (suc k) q e h same =
     let more : k < line_rest bs = grind arith in
     no-string-at (drop k bs)
-    (ap (λ c. through_quote c false (drop 1 (drop k bs))) (get_or-drop k bs 0 0 ∙ ap (λ n. get_or bs n 0) (let e : k + 0 ≡ k = omega arith in e) ∙ same)
+    (ap (λ c. through_quote c false (drop 1 (drop k bs))) (first-at bs k ∙ same)
     ∙ ap (through_quote b false) (drop-drop 1 k bs ∙ ap (λ n. drop n bs) (let e : k + 1 ≡ suc k = omega arith in e))
     ∙ open-after b false bs k (open-at (b ∷ bs) q e) more same)
-
-pub first-at : (text : List ℕ) (place : ℕ) → first (drop place text) ≡ get_or text place 0
-first-at text place = get_or-drop place text 0 0 ∙ ap (λ n. get_or text n 0) (let z : place + 0 ≡ place = omega arith in z)
 
 -- behind an open quote no string begins before the line's end
 pub open-line : (text : List ℕ) (place : ℕ) → is_quote (get_or text place 0) ≡ true → string_len (drop place text) ≡ 0 → NoString text (get_or text place 0) place (place + line_rest (drop place text))

@@ -1,6 +1,6 @@
 -- The relation of reading and the function that reads are one.
 use Rattle.std.proofs.Common.{◌≡◌, ◌≢◌, ℕ, zero, suc, ◌+◌, ◌<◌, ◌≤◌, Bool, true, false, not, List, [], ◌∷◌, ◌++◌, length, take, drop, codes, nat_eq, sym, refl, ap, subst, ◌∙◌, arith, length-drop, length-append, length-take-le, take-append-drop, Option, Some, None, Result, Ok, Err, ⊎_elim}
-use Rattle.std.proofs.{Math.Seq.{drop-append-add}, lemmas.Bool.{both_ways, cond-true, cond-false, cases_lt}, lemmas.Bool.Decides.{Decides-eqb, nat_tests}}
+use Rattle.std.proofs.{Math.Seq.{drop-append-add}, lemmas.Bool.{both_ways, cond-true, cases_lt}, lemmas.Bool.Decides.{Decides-eqb, nat_tests}}
 use Rattle.std.proofs.{lemmas.List.Elements.{All-nil, All-cons, All-head, All-tail}, lemmas.Option.{none-some, same_Some}, lemmas.Slice.Eq.{starts_is}}
 use Rattle.std.specs.{Prelude.{◌==◌, All, option_map}, List.{prefix_len, starts_with}}
 use Rattle.fb_text.specs.{Bytes.{is_blank, is_word_start, first}, Words.{is_word}, Forms.{form_of, is_number, is_typed, is_string, is_symbol}}
@@ -95,10 +95,7 @@ line-piece text rest e = rw e (ap Gap (omega (arith, one-more 47 rest refl)))
 
 token-piece : (text : List ℕ) → BeginsToken text → piece_at text ≡ token_at text
 unfolding piece_at
-token-piece text h =
-    cond-false (is_blank (first text)) _ _ h.no_blank
-    ∙ cond-false (starts_with nat_eq text (codes "(*")) _ _ (not-starting (codes "(*") text h.no_comment)
-    ∙ cond-false (starts_with nat_eq text (codes "//")) _ _ (not-starting (codes "//") text h.no_line_comment)
+token-piece text h = rw (h.no_blank, not-starting (codes "(*") text h.no_comment, not-starting (codes "//") text h.no_line_comment)
 
 -- steps of reading
 some-bytes : (text : List ℕ) → text ≢ [] → 0 < length text
@@ -119,9 +116,8 @@ blank-step place text b rest e t =
 
 comment-drop : (text after inside rest : List ℕ) → text ≡ codes "(*" ++ after → after ≡ inside ++ (codes "*)" ++ rest) → drop (length inside + 4) text ≡ rest
 comment-drop text after inside rest e parts =
-    ap (drop (length inside + 4)) e
-    ∙ ap (λ n. drop n (codes "(*" ++ after)) (let s : length inside + 4 ≡ suc (suc (length inside + 2)) = omega arith in s)
-    ∙ ap (drop (length inside + 2)) parts ∙ drop-append-add inside (codes "*)" ++ rest) 2
+    let more : length inside + 4 ≡ suc (suc (length inside + 2)) = omega arith in
+    rw (e, more, parts) (drop-append-add inside (codes "*)" ++ rest) 2)
 
 comment-step : (place : ℕ) (text after inside rest : List ℕ) → text ≡ codes "(*" ++ after → IsFirstClose after inside rest → tokens_from 0 place text ≡ tokens_from 0 (place + (length inside + 4)) rest
 comment-step place text after inside rest e close =
@@ -133,11 +129,9 @@ open-step place text after e h = unclosed-step place text (omega (arith, ap leng
 
 line-step : (place : ℕ) (text line rest : List ℕ) → text ≡ codes "//" ++ (line ++ rest) → All (λ b. b ≢ 10) line → EndsLine rest → tokens_from 0 place text ≡ tokens_from 0 (place + (length line + 2)) rest
 line-step place text line rest e all ends =
+    let more : length line + 2 ≡ suc (suc (length line + 0)) = omega arith in
     gap-step place text (length line + 2) (omega (arith, ap length e)) (omega arith) (line-piece text (line ++ rest) e ∙ ap (λ n. Gap (n + 2)) (line-len line rest all ends))
-    ∙ ap (tokens_from 0 (place + (length line + 2)))
-    (ap (drop (length line + 2)) e
-    ∙ ap (λ n. drop n (codes "//" ++ (line ++ rest))) (let s : length line + 2 ≡ suc (suc (length line + 0)) = omega arith in s)
-    ∙ drop-append-add line rest 0)
+    ∙ ap (tokens_from 0 (place + (length line + 2))) (rw (e, more) (drop-append-add line rest 0))
 
 token-step : (place : ℕ) (text : List ℕ) (kind : TokenKind) (n : ℕ) → BeginsToken text → IsLongest text kind n → tokens_from 0 place text ≡ with_token (token_of kind place n) (tokens_from 0 (place + n) (drop n text))
 token-step place text kind zero begins is = absurd (none-some kind (sym form-nil ∙ is.form))
