@@ -1,5 +1,5 @@
 -- Items that are kept, each of which reads as a shelf.
-use Rattle.std.proofs.Common.{◌≡◌, ℕ, suc, ◌+◌, ◌<◌, ◌≤◌, true, List, [], ◌∷◌, ◌++◌, length, map, take, drop, get_or, set, sym, ap, subst, ◌∙◌, arith, Result, Ok, Err, OnOk}
+use Rattle.std.proofs.Common.{◌≡◌, ℕ, suc, ◌+◌, ◌<◌, ◌≤◌, true, List, [], ◌∷◌, ◌++◌, length, map, take, drop, get_or, set, sym, ap, subst, ◌∙◌, arith, Ok, Err}
 use Rattle.std.proofs.{lemmas.List.{map-set, get_or-map, map_push, length-map}, lemmas.List.Edits.{get_or-insert_above}, lemmas.Simd.{map-map}}
 use Rattle.std.specs.{List.{AllByRecursion, insert}, List.Sorted.{IsStrictlySortedBy, IsBinarySearchResult}, Map.{remove_entry}, BTreeMap.{is_at, insert_entry}}
 use Rattle.std.specs.declared.cmp.Ordering.TheVariants.{Less}
@@ -9,10 +9,6 @@ use Rattle.fb_library.proofs.EntryLemmas.{map_insert}
 use Rattle.fb_library.proofs.OnShelves.{Row, last_at, entries_at, with_entries, for_at, for_gap, for_reached, reached_for, passed, lasts_sorted, put_on, remove_on, shelves_put, shelves_removed}
 use Rattle.fb_library.proofs.Wider.{ended_at, all_ended, reaches_ended, shelves_ended, one_more, all_more, reaches_more, shelves_more, IsExtended, IsWider, in_two, all_in_two, reaches_in_two, shelves_in_two}
 use Rattle.fb_library.proofs.Searches.{searched}
-
-pub always : {P E : Type 0} (r : Result (Unit {0}) E) → P → OnOk r P
-always (Ok u) p = p
-always (Err e) p = tt
 
 module _ {A V : Type 0} (row : A → Row V) where
   abbrev last : A → List ℕ

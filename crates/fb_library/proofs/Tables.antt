@@ -12,8 +12,7 @@ module _ {A B : Type 0} (f : A → B) where
   some_found (Some a) l e is = (f a, sym e)
 
   pub none_found : (o : Option A) (l : Option B) → option_map f o ≡ l → false ≡ is_some o → l ≡ None
-  none_found None l e is = sym e
-  none_found (Some a) l e is = absurd (false≢true is)
+  none_found o l e is = grind arith
 
 module _ {V : Type 0} where
   -- a name that is found is reached

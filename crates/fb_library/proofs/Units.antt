@@ -53,7 +53,3 @@ own_removed test (e ∷ es) own = by_bool (test e.0) (λ t. rw t own.1) (λ f. r
 pub kept : {A E : Type 0} (P : A → Type 0) (r : Result (Unit {0}) E) (before after edited : A) → OnOk r (after ≡ edited) → OnErr r (after ≡ before) → P before → P edited → P after
 kept P (Ok u) before after edited ok err old new = subst P (sym ok) new
 kept P (Err e) before after edited ok err old new = subst P (sym err) old
-
-pub shown : {A B E : Type 0} (f : A → B) (r : Result (Unit {0}) E) (after edited : A) (seen : B) → OnOk r (after ≡ edited) → f edited ≡ seen → OnOk r (f after ≡ seen)
-shown f (Ok u) after edited seen ok is = ap f ok ∙ is
-shown f (Err e) after edited seen ok is = tt
