@@ -1,5 +1,5 @@
 -- A library's units, seen as texts.
-use Rattle.std.proofs.Common.{◌≡◌, ℕ, Bool, List, [], ◌∷◌, map, refl, sym, ap, subst, ◌∙◌, Some, Result, Ok, Err, OnOk, OnErr}
+use Rattle.std.proofs.Common.{◌≡◌, ℕ, Bool, List, [], ◌∷◌, map, refl, sym, ap, ◌∙◌, Some}
 use Rattle.std.proofs.{lemmas.Option.{same_Some}, lemmas.Simd.{map-map}}
 use Rattle.std.specs.{Option.{option_map}, Map.{lookup, remove_entry}, BTreeMap.{is_at, insert_entry}}
 use Rattle.fb_parse.specs.Text.Order.{name_cmp}
@@ -47,9 +47,3 @@ texts_removed test (e ∷ es) = by_bool (test e.0) (λ t. rw t) (λ f. rw f (ap 
 pub own_removed : (test : List ℕ → Bool) (es : Units) → AreOwn es → AreOwn (remove_entry test es)
 own_removed test [] own = tt
 own_removed test (e ∷ es) own = by_bool (test e.0) (λ t. rw t own.1) (λ f. rw f (own.0, own_removed test es own.1))
-
--- ---- an edit that may have failed
-
-pub kept : {A E : Type 0} (P : A → Type 0) (r : Result (Unit {0}) E) (before after edited : A) → OnOk r (after ≡ edited) → OnErr r (after ≡ before) → P before → P edited → P after
-kept P (Ok u) before after edited ok err old new = subst P (sym ok) new
-kept P (Err e) before after edited ok err old new = subst P (sym err) old

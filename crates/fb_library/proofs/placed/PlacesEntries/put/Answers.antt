@@ -1,27 +1,17 @@
--- A value that is put stands under its name, and is put in the entries too.
-use Rattle.std.proofs.Common.{ap, ◌∙◌}
-use Rattle.std.specs.BTreeMap.{insert_entry}
-use Rattle.fb_parse.specs.Text.Order.{name_cmp}
-use Rattle.fb_library.specs.Entries.{entries_of}
+-- The name stays at its place, or goes where it is missed.
+use Rattle.std.proofs.{Common.{arith}, lemmas.Grind.{common_steps}}
 use Rattle.fb_library.proofs.EntryLemmas.{entries_set, entries_insert, sorted_set, sorted_insert}
 use Rattle.fb_library.proofs.placed.PlacesEntries.put.Goals as goal
 
 pub invariant_of-self : goal.invariant_of-self
-invariant_of-self g c =
-    sorted_set c.self.inside.places.items (record { name = c.args.name; value = c.args.value }) c.in-Ok.at c.self.invariant (rw c.as_slice.ensures.value at c.in-Ok.ensures.found)
+invariant_of-self g c = grind (arith, common_steps, sorted_set c.self.inside.places.items (record { name = c.args.name; value = c.args.value }) c.in-Ok.at)
 
 pub returns-in-Ok-clause-ok : goal.returns-in-Ok-clause-ok
-returns-in-Ok-clause-ok g c =
-    entries_set c.self.inside.places.items (record { name = c.args.name; value = c.args.value }) c.in-Ok.at c.self.invariant (rw c.as_slice.ensures.value at c.in-Ok.ensures.found)
-    ∙ ap (λ es. insert_entry name_cmp es c.args.name c.args.value.value) c.self.view_is
+returns-in-Ok-clause-ok g c = grind (arith, common_steps, entries_set c.self.inside.places.items (record { name = c.args.name; value = c.args.value }) c.in-Ok.at)
 
 pub invariant_of-self-in-Err : goal.invariant_of-self-in-Err
-invariant_of-self-in-Err g c =
-    rw c.in_ok-insert-in-Err.ensures.items
-    (sorted_insert c.self.inside.places.items (record { name = c.args.name; value = c.args.value }) c.in-Err.at c.self.invariant (rw c.as_slice.ensures.value at c.in-Err.ensures.absent))
+invariant_of-self-in-Err g c = grind (arith, common_steps, sorted_insert c.self.inside.places.items (record { name = c.args.name; value = c.args.value }) c.in-Err.at)
 
 pub returns-in_ok-insert-in-Err-clause-ok : goal.returns-in_ok-insert-in-Err-clause-ok
 returns-in_ok-insert-in-Err-clause-ok g c =
-    ap entries_of c.in_ok-insert-in-Err.ensures.items
-    ∙ entries_insert c.self.inside.places.items (record { name = c.args.name; value = c.args.value }) c.in-Err.at (rw c.as_slice.ensures.value at c.in-Err.ensures.absent)
-    ∙ ap (λ es. insert_entry name_cmp es c.args.name c.args.value.value) c.self.view_is
+    grind (arith, common_steps, entries_insert c.self.inside.places.items (record { name = c.args.name; value = c.args.value }) c.in-Err.at)
