@@ -11,9 +11,6 @@ module _ {A B : Type 0} (f : A → B) where
   some_found None l e is = absurd (false≢true (sym is))
   some_found (Some a) l e is = (f a, sym e)
 
-  pub none_found : (o : Option A) (l : Option B) → option_map f o ≡ l → false ≡ is_some o → l ≡ None
-  none_found o l e is = grind arith
-
 module _ {V : Type 0} where
   -- a name that is found is reached
   pub reaches_found : (ss : List (Row V)) (n : List ℕ) (v : V) → AreShelves ss → lookup (is_at (name_cmp n)) (all_on ss) ≡ Some v → reaches (lasts_of ss) n ≡ true

@@ -1,5 +1,5 @@
 use Rattle.std.proofs.{Common.{◌≡◌, ◌+◌, ◌∷◌, [], ◌++◌, arith, take}, lemmas.Grind.{common_steps}}
-use Rattle.fb_library.proofs.SeenLemmas.{Opens-none, Opens-new, Opens-old, has-updates, not_true, not_false}
+use Rattle.fb_library.proofs.SeenLemmas.{Opens-none, Opens-new, Opens-old, has-updates}
 use Rattle.fb_library.proofs.seen.open_new.Goals as goal
 
 pub loop-name-init : goal.loop-name-init
@@ -12,12 +12,4 @@ loop-name-preserved c =
     let x = c.name-item.result in
     let more : take (i + 1) names ≡ take i names ++ x ∷ [] = grind (arith, common_steps) in
     let adds = has-updates c.loop-name.seen c.insert.new.self x c.in_ok-insert.ensures.updates in
-    rw more
-    (grind (
-      arith,
-      common_steps,
-      Opens-new _ _ _ _ _ _ x c.loop-name.invariant adds,
-      Opens-old _ _ _ _ _ _ x c.loop-name.invariant adds,
-      not_true,
-      not_false,
-    ))
+    rw more (grind (arith, common_steps, Opens-new _ _ _ _ _ _ x c.loop-name.invariant adds, Opens-old _ _ _ _ _ _ x c.loop-name.invariant adds))

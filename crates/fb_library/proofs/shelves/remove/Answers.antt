@@ -1,5 +1,6 @@
 -- One shelf lets the name go.
 use Rattle.std.proofs.Common.{◌≡◌, refl, ap, ◌∙◌, arith}
+use Rattle.std.proofs.lemmas.Grind.{common_steps}
 use Rattle.std.specs.{Map.{remove_entry}, BTreeMap.{is_at}}
 use Rattle.fb_parse.specs.Text.Order.{name_cmp}
 use Rattle.fb_library.specs.{Entries.{shelf_of}, declared.shelves.Shelf.{Shelf}}
@@ -7,12 +8,10 @@ use Rattle.fb_library.proofs.ShelfRows.{at_reached, shelf_removed, entries_remov
 use Rattle.fb_library.proofs.shelves.remove.Goals as goal
 
 pub index-requires : goal.index-requires
-index-requires g c =
-    omega (arith, at_reached (shelf_of g.E.Entries.entries) c.args.shelves.now.items c.args.name.now c.shelf_for-at.result (rw c.as_slice.ensures.value at c.shelf_for-at.ensures) c.requires.there)
+index-requires g c = grind (arith, common_steps, at_reached (shelf_of g.E.Entries.entries) c.args.shelves.now.items c.args.name.now c.shelf_for-at.result)
 
 pub index_mut-requires : goal.index_mut-requires
-index_mut-requires g c =
-    omega (arith, at_reached (shelf_of g.E.Entries.entries) c.args.shelves.now.items c.args.name.now c.shelf_for-at.result (rw c.as_slice.ensures.value at c.shelf_for-at.ensures) c.requires.there)
+index_mut-requires g c = grind (arith, common_steps, at_reached (shelf_of g.E.Entries.entries) c.args.shelves.now.items c.args.name.now c.shelf_for-at.result)
 
 pub returns : goal.returns
 returns g c =
