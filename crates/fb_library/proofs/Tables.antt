@@ -1,5 +1,5 @@
 -- What a table has under a name, and at an index.
-use Rattle.std.proofs.Common.{◌≡◌, ℕ, zero, suc, ◌+◌, ◌<◌, ◌≤◌, true, false, List, [], ◌∷◌, ◌++◌, length, map, take, drop, get_or, refl, sym, ap, ◌∙◌, arith, append_assoc, Option, Some, None}
+use Rattle.std.proofs.Common.{◌≡◌, ℕ, zero, suc, ◌+◌, ◌<◌, ◌≤◌, true, List, [], ◌∷◌, ◌++◌, length, map, take, drop, get_or, refl, sym, ap, ◌∙◌, arith, append_assoc, Option, Some, None}
 use Rattle.std.proofs.{lemmas.Bool.{false≢true}, lemmas.List.{append-nil, length-map, map-append, at_drop_more, take_more, get_or_past}}
 use Rattle.std.specs.{List.{slice_get}, Option.{option_map, is_some}, Map.{lookup}, BTreeMap.{is_at}}
 use Rattle.fb_parse.specs.Text.Order.{name_cmp}

@@ -1,5 +1,5 @@
 -- A name is on the shelf that the index reaches.
-use Rattle.std.proofs.Common.{◌≡◌, ◌+◌, ◌-◌, length, drop, slice_get, ap, sym, ◌∙◌, arith}
+use Rattle.std.proofs.{Common.{◌+◌, ◌-◌, length, drop, slice_get, ap, sym, ◌∙◌, arith}, lemmas.Grind.{common_steps}}
 use Rattle.fb_library.specs.{Entries.{shelf_of, entries_on}, Shelves.{names_of}}
 use Rattle.fb_library.proofs.Tables.{name_first, name_later, entries_left}
 use Rattle.fb_library.proofs.shelves.ShelvesEntries.name_at.Goals as goal
@@ -8,10 +8,9 @@ pub loop-shelf-preserved : goal.loop-shelf-preserved
 loop-shelf-preserved g c =
     let entries = g.E.Entries.entries in
     let shelves = c.deref-shelf-items.result.now in
-    let held = entries c.shelf-item.result.entries.value in
-    let here : c.loop-shelf.index ≡ length held + (c.loop-shelf.index - c.len-here.result) = omega (arith, c.if-index-here.false, c.len-here.ensures, ap (λ e. length (entries e)) c.deref.ensures) in
-    sym (name_later held (entries_on entries (drop (c.loop-shelf.shelf-index + 1) shelves)) c.loop-shelf.index (c.loop-shelf.index - c.len-here.result) here)
-    ∙ (rw (entries_left (shelf_of entries) shelves c.loop-shelf.shelf-index c.shelf-item.result c.loop-shelf-test.true c.shelf-item.is) at c.loop-shelf.invariant)
+    let left = entries_on entries (drop (c.loop-shelf.shelf-index + 1) shelves) in
+    let here = entries_left (shelf_of entries) shelves c.loop-shelf.shelf-index c.shelf-item.result c.loop-shelf-test.true c.shelf-item.is in
+    grind (arith, common_steps, name_later (entries c.shelf-item.result.entries.value) left c.loop-shelf.index (c.loop-shelf.index - c.len-here.result))
 
 pub returns-then-index-here : goal.returns-then-index-here
 returns-then-index-here g c =
