@@ -1,4 +1,4 @@
--- The name stays at its place, or goes where it is missed.
+-- A value that is put stands under its name, and is put in the entries too.
 use Rattle.std.proofs.{Common.{arith}, lemmas.Grind.{common_steps}}
 use Rattle.fb_library.proofs.EntryLemmas.{entries_set, entries_insert, sorted_set, sorted_insert}
 use Rattle.fb_library.proofs.placed.PlacesEntries.put.Goals as goal
