@@ -5,7 +5,7 @@ use Rattle.std.specs.{List.{insert, remove, slice_get}, Option.{option_map}, Lis
 use Rattle.std.specs.BTreeMap.{is_at, insert_entry}
 use Rattle.fb_parse.specs.Text.Order.{name_cmp}
 use Rattle.fb_library.specs.{Place.{IsAt, IsGapFor}, Entries.{entry_of, entries_of, names_in}, declared.placed.Placed.{Placed}}
-use Rattle.fb_library.proofs.Places.{set_at, remove_at, lookup_at, put_in_gap, sorted_put, sorted_removed}
+use Rattle.fb_library.proofs.Places.{set_at, remove_at, lookup_at, put_in_gap}
 
 module _ {A B : Type 0} (f : A → B) where
   pub map_insert : (xs : List A) (i : ℕ) (x : A) → map f (insert xs i x) ≡ insert (map f xs) i (f x)
@@ -34,13 +34,3 @@ module _ {V : Type 0} where
 
     pub entries_remove : (n : List ℕ) (i : ℕ) → IsStrictlySortedBy name_cmp (names_in ps) → IsAt (names_in ps) n i → entries_of (remove ps i) ≡ remove_entry (is_at (name_cmp n)) (entries_of ps)
     entries_remove n i sorted is = map_remove entry_of ps i ∙ remove_at (entries_of ps) n i sorted is
-
-    -- the names stay in order
-    pub sorted_set : (p : Placed V) (i : ℕ) → IsStrictlySortedBy name_cmp (names_in ps) → IsAt (names_in ps) p.name i → IsStrictlySortedBy name_cmp (names_in (set ps i p))
-    sorted_set p i sorted is = rw (entries_set p i sorted is) (sorted_put (entries_of ps) p.name p.value.value sorted)
-
-    pub sorted_insert : (p : Placed V) (i : ℕ) → IsStrictlySortedBy name_cmp (names_in ps) → IsGapFor (names_in ps) p.name i → IsStrictlySortedBy name_cmp (names_in (insert ps i p))
-    sorted_insert p i sorted gap = rw (entries_insert p i gap) (sorted_put (entries_of ps) p.name p.value.value sorted)
-
-    pub sorted_remove : (n : List ℕ) (i : ℕ) → IsStrictlySortedBy name_cmp (names_in ps) → IsAt (names_in ps) n i → IsStrictlySortedBy name_cmp (names_in (remove ps i))
-    sorted_remove n i sorted is = rw (entries_remove n i sorted is) (sorted_removed (is_at (name_cmp n)) (entries_of ps) sorted)

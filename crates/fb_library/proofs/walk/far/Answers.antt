@@ -6,9 +6,7 @@ use Rattle.fb_library.proofs.walk.far.Goals as goal
 
 pub loop-name-init : goal.loop-name-init
 loop-name-init g c =
-    IsWalk-one (mentions_at (g.V.View.sources c.args.view.now)) c.args.unit c.insert.new.self.keys c.push.new.self.items
-    (begun c.new-seen.result c.insert.new.self c.args.unit c.new-seen.ensures.empty c.in_ok-insert.ensures.updates)
-    (one_pushed c.new-pending.result.items c.push.new.self.items c.args.unit c.new-pending.ensures.items c.in_ok-push.ensures.items)
+    IsWalk-one _ _ _ _ (begun _ _ _ c.new-seen.ensures.empty c.in_ok-insert.ensures.updates) (one_pushed _ _ _ c.new-pending.ensures.items c.in_ok-push.ensures.items)
 
 pub loop-name-preserved : goal.loop-name-preserved
 loop-name-preserved g c =
