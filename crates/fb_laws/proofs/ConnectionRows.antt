@@ -1,12 +1,11 @@
 -- Connections of ports of different types and through a subapplication, and ends that name no port or one of the wrong side, by what the list of faults has.
-use Rattle.fb_laws.proofs.Common.{arith, ◌≡◌, ℕ, Bool, true, false, not, ◌&&◌, ◌||◌, List, ◌++◌, refl, sym, ap, ◌∙◌, subst, true≢false, bytes_decides, same_text, Contains, Contains-append_right, false_from_ne_true, and_from, and_parts, or_from, or_parts, not_true, Span, NetworkTree, TypeForm, TypeUse, UnitKind, Connection, Sources, class_of_type, is_free, first_ones, is_same, instances_in, DataType, PassThrough, Fault, contains_nothing, same_exact, same_itself, Own, Source, Destination, Target, connection_faults, is_right, target, NetworkPlace, connection_span, fault_of, is_own_port, pass_through_faults, flows_agree, joined_types, same_at_ends, targets_agree, NamesRight, Site, DifferInType, IsSameType, of_names, of_sizes, of_arrays, data_types, adapter_types, Contains-append_left, End, same_side, Code, PortSide, PortUnknown, contains_single, in_unless, Position, right_side, net_faults_of, end_faults, IsEndOf, place_of, source, destination}
-use Rattle.fb_laws.proofs.{RuleLemmas.{judged, not_free}, Joined.{in_where, where_passes}}
-use Rattle.fb_laws.proofs.NetworkEnds.{IsTarget, end_target, is_found, is_not_judged, is_target, is_unknown, known_end, known_own, told_end, told_home, told_own, told_right, unknown_judged, unknown_names}
+use Rattle.fb_laws.proofs.Common.{arith, ◌≡◌, ℕ, Bool, true, false, not, ◌&&◌, ◌||◌, List, ◌++◌, refl, sym, ap, ◌∙◌, subst, true≢false, bytes_decides, same_text, Contains, Contains-append_right, false_from_ne_true, and_from, and_parts, or_from, or_parts, not_true, Span, NetworkTree, TypeForm, TypeUse, UnitKind, Connection, Sources, class_of_type, is_free, first_ones, is_same, instances_in, DataType, PassThrough, Fault, contains_nothing, same_exact, same_itself, Own, Source, Destination, Target, connection_faults, is_right, target, NetworkPlace, connection_span, fault_of, is_own_port, pass_through_faults, flows_agree, joined_types, same_at_ends, targets_agree, NamesRight, Site, DifferInType, IsSameType, of_names, of_sizes, of_arrays, data_types, adapter_types, Contains-append_left, End, same_side, Code, PortSide, PortUnknown, contains_single, in_unless, Position, right_side, net_faults_of, end_faults, IsEndOf, place_of, source, destination, ConnectionOf, EndOf}
+use Rattle.fb_laws.proofs.{RuleLemmas.{judged, not_free}, Lists.{in_where, where_passes}}
+use Rattle.fb_laws.proofs.NetworkEnds.{IsTarget, end_target, is_found, is_not_judged, is_target, is_unknown, known_end, known_own, told_end, told_home, told_own, told_right, unknown_names}
 use Rattle.fb_laws.proofs.NetworkLemmas.{Finds, at_both, at_destination, at_source, connection_reported, end_place, own_instances, place_at}
 use Rattle.fb_tree.specs.declared.interface.TypeForm.TheVariants as forms
 use Rattle.fb_tree.specs.declared.kinds.UnitKind.TheVariants as kinds
 use Rattle.fb_netcheck.specs.{declared.ends.Flow.{Flow}, Spellings.{same_by_form, same_type, same_words, words_at}}
-use Rattle.fb_laws.specs.Networks.{ConnectionOf, EndOf}
 
 -- types
 
@@ -123,8 +122,7 @@ module _ (sources : Sources) (unit : List ℕ) (o : EndOf sources unit) where
       by : (t : Target) → named ≡ t → IsTarget sources o.here o.connection.sort o.end.name o.end.port t → Contains (end_faults o.position o.end t) f → Finds sources unit f
       by t e is_unknown h =
           let unknown = unknown_names sources o.here o.network (own sources unit o.joined) o.connection.sort o.end.name o.end.port e in
-          let judged = unknown_judged sources o.here o.network (own sources unit o.joined) o.connection.sort o.end.name o.end.port e in
-          subst (Finds sources unit) (contains_single (fault_of PortUnknown o.end) f h) (record { of = o; unknown = unknown; judged = judged; place = end_place o.end })
+          subst (Finds sources unit) (contains_single (fault_of PortUnknown o.end) f h) (record { of = o; unknown = unknown.0; judged = unknown.1; place = end_place o.end })
       by t e (is_not_judged q) h = absurd (contains_nothing f h)
       by t e (is_found {holder = holder} {p = port} home names) h =
           let fails = in_unless (same_side port.side (right_side o.position holder)) (fault_of PortSide o.end) f h in

@@ -1,9 +1,8 @@
 -- The tokens of a part of a text that begins and ends where tokens do.
-use Rattle.fb_laws.proofs.Common.{◌≡◌, ◌≢◌, ℕ, ◌+◌, ◌-◌, ◌<◌, ◌≤◌, List, [], ◌∷◌, ◌++◌, length, take, drop, map, refl, sym, ap, ◌∙◌, subst, arith, append_assoc, length-append, length-drop, length-take-le, take-append-drop, None, Result, Ok, Err, slice_range, drop-append-add, continuation_len, drop-append-le, drop-drop, nil_from_length, take-append-le, first, is_word_start, form_of, is_number, is_typed, is_string, is_symbol, is_word, IsLongest, char_len, tokens_of, with_token, Span, Token, TokenKind, Other, codes}
+use Rattle.fb_laws.proofs.Common.{◌≡◌, ◌≢◌, ℕ, ◌+◌, ◌-◌, ◌<◌, ◌≤◌, List, [], ◌∷◌, ◌++◌, length, take, drop, map, refl, sym, ap, ◌∙◌, subst, arith, append_assoc, length-append, length-drop, length-take-le, take-append-drop, None, Result, Ok, Err, slice_range, drop-append-add, continuation_len, drop-append-le, drop-drop, nil_from_length, take-append-le, first, is_word_start, form_of, is_number, is_typed, is_string, is_symbol, is_word, IsLongest, char_len, tokens_of, with_token, Span, Token, TokenKind, Other, codes, drop_at, take_at}
 use Rattle.fb_text.specs.Reads.{AtBlank, AtComment, AtEnd, AtLineComment, AtOpenComment, AtOther, AtToken, BeginsToken, EndsLine, HasNoForm, IsFirstClose, Reads, token_of}
 use Rattle.fb_text.proofs.Relation.{reads-one, reads-tokens}
-use Rattle.fb_laws.proofs.SplitLemmas.{nothing_split}
-use Rattle.std.proofs.lemmas.List.{drop_at, take_at}
+use Rattle.fb_laws.proofs.Lists.{nothing_split}
 
 -- Tokens one behind the other
 
@@ -56,11 +55,8 @@ first_same (x ∷ xs) ys h = refl
 ends_line : (xs ys : List ℕ) → EndsLine (xs ++ ys) → EndsLine xs
 ends_line xs ys h = grind arith
 
-not_empty : (xs : List ℕ) → 0 < length xs → xs ≢ []
-not_empty xs h e = grind arith
-
 begins_token : (xs ys : List ℕ) → 0 < length xs → BeginsToken (xs ++ ys) → BeginsToken xs
-begins_token xs ys some h = grind (arith, not_empty, first_same)
+begins_token xs ys some h = grind (arith, first_same)
 
 longest_in : (xs ys : List ℕ) (kind : TokenKind) (n : ℕ) → n ≤ length xs → IsLongest (xs ++ ys) kind n → IsLongest xs kind n
 longest_in xs ys kind n within is = grind (arith, take-append-le, length-append)

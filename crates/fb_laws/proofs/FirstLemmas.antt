@@ -1,8 +1,6 @@
 -- The first declarations of their names, by places.
-use Rattle.fb_laws.proofs.Common.{◌≡◌, ◌≢◌, zero, suc, ℕ, ◌+◌, ◌<◌, Bool, true, ◌&&◌, List, [], ◌∷◌, length, map, take, Option, Some, None, refl, ap, ◌∙◌, sym, subst, inl, inr, arith, filter, enumerate_from, slice_get, slice_get_within, cases_order, and_parts, first_ones, is_same, stands_for, same_exact, same_itself, at_place, in_places, contains_filter, contains_map, got_in_map, origin_in_map, passes_in_filter, stands_for-first_ones, is_none, Contains}
-use Rattle.std.proofs.lemmas.{Map.Entries.{place_from_lookup}, Option.{get_or_from_slice_get, slice_get_read}}
-use Rattle.std.proofs.lemmas.List.{FromFn.{get_or-enumerate_from, length-enumerate_from}, Kept.{AllPairs-filter}}
-use Rattle.std.specs.List.{AllPairs}
+use Rattle.fb_laws.proofs.Common.{◌≡◌, ◌≢◌, zero, suc, ℕ, ◌+◌, ◌<◌, Bool, true, ◌&&◌, List, [], ◌∷◌, length, map, take, Option, Some, None, refl, ap, ◌∙◌, sym, subst, inl, inr, arith, filter, enumerate_from, slice_get, slice_get_within, cases_order, and_parts, first_ones, is_same, stands_for, same_exact, same_itself, at_place, in_places, contains_filter, contains_map, got_in_map, origin_in_map, passes_in_filter, stands_for-first_ones, is_none, Contains, place_from_lookup, slice_get_read, AllPairs}
+use Rattle.std.proofs.{lemmas.Option.{get_or_from_slice_get}, lemmas.List.FromFn.{get_or-enumerate_from, length-enumerate_from}, lemmas.List.Kept.{AllPairs-filter}}
 
 -- numbered items that pass come in the order of their numbers
 
@@ -50,11 +48,8 @@ module _ {D : Type 0} where
   abbrev is_first : List (List ℕ × D) → ℕ × (List ℕ × D) → Bool
   is_first xs p = is_none (stands_for (take p.0 xs) p.1.0)
 
-  none_of : (o : Option D) → is_none o ≡ true → o ≡ None
-  none_of o e = grind arith
-
   first_facts : (xs : List (List ℕ × D)) (p : ℕ × (List ℕ × D)) → Contains (enumerate_from 0 xs) p → is_first xs p ≡ true → (slice_get xs p.0 ≡ Some p.1) × NoneBefore xs p.0 p.1.0
-  first_facts xs p c passes = let j = in_places 0 xs p c in grind (arith, none_before, none_of)
+  first_facts xs p c passes = let j = in_places 0 xs p c in grind (arith, none_before)
 
   abbrev first_at : (xs : List (List ℕ × D)) (name : List ℕ) (m : D) (p : ℕ × (List ℕ × D)) → Contains (enumerate_from 0 xs) p → is_first xs p ≡ true → p.1 ≡ (name, m) → IsFirst xs name m
   first_at xs name m p c passes e =

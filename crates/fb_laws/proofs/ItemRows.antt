@@ -53,14 +53,8 @@ module _ {A D S T : Type 0} (of : Meaning D S T) (name_of : A → NameUse) (mean
     abbrev keeps : D → Bool
     keeps d = of.same (of.sort d) sort
 
-    is_item : (name : List ℕ) (type : T) → IsPort keeps of.type declared name type → IsItemOf name_of sort_of type_of items sort name type
-    is_item name type o = grind (arith, item_of)
-
-    item_is : (name : List ℕ) (type : T) → IsItemOf name_of sort_of type_of items sort name type → IsPort keeps of.type declared name type
-    item_is name type h = grind (arith, of_item)
-
     are_exactly : AreExactly (ports keeps of.type declared) (IsItemOf name_of sort_of type_of items sort)
-    are_exactly name type = (λ c. is_item name type (is_port keeps of.type declared name type c), λ h. among_ports keeps of.type declared name type (item_is name type h))
+    are_exactly name type = (λ c. let o = is_port keeps of.type declared name type c in grind (arith, item_of), λ h. among_ports keeps of.type declared name type (grind (arith, of_item)))
 
     come_in_turn : ComeAsDeclared (ports keeps of.type declared) (IsFirstItem name_of items) (λ place later. place < later)
     come_in_turn j k one other before at_one at_other =

@@ -1,10 +1,9 @@
 -- The blocks of a system's flat network are those that stand at its paths.
 use Rattle.fb_laws.proofs.Common.{arith, ◌≡◌, ℕ, List, [], ◌∷◌, ◌++◌, Option, Some, None, inl, inr, refl, sym, ap, ◌∙◌, subst, append_assoc, option_map, filter_map, flat_map, Contains-append_cases, contains_cases, contains_flat_map, contains_here, contains_later, contains_map, contains_nothing, origin_in_flat_map, origin_in_map, ApplicationTree, DeclTree, InstanceTree, SystemTree, subapplication_type, Role, Sources, tree_at, HasFlat, plain_application, declared, instance_in_role, network_of, plain_instance, AreFlatApplications, Application, block_within, AreInstances, Held, NoInstance, ThenBlock, ThenSubapplication, held_as, held_within, leaves_of, View, PlainNetwork, PlainFlat, printed, dotted, IsSystemFlat, application_blocks, FlatApplication, FlatBlock, Instance, InstanceKind, IsSystemAt, IsAtPath, in_application, inside, with_points, Contains, map, Path}
-use Rattle.fb_laws.proofs.{Joined.{given, gives_member}, PathNames.{some_more}, PathTexts.{same_print}}
-use Rattle.fb_laws.proofs.PlanEnds.{application_of, flat_of, inner_held, instance_held, leaf_listed}
+use Rattle.fb_laws.proofs.{Lists.{given, gives_member}, PathHomes.{some_more}, PathTexts.{same_print}, PlanEnds.{application_of, flat_of, inner_held, instance_held, leaf_listed}}
 use Rattle.fb_types.proofs.Network.Equals.{printed-within}
-use Rattle.fb_tree.specs.declared.network.Role.TheVariants as roles
 use Rattle.fb_types.specs.Network.declared.network.InstanceKind.TheVariants.{Block, Subapplication}
+use Rattle.fb_tree.specs.declared.network.Role.TheVariants as roles
 
 -- ---- instances in plain
 
@@ -15,16 +14,13 @@ role_of Subapplication = roles.Subapplication
 abbrev in_plain : InstanceTree → InstanceKind → Instance
 in_plain i kind = record { name = i.name.name; kind = kind; type_name = i.type_name.name }
 
-plain_of : (role : Role) (kind : InstanceKind) (name type_name : List ℕ) → role ≡ role_of kind → instance_in_role role name type_name ≡ Some (record { name = name; kind = kind; type_name = type_name })
-plain_of role kind name type_name e = grind arith
-
 -- what an instance in plain is of
 of_role : (role : Role) (name type_name : List ℕ) (p : Instance) → instance_in_role role name type_name ≡ Some p → (name ≡ p.name) × (role ≡ role_of p.kind) × (type_name ≡ p.type_name)
 of_role role name type_name p e = grind arith
 
 -- an instance of a block or a subapplication among the plain ones
 among_plain : (instances : List InstanceTree) (i : InstanceTree) (kind : InstanceKind) → Contains instances i → i.role ≡ role_of kind → Contains (filter_map plain_instance instances) (in_plain i kind)
-among_plain instances i kind c role = gives_member plain_instance instances i (in_plain i kind) c (plain_of i.role kind i.name.name i.type_name.name role)
+among_plain instances i kind c role = gives_member plain_instance instances i (in_plain i kind) c (grind arith)
 
 -- ---- from paths to what is held
 

@@ -1,8 +1,6 @@
 -- Where names lead to in a sound system is what stands at their path.
 use Rattle.fb_laws.proofs.Common.{arith, ◌≡◌, ◌≢◌, ℕ, Bool, true, false, not, List, [], ◌∷◌, ◌++◌, Option, Some, ◌⊎◌, inl, inr, refl, sym, ap, ◌∙◌, subst, append_assoc, append-nil, true≢false, is_none, not-false, contains_nothing, ApplicationTree, DeclTree, InstanceTree, SystemTree, subapplication_type, Role, Sources, tree_at, IsSound, PlainResolved, application_called, inner_instances, is_placed, leads_nowhere, resolved_among, resolved_at, resolved_beyond, resolved_inside, IsSystemAt, IsAtPath, IsOfSomething, in_application, inside, of_application, Contains, option_and_then, Path}
-use Rattle.fb_laws.proofs.{Joined.{by_option}, HomeLemmas.{found_in}}
-use Rattle.fb_laws.proofs.PathHolders.{applications_apart, first_own, holder_of, instances_apart, is_subapplication, type_apart, type_below}
-use Rattle.fb_tree.specs.declared.network.Role.TheVariants as roles
+use Rattle.fb_laws.proofs.{Lists.{by_option}, HomeLemmas.{found_in}, PathHolders.{applications_apart, first_own, holder_of, instances_apart, is_subapplication, type_apart, type_below}}
 use Rattle.fb_placing.proofs.ResolvedLemmas.{at_more, beyond_nothing}
 use Rattle.fb_laws.specs.Paths.{of_block, of_subapplication}
 use Rattle.fb_placing.specs.Resolved.{resolved_from, resolved_in}
@@ -68,9 +66,6 @@ module _ (sources : Sources) (unit : List ℕ) (s : SystemTree) (is : IsSystemAt
   abbrev nowhere : Path → Bool
   nowhere names = leads_nowhere sources unit s.applications names
 
-  placed_role : (role : Role) → is_placed role ≡ true → (role ≡ roles.Block) ⊎ (role ≡ roles.Subapplication)
-  placed_role role e = grind arith
-
   -- names that lead somewhere
   pub somewhere : (path : Path) → path ≢ [] → nowhere path ≡ false → IsOfSomething sources s path
   somewhere [] some e = absurd (some refl)
@@ -82,12 +77,8 @@ module _ (sources : Sources) (unit : List ℕ) (s : SystemTree) (is : IsSystemAt
       by_option (resolved_at sources unit s.applications (first ∷ name ∷ names)) (λ none. absurd (let no : ⊥ = cc in no)) (λ st f.
       let placed : not (is_placed st.instance.role) ≡ false = cc in
       let at = lead_to first name names st f in
-      elim (placed_role st.instance.role (not-false (is_placed st.instance.role) placed)) [ inl role ↦ of_block st.instance at role | inr role ↦ of_subapplication st.instance at role ])
-
-  -- a path has two names at least
-  placed_at : (path : Path) (i : InstanceTree) → IsAtPath sources s path i → is_placed i.role ≡ true → nowhere path ≡ false
-  placed_at path i at placed = grind (arith, led_to)
+      grind (arith, of_block, of_subapplication))
 
   -- and those of something do
   pub of_something : (path : Path) → IsOfSomething sources s path → nowhere path ≡ false
-  of_something path there = grind (arith, called, of_block, placed_at, of_subapplication)
+  of_something path there = grind (arith, called, of_block, led_to, of_subapplication)

@@ -1,10 +1,10 @@
 -- What references stand for by the check: what they begin at, what their further names lead to, and which of these are no fields.
-use Rattle.fb_laws.proofs.Common.{◌≡◌, ℕ, Bool, true, false, true≢false, cond, not, ◌&&◌, List, [], ◌∷◌, ◌++◌, Option, Some, None, ◌⊎◌, refl, sym, ap, subst, ◌∙◌, append-nil, arith, option_and_then, ltb-false, or_parts, has_own_class, is_elementary, type_class_of, ReferenceTree, TypeTree, adapter_type, block_type, Section, TypeForm, TypeUse, Role, Plug, Socket, Member, Sources, tree_at, class_of_name, is_free, named_class, Fields, NoFields, fields_of_tree, stands_for, Meanings, meanings_in_type, instance_ports, ports_of, usable, DeclaredInstance, DeclaredVariable, stands_for-first_ones, is_known, referent_through, Names, names_of_type, data_referent, field_referent, fields_behind, fields_named, is_adapter, is_at_adapter, is_before_port, is_data, is_some_count, member_among, own_referent, port_named, port_referent, referent_of, step, unless_judged, variable_named, walk, Referent, Variable, Unjudged, NoMember, IsAdapter, IsUsable, as_plug, as_socket, IsData, IsAtPort, Begins, own, IsOfNoAdapter, Shows, plain, element, IsOpen, generic, unknown, HasField, GoesOn, at_end, through, NamesType, append_assoc, false_from_ne_true, Expressions, reference_expression, IsWrittenIn, HasUnknownMember, is_field, is_met, names_field, DeclTree, StructureTree, fields_in, first_ones, structure_type, ◌||◌}
+use Rattle.fb_laws.proofs.Common.{◌≡◌, ℕ, Bool, true, false, true≢false, cond, not, ◌&&◌, List, [], ◌∷◌, ◌++◌, Option, Some, None, ◌⊎◌, refl, sym, ap, subst, ◌∙◌, append-nil, arith, option_and_then, ltb-false, or_parts, has_own_class, is_elementary, type_class_of, ReferenceTree, TypeTree, adapter_type, block_type, Section, TypeForm, TypeUse, Role, Plug, Socket, Member, Sources, tree_at, class_of_name, is_free, named_class, Fields, NoFields, fields_of_tree, stands_for, Meanings, meanings_in_type, instance_ports, ports_of, usable, DeclaredInstance, DeclaredVariable, stands_for-first_ones, is_known, referent_through, Names, names_of_type, data_referent, field_referent, fields_behind, fields_named, is_adapter, is_at_adapter, is_before_port, is_data, is_some_count, member_among, own_referent, port_named, port_referent, referent_of, step, unless_judged, variable_named, walk, Referent, Variable, Unjudged, NoMember, IsAdapter, IsUsable, as_plug, as_socket, IsData, IsAtPort, Begins, own, IsOfNoAdapter, Shows, plain, element, IsOpen, generic, unknown, HasField, GoesOn, at_end, through, NamesType, append_assoc, false_from_ne_true, Expressions, reference_expression, IsWrittenIn, HasUnknownMember, is_field, is_met, names_field, DeclTree, StructureTree, fields_in, first_ones, structure_type, ◌||◌, not-false}
 use Rattle.fb_laws.proofs.{CarriedTypes.{IsKnown, data_known, field_known, known_fields, own_known}, UsableTypes.{known_type, own_type}}
 use Rattle.fb_text.specs.declared.elementary.TypeClass.{TypeClass}
-use Rattle.fb_tree.specs.declared.interface.TypeForm.TheVariants as forms
 use Rattle.fb_deploy.specs.Iface.Fields.{NotChecked}
 use Rattle.fb_expr.specs.declared.references.Referent.TheVariants.{Unknown}
+use Rattle.fb_tree.specs.declared.interface.TypeForm.TheVariants as forms
 use Rattle.fb_expr.proofs.MemberLemmas.{walk-append}
 use Rattle.fb_laws.specs.Variables.{of_adapter}
 
@@ -22,27 +22,8 @@ abbrev shown : Bool → Fields → Fields
 shown false fields = fields
 shown true fields = unless_judged fields
 
-open_shown : (on : Bool) → shown on NotChecked ≡ NotChecked
-open_shown on = grind arith
-
-found_known : (o : Option DeclaredVariable) (m : Member) → is_known (field_referent o m) ≡ true
-found_known o m = grind arith
-
-among_known : (fields : Fields) (m : Member) → is_known (member_among fields m) ≡ true
-among_known fields m = grind (arith, found_known)
-
 data_section : (s : Section) → IsData s → is_data s ≡ true
 data_section s is = grind arith
-
-has_role : (i : DeclaredInstance) → IsAdapter i → is_adapter i.role ≡ true
-has_role i is = grind arith
-
-of_role : (i : DeclaredInstance) → is_adapter i.role ≡ true → IsAdapter i
-of_role i e = grind arith
-
--- what was met and what is not
-neither : (after before : Bool) → (after || not before) ≡ false → (after ≡ false) × (before ≡ true)
-neither after before e = grind arith
 
 -- an adapter type with these ports
 record HasAdapter (sources : Sources) (name : List ℕ) (ports : Meanings) : Type 0 where
@@ -79,7 +60,7 @@ module _ (sources : Sources) (unit : List ℕ) (d : TypeTree) (declared : tree_a
   behind_shown used true on (element is) = ap (λ form. fields_behind names.fields form used.name.name true) is
 
   told_open : (used : TypeUse) (s : Bool) (m : Member) → Known used → IsOpen sources used s → step names (Variable used s) m ≡ Unjudged
-  told_open used s m known open_there = grind (arith, generic, behind_shown, open_shown, unknown, named_known, not_free)
+  told_open used s m known open_there = grind (arith, generic, behind_shown, unknown, named_known, not_free)
 
   told_field : (used : TypeUse) (s : Bool) (m : Member) (v : DeclaredVariable) → Known used → HasField sources used s m.name.name v → step names (Variable used s) m ≡ Variable v.type_use (is_some_count m.subscripts)
   told_field used s m v known h = grind (arith, behind_shown, named_known, not_free, stands_for-first_ones)
@@ -95,9 +76,7 @@ module _ (sources : Sources) (unit : List ℕ) (d : TypeTree) (declared : tree_a
     name = used.name.name
 
     by_field : (s : Bool) → Shows used s false → is_elementary name ≡ false → (structure : StructureTree) → tree_at sources name ≡ Some (structure_type structure) → (o : Option DeclaredVariable) → stands_for (first_ones (fields_in structure)) m.name.name ≡ o → Looks used s m (field_referent o m)
-    by_field s shows elementary structure t None e = is_none
-    by_field s shows elementary structure t (Some v) e =
-        is_found v (record { shown = shows; declared = elementary; structure = structure; is_structure = t; found = sym (stands_for-first_ones (fields_in structure) m.name.name) ∙ e })
+    by_field s shows elementary structure t o e = grind (arith, is_none, is_found, stands_for-first_ones)
 
     -- by whether a subscript stands there, whether the type is generic, whether it is elementary, and its declaration
     by_type : (s on free elementary : Bool) (o : Option DeclTree) → Shows used s on → is_free (class_of_name name) ≡ free → is_elementary name ≡ elementary → tree_at sources name ≡ o → Looks used s m (member_among (shown on (cond free NotChecked (cond elementary NoFields (fields_of_tree o)))) m)
@@ -131,7 +110,7 @@ module _ (sources : Sources) (unit : List ℕ) (d : TypeTree) (declared : tree_a
   stays t (m ∷ ms) same = ap (λ u. walk names u ms) (same m) ∙ stays t ms same
 
   step_known : (t : Referent) (m : Member) → is_known (step names t m) ≡ is_known t
-  step_known t m = grind (arith, among_known)
+  step_known t m = grind arith
 
   walk_known : (t : Referent) (ms : List Member) → is_known (walk names t ms) ≡ is_known t
   walk_known t [] = refl
@@ -164,11 +143,11 @@ module _ (sources : Sources) (unit : List ℕ) (d : TypeTree) (declared : tree_a
   -- Where a reference begins
 
   port_told : (r : ReferenceTree) (i : DeclaredInstance) (m : Member) (behind : List Member) → IsAtPort d r i m behind → is_before_port names.scope r.name.name r.subscripts ≡ true
-  port_told r i m behind at = (λ k. not (is_some_count (at.plain k)) && is_at_adapter (at.stands k)) ∙ has_role i at.adapter
+  port_told r i m behind at = grind arith
 
   -- a reference at a plug or a socket
   port_found : (r : ReferenceTree) (m : Member) (behind : List Member) → r.members ≡ m ∷ behind → is_before_port names.scope r.name.name r.subscripts ≡ true → (i : DeclaredInstance) × IsAtPort d r i m behind
-  port_found r m behind second e = grind (arith, of_role, ltb-false)
+  port_found r m behind second e = grind (arith, ltb-false)
 
   -- what a reference begins at, the names of that behind the first one, and the further ones
   data Starts (r : ReferenceTree) : Referent → List Member → List Member → Type 0 where
@@ -221,11 +200,7 @@ module _ (sources : Sources) (unit : List ℕ) (d : TypeTree) (declared : tree_a
     by_data a is o e = grind (arith, variable, nothing, of_adapter)
 
     by_ports : (o : Option Meanings) → usable i.role (tree_at sources i.type_name.name) ≡ o → Base r behind (port_referent o m.name.name on)
-    by_ports None u = not_judged_port (grind (arith, adapter_used))
-    by_ports (Some ports) u = grind (arith, adapter_found, known_type, by_data)
-
-    base_at_port : Base r behind (port_named names.scope r.name.name m)
-    base_at_port = subst (λ (o : Option Meanings). Base r behind (port_referent o m.name.name on)) (sym (port_ports r i m behind at)) (by_ports (usable i.role (tree_at sources i.type_name.name)) refl)
+    by_ports o u = grind (arith, not_judged_port, adapter_used, adapter_found, known_type, by_data)
 
     is_variable : (a : TypeTree) (v : DeclaredVariable) → tree_at sources i.type_name.name ≡ Some (adapter_type a) → stands_for (meanings_in_type a).variables m.name.name ≡ Some v → IsData v.section → port_named names.scope r.name.name m ≡ Variable v.type_use on
     is_variable a v is e data_port =
@@ -234,9 +209,9 @@ module _ (sources : Sources) (unit : List ℕ) (d : TypeTree) (declared : tree_a
         ∙ ap (λ b. cond b (Variable v.type_use on) Unknown) (data_section v.section data_port)
 
   base_of : {r : ReferenceTree} {base : Referent} {skipped behind : List Member} → Starts r base skipped behind → Base r behind base
-  base_of {r = r} (at_first none) =
-      (elim (stands_for names.scope.own.variables r.name.name) as (λ o. stands_for names.scope.own.variables r.name.name ≡ o → Base r r.members (own_referent o (is_some_count r.subscripts))) [ None ↦ λ e. nothing | Some v ↦ λ e. variable (own v e none) ]) refl
-  base_of {r = r} (at_second i m others at) = base_at_port r i m others at
+  base_of {r = r} (at_first none) = grind (arith, variable, nothing, own)
+  base_of {r = r} (at_second i m others at) =
+      subst (λ (o : Option Meanings). Base r others (port_referent o m.name.name (is_some_count m.subscripts))) (sym (port_ports r i m others at)) (by_ports r i m others at _ refl)
 
   -- a reference that begins at a variable
   begun : {r : ReferenceTree} {used : TypeUse} {s : Bool} {behind : List Member} → Begins sources d r used s behind → (skipped : List Member) × Starts r (Variable used s) skipped behind
@@ -300,27 +275,9 @@ module _ (sources : Sources) (unit : List ℕ) (d : TypeTree) (declared : tree_a
         by (Variable used on) w is fails =
             let leads = goes first at_begin before used on (begins_known n) w in
             let known = last_known (begins_known n) leads in
-            record {
-              block = d;
-              declared = declared;
-              reference = r;
-              subscripts = subscripts;
-              written = written;
-              first = first;
-              at_first = at_begin;
-              behind = behind;
-              begins = n;
-              before = before;
-              member = m;
-              others = others;
-              parted = parted;
-              used = used;
-              subscripted = on;
-              leads = leads;
-              judged = λ o. true≢false (sym (ap is_field (told_open used on m known o)) ∙ fails);
-              none = λ v has. true≢false (sym (ap is_field (told_field used on m v known has)) ∙ fails);
-              place = refl;
-            }
+            let judged : ¬ IsOpen sources used on = λ o. true≢false (sym (ap is_field (told_open used on m known o)) ∙ fails) in
+            let none : (v : DeclaredVariable) → ¬ HasField sources used on m.name.name v = λ v has. true≢false (sym (ap is_field (told_field used on m v known has)) ∙ fails) in
+            search
         by t w is fails = cc
 
     lost_in : {base : Referent} {skipped behind : List Member} → Starts r base skipped behind → (before : List Member) → behind ≡ before ++ m ∷ others → is_field (referent_through names r (skipped ++ before)) ≡ true → is_field (referent_through names r ((skipped ++ before) ++ m ∷ [])) ≡ false → HasUnknownMember sources unit m.name.span
@@ -329,8 +286,8 @@ module _ (sources : Sources) (unit : List ℕ) (d : TypeTree) (declared : tree_a
 
     pub lost : (before : List Member) → r.members ≡ before ++ m ∷ others → is_met names (names_field r before m) ≡ false → HasUnknownMember sources unit m.name.span
     lost before parted unmet =
-        let told = neither (is_field (referent_through names r (before ++ m ∷ []))) (is_field (referent_through names r before)) unmet in
-        by (start r).3 before parted told.1 told.0
+        let told = or_parts (is_field (referent_through names r (before ++ m ∷ []))) (not (is_field (referent_through names r before))) unmet in
+        by (start r).3 before parted (not-false _ told.1) told.0
       where
         by : {base : Referent} {skipped behind : List Member} → Starts r base skipped behind → (before : List Member) → r.members ≡ before ++ m ∷ others → is_field (referent_through names r before) ≡ true → is_field (referent_through names r (before ++ m ∷ [])) ≡ false → HasUnknownMember sources unit m.name.span
         by (at_first none) before parted is fails = lost_in (at_first none) before parted is fails

@@ -1,7 +1,6 @@
 -- The parts of transitions and algorithms, of sections that are joined, and of units.
 use Rattle.fb_laws.proofs.Common.{arith, ◌≡◌, ◌↔◌, ◌∙◌, sym, List, [], ◌∷◌, ◌++◌, Some, None, flat_map, subst, append-nil, flat_map-append, NameUse, Form, many, as_value, name, Name, NameIn, NameOn, NameSt, among_left, among_right, end, Kind, blocks, plugs, sockets, Statement, levels, statement, Part, name_part, name_parts, option_parts, end_parts, expression_parts, statement_parts, condition_parts, transition_parts, algorithm_parts, variables_parts, interface_parts, network_parts, chart_parts, declared_parts, application_parts, device_parts, mapping_parts, system_parts, structure_parts, tree_parts}
-use Rattle.fb_laws.proofs.Tokens.{Each, each_append, each_prefix, each_rest}
-use Rattle.fb_laws.proofs.Sound.{Sound, sound_nothing, sound_both, sound_as, sound_either, sound_option, sound_many, sound_behind, sound_before, sound_section, sound_mark, sound_name, sound_name_of, sound_same}
+use Rattle.fb_laws.proofs.Sound.{Each, each_append, each_prefix, each_rest, Sound, sound_nothing, sound_both, sound_as, sound_either, sound_option, sound_many, sound_behind, sound_before, sound_section, sound_mark, sound_name, sound_name_of, sound_same}
 use Rattle.fb_laws.proofs.Sections.{sound_end, sound_events, sound_data_variables, sound_variables, sound_instances, sound_subapplications, sound_connections, sound_states, sound_mappings, sound_device}
 use Rattle.fb_laws.proofs.{ExpressionSpans.{sound_expression}, Statements.{sound_statement}}
 use Rattle.fb_deploy.specs.Parse.Chart.{bracketed, joined_test, optional_test, on_event_with, event_condition, condition, transition, transitions, structured_text, other_language, algorithm_body, algorithm}
