@@ -48,6 +48,7 @@ pub fn broken_texts_are_reported_alone()
 {}
 
 /// The parts of the check together have every code but that of broken texts.
+#[tactic(auto, using(crate::proofs::PartLemmas::all_other_codes))]
 pub fn parts_have_all_other_codes()
     ensures { PartsHaveAllOtherCodes }
 {}
