@@ -67,9 +67,7 @@ by_places (c ∷ cs) pending s k =
     (λ e. before pending s c cs k (more.0 (same ∙ e)), λ w. sym same ∙ more.1 (behind pending s c cs k w))
 
 pub due_by_places : (s : State) (cs : List Call) (k : Key) → IsDueByPlaces s cs k
-due_by_places s cs k =
-    let places = by_places cs (s.pending k) s k in
-    grind arith
+due_by_places s cs k = grind (arith, by_places)
 
 pub due_goes_on : (limits : Bounds) (bench : BenchView) → IsOrigin bench.origin → DueGoesOn limits bench
 due_goes_on limits bench begins key =

@@ -133,5 +133,4 @@ outward port leaf (within i chain) = absurd (no_chain_to_nothing chain refl)
 outward port leaf (across source destination k before after) = crossed source destination k (from_edge port (inl leaf) before) (to_edge port (inr refl) after)
 
 pub borders_composed : {view : View} {network : PlainNetwork} → IsCleanThroughout view network → BordersAreComposed view network
-borders_composed {view = view} {network = network} clean sort port place border =
-    elim border.chain as (λ chain. CrossesFrom view sort network (port ∷ []) place chain) [ inl chain ↦ inward port border.leaf (parts clean chain) | inr chain ↦ outward port border.leaf (parts clean chain) ]
+borders_composed {view} {network} clean = grind (arith, inward, parts, outward)

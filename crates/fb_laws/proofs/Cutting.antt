@@ -29,8 +29,7 @@ rising_from from later (t ∷ ts) h r = (omega (arith, h, r.0), r.1, r.2)
 
 -- the tokens behind the first
 rest_of : (token : Token) (following : Result (List Token) Span) (ts : List Token) → with_token token following ≡ Ok ts → (us : List Token) × (ts ≡ token ∷ us) × (following ≡ Ok us)
-rest_of token (Ok us) ts e = (us, (let same : ts ≡ token ∷ us = cc in same), refl)
-rest_of token (Err bad) ts e = cc
+rest_of token following ts e = grind arith
 
 form_nil : form_of [] ≡ None
 unfolding form_of is_word is_number is_typed is_word_start is_string is_symbol

@@ -38,10 +38,7 @@ pub record Suits (x : Form Expression) : Type 0 where
   pub sound : IsExpression x → Sound x expression_parts
 
 suits_either : (x y : Form Expression) → Suits x → Suits y → Suits (either x y)
-suits_either x y h k = record {
-  filled = filled_either x y expression_span h.filled k.filled;
-  sound = λ is. sound_either x y expression_parts (h.sound (record { spells = λ us e s. is.spells us e (inl s) })) (k.sound (record { spells = λ us e s. is.spells us e (inr s) }));
-}
+suits_either x y h k = grind (arith, filled_either)
 
 -- values that are read as expressions, by the parts in them
 suits_as : {A : Type 0} (x : Form A) (f : A → Expression) (inner : A → List Part) → Filled x (λ v. expression_span (f v)) → (IsExpression (as_value f x) → Sound x inner)

@@ -25,9 +25,7 @@ module _ {A D S T : Type 0} (of : Meaning D S T) (name_of : A → NameUse) (mean
   declared = map entry items
 
   first_of : (name : List ℕ) (m : D) (o : IsFirst declared name m) → IsFirstItem name_of items name o.place
-  first_of name m o =
-      let e = got_in_map entry items o.place (name, m) o.there in
-      record { item = e.0; there = e.1; named = ap (λ (p : List ℕ × D). p.0) e.2; first = λ k other less at. o.first k (entry other) less (map_gets entry items k other at) }
+  first_of name m o = grind (arith, got_in_map, map_gets)
 
   item_of : (name : List ℕ) (m : D) → IsFirst declared name m → IsItemOf name_of sort_of type_of items (of.sort m) name (of.type m)
   unfolding first_of
@@ -41,10 +39,7 @@ module _ {A D S T : Type 0} (of : Meaning D S T) (name_of : A → NameUse) (mean
       }
 
   of_item : (name : List ℕ) (m : D) → IsItemOf name_of sort_of type_of items (of.sort m) name (of.type m) → IsFirst declared name m
-  of_item name m h =
-      let d = h.declared in
-      let means = of.equal (meaning_of d.item) m h.of_sort h.typed in
-      grind (arith, map_gets, got_in_map)
+  of_item name m h = grind (arith, map_gets, got_in_map)
 
   stand : (name : List ℕ) (m : D) → stands_for (first_ones declared) name ≡ Some m ↔ IsItemOf name_of sort_of type_of items (of.sort m) name (of.type m)
   stand name m = (λ e. item_of name m (stands_first declared name m e), λ h. first_stands declared name m (of_item name m h))

@@ -107,9 +107,7 @@ through_split f earlier later x inside rest y parts = grind (arith, flat_map-app
 
 module _ {X : Type 0} (p : X → Bool) (xs : List X) where
   pub before_fails : (x : X) → Contains (before_first p xs) x → p x ≡ false
-  before_fails x c =
-      let below : c.0 < position_or_len p xs = omega (arith, c.1, length-take (position_or_len p xs) xs) in
-      subst (λ (y : X). p y ≡ false) (sym (get_or-take (position_or_len p xs) xs c.0 x below) ∙ c.2) (fails_before_first p xs c.0 x below)
+  before_fails x c = grind (arith, length-take, get_or-take, fails_before_first)
 
   pub found_split : (x : X) → find p xs ≡ Some x → (after : List X) × (xs ≡ before_first p xs ++ x ∷ after)
   found_split x e = split_at xs (position_or_len p xs) x (sym (find_at p xs) ∙ e)

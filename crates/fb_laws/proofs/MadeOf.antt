@@ -115,8 +115,7 @@ module _ (sources : Sources) (unit : List ℕ) where
   way_below way = grind (arith, faulty_unit, made_rests, absent_type, type_of_part)
 
   way_blocks : {name : List ℕ} → IsInTheWay sources unit name → IsBlocking sources unit name
-  way_blocks (faulty_unit made faulty) = inl faulty
-  way_blocks (absent_type {holder = holder} decl i made is held absent) = inr (absent, (holder, made_rests made, part_held sources holder decl i is held))
+  way_blocks {name} way = grind (arith, made_rests, part_held)
 
   way_faulty : {name : List ℕ} → IsInTheWay sources unit name → HasFaultBelow sources unit
   way_faulty way = grind (arith, faulty_unit, absent_type, holder_faulty)

@@ -57,8 +57,7 @@ module _ (sources : Sources) (here : Site) (n : NetworkTree) (own : here.own.ins
   told_names I (Some X) holder unit p (port_of i m g r u q) = behind I X i holder (Some m) g r (told_type sources i.type_name.name i.role m u) ∙ ap (target_of holder) ((port_is m X.name sort p).1 q)
 
   pub told_not_judged : (name : NameUse) (port : Option NameUse) → IsNotJudged sources here.own (IsReachedBy here sort) name port → target_named at sort name.name port ≡ NotChecked
-  told_not_judged I None q = elim q [ ]
-  told_not_judged I (Some X) (of_unusable i g r u) = behind I X i r.0 None g r.1 (type_missing sources i.type_name.name i.role u)
+  told_not_judged name port q = grind (arith, type_missing)
 
   -- the unit in whose text the port is declared
   pub told_home : (name : NameUse) (port : Option NameUse) (holder : Holder) (unit : List ℕ) (p : Port) → Names sources here sort name port holder unit p → home_of at name port ≡ unit

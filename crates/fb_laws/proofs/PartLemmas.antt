@@ -69,14 +69,10 @@ abbrev IsHome : Part → Code → Type 0
 IsHome part code = (part ≡ own_part code) ⊎ ((part ≡ Networks) × (code ≡ Literal))
 
 home_of : (part : Part) (code : Code) → IsCodeOf part code → IsHome part code
-home_of part code parameter_value = inr (refl, refl)
-home_of part code is = inl refl
+home_of part code is = grind arith
 
 pub one_shared : PartsShareOneCode
-one_shared p q code differ a b = by (home_of p code a) (home_of q code b)
-  where
-    by : IsHome p code → IsHome q code → IsOfConstants p q code
-    by first second = grind arith
+one_shared = grind (arith, home_of)
 
 -- a code of a part is none of texts
 pub no_text_code : (part : Part) (code : Code) → IsCodeOf part code → code ≡ Syntax → ⊥

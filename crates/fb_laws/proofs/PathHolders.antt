@@ -25,8 +25,7 @@ map_through f g [] = refl
 map_through f g (x ∷ xs) = map-append f (g x) (flat_map g xs) ∙ ap (λ l. map f (g x) ++ l) (map_through f g xs)
 
 pub types_by_instances : (decl : DeclTree) → instance_types decl ≡ types_in (instances_of decl)
-types_by_instances (system_configuration s) = sym (map_through (λ (i : InstanceTree). i.type_name.name) (λ (a : ApplicationTree). a.network.instances) s.applications)
-types_by_instances decl = refl
+types_by_instances decl = grind (arith, map_through)
 
 pub part_among : (sources : Sources) (name : List ℕ) (tree : DeclTree) (i : InstanceTree) → tree_at sources name ≡ Some tree → Contains (instances_of tree) i → Contains (parts_at sources name) i.type_name.name
 part_among sources name tree i declared c =

@@ -8,8 +8,7 @@ use Rattle.fb_laws.specs.Paths.{IsMade}
 -- ---- the flat network of a plan
 
 flat_planned : (sources : Sources) (unit : List ℕ) (cuts : List Link) (resources : List PlainResource) (net : PlainNet) → IsNet sources unit net → planned cuts resources ≡ planned_by sources unit net → (flat : PlainFlat) × HasFlat sources unit flat
-flat_planned sources unit cuts resources (flat_net flat) net e = (flat, net)
-flat_planned sources unit cuts resources other net e = absurd (let no : ⊥ = cc in no)
+flat_planned sources unit cuts resources net is e = grind arith
 
 -- a plan that tells what is misplaced, of a system with this flat network
 record IsFaulty (sources : Sources) (unit : List ℕ) (found : List Misplaced) : Type 0 where
@@ -19,8 +18,7 @@ record IsFaulty (sources : Sources) (unit : List ℕ) (found : List Misplaced) :
   some : found ≢ []
 
 flat_faulty : (sources : Sources) (unit : List ℕ) (found : List Misplaced) (net : PlainNet) → IsNet sources unit net → faulty found ≡ planned_by sources unit net → IsFaulty sources unit found
-flat_faulty sources unit found (flat_net flat) net e = grind (arith, faulty)
-flat_faulty sources unit found other net e = absurd (let no : ⊥ = cc in no)
+flat_faulty sources unit found net is e = grind arith
 
 -- ---- what is made
 

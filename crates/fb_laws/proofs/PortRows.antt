@@ -154,10 +154,7 @@ module _ (i : InterfaceTree) where
   data_is side name type_use (data_output h) = record { meaning = _; origin = variable_is sections.Output name type_use h; kept = refl; gives = refl }
 
   data_ports : (side : Side) → AreExactly (ports (stands_on side) (type_of side) (variables_in i)) (IsDataOn i side)
-  data_ports side name type_use = (
-    λ c. is_data side name type_use (is_port (stands_on side) (type_of side) (variables_in i) name type_use c),
-    λ h. among_ports (stands_on side) (type_of side) (variables_in i) name type_use (data_is side name type_use h),
-  )
+  data_ports side = grind (arith, is_data, is_port, among_ports, data_is)
 
 pub data_declared : DataAreDeclared
 data_declared decl type (of_block d) side = data_ports type.interface side

@@ -55,9 +55,7 @@ module _ (sources : Sources) (unit : List ℕ) (d : TypeTree) (declared : tree_a
   named_known name known = ap (λ fields. cond (is_free (class_of_name name)) NotChecked fields) (known_fields sources unit name known)
 
   behind_shown : (used : TypeUse) (s on : Bool) → Shows used s on → fields_behind names.fields used.form used.name.name s ≡ shown on (fields_named names.fields used.name.name)
-  behind_shown used false on (plain is) = ap (λ form. fields_behind names.fields form used.name.name false) is
-  behind_shown used true on (plain is) = ap (λ form. fields_behind names.fields form used.name.name true) is
-  behind_shown used true on (element is) = ap (λ form. fields_behind names.fields form used.name.name true) is
+  behind_shown used s on shows = grind arith
 
   told_open : (used : TypeUse) (s : Bool) (m : Member) → Known used → IsOpen sources used s → step names (Variable used s) m ≡ Unjudged
   told_open used s m known open_there = grind (arith, generic, behind_shown, unknown, named_known, not_free)
@@ -89,9 +87,7 @@ module _ (sources : Sources) (unit : List ℕ) (d : TypeTree) (declared : tree_a
     by_type s on false elementary o shows f e t = is_none
 
     by_shown : (s on : Bool) → Shows used s on → Looks used s m (member_among (shown on (fields_named names.fields name)) m)
-    by_shown s on shows =
-        subst (λ fields. Looks used s m (member_among (shown on fields) m)) (sym (named_known name known))
-        (by_type s on (is_free (class_of_name name)) (is_elementary name) (tree_at sources name) shows refl refl refl)
+    by_shown s on shows = grind (arith, named_known, by_type)
 
     by_form : (form : TypeForm) → used.form ≡ form → (s : Bool) → Looks used s m (member_among (fields_behind names.fields form name s) m)
     by_form forms.Plain is false = by_shown false false (plain is)
@@ -281,8 +277,7 @@ module _ (sources : Sources) (unit : List ℕ) (d : TypeTree) (declared : tree_a
         by t w is fails = cc
 
     lost_in : {base : Referent} {skipped behind : List Member} → Starts r base skipped behind → (before : List Member) → behind ≡ before ++ m ∷ others → is_field (referent_through names r (skipped ++ before)) ≡ true → is_field (referent_through names r ((skipped ++ before) ++ m ∷ [])) ≡ false → HasUnknownMember sources unit m.name.span
-    lost_in starts before parted is fails =
-        lost_behind (base_of starts) before parted (ap is_field (sym (walked starts before (m ∷ others) parted)) ∙ is) (ap is_field (sym (next_name starts before m others parted)) ∙ fails)
+    lost_in {base} {skipped} {behind} starts before parted is fails = grind (arith, lost_behind, base_of, walked, next_name)
 
     pub lost : (before : List Member) → r.members ≡ before ++ m ∷ others → is_met names (names_field r before m) ≡ false → HasUnknownMember sources unit m.name.span
     lost before parted unmet =

@@ -17,8 +17,7 @@ pub none_of : {P : Class → Type 0} {o : Option Class} → ((g : Class) → P g
 none_of told e g p = cc (told g p)
 
 pub missing : {P : Class → Type 0} {o : Option Class} → Known P o → ((g : Class) → ¬ P g) → o ≡ None
-missing fails none = refl
-missing (gives p) none = absurd (none _ p)
+missing {P} {o} known none = grind arith
 
 -- joins
 

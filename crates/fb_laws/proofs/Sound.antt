@@ -127,9 +127,7 @@ sound_parts x y f g p joined h k = record {
 }
 
 pub sound_both : {A B : Type 0} (x : Form A) (y : Form B) (f : A → List Part) (g : B → List Part) → Sound x f → Sound y g → Sound (both x y) (λ v. f v.0 ++ g v.1)
-sound_both x y f g h k =
-    sound_parts x y f g (λ v. f v.0 ++ g v.1) (λ us vs v a b.
-    each_append (IsWritten (us ++ vs)) (f v.0) (g v.1) (each_left us vs (f v.0) a) (each_right us vs (g v.1) b)) h k
+sound_both {A} {B} x y f g h k = grind (arith, each_append, each_left, each_right)
 
 pub sound_first : {A B : Type 0} (x : Form A) (y : Form B) (f : A → List Part) → Sound x f → Sound (both x y) (λ v. f v.0)
 sound_first x y f h = sound_parts x y f (λ _. []) (λ v. f v.0) (λ us vs v a b. each_left us vs (f v.0) a) h (sound_nothing y)
@@ -144,9 +142,7 @@ pub sound_either : {A : Type 0} (x y : Form A) (p : A → List Part) → Sound x
 sound_either x y p h k = record { stands = λ us v s. elim s [ inl q ↦ h.stands us v q | inr q ↦ k.stands us v q ] }
 
 pub sound_option : {A : Type 0} (x : Form A) (f : A → List Part) → Sound x f → Sound (option x) (option_parts f)
-sound_option x f h = record {
-  stands = λ us v. elim v as (λ o. SpellsOption (Spells x) us o → Each (IsWritten us) (option_parts f o)) [ None ↦ λ s. tt | Some w ↦ h.stands us w ];
-}
+sound_option {A} x f h = grind arith
 
 stands_each : {A : Type 0} (x : Form A) (f : A → List Part) → Sound x f → (us : List Lexeme) (vs : List A) → SpellsEach (Spells x) us vs → Each (IsWritten us) (flat_map f vs)
 stands_each x f h us [] s = tt
@@ -170,9 +166,7 @@ pub sound_before : {A B : Type 0} (x : Form A) (y : Form B) (p : A → List Part
 sound_before x y p h = sound_as (λ v. v.0) (both x y) p (sound_first x y p h)
 
 pub sound_optional_list : {A : Type 0} (x : Form (List A)) (f : A → List Part) → Sound x (flat_map f) → Sound (optional_list x) (flat_map f)
-sound_optional_list x f h =
-    sound_as or_none (option x) (flat_map f) (sound_same (option x) (option_parts (flat_map f)) (λ v. flat_map f (or_none v)) (λ P v.
-    elim v as (λ o. Each P (option_parts (flat_map f) o) → Each P (flat_map f (or_none o))) [ None ↦ λ e. e | Some vs ↦ λ e. e ]) (sound_option x (flat_map f) h))
+sound_optional_list {A} x f h = grind arith
 
 pub sound_separated : {A : Type 0} (kind : Kind) (x : Form A) (f : A → List Part) → Sound x f → Sound (separated kind x) (flat_map f)
 sound_separated kind x f h =

@@ -21,11 +21,7 @@ known_network decl n named held =
     (λ space h. let o = origin_in_map parameter_names n.instances space h in subst (IsSpaceOrNone decl) o.gives (known_parameters decl o.origin (held o.origin o.among)))
 
 known_type : (decl : DeclTree) (d : TypeTree) → IsType decl d → (space : List NameUse) → Contains (type_spaces d) space → IsSpaceOrNone decl space
-known_type decl d is =
-    of_either {P = IsSpaceOrNone decl} (interface_spaces d.interface ++ chart_spaces d.chart) (network_spaces d.network) (of_either {P = IsSpaceOrNone decl} (interface_spaces d.interface) (chart_spaces d.chart)
-    (of_first {P = IsSpaceOrNone decl} (map (λ (e : EventTree). e.name) d.interface.events) (flat_map (λ (v : VariablesTree). v.names) d.interface.variables ∷ []) (inl (events is)) (λ space h. inl (subst (IsSpace decl) (contains_single (flat_map (λ (v : VariablesTree). v.names) d.interface.variables) space h) (variables is))))
-    (of_first {P = IsSpaceOrNone decl} (map (λ (s : StateTree). s.name) d.chart.states) (map (λ (a : AlgorithmTree). a.name) d.chart.algorithms ∷ []) (inl (states is)) (λ space h. inl (subst (IsSpace decl) (contains_single (map (λ (a : AlgorithmTree). a.name) d.chart.algorithms) space h) (algorithms is)))))
-    (known_network decl d.network (instances is) (λ i. instance_of_type is))
+known_type decl d is space c = grind (arith, events, variables, states, algorithms, known_network, instances, instance_of_type)
 
 -- those of the applications of a system
 abbrev inner_spaces : SystemTree → List (List NameUse)
@@ -52,8 +48,7 @@ known_space decl space place name c at = grind (arith, known)
 -- the function lists each space
 
 of_type : (decl : DeclTree) (d : TypeTree) → IsType decl d → (space : List NameUse) → Contains (type_spaces d) space → Contains (spaces_of decl) space
-of_type decl d (of_block x) space c = c
-of_type decl d is space c = c
+of_type decl d is space c = grind arith
 
 in_application : (s : SystemTree) (a : ApplicationTree) → Contains s.applications a → (space : List NameUse) → Contains (network_spaces a.network) space → Contains (system_spaces s) space
 in_application s a among space c = contains_later _ _ space (Contains-append_left (inner_spaces s) _ space (contains_flat_map (λ (x : ApplicationTree). network_spaces x.network) s.applications a space among c))

@@ -26,10 +26,7 @@ sound_assignment n within =
 
 sound_simple_statement : (n : ℕ) → n ≤ levels → Sound (simple_statement n) statement_parts
 unfolding simple_statement
-sound_simple_statement n within =
-    sound_either _ _ statement_parts (sound_as _ _ statement_parts (sound_nothing _))
-    (sound_either _ _ statement_parts (sound_as _ _ statement_parts (sound_nothing _))
-    (sound_either _ _ statement_parts (sound_as _ _ statement_parts (sound_nothing _)) (sound_assignment n within)))
+sound_simple_statement n within = grind (arith, sound_either, sound_assignment)
 
 -- Statements that contain others
 

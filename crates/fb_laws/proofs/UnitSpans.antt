@@ -63,8 +63,7 @@ sound_of {x = x} {f = f} parts of h same = sound_as of x parts (sound_same x f (
 
 sound_data_section : Sound data_section contents_parts
 unfolding data_section
-sound_data_section =
-    sound_either _ _ contents_parts (sound_of _ of_events sound_events (λ v. simp append-nil)) (sound_of _ of_variables sound_data_variables (λ v. simp append-nil))
+sound_data_section = grind (arith, sound_events, append-nil, sound_data_variables)
 
 sound_interface_section : Sound interface_section contents_parts
 unfolding interface_section plugs sockets
