@@ -86,17 +86,11 @@ module _ (sources : Sources) (d : TypeTree) (side : Side) where
       by_role i is Socket r (Some ports) u h = absurd (judged_among (opposite side) ports X.name h)
       by_role i is role r ports u h = absurd (cc)
 
-  event_found : (name : NameUse) (port : Option NameUse) → event_named scope side name port ≡ Found → IsEvent name port
-  event_found name port e = grind (arith, own_event, stands_for_event, found_behind)
-
-  not_judged : (name : NameUse) (port : Option NameUse) → event_named scope side name port ≡ NotChecked → IsUnjudged name port
-  not_judged name port e = grind (arith, judged_among, not_judged_behind)
-
   unknown_event : (event : End) → event_named scope side event.name event.port ≡ Unknown → IsNoEventOf sources own side event
   unknown_event event e = grind (arith, at_adapter, told_type, side_itself, type_missing)
 
   no_event : (event : End) → IsNoEventOf sources own side event → event_named scope side event.name event.port ≡ Unknown
-  no_event event fails = grind (arith, event_found, not_judged)
+  no_event event fails = grind (arith, own_event, stands_for_event, found_behind, judged_among, not_judged_behind)
 
 abbrev event_fault_at : End → Fault
 event_fault_at e = record { code = EventUnknown; span = span_from e.name.span e.port }

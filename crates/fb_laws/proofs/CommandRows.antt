@@ -8,9 +8,6 @@ use Rattle.fb_placing.specs.ConstantTexts.{written}
 
 -- ---- the parts of the commands for a resource
 
-pub commands_append : (a b : List ResourceCommand) (r : List ℕ) → commands_for (a ++ b) r ≡ commands_for a r ++ commands_for b r
-commands_append a b r = grind (arith, filter-append, bytes_eq, map-append)
-
 abbrev pub lines_on : List ℕ → List PlacedCommand → List PlacedCommand
 lines_on r lines = filter (λ (l : PlacedCommand). bytes_eq r l.resource) lines
 
@@ -125,7 +122,7 @@ module _ (sources : Sources) (system : List ℕ) (flat : PlainFlat) (cuts : List
     entry = record { name = r; commands = commands_for commands r }
 
     parts : entry.commands ≡ texts makes ++ texts writes ++ map link_command joins ++ starts
-    parts = grind (arith, commands_append, for_each, for_links)
+    parts = grind (arith, filter-append, bytes_eq, map-append, for_each, for_links)
 
     -- blocks
 

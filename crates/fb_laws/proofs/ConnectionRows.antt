@@ -22,11 +22,8 @@ module _ (sources : Sources) (unit other : List ℕ) where
       by forms.Array forms.Array p q e = of_arrays p q (same_text (words_at sources unit a.span) (words_at sources other b.span) (sym e))
       by f g p q e = absurd (true≢false (sym e))
 
-  told_same : (a b : TypeUse) → IsSameType sources unit a other b → same a b ≡ true
-  told_same a b alike = grind (arith, of_names, same_itself, of_sizes, bytes_decides, of_arrays)
-
   known_differ : (f g : Flow) → flows_agree same f g ≡ false → DifferInType sources unit other f g
-  known_differ f g e = grind (arith, data_types, adapter_types, or_parts, not_free, told_same, same_itself)
+  known_differ f g e = grind (arith, data_types, adapter_types, or_parts, not_free, of_names, same_itself, of_sizes, bytes_decides, of_arrays)
 
   told_differ : (f g : Flow) → DifferInType sources unit other f g → flows_agree same f g ≡ false
   told_differ f g (data_types {a = a} {b = b} first second apart) =

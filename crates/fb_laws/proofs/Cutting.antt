@@ -51,9 +51,6 @@ first_same : (xs ys : List ℕ) → 0 < length xs → first (xs ++ ys) ≡ first
 first_same [] ys h = absurd (omega arith)
 first_same (x ∷ xs) ys h = refl
 
-ends_line : (xs ys : List ℕ) → EndsLine (xs ++ ys) → EndsLine xs
-ends_line xs ys h = grind arith
-
 begins_token : (xs ys : List ℕ) → 0 < length xs → BeginsToken (xs ++ ys) → BeginsToken xs
 begins_token xs ys some h = grind (arith, first_same)
 
@@ -77,9 +74,6 @@ first_close after inside rest behind ys e close = record {
 -- a token that stands so many bytes nearer to the begin
 abbrev pub nearer_token : ℕ → Token → Token
 nearer_token d t = record { kind = t.kind; span = record { start = t.span.start - d; end = t.span.end - d } }
-
-nearer_token_of : (kind : TokenKind) (q p d n : ℕ) → q ≡ p + d → nearer_token d (token_of kind q n) ≡ token_of kind p n
-nearer_token_of kind q p d n e = grind arith
 
 -- Texts by gaps and tokens
 
@@ -109,7 +103,7 @@ walks {q} {text} (AtComment after inside rest e close more) ts h =
     (walks more ts h)
 walks (AtOpenComment after e never r) ts h = cc
 walks (AtLineComment line rest e all ends more) ts h =
-    Gap (length line + 2) (codes "//" ++ line) rest (omega arith) e (λ p zs ys reading s again. AtLineComment line zs refl all (ends_line zs ys (subst EndsLine s ends)) again) (walks more ts h)
+    Gap (length line + 2) (codes "//" ++ line) rest (omega arith) e (λ p zs ys reading s again. AtLineComment line zs refl all (grind arith) again) (walks more ts h)
 walks {q} {text} (AtToken kind n following begins is more r) ts h =
     let o = rest_of (token_of kind q n) following ts (sym r ∙ h) in
     let pos = some_bytes text kind n is in
@@ -167,7 +161,7 @@ cut {q} {text} (Then n kind others pos starts e more) p d xs ys (t ∷ ts) behin
     let within : n ≤ length xs = omega (arith, later) in
     let len : q + length xs ≡ q + n + length (drop n xs) = omega (arith, within, length-drop n xs) in
     let again = cut more (p + n) d (drop n xs) ys ts behind (record { shift = omega (arith, c.shift); parts = ap (drop n) c.parts ∙ drop-append-le n xs ys within; tokens = tail; last = subst (LastEnds (q + n) ts) len last }) in
-    subst (λ (u : Token). Reads p xs (Ok (u ∷ map (nearer_token d) ts))) (sym (nearer_token_of kind q p d n c.shift) ∙ ap (nearer_token d) head)
+    subst (λ (u : Token). Reads p xs (Ok (u ∷ map (nearer_token d) ts))) (sym (grind arith) ∙ ap (nearer_token d) head)
     (starts p xs ys (Ok (map (nearer_token d) ts)) c.parts within again)
 
 -- The place of a token

@@ -151,9 +151,6 @@ suits_unary primary h =
 
 -- Rows
 
-row_span : (e : Expression) (os : List (BinaryUse × Expression)) → span_through (expression_span e) (operands_of os) ≡ expression_span (row_of e os)
-row_span e os = grind arith
-
 -- one operand
 spelled_row : (kinds : List Kind) (x : Form Expression) (us : List Lexeme) (e : Expression) → Spells x us e → Spells (row kinds x) us e
 unfolding row
@@ -184,7 +181,7 @@ unfolding row operand
 suits_row kinds x are h =
     let ends = ends_second (as_value binary_use (one kinds)) x expression_span (ends_filled x expression_span h.filled) in
     let filled = filled_through (operand kinds x) (λ o. expression_span o.1) ends (λ s os. span_through s (operands_of os)) (λ s. refl) (λ s o os. refl) x expression_span h.filled in
-    suits_as _ (λ v. row_of v.0 v.1) (λ v. expression_parts v.0 ++ flat_map operand_parts v.1) (record { fills = λ us v s. subst (Fills us) (row_span v.0 v.1) (filled.fills us v s) })
+    suits_as _ (λ v. row_of v.0 v.1) (λ v. expression_parts v.0 ++ flat_map operand_parts v.1) (record { fills = λ us v s. subst (Fills us) (grind arith) (filled.fills us v s) })
     (λ is.
     let inner = h.sound (record { spells = λ us e s. is.spells us e (spelled_row kinds x us e s) }) in
     sound_both x _ expression_parts (flat_map operand_parts) inner (sound_many (operand kinds x) operand_parts (sound_operand kinds x are inner)))

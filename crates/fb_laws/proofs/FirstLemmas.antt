@@ -4,13 +4,10 @@ use Rattle.std.proofs.{lemmas.Option.{get_or_from_slice_get}, lemmas.List.FromFn
 
 -- numbered items that pass come in the order of their numbers
 
-rising : {X : Type 0} (xs : List X) → AllPairs (λ (a b : ℕ × X). a.0 < b.0) (enumerate_from 0 xs)
-rising xs i j d before within = grind (arith, get_or-enumerate_from, length-enumerate_from)
-
 numbers_rise : {X : Type 0} (passes : ℕ × X → Bool) (xs : List X) (i j : ℕ) (p q : ℕ × X) → i < j → slice_get (filter passes (enumerate_from 0 xs)) i ≡ Some p → slice_get (filter passes (enumerate_from 0 xs)) j ≡ Some q → p.0 < q.0
 numbers_rise {X = X} passes xs i j p q before first second =
     let placed = filter passes (enumerate_from 0 xs) in
-    let less = AllPairs-filter (λ (a b : ℕ × X). a.0 < b.0) passes (enumerate_from 0 xs) (rising xs) i j p before (slice_get_within placed j q second) in
+    let less = AllPairs-filter (λ (a b : ℕ × X). a.0 < b.0) passes (enumerate_from 0 xs) (grind (arith, get_or-enumerate_from, length-enumerate_from)) i j p before (slice_get_within placed j q second) in
     omega (arith, less, ap (λ (a : ℕ × X). a.0) (get_or_from_slice_get placed i p p first), ap (λ (a : ℕ × X). a.0) (get_or_from_slice_get placed j q p second))
 
 pub got_among : {X : Type 0} (xs : List X) (k : ℕ) (x : X) → slice_get xs k ≡ Some x → Contains xs x

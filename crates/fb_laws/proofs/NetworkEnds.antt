@@ -96,12 +96,9 @@ module _ (sources : Sources) (here : Site) (n : NetworkTree) (own : here.own.ins
 
   -- own ones among them
 
-  own_right : (t : Target) → is_own_port position t ≡ true → is_right position t ≡ true
-  own_right t e = grind (arith, and_parts)
-
   pub known_own : is_own_port position there ≡ true → (r : NamesRight sources here sort position end) × (r.holder ≡ Own)
   known_own e =
-      let r = known_end (own_right there e) in
+      let r = known_end (grind (arith, and_parts)) in
       let both = and_parts (is_own r.holder) (same_side r.port.side (right_side position r.holder)) (sym (ap (is_own_port position) (end_target r)) ∙ e) in
       (r, grind arith)
 

@@ -34,12 +34,9 @@ module _ (sources : Sources) (unit : List ℕ) (span : Span) where
   network_code PortUnknown h = unknown_port
   network_code code h = search codes_or_none
 
-demand_code : (demand : Demand) → IsCodeOf Expressions (code_of_demand demand)
-demand_code demand = grind (arith, unknown_variable, unknown_member, class)
-
 pub own_codes : PartsHaveOwnCodes
 own_codes Declarations sources unit f c = declared_code sources unit f.span f.code (declarations.found sources unit f c)
-own_codes Expressions sources unit f c = let u = unmet sources unit f c in subst (λ (g : Fault). IsCodeOf Expressions g.code) (sym u.is) (demand_code u.demand)
+own_codes Expressions sources unit f c = let u = unmet sources unit f c in subst (λ (g : Fault). IsCodeOf Expressions g.code) (sym u.is) (grind (arith, unknown_variable, unknown_member, class))
 own_codes Charts sources unit f c = chart_code sources unit f.span f.code (charts.found sources unit f c)
 own_codes Networks sources unit f c = network_code sources unit f.span f.code (found sources unit f c)
 own_codes Mappings sources unit f c = mapping_code sources unit f.span f.code (mappings.found sources unit f c)
@@ -93,9 +90,6 @@ pub record TextOrigin (sources : Sources) (unit : List ℕ) (f : Fault) : Type 0
   pub broken : body_of text ≡ BrokenAt f.span
   pub code : f.code ≡ Syntax
 
-pub text_origin : (sources : Sources) (unit : List ℕ) (f : Fault) → Contains (text_faults (get sources unit)) f → TextOrigin sources unit f
-text_origin sources unit f c = grind (arith, in_written, get, contains_nothing, contains_single)
-
 -- the parts of what is reported
 
 pub data IsReported (sources : Sources) (unit : List ℕ) (f : Fault) : Type 0 where
@@ -109,7 +103,7 @@ module _ (sources : Sources) (unit : List ℕ) (f : Fault) where
 
   pub is_found : Contains (faults_of sources unit) f → IsReported sources unit f
   is_found c =
-      of_either {P = IsReported sources unit} _ _ (of_either _ _ (of_either _ _ (of_either _ _ (of_either _ _ (λ g h. of_text (text_origin sources unit g h)) (λ g. of_part Declarations)) (λ g. of_part Expressions)) (λ g. of_part Charts)) (λ g. of_part Networks)) (λ g. of_part Mappings)
+      of_either {P = IsReported sources unit} _ _ (of_either _ _ (of_either _ _ (of_either _ _ (of_either _ _ (λ g h. of_text (grind (arith, in_written, get, contains_nothing, contains_single))) (λ g. of_part Declarations)) (λ g. of_part Expressions)) (λ g. of_part Charts)) (λ g. of_part Networks)) (λ g. of_part Mappings)
       f ((those_reported sources unit f).0 c)
 
   part_found : (part : Part) → Contains (faults_by part sources unit) f → Contains (faults_of sources unit) f

@@ -11,9 +11,6 @@ in_network n i c = search (Contains-append_left, contains_flat_map, contains_her
 in_type : (d : TypeTree) (p : Part) → Contains (network_parts d.network) p → Contains (tree_parts (subapplication_type d)) p
 in_type d p c = search (contains_later, Contains-append_right, Contains-append_left)
 
-in_application_parts : (s : SystemTree) (a : ApplicationTree) (p : Part) → Contains s.applications a → Contains (application_parts a) p → Contains (tree_parts (system_configuration s)) p
-in_application_parts s a p c h = search (contains_later, Contains-append_left, contains_flat_map)
-
 in_mapping_parts : (s : SystemTree) (m : MappingTree) (name : NameUse) → Contains s.mappings m → Contains m.path name → Contains (tree_parts (system_configuration s)) (name_part name)
 in_mapping_parts s m name c h =
     let own = contains_map name_part m.path name h in
@@ -29,7 +26,7 @@ module _ (sources : Sources) (unit : List ℕ) (s : SystemTree) (is : IsSystemAt
 
   pub path_plain : (path : List (List ℕ)) (i : InstanceTree) → IsAtPath sources s path i → ArePlain path
   path_plain path end (in_application a i ca ci) =
-      let named = λ (n : NameUse) (h : Contains (application_parts a) (name_part n)). name_in_unit sources unit (system_configuration s) is n (in_application_parts s a (name_part n) ca h) in
+      let named = λ (n : NameUse) (h : Contains (application_parts a) (name_part n)). name_in_unit sources unit (system_configuration s) is n (search (contains_later, Contains-append_left, contains_flat_map)) in
       All-cons IsPlain a.name.name (i.name.name ∷ []) (named a.name (contains_here (name_part a.name) (network_parts a.network)))
       (All-cons IsPlain i.name.name [] (named i.name (contains_later (name_part a.name) (network_parts a.network) (name_part i.name) (in_network a.network i ci))) (All-nil IsPlain))
   path_plain path end (inside {path = before} {outer = outer} type i at role there ci) =

@@ -88,9 +88,6 @@ pub record HasPrefix (blocks : List FlatBlock) (end : List ℕ) : Type 0 where
   pub listed : Contains blocks block
   pub prefix : IsPrefix block.path end
 
-prefix_beyond : (prefix path name : List ℕ) → IsPrefix prefix path → IsPrefix prefix (dotted path name)
-prefix_beyond prefix path name is = grind (arith, append_assoc)
-
 module _ {view : View} {network : PlainNetwork} {blocks : List FlatBlock} (are : AreBlocks view network blocks) where
   leaf_prefix : {a : Place} → IsLeafPlace view network a → HasPrefix blocks (printed a)
   leaf_prefix leaf =
@@ -105,7 +102,7 @@ module _ {view : View} {network : PlainNetwork} {blocks : List FlatBlock} (are :
       let o = leaf_held leaf are.held are.instances in
       let h = leaf_prefix leaf in
       let text : printed (a ++ port ∷ []) ≡ dotted (printed a) port = ap (λ (q : Place). printed (q ++ port ∷ [])) o.place ∙ printed-push o.first (o.others ++ o.port ∷ []) port ∙ ap (λ (q : Place). dotted (printed q) port) (sym o.place) in
-      record { block = h.block; listed = h.listed; prefix = subst (IsPrefix h.block.path) (sym text) (prefix_beyond h.block.path (printed a) port h.prefix) }
+      record { block = h.block; listed = h.listed; prefix = subst (IsPrefix h.block.path) (sym text) (grind (arith, append_assoc)) }
 
   link_prefixes : {sort : Sort} {a b : Place} → IsNetLink view network sort a b → HasPrefix blocks (printed a) × HasPrefix blocks (printed b)
   link_prefixes link = grind (arith, leaf_prefix, port_prefix)

@@ -10,12 +10,9 @@ use Rattle.fb_laws.specs.Variables.{of_adapter}
 
 -- a type that has to be declared is none of class Free
 
-own_class : (c : TypeClass) → has_own_class c ≡ false → is_free (named_class c) ≡ false
-own_class c e = grind arith
-
 not_free : (name : List ℕ) → is_elementary name ≡ false → is_free (class_of_name name) ≡ false
 unfolding is_elementary
-not_free name e = own_class (type_class_of name) (or_parts (has_own_class (type_class_of name)) _ e).0
+not_free name e = grind arith
 
 -- whether a subscript stands on a plain type
 abbrev shown : Bool → Fields → Fields
@@ -73,16 +70,13 @@ module _ (sources : Sources) (unit : List ℕ) (d : TypeTree) (declared : tree_a
     abbrev name : List ℕ
     name = used.name.name
 
-    by_field : (s : Bool) → Shows used s false → is_elementary name ≡ false → (structure : StructureTree) → tree_at sources name ≡ Some (structure_type structure) → (o : Option DeclaredVariable) → stands_for (first_ones (fields_in structure)) m.name.name ≡ o → Looks used s m (field_referent o m)
-    by_field s shows elementary structure t o e = grind (arith, is_none, is_found, stands_for-first_ones)
-
     -- by whether a subscript stands there, whether the type is generic, whether it is elementary, and its declaration
     by_type : (s on free elementary : Bool) (o : Option DeclTree) → Shows used s on → is_free (class_of_name name) ≡ free → is_elementary name ≡ elementary → tree_at sources name ≡ o → Looks used s m (member_among (shown on (cond free NotChecked (cond elementary NoFields (fields_of_tree o)))) m)
     by_type s false true elementary o shows f e t = is_open (generic false shows f)
     by_type s true true elementary o shows f e t = is_open (generic true shows f)
     by_type s false false false None shows f e t = is_open (unknown false shows e t)
     by_type s true false false None shows f e t = is_open (unknown true shows e t)
-    by_type s false false false (Some (structure_type structure)) shows f e t = by_field s shows e structure t (stands_for (first_ones (fields_in structure)) m.name.name) refl
+    by_type s false false false (Some (structure_type structure)) shows f e t = grind (arith, is_none, is_found, stands_for-first_ones)
     by_type s true false false (Some (structure_type structure)) shows f e t = is_none
     by_type s on false elementary o shows f e t = is_none
 
@@ -192,12 +186,6 @@ module _ (sources : Sources) (unit : List ℕ) (d : TypeTree) (declared : tree_a
     abbrev on : Bool
     on = is_some_count m.subscripts
 
-    by_data : (a : TypeTree) → tree_at sources i.type_name.name ≡ Some (adapter_type a) → (o : Option DeclaredVariable) → stands_for (meanings_in_type a).variables m.name.name ≡ o → Base r behind (data_referent o on)
-    by_data a is o e = grind (arith, variable, nothing, of_adapter)
-
-    by_ports : (o : Option Meanings) → usable i.role (tree_at sources i.type_name.name) ≡ o → Base r behind (port_referent o m.name.name on)
-    by_ports o u = grind (arith, not_judged_port, adapter_used, adapter_found, known_type, by_data)
-
     is_variable : (a : TypeTree) (v : DeclaredVariable) → tree_at sources i.type_name.name ≡ Some (adapter_type a) → stands_for (meanings_in_type a).variables m.name.name ≡ Some v → IsData v.section → port_named names.scope r.name.name m ≡ Variable v.type_use on
     is_variable a v is e data_port =
         ap (λ o. port_referent o m.name.name on) (port_ports r i m behind at ∙ adapter_used sources i at.adapter a is)
@@ -207,7 +195,7 @@ module _ (sources : Sources) (unit : List ℕ) (d : TypeTree) (declared : tree_a
   base_of : {r : ReferenceTree} {base : Referent} {skipped behind : List Member} → Starts r base skipped behind → Base r behind base
   base_of {r = r} (at_first none) = grind (arith, variable, nothing, own)
   base_of {r = r} (at_second i m others at) =
-      subst (λ (o : Option Meanings). Base r others (port_referent o m.name.name (is_some_count m.subscripts))) (sym (port_ports r i m others at)) (by_ports r i m others at _ refl)
+      subst (λ (o : Option Meanings). Base r others (port_referent o m.name.name (is_some_count m.subscripts))) (sym (port_ports r i m others at)) (grind (arith, not_judged_port, adapter_used, adapter_found, known_type, variable, nothing, of_adapter))
 
   -- a reference that begins at a variable
   begun : {r : ReferenceTree} {used : TypeUse} {s : Bool} {behind : List Member} → Begins sources d r used s behind → (skipped : List Member) × Starts r (Variable used s) skipped behind
@@ -257,9 +245,6 @@ module _ (sources : Sources) (unit : List ℕ) (d : TypeTree) (declared : tree_a
       ∙ walked starts (before ++ m ∷ []) others (parted ∙ sym (append_assoc before (m ∷ []) others))
       ∙ walk-append names base before (m ∷ [])
 
-  base_field : {r : ReferenceTree} {behind : List Member} {base : Referent} → Base r behind base → is_field base ≡ true
-  base_field {r} {behind} {base} is = grind arith
-
   module _ (r : ReferenceTree) (subscripts : Expressions) (written : IsWrittenIn d (reference_expression r subscripts)) (m : Member) (others : List Member) where
     -- the type that the names before it lead to, where these are fields
     lost_behind : {base : Referent} {behind : List Member} → Base r behind base → (before : List Member) → behind ≡ before ++ m ∷ others → is_field (walk names base before) ≡ true → is_field (step names (walk names base before) m) ≡ false → HasUnknownMember sources unit m.name.span
@@ -288,7 +273,7 @@ module _ (sources : Sources) (unit : List ℕ) (d : TypeTree) (declared : tree_a
         by (at_first none) before parted is fails = lost_in (at_first none) before parted is fails
         by (at_second i p rest at) [] parted is fails =
             let starts : Starts r (port_named names.scope r.name.name m) (m ∷ []) others = at_second i m others (record { stands = at.stands; adapter = at.adapter; plain = at.plain; second = parted }) in
-            absurd (true≢false (sym (base_field (base_of starts)) ∙ sym (ap is_field (walked starts [] others refl)) ∙ fails))
+            absurd (true≢false (sym (grind arith) ∙ sym (ap is_field (walked starts [] others refl)) ∙ fails))
         by (at_second i p rest at) (b ∷ bs) parted is fails =
             lost_in (at_second i b (bs ++ m ∷ others) (record { stands = at.stands; adapter = at.adapter; plain = at.plain; second = parted })) bs refl is fails
 

@@ -54,11 +54,8 @@ data_is : (sort : Sort) (d : End) → sort ≡ sorts.Data → data_destination s
 data_is sort d e = ap (λ s. data_destination s d) e
 
 module _ (sources : Sources) (unit : List ℕ) (here : Site) (n : NetworkTree) (stands : IsNetworkOf sources unit here n) where
-  second_source : (e : End) → IsSecond destinations n.connections e → HasSecondSource sources unit (place_of e)
-  second_source e s = grind (arith, data_parts, contains_single, contains_nothing)
-
   pub sources_found : (f : Fault) → Contains (second_sources n.connections) f → Finds sources unit f
-  sources_found f c = let s = second_origin SecondSource destinations n.connections f c in subst (Finds sources unit) s.2 (second_source s.0 s.1)
+  sources_found f c = let s = second_origin SecondSource destinations n.connections f c in subst (Finds sources unit) s.2 (grind (arith, data_parts, contains_single, contains_nothing))
 
 pub source_reported : {sources : Sources} {unit : List ℕ} {span : Span} (h : HasSecondSource sources unit span) → Contains (second_sources h.network.connections) (fault_at_end SecondSource h.again.destination)
 source_reported h =

@@ -40,14 +40,11 @@ told_join a b c is = grind arith
 
 ruleset constants = (Takes.truth, Takes.truth_any, Takes.whole, Takes.whole_number, Takes.whole_any, Takes.bits, Takes.bits_number, Takes.bits_any, Takes.other, Takes.other_whole, Takes.other_number, Takes.other_any, Takes.free_type, Takes.free_constant)
 
-known_take : (kind constant : Class) → takes kind constant ≡ true → Takes kind constant
-known_take kind constant e = grind (arith, constants)
-
 pub not_taken : (kind constant : Class) → takes kind constant ≡ false → ¬ Takes kind constant
 not_taken kind constant e is = grind arith
 
 pub untaken : (kind constant : Class) → ¬ Takes kind constant → takes kind constant ≡ false
-untaken kind constant none = false_from_ne_true (takes kind constant) (λ e. none (known_take kind constant e))
+untaken kind constant none = false_from_ne_true (takes kind constant) (λ e. none (grind (arith, constants)))
 
 pub not_free : (c : Class) → is_free c ≡ false → c ≢ Free
 not_free c e is = true≢false (sym (ap is_free is) ∙ e)
@@ -157,8 +154,5 @@ told_results operator a b g (Results.broken none s) = ap (λ (o : Option Class).
 
 ruleset fitting = (Fits.truth, Fits.any_truth, Fits.whole, Fits.number, Fits.any_number, Fits.counter, Fits.selector, Fits.free)
 
-pub fits : (place : ClassPlace) (c : Class) → allows place c ≡ true → Fits place c
-fits place c e = grind (arith, fitting)
-
 pub misfits : (place : ClassPlace) (c : Class) → allows place c ≡ false ↔ (¬ Fits place c)
-misfits place c = iff (λ e f. grind arith) (λ none. false_from_ne_true (allows place c) (λ e. none (fits place c e)))
+misfits place c = iff (λ e f. grind arith) (λ none. false_from_ne_true (allows place c) (λ e. none (grind (arith, fitting))))

@@ -24,9 +24,6 @@ pub record Fills (us : List Lexeme) (span : Span) : Type 0 where
 pub written_whole : (us : List Lexeme) (p : Part) → Fills us (part_span p) → SpellsPart us p → IsWritten us p
 written_whole us p fills spells = record { before = []; inside = us; behind = []; parts = sym (append-nil us); begins = fills.begins; ends = fills.ends; spells = spells }
 
-written_left : (us vs : List Lexeme) (p : Part) → IsWritten us p → IsWritten (us ++ vs) p
-written_left us vs p h = grind (arith, append_assoc)
-
 written_right : (us vs : List Lexeme) (p : Part) → IsWritten vs p → IsWritten (us ++ vs) p
 written_right us vs p h = let parts = ap (λ (z : List Lexeme). us ++ z) h.parts ∙ sym (append_assoc us h.before (h.inside ++ h.behind)) in search
 
@@ -48,7 +45,7 @@ each_rest P [] qs h = h
 each_rest P (p ∷ ps) qs h = each_rest P ps qs h.1
 
 pub each_left : (us vs : List Lexeme) (ps : List Part) → Each (IsWritten us) ps → Each (IsWritten (us ++ vs)) ps
-each_left us vs ps h = each (IsWritten us) (IsWritten (us ++ vs)) (written_left us vs) ps h
+each_left us vs ps h = each (IsWritten us) (IsWritten (us ++ vs)) (grind (arith, append_assoc)) ps h
 
 pub each_right : (us vs : List Lexeme) (ps : List Part) → Each (IsWritten vs) ps → Each (IsWritten (us ++ vs)) ps
 each_right us vs ps h = each (IsWritten vs) (IsWritten (us ++ vs)) (written_right us vs) ps h

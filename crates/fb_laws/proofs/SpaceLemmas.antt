@@ -10,15 +10,11 @@ written i = map (λ (p : ParameterTree). p.name) i.parameters
 abbrev IsSpaceOrNone : DeclTree → List NameUse → Type 0
 IsSpaceOrNone decl space = IsSpace decl space ⊎ (space ≡ [])
 
--- the parameters of a block instance are judged, and those of others are not
-known_parameters : (decl : DeclTree) (i : InstanceTree) → IsHeldIn decl i → IsSpaceOrNone decl (parameter_names i)
-known_parameters decl i held = grind (arith, parameters)
-
 -- the spaces of a network, of a type or of an application
 known_network : (decl : DeclTree) (n : NetworkTree) → IsSpace decl (map (λ (i : InstanceTree). i.name) n.instances) → ((i : InstanceTree) → Contains n.instances i → IsHeldIn decl i) → (space : List NameUse) → Contains (network_spaces n) space → IsSpaceOrNone decl space
 known_network decl n named held =
     of_first {P = IsSpaceOrNone decl} _ _ (inl named)
-    (λ space h. let o = origin_in_map parameter_names n.instances space h in subst (IsSpaceOrNone decl) o.gives (known_parameters decl o.origin (held o.origin o.among)))
+    (λ space h. let o = origin_in_map parameter_names n.instances space h in subst (IsSpaceOrNone decl) o.gives (grind (arith, parameters)))
 
 known_type : (decl : DeclTree) (d : TypeTree) → IsType decl d → (space : List NameUse) → Contains (type_spaces d) space → IsSpaceOrNone decl space
 known_type decl d is space c = grind (arith, events, variables, states, algorithms, known_network, instances, instance_of_type)

@@ -14,9 +14,6 @@ members_count (p ∷ ps) =
     ∙ ap (λ n. length p.subscripts + n) (members_count ps)
     ∙ sym (length-append p.subscripts (subscripts_in ps))
 
-parts_count : (p : PartTree) (ps : List PartTree) → counted_by (reference_in (p, ps)).0 ≡ number_of (reference_in (p, ps)).1
-parts_count p ps = grind (arith, members_count, length-append, number_is)
-
 -- what is so of an expression that is a reference
 abbrev Counts : Expression → Type 0
 Counts (reference_expression r subscripts) = counted_by r ≡ number_of subscripts
@@ -37,7 +34,7 @@ unfolding literal
 counted_literal = counted_as _ _ (λ us v s. tt)
 
 counted_parts : (part : Form PartTree) → Counted (as_value reference_value (as_value reference_in (parts part)))
-counted_parts part = grind (arith, counted_as, as_value, parts_count)
+counted_parts part = grind (arith, counted_as, as_value, members_count, length-append, number_is)
 
 counted_flat_primary : Counted flat_primary
 unfolding flat_primary flat_reference
