@@ -103,9 +103,7 @@ module _ (sources : Sources) (unit : List ℕ) (s : SystemTree) (is : IsSystemAt
       (by_option (nearest (resource_at s.mappings) (with_points path)) (λ e. e) (λ r e.
       let h = mapped_to sources unit s is net.0 path i at r (of_nearest (resource_at s.mappings) (with_points path) r e) in
       absurd (none h.mapping h.listed h.above)))
-  is_astray item (of_nothing m listed written none) =
-      subst (λ (p : List ℕ). Astray (NoSuchBlock p)) (sym (same_print (path_of m)))
-      (nothing_there m listed (true_from_ne_false (leads_nowhere sources unit s.applications (names_used m.path)) (λ e. none (somewhere sources unit s is net.0 (path_of m) written e))))
+  is_astray item (of_nothing m listed written none) = grind (arith, same_print, nothing_there, true_from_ne_false, somewhere)
 
 pub misplaced_told : MisplacedIsTold
 misplaced_told sources unit s found is plan =

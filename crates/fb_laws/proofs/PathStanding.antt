@@ -9,9 +9,7 @@ use Rattle.fb_placing.specs.Resolved.{resolved_from, resolved_in}
 
 module _ (sources : Sources) (unit : List ℕ) (s : SystemTree) (is : IsSystemAt sources unit s) (sound : IsSound sources unit) where
   step_in : (path : Path) (i : InstanceTree) → IsAtPath sources s path i → (name : List ℕ) (j : InstanceTree) (tree : Option DeclTree) → tree_at sources i.type_name.name ≡ tree → Contains (inner_instances tree) j → j.name.name ≡ name → IsAtPath sources s (path ++ name ∷ []) j
-  step_in path i at name j (Some (subapplication_type d)) there c named =
-      let role = is_subapplication sources unit sound i (holder_of sources unit s is path i at) d there in
-      subst (λ (n : List ℕ). IsAtPath sources s (path ++ n ∷ []) j) named (inside d j at role there c)
+  step_in path i at name j (Some (subapplication_type d)) there c named = grind (arith, is_subapplication, holder_of, inside)
   step_in path i at name j o there c named = absurd (contains_nothing j c)
 
   next_at : (path : Path) (st : PlainResolved) → IsAtPath sources s path st.instance → (name : List ℕ) (next : PlainResolved) → resolved_inside sources name st ≡ Some next → IsAtPath sources s (path ++ name ∷ []) next.instance

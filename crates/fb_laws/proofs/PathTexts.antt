@@ -120,8 +120,7 @@ pointed names = flat_map (λ (name : List ℕ). 46 ∷ name) names
 pub prefix_of : (a inner : Path) → a ≢ [] → IsPrefix (with_points a) (with_points (a ++ inner))
 prefix_of [] inner some = absurd (some refl)
 prefix_of (first ∷ others) [] some = inl (ap with_points (append-nil (first ∷ others)))
-prefix_of (first ∷ others) (name ∷ names) some =
-    inr (name ++ pointed names, ap (λ (l : List ℕ). first ++ l) (flat_map-append (λ (name : List ℕ). 46 ∷ name) others (name ∷ names)) ∙ sym (append_assoc first (pointed others) (pointed (name ∷ names))))
+prefix_of (first ∷ others) (name ∷ names) some = grind (arith, flat_map-append, append_assoc)
 
 -- of two paths that one goes on from, the one with more names is the longer text, by a byte for each name at least
 pointed_lengths : (a b inner more : Path) → a ++ inner ≡ b ++ more → length a ≤ length b → length (pointed a) + length b ≤ length (pointed b) + length a

@@ -119,10 +119,7 @@ module _ (sources : Sources) (unit : List ℕ) (d : TypeTree) (declared : tree_a
   last_known known (through {m = m} v has more) = last_known (next_known m known has) more
 
   goes : (used : TypeUse) (s : Bool) (ms : List Member) (last : TypeUse) (t : Bool) → Known used → walk names (Variable used s) ms ≡ Variable last t → GoesOn sources used s ms last t
-  goes used s [] last t known e =
-      let type : used ≡ last = cc in
-      let on : s ≡ t = cc in
-      subst (λ (l : TypeUse). GoesOn sources used s [] l t) type (subst (λ (b : Bool). GoesOn sources used s [] used b) on at_end)
+  goes used s [] last t known e = grind (arith, at_end)
   goes used s (m ∷ ms) last t known e = by (looks used m known s) e (λ v has. goes v.type_use (is_some_count m.subscripts) ms last t (next_known m known has))
     where
       by : {r : Referent} → Looks used s m r → walk names r ms ≡ Variable last t → ((v : DeclaredVariable) → HasField sources used s m.name.name v → (walk names (Variable v.type_use (is_some_count m.subscripts)) ms ≡ Variable last t → GoesOn sources v.type_use (is_some_count m.subscripts) ms last t)) → GoesOn sources used s (m ∷ ms) last t
@@ -163,8 +160,7 @@ module _ (sources : Sources) (unit : List ℕ) (d : TypeTree) (declared : tree_a
   walked {r = r} (at_first none) (m ∷ ms) others parted =
       ap (λ b. cond b (walk names (port_named names.scope r.name.name m) ms) (walk names (variable_named names.scope r.name.name (is_some_count r.subscripts)) (m ∷ ms)))
       (false_from_ne_true _ (λ e. let at = port_found r m (ms ++ others) parted e in none at.0 m (ms ++ others) at.1))
-  walked {r = r} (at_second i m rest at) before others parted =
-      ap (λ b. cond b (walk names (port_named names.scope r.name.name m) before) (walk names (variable_named names.scope r.name.name (is_some_count r.subscripts)) (m ∷ before))) (port_told r i m rest at)
+  walked {r = r} (at_second i m rest at) before others parted = grind (arith, port_told)
 
   whole : {r : ReferenceTree} {base : Referent} {skipped behind : List Member} → Starts r base skipped behind → referent_of names r ≡ walk names base behind
   whole {r = r} {behind = behind} starts = ap (referent_through names r) (parts starts) ∙ walked starts behind [] (sym (append-nil behind))

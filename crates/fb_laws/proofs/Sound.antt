@@ -90,8 +90,7 @@ filled_across x y f g h k = record { fills = λ us v s. fills_both us s.0 s.1 (a
 -- x [y], through y where it is written
 module _ {A B : Type 0} (x : Form A) (y : Form B) (f : A → Span) (g : B → Span) (span : A × Option B → Span) (alone : (a : A) → span (a, None) ≡ f a) (more : (a : A) (b : B) → span (a, Some b) ≡ across (f a) (g b)) where
   fills_more : Filled x f → Ends y g → (us prefix rest : List Lexeme) (a : A) (b : Option B) → us ≡ prefix ++ rest → Spells x prefix a → SpellsOption (Spells y) rest b → Fills us (span (a, b))
-  fills_more h k us prefix rest a None e s none =
-      subst (Fills us) (sym (alone a)) (subst (λ (z : List Lexeme). Fills z (f a)) (sym (e ∙ subst (λ (z : List Lexeme). prefix ++ z ≡ prefix) (sym none) (append-nil prefix))) (h.fills prefix a s))
+  fills_more h k us prefix rest a None e s none = grind (arith, append-nil)
   fills_more h k us prefix rest a (Some b) e s t = subst (Fills us) (sym (more a b)) (fills_both us prefix rest (across (f a) (g b)) e (h.fills prefix a s).begins (k.ends rest b t))
 
   pub filled_more : Filled x f → Ends y g → Filled (both x (option y)) span
@@ -100,8 +99,7 @@ module _ {A B : Type 0} (x : Form A) (y : Form B) (f : A → Span) (g : B → Sp
 -- [x] y, from x where it is written
 module _ {A B : Type 0} (x : Form A) (y : Form B) (f : A → Span) (g : B → Span) (span : Option A × B → Span) (alone : (b : B) → span (None, b) ≡ g b) (more : (a : A) (b : B) → span (Some a, b) ≡ across (f a) (g b)) where
   fills_from : Filled x f → Filled y g → (us prefix rest : List Lexeme) (a : Option A) (b : B) → us ≡ prefix ++ rest → SpellsOption (Spells x) prefix a → Spells y rest b → Fills us (span (a, b))
-  fills_from h k us prefix rest None b e none t =
-      subst (Fills us) (sym (alone b)) (subst (λ (z : List Lexeme). Fills z (g b)) (sym (e ∙ subst (λ (z : List Lexeme). z ++ rest ≡ rest) (sym none) refl)) (k.fills rest b t))
+  fills_from h k us prefix rest None b e none t = grind arith
   fills_from h k us prefix rest (Some a) b e s t = subst (Fills us) (sym (more a b)) (fills_both us prefix rest (across (f a) (g b)) e (h.fills prefix a s).begins (k.fills rest b t).ends)
 
   pub filled_from : Filled x f → Filled y g → Filled (both (option x) y) span
@@ -143,9 +141,7 @@ sound_option {A} x f h = grind arith
 
 stands_each : {A : Type 0} (x : Form A) (f : A → List Part) → Sound x f → (us : List Lexeme) (vs : List A) → SpellsEach (Spells x) us vs → Each (IsWritten us) (flat_map f vs)
 stands_each x f h us [] s = tt
-stands_each x f h us (v ∷ vs) s =
-    subst (λ (z : List Lexeme). Each (IsWritten z) (f v ++ flat_map f vs)) (sym s.2)
-    (each_append (IsWritten (s.0 ++ s.1)) (f v) (flat_map f vs) (each_left s.0 s.1 (f v) (h.stands s.0 v s.3)) (each_right s.0 s.1 (flat_map f vs) (stands_each x f h s.1 vs s.4)))
+stands_each x f h us (v ∷ vs) s = grind (arith, each_append, each_left, each_right, stands_each x f h s.1 vs s.4)
 
 pub sound_many : {A : Type 0} (x : Form A) (f : A → List Part) → Sound x f → Sound (many x) (flat_map f)
 sound_many x f h = record { stands = stands_each x f h }

@@ -51,9 +51,7 @@ counted_unary primary h = counted_as (λ v. with_sign v.0 v.1) _ (λ us v s. (el
 counted_rows : (all : List (List Kind)) (x : Form Expression) → Counted x → Counted (rows all x)
 unfolding rows row
 counted_rows [] x h = h
-counted_rows (kinds ∷ stronger) x h =
-    let inner = counted_rows stronger x h in
-    counted_as (λ v. row_of v.0 v.1) _ (λ us v s. (elim v.1 as (λ os. Counts (row_of v.0 os)) [ [] ↦ inner.counts s.0 v.0 s.3 | o ∷ os ↦ tt ]))
+counted_rows (kinds ∷ stronger) x h = grind (arith, counted_as, counted_rows stronger x h)
 
 counted_expression : (n : ℕ) → Counted (expression n)
 unfolding expression
