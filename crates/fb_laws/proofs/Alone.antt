@@ -44,8 +44,7 @@ module _ (text : List ℕ) (tokens : List Token) (are : tokens_of text ≡ Ok to
   alone_by before (t ∷ inside) behind ls e is begins ends within =
       let end = (part_span p).end in
       let last = last_ends text t.span.start t inside end ends in
-      subst (λ (z : ℕ). lexemes_of (slice_range text z end) ≡ Ok (map (nearer z) ls)) (sym begins)
-      (from_token before inside behind t ls end (are ∙ ap Ok e) is last within)
+      grind (arith, from_token)
 
   part_alone : IsWritten (map (lexeme_of text) tokens) p → (part_span p).end ≤ length text → ReadsAlone text p
   part_alone h within =

@@ -80,9 +80,7 @@ none_kept r names absent =
 once_kept : (r : List ℕ) (names : List (List ℕ)) → Contains names r → StandsOnce names r → filter (λ (n : List ℕ). bytes_eq r n) names ≡ r ∷ []
 once_kept r names c once =
     let o = split_at names c.0 r (at_contained names r c) in
-    let none = once (take c.0 names) o.0 o.1 in
-    ap (filter (λ (n : List ℕ). bytes_eq r n)) o.1 ∙ filter-append (λ (n : List ℕ). bytes_eq r n) (take c.0 names) (r ∷ o.0)
-    ∙ (λ i. none_kept r (take c.0 names) none.0 i ++ cond (bytes_same r r refl i) (r ∷ none_kept r o.0 none.1 i) (filter (λ (n : List ℕ). bytes_eq r n) o.0))
+    grind (arith, bytes_eq, filter-append, none_kept, bytes_same)
 
 abbrev texts : List PlacedCommand → List (List ℕ)
 texts lines = map (λ (l : PlacedCommand). l.command) lines
@@ -132,13 +130,7 @@ module _ (sources : Sources) (system : List ℕ) (flat : PlainFlat) (cuts : List
         let o = given (create_command homes) flat.blocks line on.0 in
         let own = it.homes o.origin o.among in
         let there = home_listed (mapped sources system) flat.blocks o.origin own.on_resource o.among own.home in
-        let made : PlacedCommand = record { place = o.origin.path; command = create_text o.origin.path o.origin.type_name; resource = own.on_resource } in
-        let is : made ≡ line = (let gives = o.gives in cc) in
-        let same : own.on_resource ≡ r = ap (λ (l : PlacedCommand). l.resource) is ∙ on.1 in
-        let home : IsHome sources system o.origin.path r = of_nearest (mapped sources system) o.origin.path r (own.home ∙ ap (λ (w : List ℕ). Some w) same) in
-        let place = sym (ap (λ (l : PlacedCommand). l.place) is) in
-        let command = sym (ap (λ (l : PlacedCommand). l.command) is) in
-        search
+        grind (arith, of_nearest)
 
     make_from : (line : PlacedCommand) → MakesBlock sources system flat r line → Contains makes line
     make_from line m =

@@ -103,9 +103,7 @@ module _ (sources : Sources) (unit : List ℕ) (o : ConnectionOf sources unit) w
   pub pass_reported : (from : NamesRight sources o.here o.connection.sort Source o.connection.source) (to : NamesRight sources o.here o.connection.sort Destination o.connection.destination) → o.here.kind ≡ kinds.Subapplication → from.holder ≡ Own → to.holder ≡ Own → Contains (connection_faults at o.connection) (fault_through o.connection)
   pass_reported from to kind from_own to_own =
       let both = and_from own_source own_destination (told_own sources o.here o.network own o.connection.sort Source o.connection.source from from_own) (told_own sources o.here o.network own o.connection.sort Destination o.connection.destination to to_own) in
-      let one : Contains (pass_through_faults kinds.Subapplication o.connection named_source named_destination) (fault_through o.connection) = where_passes (own_source && own_destination) (fault_through o.connection) both in
-      Contains-append_right (at_source at o.connection ++ at_destination at o.connection) (at_both at o.connection) (fault_through o.connection)
-      (subst (λ (k : UnitKind). Contains (pass_through_faults k o.connection named_source named_destination) (fault_through o.connection)) (sym kind) one)
+      grind (arith, where_passes)
 
 -- ends that name no port, or one of the wrong side
 

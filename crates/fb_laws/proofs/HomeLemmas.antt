@@ -72,8 +72,7 @@ module _ (resources : List ℕ → Option (List ℕ)) where
   pub homed : (blocks : List FlatBlock) (path r : List ℕ) → home_at (block_homes resources blocks) path ≡ Some r → IsHomed blocks path r
   homed blocks path r e =
       let f = found_in (λ (h : Home). h.path) (λ (h : Home). h.resource) (block_homes resources blocks) path r e in
-      let o = of_home blocks f.item f.among in
-      subst (λ (q : List ℕ). IsHomed blocks path q) f.gives (subst (λ (p : List ℕ). IsHomed blocks p f.item.resource) f.named o)
+      grind (arith, of_home)
 
   -- a block has a home
   pub record HasHome (b : FlatBlock) : Type 0 where

@@ -22,8 +22,7 @@ path_place : (names : List NameUse) → (path_of_names names).span ≡ place_of_
 path_place [] = refl
 path_place (first ∷ others) =
     let seat : length (first ∷ others) - 1 ≡ length others = omega arith in
-    let last : slice_get (first ∷ others) (length (first ∷ others) - 1) ≡ Some (last_of first others) = ap (slice_get (first ∷ others)) seat ∙ last_there first others in
-    λ i. record { start = first.span.start; end = option_map_or (λ (n : NameUse). n.span.end) (last i) 0 }
+    grind (arith, last_there)
 
 -- mappings to no resource
 

@@ -49,8 +49,7 @@ module _ (sources : Sources) (here : Site) (n : NetworkTree) (own : here.own.ins
   behind : (I X : NameUse) (i : DeclaredInstance) (holder : Holder) (m : Option Meanings) → stands_for here.own.instances I.name ≡ Some i → IsReached here sort i holder → usable_as i ≡ m → target_named at sort I.name (Some X) ≡ target_in holder sort m X.name
   behind I X i holder m g r u =
       let ports = ports_there I.name i g ∙ u in
-      ap (λ o. target_of_instance here.kind sort o (option_and_then (instance_ports at.scope) o) X.name) g
-      ∙ (λ j. target_held ((holder_is here sort i holder).1 r j) sort (ports j) X.name)
+      grind (arith, holder_is)
 
   pub told_names : (name : NameUse) (port : Option NameUse) (holder : Holder) (unit : List ℕ) (p : Port) → Names sources here sort name port holder unit p → target_named at sort name.name port ≡ Found holder p
   told_names name None holder unit p (own_port q) = ap (target_of Own) ((port_is here.own name.name sort p).1 q)

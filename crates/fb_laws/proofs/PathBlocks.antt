@@ -81,9 +81,7 @@ module _ (sources : Sources) (s : SystemTree) where
   step_in path z (Some (subapplication_type d)) k there o inner e p c =
       let same : network_of (subapplication_type d) ≡ inner = cc in
       let g = given plain_instance d.network.instances p (subst (λ (n : PlainNetwork). Contains n.instances p) (sym same) c) in
-      let t = of_role g.origin.role g.origin.name.name g.origin.type_name.name p g.gives in
-      let role : o.instance.role ≡ roles.Subapplication = o.in_role ∙ ap role_of k in
-      grind (arith, inside)
+      grind (arith, of_role, inside)
   step_in path z None k there o inner e p c = absurd (let no : ⊥ = cc in no)
   step_in path z (Some d) k there o inner e p c = let same : network_of d ≡ inner = cc in absurd (contains_nothing p (subst (λ (n : PlainNetwork). Contains n.instances p) (sym same) c))
 
@@ -149,8 +147,7 @@ module _ (sources : Sources) (s : SystemTree) (flats : List FlatApplication) (fl
   each_in : (a : ApplicationTree) → Contains s.applications a → (p : Instance) → Contains (plain_application a).network.instances p → StandsAs sources s ((a.name.name ∷ []) ++ p.name ∷ []) p.kind p.type_name
   each_in a c p cp =
       let g = given plain_instance a.network.instances p cp in
-      let t = of_role g.origin.role g.origin.name.name g.origin.type_name.name p g.gives in
-      record { instance = g.origin; at = subst (λ (n : List ℕ). IsAtPath sources s (a.name.name ∷ n ∷ []) g.origin) t.0 (in_application a g.origin c g.among); in_role = t.1; of_type = t.2 }
+      grind (arith, of_role, in_application)
 
   block_stands : (b : FlatBlock) → Contains flat.blocks b → BlockStands sources s b
   block_stands b c =

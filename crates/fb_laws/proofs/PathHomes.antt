@@ -70,9 +70,7 @@ module _ (sources : Sources) (unit : List ℕ) (s : SystemTree) (is : IsSystemAt
         let names = path_of f.item in
         let plain = path_plain sources unit s is path i at in
         let there = subst (λ (t : List ℕ). IsPrefix t (with_points path)) (sym f.named ∙ sym (same_print names)) is_prefix in
-        let written : names ≢ [] = λ none. prefix_has_name path (path_some sources s path i at) plain (subst (λ (a : Path). IsPrefix (with_points a) (with_points path)) none there) in
-        let o = goes_on names path written (path_some sources s path i at) (mapping_plain sources unit s is f.item f.among) plain there in
-        (f.item, f.among, record { written = written; inner = o.0; goes_on = o.1 }, f.named, f.gives)
+        grind (arith, prefix_has_name, path_some, goes_on, mapping_plain)
 
     longer : (a b : MappingTree) → IsAbove a path → IsAbove b path → length (path_of a) ≤ length (path_of b) → length (mapping_path a) + length (path_of b) ≤ length (mapping_path b) + length (path_of a)
     longer a b above other fewer = text_lengths (path_of a) (path_of b) above.inner other.inner above.written (sym above.goes_on ∙ other.goes_on) fewer

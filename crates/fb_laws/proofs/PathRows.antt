@@ -57,9 +57,7 @@ module _ (sources : Sources) (unit : List ℕ) (s : SystemTree) (cuts : List Lin
     made_to : (path : Path) (i : InstanceTree) → IsAtPath sources s path i → Contains entry.commands (making path i) → IsMappedTo s path entry.name
     made_to path i at c =
         let m = only_made (making path i) c (with_points path ++ 32 ∷ i.type_name.name, refl) in
-        let texts = append_cancel_left (codes "CREATE FB ") (with_points path ++ 32 ∷ i.type_name.name) (with_points m.path ++ 32 ∷ m.block.type_name.name) m.makes in
-        let same = same_path path m.path i.type_name.name m.block.type_name.name (path_plain sources unit s is path i at) (path_plain sources unit s is m.path m.block m.stands) texts in
-        subst (λ (p : Path). IsMappedTo s p entry.name) (sym same) m.mapped
+        grind (arith, append_cancel_left, same_path, path_plain)
 
     made_from : (path : Path) (i : InstanceTree) → IsAtPath sources s path i → i.role ≡ Block → IsMappedTo s path entry.name → Contains entry.commands (making path i)
     made_from path i at role h =
@@ -76,8 +74,7 @@ module _ (sources : Sources) (unit : List ℕ) (s : SystemTree) (cuts : List Lin
   pub all_made : (path : Path) (i : InstanceTree) → IsAtPath sources s path i → i.role ≡ Block → IsMade s resources path i
   all_made path i at role =
       let h = homes_have sources unit network.0 cuts resources is_planned (record { path = with_points path; type_name = i.type_name.name }) (blocks.listed path i at role) in
-      let to = mapped path i h.entry.name at h.home in
-      record { entry = h.entry; listed = h.listed; mapped = to; made = made_from h.entry h.listed path i at role to }
+      grind (arith, mapped, made_from)
 
 -- ---- what is misplaced
 

@@ -24,8 +24,7 @@ plain_name : (name : List ℕ) → IsName name → IsPlain name
 unfolding is_word is_word_byte
 plain_name name h =
     let word = AllPass-from_list_all is_word_byte name (is_word-all name h.word) in
-    let without = λ (c : ℕ) (other : is_word_byte c ≡ false). All-weaker (λ (b : ℕ). is_word_byte b ≡ true) (IsOther c) (λ b w. other_byte b c other w) name word in
-    record { some = λ e. true≢false (sym h.word ∙ ap is_word e); no_points = without 46 refl; no_blanks = without 32 refl }
+    grind (arith, other_byte)
 
 underscore : IsName (codes "_")
 unfolding is_word is_word_start

@@ -60,16 +60,14 @@ leaf_held {network = network} {a = a} (BlockPort name type port b e) held are =
     let found = passes_in_find (λ (i : Instance). is_at (name_cmp i.name) name) network.instances b.instance b.first in
     let same : b.instance.name ≡ name = same_bytes b.instance.name name found.passes in
     let listed = subst (λ (k : InstanceKind). Contains held (record { path = b.instance.name ∷ []; kind = k; typed = b.instance.type_name })) b.kind (instance_held are b.instance found.among) in
-    let place : a ≡ (b.instance.name ∷ []) ++ port ∷ [] = e ∙ ap (λ (n : List ℕ). n ∷ port ∷ []) (sym same) in
-    search
+    grind arith
 leaf_held {network = network} {a = a} (LeafWithin inner name a' i e leaf) held are =
     let found = passes_in_find (λ (w : Instance). is_at (name_cmp w.name) name) network.instances i.instance i.first in
     let same : i.instance.name ≡ name = same_bytes i.instance.name name found.passes in
     let within = inner_held are i.instance found.among i.kind i.declared in
     let o = leaf_held leaf within.own within.instances in
     let listed = within.within (record { path = o.first ∷ o.others; kind = Block; typed = o.typed }) o.listed in
-    let place : a ≡ (i.instance.name ∷ (o.first ∷ o.others)) ++ o.port ∷ [] = e ∙ (λ k. sym same k ∷ o.place k) in
-    search
+    grind arith
 
 -- what is held as a block is a block
 pub leaf_listed : (held : List Held) (path : Place) (typed : List ℕ) → Contains held (record { path = path; kind = Block; typed = typed }) → Contains (leaves_of held) (record { path = printed path; type_name = typed })
@@ -100,9 +98,7 @@ module _ {view : View} {network : PlainNetwork} {blocks : List FlatBlock} (are :
   port_prefix : {a : Place} (port : List ℕ) → IsLeafPlace view network a → HasPrefix blocks (printed (a ++ port ∷ []))
   port_prefix {a} port leaf =
       let o = leaf_held leaf are.held are.instances in
-      let h = leaf_prefix leaf in
-      let text : printed (a ++ port ∷ []) ≡ dotted (printed a) port = ap (λ (q : Place). printed (q ++ port ∷ [])) o.place ∙ printed-push o.first (o.others ++ o.port ∷ []) port ∙ ap (λ (q : Place). dotted (printed q) port) (sym o.place) in
-      record { block = h.block; listed = h.listed; prefix = subst (IsPrefix h.block.path) (sym text) (grind (arith, append_assoc)) }
+      grind (arith, leaf_prefix, printed-push, append_assoc)
 
   link_prefixes : {sort : Sort} {a b : Place} → IsNetLink view network sort a b → HasPrefix blocks (printed a) × HasPrefix blocks (printed b)
   link_prefixes link = grind (arith, leaf_prefix, port_prefix)

@@ -44,9 +44,7 @@ repeat_origin path items code f c =
     let o = split_at items k at.0 at.1 in
     let q = path_among (map path (take k items)) p.origin.1.names (ap (λ (l : List PathUse). has_path l p.origin.1.names) (sym (take-map path k items)) ∙ r.passes) in
     let e = origin_in_map path (take k items) q.0 q.1 in
-    let same = ap (λ (u : PathUse). u.names) e.gives ∙ q.2 ∙ ap (λ (u : PathUse). u.names) (sym at.2) in
-    let is = ap (fault_at_path code) (at.2 ∙ p.gives) ∙ n.gives in
-    search
+    grind arith
 
 pub repeat_reported : {A : Type 0} (path : A → PathUse) (code : Code) (items before after : List A) (item other : A) → items ≡ before ++ item ∷ after → Contains before other → (path other).names ≡ (path item).names → Contains (repeated_faults code (map path items)) (fault_at_path code (path item))
 repeat_reported {A = A} path code items before after item other split seen same =

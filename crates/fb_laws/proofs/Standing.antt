@@ -160,10 +160,7 @@ module _ (text : List ℕ) (tokens : List Token) (are : AreTokens text tokens) w
       let among : (z : Span) → Contains from_first z → Contains (spans_of tokens) z = λ z h. subst (λ (ss : List Span). Contains ss z) (sym c.parts) (Contains-append_right c.before from_first z h) in
       let first = one_lies c.first (among c.first (0, omega arith, refl)) in
       let last = one_lies c.last (among c.last c.from_first) in
-      let rise = rise_behind 0 (length text) c.before c.first c.behind (subst (SpansRise 0 (length text)) c.parts are.rise) in
-      let later = rise_at c.first.start (length text) from_first c.last c.from_first.0 rise c.from_first.1 c.from_first.2 in
-      let some : s.start < s.end = omega (arith, c.start, c.end, later.0, later.1) in
-      (record { rises = omega (arith, some); starts = subst (IsCharBoundary text) (sym c.start) first.starts; ends = subst (IsCharBoundary text) (sym c.end) last.ends }, some)
+      grind (arith, rise_behind, rise_at)
 
 pub spans_lie_in_text : SpansLieInText
 spans_lie_in_text text tree utf8 e =
