@@ -17,14 +17,11 @@ pub record IsPlain (name : List ℕ) : Type 0 where
   pub no_points : Without 46 name
   pub no_blanks : Without 32 name
 
-other_byte : (b c : ℕ) → is_word_byte c ≡ false → is_word_byte b ≡ true → IsOther c b
-other_byte b c other word = grind (arith, nat_tests)
-
 plain_name : (name : List ℕ) → IsName name → IsPlain name
 unfolding is_word is_word_byte
 plain_name name h =
     let word = AllPass-from_list_all is_word_byte name (is_word-all name h.word) in
-    grind (arith, other_byte)
+    grind (arith, nat_tests)
 
 underscore : IsName (codes "_")
 unfolding is_word is_word_start
