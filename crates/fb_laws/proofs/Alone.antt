@@ -1,5 +1,5 @@
 -- Parts that are cut out of their text, and constants that are read there.
-use Rattle.fb_laws.proofs.Common.{◌≡◌, ℕ, ◌+◌, ◌-◌, ◌≤◌, List, [], ◌∷◌, ◌++◌, length, take, drop, map, refl, sym, ap, ap₂, ◌∙◌, subst, arith, Ok, slice_range, drop-drop, drop-take, take-take, take-append-drop, take-append_seam, All-weaker, tokens_of, Token, lexeme_of, lexemes_in, lexemes_of, Lexeme, Part, tree_parts, part_span, BeginsAt, EndsAt, IsWritten, nearer, ReadsAlone, PartsReadAlone, drop-append_seam, drop-map, take-map, inl, inr, Option, option_map, map-append, All-contains, Form, one, both, either, option, many, as_value, Spells, SpellsOption, SpellsEach, key, cons, separated, list, name, Kind, number_with, number, other_literal_kinds, simple, in_brackets, constant_list, constant, NameUse, constant_part, constant_span, nearer_span, nearer_simple, nearer_constant, ConstantsReadAlone}
+use Rattle.fb_laws.proofs.Common.{◌≡◌, ℕ, ◌+◌, ◌-◌, ◌≤◌, List, [], ◌∷◌, ◌++◌, length, take, drop, map, refl, sym, ap, ◌∙◌, arith, Ok, slice_range, drop-drop, drop-take, take-take, take-append-drop, take-append_seam, All-weaker, tokens_of, Token, lexeme_of, lexemes_in, lexemes_of, Lexeme, Part, tree_parts, part_span, BeginsAt, EndsAt, IsWritten, nearer, ReadsAlone, PartsReadAlone, drop-append_seam, drop-map, take-map, inl, inr, option_map, map-append, All-contains, Form, one, both, either, option, many, as_value, Spells, SpellsEach, key, cons, separated, list, name, Kind, number, other_literal_kinds, simple, in_brackets, constant_list, constant, NameUse, constant_part, constant_span, nearer_span, nearer_simple, nearer_constant, ConstantsReadAlone}
 use Rattle.fb_laws.proofs.{Cutting.{Rising, LastEnds, last_rises, nearer_token, rising_inside, tokens_alone}, Standing.{tokens_are, covers_lies, part_covers, tree_stands}}
 use Rattle.fb_tree.specs.declared.constant.Literal.{Literal}
 

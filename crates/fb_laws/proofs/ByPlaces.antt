@@ -1,5 +1,5 @@
 -- That a key is due, said by places.
-use Rattle.fb_laws.proofs.Common.{◌≡◌, ◌↔◌, ℕ, zero, suc, ◌<◌, Bool, true, false, true≢false, ◌||◌, ◌&&◌, not, ◌⊎◌, inl, inr, List, [], ◌∷◌, Some, refl, sym, ap, ◌∙◌, arith, false≢true, or_left, or_right, and_from, and_parts, not-true, none-some, same_Some, take, slice_get, false_from_ne_true, by_bool, ◌≤◌}
+use Rattle.fb_laws.proofs.Common.{◌≡◌, ◌↔◌, ℕ, zero, suc, ◌<◌, Bool, true, false, true≢false, ◌||◌, ◌&&◌, not, ◌⊎◌, inl, inr, List, [], ◌∷◌, Some, refl, sym, ap, ◌∙◌, arith, or_left, or_right, and_from, and_parts, not-true, none-some, same_Some, take, slice_get, false_from_ne_true, by_bool, ◌≤◌}
 use Rattle.fb_jobs.specs.declared.key.Key.{Key}
 use Rattle.fb_history.specs.{Limits.{Bounds}, Machine.{State, Call, after}, BenchView.{BenchView, IsOrigin, replay}, Due.{marks, settles, settled, due}, Checkpoints.{checkpointed}}
 use Rattle.fb_laws.specs.DueByPlaces.{IsMarkedAt, IsSettledAt, IsMarkedLast, IsDueByPlaces, DueGoesOn}

@@ -1,5 +1,5 @@
 -- The types of values that references of a block type meet: it carries them, or one of its parts does, so the check knows their fields.
-use Rattle.fb_laws.proofs.Common.{arith, ◌≡◌, ℕ, Bool, true, false, true≢false, cond, not, List, [], ◌∷◌, Option, Some, None, refl, sym, ap, ◌∙◌, subst, nat_list_cmp_total, slice_cmp-IsAntisymmetric, nat_cmp-IsAntisymmetric, Contains, flat_map, Contains-append_left, Contains-append_right, not-true, is_elementary, name_cmp, NameUse, contains_filter, contains_here, contains_later, contains_map, contains_nothing, origin_in_flat_map, origin_in_map, passes_in_filter, in_order-members, types_in, value_types, variable_types, DeclTree, InstanceTree, NetworkTree, StructureTree, TypeTree, VariablesTree, adapter_type, block_type, structure_type, Carries, directly, onward, bases_at, carried_of, Sources, mentions_of_tree, parts_at, parts_in, tree_at, values_at, values_in, NoFields, fields_in, fields_near, fields_of_tree, is_same, stands_for, instances_in, meanings_in_type, variables_in, variables_together, DeclaredInstance, DeclaredVariable, in_order_has, stands_for-first_ones, carried_is_all, Contains-has, has-Contains, filter, false_from_ne_true, place_from_lookup}
+use Rattle.fb_laws.proofs.Common.{arith, ◌≡◌, ℕ, Bool, true, false, true≢false, cond, not, List, [], ◌∷◌, Option, Some, None, sym, ap, ◌∙◌, subst, nat_list_cmp_total, slice_cmp-IsAntisymmetric, nat_cmp-IsAntisymmetric, Contains, flat_map, Contains-append_left, Contains-append_right, not-true, is_elementary, name_cmp, NameUse, contains_filter, contains_here, contains_map, contains_nothing, origin_in_flat_map, origin_in_map, passes_in_filter, in_order-members, types_in, value_types, variable_types, DeclTree, InstanceTree, NetworkTree, StructureTree, TypeTree, VariablesTree, adapter_type, block_type, structure_type, Carries, directly, onward, bases_at, carried_of, Sources, mentions_of_tree, parts_at, parts_in, tree_at, values_at, values_in, NoFields, fields_in, fields_near, fields_of_tree, is_same, stands_for, instances_in, meanings_in_type, variables_in, variables_together, DeclaredInstance, DeclaredVariable, in_order_has, stands_for-first_ones, carried_is_all, Contains-has, has-Contains, filter, false_from_ne_true, place_from_lookup}
 use Rattle.fb_laws.proofs.FirstLemmas.{got_among}
 use Rattle.fb_deploy.specs.Library.Seen.{has_name}
 

@@ -2,7 +2,7 @@
 use Rattle.fb_laws.proofs.Common.{arith, ℕ, ◌≡◌, List, [], ◌∷◌, ◌++◌, map, Some, ◌⊎◌, inl, inr, refl, sym, ◌∙◌, subst, Sort, Input, PlainNetwork, View, Place, IsInner, IsConnected, Step, Within, IsBorderPlace, IsLeafPlace, Chain, One, More, side_at, IsCleanThroughout, filter, filter-append}
 use Rattle.fb_types.specs.{Network.declared.network.End.{End}, Network.declared.network.End.TheVariants.{Own, Of}, Network.Network.{IsLink, place_of, Holds}}
 use Rattle.fb_types.proofs.{Network.Chains.{no_step_from_nothing, no_step_to_nothing, moved, here, input_step, border_inside, no_chain_from_output, inner_at_border}, Network.LinkLemmas.{leaf_inside}}
-use Rattle.fb_laws.specs.Chains.{BordersAreComposed, CrossesFrom, CrossesOnce, IsAfter, IsBefore, LinksAreComposed, Passed, StaysInside, border_after, border_before, by_inner_link, inside, is_own, nothing_after, nothing_before, own, passed_at, passed_by}
+use Rattle.fb_laws.specs.Chains.{BordersAreComposed, CrossesOnce, IsAfter, IsBefore, LinksAreComposed, Passed, StaysInside, border_after, border_before, by_inner_link, inside, is_own, nothing_after, nothing_before, own, passed_at, passed_by}
 
 -- ---- a chain from an input inside an instance stays inside
 

@@ -1,5 +1,5 @@
 -- Each code of charts, by what its list of faults has.
-use Rattle.fb_laws.proofs.Common.{arith, ◌≡◌, ◌≢◌, ℕ, Bool, true, false, List, [], ◌∷◌, Option, Some, None, map, refl, sym, ap, ◌∙◌, subst, true≢false, inl, inr, Contains, flat_map, slice_get, option_map_or, Contains-append_left, Contains-append_right, NameUse, Span, AlgorithmTree, ChartTree, DeclTree, StateTree, TransitionTree, TypeTree, block_type, Side, Input, Output, End, Role, Plug, Socket, Sources, tree_at, Code, AlgorithmUnknown, EventUnknown, StateUnknown, Fault, DeclaredInstance, fault_at, has_name, stands_for, Meanings, meanings_in_type, Scope, instance_ports, scope_of_type, usable, contains_flat_map, contains_here, contains_later, contains_map, contains_nothing, contains_single, in_unless, in_written, origin_in_flat_map, origin_in_map, unless, written, chart_faults, chart_faults_in, ecc_faults_of, none_named, not_named, IsAdapter, IsNotJudged, of_unusable, append-nil, ◌++◌, IsBlockAt, Action}
+use Rattle.fb_laws.proofs.Common.{arith, ◌≡◌, ◌≢◌, ℕ, Bool, false, List, [], ◌∷◌, Option, Some, None, map, refl, sym, ap, ◌∙◌, subst, inl, inr, Contains, flat_map, slice_get, option_map_or, Contains-append_left, Contains-append_right, NameUse, Span, AlgorithmTree, ChartTree, StateTree, TransitionTree, TypeTree, Side, Input, Output, End, Role, Plug, Socket, Sources, tree_at, Code, AlgorithmUnknown, EventUnknown, StateUnknown, Fault, DeclaredInstance, fault_at, has_name, stands_for, Meanings, meanings_in_type, Scope, instance_ports, scope_of_type, usable, contains_flat_map, contains_here, contains_later, contains_map, contains_nothing, contains_single, in_unless, in_written, origin_in_flat_map, origin_in_map, unless, written, chart_faults, ecc_faults_of, none_named, not_named, IsAdapter, IsNotJudged, of_unusable, append-nil, IsBlockAt, Action}
 use Rattle.fb_laws.proofs.{ItemRows.{same_sides, side_itself}, UsableTypes.{known_type, no_type, own_type, told_type, type_missing}, Lists.{iff, of_either, in_joined}}
 use Rattle.fb_ecc.specs.{Algorithms.{algorithm_fault, algorithm_faults, algorithm_names, run_faults}, declared.events.EventTarget.{EventTarget}}
 use Rattle.fb_ecc.specs.declared.events.EventTarget.TheVariants.{Found, Unknown, NotChecked}

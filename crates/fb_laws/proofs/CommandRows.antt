@@ -1,5 +1,5 @@
 -- The commands of each resource, in words of their own.
-use Rattle.fb_laws.proofs.Common.{arith, ℕ, ◌≡◌, Bool, true, false, cond, List, [], ◌∷◌, ◌++◌, Option, Some, None, refl, sym, ◌∙◌, ap, map, filter, option_map, cons_option, bytes_eq, map-append, filter-append, IsStrictlySortedBy, IsStrictlySortedBy-filter, in_order-members, in_order-sorted, contains_filter, passes_in_filter, Link, same_home, nearest, connection_commands, connection_text, link_resource, command_cmp, command_cmp_total, commands_for, PlacedCommand, ResourceCommand, Contains, in_order, ◌≢◌, not, ◌||◌, subst, take, append_assoc, ◌==◌, true≢false, codes, filter_map, flat_map, eqb-false, not-true, or_cases, contains_flat_map, contains_map, contains_nothing, origin_in_flat_map, origin_in_map, DeclTree, Sources, text_or_empty, tree_at, link_cmp, home_at, block_home, PlainFlat, PlainResolved, path_names, resolved_at, applications_in, devices_in, Home, create_command, create_commands, create_text, home_commands, commands_at, write_command, write_commands, system_commands, start_text, dotted, PlainResource, resource_plan, resource_plans, resources_of, IsPlanned, AllBegin, BeginsWith, IsInOrder, IsWithin, MakesBlock, MakesItsBlocks, MakesItsLinks, NoneBegins, ResourcesHaveTheirCommands, SetsItsParameters, SetsParameter, StandsOnce, IsHome, ◌↔◌, bytes_decides}
+use Rattle.fb_laws.proofs.Common.{arith, ℕ, ◌≡◌, Bool, true, false, cond, List, [], ◌∷◌, ◌++◌, Option, Some, None, refl, sym, ◌∙◌, ap, map, filter, option_map, cons_option, bytes_eq, map-append, filter-append, IsStrictlySortedBy, IsStrictlySortedBy-filter, in_order-members, in_order-sorted, contains_filter, passes_in_filter, Link, same_home, nearest, connection_commands, connection_text, link_resource, command_cmp, command_cmp_total, commands_for, PlacedCommand, ResourceCommand, Contains, in_order, ◌≢◌, not, ◌||◌, subst, append_assoc, ◌==◌, true≢false, codes, filter_map, flat_map, eqb-false, not-true, or_cases, contains_flat_map, contains_map, contains_nothing, origin_in_flat_map, origin_in_map, DeclTree, Sources, text_or_empty, tree_at, link_cmp, home_at, block_home, PlainFlat, PlainResolved, path_names, resolved_at, applications_in, devices_in, Home, create_command, create_commands, create_text, home_commands, commands_at, write_command, write_commands, system_commands, start_text, dotted, PlainResource, resource_plan, resource_plans, resources_of, IsPlanned, AllBegin, BeginsWith, IsInOrder, IsWithin, MakesBlock, MakesItsBlocks, MakesItsLinks, NoneBegins, ResourcesHaveTheirCommands, SetsItsParameters, SetsParameter, StandsOnce, IsHome, ◌↔◌, bytes_decides}
 use Rattle.fb_laws.proofs.Lists.{iff}
 use Rattle.fb_laws.proofs.{HomeLemmas.{bytes_same, same_bytes, end_home, home_end, home_listed, mapped, nearest_of, of_home, of_nearest}, FirstLemmas.{at_contained}}
 use Rattle.fb_laws.proofs.{Lists.{by_option, given, gives_member, of_either, no_members, split_at}, PlannedLemmas.{Known, homes_in, known, links_sorted, names_in}}

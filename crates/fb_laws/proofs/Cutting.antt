@@ -1,6 +1,6 @@
 -- The tokens of a part of a text that begins and ends where tokens do.
-use Rattle.fb_laws.proofs.Common.{◌≡◌, ◌≢◌, ℕ, ◌+◌, ◌-◌, ◌<◌, ◌≤◌, List, [], ◌∷◌, ◌++◌, length, take, drop, map, refl, sym, ap, ◌∙◌, subst, arith, append_assoc, length-append, length-drop, length-take-le, take-append-drop, None, Result, Ok, Err, slice_range, drop-append-add, continuation_len, drop-append-le, drop-drop, nil_from_length, take-append-le, first, is_word_start, form_of, is_number, is_typed, is_string, is_symbol, is_word, IsLongest, char_len, tokens_of, with_token, Span, Token, TokenKind, Other, codes, drop_at, take_at}
-use Rattle.fb_text.specs.Reads.{AtBlank, AtComment, AtEnd, AtLineComment, AtOpenComment, AtOther, AtToken, BeginsToken, EndsLine, HasNoForm, IsFirstClose, Reads, token_of}
+use Rattle.fb_laws.proofs.Common.{◌≡◌, ℕ, ◌+◌, ◌-◌, ◌<◌, ◌≤◌, List, [], ◌∷◌, ◌++◌, length, take, drop, map, refl, sym, ap, ◌∙◌, subst, arith, append_assoc, length-append, length-drop, length-take-le, take-append-drop, None, Result, Ok, slice_range, drop-append-add, continuation_len, drop-append-le, drop-drop, nil_from_length, take-append-le, first, is_word_start, form_of, is_number, is_typed, is_string, is_symbol, is_word, IsLongest, char_len, tokens_of, with_token, Span, Token, TokenKind, Other, codes, drop_at, take_at}
+use Rattle.fb_text.specs.Reads.{AtBlank, AtComment, AtEnd, AtLineComment, AtOpenComment, AtOther, AtToken, BeginsToken, HasNoForm, IsFirstClose, Reads, token_of}
 use Rattle.fb_text.proofs.Relation.{reads-one, reads-tokens}
 use Rattle.fb_laws.proofs.Lists.{nothing_split}
 

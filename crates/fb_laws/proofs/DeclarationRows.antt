@@ -1,5 +1,5 @@
 -- Each code of declarations, by what its list of faults has.
-use Rattle.fb_laws.proofs.Common.{◌≡◌, ◌≢◌, ℕ, Bool, true, false, not, cond, ◌&&◌, and_parts, List, [], ◌∷◌, Option, Some, None, refl, sym, ap, ◌∙◌, subst, true≢false, arith, Contains, enumerate_from, slice_get, option_map_or, false_from_ne_true, not_true, Span, NameUse, unit_kind_of, ConstantTree, DeclTree, InstanceTree, TypeTree, VariablesTree, block_type, adapter_type, subapplication_type, system_configuration, structure_type, one_value, value_list, value_span, Side, TypeForm, TypeUse, UnitKind, Role, Carries, carried_of, Sources, tree_at, type_in, Code, Duplicate, Literal, MixedKind, NameDiffers, StructRecursive, UnknownType, WithUnknown, WrongKind, Fault, DeclaredVariable, class_of_name, class_of_simple, class_of_type, is_free, takes, declaration_faults, declared_name, duplicate_faults, iface_faults_of, literal_faults_of, mixed_faults, name_faults, space_duplicates, variables_of, with_faults_of, fault_at, constant_faults, fits_alone, initial_faults, list_faults, literal_fault, is_same, stands_for, variables_in, DuplicatesAreReported, HasDuplicate, HasMixedKind, HasOtherName, HasSelfCarrying, HasUnknownType, HasUnknownWith, HasWrongKind, IsDeclaredAt, IsMisfit, MisfitsAreReported, MixedKindsAreReported, OtherNamesAreReported, RecursiveStructuresAreReported, UnknownTypesAreReported, Suits, UnknownWithsAreReported, WrongKindsAreReported, no_array, no_list, AreDeclaredIn, IsType, fields_of_structure, of_adapter, of_block, of_subapplication, variables_of_type, goes_with, spaces_of, instance_faults, instances_of, suits, type_fault, type_faults, contains_filter, contains_flat_map, contains_here, contains_map, contains_nothing, contains_single, origin_in_flat_map, origin_in_map, in_unless, in_written, passes_in_filter, unless, written, IsEarlier, earlier_name, in_places, same_exact, same_itself, carried_is_all, Contains-has, has-Contains, filter, Simple}
+use Rattle.fb_laws.proofs.Common.{◌≡◌, ℕ, true, false, not, ◌&&◌, and_parts, List, [], ◌∷◌, Option, Some, None, refl, sym, ap, ◌∙◌, subst, true≢false, arith, Contains, enumerate_from, slice_get, option_map_or, not_true, Span, NameUse, unit_kind_of, ConstantTree, DeclTree, InstanceTree, TypeTree, VariablesTree, block_type, adapter_type, subapplication_type, system_configuration, structure_type, one_value, value_list, value_span, TypeForm, TypeUse, UnitKind, Role, Carries, carried_of, Sources, tree_at, type_in, Code, Duplicate, Literal, MixedKind, NameDiffers, StructRecursive, UnknownType, WithUnknown, WrongKind, Fault, class_of_name, class_of_simple, class_of_type, is_free, takes, declaration_faults, declared_name, duplicate_faults, iface_faults_of, literal_faults_of, mixed_faults, name_faults, space_duplicates, variables_of, with_faults_of, fault_at, constant_faults, fits_alone, initial_faults, list_faults, literal_fault, is_same, stands_for, variables_in, DuplicatesAreReported, HasDuplicate, HasMixedKind, HasOtherName, HasSelfCarrying, HasUnknownType, HasUnknownWith, HasWrongKind, IsDeclaredAt, IsMisfit, MisfitsAreReported, MixedKindsAreReported, OtherNamesAreReported, RecursiveStructuresAreReported, UnknownTypesAreReported, Suits, UnknownWithsAreReported, WrongKindsAreReported, no_array, no_list, AreDeclaredIn, fields_of_structure, of_adapter, of_block, of_subapplication, variables_of_type, spaces_of, instance_faults, instances_of, suits, type_fault, type_faults, contains_filter, contains_flat_map, contains_here, contains_map, contains_nothing, contains_single, origin_in_flat_map, origin_in_map, in_unless, in_written, passes_in_filter, unless, written, earlier_name, in_places, same_exact, same_itself, carried_is_all, Contains-has, has-Contains, filter, Simple}
 use Rattle.fb_laws.proofs.{Lists.{iff, of_either, in_joined, in_where, where_passes}, RuleLemmas.{judged, not_free, not_taken, untaken}, SpaceLemmas.{known_space, told_space}}
 use Rattle.fb_deploy.specs.{Iface.Names.{is_repeated, repeated}, Iface.Recursion.{carries_itself, recursion_faults}, Iface.Withs.{goes_along, event_withs, with_faults}}
 use Rattle.fb_laws.specs.Declarations.{HasMisfit, alone, element}

@@ -1,5 +1,5 @@
 -- The place of each expression, by the function of the check.
-use Rattle.fb_laws.proofs.Common.{arith, ◌≡◌, refl, sym, ap, ◌∙◌, subst, Span, Expression, literal_expression, reference_expression, unary_expression, row_expression, parentheses, Operands, no_operands, operand_then, BinaryUse, span_of, IsLast, only, later, StandsAt, no_row, across, span_through}
+use Rattle.fb_laws.proofs.Common.{arith, ◌≡◌, refl, ap, ◌∙◌, Span, Expression, literal_expression, reference_expression, unary_expression, row_expression, parentheses, Operands, no_operands, operand_then, BinaryUse, span_of, IsLast, only, later, StandsAt, no_row, across, span_through}
 use Rattle.fb_laws.specs.Places.{literal, reference, operator, row, enclosed}
 
 -- the last of these operands, where there is one

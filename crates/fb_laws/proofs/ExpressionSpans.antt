@@ -1,6 +1,6 @@
 -- The parts of expressions, at each level.
-use Rattle.fb_laws.proofs.Common.{◌≡◌, ℕ, ◌≤◌, arith, zero, suc, true, inl, inr, List, [], ◌∷◌, ◌++◌, map, Option, Some, None, refl, sym, ap, ◌∙◌, subst, append_assoc, flat_map, NameUse, Span, Form, both, either, many, as_value, Spells, SpellsEach, across, literal_kinds, key, name, is_among, Kind, Point, Lexeme, ReferenceTree, Expression, Expressions, expressions_of, operands_of, BinaryUse, UnaryUse, signs, strengths, unary_use, binary_use, levels, expression, expressions, subscripts, PartTree, part_of, flat_part, deep_part, further_part, parts, member_in, last_end, subscripts_in, reference_in, flat_reference, deep_reference, reference_value, literal, in_parentheses, parenthesized, flat_primary, deep_primary, with_sign, unary, row_of, operand, row, rows, reference, Part, name_part, expression_part, sign_part, operator_part, name_parts, option_parts, reference_parts, expression_parts, expressions_parts, operands_parts, expression_span, span_through, SpellsPart, IsWritten, sign, operator, append-nil, among_left, among_right, one}
-use Rattle.fb_laws.proofs.Sound.{Fills, begins_more, ends_more, written_whole, Each, each_append, each_prefix, each_rest, Filled, filled_as, filled_either, filled_token, filled_name, Ends, ends_filled, ends_second, ends_behind, filled_across, filled_more, filled_from, Sound, sound_nothing, sound_both, sound_first, sound_second, sound_as, sound_either, sound_option, sound_many, sound_behind, sound_separated, sound_own, sound_same, sound_name, each_items}
+use Rattle.fb_laws.proofs.Common.{◌≡◌, ℕ, ◌≤◌, arith, zero, suc, true, inl, inr, List, [], ◌∷◌, ◌++◌, map, None, refl, sym, ap, ◌∙◌, subst, append_assoc, flat_map, Span, Form, both, either, many, as_value, Spells, SpellsEach, across, literal_kinds, key, name, is_among, Kind, Point, Lexeme, ReferenceTree, Expression, Expressions, expressions_of, operands_of, BinaryUse, signs, strengths, unary_use, binary_use, levels, expression, expressions, subscripts, PartTree, part_of, flat_part, deep_part, further_part, parts, member_in, last_end, subscripts_in, reference_in, flat_reference, deep_reference, reference_value, literal, in_parentheses, parenthesized, flat_primary, deep_primary, with_sign, unary, row_of, operand, row, rows, reference, Part, name_part, expression_part, sign_part, operator_part, name_parts, option_parts, reference_parts, expression_parts, expressions_parts, operands_parts, expression_span, span_through, SpellsPart, IsWritten, sign, operator, append-nil, among_left, among_right, one}
+use Rattle.fb_laws.proofs.Sound.{Fills, begins_more, ends_more, written_whole, Each, each_append, each_prefix, each_rest, Filled, filled_as, filled_either, filled_token, filled_name, Ends, ends_filled, ends_second, ends_behind, filled_across, filled_more, filled_from, Sound, sound_nothing, sound_both, sound_first, sound_second, sound_as, sound_option, sound_many, sound_behind, sound_separated, sound_own, sound_same, sound_name, each_items}
 
 -- Lists
 

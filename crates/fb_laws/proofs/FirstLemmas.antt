@@ -1,5 +1,5 @@
 -- The first declarations of their names, by places.
-use Rattle.fb_laws.proofs.Common.{◌≡◌, ◌≢◌, zero, suc, ℕ, ◌+◌, ◌<◌, Bool, true, ◌&&◌, List, [], ◌∷◌, length, map, take, Option, Some, None, refl, ap, ◌∙◌, sym, subst, inl, inr, arith, filter, enumerate_from, slice_get, slice_get_within, cases_order, and_parts, first_ones, is_same, stands_for, same_exact, same_itself, at_place, in_places, contains_filter, contains_map, got_in_map, origin_in_map, passes_in_filter, stands_for-first_ones, is_none, Contains, place_from_lookup, slice_get_read, AllPairs}
+use Rattle.fb_laws.proofs.Common.{◌≡◌, ◌≢◌, zero, suc, ℕ, ◌+◌, ◌<◌, Bool, true, ◌&&◌, List, [], ◌∷◌, length, map, take, Some, None, refl, ap, ◌∙◌, sym, subst, inl, inr, arith, filter, enumerate_from, slice_get, slice_get_within, cases_order, and_parts, first_ones, is_same, stands_for, same_exact, same_itself, at_place, in_places, contains_filter, contains_map, got_in_map, origin_in_map, passes_in_filter, stands_for-first_ones, is_none, Contains, place_from_lookup, slice_get_read}
 use Rattle.std.proofs.{lemmas.Option.{get_or_from_slice_get}, lemmas.List.FromFn.{get_or-enumerate_from, length-enumerate_from}, lemmas.List.Kept.{AllPairs-filter}}
 
 -- numbered items that pass come in the order of their numbers

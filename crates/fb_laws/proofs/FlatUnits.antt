@@ -1,5 +1,5 @@
 -- The networks of units whose nets are flat, and the nets of the types of their subapplication instances.
-use Rattle.fb_laws.proofs.Common.{arith, ℕ, ◌≡◌, List, Some, length, inl, ap, subst, Contains, contains_flat_map, unit_kind_of, DeclTree, subapplication_type, system_configuration, Sources, parts_at, tree_at, IsSound, flat_net, done_part, net_at_is, unit_faultless, sound_part, sound_tree, IsClean, IsCleanThroughout, IsFlat, Held, AreInstances, IsInner, PlainNetwork, Instance, applications_of, applications_at, declared, kind_at, Holds, IsWithinLimit, OfSubapplication, own_instances, Application, option_map}
+use Rattle.fb_laws.proofs.Common.{arith, ℕ, ◌≡◌, List, Some, length, inl, ap, subst, Contains, contains_flat_map, unit_kind_of, DeclTree, system_configuration, Sources, parts_at, tree_at, IsSound, flat_net, done_part, net_at_is, unit_faultless, sound_part, sound_tree, IsClean, IsCleanThroughout, IsFlat, IsInner, PlainNetwork, Instance, applications_of, applications_at, declared, kind_at, IsWithinLimit, OfSubapplication, own_instances, Application, option_map}
 use Rattle.fb_laws.proofs.ChainParts.{borders_composed, links_composed}
 use Rattle.fb_deploy.specs.Flatten.Far.{far_of}
 use Rattle.fb_deploy.proofs.{Flatten.CleanUnits.{applications_clean, networks_clean}, Flatten.ComputedFlats.{IsDone, clean_with}}

@@ -1,6 +1,6 @@
 -- The events of a type, and its plugs, sockets and instances in other roles.
-use Rattle.fb_laws.proofs.Common.{◌≡◌, ◌↔◌, ℕ, ◌<◌, Bool, true, List, Option, Some, map, ap, ◌∙◌, NameUse, EventTree, InstanceTree, InterfaceTree, NetworkTree, Side, Role, DeclaredEvent, DeclaredInstance, first_ones, stands_for, events_in, instances_in, same_role, same_side, got_in_map, map_gets, IsEventOn, IsFirstEvent, IsFirstInstance, IsFirstItem, IsInstanceAs, IsItemOf, of_block, AdaptersAreDeclared, AreExactly, ComeAsDeclared, EventsAreDeclared, arith}
-use Rattle.fb_laws.proofs.FirstLemmas.{IsFirst, IsPort, among_ports, first_stands, in_turn, is_port, ports, stands_first}
+use Rattle.fb_laws.proofs.Common.{◌≡◌, ◌↔◌, ℕ, ◌<◌, Bool, true, List, Option, Some, map, ap, NameUse, EventTree, InstanceTree, InterfaceTree, NetworkTree, Side, Role, DeclaredEvent, DeclaredInstance, first_ones, stands_for, events_in, instances_in, same_role, same_side, got_in_map, map_gets, IsEventOn, IsFirstEvent, IsFirstInstance, IsFirstItem, IsInstanceAs, IsItemOf, of_block, AdaptersAreDeclared, AreExactly, ComeAsDeclared, EventsAreDeclared, arith}
+use Rattle.fb_laws.proofs.FirstLemmas.{IsFirst, among_ports, first_stands, in_turn, is_port, ports, stands_first}
 
 -- what items mean is their sort and their type
 record Meaning (D S T : Type 0) : Type 0 where

@@ -1,5 +1,5 @@
 -- Lists that are joined from others or split at an item, what is found in a list, and what a list gives.
-use Rattle.fb_laws.proofs.Common.{arith, zero, suc, ◌≡◌, ℕ, Bool, true, cond, List, [], ◌∷◌, ◌++◌, Some, ◌↔◌, inl, inr, sym, subst, Contains, slice_get, Contains-append_left, Contains-append_right, Contains-append_cases, contains_here, contains_nothing, contains_single, Option, None, filter_map, cons_option, contains_cases, contains_later, ◌⊎◌, ap, ◌∙◌, ◌<◌, false, length, take, refl, true≢false, append_assoc, find, flat_map, flat_map-append, passes_in_find, before_first, position_or_len, option_or}
+use Rattle.fb_laws.proofs.Common.{arith, zero, suc, ◌≡◌, ℕ, Bool, true, cond, List, [], ◌∷◌, ◌++◌, Some, ◌↔◌, inl, inr, sym, subst, Contains, slice_get, Contains-append_left, Contains-append_right, Contains-append_cases, contains_here, contains_nothing, contains_single, Option, None, filter_map, cons_option, contains_cases, contains_later, ◌⊎◌, ap, ◌∙◌, false, length, take, refl, true≢false, append_assoc, find, flat_map, flat_map-append, passes_in_find, before_first, position_or_len, option_or}
 pub use Rattle.fb_deploy.proofs.Flatten.NameLemmas.{origin_in_filter_map as given}
 use Rattle.std.proofs.{lemmas.List.{get_or-take, length-take}, lemmas.List.Folds.{find-append, find_at}, lemmas.List.Sums.{fails_before_first}}
 

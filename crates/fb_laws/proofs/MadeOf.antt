@@ -1,5 +1,5 @@
 -- What a unit is made of is what it rests on, and what blocks its net is reported there.
-use Rattle.fb_laws.proofs.Common.{arith, ◌≡◌, ◌≢◌, ℕ, false, List, [], ◌∷◌, ◌++◌, map, flat_map, map-append, Option, Some, None, inl, inr, refl, sym, ap, ◌∙◌, subst, get, Contains, option_and_then, Contains-append_cases, is_elementary, contains_flat_map, contains_here, contains_map, contains_nothing, origin_in_flat_map, origin_in_map, passes_in_filter, instance_types, types_in, value_types, variable_types, ApplicationTree, DeclTree, InstanceTree, TypeTree, VariablesTree, adapter_type, block_type, structure_type, subapplication_type, system_configuration, Rests, itself, Sources, mentions_at, parts_at, parts_in, tree_at, tree_of, values_at, values_in, variables_of, instances_of, UnknownType, Fault, faults_of, IsNet, IsWhole, PlainNet, blocked, flat_net, recursive, too_large, part_mention, rests_more, value_mention, net_at_is, no_names_sorted, HasUnknownType, IsDeclaredAt, AreDeclaredIn, IsHeldIn, IsType, instance_of_application, instance_of_type, of_adapter, of_block, of_subapplication, Declarations, filter, from_names}
+use Rattle.fb_laws.proofs.Common.{arith, ◌≡◌, ◌≢◌, ℕ, false, List, [], ◌∷◌, Option, Some, None, inl, inr, refl, sym, ap, ◌∙◌, subst, get, Contains, option_and_then, Contains-append_cases, is_elementary, contains_flat_map, contains_here, contains_map, contains_nothing, origin_in_flat_map, origin_in_map, passes_in_filter, instance_types, value_types, variable_types, ApplicationTree, DeclTree, InstanceTree, TypeTree, VariablesTree, adapter_type, block_type, structure_type, subapplication_type, system_configuration, Rests, itself, Sources, mentions_at, parts_at, parts_in, tree_at, tree_of, values_at, values_in, variables_of, instances_of, UnknownType, Fault, faults_of, IsNet, IsWhole, PlainNet, blocked, flat_net, recursive, too_large, part_mention, rests_more, value_mention, net_at_is, no_names_sorted, HasUnknownType, IsDeclaredAt, AreDeclaredIn, IsHeldIn, IsType, instance_of_application, instance_of_type, of_adapter, of_block, of_subapplication, Declarations, filter, from_names}
 use Rattle.fb_laws.proofs.{Lists.{no_members}, PathHolders.{types_by_instances, part_among}, CarriedTypes.{is_plain, no_elementary, value_of}}
 use Rattle.fb_laws.proofs.{DeclarationRows.{among_declared, declared_in, unknown_types}, PartLemmas.{whole_units}}
 use Rattle.fb_deploy.specs.{Library.Rests.{through}, Flatten.Blocking.{AreThose, IsBlocking}}

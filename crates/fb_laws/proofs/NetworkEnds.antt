@@ -1,6 +1,6 @@
 -- What ends name, by the tests of the check.
-use Rattle.fb_laws.proofs.Common.{◌≡◌, ℕ, true, List, Option, Some, None, refl, sym, ap, ◌∙◌, subst, option_and_then, and_from, and_parts, NameUse, NetworkTree, Side, End, Sort, Sources, tree_at, DeclaredInstance, first_ones, stands_for, Meanings, instances_in, same_side, instance_ports, usable, Own, Position, Target, Unknown, NotChecked, Found, holder_of, is_right, port_in, right_side, target, target_held, target_in, target_named, target_of, target_of_instance, NetworkPlace, is_own, is_own_port, home_of, IsPort, IsReached, IsReachedBy, IsRightSide, NamesRight, Site, event, socket, plug, of_block_instance, of_subapplication_instance, of_plug, of_socket, own_port, port_of, own_source, own_destination, instance_source, instance_destination, plug_source, plug_destination, socket_source, socket_destination, IsNotJudged, of_unusable, arith, Holder, Port, ◌↔◌}
-use Rattle.fb_laws.proofs.{Lists.{iff}, ItemRows.{same_sides}, NetworkLemmas.{place_at}, UsableTypes.{declared_type, known_type, no_type, told_type, type_missing}}
+use Rattle.fb_laws.proofs.Common.{◌≡◌, ℕ, true, List, Option, Some, None, refl, sym, ap, ◌∙◌, option_and_then, and_from, and_parts, NameUse, NetworkTree, Side, End, Sort, Sources, tree_at, DeclaredInstance, first_ones, stands_for, Meanings, instances_in, same_side, instance_ports, usable, Own, Position, Target, Unknown, NotChecked, Found, holder_of, is_right, port_in, right_side, target, target_held, target_in, target_named, target_of, target_of_instance, NetworkPlace, is_own, is_own_port, home_of, IsPort, IsReached, IsReachedBy, IsRightSide, NamesRight, Site, event, socket, plug, of_block_instance, of_subapplication_instance, of_plug, of_socket, own_port, port_of, own_source, own_destination, instance_source, instance_destination, plug_source, plug_destination, socket_source, socket_destination, IsNotJudged, of_unusable, arith, Holder, Port, ◌↔◌}
+use Rattle.fb_laws.proofs.{Lists.{iff}, NetworkLemmas.{place_at}, UsableTypes.{declared_type, known_type, no_type, told_type, type_missing}}
 use Rattle.fb_laws.specs.Ends.{Names, data_input, data_output}
 
 -- ports

@@ -1,5 +1,5 @@
 -- Each code of networks, by what the list of faults has.
-use Rattle.fb_laws.proofs.Common.{arith, ◌≡◌, ◌≢◌, ℕ, List, [], ◌∷◌, Option, Some, None, refl, sym, ◌∙◌, subst, Contains, Span, InstanceTree, NetworkTree, ParameterTree, Section, Role, Sources, tree_at, fault_at, literal_fault, stands_for, Meanings, type_ports_of, usable, IsMisfit, Code, ParameterUnknown, Fault, DeclaredVariable, contains_flat_map, contains_here, contains_nothing, contains_single, origin_in_flat_map, net_faults_of, all_parameters, instance_parameters, judged_parameters, parameter_faults, typed_parameters, value_faults, NetworkPlace, IsNetworkOf, Site, Block, ParameterOf, ap, false_from_ne_true, Connection, DataType, PortSide, PortUnknown, same_side, unless, Source, Destination, Unknown, Found, connection_faults, fault_of, joined_types, network_faults, right_side, source, destination, AdaptersHaveOneEnd, DestinationsHaveOneSource, NothingPassesThrough, ParametersAreKnown, ParametersFit, PortsAreKnown, PortsAreOfRightSides, TypesAgree, ConnectionOf}
+use Rattle.fb_laws.proofs.Common.{arith, ◌≡◌, ◌≢◌, ℕ, List, [], ◌∷◌, Option, Some, None, refl, sym, ◌∙◌, subst, Contains, Span, InstanceTree, NetworkTree, ParameterTree, Section, Role, Sources, tree_at, fault_at, stands_for, Meanings, type_ports_of, usable, Code, ParameterUnknown, Fault, DeclaredVariable, contains_flat_map, contains_here, contains_nothing, contains_single, origin_in_flat_map, net_faults_of, all_parameters, instance_parameters, judged_parameters, parameter_faults, typed_parameters, value_faults, NetworkPlace, IsNetworkOf, Site, Block, ParameterOf, ap, false_from_ne_true, Connection, DataType, PortSide, PortUnknown, same_side, unless, Source, Destination, Unknown, Found, connection_faults, fault_of, joined_types, network_faults, right_side, source, destination, AdaptersHaveOneEnd, DestinationsHaveOneSource, NothingPassesThrough, ParametersAreKnown, ParametersFit, PortsAreKnown, PortsAreOfRightSides, TypesAgree, ConnectionOf}
 use Rattle.fb_laws.proofs.{DeclarationRows.{misfit_origin, misfit_reported}, NetworkLemmas.{Finds, Has, place_at, reported, connection_reported, end_place, in_network, own_instances}}
 use Rattle.fb_laws.proofs.{UsableTypes.{known_type, listed_type, told_type}, ConnectionRows.{end_found, end_reported, pass_found, pass_reported, type_found, type_reported}}
 use Rattle.fb_laws.proofs.{Lists.{iff, of_either}, NetworkEnds.{known_right, known_unknown, told_names}, RepeatRows.{adapter_reported, adapters_found, source_reported, sources_found}}

@@ -1,5 +1,5 @@
 -- The names of paths, and the home of what stands at a path: the resource of the nearest mapping of it or above it.
-use Rattle.fb_laws.proofs.Common.{arith, ◌≢◌, ℕ, List, [], ◌∷◌, ◌++◌, flat_map, Contains-append_left, Contains-append_right, NameUse, contains_flat_map, contains_here, contains_later, contains_map, ApplicationTree, InstanceTree, MappingTree, NetworkTree, SystemTree, TypeTree, subapplication_type, system_configuration, Sources, IsSystemAt, IsAtPath, in_application, inside, path_of, Part, application_parts, chart_parts, connection_parts, device_parts, instance_parts, interface_parts, mapping_parts, name_part, network_parts, parameter_parts, tree_parts, Contains, map, All-cons, All-contains_itself, All-map, All-nil, All-push, All-weaker, ◌≡◌, ◌+◌, ◌≤◌, length, take, Some, None, sym, ap, ◌∙◌, subst, refl, option_map, find, bytes_eq, dec_lt, false_from_ne_true, contains_nothing, on_itself, MappedTwice, Fault, IsSound, IsPrefix, IsNearest, mapping_home, mapping_path, resource_at, place_of_path, IsAbove, IsMappedTo, with_points, Path}
+use Rattle.fb_laws.proofs.Common.{arith, ◌≢◌, ℕ, List, [], ◌∷◌, ◌++◌, Contains-append_left, Contains-append_right, NameUse, contains_flat_map, contains_here, contains_later, contains_map, InstanceTree, MappingTree, NetworkTree, SystemTree, TypeTree, subapplication_type, system_configuration, Sources, IsSystemAt, IsAtPath, in_application, inside, path_of, Part, application_parts, name_part, network_parts, tree_parts, Contains, All-cons, All-contains_itself, All-map, All-nil, All-push, All-weaker, ◌≡◌, ◌+◌, ◌≤◌, length, take, Some, None, sym, ap, ◌∙◌, subst, refl, option_map, find, bytes_eq, dec_lt, false_from_ne_true, contains_nothing, on_itself, MappedTwice, Fault, IsSound, IsPrefix, IsNearest, mapping_home, mapping_path, resource_at, place_of_path, IsAbove, IsMappedTo, with_points, Path}
 use Rattle.fb_laws.proofs.{PathTexts.{IsPlain, name_in_unit, ArePlain, goes_on, prefix_has_name, prefix_of, same_names, same_print, text_lengths}, FirstLemmas.{at_contained}}
 use Rattle.fb_laws.proofs.{HomeLemmas.{bytes_same, found_in, same_bytes}, Lists.{by_option, first_found, split_at}, MappingRows.{own_paths}, PathHolders.{no_report}}
 

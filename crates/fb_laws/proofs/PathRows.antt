@@ -1,5 +1,5 @@
 -- What is made where, and what is misplaced, by what stands at the paths of a system and what its mappings name.
-use Rattle.fb_laws.proofs.Common.{arith, ◌≡◌, ◌≢◌, ◌↔◌, ℕ, List, [], ◌∷◌, ◌++◌, Option, Some, None, inl, inr, refl, sym, ap, ◌∙◌, subst, map, true≢false, codes, append_cancel_left, Contains-append_cases, Contains-append_left, contains_map, origin_in_map, DeclTree, InstanceTree, SystemTree, system_configuration, Sources, tree_at, faulty, planned, planned_by, HasFlat, IsNet, PlainNet, flat_net, plan_at_is, PlainFlat, FlatBlock, Link, IsNearest, nearest, misplaced, create_text, names_used, resource_at, PlainResource, leads_nowhere, mappings_in, Misplaced, NoSuchBlock, Unmapped, PlacedCommand, is_nearest, IsSystemAt, IsAtPath, IsMappedTo, IsMisplaced, MakesMapped, MisplacedIsTold, NothingPlannedIsMisplaced, making, of_nothing, path_of, unmapped, with_points, IsHome, IsPlanned, BeginsWith, MakesItsBlocks, Contains, Path, true_from_ne_false, Block, plan_at}
+use Rattle.fb_laws.proofs.Common.{arith, ◌≡◌, ◌≢◌, ◌↔◌, ℕ, List, [], ◌∷◌, ◌++◌, Option, Some, None, inl, inr, refl, sym, ap, ◌∙◌, subst, map, true≢false, codes, append_cancel_left, Contains-append_cases, Contains-append_left, contains_map, origin_in_map, DeclTree, InstanceTree, SystemTree, system_configuration, Sources, tree_at, faulty, planned, planned_by, HasFlat, IsNet, PlainNet, plan_at_is, PlainFlat, FlatBlock, Link, IsNearest, nearest, misplaced, create_text, resource_at, PlainResource, leads_nowhere, mappings_in, Misplaced, NoSuchBlock, Unmapped, PlacedCommand, is_nearest, IsSystemAt, IsAtPath, IsMappedTo, IsMisplaced, MakesMapped, MisplacedIsTold, NothingPlannedIsMisplaced, making, of_nothing, path_of, unmapped, with_points, IsHome, IsPlanned, BeginsWith, MakesItsBlocks, Contains, Path, true_from_ne_false, Block, plan_at}
 use Rattle.fb_laws.proofs.{CommandRows.{blocks_made}, PlanRows.{homes_have}, HomeLemmas.{of_nearest}, Lists.{by_option}, PathBlocks.{BlocksStand, system_blocks}}
 use Rattle.fb_laws.proofs.{PathHomes.{home_there, mapped_to, not_mapped, path_plain}, PathStanding.{of_something, somewhere}}
 use Rattle.fb_laws.proofs.{PathTexts.{same_path, same_print}, PlannedLemmas.{IsAstray, astray, known, no_home, none_astray, nothing_there, told}}

@@ -1,5 +1,5 @@
 -- Where names lead to in a sound system is what stands at their path.
-use Rattle.fb_laws.proofs.Common.{arith, ◌≡◌, ◌≢◌, ℕ, Bool, true, false, not, List, [], ◌∷◌, ◌++◌, Option, Some, ◌⊎◌, inl, inr, refl, sym, ap, ◌∙◌, subst, append_assoc, append-nil, true≢false, is_none, not-false, contains_nothing, ApplicationTree, DeclTree, InstanceTree, SystemTree, subapplication_type, Role, Sources, tree_at, IsSound, PlainResolved, application_called, inner_instances, is_placed, leads_nowhere, resolved_among, resolved_at, resolved_beyond, resolved_inside, IsSystemAt, IsAtPath, IsOfSomething, in_application, inside, of_application, Contains, option_and_then, Path}
+use Rattle.fb_laws.proofs.Common.{arith, ◌≡◌, ◌≢◌, ℕ, Bool, false, not, List, [], ◌∷◌, ◌++◌, Option, Some, refl, sym, ap, ◌∙◌, subst, append_assoc, append-nil, true≢false, is_none, contains_nothing, ApplicationTree, DeclTree, InstanceTree, SystemTree, subapplication_type, Sources, tree_at, IsSound, PlainResolved, application_called, inner_instances, is_placed, leads_nowhere, resolved_among, resolved_at, resolved_beyond, resolved_inside, IsSystemAt, IsAtPath, IsOfSomething, in_application, inside, of_application, Contains, option_and_then, Path}
 use Rattle.fb_laws.proofs.{Lists.{by_option}, HomeLemmas.{found_in}, PathHolders.{applications_apart, first_own, holder_of, instances_apart, is_subapplication, type_apart, type_below}}
 use Rattle.fb_placing.proofs.ResolvedLemmas.{at_more, beyond_nothing}
 use Rattle.fb_laws.specs.Paths.{of_block, of_subapplication}

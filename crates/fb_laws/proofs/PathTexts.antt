@@ -1,5 +1,5 @@
 -- Names of trees, which have neither points nor blanks, and paths of such names as texts.
-use Rattle.fb_laws.proofs.Common.{◌≡◌, ◌≢◌, ℕ, ◌==◌, true, false, true≢false, All, All-weaker, origin_in_map, List, [], Some, None, Result, Ok, Err, refl, sym, ap, ◌∙◌, subst, arith, IsOk, codes, slice_range, get, option_and_then, All-contains, is_word_start, is_word_byte, name_of, is_word, NameFault, NameUse, IsName-upper, is_word-all, name_of-ok, lexeme_of, name_or, name_use, spelled_name, DeclTree, Sources, tree_at, tree_in, tree_of, BodyTree, BrokenAt, Whole, body_of, name_part, tree_parts, IsWritten, Contains, map, ◌+◌, ◌≤◌, length, ◌∷◌, ◌++◌, inl, inr, append_assoc, append-nil, length-append, flat_map, flat_map-append, printed, IsPrefix, with_points, Path, All-append, All-cons, All-head, All-nil, All-tail, slice_split}
+use Rattle.fb_laws.proofs.Common.{◌≡◌, ◌≢◌, ℕ, ◌==◌, true, false, All, origin_in_map, List, [], Some, None, Result, Ok, Err, refl, sym, ap, ◌∙◌, subst, arith, IsOk, codes, slice_range, get, option_and_then, All-contains, is_word_start, is_word_byte, name_of, is_word, NameFault, NameUse, IsName-upper, is_word-all, name_of-ok, lexeme_of, name_or, name_use, spelled_name, DeclTree, Sources, tree_at, tree_in, tree_of, BodyTree, BrokenAt, Whole, body_of, name_part, tree_parts, IsWritten, Contains, map, ◌+◌, ◌≤◌, length, ◌∷◌, ◌++◌, inl, inr, append_assoc, append-nil, length-append, flat_map, flat_map-append, printed, IsPrefix, with_points, Path, All-append, All-cons, All-head, All-nil, All-tail, slice_split}
 use Rattle.fb_laws.proofs.Standing.{name_in, spelled_word, tree_stands}
 use Rattle.std.proofs.{lemmas.Bool.Decides.{nat_tests}, lemmas.List.Sums.{AllPass-from_list_all}, lemmas.List.Splits.{slice_split_at, slice_split_none}}
 use Rattle.fb_text.specs.Spelling.{IsName}

@@ -1,5 +1,5 @@
 -- What is known of a system with a plan.
-use Rattle.fb_laws.proofs.Common.{ℕ, ◌≡◌, Bool, true, List, [], ◌∷◌, Option, Some, None, refl, ◌∙◌, ap, subst, map, filter, is_none, IsStrictlySortedBy, Contains-append_left, Contains-append_right, names_in_order, in_order_has, from_names, contains_filter, contains_map, contains_nothing, origin_in_map, passes_in_filter, plan_at_is, DeclTree, MappingTree, Sources, tree_at, FlatBlock, Link, PlainFlat, HasFlat, flat_net, IsUnitFlat, link_cmp, cuts_of, home_at, nearest, block_homes, misplaced, unless_faulty, mapping_path, names_used, resource_at, leads_nowhere, applications_in, devices_in, mappings_in, Home, Misplaced, NoSuchBlock, Unmapped, IsPlan, planned, planned_by, with_homes, system_commands, PlainResource, resource_plans, resources_of, IsPlanned, Contains, arith, IsHome, BlocksHaveOneHome, EndsHaveOneHome}
+use Rattle.fb_laws.proofs.Common.{ℕ, ◌≡◌, Bool, true, List, [], ◌∷◌, Option, Some, None, refl, ◌∙◌, ap, subst, map, filter, is_none, IsStrictlySortedBy, Contains-append_left, Contains-append_right, names_in_order, in_order_has, from_names, contains_filter, contains_map, contains_nothing, origin_in_map, passes_in_filter, plan_at_is, DeclTree, MappingTree, Sources, tree_at, FlatBlock, Link, PlainFlat, HasFlat, flat_net, link_cmp, cuts_of, home_at, nearest, block_homes, misplaced, unless_faulty, mapping_path, names_used, resource_at, leads_nowhere, applications_in, devices_in, mappings_in, Home, Misplaced, NoSuchBlock, Unmapped, IsPlan, planned, planned_by, with_homes, system_commands, PlainResource, resource_plans, resources_of, IsPlanned, Contains, arith, IsHome, BlocksHaveOneHome, EndsHaveOneHome}
 use Rattle.fb_laws.proofs.{HomeLemmas.{HasHome, mapped, one_nearest, one_prefix}, Lists.{by_option, of_either}}
 use Rattle.fb_deploy.proofs.Flatten.OneNet.{one_net_only}
 

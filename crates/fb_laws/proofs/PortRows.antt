@@ -1,5 +1,5 @@
 -- Places in a list of rows, the data inputs and outputs of a type, and its ports once and in order.
-use Rattle.fb_laws.proofs.Common.{◌≡◌, zero, suc, ℕ, ◌+◌, ◌-◌, ◌<◌, ◌≤◌, List, [], ◌∷◌, length, Some, refl, sym, ◌∙◌, ◌⊎◌, inl, inr, arith, flat_map, slice_get, cases_lt, cases_order, slice_get_within, Cell, IsBefore, in_earlier_row, in_same_row, ◌≢◌, ◌↔◌, Bool, true, ap, subst, NameUse, InterfaceTree, VariablesTree, Section, Side, TypeUse, DeclaredVariable, first_ones, stands_for, variables_in, variables_together, is_data_on, IsDataOn, IsFirstVariable, IsVariableIn, data_input, data_output, of_block, AreExactly, ComeAsDeclared, DataAreDeclared, got_in_map, map_gets, Input, Output, TypeTree, adapter_type, block_type, subapplication_type, meanings_in_type, ComeAsDeclaredEach, DeclaredEvent, DeclaredInstance, events_in, instances_in, same_role, same_side, HaveOwnNamesEach, InternalVariablesAreNoPorts, NamesStandForFirst, PortsComeAsDeclared, PortsHaveOwnNames, StandForFirst}
+use Rattle.fb_laws.proofs.Common.{◌≡◌, zero, suc, ℕ, ◌+◌, ◌-◌, ◌<◌, ◌≤◌, List, [], ◌∷◌, length, Some, refl, sym, ◌∙◌, ◌⊎◌, inl, inr, arith, flat_map, slice_get, cases_lt, cases_order, slice_get_within, Cell, IsBefore, in_earlier_row, in_same_row, ◌≢◌, ◌↔◌, Bool, ap, subst, NameUse, InterfaceTree, VariablesTree, Section, Side, TypeUse, DeclaredVariable, first_ones, stands_for, variables_in, variables_together, is_data_on, IsDataOn, IsFirstVariable, IsVariableIn, data_input, data_output, of_block, AreExactly, ComeAsDeclared, DataAreDeclared, got_in_map, map_gets, Input, Output, TypeTree, adapter_type, block_type, subapplication_type, meanings_in_type, ComeAsDeclaredEach, DeclaredEvent, DeclaredInstance, events_in, instances_in, same_role, same_side, HaveOwnNamesEach, InternalVariablesAreNoPorts, NamesStandForFirst, PortsComeAsDeclared, PortsHaveOwnNames, StandForFirst}
 use Rattle.fb_types.proofs.Network.Readings.{get_left, get_right}
 use Rattle.fb_laws.proofs.FirstLemmas.{IsFirst, IsPort, NoneBefore, among_ports, first_stands, in_turn, is_port, ports, stands_first, once}
 use Rattle.fb_laws.proofs.ItemRows.{adapters_in_turn, events_in_turn, events_stand, instances_stand}

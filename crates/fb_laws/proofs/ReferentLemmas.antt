@@ -1,7 +1,6 @@
 -- What references stand for by the check: what they begin at, what their further names lead to, and which of these are no fields.
-use Rattle.fb_laws.proofs.Common.{◌≡◌, ℕ, Bool, true, false, true≢false, cond, not, ◌&&◌, List, [], ◌∷◌, ◌++◌, Option, Some, None, ◌⊎◌, refl, sym, ap, subst, ◌∙◌, append-nil, arith, option_and_then, ltb-false, or_parts, has_own_class, is_elementary, type_class_of, ReferenceTree, TypeTree, adapter_type, block_type, Section, TypeForm, TypeUse, Role, Plug, Socket, Member, Sources, tree_at, class_of_name, is_free, named_class, Fields, NoFields, fields_of_tree, stands_for, Meanings, meanings_in_type, instance_ports, ports_of, usable, DeclaredInstance, DeclaredVariable, stands_for-first_ones, is_known, referent_through, Names, names_of_type, data_referent, field_referent, fields_behind, fields_named, is_adapter, is_at_adapter, is_before_port, is_data, is_some_count, member_among, own_referent, port_named, port_referent, referent_of, step, unless_judged, variable_named, walk, Referent, Variable, Unjudged, NoMember, IsAdapter, IsUsable, as_plug, as_socket, IsData, IsAtPort, Begins, own, IsOfNoAdapter, Shows, plain, element, IsOpen, generic, unknown, HasField, GoesOn, at_end, through, NamesType, append_assoc, false_from_ne_true, Expressions, reference_expression, IsWrittenIn, HasUnknownMember, is_field, is_met, names_field, DeclTree, StructureTree, fields_in, first_ones, structure_type, ◌||◌, not-false}
+use Rattle.fb_laws.proofs.Common.{◌≡◌, ℕ, Bool, true, false, true≢false, cond, not, List, [], ◌∷◌, ◌++◌, Option, Some, None, ◌⊎◌, refl, sym, ap, subst, ◌∙◌, append-nil, arith, option_and_then, ltb-false, or_parts, is_elementary, ReferenceTree, TypeTree, adapter_type, block_type, Section, TypeForm, TypeUse, Role, Plug, Socket, Member, Sources, tree_at, class_of_name, is_free, Fields, NoFields, fields_of_tree, stands_for, Meanings, meanings_in_type, instance_ports, ports_of, usable, DeclaredInstance, DeclaredVariable, stands_for-first_ones, is_known, referent_through, Names, names_of_type, data_referent, fields_behind, fields_named, is_before_port, is_data, is_some_count, member_among, own_referent, port_named, port_referent, referent_of, step, unless_judged, variable_named, walk, Referent, Variable, Unjudged, NoMember, IsAdapter, IsUsable, as_plug, as_socket, IsData, IsAtPort, Begins, own, IsOfNoAdapter, Shows, plain, element, IsOpen, generic, unknown, HasField, GoesOn, at_end, through, NamesType, append_assoc, false_from_ne_true, Expressions, reference_expression, IsWrittenIn, HasUnknownMember, is_field, is_met, names_field, DeclTree, structure_type, ◌||◌, not-false}
 use Rattle.fb_laws.proofs.{CarriedTypes.{IsKnown, data_known, field_known, known_fields, own_known}, UsableTypes.{known_type, own_type}}
-use Rattle.fb_text.specs.declared.elementary.TypeClass.{TypeClass}
 use Rattle.fb_deploy.specs.Iface.Fields.{NotChecked}
 use Rattle.fb_expr.specs.declared.references.Referent.TheVariants.{Unknown}
 use Rattle.fb_tree.specs.declared.interface.TypeForm.TheVariants as forms

@@ -1,5 +1,5 @@
 -- The rules of classes, by the functions of the check.
-use Rattle.fb_laws.proofs.Common.{◌≡◌, ◌≢◌, Bool, true, false, Option, Some, None, unwrap_or, refl, sym, ap, ◌∙◌, true≢false, option_and_then, false_from_ne_true, is_free, takes, Class, B, I, Free, Any, arithmetical, change, class_of_broken, combined, join, logical, operation, pair_class, whole as whole_of, allows, ClassPlace, Condition, Joins, Takes, IsLogical, Calculates, Divides, Changes, JoinsTruths, Compares, IsArithmetic, Makes, Combines, Spoils, Results, Fits, arith, ◌↔◌}
+use Rattle.fb_laws.proofs.Common.{◌≡◌, ◌≢◌, false, Option, Some, None, unwrap_or, refl, sym, ap, ◌∙◌, true≢false, option_and_then, false_from_ne_true, is_free, takes, Class, B, I, Free, Any, arithmetical, change, class_of_broken, combined, join, logical, operation, pair_class, whole as whole_of, allows, ClassPlace, Joins, Takes, IsLogical, Calculates, Divides, Changes, JoinsTruths, Compares, IsArithmetic, Makes, Combines, Spoils, Results, Fits, arith, ◌↔◌}
 use Rattle.fb_laws.proofs.Lists.{iff}
 use Rattle.fb_tree.specs.{declared.expression.BinaryOperator.{BinaryOperator}, declared.expression.BinaryOperator.TheVariants.{Modulo}}
 use Rattle.fb_tree.specs.{declared.expression.UnaryOperator.{UnaryOperator}, declared.expression.UnaryOperator.TheVariants.{Plus, Minus, Not}}

@@ -1,5 +1,5 @@
 -- Parts that are written among tokens, values that keep where the tokens stand that spell them, and forms whose parts are written.
-use Rattle.fb_laws.proofs.Common.{arith, ℕ, List, [], ◌∷◌, ◌++◌, sym, ap, ◌∙◌, append_assoc, AllByRecursion, Span, Lexeme, Part, part_span, BeginsAt, EndsAt, SpellsPart, IsWritten, append-nil, ◌≡◌, inl, inr, Option, Some, None, refl, subst, Form, one, both, either, option, as_value, Spells, SpellsOption, across, behind, name, Kind, map, flat_map, NameUse, many, SpellsEach, key, before, or_none, optional_list, cons, separated, names, is_among, name_kinds, name_use, name_part, mark_part, name_parts, option_parts, mark, true, flat_map-append}
+use Rattle.fb_laws.proofs.Common.{arith, ℕ, List, [], ◌∷◌, ◌++◌, sym, ap, ◌∙◌, append_assoc, AllByRecursion, Span, Lexeme, Part, part_span, BeginsAt, EndsAt, SpellsPart, IsWritten, append-nil, ◌≡◌, inl, inr, Option, Some, None, refl, subst, Form, one, both, either, option, as_value, Spells, SpellsOption, across, behind, name, Kind, map, flat_map, NameUse, many, SpellsEach, key, before, optional_list, cons, separated, names, is_among, name_kinds, name_use, name_part, mark_part, name_parts, option_parts, mark, true, flat_map-append}
 use Rattle.fb_deploy.proofs.Library.OnShelves.{each}
 use Rattle.fb_sections.specs.Sections.{section, optional_name}
 use Rattle.std.proofs.lemmas.List.Concat.{flat_map_single}

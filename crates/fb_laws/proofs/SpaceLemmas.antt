@@ -1,5 +1,5 @@
 -- Name spaces, by the function of the check.
-use Rattle.fb_laws.proofs.Common.{AlgorithmTree, EventTree, StateTree, VariablesTree, arith, ◌≡◌, ℕ, List, [], ◌∷◌, ◌++◌, map, if◌then◌else◌, Some, ◌⊎◌, inl, refl, ap, subst, Contains, slice_get, Contains-append_left, Contains-append_right, NameUse, contains_flat_map, contains_later, contains_map, contains_single, origin_in_flat_map, origin_in_map, ApplicationTree, DeclTree, InstanceTree, NetworkTree, ParameterTree, SystemTree, TypeTree, adapter_type, block_type, structure_type, subapplication_type, system_configuration, Block, chart_spaces, interface_spaces, is_block, network_spaces, parameter_names, resource_names, spaces_of, system_spaces, type_spaces, IsHeldIn, IsType, instance_of_application, instance_of_type, of_adapter, of_block, of_subapplication, flat_map}
+use Rattle.fb_laws.proofs.Common.{VariablesTree, arith, ◌≡◌, ℕ, List, [], ◌++◌, map, if◌then◌else◌, Some, ◌⊎◌, inl, refl, ap, subst, Contains, slice_get, Contains-append_left, Contains-append_right, NameUse, contains_flat_map, contains_later, contains_map, contains_single, origin_in_flat_map, origin_in_map, ApplicationTree, DeclTree, InstanceTree, NetworkTree, ParameterTree, SystemTree, TypeTree, adapter_type, block_type, structure_type, subapplication_type, system_configuration, Block, chart_spaces, interface_spaces, is_block, network_spaces, parameter_names, resource_names, spaces_of, system_spaces, type_spaces, IsHeldIn, IsType, instance_of_application, instance_of_type, of_adapter, of_block, of_subapplication, flat_map}
 use Rattle.fb_laws.proofs.Lists.{of_either, of_first}
 use Rattle.fb_laws.specs.Spaces.{IsSpace, algorithms, applications, devices, events, fields, instances, instances_of_application, parameters, resources, states, variables}
 

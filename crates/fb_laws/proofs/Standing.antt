@@ -1,5 +1,5 @@
 -- The tokens of a text, and the parts that are written in them.
-use Rattle.fb_laws.proofs.Common.{Covers, IsWord, ◌≡◌, ℕ, zero, suc, ◌+◌, ◌<◌, ◌≤◌, inl, inr, List, [], ◌∷◌, ◌++◌, length, drop, refl, subst, arith, length-drop, Ok, IsUtf8, All, slice_index_or, cases_lt, piece_at, tokens_of, FitsIn, IsSpelled, LiesIn, SpansRise, spans_of, Span, Token, Bool, true, cond, map, sym, ap, ◌∙◌, Result, Err, IsOk, nat_lt, slice_range, IsCharBoundary, str_to_ascii_uppercase, map-append, Contains-append_left, All-contains, All-from_recursion, All-map, All-weaker, Contains-append_right, contains_here, origin_in_map, name_of, is_word, NameFault, NameUse, name_of-ok, IsBody, IsBodyIn, body_of, Whole, name as name_form, Spells, is_among, name_kinds, lexeme_of, lexemes_in, lexemes_of, name_or, name_use, Lexeme, DeclTree, told, Part, name_part, tree_parts, PartsAreWritten, SpansCoverTokens, SpansLieInText, NamesAreWords, part_span, BeginsAt, EndsAt, IsWritten, Contains}
+use Rattle.fb_laws.proofs.Common.{Covers, IsWord, ◌≡◌, ℕ, zero, suc, ◌+◌, ◌<◌, ◌≤◌, inl, inr, List, [], ◌∷◌, ◌++◌, length, drop, refl, subst, arith, length-drop, Ok, IsUtf8, All, slice_index_or, cases_lt, piece_at, tokens_of, FitsIn, IsSpelled, LiesIn, SpansRise, spans_of, Span, Token, Bool, true, cond, map, sym, ap, ◌∙◌, Result, Err, IsOk, nat_lt, slice_range, str_to_ascii_uppercase, map-append, Contains-append_left, All-contains, All-from_recursion, All-map, All-weaker, Contains-append_right, contains_here, origin_in_map, name_of, is_word, NameFault, NameUse, name_of-ok, IsBody, IsBodyIn, body_of, Whole, name as name_form, Spells, is_among, name_kinds, lexeme_of, lexemes_in, lexemes_of, name_or, name_use, Lexeme, DeclTree, told, Part, name_part, tree_parts, PartsAreWritten, SpansCoverTokens, SpansLieInText, NamesAreWords, part_span, BeginsAt, EndsAt, IsWritten, Contains}
 use Rattle.std.proofs.lemmas.Str.{IsUtf8-drop}
 use Rattle.fb_text.specs.{declared.scan.Piece.{Piece}, declared.scan.Piece.TheVariants.{Gap, Unclosed, Found}}
 use Rattle.fb_text.proofs.{Boundaries.{piece-fits}, Reading.{HasRead, start, after-gap, after-token, unclosed, all-read}}

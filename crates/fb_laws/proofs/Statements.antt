@@ -1,6 +1,6 @@
 -- The parts of statements, at each level.
 use Rattle.fb_laws.proofs.Common.{ℕ, ◌≤◌, arith, zero, suc, List, [], ◌∷◌, ◌++◌, flat_map, Form, many, cons, name, Kind, Assign, Expression, reference_expression, Statement, statements_of, arms_of, levels, expression, reference, statement, simple_statement, assignment_statement, enclosed, announced, otherwise, arm, arms, if_statement, case, cases, case_statement, for_statement, while_statement, repeat_statement, nested_statement, Part, mark_part, name_parts, option_parts, expression_parts, statement_parts, statements_parts, arms_parts, refl, subst, flat_map-append}
-use Rattle.fb_laws.proofs.Sound.{Each, Sound, sound_nothing, sound_both, sound_as, sound_either, sound_option, sound_many, sound_behind, sound_before, sound_optional_list, sound_section, sound_mark, sound_name, sound_same}
+use Rattle.fb_laws.proofs.Sound.{Each, Sound, sound_both, sound_as, sound_either, sound_option, sound_many, sound_behind, sound_before, sound_optional_list, sound_section, sound_mark, sound_name, sound_same}
 use Rattle.fb_laws.proofs.ExpressionSpans.{flat_parts, sound_expression, sound_reference}
 
 -- Lists

@@ -1,5 +1,5 @@
 -- The names of a reference count its subscripts.
-use Rattle.fb_laws.proofs.Common.{arith, ◌≡◌, ℕ, suc, ◌+◌, inl, inr, List, [], ◌∷◌, length, map, refl, sym, ap, ◌∙◌, subst, length-append, sum_by, All-contains, Form, either, as_value, Spells, Kind, Lexeme, Expression, reference_expression, expressions_of, Member, PartTree, expression, parts, flat_part, deep_part, member_in, subscripts_in, reference_in, flat_reference, deep_reference, reference_value, literal, in_parentheses, parenthesized, flat_primary, deep_primary, with_sign, unary, row_of, row, rows, expression_part, tree_parts, SubscriptsAreCounted, counted_by, number_of, IsWritten, None, Some}
+use Rattle.fb_laws.proofs.Common.{arith, ◌≡◌, ℕ, suc, ◌+◌, inl, inr, List, [], ◌∷◌, length, map, refl, sym, ap, ◌∙◌, subst, length-append, sum_by, All-contains, Form, either, as_value, Spells, Kind, Lexeme, Expression, reference_expression, expressions_of, Member, PartTree, expression, parts, flat_part, deep_part, member_in, subscripts_in, reference_in, flat_reference, deep_reference, reference_value, literal, in_parentheses, parenthesized, flat_primary, deep_primary, with_sign, unary, row, rows, expression_part, tree_parts, SubscriptsAreCounted, counted_by, number_of, IsWritten, None, Some}
 use Rattle.fb_laws.proofs.Standing.{parts_are_written}
 use Rattle.std.proofs.lemmas.List.Sums.{sum_by-cons}
 

@@ -1,5 +1,5 @@
 -- What the guards and the algorithms of a block type demand, and the faults of what is not met.
-use Rattle.fb_laws.proofs.Common.{arith, ◌≡◌, ℕ, false, List, [], ◌∷◌, ◌++◌, Option, Some, None, refl, sym, ap, ◌∙◌, subst, append-nil, append_assoc, option_map_or, Contains, flat_map, All-contains, All-from_recursion, All-weaker, Contains-append_left, Contains-append_right, NameUse, Span, ReferenceTree, Expression, literal_expression, reference_expression, unary_expression, row_expression, parentheses, Expressions, no_expressions, expression_then, Operands, no_operands, operand_then, Statement, assignment, choice, selection, count, while_loop, repeat_loop, Statements, no_statements, statement_then, Arms, no_arms, arm_then, statements_of, ConditionTree, guarded, guard, DeclTree, TypeTree, block_type, BinaryUse, UnaryUse, Member, Sources, tree_at, Class as ValueClass, Fault, contains_flat_map, contains_nothing, origin_in_flat_map, expr_faults_of, faults_in_unit, pair_class, Demand, names_variable, names_field, suits_operand, suits_operands, suits_place, assigns, is_met, field_demands, demands_in, row_demands, subscript_demands, demands_at, range_demands, statement_demands, statements_demands, arms_demands, alone_tree, guard_demands, transition_demands, algorithm_demands, chart_demands, class_in, Names, names_of_type, HasClass, IsPairIn, first_pair, later_pair, ClassPlace, Condition, Count, Counter, Selector, IsOneOf, first_one, later_one, IsOperandOf, first_operand, later_operand, OccursIn, in_subscript, behind_operator, in_first, in_operand, IsArmOf, first_arm, later_arm, Asks, selector, while_condition, until_condition, HasExpression, value, this, in_arm, behind_else, in_case, behind_cases, in_for, in_while, in_repeat, IsAmong, in_first_statement, in_later_statement, IsNamedIn, in_reference, behind_for, IsGuardOf, with_event, IsRunIn, IsTestedIn, IsWrittenIn, in_guard, in_statement, All-contains_itself, recursion_from_All}
+use Rattle.fb_laws.proofs.Common.{arith, ◌≡◌, ℕ, false, List, [], ◌∷◌, ◌++◌, Option, Some, None, refl, sym, ap, ◌∙◌, subst, append-nil, append_assoc, option_map_or, Contains, All-contains, All-from_recursion, All-weaker, Contains-append_left, Contains-append_right, NameUse, Span, ReferenceTree, Expression, literal_expression, reference_expression, unary_expression, row_expression, parentheses, Expressions, no_expressions, expression_then, Operands, no_operands, operand_then, Statement, assignment, choice, selection, count, while_loop, repeat_loop, Statements, no_statements, statement_then, Arms, no_arms, arm_then, statements_of, ConditionTree, guarded, guard, DeclTree, TypeTree, block_type, BinaryUse, UnaryUse, Member, Sources, tree_at, Class as ValueClass, Fault, contains_flat_map, contains_nothing, origin_in_flat_map, expr_faults_of, faults_in_unit, pair_class, Demand, names_variable, names_field, suits_operand, suits_operands, suits_place, assigns, is_met, field_demands, demands_in, row_demands, subscript_demands, demands_at, range_demands, statement_demands, statements_demands, arms_demands, alone_tree, guard_demands, transition_demands, algorithm_demands, chart_demands, class_in, Names, names_of_type, HasClass, IsPairIn, first_pair, later_pair, ClassPlace, Condition, Count, Counter, Selector, IsOneOf, first_one, later_one, IsOperandOf, first_operand, later_operand, OccursIn, in_subscript, behind_operator, in_first, in_operand, IsArmOf, first_arm, later_arm, Asks, selector, while_condition, until_condition, HasExpression, value, this, in_arm, behind_else, in_case, behind_cases, in_for, in_while, in_repeat, IsAmong, in_first_statement, in_later_statement, IsNamedIn, in_reference, behind_for, IsGuardOf, with_event, IsRunIn, IsTestedIn, IsWrittenIn, in_guard, in_statement, All-contains_itself, recursion_from_All}
 use Rattle.fb_laws.proofs.{ClassLemmas.{class_of, told_class}, Lists.{of_either}, RuleLemmas.{results, told_results}, Sound.{Each, each_append, each_prefix, each_rest}}
 use Rattle.fb_expr.specs.Demands.{fault_of}
 use Rattle.fb_expr.proofs.DemandLemmas.{faults_unmet}

@@ -4,7 +4,7 @@ use Rattle.fb_laws.proofs.Sound.{Each, each_append, each_prefix, each_rest, Soun
 use Rattle.fb_laws.proofs.Sections.{sound_end, sound_events, sound_data_variables, sound_variables, sound_instances, sound_subapplications, sound_connections, sound_states, sound_mappings, sound_device}
 use Rattle.fb_laws.proofs.{ExpressionSpans.{sound_expression}, Statements.{sound_statement}}
 use Rattle.fb_deploy.specs.Parse.Chart.{bracketed, joined_test, optional_test, on_event_with, event_condition, condition, transition, transitions, structured_text, other_language, algorithm_body, algorithm}
-use Rattle.fb_deploy.specs.Parse.Contents.{ContentsTree, of_events, of_variables, of_adapters, of_instances, of_connections, of_states, of_transitions, of_algorithm, joined}
+use Rattle.fb_deploy.specs.Parse.Contents.{ContentsTree, of_variables, of_adapters, of_instances, of_connections, of_states, of_transitions, of_algorithm, joined}
 use Rattle.fb_deploy.specs.Parse.Grammar.{data_section, service_section, interface_section, network_section, chart_section, block_section, adapter_section, application_section, subapplication_section, framed, type_of, block, adapter, subapplication, application_of, application, system_section, system, structure, unit}
 use Rattle.fb_deploy.specs.Parse.SystemContents.{SystemContentsTree, of_application, of_device, of_mappings, system_joined}
 use Rattle.fb_sections.specs.Interface.{internal_variables, fields}

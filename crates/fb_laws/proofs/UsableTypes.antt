@@ -1,5 +1,5 @@
 -- Usable types, by what the check knows of them.
-use Rattle.fb_laws.proofs.Common.{◌≡◌, ℕ, cond, List, [], ◌∷◌, map, Option, Some, None, refl, sym, ap, ◌∙◌, subst, Contains, DeclTree, InstanceTree, NetworkTree, TypeTree, block_type, adapter_type, subapplication_type, Role, Sources, tree_at, first_ones, stands_for, Meanings, instances_in, meanings_in_type, instance_ports, scope_of_type, type_ports_of, usable, DeclaredInstance, contains_here, contains_later, contains_map, named, IsUsable, as_plug, as_socket, as_block, as_subapplication, arith}
+use Rattle.fb_laws.proofs.Common.{◌≡◌, ℕ, cond, List, [], ◌∷◌, map, Some, None, refl, sym, ap, ◌∙◌, Contains, InstanceTree, NetworkTree, TypeTree, Role, Sources, tree_at, first_ones, stands_for, Meanings, instances_in, meanings_in_type, instance_ports, scope_of_type, type_ports_of, usable, DeclaredInstance, contains_here, contains_later, contains_map, named, IsUsable, as_plug, as_socket, as_block, as_subapplication, arith}
 use Rattle.fb_netcheck.proofs.Locality.{Each, instance_stands}
 
 module _ (sources : Sources) (name : List ℕ) where

@@ -1,4 +1,4 @@
--- The parts of trees that keep their place in the text: where they stand among the tokens, how they read alone, and their laws.
+-- The parts of trees that keep their place in the text: their places among the tokens, how they read alone, and their laws.
 use Rattle.fb_laws.specs.Common.{NameUse, Span, Token, Spells, lexemes_of, Lexeme, constant, ConstantTree, constant_span, one_value, value_list, Simple, body_of, Whole, ReferenceTree, reference_expression, Expressions, no_expressions, expression_then, DeclTree}
 use Rattle.std.specs.{Prelude.{◌≡◌, ℕ, List, ◌∷◌, ◌++◌, slice_range, Contains, ◌-◌, map, Ok, suc, ◌+◌, ◌<◌, All, IsUtf8}, Str.{str_to_ascii_uppercase}, List.{sum_by}}
 use Rattle.fb_text.specs.{declared.token.TokenKind.TheVariants.{Word}, Tokens.{tokens_of, spans_of, LiesIn}}
