@@ -1,8 +1,7 @@
 -- That a key is due, said by places.
-use Rattle.fb_laws.proofs.Common.{◌≡◌, ◌↔◌, ℕ, zero, suc, ◌<◌, Bool, true, false, true≢false, ◌||◌, ◌&&◌, not, ◌⊎◌, inl, inr, List, [], ◌∷◌, Some, refl, sym, ap, ◌∙◌, arith, false≢true, or_left, or_right, and_from, and_parts, not-true, none-some, same_Some, take, slice_get, false_from_ne_true, by_bool, ◌≤◌}
+use Rattle.fb_laws.proofs.Common.{◌≡◌, ◌↔◌, ℕ, zero, suc, ◌<◌, Bool, true, false, true≢false, ◌||◌, ◌&&◌, not, ◌⊎◌, inl, inr, List, [], ◌∷◌, Some, refl, sym, ap, ◌∙◌, arith, or_left, or_right, and_from, and_parts, not-true, none-some, same_Some, take, slice_get, false_from_ne_true, by_bool, ◌≤◌}
 use Rattle.fb_jobs.specs.declared.key.Key.{Key}
-use Rattle.fb_history.specs.{Limits.{Bounds}, Machine.{State, Call, after}, BenchView.{BenchView, IsOrigin, replay}}
-use Rattle.fb_history.specs.{Due.{marks, settles, settled, due}, Checkpoints.{checkpointed}}
+use Rattle.fb_history.specs.{Limits.{Bounds}, Machine.{State, Call, after}, BenchView.{BenchView, IsOrigin, replay}, Due.{marks, settles, settled, due}, Checkpoints.{checkpointed}}
 use Rattle.fb_laws.specs.DueByPlaces.{IsMarkedAt, IsSettledAt, IsMarkedLast, IsDueByPlaces, DueGoesOn}
 use Rattle.fb_history.proofs.{Dues.{pending_is_due}, Restarts.{goes_on, unseen}}
 
@@ -68,9 +67,7 @@ by_places (c ∷ cs) pending s k =
     (λ e. before pending s c cs k (more.0 (same ∙ e)), λ w. sym same ∙ more.1 (behind pending s c cs k w))
 
 pub due_by_places : (s : State) (cs : List Call) (k : Key) → IsDueByPlaces s cs k
-due_by_places s cs k =
-    let places = by_places cs (s.pending k) s k in
-    grind arith
+due_by_places s cs k = grind (arith, by_places)
 
 pub due_goes_on : (limits : Bounds) (bench : BenchView) → IsOrigin bench.origin → DueGoesOn limits bench
 due_goes_on limits bench begins key =

@@ -1,7 +1,6 @@
 -- The types of values that references of a block type meet: it carries them, or one of its parts does, so the check knows their fields.
-use Rattle.fb_laws.proofs.Common.{arith, ◌≡◌, ℕ, Bool, true, false, true≢false, cond, not, List, [], ◌∷◌, Option, Some, None, refl, sym, ap, ◌∙◌, subst, nat_list_cmp_total, slice_cmp-IsAntisymmetric, nat_cmp-IsAntisymmetric, Contains, flat_map, Contains-append_left, Contains-append_right, not-true, is_elementary, name_cmp, NameUse, contains_filter, contains_here, contains_later, contains_map, contains_nothing, origin_in_flat_map, origin_in_map, passes_in_filter, in_order-members, types_in, value_types, variable_types, DeclTree, InstanceTree, NetworkTree, StructureTree, TypeTree, VariablesTree, adapter_type, block_type, structure_type, Carries, directly, onward, bases_at, carried_of, Sources, mentions_of_tree, parts_at, parts_in, tree_at, values_at, values_in, NoFields, fields_in, fields_near, fields_of_tree, is_same, stands_for, instances_in, meanings_in_type, variables_in, variables_together, DeclaredInstance, DeclaredVariable, in_order_has, stands_for-first_ones, carried_is_all, Contains-has, has-Contains, filter}
+use Rattle.fb_laws.proofs.Common.{arith, ◌≡◌, ℕ, Bool, true, false, true≢false, cond, not, List, [], ◌∷◌, Option, Some, None, sym, ap, ◌∙◌, subst, nat_list_cmp_total, slice_cmp-IsAntisymmetric, nat_cmp-IsAntisymmetric, Contains, flat_map, Contains-append_left, Contains-append_right, not-true, is_elementary, name_cmp, NameUse, contains_filter, contains_here, contains_map, contains_nothing, origin_in_flat_map, origin_in_map, passes_in_filter, in_order-members, types_in, value_types, variable_types, DeclTree, InstanceTree, NetworkTree, StructureTree, TypeTree, VariablesTree, adapter_type, block_type, structure_type, Carries, directly, onward, bases_at, carried_of, Sources, mentions_of_tree, parts_at, parts_in, tree_at, values_at, values_in, NoFields, fields_in, fields_near, fields_of_tree, is_same, stands_for, instances_in, meanings_in_type, variables_in, variables_together, DeclaredInstance, DeclaredVariable, in_order_has, stands_for-first_ones, carried_is_all, Contains-has, has-Contains, filter, false_from_ne_true, place_from_lookup}
 use Rattle.fb_laws.proofs.FirstLemmas.{got_among}
-use Rattle.std.proofs.lemmas.Map.Entries.{place_from_lookup}
 use Rattle.fb_deploy.specs.Library.Seen.{has_name}
 
 -- what a name stands for is declared, under some name
@@ -57,8 +56,7 @@ module _ (sources : Sources) where
     carried_by u t base c = ((carried_is_all sources (bases_at sources unit)).1 t).1 (u, base, c)
 
     none_listed : (name : List ℕ) → is_elementary name ≡ true → has_name carried name ≡ false
-    none_listed name elementary =
-        (elim (has_name carried name) as (λ b. has_name carried name ≡ b → b ≡ false) [ true ↦ λ e. let some = ((carried_is_all sources (bases_at sources unit)).1 name).0 (Contains-has name carried e) in absurd (true≢false (sym elementary ∙ none_carried some.2)) | false ↦ λ e. refl ]) refl
+    none_listed name elementary = false_from_ne_true (has_name carried name) (λ e. true≢false (sym elementary ∙ none_carried (((carried_is_all sources (bases_at sources unit)).1 name).0 (Contains-has name carried e)).2))
 
     -- what may be named behind it, by its declaration
     pub known_fields : (name : List ℕ) → IsKnown name → fields_near sources unit name ≡ cond (is_elementary name) NoFields (fields_of_tree (tree_at sources name))

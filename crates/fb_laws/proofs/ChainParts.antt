@@ -1,9 +1,8 @@
 -- A chain of a clean network, by the connections that it passes.
-use Rattle.fb_laws.proofs.Common.{arith, ℕ, ◌≡◌, List, [], ◌∷◌, ◌++◌, map, Some, ◌⊎◌, inl, inr, refl, sym, ◌∙◌, subst, Sort, Input, PlainNetwork, View, Place, IsInner, IsConnected, Step, Within, IsBorderPlace, IsLeafPlace, Chain, One, More, side_at, IsCleanThroughout, Passed, passed_at, passed_by, StaysInside, nothing_before, border_before, IsAfter, nothing_after, border_after, CrossesOnce, LinksAreComposed, CrossesFrom, BordersAreComposed, filter, filter-append}
+use Rattle.fb_laws.proofs.Common.{arith, ℕ, ◌≡◌, List, [], ◌∷◌, ◌++◌, map, Some, ◌⊎◌, inl, inr, refl, sym, ◌∙◌, subst, Sort, Input, PlainNetwork, View, Place, IsInner, IsConnected, Step, Within, IsBorderPlace, IsLeafPlace, Chain, One, More, side_at, IsCleanThroughout, filter, filter-append}
 use Rattle.fb_types.specs.{Network.declared.network.End.{End}, Network.declared.network.End.TheVariants.{Own, Of}, Network.Network.{IsLink, place_of, Holds}}
-use Rattle.fb_types.proofs.Network.Chains.{no_step_from_nothing, no_step_to_nothing, moved, here, input_step, border_inside, no_chain_from_output, inner_at_border}
-use Rattle.fb_types.proofs.Network.LinkLemmas.{leaf_inside}
-use Rattle.fb_laws.specs.Chains.{own, inside, is_own, by_inner_link, IsBefore}
+use Rattle.fb_types.proofs.{Network.Chains.{no_step_from_nothing, no_step_to_nothing, moved, here, input_step, border_inside, no_chain_from_output, inner_at_border}, Network.LinkLemmas.{leaf_inside}}
+use Rattle.fb_laws.specs.Chains.{BordersAreComposed, CrossesOnce, IsAfter, IsBefore, LinksAreComposed, Passed, StaysInside, border_after, border_before, by_inner_link, inside, is_own, nothing_after, nothing_before, own, passed_at, passed_by}
 
 -- ---- a chain from an input inside an instance stays inside
 
@@ -88,19 +87,12 @@ parts clean (More b (Within inner name a' b' i e f s) border rest) = rw e (step_
 -- ---- the one connection of the network itself
 
 -- what is passed inside an instance is none of the network itself
-past : (name : List ℕ) (list rest : List Passed) → filter is_own (map (inside name) list ++ rest) ≡ filter is_own rest
-past name [] rest = refl
-past name (p ∷ list) rest = past name list rest
-
 none_own : (name : List ℕ) (list : List Passed) → filter is_own (map (inside name) list) ≡ []
 none_own name [] = refl
 none_own name (p ∷ list) = none_own name list
 
-once : {view : View} {sort : Sort} {network : PlainNetwork} {a b : Place} {before after : List Passed} (s d : End) → IsBefore view sort network a s before → IsAfter view sort network d b after → filter is_own (before ++ (own s d ∷ after)) ≡ own s d ∷ []
-once s d before after = grind (arith, filter-append, none_own)
-
 crossed : {view : View} {sort : Sort} {network : PlainNetwork} {a b : Place} {before after : List Passed} (s d : End) → IsConnected network sort s d → IsBefore view sort network a s before → IsAfter view sort network d b after → CrossesOnce view sort network a b (before ++ (own s d ∷ after))
-crossed {before = before} {after = after} s d k p q = record { source = s; destination = d; connected = k; once = once s d p q; before = before; after = after; whole = refl; is_before = p; is_after = q }
+crossed {before = before} {after = after} s d k p q = record { source = s; destination = d; connected = k; once = grind (arith, filter-append, none_own); before = before; after = after; whole = refl; is_before = p; is_after = q }
 
 -- ---- chains behind links and borders
 
@@ -141,5 +133,4 @@ outward port leaf (within i chain) = absurd (no_chain_to_nothing chain refl)
 outward port leaf (across source destination k before after) = crossed source destination k (from_edge port (inl leaf) before) (to_edge port (inr refl) after)
 
 pub borders_composed : {view : View} {network : PlainNetwork} → IsCleanThroughout view network → BordersAreComposed view network
-borders_composed {view = view} {network = network} clean sort port place border =
-    elim border.chain as (λ chain. CrossesFrom view sort network (port ∷ []) place chain) [ inl chain ↦ inward port border.leaf (parts clean chain) | inr chain ↦ outward port border.leaf (parts clean chain) ]
+borders_composed {view} {network} clean = grind (arith, inward, parts, outward)

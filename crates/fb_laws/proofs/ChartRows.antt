@@ -1,14 +1,11 @@
 -- Each code of charts, by what its list of faults has.
-use Rattle.fb_laws.proofs.Common.{arith, ◌≡◌, ◌≢◌, ℕ, Bool, true, false, List, [], ◌∷◌, Option, Some, None, map, refl, sym, ap, ◌∙◌, subst, true≢false, inl, inr, Contains, flat_map, slice_get, option_map_or, Contains-append_left, Contains-append_right, NameUse, Span, AlgorithmTree, ChartTree, DeclTree, StateTree, TransitionTree, TypeTree, block_type, Side, Input, Output, End, Role, Plug, Socket, Sources, tree_at, Code, AlgorithmUnknown, EventUnknown, StateUnknown, Fault, DeclaredInstance, fault_at, has_name, stands_for, Meanings, meanings_in_type, Scope, instance_ports, scope_of_type, usable, contains_flat_map, contains_here, contains_later, contains_map, contains_nothing, contains_single, in_unless, in_written, origin_in_flat_map, origin_in_map, unless, written, chart_faults, chart_faults_in, ecc_faults_of, none_named, not_named, IsAdapter, IsNotJudged, of_unusable, append-nil, ◌++◌}
-use Rattle.fb_laws.proofs.{ItemRows.{same_sides, side_itself}, UsableTypes.{known_type, no_type, own_type, told_type, type_missing}}
-use Rattle.fb_laws.proofs.Joined.{iff, of_either, in_joined}
-use Rattle.fb_tree.specs.declared.chart.Action.{Action}
+use Rattle.fb_laws.proofs.Common.{arith, ◌≡◌, ◌≢◌, ℕ, Bool, false, List, [], ◌∷◌, Option, Some, None, map, refl, sym, ap, ◌∙◌, subst, inl, inr, Contains, flat_map, slice_get, option_map_or, Contains-append_left, Contains-append_right, NameUse, Span, AlgorithmTree, ChartTree, StateTree, TransitionTree, TypeTree, Side, Input, Output, End, Role, Plug, Socket, Sources, tree_at, Code, AlgorithmUnknown, EventUnknown, StateUnknown, Fault, DeclaredInstance, fault_at, has_name, stands_for, Meanings, meanings_in_type, Scope, instance_ports, scope_of_type, usable, contains_flat_map, contains_here, contains_later, contains_map, contains_nothing, contains_single, in_unless, in_written, origin_in_flat_map, origin_in_map, unless, written, chart_faults, ecc_faults_of, none_named, not_named, IsAdapter, IsNotJudged, of_unusable, append-nil, IsBlockAt, Action}
+use Rattle.fb_laws.proofs.{ItemRows.{same_sides, side_itself}, UsableTypes.{known_type, no_type, own_type, told_type, type_missing}, Lists.{iff, of_either, in_joined}}
 use Rattle.fb_ecc.specs.{Algorithms.{algorithm_fault, algorithm_faults, algorithm_names, run_faults}, declared.events.EventTarget.{EventTarget}}
 use Rattle.fb_ecc.specs.declared.events.EventTarget.TheVariants.{Found, Unknown, NotChecked}
 use Rattle.fb_ecc.specs.Events.{end_event_faults, event_among, event_behind, event_faults, event_in, event_named, event_of_adapter, opposite, sent_faults, side_through, span_from, target_faults, trigger_faults, written_fault}
 use Rattle.fb_ecc.specs.States.{transition_faults, state_fault, state_faults, state_names}
 use Rattle.fb_laws.specs.Charts.{AlgorithmsAreDeclared, EventsAreKnown, HasUnknownAlgorithm, HasUnknownEvent, HasUnknownState, IsEventOf, IsNoEventOf, StandsForEvent, StatesAreListed, own_event, of_plug, of_socket}
-use Rattle.fb_laws.specs.Declared.{IsBlockAt}
 
 -- what is so where a unit has a fault of this code
 abbrev pub Has : Code → Sources → List ℕ → Span → Type 0
@@ -47,9 +44,6 @@ action_reported f chart s a fault listed written has = contains_flat_map (λ (s 
 
 stands_for_event : (side : Side) (ports : Meanings) (name : List ℕ) → event_among side ports name ≡ Found → StandsForEvent ports name side
 stands_for_event side ports name e = grind (arith, same_sides)
-
-event_stands : (side : Side) (ports : Meanings) (name : List ℕ) → StandsForEvent ports name side → event_among side ports name ≡ Found
-event_stands side ports name s = grind (arith, side_itself)
 
 -- ports that are known are judged
 judged_among : (side : Side) (ports : Meanings) (name : List ℕ) → event_among side ports name ≢ NotChecked
@@ -92,17 +86,11 @@ module _ (sources : Sources) (d : TypeTree) (side : Side) where
       by_role i is Socket r (Some ports) u h = absurd (judged_among (opposite side) ports X.name h)
       by_role i is role r ports u h = absurd (cc)
 
-  event_found : (name : NameUse) (port : Option NameUse) → event_named scope side name port ≡ Found → IsEvent name port
-  event_found name port e = grind (arith, own_event, stands_for_event, found_behind)
-
-  not_judged : (name : NameUse) (port : Option NameUse) → event_named scope side name port ≡ NotChecked → IsUnjudged name port
-  not_judged name port e = grind (arith, judged_among, not_judged_behind)
-
   unknown_event : (event : End) → event_named scope side event.name event.port ≡ Unknown → IsNoEventOf sources own side event
-  unknown_event event e = grind (arith, at_adapter, told_type, event_stands, type_missing)
+  unknown_event event e = grind (arith, at_adapter, told_type, side_itself, type_missing)
 
   no_event : (event : End) → IsNoEventOf sources own side event → event_named scope side event.name event.port ≡ Unknown
-  no_event event fails = grind (arith, event_found, not_judged)
+  no_event event fails = grind (arith, own_event, stands_for_event, found_behind, judged_among, not_judged_behind)
 
 abbrev event_fault_at : End → Fault
 event_fault_at e = record { code = EventUnknown; span = span_from e.name.span e.port }
@@ -113,13 +101,10 @@ record EventOrigin (sources : Sources) (d : TypeTree) (side : Side) (o : Option 
   unknown : IsNoEventOf sources (meanings_in_type d) side event
   is : event_fault_at event ≡ fault
 
-in_target : (target : EventTarget) (event : End) (fault : Fault) → Contains (target_faults target (span_from event.name.span event.port)) fault → (target ≡ Unknown) × (event_fault_at event ≡ fault)
-in_target target event fault c = grind (arith, contains_single, contains_nothing)
-
 event_origin : (sources : Sources) (d : TypeTree) (side : Side) (o : Option End) (fault : Fault) → Contains (written_fault (scope_of_type sources d) side o) fault → EventOrigin sources d side o fault
 event_origin sources d side o fault c =
     let w = in_written (end_event_faults (scope_of_type sources d) side) o fault c in
-    let fails = in_target (event_named (scope_of_type sources d) side w.item.name w.item.port) w.item fault w.has in
+    let fails : (event_named (scope_of_type sources d) side w.item.name w.item.port ≡ Unknown) × (event_fault_at w.item ≡ fault) = grind (arith, contains_single, contains_nothing) in
     record { event = w.item; is_written = w.is; unknown = unknown_event sources d side w.item fails.0; is = fails.1 }
 
 event_reported : (sources : Sources) (d : TypeTree) (side : Side) (o : Option End) (event : End) → o ≡ Some event → IsNoEventOf sources (meanings_in_type d) side event → Contains (written_fault (scope_of_type sources d) side o) (event_fault_at event)
@@ -140,12 +125,6 @@ module _ (sources : Sources) (unit : List ℕ) where
     abbrev listed : List ℕ → Bool
     listed = has_name (state_names d.chart)
 
-    abbrev of_triggers : List Fault
-    of_triggers = flat_map (trigger_faults block_scope) d.chart.transitions
-
-    abbrev of_actions : (Action → List Fault) → List Fault
-    of_actions faults = flat_map (λ s. flat_map faults s.actions) d.chart.states
-
     state_found : (t : TransitionTree) → Contains d.chart.transitions t → (state : NameUse) → Contains (t.source ∷ t.destination ∷ []) state → (f : Fault) → Contains (state_fault listed state) f → Finds f
     state_found t written state named f c =
         let fails = in_unless (listed state.name) (fault_at StateUnknown state) f c in
@@ -156,13 +135,13 @@ module _ (sources : Sources) (unit : List ℕ) where
         let t = origin_in_flat_map (transition_faults listed) d.chart.transitions f c in
         of_either {P = Finds} _ _ (state_found t.origin t.among t.origin.source (search contains_here)) (state_found t.origin t.among t.origin.destination (search (contains_here, contains_later))) f t.has
 
-    triggers_found : (f : Fault) → Contains of_triggers f → Finds f
+    triggers_found : (f : Fault) → Contains (flat_map (trigger_faults block_scope) d.chart.transitions) f → Finds f
     triggers_found f c =
         let t = origin_in_flat_map (trigger_faults block_scope) d.chart.transitions f c in
         let o = event_origin sources d Input (event_in t.origin.condition) f t.has in
         subst Finds o.is (inl search)
 
-    sent_found : (f : Fault) → Contains (of_actions (sent_faults block_scope)) f → Finds f
+    sent_found : (f : Fault) → Contains (flat_map (λ s. flat_map (sent_faults block_scope) s.actions) d.chart.states) f → Finds f
     sent_found f c =
         let a = action_origin (sent_faults block_scope) d.chart f c in
         let o = event_origin sources d Output a.action.event f a.has in
@@ -212,14 +191,8 @@ events_known sources unit span = (found sources unit _, from)
   where
     from : HasUnknownEvent sources unit span → Contains (ecc_faults_of sources unit) (record { code = EventUnknown; span = span })
     from (inl h) =
-        let scope = scope_of_type sources h.block in
         let one = event_reported sources h.block Input (event_in h.transition.condition) h.event h.trigger h.unknown in
-        let all = contains_flat_map (trigger_faults scope) h.block.chart.transitions h.transition (event_fault_at h.event) h.written one in
-        reported sources unit h.block h.declared 1 (event_faults scope h.block.chart) refl h.place
-        (Contains-append_left (flat_map (trigger_faults scope) h.block.chart.transitions) (flat_map (λ s. flat_map (sent_faults scope) s.actions) h.block.chart.states) (event_fault_at h.event) all)
+        reported sources unit h.block h.declared 1 (event_faults (scope_of_type sources h.block) h.block.chart) refl h.place (search (Contains-append_left, contains_flat_map))
     from (inr h) =
-        let scope = scope_of_type sources h.block in
         let one = event_reported sources h.block Output h.action.event h.event h.sent h.unknown in
-        let all = action_reported (sent_faults scope) h.block.chart h.state h.action (event_fault_at h.event) h.listed h.written one in
-        reported sources unit h.block h.declared 1 (event_faults scope h.block.chart) refl h.place
-        (Contains-append_right (flat_map (trigger_faults scope) h.block.chart.transitions) (flat_map (λ s. flat_map (sent_faults scope) s.actions) h.block.chart.states) (event_fault_at h.event) all)
+        reported sources unit h.block h.declared 1 (event_faults (scope_of_type sources h.block) h.block.chart) refl h.place (search (Contains-append_right, contains_flat_map))

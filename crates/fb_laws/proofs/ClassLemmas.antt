@@ -1,7 +1,6 @@
 -- The class of each expression, by the function of the check.
 use Rattle.fb_laws.proofs.Common.{arith, ◌≡◌, ◌≢◌, ℕ, Bool, true, false, List, Option, Some, unwrap_or, refl, sym, ap, ◌∙◌, ReferenceTree, Expression, literal_expression, reference_expression, unary_expression, row_expression, parentheses, Expressions, Operands, no_operands, operand_then, TypeTree, block_type, UnaryUse, TypeForm, TypeUse, Sources, tree_at, Class, O, Free, change, pair_class, unary_class, class_in, row_class, Names, names_of_type, class_of_element, class_of_referent, class_with, referent_of, Referent, Variable, Changes, HasClass, of_literal, of_variable, of_element, of_no_array, of_no_variable, of_operator, of_broken, of_row, of_parentheses, RowHasClass, NamesType}
-use Rattle.fb_laws.proofs.ReferentLemmas.{names_type, told_type_of}
-use Rattle.fb_laws.proofs.RuleLemmas.{Known, gives, fails, changes, missing, none_of, results, told_change, told_results}
+use Rattle.fb_laws.proofs.{ReferentLemmas.{names_type, told_type_of}, RuleLemmas.{Known, gives, fails, changes, missing, none_of, results, told_change, told_results}}
 use Rattle.fb_tree.specs.declared.interface.TypeForm.TheVariants.{Plain, Sized, Array}
 use Rattle.fb_laws.specs.Classes.{at_end, behind}
 

@@ -1,7 +1,7 @@
 -- Rules of classes that are broken, by what the list of faults has.
-use Rattle.fb_laws.proofs.Common.{arith, ◌≡◌, ℕ, Bool, true, false, List, [], ◌∷◌, Option, Some, refl, sym, ap, ◌∙◌, subst, true≢false, is_some, Contains, NameUse, Span, Expression, reference_expression, no_expressions, Statements, count, TypeTree, block_type, TypeUse, Sources, tree_at, class_of_type, stands_for, meanings_in_type, Class as ValueClass, Fault, DeclaredVariable, expr_faults_of, change, combined, join, Demand, suits_place, code_of_demand, is_met, alone_tree, class_in, Names, names_of_type, allows, ClassPlace, Condition, Count, Counter, Fits, HasClass, of_variable, of_element, of_no_array, of_no_variable, IsRunIn, StandsAt, BreaksRule, at_operator, between_operands, at_subscript, at_guard, at_counter, at_assignment, ClassesAreRight, ExpressionsHaveOneClass, HasBrokenRule, own, GoesOn, at_end, NamesType}
+use Rattle.fb_laws.proofs.Common.{arith, ◌≡◌, ℕ, Bool, true, false, List, [], ◌∷◌, Option, Some, refl, sym, ap, ◌∙◌, subst, true≢false, is_some, Contains, NameUse, Span, Expression, reference_expression, no_expressions, Statements, count, TypeTree, block_type, TypeUse, Sources, tree_at, class_of_type, stands_for, meanings_in_type, Class as ValueClass, Fault, DeclaredVariable, expr_faults_of, change, combined, join, Demand, suits_place, code_of_demand, is_met, alone_tree, class_in, Names, names_of_type, allows, ClassPlace, Condition, Count, Counter, Fits, HasClass, of_variable, of_element, of_no_array, of_no_variable, IsRunIn, StandsAt, BreaksRule, at_operator, between_operands, at_subscript, at_guard, at_counter, at_assignment, ClassesAreRight, ExpressionsHaveOneClass, HasBrokenRule, own, at_end, NamesType}
 use Rattle.fb_laws.proofs.{ClassLemmas.{class_of, told_class}, ExpressionPlaces.{stands, told_stands}}
-use Rattle.fb_laws.proofs.RuleLemmas.{changes, combines, joins, misfits, missing, none_of, told_change, told_combined, told_join, told_misfit}
+use Rattle.fb_laws.proofs.RuleLemmas.{changes, combines, joins, misfits, missing, none_of, told_change, told_combined, told_join}
 use Rattle.fb_laws.proofs.UnitDemands.{DemandOf, operator, pair, subscript, test, in_place, of_counter, of_assignment, Unmet, reported, unmet}
 use Rattle.fb_laws.specs.{Expressions.{in_statement}, Variables.{of_adapter}}
 use Rattle.fb_placing.proofs.TableLemmas.{nothing_there}
@@ -10,11 +10,8 @@ use Rattle.fb_expr.specs.Demands.{fault_of, place_of}
 
 -- a name alone has the type of the variable
 
-nothing_behind : (sources : Sources) (first used : TypeUse) (at_first subscripted : Bool) → GoesOn sources first at_first [] used subscripted → (first ≡ used) × (subscripted ≡ at_first)
-nothing_behind sources first used at_first subscripted at_end = (refl, refl)
-
 typed_alone : (sources : Sources) (d : TypeTree) (name : NameUse) (used : TypeUse) (subscripted : Bool) → NamesType sources d (alone_tree name) used subscripted → (v : DeclaredVariable) × (stands_for (meanings_in_type d).variables name.name ≡ Some v) × (v.type_use ≡ used) × (subscripted ≡ false)
-typed_alone sources d name used subscripted n = grind (arith, nothing_behind, of_adapter)
+typed_alone sources d name used subscripted n = grind (arith, of_adapter)
 
 alone_typed : (sources : Sources) (d : TypeTree) (name : NameUse) (v : DeclaredVariable) → stands_for (meanings_in_type d).variables name.name ≡ Some v → NamesType sources d (alone_tree name) v.type_use false
 alone_typed sources d name v stands = record { first = v.type_use; at_first = false; behind = []; begins = own v stands (λ i m behind at. let both : [] ≡ m ∷ behind = at.second in cc both); leads = at_end }
@@ -30,7 +27,7 @@ module _ (sources : Sources) (unit : List ℕ) (d : TypeTree) (declared : tree_a
   counted : (name : NameUse) (a b : Expression) (step : Option Expression) (body : Statements) (c : ValueClass) → IsRunIn d (count name a b step body) → HasClass sources d (reference_expression (alone_tree name) no_expressions) c → allows Counter c ≡ false → BreaksRule sources d name.span
   counted name a b step body c runs (of_variable used n) fails =
       let v = typed_alone sources d name used false n in
-      at_counter name a b step body v.0 runs v.1 (subst (λ (u : TypeUse). ¬ Fits Counter (class_of_type u)) (sym v.2) (misfits Counter c fails))
+      at_counter name a b step body v.0 runs v.1 (subst (λ (u : TypeUse). ¬ Fits Counter (class_of_type u)) (sym v.2) ((misfits Counter c).0 fails))
   counted name a b step body c runs (of_element used n array) fails = absurd (true≢false (typed_alone sources d name used true n).3)
   counted name a b step body c runs (of_no_array used n other) fails = absurd (true≢false (typed_alone sources d name used true n).3)
   counted name a b step body c runs (of_no_variable none) fails = absurd (true≢false fails)
@@ -40,9 +37,9 @@ module _ (sources : Sources) (unit : List ℕ) (d : TypeTree) (declared : tree_a
   broken (operator used x w) class fails = at_operator used x _ w (classed x) (none_of (told_change used.operator _) (nothing_there _ fails))
   broken (pair first row start used before x w begins is) class fails =
       between_operands first row start used before x _ w begins is (classed x) (none_of (told_combined used.operator before _) (nothing_there _ fails))
-  broken (subscript r subscripts x w one) class fails = at_subscript r subscripts x _ w one (classed x) (misfits Count _ fails) (stands x)
-  broken (test x tested) class fails = at_guard x _ tested (classed x) (misfits Condition _ fails) (stands x)
-  broken (in_place s place x runs asks) class fails = in_statement s place x _ runs asks (classed x) (misfits place _ fails) (stands x)
+  broken (subscript r subscripts x w one) class fails = at_subscript r subscripts x _ w one (classed x) ((misfits Count _).0 fails) (stands x)
+  broken (test x tested) class fails = at_guard x _ tested (classed x) ((misfits Condition _).0 fails) (stands x)
+  broken (in_place s place x runs asks) class fails = in_statement s place x _ runs asks (classed x) ((misfits place _).0 fails) (stands x)
   broken (of_counter name a b step body runs) class fails = counted name a b step body _ runs (classed (reference_expression (alone_tree name) no_expressions)) fails
   broken (of_assignment r subscripts place e runs) class fails =
       at_assignment r subscripts place e _ _ runs (classed (reference_expression r subscripts)) (classed e) (none_of (told_join _ _) (nothing_there _ fails))
@@ -60,7 +57,7 @@ module _ (sources : Sources) (unit : List ℕ) (d : TypeTree) (declared : tree_a
   told = told_class sources unit d declared
 
   at_place : (place : ClassPlace) (x : Expression) (c : ValueClass) (span : Span) → DemandOf sources d (suits_place place x) → HasClass sources d x c → ¬ Fits place c → StandsAt x span → Unmet sources unit (of_class span)
-  at_place place x c span demanded has misfit there = left_unmet span demanded (ap (allows place) (told x c has) ∙ told_misfit place c misfit) (ap of_class (sym (told_stands there)))
+  at_place place x c span demanded has misfit there = left_unmet span demanded (ap (allows place) (told x c has) ∙ (misfits place c).1 misfit) (ap of_class (sym (told_stands there)))
 
   unmet_by : (span : Span) → BreaksRule sources d span → Unmet sources unit (of_class span)
   unmet_by span (at_operator used x c w has none) = left_unmet _ (operator used x w) (ap (λ k. is_some (change used.operator k)) (told x c has) ∙ ap is_some (missing (changes used.operator c) none)) refl
@@ -71,7 +68,7 @@ module _ (sources : Sources) (unit : List ℕ) (d : TypeTree) (declared : tree_a
   unmet_by span (in_statement s place x c runs asks has misfit there) = at_place place x c span (in_place s place x runs asks) has misfit there
   unmet_by span (at_counter name a b step body v runs stands_there misfit) =
       left_unmet _ (of_counter name a b step body runs)
-      (ap (allows Counter) (told (reference_expression (alone_tree name) no_expressions) _ (of_variable v.type_use (alone_typed sources d name v stands_there))) ∙ told_misfit Counter _ misfit) refl
+      (ap (allows Counter) (told (reference_expression (alone_tree name) no_expressions) _ (of_variable v.type_use (alone_typed sources d name v stands_there))) ∙ (misfits Counter _).1 misfit) refl
   unmet_by span (at_assignment r subscripts place e a b runs left right none) =
       left_unmet _ (of_assignment r subscripts place e runs)
       ((λ i. is_some (join (told (reference_expression r subscripts) a left i) (told e b right i))) ∙ ap is_some (missing (joins a b) none)) refl

@@ -1,9 +1,56 @@
 -- The commands of each resource, in words of their own.
-use Rattle.fb_laws.proofs.Common.{arith, ℕ, ◌≡◌, ◌≢◌, Bool, true, false, not, ◌||◌, cond, List, [], ◌∷◌, ◌++◌, Option, Some, None, refl, sym, ◌∙◌, ap, subst, map, take, append_assoc, ◌==◌, true≢false, filter, filter-append, codes, filter_map, flat_map, bytes_eq, IsStrictlySortedBy-filter, eqb-false, not-true, or_cases, contains_filter, contains_flat_map, contains_map, contains_nothing, origin_in_flat_map, origin_in_map, passes_in_filter, DeclTree, Sources, text_or_empty, tree_at, link_cmp, Link, home_at, block_home, PlainFlat, PlainResolved, path_names, resolved_at, applications_in, devices_in, Home, create_command, create_commands, create_text, home_commands, commands_at, write_command, write_commands, link_resource, system_commands, start_text, dotted, PlainResource, commands_for, resource_plan, resource_plans, resources_of, PlacedCommand, ResourceCommand, IsPlanned, AllBegin, BeginsWith, IsInOrder, IsWithin, MakesBlock, MakesItsBlocks, MakesItsLinks, NoneBegins, ResourcesHaveTheirCommands, SetsItsParameters, SetsParameter, StandsOnce, Contains}
-use Rattle.fb_laws.proofs.{FirstLemmas.{at_contained}, HomeLemmas.{bytes_same, end_home, home_end, home_listed, mapped, nearest_of, of_home, of_nearest, same_bytes}, Joined.{by_option, given, gives_member, of_either}}
-use Rattle.fb_laws.proofs.{PlannedLemmas.{Known, homes_in, known, links_sorted, names_in}, SplitLemmas.{no_members, split_at}}
-use Rattle.fb_laws.proofs.CommandLemmas.{commands_append, for_each, for_links, is_of, is_resource, line_on, lines_on, lines_sorted, link_command, link_on, links_on, of_is, on_line, on_link}
+use Rattle.fb_laws.proofs.Common.{arith, ℕ, ◌≡◌, Bool, true, false, cond, List, [], ◌∷◌, ◌++◌, Option, Some, None, refl, sym, ◌∙◌, ap, map, filter, option_map, cons_option, bytes_eq, map-append, filter-append, IsStrictlySortedBy, IsStrictlySortedBy-filter, in_order-members, in_order-sorted, contains_filter, passes_in_filter, Link, same_home, nearest, connection_commands, connection_text, link_resource, command_cmp, command_cmp_total, commands_for, PlacedCommand, ResourceCommand, Contains, in_order, ◌≢◌, not, ◌||◌, subst, append_assoc, ◌==◌, true≢false, codes, filter_map, flat_map, eqb-false, not-true, or_cases, contains_flat_map, contains_map, contains_nothing, origin_in_flat_map, origin_in_map, DeclTree, Sources, text_or_empty, tree_at, link_cmp, home_at, block_home, PlainFlat, PlainResolved, path_names, resolved_at, applications_in, devices_in, Home, create_command, create_commands, create_text, home_commands, commands_at, write_command, write_commands, system_commands, start_text, dotted, PlainResource, resource_plan, resource_plans, resources_of, IsPlanned, AllBegin, BeginsWith, IsInOrder, IsWithin, MakesBlock, MakesItsBlocks, MakesItsLinks, NoneBegins, ResourcesHaveTheirCommands, SetsItsParameters, SetsParameter, StandsOnce, IsHome, ◌↔◌, bytes_decides}
+use Rattle.fb_laws.proofs.Lists.{iff}
+use Rattle.fb_laws.proofs.{HomeLemmas.{bytes_same, same_bytes, end_home, home_end, home_listed, mapped, nearest_of, of_home, of_nearest}, FirstLemmas.{at_contained}}
+use Rattle.fb_laws.proofs.{Lists.{by_option, given, gives_member, of_either, no_members, split_at}, PlannedLemmas.{Known, homes_in, known, links_sorted, names_in}}
+use Rattle.fb_placing.proofs.PlacedLemmas.{command_cmp-IsAntisymmetric}
 use Rattle.fb_placing.specs.ConstantTexts.{written}
+
+-- ---- the parts of the commands for a resource
+
+abbrev pub lines_on : List ℕ → List PlacedCommand → List PlacedCommand
+lines_on r lines = filter (λ (l : PlacedCommand). bytes_eq r l.resource) lines
+
+pub for_each : {X : Type 0} (order : X → ResourceCommand) (items : List X) (r : List ℕ) → commands_for (map order items) r ≡ map (λ (x : X). (order x).command) (filter (λ (x : X). bytes_eq r (order x).resource) items)
+for_each order [] r = refl
+for_each {X = X} order (x ∷ xs) r = grind (arith, bytes_eq, for_each order xs r)
+
+abbrev pub is_resource : List ℕ → Option (List ℕ) → Bool
+is_resource r None = false
+is_resource r (Some q) = bytes_eq r q
+
+is_of : (r : List ℕ) (o : Option (List ℕ)) → is_resource r o ≡ true ↔ (o ≡ Some r)
+is_of r o = iff (λ e. grind (arith, bytes_decides)) (λ e. ap (is_resource r) e ∙ bytes_same r r refl)
+
+abbrev pub link_command : Link → List ℕ
+link_command l = connection_text l.from l.to
+
+abbrev pub links_on : (List ℕ → Option (List ℕ)) → List ℕ → List Link → List Link
+links_on homes r links = filter (λ (l : Link). is_resource r (link_resource homes l)) links
+
+pub for_links : (homes : List ℕ → Option (List ℕ)) (links : List Link) (r : List ℕ) → commands_for (connection_commands homes links) r ≡ map link_command (links_on homes r links)
+for_links homes [] r = refl
+for_links homes (l ∷ ls) r = grind (arith, bytes_eq, cons_option, option_map, for_links homes ls r)
+
+-- ---- the resource of a link
+
+link_on : (homes : List ℕ → Option (List ℕ)) (l : Link) (r : List ℕ) → link_resource homes l ≡ Some r ↔ ((nearest homes l.from ≡ Some r) × (nearest homes l.to ≡ Some r))
+link_on homes l r = iff (λ e. grind (arith, bytes_decides)) (λ h. (λ i. cond (same_home (h.0 i) (h.1 i)) (h.0 i) None) ∙ ap (λ (t : Bool). cond t (Some r) None) (bytes_same r r refl))
+
+-- ---- lines in order that are for a resource
+
+module _ (r : List ℕ) (lines : List PlacedCommand) where
+  pub line_on : (line : PlacedCommand) → Contains (lines_on r (in_order command_cmp lines)) line → Contains lines line × (line.resource ≡ r)
+  line_on line c =
+      let kept = passes_in_filter (λ (l : PlacedCommand). bytes_eq r l.resource) (in_order command_cmp lines) line c in
+      ((in_order-members command_cmp command_cmp_total command_cmp-IsAntisymmetric lines line).0 kept.among, sym (same_bytes r line.resource kept.passes))
+
+  pub on_line : (line : PlacedCommand) → Contains lines line → line.resource ≡ r → Contains (lines_on r (in_order command_cmp lines)) line
+  on_line line c on =
+      contains_filter (λ (l : PlacedCommand). bytes_eq r l.resource) (in_order command_cmp lines) line ((in_order-members command_cmp command_cmp_total command_cmp-IsAntisymmetric lines line).1 c) (bytes_same r line.resource (sym on))
+
+  pub lines_sorted : IsStrictlySortedBy command_cmp (lines_on r (in_order command_cmp lines))
+  lines_sorted = IsStrictlySortedBy-filter command_cmp (λ (l : PlacedCommand). bytes_eq r l.resource) (in_order command_cmp lines) (in_order-sorted command_cmp command_cmp_total lines)
 
 -- ---- what commands begin with
 
@@ -33,9 +80,7 @@ none_kept r names absent =
 once_kept : (r : List ℕ) (names : List (List ℕ)) → Contains names r → StandsOnce names r → filter (λ (n : List ℕ). bytes_eq r n) names ≡ r ∷ []
 once_kept r names c once =
     let o = split_at names c.0 r (at_contained names r c) in
-    let none = once (take c.0 names) o.0 o.1 in
-    ap (filter (λ (n : List ℕ). bytes_eq r n)) o.1 ∙ filter-append (λ (n : List ℕ). bytes_eq r n) (take c.0 names) (r ∷ o.0)
-    ∙ (λ i. none_kept r (take c.0 names) none.0 i ++ cond (bytes_same r r refl i) (r ∷ none_kept r o.0 none.1 i) (filter (λ (n : List ℕ). bytes_eq r n) o.0))
+    grind (arith, bytes_eq, filter-append, none_kept, bytes_same)
 
 abbrev texts : List PlacedCommand → List (List ℕ)
 texts lines = map (λ (l : PlacedCommand). l.command) lines
@@ -75,7 +120,7 @@ module _ (sources : Sources) (system : List ℕ) (flat : PlainFlat) (cuts : List
     entry = record { name = r; commands = commands_for commands r }
 
     parts : entry.commands ≡ texts makes ++ texts writes ++ map link_command joins ++ starts
-    parts = grind (arith, commands_append, for_each, for_links)
+    parts = grind (arith, filter-append, bytes_eq, map-append, for_each, for_links)
 
     -- blocks
 
@@ -85,17 +130,7 @@ module _ (sources : Sources) (system : List ℕ) (flat : PlainFlat) (cuts : List
         let o = given (create_command homes) flat.blocks line on.0 in
         let own = it.homes o.origin o.among in
         let there = home_listed (mapped sources system) flat.blocks o.origin own.on_resource o.among own.home in
-        let made : PlacedCommand = record { place = o.origin.path; command = create_text o.origin.path o.origin.type_name; resource = own.on_resource } in
-        let is : made ≡ line = (let gives = o.gives in cc) in
-        let same : own.on_resource ≡ r = ap (λ (l : PlacedCommand). l.resource) is ∙ on.1 in
-        record {
-          block = o.origin;
-          listed = o.among;
-          home = of_nearest (mapped sources system) o.origin.path r (own.home ∙ ap (λ (w : List ℕ). Some w) same);
-          place = sym (ap (λ (l : PlacedCommand). l.place) is);
-          command = sym (ap (λ (l : PlacedCommand). l.command) is);
-          on_home = on.1;
-        }
+        grind (arith, of_nearest)
 
     make_from : (line : PlacedCommand) → MakesBlock sources system flat r line → Contains makes line
     make_from line m =
@@ -118,18 +153,11 @@ module _ (sources : Sources) (system : List ℕ) (flat : PlainFlat) (cuts : List
         by_option (resolved_at sources system (applications_in (tree_at sources system)) (path_names w.origin.path)) (λ none. absurd (contains_nothing line (at None none))) (λ s e.
         let o = origin_in_map (write_command (text_or_empty sources s.unit) w.origin) s.instance.parameters line (at (Some s) e) in
         let same : w.origin.resource ≡ r = ap (λ (l : PlacedCommand). l.resource) o.gives ∙ on.1 in
-        record {
-          block = record { path = w.origin.path; type_name = b.block.type_name };
-          listed = subst (λ (q : List ℕ). Contains flat.blocks (record { path = q; type_name = b.block.type_name })) b.placed b.listed;
-          home = of_nearest (mapped sources system) w.origin.path r (b.home ∙ ap (λ (w : List ℕ). Some w) same);
-          standing = s;
-          stands = e;
-          parameter = o.origin;
-          given = o.among;
-          place = sym (ap (λ (l : PlacedCommand). l.place) o.gives);
-          command = sym (ap (λ (l : PlacedCommand). l.command) o.gives);
-          on_home = on.1;
-        })
+        let listed = subst (λ (q : List ℕ). Contains flat.blocks (record { path = q; type_name = b.block.type_name })) b.placed b.listed in
+        let home : IsHome sources system w.origin.path r = of_nearest (mapped sources system) w.origin.path r (b.home ∙ ap (λ (w : List ℕ). Some w) same) in
+        let place = sym (ap (λ (l : PlacedCommand). l.place) o.gives) in
+        let command = sym (ap (λ (l : PlacedCommand). l.command) o.gives) in
+        search)
 
     set_from : (line : PlacedCommand) → SetsParameter sources system flat r line → Contains writes line
     set_from line m =
@@ -152,13 +180,13 @@ module _ (sources : Sources) (system : List ℕ) (flat : PlainFlat) (cuts : List
     join_to : (link : Link) → Contains joins link → IsWithin sources system flat r link
     join_to link c =
         let kept = passes_in_filter (λ (l : Link). is_resource r (link_resource homes l)) flat.links link c in
-        let on = link_on homes link r (is_of r (link_resource homes link) kept.passes) in
+        let on = (link_on homes link r).0 ((is_of r (link_resource homes link)).0 kept.passes) in
         record { listed = kept.among; from = end_home sources system flat.blocks it.homes link.from r on.0; to = end_home sources system flat.blocks it.homes link.to r on.1 }
 
     join_from : (link : Link) → IsWithin sources system flat r link → Contains joins link
     join_from link w =
-        let on = on_link homes link r (home_end sources system flat.blocks it.homes link.from r w.from) (home_end sources system flat.blocks it.homes link.to r w.to) in
-        contains_filter (λ (l : Link). is_resource r (link_resource homes l)) flat.links link w.listed (of_is r (link_resource homes link) on)
+        let on = (link_on homes link r).1 (home_end sources system flat.blocks it.homes link.from r w.from, home_end sources system flat.blocks it.homes link.to r w.to) in
+        contains_filter (λ (l : Link). is_resource r (link_resource homes l)) flat.links link w.listed ((is_of r (link_resource homes link)).1 on)
 
     all_joined : AllBegin (codes "CREATE CONNECTION ") (map link_command joins)
     all_joined = begin_all (codes "CREATE CONNECTION ") link_command joins (λ l c. (l.from ++ 32 ∷ l.to, refl))
@@ -177,47 +205,6 @@ module _ (sources : Sources) (system : List ℕ) (flat : PlainFlat) (cuts : List
     started : Contains (names_in sources system) r → Contains starts (start_text r)
     started c = contains_map start_text (filter (λ (n : List ℕ). bytes_eq r n) (names_in sources system)) r (contains_filter (λ (n : List ℕ). bytes_eq r n) (names_in sources system) r c (bytes_same r r refl))
 
-    -- all of them
-
-    made_at : MakesItsBlocks sources system flat entry
-    made_at = record {
-      lines = makes;
-      others = texts writes ++ map link_command joins ++ starts;
-      commands = parts ∙ simp append_assoc;
-      members = λ line. (make_to line, make_from line);
-      in_order = lines_sorted r (filter_map (create_command homes) flat.blocks);
-      no_others =
-          of_either (texts writes ++ map link_command joins) starts
-          (of_either (texts writes) (map link_command joins) (none_of (codes "CREATE FB ") (codes "WRITE ") (texts writes) refl all_set) (none_of (codes "CREATE FB ") (codes "CREATE CONNECTION ") (map link_command joins) refl all_joined))
-          (none_of (codes "CREATE FB ") (codes "START ") starts refl all_started);
-    }
-
-    set_at : SetsItsParameters sources system flat entry
-    set_at = record {
-      before = texts makes;
-      lines = writes;
-      behind = map link_command joins ++ starts;
-      commands = parts ∙ simp append_assoc;
-      members = λ line. (set_to line, set_from line);
-      in_order = lines_sorted r (flat_map at_home (homes_in sources system flat));
-      none_before = none_of (codes "WRITE ") (codes "CREATE FB ") (texts makes) refl all_made;
-      none_behind =
-          of_either (map link_command joins) starts (none_of (codes "WRITE ") (codes "CREATE CONNECTION ") (map link_command joins) refl all_joined) (none_of (codes "WRITE ") (codes "START ") starts refl all_started);
-    }
-
-    joined_at : MakesItsLinks sources system flat entry
-    joined_at = record {
-      before = texts makes ++ texts writes;
-      links = joins;
-      behind = starts;
-      commands = parts;
-      members = λ link. (join_to link, join_from link);
-      in_order = IsStrictlySortedBy-filter link_cmp (λ (l : Link). is_resource r (link_resource homes l)) flat.links (links_sorted sources system flat p.is_flat);
-      none_before =
-          of_either (texts makes) (texts writes) (none_of (codes "CREATE CONNECTION ") (codes "CREATE FB ") (texts makes) refl all_made) (none_of (codes "CREATE CONNECTION ") (codes "WRITE ") (texts writes) refl all_set);
-      none_behind = none_of (codes "CREATE CONNECTION ") (codes "START ") starts refl all_started;
-    }
-
   -- names and order
 
   plan_names : (names : List (List ℕ)) → map (λ (e : PlainResource). e.name) (resource_plans commands names) ≡ names
@@ -228,19 +215,9 @@ module _ (sources : Sources) (system : List ℕ) (flat : PlainFlat) (cuts : List
   names_are = ap (map (λ (e : PlainResource). e.name)) it.resources_are ∙ plan_names (names_in sources system)
 
   ordered_at : (r : List ℕ) → Contains (names_in sources system) r → IsInOrder (map (λ (e : PlainResource). e.name) resources) (entry r)
-  ordered_at r c = record {
-    blocks = texts (makes r);
-    parameters = texts (writes r);
-    links = map link_command (joins r);
-    starts = starts r;
-    commands = parts r;
-    make_blocks = all_made r;
-    set_parameters = all_set r;
-    make_links = all_joined r;
-    is_started = started r c;
-    start_it = start_is r;
-    one_start = λ once. ap (map start_text) (once_kept r (names_in sources system) c (subst (λ (l : List (List ℕ)). StandsOnce l r) names_are once));
-  }
+  ordered_at r c =
+      let one_start = λ (once : StandsOnce (map (λ (e : PlainResource). e.name) resources) r). ap (map start_text) (once_kept r (names_in sources system) c (subst (λ (l : List (List ℕ)). StandsOnce l r) names_are once)) in
+      search (parts r, all_made r, all_set r, all_joined r, started r c, start_is r)
 
   -- what is so of the commands of each resource is so of each entry
   of_entry : (P : PlainResource → Type 0) → ((r : List ℕ) → Contains (names_in sources system) r → P (entry r)) → (e : PlainResource) → Contains resources e → P e
@@ -249,13 +226,43 @@ module _ (sources : Sources) (system : List ℕ) (flat : PlainFlat) (cuts : List
       subst P o.gives (each o.origin o.among)
 
   pub blocks_made : (e : PlainResource) → Contains resources e → MakesItsBlocks sources system flat e
-  blocks_made = of_entry (MakesItsBlocks sources system flat) (λ r c. made_at r)
+  blocks_made = of_entry (MakesItsBlocks sources system flat) (λ r c. record {
+    lines = makes r;
+    others = texts (writes r) ++ map link_command (joins r) ++ starts r;
+    commands = parts r ∙ simp append_assoc;
+    members = λ line. (make_to r line, make_from r line);
+    in_order = lines_sorted r (filter_map (create_command homes) flat.blocks);
+    no_others =
+        of_either (texts (writes r) ++ map link_command (joins r)) (starts r)
+        (of_either (texts (writes r)) (map link_command (joins r)) (none_of (codes "CREATE FB ") (codes "WRITE ") (texts (writes r)) refl (all_set r)) (none_of (codes "CREATE FB ") (codes "CREATE CONNECTION ") (map link_command (joins r)) refl (all_joined r)))
+        (none_of (codes "CREATE FB ") (codes "START ") (starts r) refl (all_started r));
+  })
 
   pub parameters_set : (e : PlainResource) → Contains resources e → SetsItsParameters sources system flat e
-  parameters_set = of_entry (SetsItsParameters sources system flat) (λ r c. set_at r)
+  parameters_set = of_entry (SetsItsParameters sources system flat) (λ r c. record {
+    before = texts (makes r);
+    lines = writes r;
+    behind = map link_command (joins r) ++ starts r;
+    commands = parts r ∙ simp append_assoc;
+    members = λ line. (set_to r line, set_from r line);
+    in_order = lines_sorted r (flat_map at_home (homes_in sources system flat));
+    none_before = none_of (codes "WRITE ") (codes "CREATE FB ") (texts (makes r)) refl (all_made r);
+    none_behind =
+        of_either (map link_command (joins r)) (starts r) (none_of (codes "WRITE ") (codes "CREATE CONNECTION ") (map link_command (joins r)) refl (all_joined r)) (none_of (codes "WRITE ") (codes "START ") (starts r) refl (all_started r));
+  })
 
   pub links_made : (e : PlainResource) → Contains resources e → MakesItsLinks sources system flat e
-  links_made = of_entry (MakesItsLinks sources system flat) (λ r c. joined_at r)
+  links_made = of_entry (MakesItsLinks sources system flat) (λ r c. record {
+    before = texts (makes r) ++ texts (writes r);
+    links = joins r;
+    behind = starts r;
+    commands = parts r;
+    members = λ link. (join_to r link, join_from r link);
+    in_order = IsStrictlySortedBy-filter link_cmp (λ (l : Link). is_resource r (link_resource homes l)) flat.links (links_sorted sources system flat p.is_flat);
+    none_before =
+        of_either (texts (makes r)) (texts (writes r)) (none_of (codes "CREATE CONNECTION ") (codes "CREATE FB ") (texts (makes r)) refl (all_made r)) (none_of (codes "CREATE CONNECTION ") (codes "WRITE ") (texts (writes r)) refl (all_set r));
+    none_behind = none_of (codes "CREATE CONNECTION ") (codes "START ") (starts r) refl (all_started r);
+  })
 
   pub in_order_of : (e : PlainResource) → Contains resources e → IsInOrder (map (λ (e : PlainResource). e.name) resources) e
   in_order_of = of_entry (IsInOrder (map (λ (e : PlainResource). e.name) resources)) ordered_at

@@ -1,12 +1,11 @@
 -- Connections of ports of different types and through a subapplication, and ends that name no port or one of the wrong side, by what the list of faults has.
-use Rattle.fb_laws.proofs.Common.{arith, ◌≡◌, ℕ, Bool, true, false, not, ◌&&◌, ◌||◌, List, ◌++◌, refl, sym, ap, ◌∙◌, subst, true≢false, bytes_decides, same_text, Contains, Contains-append_right, false_from_ne_true, and_from, and_parts, or_from, or_parts, not_true, Span, NetworkTree, TypeForm, TypeUse, UnitKind, Connection, Sources, class_of_type, is_free, first_ones, is_same, instances_in, DataType, PassThrough, Fault, contains_nothing, same_exact, same_itself, Own, Source, Destination, Target, connection_faults, is_right, target, NetworkPlace, connection_span, fault_of, is_own_port, pass_through_faults, flows_agree, joined_types, same_at_ends, targets_agree, NamesRight, Site, DifferInType, IsSameType, of_names, of_sizes, of_arrays, data_types, adapter_types, Contains-append_left, End, same_side, Code, PortSide, PortUnknown, contains_single, in_unless, Position, right_side, net_faults_of, end_faults, IsEndOf, place_of, source, destination}
-use Rattle.fb_laws.proofs.{RuleLemmas.{judged, not_free}, Joined.{in_where, where_passes}}
-use Rattle.fb_laws.proofs.NetworkEnds.{IsTarget, end_target, is_found, is_not_judged, is_target, is_unknown, known_end, known_own, told_end, told_home, told_own, told_right, unknown_judged, unknown_names}
+use Rattle.fb_laws.proofs.Common.{arith, ◌≡◌, ℕ, Bool, true, false, not, ◌&&◌, ◌||◌, List, ◌++◌, refl, sym, ap, ◌∙◌, subst, true≢false, bytes_decides, same_text, Contains, Contains-append_right, false_from_ne_true, and_from, and_parts, or_from, or_parts, not_true, Span, NetworkTree, TypeForm, TypeUse, UnitKind, Connection, Sources, class_of_type, is_free, first_ones, is_same, instances_in, DataType, PassThrough, Fault, contains_nothing, same_exact, same_itself, Own, Source, Destination, Target, connection_faults, is_right, target, NetworkPlace, connection_span, fault_of, is_own_port, pass_through_faults, flows_agree, joined_types, same_at_ends, targets_agree, NamesRight, Site, DifferInType, IsSameType, of_names, of_sizes, of_arrays, data_types, adapter_types, Contains-append_left, End, same_side, Code, PortSide, PortUnknown, contains_single, in_unless, Position, right_side, net_faults_of, end_faults, IsEndOf, place_of, source, destination, ConnectionOf, EndOf}
+use Rattle.fb_laws.proofs.{RuleLemmas.{judged, not_free}, Lists.{in_where, where_passes}}
+use Rattle.fb_laws.proofs.NetworkEnds.{IsTarget, end_target, is_found, is_not_judged, is_target, is_unknown, known_end, known_own, told_end, told_home, told_own, told_right, unknown_names}
 use Rattle.fb_laws.proofs.NetworkLemmas.{Finds, at_both, at_destination, at_source, connection_reported, end_place, own_instances, place_at}
 use Rattle.fb_tree.specs.declared.interface.TypeForm.TheVariants as forms
 use Rattle.fb_tree.specs.declared.kinds.UnitKind.TheVariants as kinds
 use Rattle.fb_netcheck.specs.{declared.ends.Flow.{Flow}, Spellings.{same_by_form, same_type, same_words, words_at}}
-use Rattle.fb_laws.specs.Networks.{ConnectionOf, EndOf}
 
 -- types
 
@@ -23,11 +22,8 @@ module _ (sources : Sources) (unit other : List ℕ) where
       by forms.Array forms.Array p q e = of_arrays p q (same_text (words_at sources unit a.span) (words_at sources other b.span) (sym e))
       by f g p q e = absurd (true≢false (sym e))
 
-  told_same : (a b : TypeUse) → IsSameType sources unit a other b → same a b ≡ true
-  told_same a b alike = grind (arith, of_names, same_itself, of_sizes, bytes_decides, of_arrays)
-
   known_differ : (f g : Flow) → flows_agree same f g ≡ false → DifferInType sources unit other f g
-  known_differ f g e = grind (arith, data_types, adapter_types, or_parts, not_free, told_same, same_itself)
+  known_differ f g e = grind (arith, data_types, adapter_types, or_parts, not_free, of_names, same_itself, of_sizes, bytes_decides, of_arrays)
 
   told_differ : (f g : Flow) → DifferInType sources unit other f g → flows_agree same f g ≡ false
   told_differ f g (data_types {a = a} {b = b} first second apart) =
@@ -107,9 +103,7 @@ module _ (sources : Sources) (unit : List ℕ) (o : ConnectionOf sources unit) w
   pub pass_reported : (from : NamesRight sources o.here o.connection.sort Source o.connection.source) (to : NamesRight sources o.here o.connection.sort Destination o.connection.destination) → o.here.kind ≡ kinds.Subapplication → from.holder ≡ Own → to.holder ≡ Own → Contains (connection_faults at o.connection) (fault_through o.connection)
   pass_reported from to kind from_own to_own =
       let both = and_from own_source own_destination (told_own sources o.here o.network own o.connection.sort Source o.connection.source from from_own) (told_own sources o.here o.network own o.connection.sort Destination o.connection.destination to to_own) in
-      let one : Contains (pass_through_faults kinds.Subapplication o.connection named_source named_destination) (fault_through o.connection) = where_passes (own_source && own_destination) (fault_through o.connection) both in
-      Contains-append_right (at_source at o.connection ++ at_destination at o.connection) (at_both at o.connection) (fault_through o.connection)
-      (subst (λ (k : UnitKind). Contains (pass_through_faults k o.connection named_source named_destination) (fault_through o.connection)) (sym kind) one)
+      grind (arith, where_passes)
 
 -- ends that name no port, or one of the wrong side
 
@@ -123,8 +117,7 @@ module _ (sources : Sources) (unit : List ℕ) (o : EndOf sources unit) where
       by : (t : Target) → named ≡ t → IsTarget sources o.here o.connection.sort o.end.name o.end.port t → Contains (end_faults o.position o.end t) f → Finds sources unit f
       by t e is_unknown h =
           let unknown = unknown_names sources o.here o.network (own sources unit o.joined) o.connection.sort o.end.name o.end.port e in
-          let judged = unknown_judged sources o.here o.network (own sources unit o.joined) o.connection.sort o.end.name o.end.port e in
-          subst (Finds sources unit) (contains_single (fault_of PortUnknown o.end) f h) (record { of = o; unknown = unknown; judged = judged; place = end_place o.end })
+          subst (Finds sources unit) (contains_single (fault_of PortUnknown o.end) f h) (record { of = o; unknown = unknown.0; judged = unknown.1; place = end_place o.end })
       by t e (is_not_judged q) h = absurd (contains_nothing f h)
       by t e (is_found {holder = holder} {p = port} home names) h =
           let fails = in_unless (same_side port.side (right_side o.position holder)) (fault_of PortSide o.end) f h in

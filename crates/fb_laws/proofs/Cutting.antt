@@ -1,9 +1,8 @@
 -- The tokens of a part of a text that begins and ends where tokens do.
-use Rattle.fb_laws.proofs.Common.{◌≡◌, ◌≢◌, ℕ, ◌+◌, ◌-◌, ◌<◌, ◌≤◌, List, [], ◌∷◌, ◌++◌, length, take, drop, map, refl, sym, ap, ◌∙◌, subst, arith, append_assoc, length-append, length-drop, length-take-le, take-append-drop, None, Result, Ok, Err, slice_range, drop-append-add, continuation_len, drop-append-le, drop-drop, nil_from_length, take-append-le, first, is_word_start, form_of, is_number, is_typed, is_string, is_symbol, is_word, IsLongest, char_len, tokens_of, with_token, Span, Token, TokenKind, Other, codes}
-use Rattle.fb_text.specs.Reads.{AtBlank, AtComment, AtEnd, AtLineComment, AtOpenComment, AtOther, AtToken, BeginsToken, EndsLine, HasNoForm, IsFirstClose, Reads, token_of}
+use Rattle.fb_laws.proofs.Common.{◌≡◌, ℕ, ◌+◌, ◌-◌, ◌<◌, ◌≤◌, List, [], ◌∷◌, ◌++◌, length, take, drop, map, refl, sym, ap, ◌∙◌, subst, arith, append_assoc, length-append, length-drop, length-take-le, take-append-drop, None, Result, Ok, slice_range, drop-append-add, continuation_len, drop-append-le, drop-drop, nil_from_length, take-append-le, first, is_word_start, form_of, is_number, is_typed, is_string, is_symbol, is_word, IsLongest, char_len, tokens_of, with_token, Span, Token, TokenKind, Other, codes, drop_at, take_at}
+use Rattle.fb_text.specs.Reads.{AtBlank, AtComment, AtEnd, AtLineComment, AtOpenComment, AtOther, AtToken, BeginsToken, HasNoForm, IsFirstClose, Reads, token_of}
 use Rattle.fb_text.proofs.Relation.{reads-one, reads-tokens}
-use Rattle.fb_laws.proofs.SplitLemmas.{nothing_split}
-use Rattle.std.proofs.lemmas.List.{drop_at, take_at}
+use Rattle.fb_laws.proofs.Lists.{nothing_split}
 
 -- Tokens one behind the other
 
@@ -30,8 +29,7 @@ rising_from from later (t ∷ ts) h r = (omega (arith, h, r.0), r.1, r.2)
 
 -- the tokens behind the first
 rest_of : (token : Token) (following : Result (List Token) Span) (ts : List Token) → with_token token following ≡ Ok ts → (us : List Token) × (ts ≡ token ∷ us) × (following ≡ Ok us)
-rest_of token (Ok us) ts e = (us, (let same : ts ≡ token ∷ us = cc in same), refl)
-rest_of token (Err bad) ts e = cc
+rest_of token following ts e = grind arith
 
 form_nil : form_of [] ≡ None
 unfolding form_of is_word is_number is_typed is_word_start is_string is_symbol
@@ -53,14 +51,8 @@ first_same : (xs ys : List ℕ) → 0 < length xs → first (xs ++ ys) ≡ first
 first_same [] ys h = absurd (omega arith)
 first_same (x ∷ xs) ys h = refl
 
-ends_line : (xs ys : List ℕ) → EndsLine (xs ++ ys) → EndsLine xs
-ends_line xs ys h = grind arith
-
-not_empty : (xs : List ℕ) → 0 < length xs → xs ≢ []
-not_empty xs h e = grind arith
-
 begins_token : (xs ys : List ℕ) → 0 < length xs → BeginsToken (xs ++ ys) → BeginsToken xs
-begins_token xs ys some h = grind (arith, not_empty, first_same)
+begins_token xs ys some h = grind (arith, first_same)
 
 longest_in : (xs ys : List ℕ) (kind : TokenKind) (n : ℕ) → n ≤ length xs → IsLongest (xs ++ ys) kind n → IsLongest xs kind n
 longest_in xs ys kind n within is = grind (arith, take-append-le, length-append)
@@ -82,9 +74,6 @@ first_close after inside rest behind ys e close = record {
 -- a token that stands so many bytes nearer to the begin
 abbrev pub nearer_token : ℕ → Token → Token
 nearer_token d t = record { kind = t.kind; span = record { start = t.span.start - d; end = t.span.end - d } }
-
-nearer_token_of : (kind : TokenKind) (q p d n : ℕ) → q ≡ p + d → nearer_token d (token_of kind q n) ≡ token_of kind p n
-nearer_token_of kind q p d n e = grind arith
 
 -- Texts by gaps and tokens
 
@@ -114,7 +103,7 @@ walks {q} {text} (AtComment after inside rest e close more) ts h =
     (walks more ts h)
 walks (AtOpenComment after e never r) ts h = cc
 walks (AtLineComment line rest e all ends more) ts h =
-    Gap (length line + 2) (codes "//" ++ line) rest (omega arith) e (λ p zs ys reading s again. AtLineComment line zs refl all (ends_line zs ys (subst EndsLine s ends)) again) (walks more ts h)
+    Gap (length line + 2) (codes "//" ++ line) rest (omega arith) e (λ p zs ys reading s again. AtLineComment line zs refl all (grind arith) again) (walks more ts h)
 walks {q} {text} (AtToken kind n following begins is more r) ts h =
     let o = rest_of (token_of kind q n) following ts (sym r ∙ h) in
     let pos = some_bytes text kind n is in
@@ -172,7 +161,7 @@ cut {q} {text} (Then n kind others pos starts e more) p d xs ys (t ∷ ts) behin
     let within : n ≤ length xs = omega (arith, later) in
     let len : q + length xs ≡ q + n + length (drop n xs) = omega (arith, within, length-drop n xs) in
     let again = cut more (p + n) d (drop n xs) ys ts behind (record { shift = omega (arith, c.shift); parts = ap (drop n) c.parts ∙ drop-append-le n xs ys within; tokens = tail; last = subst (LastEnds (q + n) ts) len last }) in
-    subst (λ (u : Token). Reads p xs (Ok (u ∷ map (nearer_token d) ts))) (sym (nearer_token_of kind q p d n c.shift) ∙ ap (nearer_token d) head)
+    subst (λ (u : Token). Reads p xs (Ok (u ∷ map (nearer_token d) ts))) (sym (grind arith) ∙ ap (nearer_token d) head)
     (starts p xs ys (Ok (map (nearer_token d) ts)) c.parts within again)
 
 -- The place of a token

@@ -1,26 +1,18 @@
 -- Each code of declarations, by what its list of faults has.
-use Rattle.fb_laws.proofs.Common.{◌≡◌, ◌≢◌, ℕ, Bool, true, false, not, cond, ◌&&◌, and_parts, List, [], ◌∷◌, Option, Some, None, refl, sym, ap, ◌∙◌, subst, true≢false, arith, Contains, enumerate_from, slice_get, option_map_or, false_from_ne_true, not_true, Span, NameUse, unit_kind_of, ConstantTree, DeclTree, InstanceTree, TypeTree, VariablesTree, block_type, adapter_type, subapplication_type, system_configuration, structure_type, one_value, value_list, value_span, Side, TypeForm, TypeUse, UnitKind, Role, Carries, carried_of, Sources, tree_at, type_in, Code, Duplicate, Literal, MixedKind, NameDiffers, StructRecursive, UnknownType, WithUnknown, WrongKind, Fault, DeclaredVariable, class_of_name, class_of_simple, class_of_type, is_free, takes, declaration_faults, declared_name, duplicate_faults, iface_faults_of, literal_faults_of, mixed_faults, name_faults, space_duplicates, variables_of, with_faults_of, fault_at, constant_faults, fits_alone, initial_faults, list_faults, literal_fault, is_same, stands_for, variables_in, DuplicatesAreReported, HasDuplicate, HasMixedKind, HasOtherName, HasSelfCarrying, HasUnknownType, HasUnknownWith, HasWrongKind, IsDeclaredAt, IsMisfit, MisfitsAreReported, MixedKindsAreReported, OtherNamesAreReported, RecursiveStructuresAreReported, UnknownTypesAreReported, Suits, UnknownWithsAreReported, WrongKindsAreReported, no_array, no_list, AreDeclaredIn, IsType, fields_of_structure, of_adapter, of_block, of_subapplication, variables_of_type, goes_with, spaces_of, instance_faults, instances_of, suits, type_fault, type_faults, contains_filter, contains_flat_map, contains_here, contains_map, contains_nothing, contains_single, origin_in_flat_map, origin_in_map, in_unless, in_written, passes_in_filter, unless, written, IsEarlier, earlier_name, in_places, same_exact, same_itself, carried_is_all, Contains-has, has-Contains, filter}
-use Rattle.fb_laws.proofs.{Joined.{iff, of_either, in_joined, in_where, where_passes}, RuleLemmas.{judged, not_free, not_taken, untaken}}
-use Rattle.fb_laws.proofs.SpaceLemmas.{known_space, told_space}
-use Rattle.fb_tree.specs.declared.constant.Simple.{Simple}
-use Rattle.fb_tree.specs.declared.interface.TypeForm.TheVariants as forms
-use Rattle.fb_tree.specs.declared.kinds.UnitKind.TheVariants as kinds
-use Rattle.fb_tree.specs.declared.network.Role.TheVariants as roles
-use Rattle.fb_deploy.specs.{Iface.Names.{is_repeated, repeated}, Iface.Recursion.{carries_itself, recursion_faults}}
-use Rattle.fb_deploy.specs.Iface.Withs.{goes_along, event_withs, with_faults}
+use Rattle.fb_laws.proofs.Common.{◌≡◌, ℕ, true, false, not, ◌&&◌, and_parts, List, [], ◌∷◌, Option, Some, None, refl, sym, ap, ◌∙◌, subst, true≢false, arith, Contains, enumerate_from, slice_get, option_map_or, not_true, Span, NameUse, unit_kind_of, ConstantTree, DeclTree, InstanceTree, TypeTree, VariablesTree, block_type, adapter_type, subapplication_type, system_configuration, structure_type, one_value, value_list, value_span, TypeForm, TypeUse, UnitKind, Role, Carries, carried_of, Sources, tree_at, type_in, Code, Duplicate, Literal, MixedKind, NameDiffers, StructRecursive, UnknownType, WithUnknown, WrongKind, Fault, class_of_name, class_of_simple, class_of_type, is_free, takes, declaration_faults, declared_name, duplicate_faults, iface_faults_of, literal_faults_of, mixed_faults, name_faults, space_duplicates, variables_of, with_faults_of, fault_at, constant_faults, fits_alone, initial_faults, list_faults, literal_fault, is_same, stands_for, variables_in, DuplicatesAreReported, HasDuplicate, HasMixedKind, HasOtherName, HasSelfCarrying, HasUnknownType, HasUnknownWith, HasWrongKind, IsDeclaredAt, IsMisfit, MisfitsAreReported, MixedKindsAreReported, OtherNamesAreReported, RecursiveStructuresAreReported, UnknownTypesAreReported, Suits, UnknownWithsAreReported, WrongKindsAreReported, no_array, no_list, AreDeclaredIn, fields_of_structure, of_adapter, of_block, of_subapplication, variables_of_type, spaces_of, instance_faults, instances_of, suits, type_fault, type_faults, contains_filter, contains_flat_map, contains_here, contains_map, contains_nothing, contains_single, origin_in_flat_map, origin_in_map, in_unless, in_written, passes_in_filter, unless, written, earlier_name, in_places, same_exact, same_itself, carried_is_all, Contains-has, has-Contains, filter, Simple}
+use Rattle.fb_laws.proofs.{Lists.{iff, of_either, in_joined, in_where, where_passes}, RuleLemmas.{judged, not_free, not_taken, untaken}, SpaceLemmas.{known_space, told_space}}
+use Rattle.fb_deploy.specs.{Iface.Names.{is_repeated, repeated}, Iface.Recursion.{carries_itself, recursion_faults}, Iface.Withs.{goes_along, event_withs, with_faults}}
 use Rattle.fb_laws.specs.Declarations.{HasMisfit, alone, element}
 use Rattle.fb_deploy.proofs.Iface.DuplicateLemmas.{duplicate_reported}
+use Rattle.fb_tree.specs.declared.interface.TypeForm.TheVariants as forms
 
 -- the kinds of types
-
-known_suit : (role : Role) (kind : UnitKind) → suits role kind ≡ true → Suits role kind
-known_suit role kind e = grind (arith, Suits.plug, Suits.socket, Suits.block, Suits.subapplication)
 
 pub not_suited : (role : Role) (kind : UnitKind) → suits role kind ≡ false → ¬ Suits role kind
 not_suited role kind e is = grind arith
 
 unsuited : (role : Role) (kind : UnitKind) → ¬ Suits role kind → suits role kind ≡ false
-unsuited role kind none = false_from_ne_true (suits role kind) (λ e. none (known_suit role kind e))
+unsuited role kind none = grind (arith, Suits.plug, Suits.socket, Suits.block, Suits.subapplication)
 
 -- what is so where a unit has a fault of this code
 abbrev pub Has : Code → Sources → List ℕ → Span → Type 0
@@ -38,9 +30,6 @@ Has code = λ sources unit span. ⊥
 
 withs_by_type : (decl : DeclTree) → with_faults_of decl ≡ option_map_or (λ d. with_faults d.interface) (type_in decl) []
 withs_by_type decl = grind (arith, block_type)
-
-no_data_where : (side : Side) (o : Option DeclaredVariable) → goes_along side o ≡ false → (v : DeclaredVariable) → o ≡ Some v → goes_with side v.section ≡ false
-no_data_where side o e v is = sym (ap (goes_along side) is) ∙ e
 
 -- constants
 
@@ -61,11 +50,7 @@ Misfits used constant f = (f.code ≡ Literal) × IsMisfit used constant f.span
 pub misfit_origin : (used : TypeUse) (constant : ConstantTree) (f : Fault) → Contains (constant_faults used constant) f → Misfits used constant f
 misfit_origin used (one_value v) f c =
     let fails = in_unless (fits_alone used.form (class_of_type used) (class_of_simple v)) (literal_fault (value_span v)) f c in
-    subst (Misfits used (one_value v)) fails.1 (refl, by used.form refl fails.0)
-  where
-    by : (form : TypeForm) → used.form ≡ form → fits_alone form (class_of_type used) (class_of_simple v) ≡ false → IsMisfit used (one_value v) (value_span v)
-    by forms.Array e fails = no_list e (not_free (class_of_simple v) fails)
-    by o e fails = alone (λ is. cc) (not_taken (class_of_type used) (class_of_simple v) fails)
+    subst (Misfits used (one_value v)) fails.1 (refl, grind (arith, no_list, alone, not_free, not_taken))
 misfit_origin used (value_list values span) f c = by used.form refl c
   where
     by : (form : TypeForm) → used.form ≡ form → Contains (list_faults form used values span) f → Misfits used (value_list values span) f
@@ -148,9 +133,9 @@ module _ (sources : Sources) (unit : List ℕ) where
         let e = origin_in_flat_map (event_withs variable) t.item.interface.events f t.has in
         let n = origin_in_map (fault_at WithUnknown) (filter (λ w. not (goes_along e.origin.side (variable w.name))) e.origin.with) f e.has in
         let p = passes_in_filter (λ w. not (goes_along e.origin.side (variable w.name))) e.origin.with n.origin n.among in
-        let none = no_data_where e.origin.side (variable n.origin.name) (not_true (goes_along e.origin.side (variable n.origin.name)) p.passes) in
+        let fails = not_true (goes_along e.origin.side (variable n.origin.name)) p.passes in
         subst Finds n.gives
-        (record { decl = decl; declared = declared; type = t.item; is_type = t.is; event = e.origin; among = e.among; name = n.origin; behind = p.among; no_data = none; place = refl })
+        (record { decl = decl; declared = declared; type = t.item; is_type = t.is; event = e.origin; among = e.among; name = n.origin; behind = p.among; no_data = λ v is. sym (ap (goes_along e.origin.side) is) ∙ fails; place = refl })
 
     literal_found : (f : Fault) → Contains (literal_faults_of decl) f → Finds f
     literal_found f c =

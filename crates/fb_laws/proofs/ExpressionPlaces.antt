@@ -1,6 +1,5 @@
 -- The place of each expression, by the function of the check.
-use Rattle.fb_laws.proofs.Common.{◌≡◌, refl, sym, ap, ◌∙◌, subst, Span, Expression, literal_expression, reference_expression, unary_expression, row_expression, parentheses, Operands, no_operands, operand_then, BinaryUse, span_of, IsLast, only, later, StandsAt, no_row}
-use Rattle.fb_expr.specs.Spans.{across, span_through}
+use Rattle.fb_laws.proofs.Common.{arith, ◌≡◌, refl, ap, ◌∙◌, Span, Expression, literal_expression, reference_expression, unary_expression, row_expression, parentheses, Operands, no_operands, operand_then, BinaryUse, span_of, IsLast, only, later, StandsAt, no_row, across, span_through}
 use Rattle.fb_laws.specs.Places.{literal, reference, operator, row, enclosed}
 
 -- the last of these operands, where there is one
@@ -13,8 +12,7 @@ one_more used x no_operands here no_end = ending x (span_of x) only here (λ a. 
 one_more used x others here (ending y s last there whole) = ending y s (later last) there (λ a. whole (across a (span_of x)))
 
 of_row : (first : Expression) (operands : Operands) → StandsAt first (span_of first) → Ending operands → StandsAt (row_expression first operands) (span_through (span_of first) operands)
-of_row first no_operands here no_end = no_row here
-of_row first operands here (ending x s last there whole) = subst (StandsAt (row_expression first operands)) (sym (whole (span_of first))) (row x (span_of first) s here last there)
+of_row first operands here end = grind (arith, no_row, row)
 
 mutual
   pub stands : (e : Expression) → StandsAt e (span_of e)

@@ -1,8 +1,6 @@
 -- The parts of expressions, at each level.
-use Rattle.fb_laws.proofs.Common.{◌≡◌, ℕ, ◌≤◌, arith, zero, suc, true, inl, inr, List, [], ◌∷◌, ◌++◌, map, Option, Some, None, refl, sym, ap, ◌∙◌, subst, append_assoc, flat_map, NameUse, Span, Form, both, either, many, as_value, Spells, SpellsEach, across, literal_kinds, key, name, is_among, Kind, Point, Lexeme, ReferenceTree, Expression, Expressions, expressions_of, operands_of, BinaryUse, UnaryUse, signs, strengths, unary_use, binary_use, levels, expression, expressions, subscripts, PartTree, part_of, flat_part, deep_part, further_part, parts, member_in, last_end, subscripts_in, reference_in, flat_reference, deep_reference, reference_value, literal, in_parentheses, parenthesized, flat_primary, deep_primary, with_sign, unary, row_of, operand, row, rows, reference, Part, name_part, expression_part, sign_part, operator_part, name_parts, option_parts, reference_parts, expression_parts, expressions_parts, operands_parts, expression_span, span_through, SpellsPart, IsWritten, sign, operator, append-nil, among_left, among_right, one}
-use Rattle.fb_laws.proofs.Tokens.{Fills, begins_more, ends_more, written_whole, Each, each_append, each_prefix, each_rest}
-use Rattle.fb_laws.proofs.Filling.{Filled, filled_as, filled_either, filled_token, filled_name, Ends, ends_filled, ends_second, ends_behind, filled_across, filled_more, filled_from}
-use Rattle.fb_laws.proofs.Sound.{Sound, sound_nothing, sound_both, sound_first, sound_second, sound_as, sound_either, sound_option, sound_many, sound_behind, sound_separated, sound_own, sound_same, sound_name, each_items}
+use Rattle.fb_laws.proofs.Common.{◌≡◌, ℕ, ◌≤◌, arith, zero, suc, true, inl, inr, List, [], ◌∷◌, ◌++◌, map, None, refl, sym, ap, ◌∙◌, subst, append_assoc, flat_map, Span, Form, both, either, many, as_value, Spells, SpellsEach, across, literal_kinds, key, name, is_among, Kind, Point, Lexeme, ReferenceTree, Expression, Expressions, expressions_of, operands_of, BinaryUse, signs, strengths, unary_use, binary_use, levels, expression, expressions, subscripts, PartTree, part_of, flat_part, deep_part, further_part, parts, member_in, last_end, subscripts_in, reference_in, flat_reference, deep_reference, reference_value, literal, in_parentheses, parenthesized, flat_primary, deep_primary, with_sign, unary, row_of, operand, row, rows, reference, Part, name_part, expression_part, sign_part, operator_part, name_parts, option_parts, reference_parts, expression_parts, expressions_parts, operands_parts, expression_span, span_through, SpellsPart, IsWritten, sign, operator, append-nil, among_left, among_right, one}
+use Rattle.fb_laws.proofs.Sound.{Fills, begins_more, ends_more, written_whole, Each, each_append, each_prefix, each_rest, Filled, filled_as, filled_either, filled_token, filled_name, Ends, ends_filled, ends_second, ends_behind, filled_across, filled_more, filled_from, Sound, sound_nothing, sound_both, sound_first, sound_second, sound_as, sound_option, sound_many, sound_behind, sound_separated, sound_own, sound_same, sound_name, each_items}
 
 -- Lists
 
@@ -40,10 +38,7 @@ pub record Suits (x : Form Expression) : Type 0 where
   pub sound : IsExpression x → Sound x expression_parts
 
 suits_either : (x y : Form Expression) → Suits x → Suits y → Suits (either x y)
-suits_either x y h k = record {
-  filled = filled_either x y expression_span h.filled k.filled;
-  sound = λ is. sound_either x y expression_parts (h.sound (record { spells = λ us e s. is.spells us e (inl s) })) (k.sound (record { spells = λ us e s. is.spells us e (inr s) }));
-}
+suits_either x y h k = grind (arith, filled_either)
 
 -- values that are read as expressions, by the parts in them
 suits_as : {A : Type 0} (x : Form A) (f : A → Expression) (inner : A → List Part) → Filled x (λ v. expression_span (f v)) → (IsExpression (as_value f x) → Sound x inner)
@@ -75,14 +70,11 @@ named_parts p = name_part p.name ∷ flat_map expression_parts p.subscripts
 abbrev subscripts_parts : List Expression × Lexeme → List Part
 subscripts_parts s = flat_map expression_parts s.0
 
-each_named : (P : Part → Type 0) (n : NameUse) (s : Option (List Expression × Lexeme)) → Each P (name_parts n ++ option_parts subscripts_parts s) → Each P (named_parts (part_of n s))
-each_named P n s h = grind arith
-
 sound_deep_part : (inner : Form Expression) → Sound inner expression_parts → Sound (deep_part inner) named_parts
 unfolding deep_part subscripts expressions
 sound_deep_part inner h =
     sound_as _ _ named_parts
-    (sound_same _ (λ v. name_parts v.0 ++ option_parts subscripts_parts v.1) _ (λ P v e. each_named P v.0 v.1 e)
+    (sound_same _ (λ v. name_parts v.0 ++ option_parts subscripts_parts v.1) _ (λ P v e. grind arith)
     (sound_both name _ name_parts (option_parts subscripts_parts) sound_name
     (sound_option _ subscripts_parts (sound_behind _ _ subscripts_parts (sound_first _ _ (flat_map expression_parts) (sound_separated _ inner expression_parts h))))))
 
@@ -139,43 +131,25 @@ suits_parenthesized inner h =
     (filled_across (key _) (both inner (key _)) (λ l. l.span) (λ v. v.1.span) (filled_token _) (ends_second inner (key _) (λ l. l.span) (ends_filled (key _) (λ l. l.span) (filled_token _))))
     (λ is. sound_second _ _ (λ v. expression_parts v.0) (sound_first inner _ expression_parts h)) (λ P v whole h. (whole, h))
 
-suits_flat_primary : Suits flat_primary
-unfolding flat_primary
-suits_flat_primary = suits_either literal _ suits_literal suits_flat_reference
-
-suits_deep_primary : (inner : Form Expression) → Sound inner expression_parts → Suits (deep_primary inner)
-unfolding deep_primary
-suits_deep_primary inner h = suits_either literal _ suits_literal (suits_either _ (parenthesized inner) (suits_deep_reference inner h) (suits_parenthesized inner h))
-
 -- Signs
-
-sound_sign : Sound sign (λ operator. sign_part operator ∷ [])
-unfolding sign
-sound_sign = sound_own sign sign_part (λ _. []) (λ us operator s. s) (filled_as unary_use _ (λ operator. operator.span) (filled_token signs)) (sound_nothing _)
 
 -- an operand without a sign
 spelled_unary : (primary : Form Expression) (us : List Lexeme) (e : Expression) → Spells primary us e → Spells (unary primary) us e
 unfolding unary
 spelled_unary primary us e s = ((None, e), ([], us, refl, refl, s), refl)
 
-each_signed : (P : Part → Type 0) (o : Option UnaryUse) (e : Expression) → P (expression_part (with_sign o e)) → Each P (option_parts (λ operator. sign_part operator ∷ []) o ++ expression_parts e) → Each P (expression_parts (with_sign o e))
-each_signed P None e whole h = h
-each_signed P (Some used) e whole h = (whole, h)
-
 suits_unary : (primary : Form Expression) → Suits primary → Suits (unary primary)
 unfolding unary sign
 suits_unary primary h =
+    let filled = filled_as unary_use (one signs) (λ operator. operator.span) (filled_token signs) in
     suits_as _ (λ v. with_sign v.0 v.1) (λ v. option_parts (λ operator. sign_part operator ∷ []) v.0 ++ expression_parts v.1)
-    (filled_from _ primary (λ operator. operator.span) expression_span _ (λ e. refl) (λ operator e. refl) (filled_as unary_use _ (λ operator. operator.span) (filled_token signs)) h.filled)
+    (filled_from _ primary (λ operator. operator.span) expression_span _ (λ e. refl) (λ operator e. refl) filled h.filled)
     (λ is.
-    sound_both _ primary _ expression_parts (sound_option sign (λ operator. sign_part operator ∷ []) sound_sign)
+    sound_both _ primary _ expression_parts (sound_option sign _ (sound_own sign sign_part (λ _. []) (λ us operator s. s) filled (sound_nothing _)))
     (h.sound (record { spells = λ us e s. is.spells us e (spelled_unary primary us e s) })))
-    (λ P v. each_signed P v.0 v.1)
+    (λ P v whole h. grind arith)
 
 -- Rows
-
-row_span : (e : Expression) (os : List (BinaryUse × Expression)) → span_through (expression_span e) (operands_of os) ≡ expression_span (row_of e os)
-row_span e os = grind arith
 
 -- one operand
 spelled_row : (kinds : List Kind) (x : Form Expression) (us : List Lexeme) (e : Expression) → Spells x us e → Spells (row kinds x) us e
@@ -207,7 +181,7 @@ unfolding row operand
 suits_row kinds x are h =
     let ends = ends_second (as_value binary_use (one kinds)) x expression_span (ends_filled x expression_span h.filled) in
     let filled = filled_through (operand kinds x) (λ o. expression_span o.1) ends (λ s os. span_through s (operands_of os)) (λ s. refl) (λ s o os. refl) x expression_span h.filled in
-    suits_as _ (λ v. row_of v.0 v.1) (λ v. expression_parts v.0 ++ flat_map operand_parts v.1) (record { fills = λ us v s. subst (Fills us) (row_span v.0 v.1) (filled.fills us v s) })
+    suits_as _ (λ v. row_of v.0 v.1) (λ v. expression_parts v.0 ++ flat_map operand_parts v.1) (record { fills = λ us v s. subst (Fills us) (grind arith) (filled.fills us v s) })
     (λ is.
     let inner = h.sound (record { spells = λ us e s. is.spells us e (spelled_row kinds x us e s) }) in
     sound_both x _ expression_parts (flat_map operand_parts) inner (sound_many (operand kinds x) operand_parts (sound_operand kinds x are inner)))
@@ -226,12 +200,13 @@ is_expression : (n : ℕ) → n ≤ levels → IsExpression (expression n)
 is_expression n within = record { spells = λ us e s. (n, within, s) }
 
 suits_expression : (n : ℕ) → n ≤ levels → Suits (expression n)
-unfolding expression
-suits_expression zero within = suits_rows strengths (unary flat_primary) (λ k m. m) (suits_unary flat_primary suits_flat_primary)
+unfolding expression flat_primary deep_primary
+suits_expression zero within = suits_rows strengths (unary flat_primary) (λ k m. m) (suits_unary flat_primary (suits_either literal _ suits_literal suits_flat_reference))
 suits_expression (suc n) within =
     let below : n ≤ levels = omega (arith, within) in
-    let primary = suits_deep_primary (expression n) ((suits_expression n below).sound (is_expression n below)) in
-    suits_rows strengths (unary (deep_primary (expression n))) (λ k m. m) (suits_unary (deep_primary (expression n)) primary)
+    let inner = (suits_expression n below).sound (is_expression n below) in
+    let deeper = suits_either _ (parenthesized (expression n)) (suits_deep_reference (expression n) inner) (suits_parenthesized (expression n) inner) in
+    suits_rows strengths (unary (deep_primary (expression n))) (λ k m. m) (suits_unary (deep_primary (expression n)) (suits_either literal _ suits_literal deeper))
 
 pub sound_expression : (n : ℕ) → n ≤ levels → Sound (expression n) expression_parts
 sound_expression n within = (suits_expression n within).sound (is_expression n within)

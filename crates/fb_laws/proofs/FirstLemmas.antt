@@ -1,18 +1,13 @@
 -- The first declarations of their names, by places.
-use Rattle.fb_laws.proofs.Common.{◌≡◌, ◌≢◌, zero, suc, ℕ, ◌+◌, ◌<◌, Bool, true, ◌&&◌, List, [], ◌∷◌, length, map, take, Option, Some, None, refl, ap, ◌∙◌, sym, subst, inl, inr, arith, filter, enumerate_from, slice_get, slice_get_within, cases_order, and_parts, first_ones, is_same, stands_for, same_exact, same_itself, at_place, in_places, contains_filter, contains_map, got_in_map, origin_in_map, passes_in_filter, stands_for-first_ones, is_none, Contains}
-use Rattle.std.proofs.lemmas.{Map.Entries.{place_from_lookup}, Option.{get_or_from_slice_get, slice_get_read}}
-use Rattle.std.proofs.lemmas.List.{FromFn.{get_or-enumerate_from, length-enumerate_from}, Kept.{AllPairs-filter}}
-use Rattle.std.specs.List.{AllPairs}
+use Rattle.fb_laws.proofs.Common.{◌≡◌, ◌≢◌, zero, suc, ℕ, ◌+◌, ◌<◌, Bool, true, ◌&&◌, List, [], ◌∷◌, length, map, take, Some, None, refl, ap, ◌∙◌, sym, subst, inl, inr, arith, filter, enumerate_from, slice_get, slice_get_within, cases_order, and_parts, first_ones, is_same, stands_for, same_exact, same_itself, at_place, in_places, contains_filter, contains_map, got_in_map, origin_in_map, passes_in_filter, stands_for-first_ones, is_none, Contains, place_from_lookup, slice_get_read}
+use Rattle.std.proofs.{lemmas.Option.{get_or_from_slice_get}, lemmas.List.FromFn.{get_or-enumerate_from, length-enumerate_from}, lemmas.List.Kept.{AllPairs-filter}}
 
 -- numbered items that pass come in the order of their numbers
-
-rising : {X : Type 0} (xs : List X) → AllPairs (λ (a b : ℕ × X). a.0 < b.0) (enumerate_from 0 xs)
-rising xs i j d before within = grind (arith, get_or-enumerate_from, length-enumerate_from)
 
 numbers_rise : {X : Type 0} (passes : ℕ × X → Bool) (xs : List X) (i j : ℕ) (p q : ℕ × X) → i < j → slice_get (filter passes (enumerate_from 0 xs)) i ≡ Some p → slice_get (filter passes (enumerate_from 0 xs)) j ≡ Some q → p.0 < q.0
 numbers_rise {X = X} passes xs i j p q before first second =
     let placed = filter passes (enumerate_from 0 xs) in
-    let less = AllPairs-filter (λ (a b : ℕ × X). a.0 < b.0) passes (enumerate_from 0 xs) (rising xs) i j p before (slice_get_within placed j q second) in
+    let less = AllPairs-filter (λ (a b : ℕ × X). a.0 < b.0) passes (enumerate_from 0 xs) (grind (arith, get_or-enumerate_from, length-enumerate_from)) i j p before (slice_get_within placed j q second) in
     omega (arith, less, ap (λ (a : ℕ × X). a.0) (get_or_from_slice_get placed i p p first), ap (λ (a : ℕ × X). a.0) (get_or_from_slice_get placed j q p second))
 
 pub got_among : {X : Type 0} (xs : List X) (k : ℕ) (x : X) → slice_get xs k ≡ Some x → Contains xs x
@@ -50,11 +45,8 @@ module _ {D : Type 0} where
   abbrev is_first : List (List ℕ × D) → ℕ × (List ℕ × D) → Bool
   is_first xs p = is_none (stands_for (take p.0 xs) p.1.0)
 
-  none_of : (o : Option D) → is_none o ≡ true → o ≡ None
-  none_of o e = grind arith
-
   first_facts : (xs : List (List ℕ × D)) (p : ℕ × (List ℕ × D)) → Contains (enumerate_from 0 xs) p → is_first xs p ≡ true → (slice_get xs p.0 ≡ Some p.1) × NoneBefore xs p.0 p.1.0
-  first_facts xs p c passes = let j = in_places 0 xs p c in grind (arith, none_before, none_of)
+  first_facts xs p c passes = let j = in_places 0 xs p c in grind (arith, none_before)
 
   abbrev first_at : (xs : List (List ℕ × D)) (name : List ℕ) (m : D) (p : ℕ × (List ℕ × D)) → Contains (enumerate_from 0 xs) p → is_first xs p ≡ true → p.1 ≡ (name, m) → IsFirst xs name m
   first_at xs name m p c passes e =

@@ -1,21 +1,15 @@
 -- The networks of units whose nets are flat, and the nets of the types of their subapplication instances.
-use Rattle.fb_laws.proofs.Common.{arith, ℕ, ◌≡◌, List, Some, length, inl, ap, subst, Contains, contains_flat_map, unit_kind_of, DeclTree, subapplication_type, system_configuration, Sources, parts_at, tree_at, IsSound, flat_net, done_part, net_at_is, unit_faultless, sound_part, sound_tree, IsClean, IsCleanThroughout, IsFlat, Held, AreInstances, IsInner, PlainNetwork, Instance, applications_of, applications_at, declared, kind_at, Holds, IsWithinLimit, OfSubapplication, own_instances, Application, FlatBordersAreComposed, FlatLinksAreComposed, FlatUnitsAreClean, HasFlatNet, InnerBordersAreListed, InnerNetsAreFlat, IsOwnNetwork, option_map}
+use Rattle.fb_laws.proofs.Common.{arith, ℕ, ◌≡◌, List, Some, length, inl, ap, subst, Contains, contains_flat_map, unit_kind_of, DeclTree, system_configuration, Sources, parts_at, tree_at, IsSound, flat_net, done_part, net_at_is, unit_faultless, sound_part, sound_tree, IsClean, IsCleanThroughout, IsFlat, IsInner, PlainNetwork, Instance, applications_of, applications_at, declared, kind_at, IsWithinLimit, OfSubapplication, own_instances, Application, option_map}
 use Rattle.fb_laws.proofs.ChainParts.{borders_composed, links_composed}
-use Rattle.fb_tree.specs.declared.kinds.UnitKind.TheVariants as kinds
 use Rattle.fb_deploy.specs.Flatten.Far.{far_of}
 use Rattle.fb_deploy.proofs.{Flatten.CleanUnits.{applications_clean, networks_clean}, Flatten.ComputedFlats.{IsDone, clean_with}}
 use Rattle.fb_deploy.proofs.{Flatten.CountLemmas.{inner_small, own_kind}, Flatten.MentionLemmas.{own_within}}
 use Rattle.fb_types.proofs.Network.Composing.{found_by_name}
-use Rattle.fb_laws.specs.Chains.{of_application, of_subapplication}
-
--- the instances of the network of a subapplication are its own
-type_holds : (sources : Sources) (name : List ℕ) → kind_at sources name ≡ Some kinds.Subapplication → (network : PlainNetwork) (held : List Held) → declared sources name ≡ Some network → AreInstances (declared sources) network.instances held → Holds sources name held
-type_holds sources name kind network held d is = grind (arith, option_map)
+use Rattle.fb_laws.specs.Chains.{FlatBordersAreComposed, FlatLinksAreComposed, FlatUnitsAreClean, HasFlatNet, InnerBordersAreListed, InnerNetsAreFlat, IsOwnNetwork, of_application, of_subapplication}
 
 -- the instances of an own network are the unit's
 in_unit : (sources : Sources) (unit : List ℕ) (network : PlainNetwork) → IsOwnNetwork sources unit network → (i : Instance) → Contains network.instances i → (tree : DeclTree) → tree_at sources unit ≡ Some tree → Contains (own_instances tree) i
-in_unit sources unit network (of_subapplication kind is) i c (subapplication_type t) e = grind (arith, option_map)
-in_unit sources unit network (of_subapplication kind is) i c tree e = let other : kind_at sources unit ≡ Some (unit_kind_of tree) = ap (option_map unit_kind_of) e in absurd (let no : ⊥ = cc in no)
+in_unit sources unit network (of_subapplication kind is) i c tree e = grind (arith, option_map)
 in_unit sources unit network (of_application {applications = list} {application = a} kind is among) i c (system_configuration s) e =
     let there : applications_at sources unit ≡ Some (applications_of (system_configuration s)) = ap (option_map applications_of) e in
     let same : list ≡ applications_of (system_configuration s) = cc in
@@ -50,7 +44,7 @@ module _ (sources : Sources) (unit : List ℕ) (sound : IsSound sources unit) wh
       let two = is.declared in
       let same : done.inner ≡ inner = cc in
       let flat : IsFlat (declared sources) inner done.net = subst (λ (n : PlainNetwork). IsFlat (declared sources) n done.net) same done.flat in
-      let within : IsWithinLimit sources i.type_name = record { held = small.held; holds = type_holds sources i.type_name kind small.network small.held small.declared small.instances; within = small.within } in
+      let within : IsWithinLimit sources i.type_name = record { held = small.held; holds = grind (arith, option_map); within = small.within } in
       record {
         flat = done.net;
         net = (net_at_is sources i.type_name (flat_net done.net)).1 (inl kind, (sound_part sound i.type_name (type_is_part network holds i found.among), within, OfSubapplication inner kind two flat));

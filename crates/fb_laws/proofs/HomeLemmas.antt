@@ -1,6 +1,6 @@
 -- The homes of blocks, and of the ends of links.
-use Rattle.fb_laws.proofs.Common.{ℕ, ◌≡◌, ◌<◌, true, List, [], ◌∷◌, Option, Some, None, refl, sym, ◌∙◌, ap, subst, take, length, map, arith, option_map, find, cons_option, bytes_eq, take-append_seam, take_all, dec_lt, contains_cases, contains_nothing, is_nearest, NameUse, stands_for, same_exact, same_itself, Sources, tree_at, FlatBlock, home_at, first_at, IsPrefix, IsNearest, nearest, block_homes, mappings_in, resource_at, Home, StandsOn, Contains, block_home, passes_in_find}
-use Rattle.fb_laws.proofs.Joined.{by_option, given}
+use Rattle.fb_laws.proofs.Common.{ℕ, ◌≡◌, ◌<◌, true, List, [], ◌∷◌, Option, Some, None, refl, sym, ◌∙◌, ap, subst, take, length, map, arith, option_map, find, cons_option, bytes_eq, take-append_seam, take_all, dec_lt, contains_cases, contains_nothing, is_nearest, NameUse, stands_for, same_exact, same_itself, Sources, tree_at, FlatBlock, home_at, first_at, IsPrefix, IsNearest, nearest, block_homes, mappings_in, resource_at, Home, StandsOn, Contains, block_home, passes_in_find, cases_order, inl, inr}
+use Rattle.fb_laws.proofs.Lists.{by_option, given}
 use Rattle.std.proofs.lemmas.Slice.Eq.{bytes_eq-Decides}
 pub use Rattle.fb_placing.proofs.TableLemmas.{same_text as same_bytes}
 
@@ -35,12 +35,10 @@ one_nearest at path None None p q = refl
 one_nearest at path None (Some y) p (g, prefix, has, longer) = absurd (let no = p g prefix in let yes = has in cc)
 one_nearest at path (Some x) None (f, prefix, has, longer) q = absurd (let no = q f prefix in let yes = has in cc)
 one_nearest {X = X} at path (Some x) (Some y) (f, prefix, has, longer) (g, prefix2, has2, longer2) =
-    elim (dec_lt (length f) (length g)) [
-      | Prim.yes below ↦ absurd (let no = longer g prefix2 below in let yes = has2 in cc)
-      | Prim.no above ↦ elim (dec_lt (length g) (length f)) [
-        | Prim.yes below ↦ absurd (let no = longer2 f prefix below in let yes = has in cc)
-        | Prim.no more ↦ let same : f ≡ g = one_prefix f g path prefix prefix2 (omega arith) in sym has ∙ ap at same ∙ has2
-      ]
+    elim (cases_order (length f) (length g)) [
+      | inl even ↦ sym has ∙ ap at (one_prefix f g path prefix prefix2 even) ∙ has2
+      | inr (inl below) ↦ absurd (let no = longer g prefix2 below in let yes = has2 in cc)
+      | inr (inr below) ↦ absurd (let no = longer2 f prefix below in let yes = has in cc)
     ]
 
 pub nearest_of : {X : Type 0} (at : List ℕ → Option X) (path : List ℕ) (x : X) → IsNearest at path (Some x) → nearest at path ≡ Some x
@@ -74,8 +72,7 @@ module _ (resources : List ℕ → Option (List ℕ)) where
   pub homed : (blocks : List FlatBlock) (path r : List ℕ) → home_at (block_homes resources blocks) path ≡ Some r → IsHomed blocks path r
   homed blocks path r e =
       let f = found_in (λ (h : Home). h.path) (λ (h : Home). h.resource) (block_homes resources blocks) path r e in
-      let o = of_home blocks f.item f.among in
-      subst (λ (q : List ℕ). IsHomed blocks path q) f.gives (subst (λ (p : List ℕ). IsHomed blocks p f.item.resource) f.named o)
+      grind (arith, of_home)
 
   -- a block has a home
   pub record HasHome (b : FlatBlock) : Type 0 where

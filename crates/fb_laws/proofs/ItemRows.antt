@@ -1,6 +1,6 @@
 -- The events of a type, and its plugs, sockets and instances in other roles.
-use Rattle.fb_laws.proofs.Common.{◌≡◌, ◌↔◌, ℕ, ◌<◌, Bool, true, List, Option, Some, map, ap, ◌∙◌, NameUse, EventTree, InstanceTree, InterfaceTree, NetworkTree, Side, Role, DeclaredEvent, DeclaredInstance, first_ones, stands_for, events_in, instances_in, same_role, same_side, got_in_map, map_gets, IsEventOn, IsFirstEvent, IsFirstInstance, IsFirstItem, IsInstanceAs, IsItemOf, of_block, AdaptersAreDeclared, AreExactly, ComeAsDeclared, EventsAreDeclared, arith}
-use Rattle.fb_laws.proofs.FirstLemmas.{IsFirst, IsPort, among_ports, first_stands, in_turn, is_port, ports, stands_first}
+use Rattle.fb_laws.proofs.Common.{◌≡◌, ◌↔◌, ℕ, ◌<◌, Bool, true, List, Option, Some, map, ap, NameUse, EventTree, InstanceTree, InterfaceTree, NetworkTree, Side, Role, DeclaredEvent, DeclaredInstance, first_ones, stands_for, events_in, instances_in, same_role, same_side, got_in_map, map_gets, IsEventOn, IsFirstEvent, IsFirstInstance, IsFirstItem, IsInstanceAs, IsItemOf, of_block, AdaptersAreDeclared, AreExactly, ComeAsDeclared, EventsAreDeclared, arith}
+use Rattle.fb_laws.proofs.FirstLemmas.{IsFirst, among_ports, first_stands, in_turn, is_port, ports, stands_first}
 
 -- what items mean is their sort and their type
 record Meaning (D S T : Type 0) : Type 0 where
@@ -25,9 +25,7 @@ module _ {A D S T : Type 0} (of : Meaning D S T) (name_of : A → NameUse) (mean
   declared = map entry items
 
   first_of : (name : List ℕ) (m : D) (o : IsFirst declared name m) → IsFirstItem name_of items name o.place
-  first_of name m o =
-      let e = got_in_map entry items o.place (name, m) o.there in
-      record { item = e.0; there = e.1; named = ap (λ (p : List ℕ × D). p.0) e.2; first = λ k other less at. o.first k (entry other) less (map_gets entry items k other at) }
+  first_of name m o = grind (arith, got_in_map, map_gets)
 
   item_of : (name : List ℕ) (m : D) → IsFirst declared name m → IsItemOf name_of sort_of type_of items (of.sort m) name (of.type m)
   unfolding first_of
@@ -41,10 +39,7 @@ module _ {A D S T : Type 0} (of : Meaning D S T) (name_of : A → NameUse) (mean
       }
 
   of_item : (name : List ℕ) (m : D) → IsItemOf name_of sort_of type_of items (of.sort m) name (of.type m) → IsFirst declared name m
-  of_item name m h =
-      let d = h.declared in
-      let means = of.equal (meaning_of d.item) m h.of_sort h.typed in
-      grind (arith, map_gets, got_in_map)
+  of_item name m h = grind (arith, map_gets, got_in_map)
 
   stand : (name : List ℕ) (m : D) → stands_for (first_ones declared) name ≡ Some m ↔ IsItemOf name_of sort_of type_of items (of.sort m) name (of.type m)
   stand name m = (λ e. item_of name m (stands_first declared name m e), λ h. first_stands declared name m (of_item name m h))
@@ -53,14 +48,8 @@ module _ {A D S T : Type 0} (of : Meaning D S T) (name_of : A → NameUse) (mean
     abbrev keeps : D → Bool
     keeps d = of.same (of.sort d) sort
 
-    is_item : (name : List ℕ) (type : T) → IsPort keeps of.type declared name type → IsItemOf name_of sort_of type_of items sort name type
-    is_item name type o = grind (arith, item_of)
-
-    item_is : (name : List ℕ) (type : T) → IsItemOf name_of sort_of type_of items sort name type → IsPort keeps of.type declared name type
-    item_is name type h = grind (arith, of_item)
-
     are_exactly : AreExactly (ports keeps of.type declared) (IsItemOf name_of sort_of type_of items sort)
-    are_exactly name type = (λ c. is_item name type (is_port keeps of.type declared name type c), λ h. among_ports keeps of.type declared name type (item_is name type h))
+    are_exactly name type = (λ c. let o = is_port keeps of.type declared name type c in grind (arith, item_of), λ h. among_ports keeps of.type declared name type (grind (arith, of_item)))
 
     come_in_turn : ComeAsDeclared (ports keeps of.type declared) (IsFirstItem name_of items) (λ place later. place < later)
     come_in_turn j k one other before at_one at_other =

@@ -1,21 +1,13 @@
 -- What a unit is made of is what it rests on, and what blocks its net is reported there.
-use Rattle.fb_laws.proofs.Common.{arith, ◌≡◌, ◌≢◌, ℕ, false, List, [], ◌∷◌, ◌++◌, map, flat_map, map-append, Option, Some, None, inl, inr, refl, sym, ap, ◌∙◌, subst, get, Contains, option_and_then, Contains-append_cases, is_elementary, contains_flat_map, contains_here, contains_map, contains_nothing, origin_in_flat_map, origin_in_map, passes_in_filter, instance_types, types_in, value_types, variable_types, ApplicationTree, DeclTree, InstanceTree, TypeTree, VariablesTree, adapter_type, block_type, structure_type, subapplication_type, system_configuration, Rests, itself, Sources, mentions_at, parts_at, parts_in, tree_at, tree_of, values_at, values_in, variables_of, instances_of, UnknownType, Fault, faults_of, IsNet, IsWhole, PlainNet, blocked, flat_net, recursive, too_large, part_mention, rests_more, value_mention, net_at_is, no_names_sorted, HasUnknownType, IsDeclaredAt, AreDeclaredIn, IsHeldIn, IsType, instance_of_application, instance_of_type, of_adapter, of_block, of_subapplication, Declarations, filter, from_names}
-use Rattle.fb_laws.proofs.{CarriedTypes.{is_plain, no_elementary, value_of}, DeclarationRows.{among_declared, declared_in, unknown_types}}
-use Rattle.fb_laws.proofs.{PartLemmas.{whole_units}, PathHolders.{part_among}}
+use Rattle.fb_laws.proofs.Common.{arith, ◌≡◌, ◌≢◌, ℕ, false, List, [], ◌∷◌, Option, Some, None, inl, inr, refl, sym, ap, ◌∙◌, subst, get, Contains, option_and_then, Contains-append_cases, is_elementary, contains_flat_map, contains_here, contains_map, contains_nothing, origin_in_flat_map, origin_in_map, passes_in_filter, instance_types, value_types, variable_types, ApplicationTree, DeclTree, InstanceTree, TypeTree, VariablesTree, adapter_type, block_type, structure_type, subapplication_type, system_configuration, Rests, itself, Sources, mentions_at, parts_at, parts_in, tree_at, tree_of, values_at, values_in, variables_of, instances_of, UnknownType, Fault, faults_of, IsNet, IsWhole, PlainNet, blocked, flat_net, recursive, too_large, part_mention, rests_more, value_mention, net_at_is, no_names_sorted, HasUnknownType, IsDeclaredAt, AreDeclaredIn, IsHeldIn, IsType, instance_of_application, instance_of_type, of_adapter, of_block, of_subapplication, Declarations, filter, from_names}
+use Rattle.fb_laws.proofs.{Lists.{no_members}, PathHolders.{types_by_instances, part_among}, CarriedTypes.{is_plain, no_elementary, value_of}}
+use Rattle.fb_laws.proofs.{DeclarationRows.{among_declared, declared_in, unknown_types}, PartLemmas.{whole_units}}
 use Rattle.fb_deploy.specs.{Library.Rests.{through}, Flatten.Blocking.{AreThose, IsBlocking}}
 use Rattle.fb_types.specs.Reaches.{Reaches, directly, onward}
 use Rattle.fb_types.proofs.StackLemmas.{reaches_more}
 use Rattle.fb_laws.specs.MadeOf.{BlockedIsTold, BlockedUnitsHaveFaultsBelow, HasFaultBelow, HasNoFaultsBelow, Holds, IsInTheWay, IsMadeOf, OtherNetsHaveNoFaultsBelow, OtherNetsHoldNothingInItself, RecursiveIsTold, WholeUnitsHaveNoFaultsBelow, absent_type, faulty_unit, inner_part, own_part, own_unit, type_of_part, type_of_value}
 
 -- ---- declarations
-
-map_through : {X Y Z : Type 0} (f : Y → Z) (g : X → List Y) (xs : List X) → map f (flat_map g xs) ≡ flat_map (λ x. map f (g x)) xs
-map_through f g [] = refl
-map_through f g (x ∷ xs) = map-append f (g x) (flat_map g xs) ∙ ap (λ l. map f (g x) ++ l) (map_through f g xs)
-
-types_by_instances : (decl : DeclTree) → instance_types decl ≡ types_in (instances_of decl)
-types_by_instances (system_configuration s) = sym (map_through (λ (i : InstanceTree). i.type_name.name) (λ (a : ApplicationTree). a.network.instances) s.applications)
-types_by_instances decl = refl
 
 listed_held : (decl : DeclTree) (i : InstanceTree) → Contains (instances_of decl) i → IsHeldIn decl i
 listed_held (block_type d) i c = instance_of_type (of_block d) c
@@ -123,8 +115,7 @@ module _ (sources : Sources) (unit : List ℕ) where
   way_below way = grind (arith, faulty_unit, made_rests, absent_type, type_of_part)
 
   way_blocks : {name : List ℕ} → IsInTheWay sources unit name → IsBlocking sources unit name
-  way_blocks (faulty_unit made faulty) = inl faulty
-  way_blocks (absent_type {holder = holder} decl i made is held absent) = inr (absent, (holder, made_rests made, part_held sources holder decl i is held))
+  way_blocks {name} way = grind (arith, made_rests, part_held)
 
   way_faulty : {name : List ℕ} → IsInTheWay sources unit name → HasFaultBelow sources unit
   way_faulty way = grind (arith, faulty_unit, absent_type, holder_faulty)
@@ -132,8 +123,7 @@ module _ (sources : Sources) (unit : List ℕ) where
   -- ---- whole units
 
   none_below : IsWhole sources unit → HasNoFaultsBelow sources unit
-  none_below whole name made =
-      (elim (faults_of sources name) as (λ found. faults_of sources name ≡ found → faults_of sources name ≡ []) [ [] ↦ λ is. is | f ∷ fs ↦ λ is. let faulty : faults_of sources name ≢ [] = λ none. contains_nothing f (subst (λ (l : List Fault). Contains l f) (sym is ∙ none) (contains_here f fs)) in absurd (contains_nothing name ((whole.members name).1 (made_rests made, inl faulty))) ]) refl
+  none_below whole name made = no_members (faults_of sources name) (λ f c. contains_nothing name ((whole.members name).1 (made_rests made, inl (λ none. contains_nothing f (subst (λ (l : List Fault). Contains l f) none c)))))
 
   whole_of_none : HasNoFaultsBelow sources unit → IsWhole sources unit
   whole_of_none none = record { sorted = no_names_sorted; members = λ v. (λ c. absurd (contains_nothing v c), λ b. let found = way_faulty (in_the_way v b.0 b.1) in absurd (found.faulty (none found.name found.below))) }
@@ -174,6 +164,4 @@ pub others_finite : OtherNetsHoldNothingInItself
 others_finite sources unit net is unblocked finite = by net ((net_at_is sources unit net).0 is).1 unblocked finite
   where
     by : (net : PlainNet) → IsNet sources unit net → ((names : List (List ℕ)) → net ≢ blocked names) → ((names : List (List ℕ)) → net ≢ recursive names) → (name : List ℕ) → IsMadeOf sources unit name → Holds sources name name → ⊥
-    by (blocked names) is unblocked finite = absurd (unblocked names refl)
-    by (recursive names) is unblocked finite = absurd (finite names refl)
-    by net is unblocked finite = λ name made holds. contains_nothing name ((is.0.finite.members name).1 (made_rests sources unit made, holds_reaches sources name holds))
+    by net is unblocked finite name made holds = grind (arith, blocked, recursive, too_large, flat_net, contains_nothing, made_rests, holds_reaches)

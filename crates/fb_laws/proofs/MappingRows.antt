@@ -1,8 +1,7 @@
 -- Each code of mappings, by what its list of faults has.
-use Rattle.fb_laws.proofs.Common.{◌≡◌, ℕ, List, ◌∷◌, sym, ap, ◌∙◌, subst, Bool, false, Option, Some, refl, true≢false, ◌≢◌, [], length, bytes_eq, find, option_map, passes_in_find, false_from_ne_true, ◌-◌, arith, Contains-append_left, Contains-append_right, Contains, flat_map, slice_get, option_map_or, NameUse, Span, DeclTree, DeviceTree, MappingTree, ResourceTree, SystemTree, system_configuration, declared_mapping_faults, has_resource, resource_names, home_faults, home_span, mapping_faults_of, resource_faults, second_mappings, system_mapping_faults, has_name, Code, MappedTwice, NoSuchResource, Fault, Sources, tree_at, PathUse, path_of_names, contains_flat_map, contains_here, contains_map, contains_nothing, contains_single, origin_in_flat_map, origin_in_map, none_named, not_named, HasLostMapping, HasSecondMapping, IsLost, IsSystemAt, MappingsHaveHomes, MappingsHaveOwnPaths, no_device, no_resource, last_of, place_of_path}
-use Rattle.fb_laws.proofs.{HomeLemmas.{bytes_same, same_bytes, same_found}, Joined.{iff, of_either, by_option}, RepeatedPaths.{repeat_origin, repeat_reported}}
-use Rattle.fb_laws.proofs.SplitLemmas.{before_fails, first_found, found_none, found_split, none_found}
-use Rattle.std.specs.List.{before_first}
+use Rattle.fb_laws.proofs.Common.{◌≡◌, ℕ, List, ◌∷◌, sym, ap, ◌∙◌, subst, Bool, false, Option, Some, refl, true≢false, ◌≢◌, [], length, bytes_eq, find, option_map, passes_in_find, false_from_ne_true, ◌-◌, arith, Contains-append_left, Contains-append_right, Contains, flat_map, slice_get, option_map_or, NameUse, Span, DeclTree, DeviceTree, MappingTree, ResourceTree, SystemTree, system_configuration, declared_mapping_faults, has_resource, resource_names, home_faults, home_span, mapping_faults_of, resource_faults, second_mappings, system_mapping_faults, has_name, Code, MappedTwice, NoSuchResource, Fault, Sources, tree_at, PathUse, path_of_names, contains_flat_map, contains_here, contains_map, contains_nothing, contains_single, origin_in_flat_map, origin_in_map, none_named, not_named, HasLostMapping, HasSecondMapping, IsLost, IsSystemAt, MappingsHaveHomes, MappingsHaveOwnPaths, no_device, no_resource, last_of, place_of_path, before_first, ◌↔◌}
+use Rattle.fb_laws.proofs.{HomeLemmas.{bytes_same, same_bytes, same_found}, Lists.{iff, of_either, by_option}, RepeatedPaths.{repeat_origin, repeat_reported}}
+use Rattle.fb_laws.proofs.Lists.{before_fails, first_found, found_none, found_split, none_found}
 
 -- what is so where a unit has a fault of this code
 abbrev pub Has : Code → Sources → List ℕ → Span → Type 0
@@ -23,8 +22,7 @@ path_place : (names : List NameUse) → (path_of_names names).span ≡ place_of_
 path_place [] = refl
 path_place (first ∷ others) =
     let seat : length (first ∷ others) - 1 ≡ length others = omega arith in
-    let last : slice_get (first ∷ others) (length (first ∷ others) - 1) ≡ Some (last_of first others) = ap (slice_get (first ∷ others)) seat ∙ last_there first others in
-    λ i. record { start = first.span.start; end = option_map_or (λ (n : NameUse). n.span.end) (last i) 0 }
+    grind (arith, last_there)
 
 -- mappings to no resource
 
@@ -40,16 +38,13 @@ holds_first s m =
     ap (λ (o : Option (List NameUse)). option_map_or (λ names. has_name names m.resource.name) o false)
     (sym (same_found (λ (d : DeviceTree). d.name) resource_names s.devices m.device.name))
 
-not_called : (name : List ℕ) (d : DeviceTree) → d.name.name ≢ name → is_named name d ≡ false
-not_called name d other = false_from_ne_true (is_named name d) (λ yes. other (same_bytes d.name.name name yes))
-
-called : (name : List ℕ) (d : DeviceTree) → is_named name d ≡ false → d.name.name ≢ name
-called name d other same = true≢false (sym (bytes_same d.name.name name same) ∙ other)
+not_called : (name : List ℕ) (d : DeviceTree) → is_named name d ≡ false ↔ (d.name.name ≢ name)
+not_called name d = iff (λ other same. true≢false (sym (bytes_same d.name.name name same) ∙ other)) (λ other. false_from_ne_true (is_named name d) (λ yes. other (same_bytes d.name.name name yes)))
 
 pub lost_where : (s : SystemTree) (m : MappingTree) → has_resource s.devices m.device.name m.resource.name ≡ false → IsLost s m
 lost_where s m e =
     let test = is_named m.device.name in
-    by_option (find test s.devices) (λ none. no_device (λ d c. called m.device.name d (found_none test s.devices none d c))) (λ d g.
+    by_option (find test s.devices) (λ none. no_device (λ d c. (not_called m.device.name d).0 (found_none test s.devices none d c))) (λ d g.
     let o = found_split test s.devices d g in
     let none = ap (λ (o : Option DeviceTree). holds o m.resource.name) (sym g) ∙ sym (holds_first s m) ∙ e in
     no_resource d (record {
@@ -57,25 +52,22 @@ lost_where s m e =
       after = o.0;
       listed = o.1;
       named = same_bytes d.name.name m.device.name (passes_in_find test s.devices d g).passes;
-      none_before = λ x c. called m.device.name x (before_fails test s.devices x c);
+      none_before = λ x c. (not_called m.device.name x).0 (before_fails test s.devices x c);
     }) (λ r c. not_named (resource_names d) m.resource.name none r.name (contains_map (λ (r : ResourceTree). r.name) d.resources r c)))
 
 lost_found_where : (s : SystemTree) (m : MappingTree) → IsLost s m → has_resource s.devices m.device.name m.resource.name ≡ false
 lost_found_where s m (no_device none) =
     holds_first s m
-    ∙ ap (λ (o : Option DeviceTree). holds o m.resource.name) (none_found (is_named m.device.name) s.devices (λ d c. not_called m.device.name d (none d c)))
+    ∙ ap (λ (o : Option DeviceTree). holds o m.resource.name) (none_found (is_named m.device.name) s.devices (λ d c. (not_called m.device.name d).1 (none d c)))
 lost_found_where s m (no_resource d f none) =
     let test = is_named m.device.name in
-    let first = first_found test f.before d f.after (λ x c. not_called m.device.name x (f.none_before x c)) (bytes_same d.name.name m.device.name f.named) in
+    let first = first_found test f.before d f.after (λ x c. (not_called m.device.name x).1 (f.none_before x c)) (bytes_same d.name.name m.device.name f.named) in
     holds_first s m
     ∙ ap (λ (o : Option DeviceTree). holds o m.resource.name) (ap (find test) f.listed ∙ first)
     ∙ none_named (resource_names d) m.resource.name (λ n c. let r = origin_in_map (λ (r : ResourceTree). r.name) d.resources n c in subst (λ (x : NameUse). x.name ≢ m.resource.name) r.gives (none r.origin r.among))
 
 abbrev lost_at : MappingTree → Fault
 lost_at m = record { code = NoSuchResource; span = home_span m }
-
-in_lost : (is_there : Bool) (m : MappingTree) (f : Fault) → Contains (home_faults is_there m) f → (is_there ≡ false) × (lost_at m ≡ f)
-in_lost is_there m f h = grind (arith, contains_nothing, contains_single)
 
 -- the faults of a system's mappings, list by list
 
@@ -93,11 +85,8 @@ module _ (sources : Sources) (unit : List ℕ) where
     lost_found : (f : Fault) → Contains (flat_map (resource_faults s.devices) s.mappings) f → Finds f
     lost_found f c =
         let m = origin_in_flat_map (resource_faults s.devices) s.mappings f c in
-        let l = in_lost (has_resource s.devices m.origin.device.name m.origin.resource.name) m.origin f m.has in
+        let l : (has_resource s.devices m.origin.device.name m.origin.resource.name ≡ false) × (lost_at m.origin ≡ f) = grind (arith, contains_nothing, contains_single) in
         subst Finds l.1 (record { system = s; declared = declared; mapping = m.origin; listed = m.among; lost = lost_where s m.origin l.0; starts = refl; ends = refl })
-
-    system_found : (f : Fault) → Contains (system_mapping_faults s) f → Finds f
-    system_found = of_either _ _ second_found lost_found
 
     -- and the other way
     reported : (f : Fault) → Contains (system_mapping_faults s) f → Contains (mapping_faults_of sources unit) f
@@ -106,7 +95,7 @@ module _ (sources : Sources) (unit : List ℕ) where
   -- a fault says what its code means
   pub found : (f : Fault) → Contains (mapping_faults_of sources unit) f → Finds f
   found f c =
-      (elim (tree_at sources unit) as (λ o. tree_at sources unit ≡ o → Contains (declared_mapping_faults o) f → Finds f) [ Some (system_configuration s) ↦ λ e h. system_found s e f h | o ↦ λ e h. absurd (contains_nothing f h) ]) refl c
+      (elim (tree_at sources unit) as (λ o. tree_at sources unit ≡ o → Contains (declared_mapping_faults o) f → Finds f) [ Some (system_configuration s) ↦ λ e. of_either _ _ (second_found s e) (lost_found s e) f | o ↦ λ e h. absurd (contains_nothing f h) ]) refl c
 
 pub own_paths : MappingsHaveOwnPaths
 own_paths sources unit span =
@@ -115,7 +104,7 @@ own_paths sources unit span =
     (λ h. let at : (mapping_path h.again).span ≡ span = path_place h.again.path ∙ sym h.place in
     let one = repeat_reported mapping_path MappedTwice h.system.mappings h.before h.after h.again h.first h.listed h.earlier h.same in
     let second = subst (λ (s : Span). Contains (second_mappings h.system.mappings) (record { code = MappedTwice; span = s })) at one in
-    reported sources unit h.system h.declared it (Contains-append_left (second_mappings h.system.mappings) (flat_map (resource_faults h.system.devices) h.system.mappings) it second))
+    reported sources unit h.system h.declared it (Contains-append_left _ _ it second))
 
 pub have_homes : MappingsHaveHomes
 have_homes sources unit span =

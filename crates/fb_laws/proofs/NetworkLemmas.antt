@@ -1,7 +1,7 @@
 -- The faults of a unit's networks, network by network.
-use Rattle.fb_laws.proofs.Common.{arith, ◌≡◌, ℕ, List, [], ◌∷◌, Option, Some, None, refl, sym, subst, Contains, flat_map, slice_get, Span, DeclTree, NetworkTree, block_type, subapplication_type, system_configuration, Connection, End, Sources, tree_at, first_ones, instances_in, type_ports_of, Code, DataType, Literal, ParameterUnknown, PassThrough, PortSide, PortUnknown, SecondAdapter, SecondSource, Fault, contains_flat_map, contains_nothing, origin_in_flat_map, Source, Destination, connection_faults, end_span, target, application_network, net_faults_of, network_faults, tree_faults, all_parameters, second_adapters, second_sources, NetworkPlace, end_faults, pass_through_faults, joined_types, IsNetworkOf, Site, place_of, HasMisfit, HasOtherType, HasPassThrough, HasSecondAdapter, HasSecondSource, HasUnknownParameter, HasUnknownPort, HasWrongSide}
-use Rattle.fb_laws.proofs.Joined.{in_joined}
-use Rattle.fb_laws.specs.{Ends.{of_block, of_subapplication, of_application}, Networks.{ConnectionOf}}
+use Rattle.fb_laws.proofs.Common.{arith, ◌≡◌, ℕ, List, [], ◌∷◌, Option, Some, None, refl, sym, subst, Contains, flat_map, slice_get, Span, DeclTree, NetworkTree, block_type, subapplication_type, system_configuration, Connection, End, Sources, tree_at, first_ones, instances_in, type_ports_of, Code, DataType, Literal, ParameterUnknown, PassThrough, PortSide, PortUnknown, SecondAdapter, SecondSource, Fault, contains_flat_map, contains_nothing, origin_in_flat_map, Source, Destination, connection_faults, end_span, target, application_network, net_faults_of, network_faults, tree_faults, all_parameters, second_adapters, second_sources, NetworkPlace, end_faults, pass_through_faults, joined_types, IsNetworkOf, Site, place_of, HasMisfit, HasOtherType, HasPassThrough, HasSecondAdapter, HasSecondSource, HasUnknownParameter, HasUnknownPort, HasWrongSide, ConnectionOf}
+use Rattle.fb_laws.proofs.Lists.{in_joined}
+use Rattle.fb_laws.specs.Ends.{of_block, of_subapplication, of_application}
 
 -- the place of a network as the check has it
 abbrev pub place_at : Sources → Site → NetworkTree → NetworkPlace

@@ -1,10 +1,9 @@
 -- The blocks of a system's flat network are those that stand at its paths.
 use Rattle.fb_laws.proofs.Common.{arith, ◌≡◌, ℕ, List, [], ◌∷◌, ◌++◌, Option, Some, None, inl, inr, refl, sym, ap, ◌∙◌, subst, append_assoc, option_map, filter_map, flat_map, Contains-append_cases, contains_cases, contains_flat_map, contains_here, contains_later, contains_map, contains_nothing, origin_in_flat_map, origin_in_map, ApplicationTree, DeclTree, InstanceTree, SystemTree, subapplication_type, Role, Sources, tree_at, HasFlat, plain_application, declared, instance_in_role, network_of, plain_instance, AreFlatApplications, Application, block_within, AreInstances, Held, NoInstance, ThenBlock, ThenSubapplication, held_as, held_within, leaves_of, View, PlainNetwork, PlainFlat, printed, dotted, IsSystemFlat, application_blocks, FlatApplication, FlatBlock, Instance, InstanceKind, IsSystemAt, IsAtPath, in_application, inside, with_points, Contains, map, Path}
-use Rattle.fb_laws.proofs.{Joined.{given, gives_member}, PathNames.{some_more}, PathTexts.{same_print}}
-use Rattle.fb_laws.proofs.PlanEnds.{application_of, flat_of, inner_held, instance_held, leaf_listed}
+use Rattle.fb_laws.proofs.{Lists.{given, gives_member}, PathHomes.{some_more}, PathTexts.{same_print}, PlanEnds.{application_of, flat_of, inner_held, instance_held, leaf_listed}}
 use Rattle.fb_types.proofs.Network.Equals.{printed-within}
-use Rattle.fb_tree.specs.declared.network.Role.TheVariants as roles
 use Rattle.fb_types.specs.Network.declared.network.InstanceKind.TheVariants.{Block, Subapplication}
+use Rattle.fb_tree.specs.declared.network.Role.TheVariants as roles
 
 -- ---- instances in plain
 
@@ -15,16 +14,13 @@ role_of Subapplication = roles.Subapplication
 abbrev in_plain : InstanceTree → InstanceKind → Instance
 in_plain i kind = record { name = i.name.name; kind = kind; type_name = i.type_name.name }
 
-plain_of : (role : Role) (kind : InstanceKind) (name type_name : List ℕ) → role ≡ role_of kind → instance_in_role role name type_name ≡ Some (record { name = name; kind = kind; type_name = type_name })
-plain_of role kind name type_name e = grind arith
-
 -- what an instance in plain is of
 of_role : (role : Role) (name type_name : List ℕ) (p : Instance) → instance_in_role role name type_name ≡ Some p → (name ≡ p.name) × (role ≡ role_of p.kind) × (type_name ≡ p.type_name)
 of_role role name type_name p e = grind arith
 
 -- an instance of a block or a subapplication among the plain ones
 among_plain : (instances : List InstanceTree) (i : InstanceTree) (kind : InstanceKind) → Contains instances i → i.role ≡ role_of kind → Contains (filter_map plain_instance instances) (in_plain i kind)
-among_plain instances i kind c role = gives_member plain_instance instances i (in_plain i kind) c (plain_of i.role kind i.name.name i.type_name.name role)
+among_plain instances i kind c role = gives_member plain_instance instances i (in_plain i kind) c (grind arith)
 
 -- ---- from paths to what is held
 
@@ -85,9 +81,7 @@ module _ (sources : Sources) (s : SystemTree) where
   step_in path z (Some (subapplication_type d)) k there o inner e p c =
       let same : network_of (subapplication_type d) ≡ inner = cc in
       let g = given plain_instance d.network.instances p (subst (λ (n : PlainNetwork). Contains n.instances p) (sym same) c) in
-      let t = of_role g.origin.role g.origin.name.name g.origin.type_name.name p g.gives in
-      let role : o.instance.role ≡ roles.Subapplication = o.in_role ∙ ap role_of k in
-      grind (arith, inside)
+      grind (arith, of_role, inside)
   step_in path z None k there o inner e p c = absurd (let no : ⊥ = cc in no)
   step_in path z (Some d) k there o inner e p c = let same : network_of d ≡ inner = cc in absurd (contains_nothing p (subst (λ (n : PlainNetwork). Contains n.instances p) (sym same) c))
 
@@ -153,8 +147,7 @@ module _ (sources : Sources) (s : SystemTree) (flats : List FlatApplication) (fl
   each_in : (a : ApplicationTree) → Contains s.applications a → (p : Instance) → Contains (plain_application a).network.instances p → StandsAs sources s ((a.name.name ∷ []) ++ p.name ∷ []) p.kind p.type_name
   each_in a c p cp =
       let g = given plain_instance a.network.instances p cp in
-      let t = of_role g.origin.role g.origin.name.name g.origin.type_name.name p g.gives in
-      record { instance = g.origin; at = subst (λ (n : List ℕ). IsAtPath sources s (a.name.name ∷ n ∷ []) g.origin) t.0 (in_application a g.origin c g.among); in_role = t.1; of_type = t.2 }
+      grind (arith, of_role, in_application)
 
   block_stands : (b : FlatBlock) → Contains flat.blocks b → BlockStands sources s b
   block_stands b c =

@@ -1,8 +1,6 @@
 -- The units whose texts have what stands at the paths of a sound system: these have no faults, so each name stands for one instance of theirs.
-use Rattle.fb_laws.proofs.Common.{◌≡◌, ℕ, true, List, ◌∷◌, ◌++◌, Option, Some, refl, sym, ◌∙◌, subst, flat_map, Contains-append_left, Contains-append_right, NameUse, contains_flat_map, contains_here, contains_later, contains_map, contains_nothing, origin_in_flat_map, instance_types, types_in, unit_kind_of, ApplicationTree, DeclTree, DeviceTree, InstanceTree, SystemTree, TypeTree, block_type, adapter_type, subapplication_type, system_configuration, structure_type, Role, PartRests, on_itself, Sources, parts_at, parts_in, tree_at, chart_spaces, interface_spaces, network_spaces, resource_names, instances_of, suits, WrongKind, Fault, IsSound, parts_more, unit_faultless, sound_below, first_at, IsSystemAt, IsAtPath, in_application, inside, Contains, map, in_order_has, true_from_ne_false, arith}
+use Rattle.fb_laws.proofs.Common.{◌≡◌, ℕ, true, List, ◌∷◌, ◌++◌, Option, Some, refl, sym, ◌∙◌, subst, flat_map, Contains-append_left, Contains-append_right, NameUse, contains_flat_map, contains_here, contains_later, contains_map, contains_nothing, instance_types, types_in, unit_kind_of, ApplicationTree, DeclTree, DeviceTree, InstanceTree, SystemTree, TypeTree, subapplication_type, system_configuration, PartRests, on_itself, Sources, parts_at, parts_in, tree_at, chart_spaces, interface_spaces, network_spaces, resource_names, instances_of, suits, WrongKind, Fault, IsSound, parts_more, unit_faultless, sound_below, first_at, IsSystemAt, IsAtPath, in_application, inside, Contains, map, in_order_has, true_from_ne_false, arith, map-append, ap, Subapplication, []}
 use Rattle.fb_laws.proofs.{DeclarationRows.{not_suited, wrong_kinds}, HomeLemmas.{same_found}}
-use Rattle.fb_tree.specs.declared.kinds.UnitKind.TheVariants as kinds
-use Rattle.fb_tree.specs.declared.network.Role.TheVariants as roles
 use Rattle.fb_deploy.specs.Flatten.Nothing.{HasNoReport}
 use Rattle.fb_deploy.proofs.{Flatten.NameLemmas.{AreApart, apart, distinct, stands_for_itself}, Flatten.NothingLemmas.{nothing_reported}}
 
@@ -22,20 +20,17 @@ pub record Holder (sources : Sources) (unit : List ℕ) (i : InstanceTree) : Typ
   pub declared : tree_at sources name ≡ Some tree
   pub among : Contains (instances_of tree) i
 
-type_among : (tree : DeclTree) (i : InstanceTree) → Contains (instances_of tree) i → Contains (instance_types tree) i.type_name.name
-type_among (block_type d) i c = contains_map (λ (j : InstanceTree). j.type_name.name) d.network.instances i c
-type_among (adapter_type d) i c = contains_map (λ (j : InstanceTree). j.type_name.name) d.network.instances i c
-type_among (subapplication_type d) i c = contains_map (λ (j : InstanceTree). j.type_name.name) d.network.instances i c
-type_among (system_configuration s) i c =
-    let o = origin_in_flat_map (λ (a : ApplicationTree). a.network.instances) s.applications i c in
-    contains_flat_map (λ (a : ApplicationTree). types_in a.network.instances) s.applications o.origin i.type_name.name o.among
-    (contains_map (λ (j : InstanceTree). j.type_name.name) o.origin.network.instances i o.has)
-type_among (structure_type s) i c = absurd (contains_nothing i c)
+map_through : {X Y Z : Type 0} (f : Y → Z) (g : X → List Y) (xs : List X) → map f (flat_map g xs) ≡ flat_map (λ x. map f (g x)) xs
+map_through f g [] = refl
+map_through f g (x ∷ xs) = map-append f (g x) (flat_map g xs) ∙ ap (λ l. map f (g x) ++ l) (map_through f g xs)
+
+pub types_by_instances : (decl : DeclTree) → instance_types decl ≡ types_in (instances_of decl)
+types_by_instances decl = grind (arith, map_through)
 
 pub part_among : (sources : Sources) (name : List ℕ) (tree : DeclTree) (i : InstanceTree) → tree_at sources name ≡ Some tree → Contains (instances_of tree) i → Contains (parts_at sources name) i.type_name.name
 part_among sources name tree i declared c =
     subst (λ (o : Option DeclTree). Contains (parts_in o) i.type_name.name) (sym declared)
-    (in_order_has (instance_types tree) i.type_name.name (type_among tree i c))
+    (in_order_has (instance_types tree) i.type_name.name (rw (types_by_instances tree) (contains_map (λ (j : InstanceTree). j.type_name.name) (instances_of tree) i c)))
 
 -- and the unit rests on the type of the instance
 pub type_below : (sources : Sources) (unit : List ℕ) (i : InstanceTree) → Holder sources unit i → PartRests sources unit i.type_name.name
@@ -66,11 +61,8 @@ module _ (sources : Sources) (unit : List ℕ) (sound : IsSound sources unit) wh
       let has = (wrong_kinds sources h.name i.type_name.span).1 (record { decl = h.tree; declared = h.declared; instance = i; among = h.among; type = type; known = there; unsuited = not_suited i.role (unit_kind_of type) e; place = refl }) in
       contains_nothing fault (subst (λ (l : List Fault). Contains l fault) (no_report h.name h.below).declarations has))
 
-  subapplication_role : (role : Role) → suits role kinds.Subapplication ≡ true → role ≡ roles.Subapplication
-  subapplication_role role e = grind arith
-
-  pub is_subapplication : (i : InstanceTree) → Holder sources unit i → (d : TypeTree) → tree_at sources i.type_name.name ≡ Some (subapplication_type d) → i.role ≡ roles.Subapplication
-  is_subapplication i h d there = subapplication_role i.role (fits i h (subapplication_type d) there)
+  pub is_subapplication : (i : InstanceTree) → Holder sources unit i → (d : TypeTree) → tree_at sources i.type_name.name ≡ Some (subapplication_type d) → i.role ≡ Subapplication
+  is_subapplication i h d there = let suited = fits i h (subapplication_type d) there in grind arith
 
   module _ (s : SystemTree) (is : IsSystemAt sources unit s) where
     abbrev prefix : List (List NameUse)

@@ -1,8 +1,44 @@
--- The home of what stands at a path is the resource of the nearest mapping of it or above it.
-use Rattle.fb_laws.proofs.Common.{◌≡◌, ◌≢◌, ℕ, ◌+◌, ◌≤◌, length, take, List, [], ◌∷◌, Some, None, sym, ap, ◌∙◌, subst, refl, arith, option_map, find, bytes_eq, dec_lt, false_from_ne_true, Contains-append_left, contains_nothing, InstanceTree, MappingTree, SystemTree, on_itself, Sources, MappedTwice, Fault, IsSound, IsPrefix, IsNearest, mapping_home, mapping_path, resource_at, IsSystemAt, IsAtPath, place_of_path, IsAbove, IsMappedTo, path_of, with_points, Contains, Path}
-use Rattle.fb_laws.proofs.{FirstLemmas.{at_contained}, HomeLemmas.{bytes_same, found_in, same_bytes}, Joined.{by_option}, MappingRows.{own_paths}}
-use Rattle.fb_laws.proofs.{PathHolders.{no_report}, PathNames.{mapping_plain, path_plain, path_some}}
-use Rattle.fb_laws.proofs.{PathTexts.{goes_on, prefix_has_name, prefix_of, same_names, same_print, text_lengths}, SplitLemmas.{first_found, split_at}}
+-- The names of paths, and the home of what stands at a path: the resource of the nearest mapping of it or above it.
+use Rattle.fb_laws.proofs.Common.{arith, ◌≢◌, ℕ, List, [], ◌∷◌, ◌++◌, Contains-append_left, Contains-append_right, NameUse, contains_flat_map, contains_here, contains_later, contains_map, InstanceTree, MappingTree, NetworkTree, SystemTree, TypeTree, subapplication_type, system_configuration, Sources, IsSystemAt, IsAtPath, in_application, inside, path_of, Part, application_parts, name_part, network_parts, tree_parts, Contains, All-cons, All-contains_itself, All-map, All-nil, All-push, All-weaker, ◌≡◌, ◌+◌, ◌≤◌, length, take, Some, None, sym, ap, ◌∙◌, subst, refl, option_map, find, bytes_eq, dec_lt, false_from_ne_true, contains_nothing, on_itself, MappedTwice, Fault, IsSound, IsPrefix, IsNearest, mapping_home, mapping_path, resource_at, place_of_path, IsAbove, IsMappedTo, with_points, Path}
+use Rattle.fb_laws.proofs.{PathTexts.{IsPlain, name_in_unit, ArePlain, goes_on, prefix_has_name, prefix_of, same_names, same_print, text_lengths}, FirstLemmas.{at_contained}}
+use Rattle.fb_laws.proofs.{HomeLemmas.{bytes_same, found_in, same_bytes}, Lists.{by_option, first_found, split_at}, MappingRows.{own_paths}, PathHolders.{no_report}}
+
+-- ---- where names stand in trees
+
+in_network : (n : NetworkTree) (i : InstanceTree) → Contains n.instances i → Contains (network_parts n) (name_part i.name)
+in_network n i c = search (Contains-append_left, contains_flat_map, contains_here)
+
+in_type : (d : TypeTree) (p : Part) → Contains (network_parts d.network) p → Contains (tree_parts (subapplication_type d)) p
+in_type d p c = search (contains_later, Contains-append_right, Contains-append_left)
+
+in_mapping_parts : (s : SystemTree) (m : MappingTree) (name : NameUse) → Contains s.mappings m → Contains m.path name → Contains (tree_parts (system_configuration s)) (name_part name)
+in_mapping_parts s m name c h =
+    let own = contains_map name_part m.path name h in
+    search (contains_later, Contains-append_right, contains_flat_map, Contains-append_left) depth 6
+
+-- ---- paths
+
+module _ (sources : Sources) (unit : List ℕ) (s : SystemTree) (is : IsSystemAt sources unit s) where
+  pub mapping_plain : (m : MappingTree) → Contains s.mappings m → ArePlain (path_of m)
+  mapping_plain m c =
+      All-map IsPlain (λ (n : NameUse). n.name) m.path
+      (All-weaker (Contains m.path) (λ (n : NameUse). IsPlain n.name) (λ n h. name_in_unit sources unit (system_configuration s) is n (in_mapping_parts s m n c h)) m.path (All-contains_itself m.path))
+
+  pub path_plain : (path : List (List ℕ)) (i : InstanceTree) → IsAtPath sources s path i → ArePlain path
+  path_plain path end (in_application a i ca ci) =
+      let named = λ (n : NameUse) (h : Contains (application_parts a) (name_part n)). name_in_unit sources unit (system_configuration s) is n (search (contains_later, Contains-append_left, contains_flat_map)) in
+      All-cons IsPlain a.name.name (i.name.name ∷ []) (named a.name (contains_here (name_part a.name) (network_parts a.network)))
+      (All-cons IsPlain i.name.name [] (named i.name (contains_later (name_part a.name) (network_parts a.network) (name_part i.name) (in_network a.network i ci))) (All-nil IsPlain))
+  path_plain path end (inside {path = before} {outer = outer} type i at role there ci) =
+      All-push IsPlain before i.name.name (path_plain before outer at)
+      (name_in_unit sources outer.type_name.name (subapplication_type type) there i.name (in_type type (name_part i.name) (in_network type.network i ci)))
+
+pub some_more : (path : List (List ℕ)) (name : List ℕ) → path ++ name ∷ [] ≢ []
+some_more [] name e = cc
+some_more (first ∷ others) name e = cc
+
+pub path_some : (sources : Sources) (s : SystemTree) (path : List (List ℕ)) (i : InstanceTree) → IsAtPath sources s path i → path ≢ []
+path_some sources s path i at e = grind (arith, in_application, inside, some_more)
 
 module _ (sources : Sources) (unit : List ℕ) (s : SystemTree) (is : IsSystemAt sources unit s) (sound : IsSound sources unit) where
   -- the resource under the path of a mapping, which no other mapping before it has
@@ -34,9 +70,7 @@ module _ (sources : Sources) (unit : List ℕ) (s : SystemTree) (is : IsSystemAt
         let names = path_of f.item in
         let plain = path_plain sources unit s is path i at in
         let there = subst (λ (t : List ℕ). IsPrefix t (with_points path)) (sym f.named ∙ sym (same_print names)) is_prefix in
-        let written : names ≢ [] = λ none. prefix_has_name path (path_some sources s path i at) plain (subst (λ (a : Path). IsPrefix (with_points a) (with_points path)) none there) in
-        let o = goes_on names path written (path_some sources s path i at) (mapping_plain sources unit s is f.item f.among) plain there in
-        (f.item, f.among, record { written = written; inner = o.0; goes_on = o.1 }, f.named, f.gives)
+        grind (arith, prefix_has_name, path_some, goes_on, mapping_plain)
 
     longer : (a b : MappingTree) → IsAbove a path → IsAbove b path → length (path_of a) ≤ length (path_of b) → length (mapping_path a) + length (path_of b) ≤ length (mapping_path b) + length (path_of a)
     longer a b above other fewer = text_lengths (path_of a) (path_of b) above.inner other.inner above.written (sym above.goes_on ∙ other.goes_on) fewer

@@ -1,17 +1,14 @@
 -- What is made where, and what is misplaced, by what stands at the paths of a system and what its mappings name.
-use Rattle.fb_laws.proofs.Common.{arith, ◌≡◌, ◌≢◌, ◌↔◌, ℕ, List, [], ◌∷◌, ◌++◌, Option, Some, None, inl, inr, refl, sym, ap, ◌∙◌, subst, map, true≢false, codes, append_cancel_left, Contains-append_cases, Contains-append_left, contains_map, origin_in_map, DeclTree, InstanceTree, SystemTree, system_configuration, Sources, tree_at, faulty, planned, planned_by, HasFlat, IsNet, PlainNet, flat_net, plan_at_is, PlainFlat, FlatBlock, Link, IsNearest, nearest, misplaced, create_text, names_used, resource_at, PlainResource, leads_nowhere, mappings_in, Misplaced, NoSuchBlock, Unmapped, PlacedCommand, is_nearest, IsSystemAt, IsAtPath, IsMappedTo, IsMisplaced, MakesMapped, MisplacedIsTold, NothingPlannedIsMisplaced, making, of_nothing, path_of, unmapped, with_points, IsHome, IsPlanned, BeginsWith, MakesItsBlocks, Contains, Path, true_from_ne_false}
-use Rattle.fb_laws.proofs.{CommandRows.{blocks_made}, EntryLemmas.{homes_have}, HomeLemmas.{of_nearest}, Joined.{by_option}, PathBlocks.{BlocksStand, system_blocks}}
-use Rattle.fb_laws.proofs.{PathHomes.{home_there, mapped_to, not_mapped}, PathNames.{path_plain}, PathStanding.{of_something, somewhere}}
+use Rattle.fb_laws.proofs.Common.{arith, ◌≡◌, ◌≢◌, ◌↔◌, ℕ, List, [], ◌∷◌, ◌++◌, Option, Some, None, inl, inr, refl, sym, ap, ◌∙◌, subst, map, true≢false, codes, append_cancel_left, Contains-append_cases, Contains-append_left, contains_map, origin_in_map, DeclTree, InstanceTree, SystemTree, system_configuration, Sources, tree_at, faulty, planned, planned_by, HasFlat, IsNet, PlainNet, plan_at_is, PlainFlat, FlatBlock, Link, IsNearest, nearest, misplaced, create_text, resource_at, PlainResource, leads_nowhere, mappings_in, Misplaced, NoSuchBlock, Unmapped, PlacedCommand, is_nearest, IsSystemAt, IsAtPath, IsMappedTo, IsMisplaced, MakesMapped, MisplacedIsTold, NothingPlannedIsMisplaced, making, of_nothing, path_of, unmapped, with_points, IsHome, IsPlanned, BeginsWith, MakesItsBlocks, Contains, Path, true_from_ne_false, Block, plan_at}
+use Rattle.fb_laws.proofs.{CommandRows.{blocks_made}, PlanRows.{homes_have}, HomeLemmas.{of_nearest}, Lists.{by_option}, PathBlocks.{BlocksStand, system_blocks}}
+use Rattle.fb_laws.proofs.{PathHomes.{home_there, mapped_to, not_mapped, path_plain}, PathStanding.{of_something, somewhere}}
 use Rattle.fb_laws.proofs.{PathTexts.{same_path, same_print}, PlannedLemmas.{IsAstray, astray, known, no_home, none_astray, nothing_there, told}}
-use Rattle.fb_tree.specs.declared.network.Role.TheVariants as roles
-use Rattle.fb_deploy.specs.Plans.{plan_at}
 use Rattle.fb_laws.specs.Paths.{IsMade}
 
 -- ---- the flat network of a plan
 
 flat_planned : (sources : Sources) (unit : List ℕ) (cuts : List Link) (resources : List PlainResource) (net : PlainNet) → IsNet sources unit net → planned cuts resources ≡ planned_by sources unit net → (flat : PlainFlat) × HasFlat sources unit flat
-flat_planned sources unit cuts resources (flat_net flat) net e = (flat, net)
-flat_planned sources unit cuts resources other net e = absurd (let no : ⊥ = cc in no)
+flat_planned sources unit cuts resources net is e = grind arith
 
 -- a plan that tells what is misplaced, of a system with this flat network
 record IsFaulty (sources : Sources) (unit : List ℕ) (found : List Misplaced) : Type 0 where
@@ -21,8 +18,7 @@ record IsFaulty (sources : Sources) (unit : List ℕ) (found : List Misplaced) :
   some : found ≢ []
 
 flat_faulty : (sources : Sources) (unit : List ℕ) (found : List Misplaced) (net : PlainNet) → IsNet sources unit net → faulty found ≡ planned_by sources unit net → IsFaulty sources unit found
-flat_faulty sources unit found (flat_net flat) net e = grind (arith, faulty)
-flat_faulty sources unit found other net e = absurd (let no : ⊥ = cc in no)
+flat_faulty sources unit found net is e = grind arith
 
 -- ---- what is made
 
@@ -52,25 +48,18 @@ module _ (sources : Sources) (unit : List ℕ) (s : SystemTree) (cuts : List Lin
               let m = (makes.members o.origin).0 o.among in
               let at = blocks.stands m.block m.listed in
               let b = at.block in
-              record {
-                path = at.path;
-                block = b.instance;
-                stands = b.at;
-                is_block = b.in_role;
-                mapped = mapped at.path b.instance entry.name b.at (subst (λ (p : List ℕ). IsHome sources unit p entry.name) (sym at.place) m.home);
-                makes = sym o.gives ∙ m.command ∙ (λ i. create_text (sym at.place i) (sym b.of_type i));
-              }
+              let to = mapped at.path b.instance entry.name b.at (subst (λ (p : List ℕ). IsHome sources unit p entry.name) (sym at.place) m.home) in
+              let made : command ≡ making at.path b.instance = sym o.gives ∙ m.command ∙ (λ i. create_text (sym at.place i) (sym b.of_type i)) in
+              search
           | inr d ↦ absurd (makes.no_others command d begins)
         ]
 
     made_to : (path : Path) (i : InstanceTree) → IsAtPath sources s path i → Contains entry.commands (making path i) → IsMappedTo s path entry.name
     made_to path i at c =
         let m = only_made (making path i) c (with_points path ++ 32 ∷ i.type_name.name, refl) in
-        let texts = append_cancel_left (codes "CREATE FB ") (with_points path ++ 32 ∷ i.type_name.name) (with_points m.path ++ 32 ∷ m.block.type_name.name) m.makes in
-        let same = same_path path m.path i.type_name.name m.block.type_name.name (path_plain sources unit s is path i at) (path_plain sources unit s is m.path m.block m.stands) texts in
-        subst (λ (p : Path). IsMappedTo s p entry.name) (sym same) m.mapped
+        grind (arith, append_cancel_left, same_path, path_plain)
 
-    made_from : (path : Path) (i : InstanceTree) → IsAtPath sources s path i → i.role ≡ roles.Block → IsMappedTo s path entry.name → Contains entry.commands (making path i)
+    made_from : (path : Path) (i : InstanceTree) → IsAtPath sources s path i → i.role ≡ Block → IsMappedTo s path entry.name → Contains entry.commands (making path i)
     made_from path i at role h =
         let block : FlatBlock = record { path = with_points path; type_name = i.type_name.name } in
         let line : PlacedCommand = record { place = with_points path; command = making path i; resource = entry.name } in
@@ -79,14 +68,13 @@ module _ (sources : Sources) (unit : List ℕ) (s : SystemTree) (cuts : List Lin
         subst (λ (l : List (List ℕ)). Contains l (making path i)) (sym makes.commands)
         (Contains-append_left (map (λ (l : PlacedCommand). l.command) makes.lines) makes.others (making path i) (contains_map (λ (l : PlacedCommand). l.command) makes.lines line c))
 
-    pub made_where_mapped : (path : Path) (i : InstanceTree) → IsAtPath sources s path i → i.role ≡ roles.Block → Contains entry.commands (making path i) ↔ IsMappedTo s path entry.name
+    pub made_where_mapped : (path : Path) (i : InstanceTree) → IsAtPath sources s path i → i.role ≡ Block → Contains entry.commands (making path i) ↔ IsMappedTo s path entry.name
     made_where_mapped path i at role = (made_to path i at, made_from path i at role)
 
-  pub all_made : (path : Path) (i : InstanceTree) → IsAtPath sources s path i → i.role ≡ roles.Block → IsMade s resources path i
+  pub all_made : (path : Path) (i : InstanceTree) → IsAtPath sources s path i → i.role ≡ Block → IsMade s resources path i
   all_made path i at role =
       let h = homes_have sources unit network.0 cuts resources is_planned (record { path = with_points path; type_name = i.type_name.name }) (blocks.listed path i at role) in
-      let to = mapped path i h.entry.name at h.home in
-      record { entry = h.entry; listed = h.listed; mapped = to; made = made_from h.entry h.listed path i at role to }
+      grind (arith, mapped, made_from)
 
 -- ---- what is misplaced
 
@@ -112,9 +100,7 @@ module _ (sources : Sources) (unit : List ℕ) (s : SystemTree) (is : IsSystemAt
       (by_option (nearest (resource_at s.mappings) (with_points path)) (λ e. e) (λ r e.
       let h = mapped_to sources unit s is net.0 path i at r (of_nearest (resource_at s.mappings) (with_points path) r e) in
       absurd (none h.mapping h.listed h.above)))
-  is_astray item (of_nothing m listed written none) =
-      subst (λ (p : List ℕ). Astray (NoSuchBlock p)) (sym (same_print (path_of m)))
-      (nothing_there m listed (true_from_ne_false (leads_nowhere sources unit s.applications (names_used m.path)) (λ e. none (somewhere sources unit s is net.0 (path_of m) written e))))
+  is_astray item (of_nothing m listed written none) = grind (arith, same_print, nothing_there, true_from_ne_false, somewhere)
 
 pub misplaced_told : MisplacedIsTold
 misplaced_told sources unit s found is plan =

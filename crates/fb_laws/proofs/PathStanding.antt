@@ -1,8 +1,6 @@
 -- Where names lead to in a sound system is what stands at their path.
-use Rattle.fb_laws.proofs.Common.{arith, ◌≡◌, ◌≢◌, ℕ, Bool, true, false, not, List, [], ◌∷◌, ◌++◌, Option, Some, ◌⊎◌, inl, inr, refl, sym, ap, ◌∙◌, subst, append_assoc, append-nil, true≢false, is_none, not-false, contains_nothing, ApplicationTree, DeclTree, InstanceTree, SystemTree, subapplication_type, Role, Sources, tree_at, IsSound, PlainResolved, application_called, inner_instances, is_placed, leads_nowhere, resolved_among, resolved_at, resolved_beyond, resolved_inside, IsSystemAt, IsAtPath, IsOfSomething, in_application, inside, of_application, Contains, option_and_then, Path}
-use Rattle.fb_laws.proofs.{Joined.{by_option}, HomeLemmas.{found_in}}
-use Rattle.fb_laws.proofs.PathHolders.{applications_apart, first_own, holder_of, instances_apart, is_subapplication, type_apart, type_below}
-use Rattle.fb_tree.specs.declared.network.Role.TheVariants as roles
+use Rattle.fb_laws.proofs.Common.{arith, ◌≡◌, ◌≢◌, ℕ, Bool, false, not, List, [], ◌∷◌, ◌++◌, Option, Some, refl, sym, ap, ◌∙◌, subst, append_assoc, append-nil, true≢false, is_none, contains_nothing, ApplicationTree, DeclTree, InstanceTree, SystemTree, subapplication_type, Sources, tree_at, IsSound, PlainResolved, application_called, inner_instances, is_placed, leads_nowhere, resolved_among, resolved_at, resolved_beyond, resolved_inside, IsSystemAt, IsAtPath, IsOfSomething, in_application, inside, of_application, Contains, option_and_then, Path}
+use Rattle.fb_laws.proofs.{Lists.{by_option}, HomeLemmas.{found_in}, PathHolders.{applications_apart, first_own, holder_of, instances_apart, is_subapplication, type_apart, type_below}}
 use Rattle.fb_placing.proofs.ResolvedLemmas.{at_more, beyond_nothing}
 use Rattle.fb_laws.specs.Paths.{of_block, of_subapplication}
 use Rattle.fb_placing.specs.Resolved.{resolved_from, resolved_in}
@@ -11,9 +9,7 @@ use Rattle.fb_placing.specs.Resolved.{resolved_from, resolved_in}
 
 module _ (sources : Sources) (unit : List ℕ) (s : SystemTree) (is : IsSystemAt sources unit s) (sound : IsSound sources unit) where
   step_in : (path : Path) (i : InstanceTree) → IsAtPath sources s path i → (name : List ℕ) (j : InstanceTree) (tree : Option DeclTree) → tree_at sources i.type_name.name ≡ tree → Contains (inner_instances tree) j → j.name.name ≡ name → IsAtPath sources s (path ++ name ∷ []) j
-  step_in path i at name j (Some (subapplication_type d)) there c named =
-      let role = is_subapplication sources unit sound i (holder_of sources unit s is path i at) d there in
-      subst (λ (n : List ℕ). IsAtPath sources s (path ++ n ∷ []) j) named (inside d j at role there c)
+  step_in path i at name j (Some (subapplication_type d)) there c named = grind (arith, is_subapplication, holder_of, inside)
   step_in path i at name j o there c named = absurd (contains_nothing j c)
 
   next_at : (path : Path) (st : PlainResolved) → IsAtPath sources s path st.instance → (name : List ℕ) (next : PlainResolved) → resolved_inside sources name st ≡ Some next → IsAtPath sources s (path ++ name ∷ []) next.instance
@@ -68,9 +64,6 @@ module _ (sources : Sources) (unit : List ℕ) (s : SystemTree) (is : IsSystemAt
   abbrev nowhere : Path → Bool
   nowhere names = leads_nowhere sources unit s.applications names
 
-  placed_role : (role : Role) → is_placed role ≡ true → (role ≡ roles.Block) ⊎ (role ≡ roles.Subapplication)
-  placed_role role e = grind arith
-
   -- names that lead somewhere
   pub somewhere : (path : Path) → path ≢ [] → nowhere path ≡ false → IsOfSomething sources s path
   somewhere [] some e = absurd (some refl)
@@ -82,12 +75,8 @@ module _ (sources : Sources) (unit : List ℕ) (s : SystemTree) (is : IsSystemAt
       by_option (resolved_at sources unit s.applications (first ∷ name ∷ names)) (λ none. absurd (let no : ⊥ = cc in no)) (λ st f.
       let placed : not (is_placed st.instance.role) ≡ false = cc in
       let at = lead_to first name names st f in
-      elim (placed_role st.instance.role (not-false (is_placed st.instance.role) placed)) [ inl role ↦ of_block st.instance at role | inr role ↦ of_subapplication st.instance at role ])
-
-  -- a path has two names at least
-  placed_at : (path : Path) (i : InstanceTree) → IsAtPath sources s path i → is_placed i.role ≡ true → nowhere path ≡ false
-  placed_at path i at placed = grind (arith, led_to)
+      grind (arith, of_block, of_subapplication))
 
   -- and those of something do
   pub of_something : (path : Path) → IsOfSomething sources s path → nowhere path ≡ false
-  of_something path there = grind (arith, called, of_block, placed_at, of_subapplication)
+  of_something path there = grind (arith, called, of_block, led_to, of_subapplication)

@@ -56,30 +56,18 @@ record IsHeldAt (held : List Held) (a : Place) : Type 0 where
   place : a ≡ (first ∷ others) ++ port ∷ []
 
 leaf_held : {view : View} {network : PlainNetwork} {a : Place} → IsLeafPlace view network a → (held : List Held) → AreInstances view network.instances held → IsHeldAt held a
-leaf_held {network = network} (BlockPort name type port b e) held are =
+leaf_held {network = network} {a = a} (BlockPort name type port b e) held are =
     let found = passes_in_find (λ (i : Instance). is_at (name_cmp i.name) name) network.instances b.instance b.first in
     let same : b.instance.name ≡ name = same_bytes b.instance.name name found.passes in
-    record {
-      first = b.instance.name;
-      others = [];
-      typed = b.instance.type_name;
-      listed = subst (λ (k : InstanceKind). Contains held (record { path = b.instance.name ∷ []; kind = k; typed = b.instance.type_name })) b.kind (instance_held are b.instance found.among);
-      port = port;
-      place = e ∙ ap (λ (n : List ℕ). n ∷ port ∷ []) (sym same);
-    }
-leaf_held {network = network} (LeafWithin inner name a' i e leaf) held are =
+    let listed = subst (λ (k : InstanceKind). Contains held (record { path = b.instance.name ∷ []; kind = k; typed = b.instance.type_name })) b.kind (instance_held are b.instance found.among) in
+    grind arith
+leaf_held {network = network} {a = a} (LeafWithin inner name a' i e leaf) held are =
     let found = passes_in_find (λ (w : Instance). is_at (name_cmp w.name) name) network.instances i.instance i.first in
     let same : i.instance.name ≡ name = same_bytes i.instance.name name found.passes in
     let within = inner_held are i.instance found.among i.kind i.declared in
     let o = leaf_held leaf within.own within.instances in
-    record {
-      first = i.instance.name;
-      others = o.first ∷ o.others;
-      typed = o.typed;
-      listed = within.within (record { path = o.first ∷ o.others; kind = Block; typed = o.typed }) o.listed;
-      port = o.port;
-      place = e ∙ (λ k. sym same k ∷ o.place k);
-    }
+    let listed = within.within (record { path = o.first ∷ o.others; kind = Block; typed = o.typed }) o.listed in
+    grind arith
 
 -- what is held as a block is a block
 pub leaf_listed : (held : List Held) (path : Place) (typed : List ℕ) → Contains held (record { path = path; kind = Block; typed = typed }) → Contains (leaves_of held) (record { path = printed path; type_name = typed })
@@ -98,25 +86,19 @@ pub record HasPrefix (blocks : List FlatBlock) (end : List ℕ) : Type 0 where
   pub listed : Contains blocks block
   pub prefix : IsPrefix block.path end
 
-prefix_beyond : (prefix path name : List ℕ) → IsPrefix prefix path → IsPrefix prefix (dotted path name)
-prefix_beyond prefix path name is = grind (arith, append_assoc)
-
 module _ {view : View} {network : PlainNetwork} {blocks : List FlatBlock} (are : AreBlocks view network blocks) where
-  at_held : {a : Place} (o : IsHeldAt are.held a) → Contains blocks (record { path = printed (o.first ∷ o.others); type_name = o.typed })
-  at_held o = subst (λ (l : List FlatBlock). Contains l (record { path = printed (o.first ∷ o.others); type_name = o.typed })) (sym are.blocks_are) (leaf_listed are.held (o.first ∷ o.others) o.typed o.listed)
-
   leaf_prefix : {a : Place} → IsLeafPlace view network a → HasPrefix blocks (printed a)
   leaf_prefix leaf =
       let o = leaf_held leaf are.held are.instances in
-      record { block = record { path = printed (o.first ∷ o.others); type_name = o.typed }; listed = at_held o; prefix = inr (o.port, ap printed o.place ∙ printed-push o.first o.others o.port) }
+      let block : FlatBlock = record { path = printed (o.first ∷ o.others); type_name = o.typed } in
+      let listed = subst (λ (l : List FlatBlock). Contains l block) (sym are.blocks_are) (leaf_listed are.held (o.first ∷ o.others) o.typed o.listed) in
+      record { block = block; listed = listed; prefix = inr (o.port, ap printed o.place ∙ printed-push o.first o.others o.port) }
 
   -- a port of a plug or a socket
   port_prefix : {a : Place} (port : List ℕ) → IsLeafPlace view network a → HasPrefix blocks (printed (a ++ port ∷ []))
   port_prefix {a} port leaf =
       let o = leaf_held leaf are.held are.instances in
-      let h = leaf_prefix leaf in
-      let text : printed (a ++ port ∷ []) ≡ dotted (printed a) port = ap (λ (q : Place). printed (q ++ port ∷ [])) o.place ∙ printed-push o.first (o.others ++ o.port ∷ []) port ∙ ap (λ (q : Place). dotted (printed q) port) (sym o.place) in
-      record { block = h.block; listed = h.listed; prefix = subst (IsPrefix h.block.path) (sym text) (prefix_beyond h.block.path (printed a) port h.prefix) }
+      grind (arith, leaf_prefix, printed-push, append_assoc)
 
   link_prefixes : {sort : Sort} {a b : Place} → IsNetLink view network sort a b → HasPrefix blocks (printed a) × HasPrefix blocks (printed b)
   link_prefixes link = grind (arith, leaf_prefix, port_prefix)

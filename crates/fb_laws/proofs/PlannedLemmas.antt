@@ -1,6 +1,6 @@
 -- What is known of a system with a plan.
-use Rattle.fb_laws.proofs.Common.{ℕ, ◌≡◌, Bool, true, List, [], ◌∷◌, Option, Some, None, refl, ◌∙◌, ap, subst, map, filter, is_none, IsStrictlySortedBy, Contains-append_left, Contains-append_right, names_in_order, in_order_has, from_names, contains_filter, contains_map, contains_nothing, origin_in_map, passes_in_filter, plan_at_is, DeclTree, MappingTree, Sources, tree_at, FlatBlock, Link, PlainFlat, HasFlat, flat_net, IsUnitFlat, link_cmp, cuts_of, home_at, nearest, block_homes, misplaced, unless_faulty, mapping_path, names_used, resource_at, leads_nowhere, applications_in, devices_in, mappings_in, Home, Misplaced, NoSuchBlock, Unmapped, IsPlan, planned, planned_by, with_homes, system_commands, PlainResource, resource_plans, resources_of, IsPlanned, Contains, arith, IsHome, BlocksHaveOneHome, EndsHaveOneHome}
-use Rattle.fb_laws.proofs.{HomeLemmas.{HasHome, mapped, one_nearest, one_prefix}, Joined.{by_option, of_either}}
+use Rattle.fb_laws.proofs.Common.{ℕ, ◌≡◌, Bool, true, List, [], ◌∷◌, Option, Some, None, refl, ◌∙◌, ap, subst, map, filter, is_none, IsStrictlySortedBy, Contains-append_left, Contains-append_right, names_in_order, in_order_has, from_names, contains_filter, contains_map, contains_nothing, origin_in_map, passes_in_filter, plan_at_is, DeclTree, MappingTree, Sources, tree_at, FlatBlock, Link, PlainFlat, HasFlat, flat_net, link_cmp, cuts_of, home_at, nearest, block_homes, misplaced, unless_faulty, mapping_path, names_used, resource_at, leads_nowhere, applications_in, devices_in, mappings_in, Home, Misplaced, NoSuchBlock, Unmapped, IsPlan, planned, planned_by, with_homes, system_commands, PlainResource, resource_plans, resources_of, IsPlanned, Contains, arith, IsHome, BlocksHaveOneHome, EndsHaveOneHome}
+use Rattle.fb_laws.proofs.{HomeLemmas.{HasHome, mapped, one_nearest, one_prefix}, Lists.{by_option, of_either}}
 use Rattle.fb_deploy.proofs.Flatten.OneNet.{one_net_only}
 
 -- the homes of the blocks, and the names of the resources
@@ -85,11 +85,8 @@ known sources system flat cuts resources p = by (misplaced sources system (tree_
     by (m ∷ more) found e = absurd (let no : ⊥ = cc in no)
 
 -- the links of a flat network are in order
-unit_sorted : (sources : Sources) (unit : List ℕ) (flat : PlainFlat) → IsUnitFlat sources unit flat → IsStrictlySortedBy link_cmp flat.links
-unit_sorted sources unit flat is = grind arith
-
 pub links_sorted : (sources : Sources) (unit : List ℕ) (flat : PlainFlat) → HasFlat sources unit flat → IsStrictlySortedBy link_cmp flat.links
-links_sorted sources unit flat is = unit_sorted sources unit flat is.2
+links_sorted sources unit flat is = let net = is.2 in grind arith
 
 -- what stands at a path has one home
 pub one_home : BlocksHaveOneHome

@@ -1,48 +1,25 @@
 -- What references stand for by the check: what they begin at, what their further names lead to, and which of these are no fields.
-use Rattle.fb_laws.proofs.Common.{◌≡◌, ℕ, Bool, true, false, true≢false, cond, not, ◌&&◌, List, [], ◌∷◌, ◌++◌, Option, Some, None, ◌⊎◌, refl, sym, ap, subst, ◌∙◌, append-nil, arith, option_and_then, ltb-false, or_parts, has_own_class, is_elementary, type_class_of, ReferenceTree, TypeTree, adapter_type, block_type, Section, TypeForm, TypeUse, Role, Plug, Socket, Member, Sources, tree_at, class_of_name, is_free, named_class, Fields, NoFields, fields_of_tree, stands_for, Meanings, meanings_in_type, instance_ports, ports_of, usable, DeclaredInstance, DeclaredVariable, stands_for-first_ones, is_known, referent_through, Names, names_of_type, data_referent, field_referent, fields_behind, fields_named, is_adapter, is_at_adapter, is_before_port, is_data, is_some_count, member_among, own_referent, port_named, port_referent, referent_of, step, unless_judged, variable_named, walk, Referent, Variable, Unjudged, NoMember, IsAdapter, IsUsable, as_plug, as_socket, IsData, IsAtPort, Begins, own, IsOfNoAdapter, Shows, plain, element, IsOpen, generic, unknown, HasField, GoesOn, at_end, through, NamesType, append_assoc, false_from_ne_true, Expressions, reference_expression, IsWrittenIn, HasUnknownMember, is_field, is_met, names_field, DeclTree, StructureTree, fields_in, first_ones, structure_type, ◌||◌}
+use Rattle.fb_laws.proofs.Common.{◌≡◌, ℕ, Bool, true, false, true≢false, cond, not, List, [], ◌∷◌, ◌++◌, Option, Some, None, ◌⊎◌, refl, sym, ap, subst, ◌∙◌, append-nil, arith, option_and_then, ltb-false, or_parts, is_elementary, ReferenceTree, TypeTree, adapter_type, block_type, Section, TypeForm, TypeUse, Role, Plug, Socket, Member, Sources, tree_at, class_of_name, is_free, Fields, NoFields, fields_of_tree, stands_for, Meanings, meanings_in_type, instance_ports, ports_of, usable, DeclaredInstance, DeclaredVariable, stands_for-first_ones, is_known, referent_through, Names, names_of_type, data_referent, fields_behind, fields_named, is_before_port, is_data, is_some_count, member_among, own_referent, port_named, port_referent, referent_of, step, unless_judged, variable_named, walk, Referent, Variable, Unjudged, NoMember, IsAdapter, IsUsable, as_plug, as_socket, IsData, IsAtPort, Begins, own, IsOfNoAdapter, Shows, plain, element, IsOpen, generic, unknown, HasField, GoesOn, at_end, through, NamesType, append_assoc, false_from_ne_true, Expressions, reference_expression, IsWrittenIn, HasUnknownMember, is_field, is_met, names_field, DeclTree, structure_type, ◌||◌, not-false}
 use Rattle.fb_laws.proofs.{CarriedTypes.{IsKnown, data_known, field_known, known_fields, own_known}, UsableTypes.{known_type, own_type}}
-use Rattle.fb_text.specs.declared.elementary.TypeClass.{TypeClass}
-use Rattle.fb_tree.specs.declared.interface.TypeForm.TheVariants as forms
 use Rattle.fb_deploy.specs.Iface.Fields.{NotChecked}
 use Rattle.fb_expr.specs.declared.references.Referent.TheVariants.{Unknown}
+use Rattle.fb_tree.specs.declared.interface.TypeForm.TheVariants as forms
 use Rattle.fb_expr.proofs.MemberLemmas.{walk-append}
 use Rattle.fb_laws.specs.Variables.{of_adapter}
 
 -- a type that has to be declared is none of class Free
 
-own_class : (c : TypeClass) → has_own_class c ≡ false → is_free (named_class c) ≡ false
-own_class c e = grind arith
-
 not_free : (name : List ℕ) → is_elementary name ≡ false → is_free (class_of_name name) ≡ false
 unfolding is_elementary
-not_free name e = own_class (type_class_of name) (or_parts (has_own_class (type_class_of name)) _ e).0
+not_free name e = grind arith
 
 -- whether a subscript stands on a plain type
 abbrev shown : Bool → Fields → Fields
 shown false fields = fields
 shown true fields = unless_judged fields
 
-open_shown : (on : Bool) → shown on NotChecked ≡ NotChecked
-open_shown on = grind arith
-
-found_known : (o : Option DeclaredVariable) (m : Member) → is_known (field_referent o m) ≡ true
-found_known o m = grind arith
-
-among_known : (fields : Fields) (m : Member) → is_known (member_among fields m) ≡ true
-among_known fields m = grind (arith, found_known)
-
 data_section : (s : Section) → IsData s → is_data s ≡ true
 data_section s is = grind arith
-
-has_role : (i : DeclaredInstance) → IsAdapter i → is_adapter i.role ≡ true
-has_role i is = grind arith
-
-of_role : (i : DeclaredInstance) → is_adapter i.role ≡ true → IsAdapter i
-of_role i e = grind arith
-
--- what was met and what is not
-neither : (after before : Bool) → (after || not before) ≡ false → (after ≡ false) × (before ≡ true)
-neither after before e = grind arith
 
 -- an adapter type with these ports
 record HasAdapter (sources : Sources) (name : List ℕ) (ports : Meanings) : Type 0 where
@@ -74,12 +51,10 @@ module _ (sources : Sources) (unit : List ℕ) (d : TypeTree) (declared : tree_a
   named_known name known = ap (λ fields. cond (is_free (class_of_name name)) NotChecked fields) (known_fields sources unit name known)
 
   behind_shown : (used : TypeUse) (s on : Bool) → Shows used s on → fields_behind names.fields used.form used.name.name s ≡ shown on (fields_named names.fields used.name.name)
-  behind_shown used false on (plain is) = ap (λ form. fields_behind names.fields form used.name.name false) is
-  behind_shown used true on (plain is) = ap (λ form. fields_behind names.fields form used.name.name true) is
-  behind_shown used true on (element is) = ap (λ form. fields_behind names.fields form used.name.name true) is
+  behind_shown used s on shows = grind arith
 
   told_open : (used : TypeUse) (s : Bool) (m : Member) → Known used → IsOpen sources used s → step names (Variable used s) m ≡ Unjudged
-  told_open used s m known open_there = grind (arith, generic, behind_shown, open_shown, unknown, named_known, not_free)
+  told_open used s m known open_there = grind (arith, generic, behind_shown, unknown, named_known, not_free)
 
   told_field : (used : TypeUse) (s : Bool) (m : Member) (v : DeclaredVariable) → Known used → HasField sources used s m.name.name v → step names (Variable used s) m ≡ Variable v.type_use (is_some_count m.subscripts)
   told_field used s m v known h = grind (arith, behind_shown, named_known, not_free, stands_for-first_ones)
@@ -94,25 +69,18 @@ module _ (sources : Sources) (unit : List ℕ) (d : TypeTree) (declared : tree_a
     abbrev name : List ℕ
     name = used.name.name
 
-    by_field : (s : Bool) → Shows used s false → is_elementary name ≡ false → (structure : StructureTree) → tree_at sources name ≡ Some (structure_type structure) → (o : Option DeclaredVariable) → stands_for (first_ones (fields_in structure)) m.name.name ≡ o → Looks used s m (field_referent o m)
-    by_field s shows elementary structure t None e = is_none
-    by_field s shows elementary structure t (Some v) e =
-        is_found v (record { shown = shows; declared = elementary; structure = structure; is_structure = t; found = sym (stands_for-first_ones (fields_in structure) m.name.name) ∙ e })
-
     -- by whether a subscript stands there, whether the type is generic, whether it is elementary, and its declaration
     by_type : (s on free elementary : Bool) (o : Option DeclTree) → Shows used s on → is_free (class_of_name name) ≡ free → is_elementary name ≡ elementary → tree_at sources name ≡ o → Looks used s m (member_among (shown on (cond free NotChecked (cond elementary NoFields (fields_of_tree o)))) m)
     by_type s false true elementary o shows f e t = is_open (generic false shows f)
     by_type s true true elementary o shows f e t = is_open (generic true shows f)
     by_type s false false false None shows f e t = is_open (unknown false shows e t)
     by_type s true false false None shows f e t = is_open (unknown true shows e t)
-    by_type s false false false (Some (structure_type structure)) shows f e t = by_field s shows e structure t (stands_for (first_ones (fields_in structure)) m.name.name) refl
+    by_type s false false false (Some (structure_type structure)) shows f e t = grind (arith, is_none, is_found, stands_for-first_ones)
     by_type s true false false (Some (structure_type structure)) shows f e t = is_none
     by_type s on false elementary o shows f e t = is_none
 
     by_shown : (s on : Bool) → Shows used s on → Looks used s m (member_among (shown on (fields_named names.fields name)) m)
-    by_shown s on shows =
-        subst (λ fields. Looks used s m (member_among (shown on fields) m)) (sym (named_known name known))
-        (by_type s on (is_free (class_of_name name)) (is_elementary name) (tree_at sources name) shows refl refl refl)
+    by_shown s on shows = grind (arith, named_known, by_type)
 
     by_form : (form : TypeForm) → used.form ≡ form → (s : Bool) → Looks used s m (member_among (fields_behind names.fields form name s) m)
     by_form forms.Plain is false = by_shown false false (plain is)
@@ -131,7 +99,7 @@ module _ (sources : Sources) (unit : List ℕ) (d : TypeTree) (declared : tree_a
   stays t (m ∷ ms) same = ap (λ u. walk names u ms) (same m) ∙ stays t ms same
 
   step_known : (t : Referent) (m : Member) → is_known (step names t m) ≡ is_known t
-  step_known t m = grind (arith, among_known)
+  step_known t m = grind arith
 
   walk_known : (t : Referent) (ms : List Member) → is_known (walk names t ms) ≡ is_known t
   walk_known t [] = refl
@@ -150,10 +118,7 @@ module _ (sources : Sources) (unit : List ℕ) (d : TypeTree) (declared : tree_a
   last_known known (through {m = m} v has more) = last_known (next_known m known has) more
 
   goes : (used : TypeUse) (s : Bool) (ms : List Member) (last : TypeUse) (t : Bool) → Known used → walk names (Variable used s) ms ≡ Variable last t → GoesOn sources used s ms last t
-  goes used s [] last t known e =
-      let type : used ≡ last = cc in
-      let on : s ≡ t = cc in
-      subst (λ (l : TypeUse). GoesOn sources used s [] l t) type (subst (λ (b : Bool). GoesOn sources used s [] used b) on at_end)
+  goes used s [] last t known e = grind (arith, at_end)
   goes used s (m ∷ ms) last t known e = by (looks used m known s) e (λ v has. goes v.type_use (is_some_count m.subscripts) ms last t (next_known m known has))
     where
       by : {r : Referent} → Looks used s m r → walk names r ms ≡ Variable last t → ((v : DeclaredVariable) → HasField sources used s m.name.name v → (walk names (Variable v.type_use (is_some_count m.subscripts)) ms ≡ Variable last t → GoesOn sources v.type_use (is_some_count m.subscripts) ms last t)) → GoesOn sources used s (m ∷ ms) last t
@@ -164,11 +129,11 @@ module _ (sources : Sources) (unit : List ℕ) (d : TypeTree) (declared : tree_a
   -- Where a reference begins
 
   port_told : (r : ReferenceTree) (i : DeclaredInstance) (m : Member) (behind : List Member) → IsAtPort d r i m behind → is_before_port names.scope r.name.name r.subscripts ≡ true
-  port_told r i m behind at = (λ k. not (is_some_count (at.plain k)) && is_at_adapter (at.stands k)) ∙ has_role i at.adapter
+  port_told r i m behind at = grind arith
 
   -- a reference at a plug or a socket
   port_found : (r : ReferenceTree) (m : Member) (behind : List Member) → r.members ≡ m ∷ behind → is_before_port names.scope r.name.name r.subscripts ≡ true → (i : DeclaredInstance) × IsAtPort d r i m behind
-  port_found r m behind second e = grind (arith, of_role, ltb-false)
+  port_found r m behind second e = grind (arith, ltb-false)
 
   -- what a reference begins at, the names of that behind the first one, and the further ones
   data Starts (r : ReferenceTree) : Referent → List Member → List Member → Type 0 where
@@ -194,8 +159,7 @@ module _ (sources : Sources) (unit : List ℕ) (d : TypeTree) (declared : tree_a
   walked {r = r} (at_first none) (m ∷ ms) others parted =
       ap (λ b. cond b (walk names (port_named names.scope r.name.name m) ms) (walk names (variable_named names.scope r.name.name (is_some_count r.subscripts)) (m ∷ ms)))
       (false_from_ne_true _ (λ e. let at = port_found r m (ms ++ others) parted e in none at.0 m (ms ++ others) at.1))
-  walked {r = r} (at_second i m rest at) before others parted =
-      ap (λ b. cond b (walk names (port_named names.scope r.name.name m) before) (walk names (variable_named names.scope r.name.name (is_some_count r.subscripts)) (m ∷ before))) (port_told r i m rest at)
+  walked {r = r} (at_second i m rest at) before others parted = grind (arith, port_told)
 
   whole : {r : ReferenceTree} {base : Referent} {skipped behind : List Member} → Starts r base skipped behind → referent_of names r ≡ walk names base behind
   whole {r = r} {behind = behind} starts = ap (referent_through names r) (parts starts) ∙ walked starts behind [] (sym (append-nil behind))
@@ -217,16 +181,6 @@ module _ (sources : Sources) (unit : List ℕ) (d : TypeTree) (declared : tree_a
     abbrev on : Bool
     on = is_some_count m.subscripts
 
-    by_data : (a : TypeTree) → tree_at sources i.type_name.name ≡ Some (adapter_type a) → (o : Option DeclaredVariable) → stands_for (meanings_in_type a).variables m.name.name ≡ o → Base r behind (data_referent o on)
-    by_data a is o e = grind (arith, variable, nothing, of_adapter)
-
-    by_ports : (o : Option Meanings) → usable i.role (tree_at sources i.type_name.name) ≡ o → Base r behind (port_referent o m.name.name on)
-    by_ports None u = not_judged_port (grind (arith, adapter_used))
-    by_ports (Some ports) u = grind (arith, adapter_found, known_type, by_data)
-
-    base_at_port : Base r behind (port_named names.scope r.name.name m)
-    base_at_port = subst (λ (o : Option Meanings). Base r behind (port_referent o m.name.name on)) (sym (port_ports r i m behind at)) (by_ports (usable i.role (tree_at sources i.type_name.name)) refl)
-
     is_variable : (a : TypeTree) (v : DeclaredVariable) → tree_at sources i.type_name.name ≡ Some (adapter_type a) → stands_for (meanings_in_type a).variables m.name.name ≡ Some v → IsData v.section → port_named names.scope r.name.name m ≡ Variable v.type_use on
     is_variable a v is e data_port =
         ap (λ o. port_referent o m.name.name on) (port_ports r i m behind at ∙ adapter_used sources i at.adapter a is)
@@ -234,9 +188,9 @@ module _ (sources : Sources) (unit : List ℕ) (d : TypeTree) (declared : tree_a
         ∙ ap (λ b. cond b (Variable v.type_use on) Unknown) (data_section v.section data_port)
 
   base_of : {r : ReferenceTree} {base : Referent} {skipped behind : List Member} → Starts r base skipped behind → Base r behind base
-  base_of {r = r} (at_first none) =
-      (elim (stands_for names.scope.own.variables r.name.name) as (λ o. stands_for names.scope.own.variables r.name.name ≡ o → Base r r.members (own_referent o (is_some_count r.subscripts))) [ None ↦ λ e. nothing | Some v ↦ λ e. variable (own v e none) ]) refl
-  base_of {r = r} (at_second i m others at) = base_at_port r i m others at
+  base_of {r = r} (at_first none) = grind (arith, variable, nothing, own)
+  base_of {r = r} (at_second i m others at) =
+      subst (λ (o : Option Meanings). Base r others (port_referent o m.name.name (is_some_count m.subscripts))) (sym (port_ports r i m others at)) (grind (arith, not_judged_port, adapter_used, adapter_found, known_type, variable, nothing, of_adapter))
 
   -- a reference that begins at a variable
   begun : {r : ReferenceTree} {used : TypeUse} {s : Bool} {behind : List Member} → Begins sources d r used s behind → (skipped : List Member) × Starts r (Variable used s) skipped behind
@@ -286,9 +240,6 @@ module _ (sources : Sources) (unit : List ℕ) (d : TypeTree) (declared : tree_a
       ∙ walked starts (before ++ m ∷ []) others (parted ∙ sym (append_assoc before (m ∷ []) others))
       ∙ walk-append names base before (m ∷ [])
 
-  base_field : {r : ReferenceTree} {behind : List Member} {base : Referent} → Base r behind base → is_field base ≡ true
-  base_field {r} {behind} {base} is = grind arith
-
   module _ (r : ReferenceTree) (subscripts : Expressions) (written : IsWrittenIn d (reference_expression r subscripts)) (m : Member) (others : List Member) where
     -- the type that the names before it lead to, where these are fields
     lost_behind : {base : Referent} {behind : List Member} → Base r behind base → (before : List Member) → behind ≡ before ++ m ∷ others → is_field (walk names base before) ≡ true → is_field (step names (walk names base before) m) ≡ false → HasUnknownMember sources unit m.name.span
@@ -300,43 +251,24 @@ module _ (sources : Sources) (unit : List ℕ) (d : TypeTree) (declared : tree_a
         by (Variable used on) w is fails =
             let leads = goes first at_begin before used on (begins_known n) w in
             let known = last_known (begins_known n) leads in
-            record {
-              block = d;
-              declared = declared;
-              reference = r;
-              subscripts = subscripts;
-              written = written;
-              first = first;
-              at_first = at_begin;
-              behind = behind;
-              begins = n;
-              before = before;
-              member = m;
-              others = others;
-              parted = parted;
-              used = used;
-              subscripted = on;
-              leads = leads;
-              judged = λ o. true≢false (sym (ap is_field (told_open used on m known o)) ∙ fails);
-              none = λ v has. true≢false (sym (ap is_field (told_field used on m v known has)) ∙ fails);
-              place = refl;
-            }
+            let judged : ¬ IsOpen sources used on = λ o. true≢false (sym (ap is_field (told_open used on m known o)) ∙ fails) in
+            let none : (v : DeclaredVariable) → ¬ HasField sources used on m.name.name v = λ v has. true≢false (sym (ap is_field (told_field used on m v known has)) ∙ fails) in
+            search
         by t w is fails = cc
 
     lost_in : {base : Referent} {skipped behind : List Member} → Starts r base skipped behind → (before : List Member) → behind ≡ before ++ m ∷ others → is_field (referent_through names r (skipped ++ before)) ≡ true → is_field (referent_through names r ((skipped ++ before) ++ m ∷ [])) ≡ false → HasUnknownMember sources unit m.name.span
-    lost_in starts before parted is fails =
-        lost_behind (base_of starts) before parted (ap is_field (sym (walked starts before (m ∷ others) parted)) ∙ is) (ap is_field (sym (next_name starts before m others parted)) ∙ fails)
+    lost_in {base} {skipped} {behind} starts before parted is fails = grind (arith, lost_behind, base_of, walked, next_name)
 
     pub lost : (before : List Member) → r.members ≡ before ++ m ∷ others → is_met names (names_field r before m) ≡ false → HasUnknownMember sources unit m.name.span
     lost before parted unmet =
-        let told = neither (is_field (referent_through names r (before ++ m ∷ []))) (is_field (referent_through names r before)) unmet in
-        by (start r).3 before parted told.1 told.0
+        let told = or_parts (is_field (referent_through names r (before ++ m ∷ []))) (not (is_field (referent_through names r before))) unmet in
+        by (start r).3 before parted (not-false _ told.1) told.0
       where
         by : {base : Referent} {skipped behind : List Member} → Starts r base skipped behind → (before : List Member) → r.members ≡ before ++ m ∷ others → is_field (referent_through names r before) ≡ true → is_field (referent_through names r (before ++ m ∷ [])) ≡ false → HasUnknownMember sources unit m.name.span
         by (at_first none) before parted is fails = lost_in (at_first none) before parted is fails
         by (at_second i p rest at) [] parted is fails =
             let starts : Starts r (port_named names.scope r.name.name m) (m ∷ []) others = at_second i m others (record { stands = at.stands; adapter = at.adapter; plain = at.plain; second = parted }) in
-            absurd (true≢false (sym (base_field (base_of starts)) ∙ sym (ap is_field (walked starts [] others refl)) ∙ fails))
+            absurd (true≢false (sym (grind arith) ∙ sym (ap is_field (walked starts [] others refl)) ∙ fails))
         by (at_second i p rest at) (b ∷ bs) parted is fails =
             lost_in (at_second i b (bs ++ m ∷ others) (record { stands = at.stands; adapter = at.adapter; plain = at.plain; second = parted })) bs refl is fails
 

@@ -1,7 +1,6 @@
 -- Ends that stand twice, by what the list of faults has.
-use Rattle.fb_laws.proofs.Common.{arith, ◌≡◌, ℕ, List, [], ◌∷◌, ◌++◌, map, ◌⊎◌, inl, inr, refl, sym, ap, ◌∙◌, subst, Contains, flat_map, Contains-append_left, Contains-append_right, Contains-append_cases, Span, NetworkTree, Connection, End, Sort, Sources, Code, SecondAdapter, SecondSource, Fault, ComesThrough, contains_cases, contains_flat_map, contains_here, contains_later, contains_nothing, contains_single, origin_in_flat_map, Position, Source, Destination, Path, fault_at_path, repeated_faults, adapter_ends, data_destination, end_path, path_named, second_adapters, second_sources, HaveSameNames, IsEndOf, IsNetworkOf, Site, place_of, source, destination, HasSecondAdapter, HasSecondSource, IsTaken, by_earlier, by_source, option_map}
-use Rattle.fb_laws.proofs.{NetworkLemmas.{Finds, end_place, fault_at_end}, RepeatedPaths.{repeat_origin, repeat_reported}}
-use Rattle.fb_laws.proofs.SplitLemmas.{nothing_split, split_through, through_split}
+use Rattle.fb_laws.proofs.Common.{arith, ◌≡◌, ℕ, List, [], ◌∷◌, ◌++◌, map, ◌⊎◌, inl, inr, refl, sym, ap, ◌∙◌, subst, Contains, flat_map, Contains-append_left, Contains-append_right, Contains-append_cases, Span, NetworkTree, Connection, End, Sort, Sources, Code, SecondAdapter, SecondSource, Fault, ComesThrough, contains_cases, contains_flat_map, contains_here, contains_later, contains_nothing, contains_single, origin_in_flat_map, Position, Source, Destination, Path, fault_at_path, repeated_faults, adapter_ends, data_destination, end_path, path_named, second_adapters, second_sources, HaveSameNames, IsEndOf, IsNetworkOf, Site, place_of, source, destination, HasSecondAdapter, HasSecondSource, IsTaken, by_earlier, by_source, option_map, ◌↔◌}
+use Rattle.fb_laws.proofs.{Lists.{iff, nothing_split, split_through, through_split}, NetworkLemmas.{Finds, end_place, fault_at_end}, RepeatedPaths.{repeat_origin, repeat_reported}}
 use Rattle.fb_tree.specs.declared.network.Sort.TheVariants as sorts
 
 -- ends of connections
@@ -9,11 +8,8 @@ use Rattle.fb_tree.specs.declared.network.Sort.TheVariants as sorts
 abbrev names_of : End → Path
 names_of e = path_named e.name e.port
 
-same_ends : (a b : End) → names_of a ≡ names_of b → HaveSameNames a b
-same_ends a b e = grind (arith, option_map)
-
-ends_same : (a b : End) → HaveSameNames a b → names_of a ≡ names_of b
-ends_same a b e = grind (arith, option_map)
+same_ends : (a b : End) → names_of a ≡ names_of b ↔ HaveSameNames a b
+same_ends a b = iff (λ e. grind (arith, option_map)) (λ e. grind (arith, option_map))
 
 -- an end of those that each connection has, with one of the same names before it
 data IsSecond (f : Connection → List End) (connections : List Connection) (e : End) : Type 0 where
@@ -32,12 +28,12 @@ second_origin code f connections fault c =
     let e = repeat_origin end_path (flat_map f connections) code fault c in
     let t = split_through f connections e.before e.after e.item e.split in
     let taken = taken_in f t.earlier t.inside e.other (subst (λ (l : List End). Contains l e.other) t.passed e.seen) in
-    (e.item, second t.earlier t.later t.origin t.inside t.rest e.other t.split t.parts (same_ends e.other e.item e.same) taken, sym (path_fault code e.item) ∙ e.is)
+    (e.item, second t.earlier t.later t.origin t.inside t.rest e.other t.split t.parts ((same_ends e.other e.item).0 e.same) taken, sym (path_fault code e.item) ∙ e.is)
 
 second_reported : (code : Code) (f : Connection → List End) (connections : List Connection) (e : End) → IsSecond f connections e → Contains (repeated_faults code (map end_path (flat_map f connections))) (fault_at_end code e)
 second_reported code f connections e (second earlier later again inside rest other listed parts same taken) =
     let split = ap (flat_map f) listed ∙ through_split f earlier later again inside rest e parts in
-    let seen = repeat_reported end_path code (flat_map f connections) (flat_map f earlier ++ inside) (rest ++ flat_map f later) e other split (among taken) (ends_same other e same) in
+    let seen = repeat_reported end_path code (flat_map f connections) (flat_map f earlier ++ inside) (rest ++ flat_map f later) e other split (among taken) ((same_ends other e).1 same) in
     subst (λ (g : Fault). Contains (repeated_faults code (map end_path (flat_map f connections))) g) (path_fault code e) seen
   where
     among : ComesThrough f earlier other ⊎ Contains inside other → Contains (flat_map f earlier ++ inside) other
@@ -54,23 +50,12 @@ data_parts sorts.Data d [] rest e p = (refl, cc, refl)
 data_parts sorts.Data d (x ∷ inside) rest e p = let tails : [] ≡ inside ++ e ∷ rest = cc in absurd (nothing_split inside e rest tails)
 data_parts sort d inside rest e p = absurd (nothing_split inside e rest p)
 
-in_data : (sort : Sort) (d e : End) → Contains (data_destination sort d) e → (sort ≡ sorts.Data) × (d ≡ e)
-in_data sort d e c = grind (arith, contains_single, contains_nothing)
-
 data_is : (sort : Sort) (d : End) → sort ≡ sorts.Data → data_destination sort d ≡ d ∷ []
 data_is sort d e = ap (λ s. data_destination s d) e
 
 module _ (sources : Sources) (unit : List ℕ) (here : Site) (n : NetworkTree) (stands : IsNetworkOf sources unit here n) where
-  in_earlier : (earlier later : List Connection) (again : Connection) (inside rest : List End) (e other : End) → n.connections ≡ earlier ++ again ∷ later → destinations again ≡ inside ++ e ∷ rest → HaveSameNames other e → ComesThrough destinations earlier other → HasSecondSource sources unit (place_of e)
-  in_earlier earlier later again inside rest e other listed parts same o = grind (arith, data_parts, in_data)
-
-  second_source : (e : End) → IsSecond destinations n.connections e → HasSecondSource sources unit (place_of e)
-  second_source e (second earlier later again inside rest other listed parts same (inl o)) = in_earlier earlier later again inside rest e other listed parts same o
-  second_source e (second earlier later again inside rest other listed parts same (inr c)) =
-      absurd (contains_nothing other (subst (λ (l : List End). Contains l other) (data_parts again.sort again.destination inside rest e parts).2 c))
-
   pub sources_found : (f : Fault) → Contains (second_sources n.connections) f → Finds sources unit f
-  sources_found f c = let s = second_origin SecondSource destinations n.connections f c in subst (Finds sources unit) s.2 (second_source s.0 s.1)
+  sources_found f c = let s = second_origin SecondSource destinations n.connections f c in subst (Finds sources unit) s.2 (grind (arith, data_parts, contains_single, contains_nothing))
 
 pub source_reported : {sources : Sources} {unit : List ℕ} {span : Span} (h : HasSecondSource sources unit span) → Contains (second_sources h.network.connections) (fault_at_end SecondSource h.again.destination)
 source_reported h =

@@ -1,6 +1,6 @@
 -- Paths that stand twice in a list.
 use Rattle.fb_laws.proofs.Common.{◌≡◌, ℕ, ◌+◌, true, false, ◌||◌, length, List, [], ◌∷◌, ◌++◌, map, take, inl, inr, refl, sym, ap, ◌∙◌, subst, true≢false, arith, nat_cmp-IsAntisymmetric, slice_cmp-IsAntisymmetric, Contains, enumerate_from, slice_get, take-append_seam, Code, Fault, at_place, in_places, contains_cases, contains_filter, contains_here, contains_later, contains_map, contains_nothing, got_in_map, map_gets, origin_in_map, passes_in_filter, Path, PathUse, fault_at_path, has_path, is_repeated, repeated, repeated_faults, same_path, filter}
-use Rattle.fb_laws.proofs.SplitLemmas.{at_split, split_at}
+use Rattle.fb_laws.proofs.Lists.{at_split, split_at}
 use Rattle.std.specs.Ordering.{is_eq}
 use Rattle.std.proofs.{Math.Bool.{or-true}, lemmas.Cmp.{lists_total, nat_list_cmp_total, tied_itself}, lemmas.List.{take-map}, lemmas.Map.Views.{tells_apart}}
 
@@ -44,16 +44,7 @@ repeat_origin path items code f c =
     let o = split_at items k at.0 at.1 in
     let q = path_among (map path (take k items)) p.origin.1.names (ap (λ (l : List PathUse). has_path l p.origin.1.names) (sym (take-map path k items)) ∙ r.passes) in
     let e = origin_in_map path (take k items) q.0 q.1 in
-    record {
-      before = take k items;
-      item = at.0;
-      after = o.0;
-      split = o.1;
-      other = e.origin;
-      seen = e.among;
-      same = ap (λ (u : PathUse). u.names) e.gives ∙ q.2 ∙ ap (λ (u : PathUse). u.names) (sym at.2);
-      is = ap (fault_at_path code) (at.2 ∙ p.gives) ∙ n.gives;
-    }
+    grind arith
 
 pub repeat_reported : {A : Type 0} (path : A → PathUse) (code : Code) (items before after : List A) (item other : A) → items ≡ before ++ item ∷ after → Contains before other → (path other).names ≡ (path item).names → Contains (repeated_faults code (map path items)) (fault_at_path code (path item))
 repeat_reported {A = A} path code items before after item other split seen same =

@@ -1,5 +1,6 @@
 -- The rules of classes, by the functions of the check.
-use Rattle.fb_laws.proofs.Common.{◌≡◌, ◌≢◌, Bool, true, false, Option, Some, None, unwrap_or, refl, sym, ap, ◌∙◌, true≢false, option_and_then, false_from_ne_true, is_free, takes, Class, B, I, Free, Any, arithmetical, change, class_of_broken, combined, join, logical, operation, pair_class, whole as whole_of, allows, ClassPlace, Condition, Joins, Takes, IsLogical, Calculates, Divides, Changes, JoinsTruths, Compares, IsArithmetic, Makes, Combines, Spoils, Results, Fits, arith}
+use Rattle.fb_laws.proofs.Common.{◌≡◌, ◌≢◌, false, Option, Some, None, unwrap_or, refl, sym, ap, ◌∙◌, true≢false, option_and_then, false_from_ne_true, is_free, takes, Class, B, I, Free, Any, arithmetical, change, class_of_broken, combined, join, logical, operation, pair_class, whole as whole_of, allows, ClassPlace, Joins, Takes, IsLogical, Calculates, Divides, Changes, JoinsTruths, Compares, IsArithmetic, Makes, Combines, Spoils, Results, Fits, arith, ◌↔◌}
+use Rattle.fb_laws.proofs.Lists.{iff}
 use Rattle.fb_tree.specs.{declared.expression.BinaryOperator.{BinaryOperator}, declared.expression.BinaryOperator.TheVariants.{Modulo}}
 use Rattle.fb_tree.specs.{declared.expression.UnaryOperator.{UnaryOperator}, declared.expression.UnaryOperator.TheVariants.{Plus, Minus, Not}}
 
@@ -16,8 +17,7 @@ pub none_of : {P : Class → Type 0} {o : Option Class} → ((g : Class) → P g
 none_of told e g p = cc (told g p)
 
 pub missing : {P : Class → Type 0} {o : Option Class} → Known P o → ((g : Class) → ¬ P g) → o ≡ None
-missing fails none = refl
-missing (gives p) none = absurd (none _ p)
+missing {P} {o} known none = grind arith
 
 -- joins
 
@@ -38,21 +38,13 @@ told_join a b c is = grind arith
 
 -- constants
 
-ruleset constants = (Takes.truth, Takes.truth_any, Takes.whole, Takes.whole_number, Takes.whole_any, Takes.bits, Takes.bits_number, Takes.bits_any, Takes.other, Takes.other_whole, Takes.other_number, Takes.other_any)
-
-known_take : (kind constant : Class) → takes kind constant ≡ true → Takes kind constant
-known_take Free constant e = Takes.free_type constant
-known_take kind Free e = Takes.free_constant kind
-known_take kind constant e = first_of (search constants, cc)
-
-told_take : (kind constant : Class) → Takes kind constant → takes kind constant ≡ true
-told_take kind constant is = grind arith
+ruleset constants = (Takes.truth, Takes.truth_any, Takes.whole, Takes.whole_number, Takes.whole_any, Takes.bits, Takes.bits_number, Takes.bits_any, Takes.other, Takes.other_whole, Takes.other_number, Takes.other_any, Takes.free_type, Takes.free_constant)
 
 pub not_taken : (kind constant : Class) → takes kind constant ≡ false → ¬ Takes kind constant
-not_taken kind constant e is = true≢false (sym (told_take kind constant is) ∙ e)
+not_taken kind constant e is = grind arith
 
 pub untaken : (kind constant : Class) → ¬ Takes kind constant → takes kind constant ≡ false
-untaken kind constant none = false_from_ne_true (takes kind constant) (λ e. none (known_take kind constant e))
+untaken kind constant none = false_from_ne_true (takes kind constant) (λ e. none (grind (arith, constants)))
 
 pub not_free : (c : Class) → is_free c ≡ false → c ≢ Free
 not_free c e is = true≢false (sym (ap is_free is) ∙ e)
@@ -160,25 +152,7 @@ told_results operator a b g (Results.broken none s) = ap (λ (o : Option Class).
 
 -- places
 
-abbrev is_truth : Class → Bool
-is_truth B = true
-is_truth c = false
+ruleset fitting = (Fits.truth, Fits.any_truth, Fits.whole, Fits.number, Fits.any_number, Fits.counter, Fits.selector, Fits.free)
 
-no_truth : (c : Class) → is_truth c ≡ false → c ≢ B
-no_truth c e is = true≢false (sym (ap is_truth is) ∙ e)
-
-ruleset fitting = (Fits.truth, Fits.any_truth, Fits.whole, Fits.number, Fits.any_number, Fits.counter, Fits.selector, no_truth)
-
-pub fits : (place : ClassPlace) (c : Class) → allows place c ≡ true → Fits place c
-fits Condition B e = Fits.truth
-fits place Free e = Fits.free place
-fits place c e = first_of (search fitting, cc)
-
-pub told_fit : (place : ClassPlace) (c : Class) → Fits place c → allows place c ≡ true
-told_fit place c is = grind arith
-
-pub misfits : (place : ClassPlace) (c : Class) → allows place c ≡ false → ¬ Fits place c
-misfits place c e f = true≢false (sym (told_fit place c f) ∙ e)
-
-pub told_misfit : (place : ClassPlace) (c : Class) → ¬ Fits place c → allows place c ≡ false
-told_misfit place c none = false_from_ne_true (allows place c) (λ e. none (fits place c e))
+pub misfits : (place : ClassPlace) (c : Class) → allows place c ≡ false ↔ (¬ Fits place c)
+misfits place c = iff (λ e f. grind arith) (λ none. false_from_ne_true (allows place c) (λ e. none (grind (arith, fitting))))

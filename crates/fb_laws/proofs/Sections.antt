@@ -1,8 +1,6 @@
 -- The parts of constants, types, interfaces, networks, states and parts of systems.
 use Rattle.fb_laws.proofs.Common.{inl, inr, refl, List, ◌∷◌, ◌++◌, map, Some, None, flat_map, NameUse, Form, one, both, before, behind, list, name, names, number, length_of_string, element_or_sized, plain_type, array_of, array_type, type_use, other_literal_kinds, simple, in_brackets, constant_list, constant, parameter, listed_parameters, parameters, optional_parameters, instance, inner_subapplication, end, connection, connections, ParameterTree, one_value, value_span, Section, Side, Role, Sort, Part, name_part, constant_part, type_part, name_parts, names_in, option_parts, simple_parts, constant_parts, type_use_parts, event_parts, variables_parts, parameter_parts, instance_parts, end_parts, connection_parts, action_parts, state_parts, resource_parts, device_parts, mapping_parts, Kind, subapplications}
-use Rattle.fb_laws.proofs.Tokens.{Each}
-use Rattle.fb_laws.proofs.Filling.{filled_as, filled_either, filled_token, filled_name, ends_filled, ends_second, ends_behind, filled_across, filled_more, filled_from}
-use Rattle.fb_laws.proofs.Sound.{Sound, sound_nothing, sound_both, sound_first, sound_second, sound_as, sound_either, sound_option, sound_many, sound_behind, sound_before, sound_optional_list, sound_separated, sound_section, sound_own, sound_name, sound_named, sound_names, sound_optional_name, sound_same}
+use Rattle.fb_laws.proofs.Sound.{Each, filled_as, filled_either, filled_token, filled_name, ends_filled, ends_second, ends_behind, filled_across, filled_more, filled_from, Sound, sound_nothing, sound_both, sound_first, sound_second, sound_as, sound_either, sound_option, sound_many, sound_behind, sound_before, sound_optional_list, sound_separated, sound_section, sound_own, sound_name, sound_named, sound_names, sound_optional_name, sound_same}
 use Rattle.fb_sections.specs.{Chart.{sent_event, action, actions, state, states}, Interface.{with_names, event, events, initial, variables, data_variables}}
 use Rattle.fb_sections.specs.{Sections.{section}, SystemParts.{path, mapping, mappings, header, resource, device}}
 

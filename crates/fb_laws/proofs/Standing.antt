@@ -1,8 +1,58 @@
--- Parts that are written in the tokens as the grammar sees them stand in the text.
-use Rattle.fb_laws.proofs.Common.{◌≡◌, ℕ, ◌<◌, ◌≤◌, Bool, true, cond, List, [], ◌∷◌, ◌++◌, length, map, refl, sym, ap, ◌∙◌, subst, arith, Result, Ok, Err, All, IsOk, nat_lt, slice_range, IsCharBoundary, str_to_ascii_uppercase, map-append, Contains-append_left, All-contains, All-from_recursion, All-map, All-weaker, Contains-append_right, contains_here, origin_in_map, name_of, tokens_of, spans_of, LiesIn, SpansRise, is_word, NameFault, NameUse, Span, Token, name_of-ok, IsBody, IsBodyIn, body_of, Whole, name as name_form, Spells, is_among, name_kinds, lexeme_of, lexemes_in, lexemes_of, name_or, name_use, Lexeme, DeclTree, told, Part, name_part, tree_parts, PartsAreWritten, SpansCoverTokens, SpansLieInText, NamesAreWords, part_span, BeginsAt, EndsAt, IsWritten, Contains}
-use Rattle.fb_laws.proofs.{Reading.{AreTokens, tokens_are, rise_at, rise_behind}, UnitSpans.{sound_unit}}
+-- The tokens of a text, and the parts that are written in them.
+use Rattle.fb_laws.proofs.Common.{Covers, IsWord, ◌≡◌, ℕ, zero, suc, ◌+◌, ◌<◌, ◌≤◌, inl, inr, List, [], ◌∷◌, ◌++◌, length, drop, refl, subst, arith, length-drop, Ok, IsUtf8, All, slice_index_or, cases_lt, piece_at, tokens_of, FitsIn, IsSpelled, LiesIn, SpansRise, spans_of, Span, Token, Bool, true, cond, map, sym, ap, ◌∙◌, Result, Err, IsOk, nat_lt, slice_range, str_to_ascii_uppercase, map-append, Contains-append_left, All-contains, All-from_recursion, All-map, All-weaker, Contains-append_right, contains_here, origin_in_map, name_of, is_word, NameFault, NameUse, name_of-ok, IsBody, IsBodyIn, body_of, Whole, name as name_form, Spells, is_among, name_kinds, lexeme_of, lexemes_in, lexemes_of, name_or, name_use, Lexeme, DeclTree, told, Part, name_part, tree_parts, PartsAreWritten, SpansCoverTokens, SpansLieInText, NamesAreWords, part_span, BeginsAt, EndsAt, IsWritten, Contains}
+use Rattle.std.proofs.lemmas.Str.{IsUtf8-drop}
+use Rattle.fb_text.specs.{declared.scan.Piece.{Piece}, declared.scan.Piece.TheVariants.{Gap, Unclosed, Found}}
+use Rattle.fb_text.proofs.{Boundaries.{piece-fits}, Reading.{HasRead, start, after-gap, after-token, unclosed, all-read}}
+use Rattle.fb_laws.proofs.UnitSpans.{sound_unit}
 use Rattle.fb_structured_text.proofs.Forms.NameWords.{names as names_are_words}
-use Rattle.fb_laws.specs.Standing.{Covers, IsWord}
+
+-- the tokens lie in the text one behind the other, and each has the form of its kind
+pub record AreTokens (text : List ℕ) (tokens : List Token) : Type 0 where
+  pub within : All (λ t. LiesIn text t.span) tokens
+  pub spelled : All (IsSpelled text) tokens
+  pub rise : SpansRise 0 (length text) (spans_of tokens)
+
+module _ (text : List ℕ) (utf8 : IsUtf8 text) (tokens : List Token) (are : tokens_of text ≡ Ok tokens) where
+  at_end : (ts : List Token) (place : ℕ) → HasRead text ts place → length text ≤ place → AreTokens text tokens
+  at_end ts place read done = grind (arith, all-read)
+
+  -- one piece is read, and what is read then tells the tokens
+  past_piece : (ts : List Token) (place : ℕ) → HasRead text ts place → place < length text
+      → ((us : List Token) (n : ℕ) → 0 < n → HasRead text us (place + n) → AreTokens text tokens)
+      → (piece : Piece) → piece_at (drop place text) ≡ piece → FitsIn (drop place text) piece → AreTokens text tokens
+  past_piece ts place read left more (Gap n) e fits = more ts n fits.some (after-gap text ts place read left n e fits)
+  past_piece ts place read left more Unclosed e fits = let bad = unclosed text ts place read left e in absurd (let no : ⊥ = cc in no)
+  past_piece ts place read left more (Found kind n) e fits = more _ n fits.some (after-token text ts place read left kind n e fits)
+
+  -- by the number of bytes that are left at most
+  from_place : (fuel : ℕ) (ts : List Token) (place : ℕ) → HasRead text ts place → length text ≤ place + fuel → AreTokens text tokens
+  from_place zero ts place read enough = at_end ts place read (omega (arith, enough))
+  from_place (suc fuel) ts place read enough =
+      elim (cases_lt place (length text)) [
+        | inl left ↦
+            let some : 0 < length (drop place text) = omega (arith, length-drop place text) in
+            past_piece ts place read left (λ us n pos later. from_place fuel us (place + n) later (omega (arith, enough, pos)))
+            (piece_at (drop place text)) refl (piece-fits (drop place text) (IsUtf8-drop text place utf8 read.place_ends) some)
+        | inr done ↦ at_end ts place read done
+      ]
+
+  pub tokens_are : AreTokens text tokens
+  tokens_are = from_place (length text) [] 0 (start text utf8) (omega arith)
+
+-- Spans that rise
+
+-- one of the spans is not empty, and begins at that place or behind it
+pub rise_at : (from end : ℕ) (ss : List Span) (s : Span) (k : ℕ) → SpansRise from end ss → k < length ss → slice_index_or ss k s ≡ s → (from ≤ s.start) × (s.start < s.end)
+rise_at from end [] s k rise within e = absurd (omega arith)
+rise_at from end (t ∷ ss) s zero rise within e = subst (λ (z : Span). (from ≤ z.start) × (z.start < z.end)) e (rise.0, rise.1)
+rise_at from end (t ∷ ss) s (suc k) rise within e =
+    let later = rise_at t.end end ss s k rise.2 (omega arith) e in
+    (omega (arith, rise.0, rise.1, later.0), later.1)
+
+-- the spans from one of them on rise from its begin
+pub rise_behind : (from end : ℕ) (before : List Span) (first : Span) (behind : List Span) → SpansRise from end (before ++ first ∷ behind) → SpansRise first.start end (first ∷ behind)
+rise_behind from end [] first behind rise = (omega arith, rise.1, rise.2)
+rise_behind from end (s ∷ before) first behind rise = rise_behind s.end end before first behind rise.2
 
 -- Spellings
 
@@ -59,16 +109,9 @@ covers : (us before inside behind : List Lexeme) (s : Span) → us ≡ before ++
 covers us before [] behind s e begins ends = absurd begins
 covers us before (l ∷ inside) behind s e begins ends =
     let last = last_span (l ∷ inside) s.end ends in
-    record {
-      before = spans before;
-      first = l.span;
-      behind = spans inside ++ spans behind;
-      last = last.0;
-      parts = ap spans e ∙ map-append (λ (t : Lexeme). t.span) before (l ∷ inside ++ behind) ∙ ap (λ z. spans before ++ l.span ∷ z) (map-append (λ (t : Lexeme). t.span) inside behind);
-      from_first = Contains-append_left (spans (l ∷ inside)) (spans behind) last.0 last.1;
-      start = begins;
-      end = last.2;
-    }
+    let parts = ap spans e ∙ map-append (λ (t : Lexeme). t.span) before (l ∷ inside ++ behind) ∙ ap (λ z. spans before ++ l.span ∷ z) (map-append (λ (t : Lexeme). t.span) inside behind) in
+    let from_first : Contains (l.span ∷ (spans inside ++ spans behind)) last.0 = Contains-append_left (spans (l ∷ inside)) (spans behind) last.0 last.1 in
+    search
 
 pub part_covers : (text : List ℕ) (tokens : List Token) (p : Part) → IsWritten (map (lexeme_of text) tokens) p → Covers (spans_of tokens) (part_span p)
 part_covers text tokens p h = grind (arith, same_spans, covers)
@@ -117,10 +160,7 @@ module _ (text : List ℕ) (tokens : List Token) (are : AreTokens text tokens) w
       let among : (z : Span) → Contains from_first z → Contains (spans_of tokens) z = λ z h. subst (λ (ss : List Span). Contains ss z) (sym c.parts) (Contains-append_right c.before from_first z h) in
       let first = one_lies c.first (among c.first (0, omega arith, refl)) in
       let last = one_lies c.last (among c.last c.from_first) in
-      let rise = rise_behind 0 (length text) c.before c.first c.behind (subst (SpansRise 0 (length text)) c.parts are.rise) in
-      let later = rise_at c.first.start (length text) from_first c.last c.from_first.0 rise c.from_first.1 c.from_first.2 in
-      let some : s.start < s.end = omega (arith, c.start, c.end, later.0, later.1) in
-      (record { rises = omega (arith, some); starts = subst (IsCharBoundary text) (sym c.start) first.starts; ends = subst (IsCharBoundary text) (sym c.end) last.ends }, some)
+      grind (arith, rise_behind, rise_at)
 
 pub spans_lie_in_text : SpansLieInText
 spans_lie_in_text text tree utf8 e =

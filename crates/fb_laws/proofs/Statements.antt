@@ -1,7 +1,6 @@
 -- The parts of statements, at each level.
 use Rattle.fb_laws.proofs.Common.{ℕ, ◌≤◌, arith, zero, suc, List, [], ◌∷◌, ◌++◌, flat_map, Form, many, cons, name, Kind, Assign, Expression, reference_expression, Statement, statements_of, arms_of, levels, expression, reference, statement, simple_statement, assignment_statement, enclosed, announced, otherwise, arm, arms, if_statement, case, cases, case_statement, for_statement, while_statement, repeat_statement, nested_statement, Part, mark_part, name_parts, option_parts, expression_parts, statement_parts, statements_parts, arms_parts, refl, subst, flat_map-append}
-use Rattle.fb_laws.proofs.Tokens.{Each}
-use Rattle.fb_laws.proofs.Sound.{Sound, sound_nothing, sound_both, sound_as, sound_either, sound_option, sound_many, sound_behind, sound_before, sound_optional_list, sound_section, sound_mark, sound_name, sound_same}
+use Rattle.fb_laws.proofs.Sound.{Each, Sound, sound_both, sound_as, sound_either, sound_option, sound_many, sound_behind, sound_before, sound_optional_list, sound_section, sound_mark, sound_name, sound_same}
 use Rattle.fb_laws.proofs.ExpressionSpans.{flat_parts, sound_expression, sound_reference}
 
 -- Lists
@@ -27,17 +26,11 @@ sound_assignment n within =
 
 sound_simple_statement : (n : ℕ) → n ≤ levels → Sound (simple_statement n) statement_parts
 unfolding simple_statement
-sound_simple_statement n within =
-    sound_either _ _ statement_parts (sound_as _ _ statement_parts (sound_nothing _))
-    (sound_either _ _ statement_parts (sound_as _ _ statement_parts (sound_nothing _))
-    (sound_either _ _ statement_parts (sound_as _ _ statement_parts (sound_nothing _)) (sound_assignment n within)))
+sound_simple_statement n within = grind (arith, sound_either, sound_assignment)
 
 -- Statements that contain others
 
 module _ (e : Form Expression) (inner : Form Statement) (sound_e : Sound e expression_parts) (sound_inner : Sound inner statement_parts) where
-  sound_several : Sound (many inner) (flat_map statement_parts)
-  sound_several = sound_many inner statement_parts sound_inner
-
   sound_enclosed : (word end : Kind) → Sound (enclosed word inner end) block_parts
   unfolding enclosed
   sound_enclosed word end = sound_block _ (sound_section word inner end statement_parts sound_inner)
@@ -48,11 +41,11 @@ module _ (e : Form Expression) (inner : Form Statement) (sound_e : Sound e expre
 
   sound_otherwise : Sound (otherwise inner) block_parts
   unfolding otherwise
-  sound_otherwise = sound_block _ (sound_optional_list _ statement_parts (sound_behind _ (many inner) (flat_map statement_parts) sound_several))
+  sound_otherwise = sound_block _ (sound_optional_list _ statement_parts (sound_behind _ (many inner) (flat_map statement_parts) (sound_many inner statement_parts sound_inner)))
 
   sound_arm : (word : Kind) → Sound (arm word e inner) arm_parts
   unfolding arm
-  sound_arm word = sound_both _ _ expression_parts block_parts (sound_announced word) (sound_behind _ (many inner) block_parts (sound_block (many inner) sound_several))
+  sound_arm word = sound_both _ _ expression_parts block_parts (sound_announced word) (sound_behind _ (many inner) block_parts (sound_block (many inner) (sound_many inner statement_parts sound_inner)))
 
   sound_if : Sound (if_statement e inner) statement_parts
   unfolding if_statement arms
@@ -64,7 +57,7 @@ module _ (e : Form Expression) (inner : Form Statement) (sound_e : Sound e expre
 
   sound_case_part : Sound (case inner) (flat_map statement_parts)
   unfolding case
-  sound_case_part = sound_behind _ _ (flat_map statement_parts) (sound_behind _ (many inner) (flat_map statement_parts) sound_several)
+  sound_case_part = sound_behind _ _ (flat_map statement_parts) (sound_behind _ (many inner) (flat_map statement_parts) (sound_many inner statement_parts sound_inner))
 
   sound_cases : Sound (cases inner) block_parts
   unfolding cases

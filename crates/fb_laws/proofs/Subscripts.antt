@@ -1,5 +1,5 @@
 -- The names of a reference count its subscripts.
-use Rattle.fb_laws.proofs.Common.{arith, ◌≡◌, ℕ, suc, ◌+◌, inl, inr, List, [], ◌∷◌, length, map, refl, sym, ap, ◌∙◌, subst, length-append, sum_by, All-contains, Form, either, as_value, Spells, Kind, Lexeme, Expression, reference_expression, expressions_of, Member, PartTree, expression, parts, flat_part, deep_part, member_in, subscripts_in, reference_in, flat_reference, deep_reference, reference_value, literal, in_parentheses, parenthesized, flat_primary, deep_primary, with_sign, unary, row_of, row, rows, expression_part, tree_parts, SubscriptsAreCounted, counted_by, number_of, IsWritten, None, Some}
+use Rattle.fb_laws.proofs.Common.{arith, ◌≡◌, ℕ, suc, ◌+◌, inl, inr, List, [], ◌∷◌, length, map, refl, sym, ap, ◌∙◌, subst, length-append, sum_by, All-contains, Form, either, as_value, Spells, Kind, Lexeme, Expression, reference_expression, expressions_of, Member, PartTree, expression, parts, flat_part, deep_part, member_in, subscripts_in, reference_in, flat_reference, deep_reference, reference_value, literal, in_parentheses, parenthesized, flat_primary, deep_primary, with_sign, unary, row, rows, expression_part, tree_parts, SubscriptsAreCounted, counted_by, number_of, IsWritten, None, Some}
 use Rattle.fb_laws.proofs.Standing.{parts_are_written}
 use Rattle.std.proofs.lemmas.List.Sums.{sum_by-cons}
 
@@ -13,9 +13,6 @@ members_count (p ∷ ps) =
     sum_by-cons (λ (m : Member). m.subscripts) (member_in p) (map member_in ps)
     ∙ ap (λ n. length p.subscripts + n) (members_count ps)
     ∙ sym (length-append p.subscripts (subscripts_in ps))
-
-parts_count : (p : PartTree) (ps : List PartTree) → counted_by (reference_in (p, ps)).0 ≡ number_of (reference_in (p, ps)).1
-parts_count p ps = grind (arith, members_count, length-append, number_is)
 
 -- what is so of an expression that is a reference
 abbrev Counts : Expression → Type 0
@@ -37,7 +34,7 @@ unfolding literal
 counted_literal = counted_as _ _ (λ us v s. tt)
 
 counted_parts : (part : Form PartTree) → Counted (as_value reference_value (as_value reference_in (parts part)))
-counted_parts part = grind (arith, counted_as, as_value, parts_count)
+counted_parts part = grind (arith, counted_as, as_value, members_count, length-append, number_is)
 
 counted_flat_primary : Counted flat_primary
 unfolding flat_primary flat_reference
@@ -54,9 +51,7 @@ counted_unary primary h = counted_as (λ v. with_sign v.0 v.1) _ (λ us v s. (el
 counted_rows : (all : List (List Kind)) (x : Form Expression) → Counted x → Counted (rows all x)
 unfolding rows row
 counted_rows [] x h = h
-counted_rows (kinds ∷ stronger) x h =
-    let inner = counted_rows stronger x h in
-    counted_as (λ v. row_of v.0 v.1) _ (λ us v s. (elim v.1 as (λ os. Counts (row_of v.0 os)) [ [] ↦ inner.counts s.0 v.0 s.3 | o ∷ os ↦ tt ]))
+counted_rows (kinds ∷ stronger) x h = grind (arith, counted_as, counted_rows stronger x h)
 
 counted_expression : (n : ℕ) → Counted (expression n)
 unfolding expression

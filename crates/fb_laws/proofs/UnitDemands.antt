@@ -1,7 +1,6 @@
 -- What the guards and the algorithms of a block type demand, and the faults of what is not met.
-use Rattle.fb_laws.proofs.Common.{◌≡◌, ℕ, false, List, [], ◌∷◌, ◌++◌, Option, Some, None, refl, sym, ap, ◌∙◌, subst, append-nil, append_assoc, option_map_or, Contains, flat_map, All-contains, All-from_recursion, All-weaker, Contains-append_left, Contains-append_right, NameUse, Span, ReferenceTree, Expression, literal_expression, reference_expression, unary_expression, row_expression, parentheses, Expressions, no_expressions, expression_then, Operands, no_operands, operand_then, Statement, assignment, choice, selection, count, while_loop, repeat_loop, Statements, no_statements, statement_then, Arms, no_arms, arm_then, statements_of, ConditionTree, guarded, guard, DeclTree, TypeTree, block_type, BinaryUse, UnaryUse, Member, Sources, tree_at, Class as ValueClass, Fault, contains_flat_map, contains_nothing, origin_in_flat_map, expr_faults_of, faults_in_unit, pair_class, Demand, names_variable, names_field, suits_operand, suits_operands, suits_place, assigns, is_met, field_demands, demands_in, row_demands, subscript_demands, demands_at, range_demands, statement_demands, statements_demands, arms_demands, alone_tree, guard_demands, transition_demands, algorithm_demands, chart_demands, class_in, Names, names_of_type, HasClass, IsPairIn, first_pair, later_pair, ClassPlace, Condition, Count, Counter, Selector, IsOneOf, first_one, later_one, IsOperandOf, first_operand, later_operand, OccursIn, in_subscript, behind_operator, in_first, in_operand, IsArmOf, first_arm, later_arm, Asks, selector, while_condition, until_condition, HasExpression, value, this, in_arm, behind_else, in_case, behind_cases, in_for, in_while, in_repeat, IsAmong, in_first_statement, in_later_statement, IsNamedIn, in_reference, behind_for, IsGuardOf, with_event, IsRunIn, IsTestedIn, IsWrittenIn, in_guard, in_statement}
-use Rattle.fb_laws.proofs.{ClassLemmas.{class_of, told_class}, Joined.{of_either}, RuleLemmas.{results, told_results}, Tokens.{Each, each_append, each_prefix, each_rest}}
-use Rattle.std.proofs.lemmas.List.Elements.{All-contains_itself, recursion_from_All}
+use Rattle.fb_laws.proofs.Common.{arith, ◌≡◌, ℕ, false, List, [], ◌∷◌, ◌++◌, Option, Some, None, refl, sym, ap, ◌∙◌, subst, append-nil, append_assoc, option_map_or, Contains, All-contains, All-from_recursion, All-weaker, Contains-append_left, Contains-append_right, NameUse, Span, ReferenceTree, Expression, literal_expression, reference_expression, unary_expression, row_expression, parentheses, Expressions, no_expressions, expression_then, Operands, no_operands, operand_then, Statement, assignment, choice, selection, count, while_loop, repeat_loop, Statements, no_statements, statement_then, Arms, no_arms, arm_then, statements_of, ConditionTree, guarded, guard, DeclTree, TypeTree, block_type, BinaryUse, UnaryUse, Member, Sources, tree_at, Class as ValueClass, Fault, contains_flat_map, contains_nothing, origin_in_flat_map, expr_faults_of, faults_in_unit, pair_class, Demand, names_variable, names_field, suits_operand, suits_operands, suits_place, assigns, is_met, field_demands, demands_in, row_demands, subscript_demands, demands_at, range_demands, statement_demands, statements_demands, arms_demands, alone_tree, guard_demands, transition_demands, algorithm_demands, chart_demands, class_in, Names, names_of_type, HasClass, IsPairIn, first_pair, later_pair, ClassPlace, Condition, Count, Counter, Selector, IsOneOf, first_one, later_one, IsOperandOf, first_operand, later_operand, OccursIn, in_subscript, behind_operator, in_first, in_operand, IsArmOf, first_arm, later_arm, Asks, selector, while_condition, until_condition, HasExpression, value, this, in_arm, behind_else, in_case, behind_cases, in_for, in_while, in_repeat, IsAmong, in_first_statement, in_later_statement, IsNamedIn, in_reference, behind_for, IsGuardOf, with_event, IsRunIn, IsTestedIn, IsWrittenIn, in_guard, in_statement, All-contains_itself, recursion_from_All}
+use Rattle.fb_laws.proofs.{ClassLemmas.{class_of, told_class}, Lists.{of_either}, RuleLemmas.{results, told_results}, Sound.{Each, each_append, each_prefix, each_rest}}
 use Rattle.fb_expr.specs.Demands.{fault_of}
 use Rattle.fb_expr.proofs.DemandLemmas.{faults_unmet}
 use Rattle.fb_laws.specs.Occurrences.{IsWithin, alone, arm, destination, in_parentheses, itself}
@@ -174,18 +173,10 @@ module _ (sources : Sources) (unit : List ℕ) (d : TypeTree) (declared : tree_a
   arm_listed (later_arm {x = x} {ss = ss} is) all = arm_listed is (back (demands_at Condition names x ++ statements_demands names ss) _ all)
 
   asked_listed : {s : Statement} {place : ClassPlace} {x : Expression} → Asks s place x → AreListed (statement_demands names s) → AreListed (demands_at place names x)
-  asked_listed (arm {arms = arms} is) all = (arm_listed is (front (arms_demands names arms) _ all)).0
-  asked_listed (selector {e = e} {cases = cases}) all = (three (demands_at Selector names e) (statements_demands names cases) _ all).0
-  asked_listed (Asks.from {a = a} {b = b} {step = step}) all = (three (demands_at Count names a) (demands_at Count names b) _ (front (range_demands names a b step) _ all.1.1)).0
-  asked_listed (Asks.to {a = a} {b = b} {step = step}) all = (three (demands_at Count names a) (demands_at Count names b) _ (front (range_demands names a b step) _ all.1.1)).1
-  asked_listed (Asks.by {a = a} {b = b} {step = e}) all = (three (demands_at Count names a) (demands_at Count names b) _ (front (range_demands names a b (Some e)) _ all.1.1)).2
-  asked_listed (while_condition {condition = condition}) all = front (demands_at Condition names condition) _ all
-  asked_listed (until_condition {body = body}) all = back (statements_demands names body) _ all
+  asked_listed {s} {place} {x} asks all = grind (arith, arm_listed, front, back)
 
   inside_listed : {s : Statement} {x : Expression} → HasExpression s x → AreListed (statement_demands names s) → AreListed (demands_in names x)
-  inside_listed {x = x} (HasExpression.in_place place asks) all = front (demands_in names x) _ (asked_listed asks all)
-  inside_listed (destination {r = r} {subscripts = subscripts} {value = e}) all = (all.0, (three (field_demands r [] r.members ++ subscript_demands names subscripts) (demands_in names e) _ all.1).0)
-  inside_listed (value {r = r} {subscripts = subscripts} {e = e}) all = (three (field_demands r [] r.members ++ subscript_demands names subscripts) (demands_in names e) _ all.1).1
+  inside_listed {s} {x} has all = grind (arith, front, asked_listed, three)
 
   mutual
     within_listed : {t s : Statement} → IsWithin t s → AreListed (statement_demands names s) → AreListed (statement_demands names t)
@@ -206,22 +197,13 @@ module _ (sources : Sources) (unit : List ℕ) (d : TypeTree) (declared : tree_a
   listed demands each = recursion_from_All Listed demands (All-weaker (Contains demands) Listed each demands (All-contains_itself demands))
 
   run_listed : {s : Statement} → IsRunIn d s → AreListed (statement_demands names s)
-  run_listed runs =
-      among_listed runs.among
-      (listed (algorithm_demands names runs.algorithm) (λ demand c.
-      Contains-append_right (flat_map (transition_demands names) d.chart.transitions) (flat_map (algorithm_demands names) d.chart.algorithms) demand
-      (contains_flat_map (algorithm_demands names) d.chart.algorithms runs.algorithm demand runs.declared c)))
+  run_listed runs = among_listed runs.among (listed (algorithm_demands names runs.algorithm) (λ demand c. let there = runs.declared in search (Contains-append_right, contains_flat_map)))
 
   guard_listed : {x : Expression} {condition : ConditionTree} → IsGuardOf x condition → AreListed (guard_demands names condition) → AreListed (demands_at Condition names x)
-  guard_listed with_event all = all
-  guard_listed alone all = all
+  guard_listed {x} {condition} is all = grind arith
 
   tested_listed : {x : Expression} → IsTestedIn d x → AreListed (demands_at Condition names x)
-  tested_listed t =
-      guard_listed t.is_guard
-      (listed (transition_demands names t.transition) (λ demand c.
-      Contains-append_left (flat_map (transition_demands names) d.chart.transitions) (flat_map (algorithm_demands names) d.chart.algorithms) demand
-      (contains_flat_map (transition_demands names) d.chart.transitions t.transition demand t.written c)))
+  tested_listed t = guard_listed t.is_guard (listed (transition_demands names t.transition) (λ demand c. let there = t.written in search (Contains-append_left, contains_flat_map)))
 
   written_listed : {x : Expression} → IsWrittenIn d x → AreListed (demands_in names x)
   written_listed (in_guard y tested o) = occurring_listed o (front (demands_in names y) _ (tested_listed tested))

@@ -1,11 +1,10 @@
 -- The parts of transitions and algorithms, of sections that are joined, and of units.
 use Rattle.fb_laws.proofs.Common.{arith, ◌≡◌, ◌↔◌, ◌∙◌, sym, List, [], ◌∷◌, ◌++◌, Some, None, flat_map, subst, append-nil, flat_map-append, NameUse, Form, many, as_value, name, Name, NameIn, NameOn, NameSt, among_left, among_right, end, Kind, blocks, plugs, sockets, Statement, levels, statement, Part, name_part, name_parts, option_parts, end_parts, expression_parts, statement_parts, condition_parts, transition_parts, algorithm_parts, variables_parts, interface_parts, network_parts, chart_parts, declared_parts, application_parts, device_parts, mapping_parts, system_parts, structure_parts, tree_parts}
-use Rattle.fb_laws.proofs.Tokens.{Each, each_append, each_prefix, each_rest}
-use Rattle.fb_laws.proofs.Sound.{Sound, sound_nothing, sound_both, sound_as, sound_either, sound_option, sound_many, sound_behind, sound_before, sound_section, sound_mark, sound_name, sound_name_of, sound_same}
+use Rattle.fb_laws.proofs.Sound.{Each, each_append, each_prefix, each_rest, Sound, sound_nothing, sound_both, sound_as, sound_either, sound_option, sound_many, sound_behind, sound_before, sound_section, sound_mark, sound_name, sound_name_of, sound_same}
 use Rattle.fb_laws.proofs.Sections.{sound_end, sound_events, sound_data_variables, sound_variables, sound_instances, sound_subapplications, sound_connections, sound_states, sound_mappings, sound_device}
 use Rattle.fb_laws.proofs.{ExpressionSpans.{sound_expression}, Statements.{sound_statement}}
 use Rattle.fb_deploy.specs.Parse.Chart.{bracketed, joined_test, optional_test, on_event_with, event_condition, condition, transition, transitions, structured_text, other_language, algorithm_body, algorithm}
-use Rattle.fb_deploy.specs.Parse.Contents.{ContentsTree, of_events, of_variables, of_adapters, of_instances, of_connections, of_states, of_transitions, of_algorithm, joined}
+use Rattle.fb_deploy.specs.Parse.Contents.{ContentsTree, of_variables, of_adapters, of_instances, of_connections, of_states, of_transitions, of_algorithm, joined}
 use Rattle.fb_deploy.specs.Parse.Grammar.{data_section, service_section, interface_section, network_section, chart_section, block_section, adapter_section, application_section, subapplication_section, framed, type_of, block, adapter, subapplication, application_of, application, system_section, system, structure, unit}
 use Rattle.fb_deploy.specs.Parse.SystemContents.{SystemContentsTree, of_application, of_device, of_mappings, system_joined}
 use Rattle.fb_sections.specs.Interface.{internal_variables, fields}
@@ -64,8 +63,7 @@ sound_of {x = x} {f = f} parts of h same = sound_as of x parts (sound_same x f (
 
 sound_data_section : Sound data_section contents_parts
 unfolding data_section
-sound_data_section =
-    sound_either _ _ contents_parts (sound_of _ of_events sound_events (λ v. simp append-nil)) (sound_of _ of_variables sound_data_variables (λ v. simp append-nil))
+sound_data_section = grind (arith, sound_events, append-nil, sound_data_variables)
 
 sound_interface_section : Sound interface_section contents_parts
 unfolding interface_section plugs sockets

@@ -1,24 +1,13 @@
 -- Usable types, by what the check knows of them.
-use Rattle.fb_laws.proofs.Common.{◌≡◌, ℕ, cond, List, [], ◌∷◌, map, Option, Some, None, refl, sym, ap, ◌∙◌, subst, Contains, DeclTree, InstanceTree, NetworkTree, TypeTree, block_type, adapter_type, subapplication_type, Role, Sources, tree_at, first_ones, stands_for, Meanings, instances_in, meanings_in_type, instance_ports, scope_of_type, type_ports_of, usable, DeclaredInstance, contains_here, contains_later, contains_map, named, IsUsable, as_plug, as_socket, as_block, as_subapplication}
-use Rattle.fb_tree.specs.declared.network.Role.TheVariants as roles
+use Rattle.fb_laws.proofs.Common.{◌≡◌, ℕ, cond, List, [], ◌∷◌, map, Some, None, refl, sym, ap, ◌∙◌, Contains, InstanceTree, NetworkTree, TypeTree, Role, Sources, tree_at, first_ones, stands_for, Meanings, instances_in, meanings_in_type, instance_ports, scope_of_type, type_ports_of, usable, DeclaredInstance, contains_here, contains_later, contains_map, named, IsUsable, as_plug, as_socket, as_block, as_subapplication, arith}
 use Rattle.fb_netcheck.proofs.Locality.{Each, instance_stands}
 
 module _ (sources : Sources) (name : List ℕ) where
   pub told_type : (role : Role) (ports : Meanings) → IsUsable sources name role ports → usable role (tree_at sources name) ≡ Some ports
-  told_type role ports (as_plug d e) = ap (usable roles.Plug) e
-  told_type role ports (as_socket d e) = ap (usable roles.Socket) e
-  told_type role ports (as_block d e) = ap (usable roles.Block) e
-  told_type role ports (as_subapplication d e) = ap (usable roles.Subapplication) e
+  told_type role ports is = grind arith
 
   pub known_type : (role : Role) (ports : Meanings) → usable role (tree_at sources name) ≡ Some ports → IsUsable sources name role ports
-  known_type role ports e = by role (tree_at sources name) refl e
-    where
-      by : (role : Role) (o : Option DeclTree) → tree_at sources name ≡ o → usable role o ≡ Some ports → IsUsable sources name role ports
-      by roles.Plug (Some (adapter_type d)) t e = let same : meanings_in_type d ≡ ports = cc in subst (IsUsable sources name roles.Plug) same (as_plug d t)
-      by roles.Socket (Some (adapter_type d)) t e = let same : meanings_in_type d ≡ ports = cc in subst (IsUsable sources name roles.Socket) same (as_socket d t)
-      by roles.Block (Some (block_type d)) t e = let same : meanings_in_type d ≡ ports = cc in subst (IsUsable sources name roles.Block) same (as_block d t)
-      by roles.Subapplication (Some (subapplication_type d)) t e = let same : meanings_in_type d ≡ ports = cc in subst (IsUsable sources name roles.Subapplication) same (as_subapplication d t)
-      by role o t e = absurd (let fails : ⊥ = cc in fails)
+  known_type role ports e = grind (arith, as_plug, as_socket, as_block, as_subapplication)
 
   pub no_type : (role : Role) → usable role (tree_at sources name) ≡ None → (ports : Meanings) → ¬ IsUsable sources name role ports
   no_type role e ports is = let both : Some ports ≡ None = sym (told_type role ports is) ∙ e in let fails : ⊥ = cc in fails

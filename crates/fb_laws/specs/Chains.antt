@@ -1,13 +1,12 @@
 -- The chains of the links and borders of a flat unit: which connections they pass, and how they are composed of chains of inner networks
 -- (IEC 61499-1, 5.4: subapplication types).
+use Rattle.fb_laws.specs.Common.{Sort, Sources, flat_net, net_at, PlainFlat}
 use Rattle.std.specs.Prelude.{◌≡◌, ℕ, Bool, true, false, List, [], ◌∷◌, ◌++◌, Some, Contains, ◌⊎◌, filter, map}
 use mathlib.Core.Logic.{inl, inr}
 use Rattle.fb_tree.specs.declared.kinds.UnitKind.TheVariants.{Subapplication, System}
-use Rattle.fb_laws.specs.Common.{Sort, Sources, flat_net, net_at, PlainFlat}
-use Rattle.fb_types.specs.Network.Network.{View, Place, place_of, IsInner, IsConnected, Step, Holds, Within, Chain, One, More, IsLink, IsBorder}
-use Rattle.fb_types.specs.{Network.Clean.{IsCleanThroughout}, Network.Plain.{PlainNetwork}, declared.systems.Application.{Application}}
-use Rattle.fb_types.specs.{Network.FlatNet.{IsFlat}, Network.Printed.{printed}}
-use Rattle.fb_types.specs.{Network.declared.network.End.{End}, Network.declared.network.End.TheVariants.{Of}, ByName.{applications_at, declared, kind_at}}
+use Rattle.fb_types.specs.{Network.Network.{View, Place, place_of, IsInner, IsConnected, Step, Holds, Within, Chain, One, More, IsLink, IsBorder}, Network.Clean.{IsCleanThroughout}}
+use Rattle.fb_types.specs.{Network.Plain.{PlainNetwork}, declared.systems.Application.{Application}, Network.FlatNet.{IsFlat}, Network.Printed.{printed}, Network.declared.network.End.{End}}
+use Rattle.fb_types.specs.{Network.declared.network.End.TheVariants.{Of}, ByName.{applications_at, declared, kind_at}}
 
 -- A connection that a chain passes: one of the network itself, or one inside the subapplication instance of that name.
 pub data Passed : Type 0 where
@@ -98,21 +97,20 @@ pub record IsOfFlat (sources : Sources) (unit : List ℕ) (network : PlainNetwor
   pub net : net_at sources unit ≡ Some (flat_net flat)
   pub holds : IsOwnNetwork sources unit network
 
+-- what holds of each of these networks
+abbrev pub HoldsOfFlat : (View → PlainNetwork → Type 0) → Type 0
+HoldsOfFlat Fact = (sources : Sources) (unit : List ℕ) (network : PlainNetwork) → IsOfFlat sources unit network
+    → Fact (declared sources) network
+
 -- such a network is clean at all depths
 abbrev pub FlatUnitsAreClean : Type 0
-FlatUnitsAreClean =
-    (sources : Sources) (unit : List ℕ) (network : PlainNetwork) → IsOfFlat sources unit network
-    → IsCleanThroughout (declared sources) network
+FlatUnitsAreClean = HoldsOfFlat IsCleanThroughout
 
 abbrev pub FlatLinksAreComposed : Type 0
-FlatLinksAreComposed =
-    (sources : Sources) (unit : List ℕ) (network : PlainNetwork) → IsOfFlat sources unit network
-    → LinksAreComposed (declared sources) network
+FlatLinksAreComposed = HoldsOfFlat LinksAreComposed
 
 abbrev pub FlatBordersAreComposed : Type 0
-FlatBordersAreComposed =
-    (sources : Sources) (unit : List ℕ) (network : PlainNetwork) → IsOfFlat sources unit network
-    → BordersAreComposed (declared sources) network
+FlatBordersAreComposed = HoldsOfFlat BordersAreComposed
 
 -- the net of the unit is flat, and is the flat network of this network
 pub record HasFlatNet (sources : Sources) (unit : List ℕ) (network : PlainNetwork) : Type 0 where

@@ -1,11 +1,10 @@
 -- Each code of declarations in other words: where the list of faults has it.
 use Rattle.std.specs.Prelude.{◌≡◌, ◌≢◌, ℕ, ◌<◌, true, false, List, Some, None, Contains, slice_get}
-use Rattle.fb_laws.specs.Common.{Span, NameUse, ConstantTree, DeclTree, EventTree, InstanceTree, StructureTree, TypeTree, VariablesTree, block_type, structure_type, one_value, value_list, value_span, Simple, TypeUse, UnitKind, Role, Sources, tree_at, type_in, Free, Duplicate, Literal, MixedKind, NameDiffers, StructRecursive, UnknownType, WithUnknown, WrongKind, DeclaredVariable, class_of_name, class_of_simple, class_of_type, declared_name, stands_for, variables_in}
+use Rattle.fb_laws.specs.Common.{Span, NameUse, ConstantTree, DeclTree, EventTree, InstanceTree, StructureTree, TypeTree, VariablesTree, block_type, structure_type, one_value, value_list, value_span, Simple, TypeUse, UnitKind, Role, Sources, tree_at, type_in, Free, Duplicate, Literal, MixedKind, NameDiffers, StructRecursive, UnknownType, WithUnknown, WrongKind, DeclaredVariable, class_of_name, class_of_simple, class_of_type, declared_name, stands_for, variables_in, Block, Plug, Socket, Subapplication}
 use Rattle.fb_laws.specs.{Classes.{Takes}, Declared.{AreDeclaredIn}, Spaces.{IsSpace}, UnitParts.{Declarations, IsReportedWhere}}
 use Rattle.fb_tree.specs.Mentions.{unit_kind_of}
 use Rattle.fb_tree.specs.declared.interface.TypeForm.TheVariants as forms
 use Rattle.fb_tree.specs.declared.kinds.UnitKind.TheVariants as kinds
-use Rattle.fb_tree.specs.declared.network.Role.TheVariants as roles
 use Rattle.fb_deploy.specs.{Library.Near.{Carries}, Iface.Sides.{goes_with}, Iface.Types.{instances_of}}
 
 -- the unit is present and not broken, and this is what it declares
@@ -54,10 +53,10 @@ pub record HasUnknownType (sources : Sources) (unit : List ℕ) (span : Span) : 
 
 -- the kind of type that a section asks for: an adapter for PLUGS and SOCKETS, a block for FBS, a subapplication for SUBAPPS
 pub data Suits : Role → UnitKind → Type 0 where
-  plug : Suits roles.Plug kinds.Adapter
-  socket : Suits roles.Socket kinds.Adapter
-  block : Suits roles.Block kinds.Block
-  subapplication : Suits roles.Subapplication kinds.Subapplication
+  plug : Suits Plug kinds.Adapter
+  socket : Suits Socket kinds.Adapter
+  block : Suits Block kinds.Block
+  subapplication : Suits Subapplication kinds.Subapplication
 
 -- an instance, plug or socket of a type that is there and is of another kind than its section wants
 pub record HasWrongKind (sources : Sources) (unit : List ℕ) (span : Span) : Type 0 where

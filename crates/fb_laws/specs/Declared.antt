@@ -1,8 +1,7 @@
 -- What a unit declares, and what a type declares first of its name and at which place.
 use Rattle.std.specs.Prelude.{◌≡◌, ◌≢◌, ℕ, ◌<◌, List, Option, Some, Contains, slice_get}
-use Rattle.fb_laws.specs.Common.{NameUse, ApplicationTree, DeclTree, EventTree, InstanceTree, InterfaceTree, NetworkTree, StructureTree, SystemTree, TypeTree, VariablesTree, adapter_type, block_type, structure_type, subapplication_type, system_configuration, Section, Side, TypeUse, Role, Sources, tree_at}
+use Rattle.fb_laws.specs.Common.{NameUse, ApplicationTree, DeclTree, EventTree, InstanceTree, InterfaceTree, NetworkTree, StructureTree, SystemTree, TypeTree, VariablesTree, adapter_type, block_type, structure_type, subapplication_type, system_configuration, Section, Side, TypeUse, Role, Sources, tree_at, Input, Output}
 use Rattle.fb_tree.specs.declared.interface.Section.TheVariants as sections
-use Rattle.fb_tree.specs.declared.interface.Side.TheVariants as sides
 
 -- the unit is a block type, and this its declaration
 abbrev pub IsBlockAt : Sources → List ℕ → TypeTree → Type 0
@@ -99,7 +98,7 @@ pub record IsVariableIn (interface : InterfaceTree) (section : Section) (name : 
 pub data IsDataOn (interface : InterfaceTree) : Side → List ℕ → TypeUse → Type 0 where
   data_input : {name : List ℕ} {type_use : TypeUse}
       → IsVariableIn interface sections.Input name type_use
-      → IsDataOn interface sides.Input name type_use
+      → IsDataOn interface Input name type_use
   data_output : {name : List ℕ} {type_use : TypeUse}
       → IsVariableIn interface sections.Output name type_use
-      → IsDataOn interface sides.Output name type_use
+      → IsDataOn interface Output name type_use

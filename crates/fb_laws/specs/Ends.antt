@@ -1,10 +1,9 @@
 -- The networks of a unit, and what the ends of their connections name.
 use Rattle.std.specs.Prelude.{◌≡◌, ◌≢◌, ℕ, List, [], Option, Some, None, option_map, Contains}
-use Rattle.fb_laws.specs.Common.{NameUse, Span, ApplicationTree, NetworkTree, SystemTree, TypeTree, block_type, subapplication_type, system_configuration, Side, Input, Output, UnitKind, Connection, End, Sort, Sources, tree_at, DeclaredEvent, DeclaredInstance, DeclaredVariable, first_ones, stands_for, Meanings, instances_in, meanings_in_type, Holder, Own, OfInstance, OfPlug, OfSocket, Port, Position, Source, Destination}
+use Rattle.fb_laws.specs.Common.{NameUse, Span, ApplicationTree, NetworkTree, SystemTree, TypeTree, block_type, subapplication_type, system_configuration, Side, Input, Output, UnitKind, Connection, End, Sort, Sources, tree_at, DeclaredEvent, DeclaredInstance, DeclaredVariable, first_ones, stands_for, Meanings, instances_in, meanings_in_type, Holder, Own, OfInstance, OfPlug, OfSocket, Port, Position, Source, Destination, Block, Plug, Socket, Subapplication}
 use Rattle.fb_laws.specs.{Places.{span_through}, Usable.{IsUsable}}
 use Rattle.fb_tree.specs.declared.interface.Section.TheVariants as sections
 use Rattle.fb_tree.specs.declared.kinds.UnitKind.TheVariants as kinds
-use Rattle.fb_tree.specs.declared.network.Role.TheVariants as roles
 use Rattle.fb_tree.specs.declared.network.Sort.TheVariants as sorts
 use Rattle.fb_netcheck.specs.declared.ends.Flow.TheVariants as flows
 
@@ -52,18 +51,18 @@ pub data IsPort (ports : Meanings) (name : List ℕ) : Sort → Port → Type 0 
   data_output : (v : DeclaredVariable) → stands_for ports.variables name ≡ Some v
       → v.section ≡ sections.Output
       → IsPort ports name sorts.Data (record { side = Output; flow = flows.Data v.type_use })
-  socket : (i : DeclaredInstance) → stands_for ports.instances name ≡ Some i → i.role ≡ roles.Socket
+  socket : (i : DeclaredInstance) → stands_for ports.instances name ≡ Some i → i.role ≡ Socket
       → IsPort ports name sorts.Adapter (record { side = Input; flow = flows.Adapter i.type_name })
-  plug : (i : DeclaredInstance) → stands_for ports.instances name ≡ Some i → i.role ≡ roles.Plug
+  plug : (i : DeclaredInstance) → stands_for ports.instances name ≡ Some i → i.role ≡ Plug
       → IsPort ports name sorts.Adapter (record { side = Output; flow = flows.Adapter i.type_name })
 
 -- Connections of this sort reach the ports of an instance; those of an own plug or socket are reached by events and data, in a block type.
 pub data IsReached (here : Site) (sort : Sort) (i : DeclaredInstance) : Holder → Type 0 where
-  of_block_instance : i.role ≡ roles.Block → IsReached here sort i OfInstance
-  of_subapplication_instance : i.role ≡ roles.Subapplication → IsReached here sort i OfInstance
-  of_plug : i.role ≡ roles.Plug → here.kind ≡ kinds.Block → sort ≢ sorts.Adapter
+  of_block_instance : i.role ≡ Block → IsReached here sort i OfInstance
+  of_subapplication_instance : i.role ≡ Subapplication → IsReached here sort i OfInstance
+  of_plug : i.role ≡ Plug → here.kind ≡ kinds.Block → sort ≢ sorts.Adapter
       → IsReached here sort i OfPlug
-  of_socket : i.role ≡ roles.Socket → here.kind ≡ kinds.Block → sort ≢ sorts.Adapter
+  of_socket : i.role ≡ Socket → here.kind ≡ kinds.Block → sort ≢ sorts.Adapter
       → IsReached here sort i OfSocket
 
 -- The port of this sort that `X` or `I.X` names: whose it is, and the unit in whose text it is declared.

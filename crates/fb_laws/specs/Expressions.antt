@@ -1,9 +1,8 @@
 -- Each code of expressions and statements in other words: where the list of faults has it.
-use Rattle.std.specs.Prelude.{◌≡◌, ℕ, Bool, List, ◌∷◌, ◌++◌, Option, Some}
 use Rattle.fb_laws.specs.Common.{NameUse, Span, ReferenceTree, alone_tree, Expression, reference_expression, unary_expression, row_expression, Expressions, Operands, Statement, assignment, count, Statements, TypeTree, BinaryUse, UnaryUse, TypeUse, Member, Sources, class_of_type, stands_for, meanings_in_type, Class, MemberUnknown, VariableUnknown, DeclaredVariable, ClassPlace, Condition, Count, Counter}
-use Rattle.fb_laws.specs.{Classes.{Changes, Combines, Fits, HasClass, IsPairIn, Joins}, Occurrences.{Asks, IsOneOf, IsRunIn, IsTestedIn, IsWrittenIn}}
-use Rattle.fb_laws.specs.{Declared.{IsBlockAt}, Places.{BeginsAt, StandsAt}, UnitParts.{IsReportedWhere}}
-use Rattle.fb_laws.specs.Variables.{Begins, GoesOn, HasField, IsOfNoAdapter, IsOpen}
+use Rattle.std.specs.Prelude.{◌≡◌, ℕ, Bool, List, ◌∷◌, ◌++◌, Option, Some}
+use Rattle.fb_laws.specs.{Classes.{Changes, Combines, Fits, HasClass, IsPairIn, Joins}, Occurrences.{Asks, IsOneOf, IsRunIn, IsTestedIn, IsWrittenIn}, Declared.{IsBlockAt}}
+use Rattle.fb_laws.specs.{Places.{BeginsAt, StandsAt}, UnitParts.{IsReportedWhere}, Variables.{Begins, GoesOn, HasField, IsOfNoAdapter, IsOpen}}
 use Rattle.fb_deploy.specs.Iface.declared.classes.Class.{Class as ValueClass}
 use Rattle.fb_laws.specs.UnitParts as parts
 

@@ -2,12 +2,9 @@
 pub mod Common
 pub mod SpanParts
 pub mod Written
-pub mod Standing
-pub mod Alone
 pub mod Spans
 pub mod Declared
 pub mod Ports
-pub mod UnitParts
 pub mod Spaces
 pub mod Declarations
 pub mod DueByPlaces
@@ -21,9 +18,8 @@ pub mod Variables
 pub mod Classes
 pub mod Expressions
 pub mod Mappings
-pub mod Texts
+pub mod UnitParts
 pub mod MadeOf
-pub mod Planned
 pub mod Plans
 pub mod Paths
 pub mod Chains

@@ -1,12 +1,11 @@
 -- Each code of networks in other words: where the list of faults has it.
 use Rattle.std.specs.Prelude.{◌≡◌, ◌≢◌, ℕ, List, ◌∷◌, ◌++◌, Some, Contains}
-use Rattle.fb_laws.specs.Common.{NameUse, Span, InstanceTree, NetworkTree, ParameterTree, TypeUse, Connection, End, Sources, Free, DataType, Literal, ParameterUnknown, PassThrough, PortSide, PortUnknown, SecondAdapter, SecondSource, DeclaredVariable, class_of_type, stands_for, Meanings, Holder, Own, Port, Position, Source, Destination}
+use Rattle.fb_laws.specs.Common.{NameUse, Span, InstanceTree, NetworkTree, ParameterTree, TypeUse, Connection, End, Sources, Free, DataType, Literal, ParameterUnknown, PassThrough, PortSide, PortUnknown, SecondAdapter, SecondSource, DeclaredVariable, class_of_type, stands_for, Meanings, Holder, Own, Port, Position, Source, Destination, Block}
 use Rattle.fb_laws.specs.{Declarations.{IsMisfit}, Ends.{HaveSameNames, IsEndOf, IsNetworkOf, IsReachedBy, IsRightSide, Names, NamesRight, Site, place_of}}
 use Rattle.fb_laws.specs.{Usable.{IsNotJudged, IsUsable}, UnitParts.{IsReportedWhere, Networks}}
 use Rattle.fb_tree.specs.declared.interface.Section.TheVariants as sections
 use Rattle.fb_tree.specs.declared.interface.TypeForm.TheVariants as forms
 use Rattle.fb_tree.specs.declared.kinds.UnitKind.TheVariants as kinds
-use Rattle.fb_tree.specs.declared.network.Role.TheVariants as roles
 use Rattle.fb_tree.specs.declared.network.Sort.TheVariants as sorts
 use Rattle.fb_netcheck.specs.{declared.ends.Flow.{Flow}, Spellings.{words_at}}
 use Rattle.fb_netcheck.specs.declared.ends.Flow.TheVariants as flows
@@ -135,9 +134,9 @@ pub record ParameterOf (sources : Sources) (unit : List ℕ) : Type 0 where
   pub stands : IsNetworkOf sources unit here network
   pub instance : InstanceTree
   pub listed : Contains network.instances instance
-  pub is_block : instance.role ≡ roles.Block
+  pub is_block : instance.role ≡ Block
   pub ports : Meanings
-  pub usable : IsUsable sources instance.type_name.name roles.Block ports
+  pub usable : IsUsable sources instance.type_name.name Block ports
   pub parameter : ParameterTree
   pub written : Contains instance.parameters parameter
 

@@ -1,11 +1,48 @@
--- Plans in other words.
-use Rattle.std.specs.{Prelude.{◌≡◌, ◌≢◌, ◌↔◌, ◌⊎◌, ℕ, List, [], ◌∷◌, ◌++◌, map, Some, Contains, codes}, List.{flat_map}, List.Sorted.{IsStrictlySortedBy}}
-use Rattle.fb_laws.specs.Common.{ParameterTree, SystemTree, system_configuration, Sources, text_or_empty, tree_at, FlatBlock, Link, PlainFlat, HasFlat, PlainResolved, path_names, resolved_at, applications_in, PlainResource}
-use Rattle.fb_laws.specs.Planned.{HasCommands, IsHome, IsPlacedWhole, IsPlanned, StandsOn}
-use Rattle.fb_types.specs.{Network.LinkOrder.{link_cmp}, Network.Places.{dotted}}
-use Rattle.fb_deploy.specs.Mapping.Placed.{IsSystem}
-use Rattle.fb_placing.specs.{PlacedCommands.{create_text, command_cmp, write_text}, SystemCommands.{connection_text}, ConstantTexts.{written}}
+-- Systems with a plan, and their plans in other words.
+use Rattle.fb_laws.specs.Common.{MappingTree, Sources, tree_at, FlatBlock, Link, PlainFlat, HasFlat, leads_nowhere, applications_in, mappings_in, planned, PlainResource, plan_at, ParameterTree, SystemTree, system_configuration, text_or_empty, PlainResolved, path_names, resolved_at}
+use Rattle.std.specs.{Prelude.{◌≡◌, ◌≤◌, ℕ, false, List, length, Some, Contains, ◌≢◌, ◌↔◌, ◌⊎◌, [], ◌∷◌, ◌++◌, map, codes}, List.{flat_map}, List.Sorted.{IsStrictlySortedBy}}
+use Rattle.fb_types.specs.{Network.Prefixes.{IsPrefix, IsNearest}, Network.LinkOrder.{link_cmp}, Network.Places.{dotted}}
+use Rattle.fb_placing.specs.{Mappings.{names_used, resource_at}, PlacedCommands.{create_text, command_cmp, write_text}, SystemCommands.{connection_text}, ConstantTexts.{written}}
 use Rattle.fb_placing.specs.declared.plan.write_commands.PlacedCommand.{PlacedCommand}
+use Rattle.fb_deploy.specs.Mapping.Placed.{IsSystem}
+
+-- the system has this flat network, and its plan has these cut links and these resources with their commands
+pub record IsPlanned (sources : Sources) (system : List ℕ) (flat : PlainFlat) (cuts : List Link) (resources : List PlainResource) : Type 0 where
+  pub is_flat : HasFlat sources system flat
+  pub plan : plan_at sources system ≡ Some (planned cuts resources)
+
+-- The home of what is at a path is the resource of the mapping with the longest path that is this path or a prefix of it by whole
+-- names.
+abbrev pub IsHome : Sources → List ℕ → List ℕ → List ℕ → Type 0
+IsHome sources system path resource =
+    IsNearest (resource_at (mappings_in (tree_at sources system))) path (Some resource)
+
+-- the block at an end of a link: its path is the longest of those that are prefixes of the end by whole names
+pub record IsBlockAt (blocks : List FlatBlock) (end : List ℕ) (block : FlatBlock) : Type 0 where
+  pub listed : Contains blocks block
+  pub prefix : IsPrefix block.path end
+  pub longest : (other : FlatBlock) → Contains blocks other → IsPrefix other.path end
+      → length other.path ≤ length block.path
+
+-- an end of a link is on the home of the block at this end
+pub record StandsOn (sources : Sources) (system : List ℕ) (blocks : List FlatBlock) (end resource : List ℕ) : Type 0 where
+  pub block : FlatBlock
+  pub is_at : IsBlockAt blocks end block
+  pub home : IsHome sources system block.path resource
+
+-- Nothing of the system is misplaced: each block has a home, and each mapping is of an application, a block or a subapplication instance.
+pub record IsPlacedWhole (sources : Sources) (system : List ℕ) (flat : PlainFlat) : Type 0 where
+  pub homes : (block : FlatBlock) → Contains flat.blocks block
+      → (resource : List ℕ) × IsHome sources system block.path resource
+  pub mappings :
+      (m : MappingTree) → Contains (mappings_in (tree_at sources system)) m
+      → leads_nowhere sources system (applications_in (tree_at sources system)) (names_used m.path) ≡ false
+
+-- the system has a plan with cut links and resources
+pub record HasCommands (sources : Sources) (system : List ℕ) (flat : PlainFlat) : Type 0 where
+  pub cuts : List Link
+  pub resources : List PlainResource
+  pub is_planned : IsPlanned sources system flat cuts resources
 
 -- ---- cuts
 
@@ -145,10 +182,9 @@ HoldsOfEachPlan Fact =
     → Fact sources system flat cuts resources
 
 -- what holds of each resource of a plan
-abbrev pub HoldsOfResources : (Sources → List ℕ → PlainFlat → List PlainResource → PlainResource → Type 0)
-    → Type 0
+abbrev pub HoldsOfResources : (Sources → List ℕ → PlainFlat → PlainResource → Type 0) → Type 0
 HoldsOfResources Fact = HoldsOfEachPlan (λ sources system flat cuts resources.
-    (entry : PlainResource) → Contains resources entry → Fact sources system flat resources entry)
+    (entry : PlainResource) → Contains resources entry → Fact sources system flat entry)
 
 -- a system with a flat network has commands exactly if nothing is misplaced
 abbrev pub PlacedSystemsHaveCommands : Type 0
@@ -173,20 +209,17 @@ abbrev pub CutsJoinResources : Type 0
 CutsJoinResources = HoldsOfEachPlan (λ sources system flat cuts resources. AreCuts sources system flat cuts)
 
 abbrev pub BlocksAreMadeAtHome : Type 0
-BlocksAreMadeAtHome =
-    HoldsOfResources (λ sources system flat resources entry. MakesItsBlocks sources system flat entry)
+BlocksAreMadeAtHome = HoldsOfResources MakesItsBlocks
 
 abbrev pub ParametersAreSetAtHome : Type 0
-ParametersAreSetAtHome =
-    HoldsOfResources (λ sources system flat resources entry. SetsItsParameters sources system flat entry)
+ParametersAreSetAtHome = HoldsOfResources SetsItsParameters
 
 abbrev pub LinksAreMadeAtHome : Type 0
-LinksAreMadeAtHome =
-    HoldsOfResources (λ sources system flat resources entry. MakesItsLinks sources system flat entry)
+LinksAreMadeAtHome = HoldsOfResources MakesItsLinks
 
 abbrev pub CommandsAreInOrder : Type 0
-CommandsAreInOrder =
-    HoldsOfResources (λ sources system flat resources entry. IsInOrder (map (λ r. r.name) resources) entry)
+CommandsAreInOrder = HoldsOfEachPlan (λ sources system flat cuts resources.
+    (entry : PlainResource) → Contains resources entry → IsInOrder (map (λ r. r.name) resources) entry)
 
 -- DEVICE.RESOURCE, device by device
 abbrev pub ResourcesHaveTheirCommands : Type 0

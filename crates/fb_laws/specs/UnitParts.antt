@@ -1,6 +1,6 @@
--- The parts of the check of a unit, the codes that each has, and which faults of the unit are whose.
-use Rattle.std.specs.Prelude.{◌≡◌, ◌≢◌, ℕ, List, Some, Contains, ◌↔◌, ◌⊎◌}
-use Rattle.fb_laws.specs.Common.{Span, DeclTree, Sources, tree_at, iface_faults_of, Syntax, NameDiffers, Duplicate, MixedKind, UnknownType, WrongKind, WithUnknown, StateUnknown, EventUnknown, AlgorithmUnknown, VariableUnknown, Class, PortUnknown, PortSide, DataType, SecondSource, SecondAdapter, PassThrough, ParameterUnknown, Literal, MappedTwice, NoSuchResource, MemberUnknown, StructRecursive, Fault, faults_of}
+-- The parts of the check of a unit, the codes of each, and units whose text is broken, whole or absent.
+use Rattle.fb_laws.specs.Common.{Span, DeclTree, Sources, tree_at, iface_faults_of, Syntax, NameDiffers, Duplicate, MixedKind, UnknownType, WrongKind, WithUnknown, StateUnknown, EventUnknown, AlgorithmUnknown, VariableUnknown, Class, PortUnknown, PortSide, DataType, SecondSource, SecondAdapter, PassThrough, ParameterUnknown, Literal, MappedTwice, NoSuchResource, MemberUnknown, StructRecursive, Fault, faults_of, BrokenAt, IsBody}
+use Rattle.std.specs.{Prelude.{◌≡◌, ◌≢◌, ℕ, List, Some, Contains, ◌↔◌, ◌⊎◌, [], ◌∷◌, None}, FinMap.{get}}
 use Rattle.fb_deploy.specs.{Iface.declared.code.Code.{Code}, Faults.Mappings.{mapping_faults_of}}
 use Rattle.fb_expr.specs.Charts.{expr_faults_of}
 use Rattle.fb_ecc.specs.Charts.{ecc_faults_of}
@@ -104,3 +104,33 @@ abbrev pub ConstantsAreOfTwoParts : Type 0
 ConstantsAreOfTwoParts = (sources : Sources) (unit : List ℕ) (span : Span)
     → Contains (faults_of sources unit) (of_constant span)
     ↔ (Contains (iface_faults_of sources unit) (of_constant span) ⊎ Contains (net_faults_of sources unit) (of_constant span))
+
+-- the unit is present, its text spells no declaration, and is broken at this place
+pub record IsBroken (sources : Sources) (unit : List ℕ) (span : Span) : Type 0 where
+  pub text : List ℕ
+  pub present : get sources unit ≡ Some text
+  pub broken : IsBody text (BrokenAt span)
+
+abbrev pub broken_at : Span → Fault
+broken_at span = record { code = Syntax; span = span }
+
+-- the faults of a unit have the code of a broken text exactly where its text is broken
+abbrev pub BrokenTextsAreReported : Type 0
+BrokenTextsAreReported = (sources : Sources) (unit : List ℕ) (span : Span)
+    → Contains (faults_of sources unit) (broken_at span) ↔ IsBroken sources unit span
+
+-- a unit whose text is broken has this fault and no other
+abbrev pub BrokenTextsAreReportedAlone : Type 0
+BrokenTextsAreReportedAlone = (sources : Sources) (unit : List ℕ) (span : Span)
+    → IsBroken sources unit span → faults_of sources unit ≡ broken_at span ∷ []
+
+-- a unit that is present and not broken has no such fault
+abbrev pub WholeTextsAreNotReported : Type 0
+WholeTextsAreNotReported = (sources : Sources) (unit : List ℕ) (decl : DeclTree)
+    → tree_at sources unit ≡ Some decl → (fault : Fault) → Contains (faults_of sources unit) fault
+    → fault.code ≢ Syntax
+
+-- a unit that is absent has no faults
+abbrev pub AbsentUnitsHaveNoFaults : Type 0
+AbsentUnitsHaveNoFaults = (sources : Sources) (unit : List ℕ) → get sources unit ≡ None
+    → faults_of sources unit ≡ []

@@ -1,9 +1,8 @@
 -- What the tokens within the span of a part spell.
-use Rattle.std.specs.{Prelude.{◌≡◌, ℕ, ◌≤◌, List, [], ◌∷◌, ◌++◌}, List.{flat_map}}
 use Rattle.fb_laws.specs.Common.{Span, Form, one, as_value, Spells, Kind, Lexeme, constant, type_use, constant_span, BinaryUse, UnaryUse}
+use Rattle.std.specs.{Prelude.{◌≡◌, ℕ, ◌≤◌, List, [], ◌∷◌, ◌++◌}, List.{flat_map}}
 use Rattle.fb_laws.specs.SpanParts.{Part, name_part, constant_part, type_part, expression_part, sign_part, operator_part, mark_part}
-use Rattle.fb_structured_text.specs.{Forms.Words.{key, name}, Expression.{levels, expression}}
-use Rattle.fb_structured_text.specs.Operators.{signs, strengths, unary_use, binary_use}
+use Rattle.fb_structured_text.specs.{Forms.Words.{key, name}, Expression.{levels, expression}, Operators.{signs, strengths, unary_use, binary_use}}
 pub use Rattle.fb_expr.specs.Spans.{span_of as expression_span, span_through}
 
 -- the place of a part; that of an expression includes the parentheses and the subscripts that belong to it

@@ -8,6 +8,7 @@ pub fn whole_units_have_no_faults_below()
 
 /// A blocked net names exactly the units with faults among what its unit is made of, and the absent types of instances in that, and there is one of
 /// the first. Where a net is not blocked, nothing that its unit is made of has a fault.
+#[tactic(auto, using(crate::proofs::MadeOf::blocked_told, crate::proofs::MadeOf::blocked_faulty, crate::proofs::MadeOf::others_faultless))]
 pub fn blocked_is_told()
     ensures told { BlockedIsTold }
     ensures faulty { BlockedUnitsHaveFaultsBelow }

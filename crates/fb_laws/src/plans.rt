@@ -23,16 +23,19 @@ pub fn cuts_join_resources()
 {}
 
 /// A resource makes the blocks whose home it is, each once, in the order of their paths, and no other block.
+#[tactic(auto, using(crate::proofs::CommandRows::blocks_made))]
 pub fn blocks_are_made_at_home()
     ensures { BlocksAreMadeAtHome }
 {}
 
 /// A resource sets the parameters of the blocks whose home it is, each once, in the order of their places, and no other parameter.
+#[tactic(auto, using(crate::proofs::CommandRows::parameters_set))]
 pub fn parameters_are_set_at_home()
     ensures { ParametersAreSetAtHome }
 {}
 
 /// A resource makes the links both of whose ends are on it, each once, in the order of the flat network, and no other link.
+#[tactic(auto, using(crate::proofs::CommandRows::links_made))]
 pub fn links_are_made_at_home()
     ensures { LinksAreMadeAtHome }
 {}
@@ -67,6 +70,7 @@ pub fn blocks_are_made_where_mapped()
 
 /// If something is misplaced, a plan names exactly this: the blocks, of all depths, with no mapping of their path or above it, and the mappings at
 /// whose path there is no application, block or subapplication instance. If a plan has commands, nothing is misplaced.
+#[tactic(auto, using(crate::proofs::PathRows::misplaced_told, crate::proofs::PathRows::nothing_planned))]
 pub fn misplaced_is_told()
     ensures told { MisplacedIsTold }
     ensures planned { NothingPlannedIsMisplaced }

@@ -12,6 +12,7 @@ pub fn events_are_declared()
 {}
 
 /// The data inputs and the data outputs of a type are those that it declares, each by the first variable of its name.
+#[tactic(auto, using(crate::proofs::PortRows::data_declared))]
 pub fn data_are_declared()
     ensures { DataAreDeclared }
 {}
@@ -27,6 +28,7 @@ pub fn internal_variables_are_no_ports()
 {}
 
 /// A name means its first declaration in its name space.
+#[tactic(auto, using(crate::proofs::PortRows::stand_for_first))]
 pub fn names_stand_for_first()
     ensures { NamesStandForFirst }
 {}
@@ -43,6 +45,7 @@ pub fn ports_have_own_names()
 {}
 
 /// In each list of ports the one that is declared first comes first.
+#[tactic(auto, using(crate::proofs::PortRows::come_as_declared))]
 pub fn ports_come_as_declared()
     ensures { PortsComeAsDeclared }
 {}

@@ -1,7 +1,6 @@
 //! Laws of the faults of units: where each code is reported, and by which part of the check.
-ghost use Rattle.fb_laws.specs.UnitParts.{CodesAreOfTheirParts, ConstantsAreOfTwoParts, PartsHaveAllOtherCodes, PartsHaveOwnCodes, PartsShareOneCode, WholeUnitsHaveFaultsOfParts};
+ghost use Rattle.fb_laws.specs.UnitParts.{AbsentUnitsHaveNoFaults, BrokenTextsAreReported, BrokenTextsAreReportedAlone, CodesAreOfTheirParts, ConstantsAreOfTwoParts, PartsHaveAllOtherCodes, PartsHaveOwnCodes, PartsShareOneCode, WholeTextsAreNotReported, WholeUnitsHaveFaultsOfParts};
 ghost use Rattle.fb_laws.specs.Mappings.{MappingsHaveHomes, MappingsHaveOwnPaths};
-ghost use Rattle.fb_laws.specs.Texts.{AbsentUnitsHaveNoFaults, BrokenTextsAreReported, BrokenTextsAreReportedAlone, WholeTextsAreNotReported};
 
 /// A mapping is a fault exactly where its path is that of an earlier one of the system.
 pub fn mappings_have_own_paths()
@@ -49,6 +48,7 @@ pub fn broken_texts_are_reported_alone()
 {}
 
 /// The parts of the check together have every code but that of broken texts.
+#[tactic(auto, using(crate::proofs::PartLemmas::all_other_codes))]
 pub fn parts_have_all_other_codes()
     ensures { PartsHaveAllOtherCodes }
 {}
@@ -59,7 +59,7 @@ pub fn whole_texts_are_not_reported()
 {}
 
 /// A unit that is absent has no faults.
-#[tactic(auto, using(crate::proofs::TextRows::absent_clean))]
+#[tactic(auto, using(crate::proofs::PartLemmas::absent_clean))]
 pub fn absent_units_have_no_faults()
     ensures { AbsentUnitsHaveNoFaults }
 {}

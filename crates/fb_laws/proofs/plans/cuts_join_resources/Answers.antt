@@ -1,2 +1,2 @@
 pub returns : Rattle.fb_laws.proofs.plans.cuts_join_resources.Goals.returns
-returns c = Rattle.fb_laws.proofs.CutRows.cuts_join
+returns c = Rattle.fb_laws.proofs.PlanRows.cuts_join

@@ -1,2 +1,2 @@
 pub returns : Rattle.fb_laws.proofs.plans.placed_systems_have_commands.Goals.returns
-returns c = Rattle.fb_laws.proofs.PlacedRows.have_commands
+returns c = Rattle.fb_laws.proofs.PlanRows.have_commands

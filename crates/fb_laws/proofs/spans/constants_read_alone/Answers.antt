@@ -1,2 +1,2 @@
 pub returns : Rattle.fb_laws.proofs.spans.constants_read_alone.Goals.returns
-returns c = Rattle.fb_laws.proofs.Constants.constants_read_alone
+returns c = Rattle.fb_laws.proofs.Alone.constants_read_alone

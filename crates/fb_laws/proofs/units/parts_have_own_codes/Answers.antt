@@ -1,2 +1,2 @@
 pub returns : Rattle.fb_laws.proofs.units.parts_have_own_codes.Goals.returns
-returns c = Rattle.fb_laws.proofs.CodeLemmas.own_codes
+returns c = Rattle.fb_laws.proofs.PartLemmas.own_codes

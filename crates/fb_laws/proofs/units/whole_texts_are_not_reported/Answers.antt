@@ -1,2 +1,2 @@
 pub returns : Rattle.fb_laws.proofs.units.whole_texts_are_not_reported.Goals.returns
-returns c = Rattle.fb_laws.proofs.TextRows.whole_not_reported
+returns c = Rattle.fb_laws.proofs.PartLemmas.whole_not_reported

@@ -1,2 +1,0 @@
-pub returns : Rattle.fb_laws.proofs.plans.blocks_are_made_at_home.Goals.returns
-returns c = Rattle.fb_laws.proofs.CommandRows.blocks_made

@@ -1,2 +1,0 @@
-pub returns : Rattle.fb_laws.proofs.ports.data_are_declared.Goals.returns
-returns c = Rattle.fb_laws.proofs.DataRows.data_declared
