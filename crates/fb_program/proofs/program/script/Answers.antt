@@ -23,14 +23,14 @@ returns-in-None-clause-whole g c = λ zero. c.run_script-end.ensures.0.shown.who
 pub returns-in-None-clause-flushed : goal.returns-in-None-clause-flushed
 returns-in-None-clause-flushed g c = c.run_script-end.ensures.0.shown.flushed
 
-pub returns-clause-said : goal.returns-clause-said
-returns-clause-said g c =
+pub returns-in-Some-clause-said : goal.returns-in-Some-clause-said
+returns-in-Some-clause-said g c =
     let t = c.run_script-end.ensures.0 in
     let says = rw c.new-bench.ensures at c.run_script-end.ensures.2 in
     (t.bytes, t.out, t.given, t.written, (λ zero. absurd (omega (arith, zero)), λ one. says.0))
 
-pub returns-clause-whole : goal.returns-clause-whole
-returns-clause-whole g c = λ zero. absurd (omega (arith, zero))
+pub returns-in-Some-clause-whole : goal.returns-in-Some-clause-whole
+returns-in-Some-clause-whole g c = λ zero. absurd (omega (arith, zero))
 
-pub returns-clause-flushed : goal.returns-clause-flushed
-returns-clause-flushed g c = c.run_script-end.ensures.0.shown.flushed
+pub returns-in-Some-clause-flushed : goal.returns-in-Some-clause-flushed
+returns-in-Some-clause-flushed g c = c.run_script-end.ensures.0.shown.flushed
