@@ -2,9 +2,7 @@
 #![tactic(auto)]
 
 #[cfg(test)]
-mod failing;
-#[cfg(test)]
-mod peers;
+mod play;
 #[cfg(test)]
 mod program;
 #[cfg(test)]
@@ -13,7 +11,3 @@ mod refused;
 mod secrets;
 #[cfg(test)]
 mod servers;
-#[cfg(test)]
-mod sessions;
-#[cfg(test)]
-mod workers;

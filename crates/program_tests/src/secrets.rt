@@ -1,16 +1,14 @@
 //! The secret in a file, and the messages if there is none, or if a file or a port can't be opened.
 use fb_program::{NoSecret, refuse_file, refuse_port, refuse_secret, secret_in};
-use std::alloc::{AllocError, Global};
 use std::io;
-use std::process::Abort;
 use std::test::Fail;
 
 const EMPTY: Result<usize, NoSecret> = Err(NoSecret::Empty);
 
 const TOO_LONG: Result<usize, NoSecret> = Err(NoSecret::TooLong);
 
-// Files of so many letters and of what follows them, and of how many bytes the secret is, or why there is none. A CR is a byte of it.
-const FILES: &[(usize, &str, Result<usize, NoSecret>)] = &[
+// Files of this number of letters and a rest, and the length of the secret, or why there is none. A CR is a byte of it.
+const FILES: &[(usize, &str, Result<usize, NoSecret>); 17] = &[
     (0, "", EMPTY),
     (0, "\n", EMPTY),
     (0, "\nsecret\n", EMPTY),
@@ -30,40 +28,18 @@ const FILES: &[(usize, &str, Result<usize, NoSecret>)] = &[
     (10_000, "\n", TOO_LONG),
 ];
 
-fn is_secret(
-    alloc: Global,
-    letters: usize,
-    rest: &str,
-    wanted: Result<usize, NoSecret>,
-) -> Result<bool, AllocError> {
-    let mut bytes = vec![in alloc; b's'; letters]?;
-    bytes.extend_from_slice(rest.as_bytes())?;
-    let is_right = match secret_in(&bytes) {
-        Ok(line) => wanted == Ok(line.len()) && bytes.starts_with(line),
-        Err(reason) => wanted == Err(reason),
-    };
-    Ok(is_right)
-}
-
-fn compare_files(
-    rt: &impl Abort,
-    alloc: Global,
-    rows: &[(usize, &str, Result<usize, NoSecret>)],
-) -> Result<(), Fail> {
-    for (letters, rest, wanted) in rows {
-        assert!(rt;
-            is_secret(alloc, *letters, rest, *wanted)?,
-            "{} letters and {:?}",
-            letters,
-            rest
-        );
-    }
-    Ok(())
-}
-
 #[test]
 fn the_first_line_of_a_file(rt: HostRuntime) -> Result<(), Fail> {
-    compare_files(&rt, rt.alloc(), FILES)
+    for (letters, rest, wanted) in FILES {
+        let mut bytes = vec![in rt.alloc(); b's'; *letters]?;
+        bytes.extend_from_slice(rest.as_bytes())?;
+        let is_right = match secret_in(&bytes) {
+            Ok(line) => *wanted == Ok(line.len()) && bytes.starts_with(line),
+            Err(reason) => *wanted == Err(reason),
+        };
+        assert!(rt; is_right, "{letters} letters and {rest:?}");
+    }
+    Ok(())
 }
 
 #[test]
