@@ -24,11 +24,7 @@ use std::test::Fail;
 use std::thread::{Threads, join};
 use std::time::{Clock, Duration};
 
-<<<<<<< HEAD
-/// More writes than a server makes.
-=======
 /// A number that nothing reaches.
->>>>>>> bce618849db5012d47cfd40b50c34837f2a0d190
 pub(crate) const ALWAYS: u64 = u64::MAX;
 
 const COMMIT: &str =

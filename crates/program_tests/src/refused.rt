@@ -261,11 +261,7 @@ fn worker_without<R: Wait + Clock>(
     let mut seats = Vec::new(alloc);
     seats.push(seat)?;
     seats.push(second)?;
-<<<<<<< HEAD
-    if shared.close(alloc, seats, &receipts).is_err() {
-=======
     if Shared::close(shared, alloc, seats, &receipts).is_err() {
->>>>>>> bce618849db5012d47cfd40b50c34837f2a0d190
         return Err(Fail::from("not closed"));
     }
     match left.as_str() {

@@ -45,6 +45,15 @@ fn bench_of(alloc: Global, given: &Given, recorded: Recorded, history: u64) -> R
 
 const WAYS: &[Way] = &[Way::Alone, Way::AsRequest, Way::AtDesk];
 
+// whether each call is refused that is made in this way
+fn are_refused_alone(bench: &mut Bench, way: Way, given: &Given) -> bool {
+    let mut are_refused = true;
+    for (which, _, _) in CALLS {
+        are_refused = made(way, *which, bench, given) == Err(Refused::HistoryFull) && are_refused;
+    }
+    are_refused
+}
+
 // whether a workbench is full, each call is refused in each way, and it then shows what it did before
 fn is_full_alone(alloc: Global, given: &Given, row: &Row) -> Result<bool, Fail> {
     let (_, recorded, count) = *row;
@@ -52,10 +61,7 @@ fn is_full_alone(alloc: Global, given: &Given, row: &Row) -> Result<bool, Fail> 
     let before = bench_told(alloc, &bench)?;
     let mut are_refused = true;
     for way in WAYS {
-        for (which, _, _) in CALLS {
-            let answer = made(*way, *which, &mut bench, given);
-            are_refused = answer == Err(Refused::HistoryFull) && are_refused;
-        }
+        are_refused = are_refused_alone(&mut bench, *way, given) && are_refused;
     }
     let after = bench_told(alloc, &bench)?;
     Ok(are_refused && bench.len() as u64 == count && after.as_str() == before.as_str())
