@@ -393,20 +393,39 @@ def helpers(crate):
     return found
 
 
-def used_by(item):
-    """The items of its crate that an item names: those of its file, those that its file imports by name, and what imported files do for a type that it names."""
+def used_by(item, words):
+    """The items of its crate that these words of an item name: those of its file, those that its file imports by name, and what imported files do for a type that it names."""
     by_place = helpers(item.crate)
     imported_files = {item.inside[word] for word in item.words if word in item.inside}
-    for word in item.words:
+    for word in words:
         yield from by_place.get((item.inside.get(word, item.file), word), [])
         for file in imported_files:
             yield from (it for it in by_place.get((file, word), []) if it.text.startswith("impl"))
 
 
+def head_words(item):
+    """The words of the head of a function, or of a type's second name."""
+    head = re.match(r"(?:pub\S* )?(?:fn|type)\b.*?(?: \{|;)\n", item.text, re.S)
+    return set(re.findall(r"\w+", head[0])) if head else set()
+
+
+def types_of(item):
+    """The words of an item and of the heads of what it uses, so also the types of what it is given."""
+    words, todo = set(item.words), list(used_by(item, item.words))
+    while todo:
+        used = todo.pop()
+        more = head_words(used)
+        if not more <= words:
+            words |= more
+            todo += used_by(used, more)
+    return words
+
+
 def closure(test):
     items, todo = {id(test): test}, [test]
     while todo:
-        for it in used_by(todo.pop()):
+        item = todo.pop()
+        for it in used_by(item, item.words):
             if id(it) not in items:
                 items[id(it)] = it
                 todo.append(it)

@@ -196,7 +196,7 @@ def makes(call, item):
         return False
     if not call.owner:
         return call.name in item.outside and bool(re.search(rf"(?<![\w.:]){call.name}(?:::<[^;{{}}]*?>)?\(", item.text))
-    if call.owner not in item.words:
+    if call.owner not in parts.types_of(item):
         return False
     return bool(re.search(rf"\.{call.name}\(|\b{call.owner}(?:::<[^;{{}}]*?>)?::{call.name}\b", item.text))
 
