@@ -1,8 +1,8 @@
 -- What units carry is what their value mentions lead to; what is near a unit is in its list.
-use Rattle.std.proofs.Common.{◌≡◌, ℕ, Bool, true, false, List, [], ◌∷◌, ◌++◌, ◌⊎◌, inl, inr, if◌then◌else◌, refl, sym, subst}
-use Rattle.std.proofs.lemmas.List.Elements.{Contains-append_left, Contains-append_right, Contains-append_cases}
+use Rattle.std.proofs.Common.{◌≡◌, ℕ, Bool, true, false, List, [], ◌∷◌, ◌++◌, ◌⊎◌, inl, inr, ⊎_elim, if◌then◌else◌, refl, sym, subst}
+use Rattle.std.proofs.lemmas.List.Elements.{Contains-append_left, Contains-append_right, Contains-append_cases, Contains-push, Contains-push_cases}
 use Rattle.std.specs.{Cmp.Lexicographic.{nat_list_cmp_total}, List.{Contains, flat_map}, List.Sorted.{IsStrictlySortedBy}}
-use Rattle.fb_parse.proofs.Text.Members.{contains_nothing, contains_flat_map, origin_in_flat_map, contains_here, contains_single}
+use Rattle.fb_parse.proofs.Text.Members.{contains_nothing, contains_flat_map, origin_in_flat_map}
 use Rattle.fb_parse.proofs.Text.OrderLemmas.{in_order-sorted}
 use Rattle.fb_parse.specs.Text.Order.{name_cmp, names_in_order}
 use Rattle.fb_library.specs.View.{Sources, values_in, values_at, parts_at, is_structure_at}
@@ -61,23 +61,14 @@ carried_at_end sources units seen sorted walk =
 -- ---- near
 
 module _ (sources : Sources) (unit : List ℕ) where
-  base_near : (v : List ℕ) → Contains (parts_at sources unit) v ⊎ Contains (unit ∷ []) v → IsNear sources unit v
-  base_near v (inl p) = part p
-  base_near v (inr o) = subst (IsNear sources unit) (contains_single unit v o) own
-
-  carried_near : (v u : List ℕ) → Carries sources u v → Contains (parts_at sources unit) u ⊎ Contains (unit ∷ []) u → IsNear sources unit v
-  carried_near v u r (inl p) = carried_by_part p r
-  carried_near v u r (inr o) = carried (subst (λ n. Carries sources n v) (sym (contains_single unit u o)) r)
-
   all_near : (v : List ℕ) → Contains (carried_of sources (bases_at sources unit)) v ⊎ Contains (bases_at sources unit) v → IsNear sources unit v
-  all_near v (inl c) = let some = ((carried_is_all sources (bases_at sources unit)).1 v).0 c in carried_near v some.0 some.2 (Contains-append_cases (parts_at sources unit) (unit ∷ []) some.0 some.1)
-  all_near v (inr b) = base_near v (Contains-append_cases (parts_at sources unit) (unit ∷ []) v b)
+  all_near v (inl c) =
+      let some = ((carried_is_all sources (bases_at sources unit)).1 v).0 c in
+      ⊎_elim (λ p. carried_by_part p some.2) (λ (e : unit ≡ some.0). carried (rw e some.2)) (Contains-push_cases (parts_at sources unit) unit some.0 some.1)
+  all_near v (inr b) = ⊎_elim (λ p. part p) (λ (e : unit ≡ v). rw (← e) own) (Contains-push_cases (parts_at sources unit) unit v b)
 
   part_base : (p : List ℕ) → Contains (parts_at sources unit) p → Contains (bases_at sources unit) p
   part_base p m = Contains-append_left (parts_at sources unit) (unit ∷ []) p m
-
-  unit_base : Contains (bases_at sources unit) unit
-  unit_base = Contains-append_right (parts_at sources unit) (unit ∷ []) unit (contains_here unit [])
 
   listed_base : (v : List ℕ) → Contains (bases_at sources unit) v → Contains (near_of sources unit) v
   unfolding near_of
@@ -93,9 +84,9 @@ module _ (sources : Sources) (unit : List ℕ) where
   by_unit u v b r = listed_carried v (((carried_is_all sources (bases_at sources unit)).1 v).1 (u, b, r))
 
   listed : {v : List ℕ} → IsNear sources unit v → Contains (near_of sources unit) v
-  listed own = listed_base unit unit_base
+  listed own = listed_base unit (Contains-push (parts_at sources unit) unit)
   listed (part {p = p} m) = listed_base p (part_base p m)
-  listed (carried {v = v} r) = by_unit unit v unit_base r
+  listed (carried {v = v} r) = by_unit unit v (Contains-push (parts_at sources unit) unit) r
   listed (carried_by_part {p = p} {v = v} m r) = by_unit p v (part_base p m) r
 
 pub near_by_bases : (sources : Sources) (unit : List ℕ) → names_in_order (carried_of sources (bases_at sources unit) ++ bases_at sources unit) ≡ near_of sources unit

@@ -1,29 +1,22 @@
 -- The places of a table, seen as entries.
-use Rattle.std.proofs.Common.{◌≡◌, ℕ, zero, suc, List, [], ◌∷◌, map, get_or, set, refl, sym, ap, subst, ◌∙◌, arith, Some}
-use Rattle.std.proofs.{lemmas.List.{map-set, get_or-map, length-map}, lemmas.Option.{slice_get-map}}
+use Rattle.std.proofs.Common.{◌≡◌, ℕ, suc, List, ◌∷◌, map, take, drop, get_or, set, sym, ap, ◌∙◌, arith, Some}
+use Rattle.std.proofs.{lemmas.List.{map-append, map-set, take-map, drop-map, get_or-map, length-map}, lemmas.Option.{slice_get-map}, lemmas.Simd.{map-map}}
 use Rattle.std.specs.{List.{insert, remove, slice_get}, Option.{option_map}, List.Sorted.{IsStrictlySortedBy}, Map.{lookup, remove_entry}}
 use Rattle.std.specs.BTreeMap.{is_at, insert_entry}
 use Rattle.fb_parse.specs.Text.Order.{name_cmp}
-use Rattle.fb_library.specs.{Place.{IsAt, IsGapFor}, Entries.{entry_of, entries_of, names_in}, Shelves.{names_of}, declared.placed.Placed.{Placed}}
-use Rattle.fb_library.proofs.Places.{set_at, remove_at, lookup_at, put_in_gap, sorted_put, sorted_removed}
+use Rattle.fb_library.specs.{Place.{IsAt, IsGapFor}, Entries.{entry_of, entries_of, names_in}, declared.placed.Placed.{Placed}}
+use Rattle.fb_library.proofs.Places.{set_at, remove_at, lookup_at, put_in_gap}
 
 module _ {A B : Type 0} (f : A → B) where
   pub map_insert : (xs : List A) (i : ℕ) (x : A) → map f (insert xs i x) ≡ insert (map f xs) i (f x)
-  map_insert [] zero x = refl
-  map_insert [] (suc i) x = refl
-  map_insert (y ∷ ys) zero x = refl
-  map_insert (y ∷ ys) (suc i) x = ap (λ l. f y ∷ l) (map_insert ys i x)
+  map_insert xs i x = rw (map-append f (take i xs) (x ∷ drop i xs), take-map f i xs, drop-map f i xs)
 
   map_remove : (xs : List A) (i : ℕ) → map f (remove xs i) ≡ remove (map f xs) i
-  map_remove [] zero = refl
-  map_remove [] (suc i) = refl
-  map_remove (y ∷ ys) zero = refl
-  map_remove (y ∷ ys) (suc i) = ap (λ l. f y ∷ l) (map_remove ys i)
+  map_remove xs i = rw (map-append f (take i xs) (drop (suc i) xs), take-map f i xs, drop-map f (suc i) xs)
 
 module _ {V : Type 0} where
   pub places_named : (ps : List (Placed V)) → names_in ps ≡ map (λ (p : Placed V). p.name) ps
-  places_named [] = refl
-  places_named (p ∷ ps) = ap (λ ns. p.name ∷ ns) (places_named ps)
+  places_named ps = map-map _ _ ps
 
   pub name_there : (ps : List (Placed V)) (i : ℕ) → slice_get (names_in ps) i ≡ option_map (λ (p : Placed V). p.name) (slice_get ps i)
   name_there ps i = ap (λ ns. slice_get ns i) (places_named ps) ∙ slice_get-map (λ (p : Placed V). p.name) ps i
@@ -41,16 +34,3 @@ module _ {V : Type 0} where
 
     pub entries_remove : (n : List ℕ) (i : ℕ) → IsStrictlySortedBy name_cmp (names_in ps) → IsAt (names_in ps) n i → entries_of (remove ps i) ≡ remove_entry (is_at (name_cmp n)) (entries_of ps)
     entries_remove n i sorted is = map_remove entry_of ps i ∙ remove_at (entries_of ps) n i sorted is
-
-    -- the names stay in order
-    abbrev AreSorted : List (List ℕ × V) → Type 0
-    AreSorted es = IsStrictlySortedBy name_cmp (names_of es)
-
-    pub sorted_set : (p : Placed V) (i : ℕ) → IsStrictlySortedBy name_cmp (names_in ps) → IsAt (names_in ps) p.name i → IsStrictlySortedBy name_cmp (names_in (set ps i p))
-    sorted_set p i sorted is = subst AreSorted (sym (entries_set p i sorted is)) (sorted_put (entries_of ps) p.name p.value.value sorted)
-
-    pub sorted_insert : (p : Placed V) (i : ℕ) → IsStrictlySortedBy name_cmp (names_in ps) → IsGapFor (names_in ps) p.name i → IsStrictlySortedBy name_cmp (names_in (insert ps i p))
-    sorted_insert p i sorted gap = subst AreSorted (sym (entries_insert p i gap)) (sorted_put (entries_of ps) p.name p.value.value sorted)
-
-    pub sorted_remove : (n : List ℕ) (i : ℕ) → IsStrictlySortedBy name_cmp (names_in ps) → IsAt (names_in ps) n i → IsStrictlySortedBy name_cmp (names_in (remove ps i))
-    sorted_remove n i sorted is = subst AreSorted (sym (entries_remove n i sorted is)) (sorted_removed (is_at (name_cmp n)) (entries_of ps) sorted)

@@ -1,22 +1,17 @@
 -- Two lists in order that have the same names are one; what a unit rests on is what its mentions lead to.
-use Rattle.std.proofs.Common.{◌≡◌, ℕ, Bool, true, false, List, [], ◌∷◌, refl, sym, subst, ◌∙◌}
+use Rattle.std.proofs.{Common.{◌≡◌, ℕ, true, List, [], ◌∷◌, sym, ◌∙◌}, lemmas.Bool.Decides.{same_from_decides}}
 use Rattle.std.specs.{FinMap.{slice_cmp-IsAntisymmetric, nat_cmp-IsAntisymmetric}, Cmp.Lexicographic.{nat_list_cmp_total}, List.{Contains}}
 use Rattle.std.specs.List.Sorted.{IsStrictlySortedBy}
 use Rattle.fb_parse.specs.Text.Order.{name_cmp}
-use Rattle.fb_parse.proofs.{Text.Members.{contains_here, contains_single}, Text.OrderLemmas.{has, in_order-same}}
+use Rattle.fb_parse.proofs.{Text.Members.{contains_here, contains_single}, Text.OrderLemmas.{in_order-same}}
 use Rattle.fb_library.specs.{Local.{FarIsOneList}, Opened.{Leads, itself as at_start, through as by_step}}
 use Rattle.fb_library.specs.{Rests.{Rests, itself, through, PartRests, on_itself, through_part}, Seen.{has_name}, View.{Sources, mentions_at, parts_at}}
 use Rattle.fb_library.proofs.{Places.{already_in_order}, SeenLemmas.{Contains-has, has-Contains}, WalkLemmas.{IsWalk, complete_at_end}}
 
-same_truth : (a b : Bool) → (a ≡ true → b ≡ true) → (b ≡ true → a ≡ true) → a ≡ b
-same_truth true b f g = sym (f refl)
-same_truth false true f g = g refl
-same_truth false false f g = refl
-
 pub one_in_order : (names others : List (List ℕ)) → IsStrictlySortedBy name_cmp names → IsStrictlySortedBy name_cmp others → ((q : List ℕ) → Contains names q → Contains others q) → ((q : List ℕ) → Contains others q → Contains names q) → names ≡ others
 one_in_order names others a b there back =
     sym (already_in_order names a)
-    ∙ in_order-same name_cmp nat_list_cmp_total (slice_cmp-IsAntisymmetric nat_cmp-IsAntisymmetric) names others (λ q. same_truth (has name_cmp names q) (has name_cmp others q) (λ h. has-Contains q others (there q (Contains-has q names h))) (λ h. has-Contains q names (back q (Contains-has q others h))))
+    ∙ in_order-same name_cmp nat_list_cmp_total (slice_cmp-IsAntisymmetric nat_cmp-IsAntisymmetric) names others (λ q. same_from_decides {P = Contains names q} _ _ (Contains-has q names, has-Contains q names) (λ h. back q (Contains-has q others h), λ c. has-Contains q others (there q c)))
     ∙ already_in_order others b
 
 pub one_list : FarIsOneList
@@ -44,7 +39,7 @@ leads_part_rests (by_step m r) = through_part m (leads_part_rests r)
 pub seen_rests : {sources : Sources} {unit : List ℕ} {seen pending : List (List ℕ)} → IsWalk (mentions_at sources) (unit ∷ []) seen pending → (v : List ℕ) → has_name seen v ≡ true → Rests sources unit v
 seen_rests {sources} {unit} walk v h =
     let led = walk.sound v h in
-    leads_rests (subst (λ u. Leads (mentions_at sources) u v) (sym (contains_single unit led.0 led.1)) led.2)
+    leads_rests (rw (contains_single unit led.0 led.1) led.2)
 
 pub rests_seen : {sources : Sources} {unit : List ℕ} {seen : List (List ℕ)} → IsWalk (mentions_at sources) (unit ∷ []) seen [] → (v : List ℕ) → Rests sources unit v → has_name seen v ≡ true
 rests_seen {sources} {unit} {seen} walk v r = complete_at_end (mentions_at sources) (unit ∷ []) seen walk v (unit, contains_here unit [], rests_leads r)

@@ -1,10 +1,10 @@
 -- The lower half of some shelves and the upper one, and entries that are two lists joined.
-use Rattle.std.proofs.Common.{◌≡◌, ℕ, zero, suc, ◌-◌, List, [], ◌∷◌, ◌++◌, length, take, drop, get_or, refl, sym, ap, subst, ◌∙◌, arith, append_assoc, Some}
+use Rattle.std.proofs.Common.{◌≡◌, ℕ, zero, suc, ◌-◌, List, [], ◌∷◌, ◌++◌, length, take, drop, get_or, refl, sym, ap, ◌∙◌, arith, append_assoc, Some}
 use Rattle.std.proofs.Math.Seq.{take-append_seam, drop-append_seam}
 use Rattle.std.specs.{List.{AllByRecursion, slice_get}, declared.cmp.Ordering.TheVariants.{Less}}
 use Rattle.fb_parse.specs.Text.Order.{name_cmp}
 use Rattle.fb_library.specs.Shelves.{names_of, lasts_of, all_on, AreShelves}
-use Rattle.fb_library.proofs.OnShelves.{Row, all_left}
+use Rattle.fb_library.proofs.OnShelves.{Row, all_left, shelf_before}
 
 module _ {V : Type 0} where
   pub all_halves : (ss : List (Row V)) (k : ℕ) → all_on (take k ss) ++ all_on (drop k ss) ≡ all_on ss
@@ -25,12 +25,7 @@ module _ {V : Type 0} where
   lower_half (s ∷ ss) zero are = tt
   lower_half (s ∷ ss) (suc k) are =
       let P : List ℕ → Type 0 = λ m. name_cmp s.0 m ≡ Less in (
-        record {
-          sorted = are.0.sorted;
-          within = are.0.within;
-          before = all_left P (all_on (take k ss)) (all_on (drop k ss)) (subst (λ (es : List (List ℕ × V)). AllByRecursion P (names_of es)) (sym (all_halves ss k)) are.0.before);
-          rising = lower_lasts P ss k are.0.rising;
-        },
+        shelf_before are.0 (all_left P (all_on (take k ss)) (all_on (drop k ss)) (rw (all_halves ss k) are.0.before)) (lower_lasts P ss k are.0.rising),
         lower_half ss k are.1,
       )
 

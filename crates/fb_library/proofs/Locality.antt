@@ -1,10 +1,10 @@
 -- Near and far depend on the texts that they reach alone.
-use Rattle.std.proofs.Common.{◌≡◌, ℕ, List, [], ◌∷◌, ◌++◌, ◌⊎◌, inl, inr, sym, ap, subst, ◌∙◌}
-use Rattle.std.proofs.lemmas.List.Elements.{Contains-append_left, Contains-append_right, Contains-append_cases}
+use Rattle.std.proofs.Common.{◌≡◌, ℕ, List, [], ◌∷◌, ◌++◌, ⊎_elim, sym, ap, ◌∙◌}
+use Rattle.std.proofs.lemmas.List.Elements.{Contains-append_left, Contains-append_right, Contains-push_cases}
 use Rattle.std.specs.{List.{Contains}, Option.{option_and_then}, FinMap.{get}}
 use Rattle.fb_parse.specs.Text.Order.{names_in_order}
 use Rattle.fb_parse.proofs.Text.Members.{contains_single}
-use Rattle.fb_library.specs.View.{Sources, tree_of, mentions_of_tree, mentioned_at, mentions_at, mentions_in, parts_at, parts_in, values_at, values_in, is_structure_at}
+use Rattle.fb_library.specs.View.{Sources, tree_of, mentions_of_tree, mentions_at, parts_at, parts_in, values_at, is_structure_at}
 use Rattle.fb_library.specs.Near.{Carries, directly, onward, IsNear, own, part, carried, carried_by_part, carried_of, bases_at, near_of}
 use Rattle.fb_library.specs.Local.{Agree, AgreeFar, CarriedIsLocal, NearIsLocal, FarIsLocal}
 use Rattle.fb_library.specs.Rests.{Rests, itself, through, PartRests, on_itself, through_part}
@@ -12,19 +12,10 @@ use Rattle.fb_library.proofs.{CarriedLemmas.{carried_is_all, near_is_all, listed
 
 -- ---- where two have the same text
 
-pub same_mentioned : (a b : Sources) (u : List ℕ) → get a u ≡ get b u → mentioned_at a u ≡ mentioned_at b u
-same_mentioned a b u e = ap (λ o. mentions_of_tree (option_and_then tree_of o)) e
-
-pub same_mentions : (a b : Sources) (u : List ℕ) → get a u ≡ get b u → mentions_at a u ≡ mentions_at b u
-same_mentions a b u e = ap (λ o. mentions_in (option_and_then tree_of o)) e
-
 pub same_parts : (a b : Sources) (u : List ℕ) → get a u ≡ get b u → parts_at a u ≡ parts_at b u
 same_parts a b u e = ap (λ o. parts_in (option_and_then tree_of o)) e
 
-pub same_values : (a b : Sources) (u : List ℕ) → get a u ≡ get b u → values_at a u ≡ values_at b u
-same_values a b u e = ap (λ o. values_in (option_and_then tree_of o)) e
-
-pub same_structure : (a b : Sources) (u : List ℕ) → get a u ≡ get b u → is_structure_at a u ≡ is_structure_at b u
+same_structure : (a b : Sources) (u : List ℕ) → get a u ≡ get b u → is_structure_at a u ≡ is_structure_at b u
 same_structure a b u e = ap (λ o. (mentions_of_tree (option_and_then tree_of o)).is_structure) e
 
 -- ---- what is near
@@ -42,11 +33,8 @@ module _ (sources : Sources) (unit : List ℕ) where
 
   -- the unit and its parts, and what they carry
   pub near_base : (name : List ℕ) → Contains (bases_at sources unit) name → Contains (near_of sources unit) name
-  near_base name b = by_base (Contains-append_cases (parts_at sources unit) (unit ∷ []) name b)
-    where
-      by_base : Contains (parts_at sources unit) name ⊎ Contains (unit ∷ []) name → Contains (near_of sources unit) name
-      by_base (inl p) = near_part name p
-      by_base (inr o) = subst (Contains (near_of sources unit)) (contains_single unit name o) near_unit
+  near_base name b =
+      ⊎_elim (near_part name) (λ (e : unit ≡ name). rw (← e) near_unit) (Contains-push_cases (parts_at sources unit) unit name b)
 
   pub near_carried : (name : List ℕ) → Contains (carried_of sources (bases_at sources unit)) name → Contains (near_of sources unit) name
   near_carried name c = listed_carried sources unit name c
@@ -55,7 +43,7 @@ module _ (sources : Sources) (unit : List ℕ) where
   pub near_own_carried : (name : List ℕ) → Contains (carried_of sources (unit ∷ [])) name → Contains (near_of sources unit) name
   near_own_carried name c =
       let some = ((carried_is_all sources (unit ∷ [])).1 name).0 c in
-      is_near (carried (subst (λ u. Carries sources u name) (sym (contains_single unit some.0 some.1)) some.2))
+      is_near (carried (rw (contains_single unit some.0 some.1) some.2))
 
 -- ---- what is carried
 
@@ -64,18 +52,16 @@ module _ (a b : Sources) (units : List (List ℕ)) (agree : Agree units a b) (fu
   known {u} {v} c r = further v (((carried_is_all a units).1 v).1 (u, c, r))
 
   carried_there : {u v : List ℕ} → Contains units u → Carries a u v → Carries b u v
-  carried_there {u} {v} c (directly m) = directly (subst (λ l. Contains l v) (same_values a b u (agree u c)) m)
-  carried_there {u} {v} c (onward {w = w} r s m) =
-      let same = known c r in
-      onward (carried_there c r) (sym (same_structure a b w same) ∙ s) (subst (λ l. Contains l v) (same_values a b w same) m)
+  carried_there {u} c (directly m) = directly (rw (agree u c) at m)
+  carried_there c (onward {w = w} r s m) = let same = known c r in onward (carried_there c r) (sym (same_structure a b w same) ∙ s) (rw same at m)
 
   -- each is carried in a, so both have the same text there
   carried_back : {u v : List ℕ} → Contains units u → Carries b u v → Carries a u v
-  carried_back {u} {v} c (directly m) = directly (subst (λ l. Contains l v) (sym (same_values a b u (agree u c))) m)
-  carried_back {u} {v} c (onward {w = w} r s m) =
+  carried_back {u} c (directly m) = directly (rw (agree u c) m)
+  carried_back c (onward {w = w} r s m) =
       let before = carried_back c r in
       let same = known c before in
-      onward before (same_structure a b w same ∙ s) (subst (λ l. Contains l v) (sym (same_values a b w same)) m)
+      onward before (same_structure a b w same ∙ s) (rw same m)
 
 pub carried_local : CarriedIsLocal
 carried_local a b units agree further =
@@ -94,13 +80,12 @@ near_local a b unit agree =
 
 there : (a b : Sources) {u v : List ℕ} → AgreeFar u a b → Rests a u v → Rests b u v
 there a b agree itself = itself
-there a b {u} agree (through {w = w} m r) =
-    through (subst (λ l. Contains l w) (same_mentions a b u (agree u itself)) m) (there a b (λ n h. agree n (through m h)) r)
+there a b {u} agree (through m r) = through (rw (agree u itself) at m) (there a b (λ n h. agree n (through m h)) r)
 
 back : (a b : Sources) {u v : List ℕ} → AgreeFar u a b → Rests b u v → Rests a u v
 back a b agree itself = itself
 back a b {u} agree (through {w = w} m r) =
-    let known : Contains (mentions_at a u) w = subst (λ l. Contains l w) (sym (same_mentions a b u (agree u itself))) m in
+    let known : Contains (mentions_at a u) w = rw (agree u itself) m in
     through known (back a b (λ n h. agree n (through known h)) r)
 
 pub far_local : FarIsLocal

@@ -1,30 +1,21 @@
 -- Shelves of entries: what is done at a name is done on one shelf.
-use Rattle.std.proofs.Common.{◌≡◌, ℕ, zero, suc, ◌<◌, ◌≤◌, Bool, true, false, ◌||◌, List, [], ◌∷◌, ◌++◌, length, get_or, set, refl, sym, ap, subst, ◌∙◌, arith}
+use Rattle.std.proofs.Common.{◌≡◌, ℕ, zero, suc, ◌<◌, ◌≤◌, true, List, [], ◌∷◌, ◌++◌, length, get_or, set, refl, sym, ap, subst, ◌∙◌, arith}
 use Rattle.std.proofs.{lemmas.Bool.{false≢true, or_left, or_right}, lemmas.Cmp.{tied_itself}, lemmas.Map.Keys.{Less-from_sorted}}
+use Rattle.std.proofs.{lemmas.List.Elements.{All-from_recursion, recursion_from_All}, lemmas.Map.Views.{All-keys-insert_entry}}
 use Rattle.std.specs.{List.{AllByRecursion}, List.Sorted.{IsStrictlySortedBy}, Map.{lookup, remove_entry}, BTreeMap.{is_at, insert_entry}}
-use Rattle.std.specs.{Ordering.{is_le, match_ordering}, declared.cmp.Ordering.{Ordering}, declared.cmp.Ordering.TheVariants.{Less, Equal, Greater}}
+use Rattle.std.specs.{Ordering.{is_le}, declared.cmp.Ordering.TheVariants.{Less}}
 use Rattle.fb_parse.specs.Text.Order.{name_cmp}
 use Rattle.fb_library.specs.{Place.{IsAt, IsGapFor}, Shelves.{names_of, lasts_of, all_on, IsShelf, AreShelves, IsShelfFor, reaches}}
 use Rattle.fb_library.proofs.Appended.{AllBelow, AllAbove, lookup_behind, lookup_before, put_behind, put_before, remove_behind, remove_before}
-use Rattle.fb_library.proofs.{Names.{name_total, exact_name}, Places.{greater, all_removed, sorted_put, sorted_removed}}
+use Rattle.fb_library.proofs.{Names.{name_total, exact_name, by_order}, Places.{greater, all_removed, sorted_put, sorted_removed}}
 
 -- ---- the order of names
 
-le_lt_by : (x y z : List ℕ) (r : Ordering) → name_cmp x y ≡ r → is_le r ≡ true → name_cmp y z ≡ Less → name_cmp x z ≡ Less
-le_lt_by x y z Less e le lt = name_total.trans x y z e lt
-le_lt_by x y z Equal e le lt = ap (λ w. name_cmp w z) (exact_name x y e) ∙ lt
-le_lt_by x y z Greater e le lt = absurd (false≢true le)
-
 pub le_lt : (x y z : List ℕ) → is_le (name_cmp x y) ≡ true → name_cmp y z ≡ Less → name_cmp x z ≡ Less
-le_lt x y z le lt = le_lt_by x y z (name_cmp x y) refl le lt
-
-lt_le_by : (x y z : List ℕ) (r : Ordering) → name_cmp x y ≡ Less → name_cmp y z ≡ r → is_le r ≡ true → name_cmp x z ≡ Less
-lt_le_by x y z Less lt e le = name_total.trans x y z lt e
-lt_le_by x y z Equal lt e le = ap (name_cmp x) (sym (exact_name y z e)) ∙ lt
-lt_le_by x y z Greater lt e le = absurd (false≢true le)
+le_lt x y z le lt = by_order (name_cmp x y) (λ l. name_total.trans x y z l lt) (λ e. rw (exact_name x y e) lt) (λ g. absurd (false≢true (rw g at le)))
 
 pub lt_le : (x y z : List ℕ) → name_cmp x y ≡ Less → is_le (name_cmp y z) ≡ true → name_cmp x z ≡ Less
-lt_le x y z lt le = lt_le_by x y z (name_cmp y z) lt refl le
+lt_le x y z lt le = by_order (name_cmp y z) (λ l. name_total.trans x y z lt l) (λ e. rw (← exact_name y z e) lt) (λ g. absurd (false≢true (rw g at le)))
 
 pub le_self : (n : List ℕ) → is_le (name_cmp n n) ≡ true
 le_self n = ap is_le (tied_itself name_total n)
@@ -52,19 +43,12 @@ for_tail last lasts n i is = record {
   here = λ lt. is.here (omega arith);
 }
 
-or_other : (a b : Bool) → a ≡ false → (a || b) ≡ true → b ≡ true
-or_other a b f e = sym (ap (λ x. x || b) f) ∙ e
-
-pub or_wider : (a b c : Bool) → (b ≡ true → c ≡ true) → (a || b) ≡ true → (a || c) ≡ true
-or_wider true b c f e = refl
-or_wider false b c f e = f e
-
 -- a name that is reached has a shelf
 pub for_reached : (lasts : List (List ℕ)) (n : List ℕ) (i : ℕ) → IsShelfFor lasts n i → reaches lasts n ≡ true → i < length lasts
 for_reached [] n i is e = absurd (false≢true e)
 for_reached (last ∷ lasts) n zero is e = omega arith
 for_reached (last ∷ lasts) n (suc i) is e =
-    let rest = for_reached lasts n i (for_tail last lasts n i is) (or_other (is_le (name_cmp n last)) (reaches lasts n) (ap is_le (greater last n (is.below 0 (omega arith)))) e) in
+    let rest = for_reached lasts n i (for_tail last lasts n i is) (rw (greater last n (is.below 0 (omega arith))) at e) in
     omega (arith, rest)
 
 pub reached_for : (lasts : List (List ℕ)) (n : List ℕ) (i : ℕ) → IsShelfFor lasts n i → i < length lasts → reaches lasts n ≡ true
@@ -116,6 +100,10 @@ module _ {V : Type 0} where
   sorted_at [] i are = tt
   sorted_at (s ∷ ss) zero are = are.0.sorted
   sorted_at (s ∷ ss) (suc i) are = sorted_at ss i are.1
+
+  -- a shelf before other shelves
+  pub shelf_before : {s : Row V} {ss ts : List (Row V)} → IsShelf s ss → AllAbove s.0 (all_on ts) → AllByRecursion (λ m. name_cmp s.0 m ≡ Less) (lasts_of ts) → IsShelf s ts
+  shelf_before is before rising = record { sorted = is.sorted; within = is.within; before = before; rising = rising }
 
   -- ---- one shelf
 
@@ -173,26 +161,14 @@ module _ {V : Type 0} where
     },
     are.1,
   )
-  shelves_with (s ∷ ss) n (suc i) news lt are is sorted keeps = (
-    record {
-      sorted = are.0.sorted;
-      within = are.0.within;
-      before =
-          let P : List ℕ → Type 0 = λ m. name_cmp s.0 m ≡ Less in
-          all_set P ss i (last_at ss i, news) are.0.before (keeps P (is.below 0 (omega arith)) (all_at P ss i are.0.before));
-      rising = subst (AllByRecursion (λ m. name_cmp s.0 m ≡ Less)) (sym (lasts_with ss i news)) are.0.rising;
-    },
-    shelves_with ss n i news (omega (arith, lt)) are.1 (for_tail s.0 (lasts_of ss) n i is) sorted keeps,
-  )
-
-  kept_by : (P : List ℕ → Type 0) (r : Ordering) (n : List ℕ) (v : V) (e : List ℕ × V) (es put : List (List ℕ × V)) → P n → AllByRecursion P (names_of (e ∷ es)) → AllByRecursion P (names_of put) → AllByRecursion P (names_of (match_ordering r ((n, v) ∷ e ∷ es) ((e.0, v) ∷ es) (e ∷ put)))
-  kept_by P Less n v e es put p all rest = (p, all)
-  kept_by P Equal n v e es put p all rest = all
-  kept_by P Greater n v e es put p all rest = (all.0, rest)
+  shelves_with (s ∷ ss) n (suc i) news lt are is sorted keeps =
+      let P : List ℕ → Type 0 = λ m. name_cmp s.0 m ≡ Less in (
+        shelf_before are.0 (all_set P ss i (last_at ss i, news) are.0.before (keeps P (is.below 0 (omega arith)) (all_at P ss i are.0.before))) (rw (lasts_with ss i news) are.0.rising),
+        shelves_with ss n i news (omega (arith, lt)) are.1 (for_tail s.0 (lasts_of ss) n i is) sorted keeps,
+      )
 
   keeps_put : (n : List ℕ) (v : V) (es : List (List ℕ × V)) → Keeps n es (insert_entry name_cmp es n v)
-  keeps_put n v [] P p all = (p, tt)
-  keeps_put n v (e ∷ es) P p all = kept_by P (name_cmp n e.0) n v e es (insert_entry name_cmp es n v) p all (keeps_put n v es P p all.1)
+  keeps_put n v es P p all = recursion_from_All P _ (All-keys-insert_entry name_cmp n v P es (All-from_recursion P (names_of es) all) p)
 
   pub shelves_put : (ss : List (Row V)) (n : List ℕ) (v : V) (i : ℕ) → i < length ss → AreShelves ss → IsShelfFor (lasts_of ss) n i → AreShelves (with_entries ss i (insert_entry name_cmp (entries_at ss i) n v))
   shelves_put ss n v i lt are is =

@@ -1,21 +1,19 @@
 -- A search among items that stand by rising name.
-use Rattle.std.proofs.Common.{◌≡◌, ℕ, ◌<◌, ◌≤◌, List, [], ◌∷◌, length, map, get_or, inl, inr, refl, sym, ap, ◌∙◌, arith, Result, Ok, Err, IfOk, IfErr}
+use Rattle.std.proofs.Common.{◌≡◌, ℕ, ◌<◌, ◌≤◌, List, [], ◌∷◌, length, map, get_or, inl, inr, sym, ap, ◌∙◌, arith, Result, Ok, Err, IfOk, IfErr}
 use Rattle.std.proofs.{lemmas.Bool.{cases_lt}, lemmas.List.{get_or-map, length-map}, lemmas.Map.Keys.{Less-from_sorted}}
-use Rattle.std.specs.{List.Sorted.{IsStrictlySortedBy, IsNonDecreasingBy, IsSearchInRange, IsBinarySearchResult}, Ordering.{ordering_index, ordering_reverse}}
-use Rattle.std.specs.{declared.cmp.Ordering.{Ordering}, declared.cmp.Ordering.TheVariants.{Less, Equal, Greater}}
+use Rattle.std.specs.{List.Sorted.{IsStrictlySortedBy, IsNonDecreasingBy, IsSearchInRange, IsBinarySearchResult}, Ordering.{ordering_index}}
+use Rattle.std.specs.declared.cmp.Ordering.TheVariants.{Less}
 use Rattle.fb_parse.specs.Text.Order.{name_cmp}
 use Rattle.fb_library.specs.Place.{IsAt, IsGapFor}
-use Rattle.fb_library.proofs.{Names.{name_total, exact_name}, Places.{less}}
+use Rattle.fb_library.proofs.{Names.{name_total, exact_name, by_order}, Places.{greater, less}}
 
 -- the comparisons with a name rise along names in order
-index_rises : (x y n : List ℕ) → name_cmp x y ≡ Less → (r : Ordering) → name_cmp x n ≡ r → ordering_index r ≤ ordering_index (name_cmp y n)
-index_rises x y n lt Less e = omega arith
-index_rises x y n lt Equal e =
-    let above : name_cmp y n ≡ Greater = ap (name_cmp y) (sym (exact_name x n e)) ∙ name_total.antisymm y x ∙ ap ordering_reverse lt in
-    rw above (omega arith)
-index_rises x y n lt Greater e =
-    let above : name_cmp y n ≡ Greater = name_total.antisymm y n ∙ ap ordering_reverse (name_total.trans n x y (less x n e) lt) in
-    rw above (omega arith)
+index_rises : (x y n : List ℕ) → name_cmp x y ≡ Less → ordering_index (name_cmp x n) ≤ ordering_index (name_cmp y n)
+index_rises x y n lt =
+    by_order (name_cmp x n)
+    (λ l. rw l (omega arith))
+    (λ e. rw (e, ← exact_name x n e, greater x y lt) (omega arith))
+    (λ g. rw (g, greater n y (name_total.trans n x y (less x n g) lt)) (omega arith))
 
 pub record Searched (names : List (List ℕ)) (n : List ℕ) (r : Result ℕ ℕ) : Type 0 where
   pub found : IfOk r (IsAt names n)
@@ -31,7 +29,7 @@ module _ {A : Type 0} (name : A → List ℕ) where
         let first = there xs i d (omega (arith, before, lt)) in
         let second = there xs j d lt in
         let below = Less-from_sorted name_cmp (map name xs) i j [] sorted before (omega (arith, lt, length-map xs name)) in
-        index_rises (name (get_or xs i d)) (name (get_or xs j d)) n (sym (λ k. name_cmp (first k) (second k)) ∙ below) _ refl
+        index_rises (name (get_or xs i d)) (name (get_or xs j d)) n (sym (λ k. name_cmp (first k) (second k)) ∙ below)
     | inr behind ↦
         let same : i ≡ j = omega arith in
         rw same (omega arith)

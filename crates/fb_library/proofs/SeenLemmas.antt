@@ -1,17 +1,12 @@
 -- Names that were seen, and names that are pending.
-use Rattle.std.proofs.Common.{◌≡◌, ℕ, suc, ◌+◌, ◌≤◌, Bool, true, false, not, cond, if◌then◌else◌, ◌||◌, List, [], ◌∷◌, ◌++◌, length, refl, sym, ap, ◌∙◌, arith, nat_cmp, length-append}
+use Rattle.std.proofs.Common.{◌≡◌, ℕ, ◌+◌, ◌≤◌, Bool, true, false, not, ◌||◌, List, [], ◌∷◌, ◌++◌, length, sym, ap, ◌∙◌, arith, nat_cmp, length-append}
 use Rattle.std.proofs.{lemmas.Bool.{false≢true}, lemmas.Map.Views.{Contains-from_any, list_any-from_Contains, tells_apart}}
 pub use Rattle.std.proofs.lemmas.Bool.{or_left, or_right}
 use Rattle.std.specs.{List.{Contains}, Ordering.{eq_by_cmp}, Cmp.{eq_by_cmp_equiv}, Cmp.Lexicographic.{slice_cmp, nat_list_cmp_total}}
 use Rattle.std.specs.{BTreeSet.{BTreeSet, Updates}, FinMap.{slice_cmp-IsAntisymmetric, nat_cmp-IsAntisymmetric}}
-use Rattle.fb_parse.proofs.Text.Tests.{by_bool, or_cases, or_assoc, or_false, no_both}
+use Rattle.fb_parse.proofs.{Text.OrderLemmas.{has-append as any-append}, Text.Tests.{by_bool, or_cases, or_false, no_both}}
+use Rattle.fb_parse.specs.Text.Order.{name_cmp}
 use Rattle.fb_library.specs.Seen.{has_name, unseen, Opens}
-
-true_or : (b c : Bool) → cond b true c ≡ (c || b)
-true_or true true = refl
-true_or true false = refl
-true_or false true = refl
-true_or false false = refl
 
 abbrev pub same : List ℕ → List ℕ → Bool
 same = eq_by_cmp (slice_cmp nat_cmp)
@@ -31,64 +26,28 @@ Contains-has = Contains-from_any same_is
 pub has-Contains : (q : List ℕ) (xs : List (List ℕ)) → Contains xs q → has_name xs q ≡ true
 has-Contains = list_any-from_Contains (eq_by_cmp_equiv nat_list_cmp_total)
 
-pub has-push : (xs : List (List ℕ)) (x q : List ℕ) → has_name (xs ++ x ∷ []) q ≡ (has_name xs q || same q x)
-has-push [] x q = or_false (same q x)
-has-push (y ∷ xs) x q = ap (λ b. same q y || b) (has-push xs x q) ∙ or_assoc (same q y) (has_name xs q) (same q x)
+pub has-append : (xs ys : List (List ℕ)) (q : List ℕ) → has_name (xs ++ ys) q ≡ (has_name xs q || has_name ys q)
+has-append = any-append name_cmp
 
--- the last of some names is among them
-pub last_named : (xs : List (List ℕ)) (x : List ℕ) → Contains (xs ++ x ∷ []) x
-last_named xs x = Contains-has x (xs ++ x ∷ []) (has-push xs x x ∙ or_right (has_name xs x) (same x x) (same_self x))
+pub has-push : (xs : List (List ℕ)) (x q : List ℕ) → has_name (xs ++ x ∷ []) q ≡ (has_name xs q || same q x)
+has-push xs x q = has-append xs (x ∷ []) q ∙ ap (λ b. has_name xs q || b) (or_false (same q x))
 
 -- ---- counting what was not seen
-abbrev one_unless : Bool → ℕ
-one_unless b = if b then 0 else 1
-
-one_unless-true : (b : Bool) → b ≡ true → one_unless b ≡ 0
-one_unless-true b e = ap one_unless e
-
-one_unless-false : (b : Bool) → b ≡ false → one_unless b ≡ 1
-one_unless-false b e = ap one_unless e
-
-one_unless-le : (b : Bool) → one_unless b ≤ 1
-one_unless-le true = omega arith
-one_unless-le false = omega arith
-
-less_here : (a b m n : ℕ) → a ≤ b → m ≤ n → a + m ≤ b + n
-less_here a b m n h k = omega arith
-
-fewer_here : (b c : Bool) → (b ≡ true → c ≡ true) → one_unless c ≤ one_unless b
-fewer_here true c h = let e : one_unless c ≡ 0 = one_unless-true c (h refl) in omega arith
-fewer_here false c h = one_unless-le c
-
 -- whatever is seen is among the others
 abbrev pub Grows : List (List ℕ) → List (List ℕ) → Type 0
 Grows seen others = (q : List ℕ) → has_name seen q ≡ true → has_name others q ≡ true
 
 pub fewer : (seen seen' all : List (List ℕ)) → Grows seen seen' → unseen seen' all ≤ unseen seen all
 fewer seen seen' [] grows = omega arith
-fewer seen seen' (y ∷ all) grows =
-    less_here (one_unless (has_name seen' y)) (one_unless (has_name seen y)) _ _ (fewer_here (has_name seen y) (has_name seen' y) (grows y)) (fewer seen seen' all grows)
-
-one_here : (b c : Bool) (m n : ℕ) → b ≡ false → c ≡ true → m ≤ n → (one_unless c + m) + 1 ≤ one_unless b + n
-one_here b c m n f t h =
-    let p : one_unless b ≡ 1 = one_unless-false b f in
-    let q : one_unless c ≡ 0 = one_unless-true c t in
-    omega arith
-
-one_later : (a b m n : ℕ) → a ≤ b → m + 1 ≤ n → (a + m) + 1 ≤ b + n
-one_later a b m n h k = omega arith
+fewer seen seen' (y ∷ all) grows = grind (arith, fewer seen seen' all grows, grows y)
 
 -- a name more that is seen
 pub one_fewer : (seen seen' : List (List ℕ)) (x : List ℕ) → has_name seen x ≡ false → has_name seen' x ≡ true → Grows seen seen' → (all : List (List ℕ)) → has_name all x ≡ true → unseen seen' all + 1 ≤ unseen seen all
 one_fewer seen seen' x new now grows [] e = absurd (false≢true e)
 one_fewer seen seen' x new now grows (y ∷ all) e =
     by_bool (same x y)
-    (λ s.
-    let is = same_is x y s in
-    one_here (has_name seen y) (has_name seen' y) _ _ (ap (has_name seen) (sym is) ∙ new) (ap (has_name seen') (sym is) ∙ now) (fewer seen seen' all grows))
-    (λ f.
-    one_later (one_unless (has_name seen' y)) (one_unless (has_name seen y)) _ _ (fewer_here (has_name seen y) (has_name seen' y) (grows y))
-    (one_fewer seen seen' x new now grows all (ap (λ b. b || has_name all x) (sym f) ∙ e)))
+    (λ s. rw (← same_is x y s, now, new) (omega (arith, fewer seen seen' all grows)))
+    (λ f. grind (arith, one_fewer seen seen' x new now grows all (rw f at e), grows y))
 
 -- some name is not seen
 pub some_unseen : (seen all : List (List ℕ)) (x : List ℕ) → has_name seen x ≡ false → has_name all x ≡ true → 1 ≤ unseen seen all
@@ -96,12 +55,9 @@ some_unseen seen all x new there =
     let less = one_fewer seen (x ∷ seen) x new (or_left (same x x) _ (same_self x)) (λ q h. or_right (same q x) _ h) all there in
     omega (arith, less)
 
-at_most : (a m n : ℕ) → a ≤ 1 → m ≤ n → a + m ≤ suc n
-at_most a m n h k = omega arith
-
 pub all_unseen : (seen all : List (List ℕ)) → unseen seen all ≤ length all
 all_unseen seen [] = omega arith
-all_unseen seen (y ∷ all) = at_most (one_unless (has_name seen y)) _ _ (one_unless-le (has_name seen y)) (all_unseen seen all)
+all_unseen seen (y ∷ all) = grind (arith, all_unseen seen all)
 
 -- ---- the names of one unit
 pub Opens-none : (seen pending : List (List ℕ)) → Opens [] seen pending seen pending
@@ -114,35 +70,28 @@ Opens-none seen pending = record {
 }
 
 module _ (names seen pending seen1 pending1 seen2 : List (List ℕ)) (x : List ℕ) (opens : Opens names seen pending seen1 pending1) (adds : (q : List ℕ) → has_name seen2 q ≡ (has_name seen1 q || same q x)) where
-  marked : (q : List ℕ) → has_name seen2 q ≡ (has_name seen q || has_name (names ++ x ∷ []) q)
-  marked q = adds q ∙ ap (λ b. b || same q x) (opens.marks q) ∙ sym (or_assoc (has_name seen q) (has_name names q) (same q x)) ∙ ap (λ b. has_name seen q || b) (sym (has-push names x q))
-
   grown : (q : List ℕ) → has_name seen1 q ≡ true → has_name seen2 q ≡ true
   grown q h = adds q ∙ or_left (has_name seen1 q) (same q x) h
 
-  wider : (pending2 : List (List ℕ)) (q : List ℕ) → (has_name pending q || has_name names q) ≡ true → (has_name pending q || has_name (names ++ x ∷ []) q) ≡ true
-  wider pending2 q h = or_cases (has_name pending q) (has_name names q) h (λ l. or_left (has_name pending q) _ l) (λ r. or_right (has_name pending q) _ (has-push names x q ∙ or_left (has_name names q) (same q x) r))
-
   pub Opens-new : has_name seen1 x ≡ false → Opens (names ++ x ∷ []) seen pending seen2 (pending1 ++ x ∷ [])
   Opens-new new = record {
-    marks = marked;
+    marks = λ q. grind (arith, adds q, opens.marks q, has-push names x q);
     keeps = λ q h. has-push pending1 x q ∙ or_left (has_name pending1 q) (same q x) (opens.keeps q h);
-    opened = λ q t f. has-push pending1 x q ∙ or_cases (has_name seen1 q) (same q x) (sym (adds q) ∙ t) (λ l. or_left (has_name pending1 q) (same q x) (opens.opened q l f)) (λ r. or_right (has_name pending1 q) (same q x) r);
-    only = λ q h. or_cases (has_name pending1 q) (same q x) (sym (has-push pending1 x q) ∙ h) (λ l. wider pending1 q (opens.only q l)) (λ r. or_right (has_name pending q) _ (has-push names x q ∙ or_right (has_name names q) (same q x) r));
+    opened = λ q t f. grind (arith, adds q, opens.opened q, has-push pending1 x q);
+    only = λ q h. grind (arith, opens.only q, has-push names x q, has-push pending1 x q);
     falls = λ all within.
         let before = opens.falls all (λ q h. within q (has-push names x q ∙ or_left (has_name names q) (same q x) h)) in
         let there = within x (has-push names x x ∙ or_right (has_name names x) (same x x) (same_self x)) in
         let less = one_fewer seen1 seen2 x new (adds x ∙ or_right (has_name seen1 x) (same x x) (same_self x)) grown all there in
-        let longer = length-append pending1 (x ∷ []) in
-        omega (arith, before, less, longer);
+        omega (arith, before, less, length-append pending1 (x ∷ []));
   }
 
   pub Opens-old : has_name seen1 x ≡ true → Opens (names ++ x ∷ []) seen pending seen2 pending1
   Opens-old old = record {
-    marks = marked;
+    marks = λ q. grind (arith, adds q, opens.marks q, has-push names x q);
     keeps = opens.keeps;
     opened = λ q t f. or_cases (has_name seen1 q) (same q x) (sym (adds q) ∙ t) (λ l. opens.opened q l f) (λ r. opens.opened q (ap (has_name seen1) (same_is q x r) ∙ old) f);
-    only = λ q h. wider pending1 q (opens.only q h);
+    only = λ q h. grind (arith, opens.only q h, has-push names x q);
     falls = λ all within.
         let before = opens.falls all (λ q h. within q (has-push names x q ∙ or_left (has_name names q) (same q x) h)) in
         let less = fewer seen1 seen2 all grown in
@@ -150,22 +99,13 @@ module _ (names seen pending seen1 pending1 seen2 : List (List ℕ)) (x : List �
   }
 
 -- opening names, and then others, opens all of them
-pub has-append : (xs ys : List (List ℕ)) (q : List ℕ) → has_name (xs ++ ys) q ≡ (has_name xs q || has_name ys q)
-has-append [] ys q = refl
-has-append (x ∷ xs) ys q = ap (λ b. same q x || b) (has-append xs ys q) ∙ or_assoc (same q x) (has_name xs q) (has_name ys q)
-
 module _ (names others seen pending seen1 pending1 seen2 pending2 : List (List ℕ)) where
   pub Opens-both : Opens names seen pending seen1 pending1 → Opens others seen1 pending1 seen2 pending2 → Opens (names ++ others) seen pending seen2 pending2
   Opens-both first second = record {
-    marks = λ q. second.marks q ∙ ap (λ b. b || has_name others q) (first.marks q) ∙ sym (or_assoc (has_name seen q) (has_name names q) (has_name others q))
-        ∙ ap (λ b. has_name seen q || b) (sym (has-append names others q));
+    marks = λ q. grind (arith, first.marks q, second.marks q, has-append names others q);
     keeps = λ q h. second.keeps q (first.keeps q h);
     opened = λ q t f. by_bool (has_name seen1 q) (λ one. second.keeps q (first.opened q one f)) (λ none. second.opened q t none);
-    only = λ q h. or_cases (has_name pending1 q) (has_name others q) (second.only q h)
-        (λ l. or_cases (has_name pending q) (has_name names q) (first.only q l)
-        (λ p. or_left (has_name pending q) _ p)
-        (λ n. or_right (has_name pending q) _ (has-append names others q ∙ or_left (has_name names q) _ n)))
-        (λ r. or_right (has_name pending q) _ (has-append names others q ∙ or_right (has_name names q) _ r));
+    only = λ q h. grind (arith, first.only q, second.only q h, has-append names others q);
     falls = λ all within.
         let one = first.falls all (λ q h. within q (has-append names others q ∙ or_left (has_name names q) _ h)) in
         let two = second.falls all (λ q h. within q (has-append names others q ∙ or_right (has_name names q) _ h)) in
@@ -174,16 +114,14 @@ module _ (names others seen pending seen1 pending1 seen2 pending2 : List (List �
 
 -- what `insert` says of a set, in these words
 pub has-updates : (old new : BTreeSet (List ℕ)) (x : List ℕ) → Updates (slice_cmp nat_cmp) old new x true → (q : List ℕ) → has_name new.keys q ≡ (has_name old.keys q || same q x)
-has-updates old new x updates q = updates.0 q ∙ true_or (same x q) (has_name old.keys q) ∙ ap (λ b. has_name old.keys q || b) (same_swap x q)
+has-updates old new x updates q = grind (arith, updates.0 q, same_swap x q)
 
 -- ---- for the answers
 pub not_true : (a b : Bool) → a ≡ not b → a ≡ true → b ≡ false
-not_true a true e t = no_both a t e
-not_true a false e t = refl
+not_true a b e t = grind arith
 
 pub not_false : (a b : Bool) → a ≡ not b → a ≡ false → b ≡ true
-not_false a true e f = refl
-not_false a false e f = sym f ∙ e
+not_false a b e f = grind arith
 
 -- one name in an empty set
 pub begun : (old new : BTreeSet (List ℕ)) (x : List ℕ) → old.keys ≡ [] → Updates (slice_cmp nat_cmp) old new x true → (q : List ℕ) → has_name new.keys q ≡ same q x

@@ -1,39 +1,32 @@
 -- Items that are kept, each of which reads as a shelf.
-use Rattle.std.proofs.Common.{◌≡◌, ℕ, zero, suc, ◌<◌, ◌≤◌, true, List, [], ◌∷◌, ◌++◌, length, map, take, drop, get_or, set, refl, sym, ap, subst, ◌∙◌, arith, Result, Ok, Err, OnOk}
-use Rattle.std.proofs.lemmas.List.{map-set, get_or-map, map_push, length-map}
+use Rattle.std.proofs.Common.{◌≡◌, ℕ, suc, ◌+◌, ◌<◌, ◌≤◌, true, List, [], ◌∷◌, ◌++◌, length, map, take, drop, get_or, set, sym, ap, subst, ◌∙◌, arith, Ok, Err}
+use Rattle.std.proofs.{lemmas.List.{map-set, get_or-map, map_push, length-map}, lemmas.List.Edits.{get_or-insert_above}, lemmas.Simd.{map-map}}
 use Rattle.std.specs.{List.{AllByRecursion, insert}, List.Sorted.{IsStrictlySortedBy, IsBinarySearchResult}, Map.{remove_entry}, BTreeMap.{is_at, insert_entry}}
 use Rattle.std.specs.declared.cmp.Ordering.TheVariants.{Less}
 use Rattle.fb_parse.specs.Text.Order.{name_cmp}
 use Rattle.fb_library.specs.Shelves.{names_of, lasts_of, all_on, AreShelves, IsShelfFor, reaches}
 use Rattle.fb_library.proofs.EntryLemmas.{map_insert}
 use Rattle.fb_library.proofs.OnShelves.{Row, last_at, entries_at, with_entries, for_at, for_gap, for_reached, reached_for, passed, lasts_sorted, put_on, remove_on, shelves_put, shelves_removed}
-use Rattle.fb_library.proofs.Wider.{ended_at, all_ended, reaches_ended, shelves_ended, one_more, all_more, reaches_more, shelves_more, IsWider, in_two, all_in_two, reaches_in_two, shelves_in_two}
+use Rattle.fb_library.proofs.Wider.{ended_at, all_ended, reaches_ended, shelves_ended, one_more, all_more, reaches_more, shelves_more, IsExtended, IsWider, in_two, all_in_two, reaches_in_two, shelves_in_two}
 use Rattle.fb_library.proofs.Searches.{searched}
-
-pub always : {P E : Type 0} (r : Result (Unit {0}) E) → P → OnOk r P
-always (Ok u) p = p
-always (Err e) p = tt
 
 module _ {A V : Type 0} (row : A → Row V) where
   abbrev last : A → List ℕ
   last x = (row x).0
 
   lasts_named : (xs : List A) → lasts_of (map row xs) ≡ map last xs
-  lasts_named [] = refl
-  lasts_named (x ∷ xs) = ap (λ ns. last x ∷ ns) (lasts_named xs)
+  lasts_named xs = map-map _ _ xs
 
   sorted_by_last : (xs : List A) → AreShelves (map row xs) → IsStrictlySortedBy name_cmp (map last xs)
   sorted_by_last xs are = subst (IsStrictlySortedBy name_cmp) (lasts_named xs) (lasts_sorted (map row xs) are)
 
   pub shelf_found : (xs : List A) (n : List ℕ) (i : ℕ) → AreShelves (map row xs) → i < length xs → IsBinarySearchResult (λ x. name_cmp (row x).0 n) xs (Ok i) → IsShelfFor (lasts_of (map row xs)) n i
   shelf_found xs n i are lt is =
-      let found = (searched last xs n (Ok i) (sorted_by_last xs are) lt is).found in
-      subst (λ (names : List (List ℕ)). IsShelfFor names n i) (sym (lasts_named xs)) (for_at (map last xs) n i (sorted_by_last xs are) found)
+      rw (lasts_named xs) (for_at (map last xs) n i (sorted_by_last xs are) (searched last xs n (Ok i) (sorted_by_last xs are) lt is).found)
 
   pub shelf_missed : (xs : List A) (n : List ℕ) (i : ℕ) → AreShelves (map row xs) → i ≤ length xs → IsBinarySearchResult (λ x. name_cmp (row x).0 n) xs (Err i) → IsShelfFor (lasts_of (map row xs)) n i
   shelf_missed xs n i are le is =
-      let gap = (searched last xs n (Err i) (sorted_by_last xs are) le is).absent in
-      subst (λ (names : List (List ℕ)). IsShelfFor names n i) (sym (lasts_named xs)) (for_gap (map last xs) n i gap)
+      rw (lasts_named xs) (for_gap (map last xs) n i (searched last xs n (Err i) (sorted_by_last xs are) le is).absent)
 
   counted_lasts : (xs : List A) → length (lasts_of (map row xs)) ≡ length xs
   counted_lasts xs = length-map (map row xs) (λ r. r.0) ∙ length-map xs row
@@ -48,33 +41,26 @@ module _ {A V : Type 0} (row : A → Row V) where
   pub row_there : (xs : List A) (i : ℕ) (x : A) → i < length xs → x ≡ get_or xs i x → get_or (map row xs) i ([], []) ≡ row x
   row_there xs i x lt is = get_or-map row xs i x ([], []) lt ∙ ap row (sym is)
 
-  -- one item with other entries
-  changed : (xs : List A) (i : ℕ) (x : A) (news : List (List ℕ × V)) → (row x).0 ≡ last_at (map row xs) i → (row x).1 ≡ news → map row (set xs i x) ≡ with_entries (map row xs) i news
-  changed xs i x news last is = map-set row xs i x ∙ (λ j. set (map row xs) i (last j, is j))
-
   -- the item that stands there is `old`, and `now` takes its place
   module _ (xs : List A) (n : List ℕ) (i : ℕ) (old before now : A) (lt : i < length xs) (are : AreShelves (map row xs)) (is : IsShelfFor (lasts_of (map row xs)) n i)
       (stood : old ≡ get_or xs i old) (stood_again : before ≡ get_or xs i before) (last : (row now).0 ≡ (row before).0) where
     same_last : (row now).0 ≡ last_at (map row xs) i
     same_last = last ∙ sym (λ k. (row_there xs i before lt stood_again k).0)
 
-    rows_put : (v : V) → (row now).1 ≡ insert_entry name_cmp (row old).1 n v → map row (set xs i now) ≡ with_entries (map row xs) i (insert_entry name_cmp (entries_at (map row xs) i) n v)
-    rows_put v put = changed xs i now _ same_last (put ∙ (λ k. insert_entry name_cmp (sym (row_there xs i old lt stood) k).1 n v))
+    rows_edited : (edit : List (List ℕ × V) → List (List ℕ × V)) → (row now).1 ≡ edit (row old).1 → map row (set xs i now) ≡ with_entries (map row xs) i (edit (entries_at (map row xs) i))
+    rows_edited edit is_edited = map-set row xs i now ∙ (λ j. set (map row xs) i (same_last j, (is_edited ∙ (λ k. edit (sym (row_there xs i old lt stood) k).1)) j))
 
     pub shelf_put : (v : V) → (row now).1 ≡ insert_entry name_cmp (row old).1 n v → AreShelves (map row (set xs i now))
-    shelf_put v put = subst AreShelves (sym (rows_put v put)) (shelves_put (map row xs) n v i (omega (arith, lt, length-map xs row)) are is)
+    shelf_put v put = subst AreShelves (sym (rows_edited (λ es. insert_entry name_cmp es n v) put)) (shelves_put (map row xs) n v i (omega (arith, lt, length-map xs row)) are is)
 
     pub entries_put : (v : V) → (row now).1 ≡ insert_entry name_cmp (row old).1 n v → all_on (map row (set xs i now)) ≡ insert_entry name_cmp (all_on (map row xs)) n v
-    entries_put v put = ap all_on (rows_put v put) ∙ put_on (map row xs) n v i (omega (arith, lt, length-map xs row)) are is
-
-    rows_removed : (row now).1 ≡ remove_entry (is_at (name_cmp n)) (row old).1 → map row (set xs i now) ≡ with_entries (map row xs) i (remove_entry (is_at (name_cmp n)) (entries_at (map row xs) i))
-    rows_removed gone = changed xs i now _ same_last (gone ∙ (λ k. remove_entry (is_at (name_cmp n)) (sym (row_there xs i old lt stood) k).1))
+    entries_put v put = ap all_on (rows_edited (λ es. insert_entry name_cmp es n v) put) ∙ put_on (map row xs) n v i (omega (arith, lt, length-map xs row)) are is
 
     pub shelf_removed : (row now).1 ≡ remove_entry (is_at (name_cmp n)) (row old).1 → AreShelves (map row (set xs i now))
-    shelf_removed gone = subst AreShelves (sym (rows_removed gone)) (shelves_removed (map row xs) n i (omega (arith, lt, length-map xs row)) are is)
+    shelf_removed gone = subst AreShelves (sym (rows_edited (remove_entry (is_at (name_cmp n))) gone)) (shelves_removed (map row xs) n i (omega (arith, lt, length-map xs row)) are is)
 
     pub entries_removed : (row now).1 ≡ remove_entry (is_at (name_cmp n)) (row old).1 → all_on (map row (set xs i now)) ≡ remove_entry (is_at (name_cmp n)) (all_on (map row xs))
-    entries_removed gone = ap all_on (rows_removed gone) ∙ remove_on (map row xs) n i (omega (arith, lt, length-map xs row)) are is
+    entries_removed gone = ap all_on (rows_edited (remove_entry (is_at (name_cmp n))) gone) ∙ remove_on (map row xs) n i (omega (arith, lt, length-map xs row)) are is
 
   -- ---- room for a name
 
@@ -89,34 +75,24 @@ module _ {A V : Type 0} (row : A → Row V) where
           let there = row_there xs i before (omega (arith, end)) stood in
           map-set row xs i now ∙ (λ j. set (map row xs) i (last j, (same ∙ sym (λ k. (there k).1)) j))
 
-      pub ended_kept : AreShelves (map row (set xs i now))
-      ended_kept = subst AreShelves (sym rows_ended) (shelves_ended (map row xs) i n (omega (arith, end, length-map xs row)) are all_past)
-
-      pub ended_same : all_on (map row (set xs i now)) ≡ all_on (map row xs)
-      ended_same = ap all_on rows_ended ∙ all_ended (map row xs) i n
-
-      pub ended_room : reaches (lasts_of (map row (set xs i now))) n ≡ true
-      ended_room = (λ j. reaches (lasts_of (rows_ended j)) n) ∙ reaches_ended (map row xs) i n (omega (arith, end, length-map xs row))
+      pub ended : IsExtended n (map row xs) (map row (set xs i now))
+      ended = record {
+        order = subst AreShelves (sym rows_ended) (shelves_ended (map row xs) i n (omega (arith, end, length-map xs row)) are all_past);
+        same = ap all_on rows_ended ∙ all_ended (map row xs) i n;
+        room = (λ j. reaches (lasts_of (rows_ended j)) n) ∙ reaches_ended (map row xs) i n (omega (arith, end, length-map xs row));
+      }
 
     -- an empty item more, which ends at the name
     module _ (more : List A) (x : A) (pushed : more ≡ xs ++ x ∷ []) (last : (row x).0 ≡ n) (empty : (row x).1 ≡ []) where
       rows_more : map row more ≡ one_more (map row xs) n
       rows_more = ap (map row) pushed ∙ map_push row xs x ∙ (λ j. map row xs ++ (last j, empty j) ∷ [])
 
-      pub more_kept : AreShelves (map row more)
-      more_kept = subst AreShelves (sym rows_more) (shelves_more (map row xs) n are all_past)
-
-      pub more_same : all_on (map row more) ≡ all_on (map row xs)
-      more_same = ap all_on rows_more ∙ all_more (map row xs) n
-
-      pub more_room : reaches (lasts_of (map row more)) n ≡ true
-      more_room = (λ j. reaches (lasts_of (rows_more j)) n) ∙ reaches_more (map row xs) n
-
-  insert_there : (xs : List A) (i : ℕ) (x d : A) → get_or (insert xs i x) (suc i) d ≡ get_or xs i d
-  insert_there [] zero x d = refl
-  insert_there [] (suc i) x d = refl
-  insert_there (y ∷ xs) zero x d = refl
-  insert_there (y ∷ xs) (suc i) x d = insert_there xs i x d
+      pub more_shelves : IsExtended n (map row xs) (map row more)
+      more_shelves = record {
+        order = subst AreShelves (sym rows_more) (shelves_more (map row xs) n are all_past);
+        same = ap all_on rows_more ∙ all_more (map row xs) n;
+        room = (λ j. reaches (lasts_of (rows_more j)) n) ∙ reaches_more (map row xs) n;
+      }
 
   -- an item in two: `low` has the entries of `old` up to the k-th and ends at its name, and `high` has the others
   module _ (xs more : List A) (i j k : ℕ) (old low before high : A) (lt : i < length xs) (next : j ≡ suc i) (some : suc k < length (row old).1)
@@ -127,7 +103,8 @@ module _ {A V : Type 0} (row : A → Row V) where
 
     high_last : (row high).0 ≡ last_at (map row xs) i
     high_last =
-        last ∙ ap (λ (x : A). (row x).0) (stood_again ∙ (λ m. get_or (inserted m) (next m) before) ∙ insert_there xs i low before) ∙ sym (λ m. (get_or-map row xs i before ([], []) lt m).0)
+        let at : j ≡ i + 1 = omega arith in
+        last ∙ ap (λ (x : A). (row x).0) (stood_again ∙ (λ m. get_or (inserted m) (at m) before) ∙ get_or-insert_above xs i low before i (omega arith) (omega arith)) ∙ sym (λ m. (get_or-map row xs i before ([], []) lt m).0)
 
     rows_split : map row (set more j high) ≡ in_two (map row xs) i k
     rows_split =

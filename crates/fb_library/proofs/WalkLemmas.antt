@@ -1,5 +1,5 @@
 -- The walk from name to name: what it keeps.
-use Rattle.std.proofs.Common.{◌≡◌, ℕ, ◌+◌, ◌<◌, Bool, true, false, cond, ◌||◌, List, [], ◌∷◌, ◌++◌, length, Option, Some, None, refl, sym, ap, subst, ◌∙◌, arith}
+use Rattle.std.proofs.Common.{◌≡◌, ℕ, ◌+◌, ◌<◌, true, false, List, [], ◌∷◌, ◌++◌, length, Option, None, refl, sym, ap, subst, ◌∙◌, arith}
 use Rattle.std.proofs.{lemmas.List.{append-nil}, lemmas.List.Concat.{flat_map-append}, lemmas.List.Elements.{Contains-append_left, Contains-append_right}}
 use Rattle.std.specs.{List.{Contains, flat_map}, Option.{option_and_then}, Ordering.{eq_by_cmp}, FinMap.{entries, get-entries, find}}
 use Rattle.fb_parse.specs.{Text.Order.{name_cmp}, Tree.Tree.{DeclTree}}
@@ -7,7 +7,7 @@ use Rattle.fb_parse.proofs.Text.Tests.{by_bool, or_cases, or_false, no_both}
 use Rattle.fb_library.specs.{View.{Sources, tree_of, tree_at}, Near.{in_all_trees}, Opened.{Leads, itself, through, LedFrom, IsWithin}}
 use Rattle.fb_library.specs.Seen.{has_name, unseen, Opens}
 use Rattle.fb_library.proofs.{SeenLemmas.{or_left, or_right, same, same_is, same_self}, Opening.{leads_more}}
-pub use Rattle.fb_library.proofs.SeenLemmas.{Contains-has, has-Contains, has-push, last_named, Opens-none, Opens-new, Opens-old, Opens-both, has-updates, not_true, not_false, begun, one_pushed, longer}
+pub use Rattle.fb_library.proofs.SeenLemmas.{Contains-has, has-Contains, has-push, Opens-none, Opens-new, Opens-old, Opens-both, has-updates, not_true, not_false, begun, one_pushed, longer}
 
 -- ---- the whole walk
 
@@ -31,22 +31,13 @@ module _ (next : List ℕ → List (List ℕ)) (starts : List (List ℕ)) where
     pub IsWalk-step : IsWalk next starts seen (pending ++ name ∷ []) → Opens (next name) seen pending seen' pending' → IsWalk next starts seen' pending'
     IsWalk-step walk opens =
         let named : has_name seen name ≡ true = walk.within name (has-push pending name name ∙ or_right (has_name pending name) (same name name) (same_self name)) in
-        let grows : (q : List ℕ) → has_name seen q ≡ true → has_name seen' q ≡ true = λ q h. opens.marks q ∙ or_left (has_name seen q) _ h in
         record {
-          start = λ q h. grows q (walk.start q h);
+          start = λ q h. opens.marks q ∙ or_left (has_name seen q) _ (walk.start q h);
           sound = λ q h. or_cases (has_name seen q) (has_name (next name) q) (sym (opens.marks q) ∙ h)
               (walk.sound q)
               (λ m. let from = walk.sound name named in (from.0, from.1, leads_more from.2 (Contains-has q (next name) m)));
-          within = λ q h. or_cases (has_name pending q) (has_name (next name) q) (opens.only q h)
-              (λ o. grows q (walk.within q (has-push pending name q ∙ or_left (has_name pending q) (same q name) o)))
-              (λ m. opens.marks q ∙ or_right (has_name seen q) _ m);
-          closed = λ q w s o m. by_bool (has_name seen q)
-              (λ t. by_bool (same q name)
-              (λ is. opens.marks w ∙ or_right (has_name seen w) _ (sym (ap (λ n. has_name (next n) w) (same_is q name is)) ∙ m))
-              (λ other. by_bool (has_name pending q)
-              (λ p. no_both (has_name pending' q) (opens.keeps q p) o)
-              (λ p. grows w (walk.closed q w t (has-push pending name q ∙ ap (λ b. b || same q name) p ∙ other) m))))
-              (λ f. no_both (has_name pending' q) (opens.opened q s f) o);
+          within = λ q h. grind (arith, opens.only q h, opens.marks q, walk.within q, has-push pending name q);
+          closed = λ q w s o m. grind (arith, opens.marks q, opens.marks w, opens.keeps q, opens.opened q s, walk.closed q w, has-push pending name q, same_is q name);
         }
 
   reached : (seen : List (List ℕ)) → IsWalk next starts seen [] → {u v : List ℕ} → has_name seen u ≡ true → Leads next u v → has_name seen v ≡ true
@@ -83,11 +74,10 @@ opens_more next prefix now x seen pending seen' pending' is before here =
 module _ (sort : Option DeclTree → List (List ℕ)) (nothing : sort None ≡ []) where
   found_in : (es : List (List ℕ × List ℕ)) (n q : List ℕ) → Contains (sort (option_and_then tree_of (find name_cmp n es))) q → Contains (flat_map (λ (e : List ℕ × List ℕ). sort (tree_of e.1)) es) q
   found_in [] n q h = subst (λ l. Contains l q) nothing h
-  found_in (e ∷ es) n q h = by (eq_by_cmp name_cmp n e.0) (found_in es n q) h
-    where
-      by : (b : Bool) → (Contains (sort (option_and_then tree_of (find name_cmp n es))) q → Contains (flat_map (λ (e : List ℕ × List ℕ). sort (tree_of e.1)) es) q) → Contains (sort (option_and_then tree_of (cond b (Some e.1) (find name_cmp n es)))) q → Contains (sort (tree_of e.1) ++ flat_map (λ (e : List ℕ × List ℕ). sort (tree_of e.1)) es) q
-      by true more c = Contains-append_left (sort (tree_of e.1)) (flat_map (λ (e : List ℕ × List ℕ). sort (tree_of e.1)) es) q c
-      by false more c = Contains-append_right (sort (tree_of e.1)) (flat_map (λ (e : List ℕ × List ℕ). sort (tree_of e.1)) es) q (more c)
+  found_in (e ∷ es) n q h =
+      by_bool (eq_by_cmp name_cmp n e.0)
+      (λ t. Contains-append_left (sort (tree_of e.1)) _ q (rw t at h))
+      (λ f. Contains-append_right (sort (tree_of e.1)) _ q (found_in es n q (rw f at h)))
 
   pub mentioned_somewhere : (sources : Sources) (n q : List ℕ) → Contains (sort (tree_at sources n)) q → Contains (in_all_trees sort sources) q
   mentioned_somewhere sources n q h = found_in (entries sources) n q (subst (λ o. Contains (sort (option_and_then tree_of o)) q) (get-entries sources n) h)

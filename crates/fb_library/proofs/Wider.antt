@@ -1,16 +1,24 @@
 -- Shelves that make room for a name have the same entries.
-use Rattle.std.proofs.Common.{◌≡◌, ℕ, zero, suc, ◌<◌, true, false, ◌||◌, List, [], ◌∷◌, ◌++◌, length, take, drop, get_or, set, refl, sym, ap, subst, ◌∙◌, arith, append_assoc}
-use Rattle.std.proofs.{lemmas.Bool.{or_left, or_right}, lemmas.List.{take-append-drop}}
+use Rattle.std.proofs.Common.{◌≡◌, ℕ, zero, suc, ◌<◌, true, false, ◌||◌, List, [], ◌∷◌, ◌++◌, length, take, drop, get_or, set, refl, sym, ap, ◌∙◌, arith, append_assoc}
+use Rattle.std.proofs.{lemmas.Bool.{or_left, or_right}, lemmas.List.{take-append-drop, length-map}, lemmas.List.Elements.{All-from_recursion, All-get_or}}
+use Rattle.std.proofs.lemmas.Map.Keys.{Less-from_sorted}
 use Rattle.std.specs.{List.{AllByRecursion, insert}, List.Sorted.{IsStrictlySortedBy}, Ordering.{is_le}, declared.cmp.Ordering.TheVariants.{Less}}
 use Rattle.fb_parse.specs.Text.Order.{name_cmp}
+use Rattle.fb_parse.proofs.Text.Tests.{or_cases}
 use Rattle.fb_library.specs.Shelves.{names_of, lasts_of, all_on, AreShelves, reaches}
-use Rattle.fb_library.proofs.{Names.{name_total}, OnShelves.{Row, last_at, entries_at, le_lt, lt_le, le_self, each, or_wider, all_append, all_left, all_right}}
+use Rattle.fb_library.proofs.{Names.{name_total}, OnShelves.{Row, last_at, entries_at, le_lt, lt_le, le_self, each, all_append, all_left, all_right, shelf_before}}
 
 module _ {V : Type 0} where
   all_lasts : (P : List ℕ → Type 0) (ss : List (Row V)) (i : ℕ) (s : Row V) → AllByRecursion P (lasts_of ss) → P s.0 → AllByRecursion P (lasts_of (set ss i s))
   all_lasts P [] i s all p = tt
   all_lasts P (t ∷ ss) zero s all p = (p, all.1)
   all_lasts P (t ∷ ss) (suc i) s all p = (all.0, all_lasts P ss i s all.1 p)
+
+  -- other shelves with the same entries, which reach the name
+  pub record IsExtended (n : List ℕ) (old news : List (Row V)) : Type 0 where
+    pub order : AreShelves news
+    pub same : all_on news ≡ all_on old
+    pub room : reaches (lasts_of news) n ≡ true
 
   -- ---- a last shelf that ends at a greater name
 
@@ -40,12 +48,7 @@ module _ {V : Type 0} where
   )
   shelves_ended (s ∷ t ∷ ss) zero n end are past = absurd (omega (arith, end))
   shelves_ended (s ∷ ss) (suc i) n end are past = (
-    record {
-      sorted = are.0.sorted;
-      within = are.0.within;
-      before = subst (λ (es : List (List ℕ × V)). AllByRecursion (λ m. name_cmp s.0 m ≡ Less) (names_of es)) (sym (all_ended ss i n)) are.0.before;
-      rising = all_lasts (λ m. name_cmp s.0 m ≡ Less) ss i (n, entries_at ss i) are.0.rising past.0;
-    },
+    shelf_before are.0 (rw (all_ended ss i n) are.0.before) (all_lasts (λ m. name_cmp s.0 m ≡ Less) ss i (n, entries_at ss i) are.0.rising past.0),
     shelves_ended ss i n (omega (arith, end)) are.1 past.1,
   )
 
@@ -70,12 +73,7 @@ module _ {V : Type 0} where
   unfolding IsStrictlySortedBy
   shelves_more [] n are past = (record { sorted = tt; within = tt; before = tt; rising = tt }, tt)
   shelves_more (s ∷ ss) n are past = (
-    record {
-      sorted = are.0.sorted;
-      within = are.0.within;
-      before = subst (λ (es : List (List ℕ × V)). AllByRecursion (λ m. name_cmp s.0 m ≡ Less) (names_of es)) (sym (all_more ss n)) are.0.before;
-      rising = rising_more (λ m. name_cmp s.0 m ≡ Less) ss n are.0.rising past.0;
-    },
+    shelf_before are.0 (rw (all_more ss n) are.0.before) (rising_more (λ m. name_cmp s.0 m ≡ Less) ss n are.0.rising past.0),
     shelves_more ss n are.1 past.1,
   )
 
@@ -85,29 +83,24 @@ module _ {V : Type 0} where
   name_at es k = get_or (names_of es) k []
 
   taken : (P : List ℕ → Type 0) (es : List (List ℕ × V)) (k : ℕ) → AllByRecursion P (names_of es) → AllByRecursion P (names_of (take k es))
-  taken P es k all = all_left P (take k es) (drop k es) (subst (λ (l : List (List ℕ × V)). AllByRecursion P (names_of l)) (sym (take-append-drop k es)) all)
+  taken P es k all = all_left P (take k es) (drop k es) (rw (take-append-drop k es) all)
 
   dropped : (P : List ℕ → Type 0) (es : List (List ℕ × V)) (k : ℕ) → AllByRecursion P (names_of es) → AllByRecursion P (names_of (drop k es))
-  dropped P es k all = all_right P (take k es) (drop k es) (subst (λ (l : List (List ℕ × V)). AllByRecursion P (names_of l)) (sym (take-append-drop k es)) all)
+  dropped P es k all = all_right P (take k es) (drop k es) (rw (take-append-drop k es) all)
 
   named : (P : List ℕ → Type 0) (es : List (List ℕ × V)) (k : ℕ) → k < length es → AllByRecursion P (names_of es) → P (name_at es k)
-  named P [] k lt all = absurd (omega (arith, lt))
-  named P (e ∷ es) zero lt all = all.0
-  named P (e ∷ es) (suc k) lt all = named P es k (omega (arith, lt)) all.1
+  named P es k lt all = All-get_or P (names_of es) k [] (omega (arith, lt, length-map es (λ e. e.0))) (All-from_recursion P (names_of es) all)
+
+  sorted_parts : (xs ys : List (List ℕ × V)) → IsStrictlySortedBy name_cmp (names_of (xs ++ ys)) → IsStrictlySortedBy name_cmp (names_of xs) × IsStrictlySortedBy name_cmp (names_of ys)
+  unfolding IsStrictlySortedBy
+  sorted_parts [] ys s = (tt, s)
+  sorted_parts (x ∷ xs) ys s = let rest = sorted_parts xs ys s.1 in ((all_left (λ m. name_cmp x.0 m ≡ Less) xs ys s.0, rest.0), rest.1)
 
   pub sorted_low : (es : List (List ℕ × V)) (k : ℕ) → IsStrictlySortedBy name_cmp (names_of es) → IsStrictlySortedBy name_cmp (names_of (take k es))
-  unfolding IsStrictlySortedBy
-  sorted_low [] zero s = tt
-  sorted_low [] (suc k) s = tt
-  sorted_low (e ∷ es) zero s = tt
-  sorted_low (e ∷ es) (suc k) s = (taken (λ m. name_cmp e.0 m ≡ Less) es k s.0, sorted_low es k s.1)
+  sorted_low es k s = (sorted_parts (take k es) (drop k es) (rw (take-append-drop k es) s)).0
 
   pub sorted_high : (es : List (List ℕ × V)) (k : ℕ) → IsStrictlySortedBy name_cmp (names_of es) → IsStrictlySortedBy name_cmp (names_of (drop k es))
-  unfolding IsStrictlySortedBy
-  sorted_high [] zero s = s
-  sorted_high [] (suc k) s = s
-  sorted_high (e ∷ es) zero s = s
-  sorted_high (e ∷ es) (suc k) s = sorted_high es k s.1
+  sorted_high es k s = (sorted_parts (take k es) (drop k es) (rw (take-append-drop k es) s)).1
 
   -- the names up to k are not greater than the k-th, and the others are
   up_to : (es : List (List ℕ × V)) (k : ℕ) → k < length es → IsStrictlySortedBy name_cmp (names_of es) → AllByRecursion (λ m. is_le (name_cmp m (name_at es k)) ≡ true) (names_of (take (suc k) es))
@@ -122,16 +115,11 @@ module _ {V : Type 0} where
   from_on (e ∷ es) zero lt s = s.0
   from_on (e ∷ es) (suc k) lt s = from_on es k (omega (arith, lt)) s.1
 
-  next_of : (P : List ℕ → Type 0) (es : List (List ℕ × V)) (k : ℕ) → suc k < length es → AllByRecursion P (names_of (drop (suc k) es)) → P (name_at es (suc k))
-  next_of P [] k lt all = absurd (omega (arith, lt))
-  next_of P (e ∷ []) k lt all = absurd (omega (arith, lt))
-  next_of P (e ∷ f ∷ es) zero lt all = all.0
-  next_of P (e ∷ f ∷ es) (suc k) lt all = next_of P (f ∷ es) k (omega (arith, lt)) all
-
   -- where a shelf goes on past its k-th name, that name is less than its last
   pub less_than_last : (es : List (List ℕ × V)) (last : List ℕ) (k : ℕ) → suc k < length es → IsStrictlySortedBy name_cmp (names_of es) → AllByRecursion (λ m. is_le (name_cmp m last) ≡ true) (names_of es) → name_cmp (name_at es k) last ≡ Less
   less_than_last es last k lt sorted within =
-      lt_le (name_at es k) (name_at es (suc k)) last (next_of (λ m. name_cmp (name_at es k) m ≡ Less) es k lt (from_on es k (omega (arith, lt)) sorted)) (named (λ m. is_le (name_cmp m last) ≡ true) es (suc k) lt within)
+      lt_le (name_at es k) (name_at es (suc k)) last (Less-from_sorted name_cmp (names_of es) k (suc k) [] sorted (omega arith) (omega (arith, lt, length-map es (λ e. e.0))))
+      (named (λ m. is_le (name_cmp m last) ≡ true) es (suc k) lt within)
 
   -- other shelves with the same entries, which reach as far
   pub record IsWider (old news : List (Row V)) : Type 0 where
@@ -151,7 +139,7 @@ module _ {V : Type 0} where
   reaches_in_two [] i k n lt e = absurd (omega (arith, lt))
   reaches_in_two (s ∷ ss) zero k n lt e = or_right (is_le (name_cmp n (name_at s.1 k))) (is_le (name_cmp n s.0) || reaches (lasts_of ss) n) e
   reaches_in_two (s ∷ ss) (suc i) k n lt e =
-      or_wider (is_le (name_cmp n s.0)) (reaches (lasts_of ss) n) (reaches (lasts_of (in_two ss i k)) n) (reaches_in_two ss i k n (omega (arith, lt))) e
+      or_cases (is_le (name_cmp n s.0)) (reaches (lasts_of ss) n) e (λ l. or_left (is_le (name_cmp n s.0)) _ l) (λ r. or_right (is_le (name_cmp n s.0)) _ (reaches_in_two ss i k n (omega (arith, lt)) r))
 
   rising_in_two : (P : List ℕ → Type 0) (ss : List (Row V)) (i k : ℕ) → i < length ss → k < length (entries_at ss i) → AllByRecursion P (lasts_of ss) → AllByRecursion P (names_of (all_on ss)) → AllByRecursion P (lasts_of (in_two ss i k))
   rising_in_two P [] i k lt some lasts all = absurd (omega (arith, lt))
@@ -161,13 +149,13 @@ module _ {V : Type 0} where
   pub shelves_in_two : (ss : List (Row V)) (i k : ℕ) → i < length ss → suc k < length (entries_at ss i) → AreShelves ss → AreShelves (in_two ss i k)
   shelves_in_two [] i k lt some are = absurd (omega (arith, lt))
   shelves_in_two (s ∷ ss) zero k lt some are =
-      let less = less_than_last s.1 s.0 k some are.0.sorted are.0.within in (
+      let less = less_than_last s.1 s.0 k some are.0.sorted are.0.within in
+      let above = each (λ m. name_cmp s.0 m ≡ Less) (λ m. name_cmp (name_at s.1 k) m ≡ Less) (λ m more. name_total.trans (name_at s.1 k) s.0 m less more) in (
         record {
           sorted = sorted_low s.1 (suc k) are.0.sorted;
           within = up_to s.1 k (omega (arith, some)) are.0.sorted;
-          before = all_append (λ m. name_cmp (name_at s.1 k) m ≡ Less) (drop (suc k) s.1) (all_on ss) (from_on s.1 k (omega (arith, some)) are.0.sorted)
-              (each (λ m. name_cmp s.0 m ≡ Less) (λ m. name_cmp (name_at s.1 k) m ≡ Less) (λ m lt. name_total.trans (name_at s.1 k) s.0 m less lt) (names_of (all_on ss)) are.0.before);
-          rising = (less, each (λ m. name_cmp s.0 m ≡ Less) (λ m. name_cmp (name_at s.1 k) m ≡ Less) (λ m lt. name_total.trans (name_at s.1 k) s.0 m less lt) (lasts_of ss) are.0.rising);
+          before = all_append (λ m. name_cmp (name_at s.1 k) m ≡ Less) (drop (suc k) s.1) (all_on ss) (from_on s.1 k (omega (arith, some)) are.0.sorted) (above (names_of (all_on ss)) are.0.before);
+          rising = (less, above (lasts_of ss) are.0.rising);
         },
         (
           record {
@@ -180,11 +168,7 @@ module _ {V : Type 0} where
         ),
       )
   shelves_in_two (s ∷ ss) (suc i) k lt some are = (
-    record {
-      sorted = are.0.sorted;
-      within = are.0.within;
-      before = subst (λ (es : List (List ℕ × V)). AllByRecursion (λ m. name_cmp s.0 m ≡ Less) (names_of es)) (sym (all_in_two ss i k (omega (arith, lt)))) are.0.before;
-      rising = rising_in_two (λ m. name_cmp s.0 m ≡ Less) ss i k (omega (arith, lt)) (omega (arith, some)) are.0.rising are.0.before;
-    },
+    shelf_before are.0 (rw (all_in_two ss i k (omega (arith, lt))) are.0.before)
+        (rising_in_two (λ m. name_cmp s.0 m ≡ Less) ss i k (omega (arith, lt)) (omega (arith, some)) are.0.rising are.0.before),
     shelves_in_two ss i k (omega (arith, lt)) some are.1,
   )

@@ -1,109 +1,56 @@
 -- The token at the front of a text, by its first byte.
-use Rattle.std.proofs.Common.{◌≡◌, ℕ, zero, suc, ◌+◌, ◌-◌, ◌<◌, ◌≤◌, Bool, true, false, not, cond, ◌&&◌, List, [], ◌∷◌, length, take, drop, sym, refl, ap, ◌∙◌, arith, length-drop, Some, None, ⊎_elim}
+use Rattle.std.proofs.Common.{◌≡◌, ℕ, zero, suc, ◌+◌, ◌-◌, ◌<◌, ◌≤◌, Bool, true, false, not, cond, ◌&&◌, List, [], ◌∷◌, length, take, refl, ap, ◌∙◌, arith, length-drop, Some, None, ⊎_elim}
 use Rattle.std.proofs.lemmas.Bool.Decides.{nat_tests}
-use Rattle.std.proofs.lemmas.Bool.{cond-true, cond-false, and_left, and_parts, or_cases, eqb-true, cases_lt, false_from_ne_true}
+use Rattle.std.proofs.lemmas.Bool.{cond-true, cond-false, and_left, cases_lt}
 use Rattle.std.proofs.lemmas.List.Sums.{prefix_len-le-length}
 use Rattle.std.specs.{Prelude.{◌==◌, codes}, List.{prefix_len, list_all, list_any}, Char.{is_ascii_digit}, Cmp.Lexicographic.{pointwise}}
 use Rattle.fb_text.specs.{Bytes.{is_word_start, is_word_byte, is_quote, first}, Words.{is_word}}
 use Rattle.fb_text.specs.Forms.{is_number, is_typed, is_typed_tail, is_date, is_real, leading_word, after_word, is_string, is_string_rest, is_symbol, is_symbol_byte, is_symbol_pair, form_of}
-use Rattle.fb_text.specs.Scan.{number_len, typed_len, through_quote, through_len, string_len, symbol_len}
-use Rattle.fb_text.specs.{Tokens.{of_kind, longest, token_or_char, token_at, char_len}, declared.token.TokenKind.{TokenKind}}
+use Rattle.fb_text.specs.Scan.{number_len, typed_len, string_len, symbol_len}
+use Rattle.fb_text.specs.{Tokens.{longest, token_or_char, token_at, char_len}, declared.token.TokenKind.{TokenKind}}
 use Rattle.fb_text.specs.{declared.token.TokenKind.TheVariants.{Word, Number, Typed, String, Symbol, Other}, declared.scan.Piece.TheVariants.{Found}}
-use Rattle.fb_text.proofs.{NameLemmas.{is_word_byte-start}, Longest.{by_test}}
+use Rattle.fb_text.proofs.NameLemmas.{is_word_byte-start}
 use Rattle.fb_text.proofs.LongestForms.{first-take, prefix_len-pos, Takes-number, word-take, word-take-past, typed-take, Takes-typed-tail, Takes-string, Takes-symbol}
 
 -- classes of first bytes
 abbrev is_plain : ℕ → Bool
 is_plain b = not (is_word_start b) && (not (is_ascii_digit b) && not (is_quote b))
 
-letter-digit : (b : ℕ) → is_word_start b ≡ true → is_ascii_digit b ≡ false
-unfolding is_word_start
-letter-digit b h = grind (arith, nat_tests)
-
-letter-quote : (b : ℕ) → is_word_start b ≡ true → is_quote b ≡ false
+letter-only : (b : ℕ) → is_word_start b ≡ true → (is_ascii_digit b ≡ false) × (is_quote b ≡ false)
 unfolding is_word_start is_quote
-letter-quote b h = grind (arith, nat_tests)
+letter-only b h = grind (arith, nat_tests)
 
-digit-letter : (b : ℕ) → is_ascii_digit b ≡ true → is_word_start b ≡ false
-unfolding is_word_start
-digit-letter b h = grind (arith, nat_tests)
-
-digit-quote : (b : ℕ) → is_ascii_digit b ≡ true → is_quote b ≡ false
-unfolding is_quote
-digit-quote b h = grind (arith, nat_tests)
-
-quote-plain : (b : ℕ) → is_quote b ≡ true → is_plain b ≡ false
-quote-plain b h = ap (λ t. not (is_word_start b) && (not (is_ascii_digit b) && not t)) h ∙ last (not (is_word_start b)) (not (is_ascii_digit b))
-  where
-    last : (x y : Bool) → (x && (y && false)) ≡ false
-    last true true = refl
-    last true false = refl
-    last false y = refl
-
-letter-plain : (b : ℕ) → is_word_start b ≡ true → is_plain b ≡ false
-letter-plain b h = ap (λ t. not t && (not (is_ascii_digit b) && not (is_quote b))) h
-
-digit-plain : (b : ℕ) → is_ascii_digit b ≡ true → is_plain b ≡ false
-digit-plain b h = ap (λ t. not (is_word_start b) && (not t && not (is_quote b))) h ∙ last (not (is_word_start b))
-  where
-    last : (x : Bool) → (x && false) ≡ false
-    last true = refl
-    last false = refl
+digit-only : (b : ℕ) → is_ascii_digit b ≡ true → (is_word_start b ≡ false) × (is_quote b ≡ false)
+unfolding is_word_start is_quote
+digit-only b h = grind (arith, nat_tests)
 
 -- what holds of each byte of a list holds of one that equals one of them
 pub any-byte : (p : ℕ → Bool) (xs : List ℕ) (b : ℕ) → list_any (λ s. s == b) xs ≡ true → list_all p xs ≡ true → p b ≡ true
 any-byte p [] b h k = cc
-any-byte p (x ∷ xs) b h k =
-    ⊎_elim (λ e. sym (ap p (eqb-true x b e)) ∙ (and_parts (p x) (list_all p xs) k).0) (λ e. any-byte p xs b e (and_parts (p x) (list_all p xs) k).1) (or_cases (x == b) (list_any (λ s. s == b) xs) h)
+any-byte p (x ∷ xs) b h k = grind (arith, nat_tests, any-byte p xs b)
 
-pub any-pair : (p : ℕ → Bool) (xs : List (List ℕ)) (a b : ℕ) → list_any (λ s. pointwise (λ x y. x == y) s (a ∷ b ∷ [])) xs ≡ true → list_all (λ s. p (first s)) xs ≡ true → p a ≡ true
-any-pair p [] a b h k = cc
-any-pair p ([] ∷ xs) a b h k = any-pair p xs a b h (and_parts (p 0) (list_all (λ s. p (first s)) xs) k).1
-any-pair p ((x ∷ s) ∷ xs) a b h k =
-    let parts = and_parts (p x) (list_all (λ t. p (first t)) xs) k in
-    ⊎_elim
-    (λ e. sym (ap p (eqb-true x a (and_parts (x == a) (pointwise (λ u v. u == v) s (b ∷ [])) e).0)) ∙ parts.0)
-    (λ e. any-pair p xs a b e parts.1)
-    (or_cases (x == a && pointwise (λ u v. u == v) s (b ∷ [])) (list_any (λ t. pointwise (λ u v. u == v) t (a ∷ b ∷ [])) xs) h)
-
-pub any-second : (p : ℕ → Bool) (xs : List (List ℕ)) (a b : ℕ) → list_any (λ s. pointwise (λ x y. x == y) s (a ∷ b ∷ [])) xs ≡ true → list_all (λ s. p (first (drop 1 s))) xs ≡ true → p b ≡ true
-any-second p [] a b h k = cc
-any-second p ([] ∷ xs) a b h k = any-second p xs a b h (and_parts (p 0) (list_all (λ s. p (first (drop 1 s))) xs) k).1
-any-second p ((x ∷ []) ∷ xs) a b h k =
-    ⊎_elim
-    (λ e. let never = (and_parts (x == a) false e).1 in cc)
-    (λ e. any-second p xs a b e (and_parts (p 0) (list_all (λ s. p (first (drop 1 s))) xs) k).1)
-    (or_cases (x == a && false) (list_any (λ t. pointwise (λ u v. u == v) t (a ∷ b ∷ [])) xs) h)
-any-second p ((x ∷ y ∷ s) ∷ xs) a b h k =
-    let parts = and_parts (p y) (list_all (λ t. p (first (drop 1 t))) xs) k in
-    let rest = pointwise (λ u v. u == v) s [] in
-    ⊎_elim
-    (λ e. sym (ap p (eqb-true y b (and_parts (y == b) rest (and_parts (x == a) (y == b && rest) e).1).0)) ∙ parts.0)
-    (λ e. any-second p xs a b e parts.1)
-    (or_cases (x == a && (y == b && rest)) (list_any (λ t. pointwise (λ u v. u == v) t (a ∷ b ∷ [])) xs) h)
+-- and of a list of two
+pub any-pair : (q : List ℕ → Bool) (xs : List (List ℕ)) (a b : ℕ) → list_any (λ s. pointwise (λ x y. x == y) s (a ∷ b ∷ [])) xs ≡ true → list_all q xs ≡ true → q (a ∷ b ∷ []) ≡ true
+any-pair q [] a b h k = cc
+any-pair q ([] ∷ xs) a b h k = grind (arith, any-pair q xs a b)
+any-pair q ((x ∷ []) ∷ xs) a b h k = grind (arith, any-pair q xs a b)
+any-pair q ((x ∷ y ∷ []) ∷ xs) a b h k = grind (arith, nat_tests, any-pair q xs a b)
+any-pair q ((x ∷ y ∷ z ∷ s) ∷ xs) a b h k = grind (arith, any-pair q xs a b)
 
 symbol-plain : (bs : List ℕ) → is_symbol bs ≡ true → is_plain (first bs) ≡ true
 unfolding is_symbol is_symbol_byte is_symbol_pair is_word_start is_quote
 symbol-plain [] h = cc
 symbol-plain (a ∷ []) h = any-byte is_plain (codes ";:,.()[]=<>+-*/&") a h refl
-symbol-plain (a ∷ b ∷ []) h = any-pair is_plain (codes ":=" ∷ codes "<=" ∷ codes ">=" ∷ codes "<>" ∷ codes "**" ∷ codes "->" ∷ codes ".." ∷ []) a b h refl
+symbol-plain (a ∷ b ∷ []) h = any-pair (λ s. is_plain (first s)) (codes ":=" ∷ codes "<=" ∷ codes ">=" ∷ codes "<>" ∷ codes "**" ∷ codes "->" ∷ codes ".." ∷ []) a b h refl
 symbol-plain (a ∷ b ∷ c ∷ cs) h = cc
 
 not-symbol : (bs : List ℕ) → is_plain (first bs) ≡ false → is_symbol bs ≡ false
-not-symbol bs h = false_from_ne_true (is_symbol bs) (λ e. let both = sym h ∙ symbol-plain bs e in cc)
+not-symbol bs h = grind (arith, symbol-plain bs)
 
 not-word : (bs : List ℕ) → is_word_start (first bs) ≡ false → is_word bs ≡ false
 unfolding is_word
 not-word [] h = refl
 not-word (b ∷ bs) h = and_left (is_word_start b) (list_all is_word_byte bs) h
-
-not-number : (bs : List ℕ) → is_ascii_digit (first bs) ≡ false → is_number bs ≡ false
-unfolding is_number
-not-number bs h = and_left (is_ascii_digit (first bs)) _ h
-
-not-typed : (bs : List ℕ) → is_word_start (first bs) ≡ false → is_typed bs ≡ false
-unfolding is_typed
-not-typed bs h = and_left (is_word_start (first bs)) _ h
 
 not-string : (bs : List ℕ) → is_quote (first bs) ≡ false → is_string bs ≡ false
 unfolding is_string
@@ -112,45 +59,31 @@ not-string (b ∷ bs) h = and_left (is_quote b) (is_string_rest b bs) h
 
 -- the forms that begin with a letter or `_`
 form-letter : (bs : List ℕ) → is_word_start (first bs) ≡ true → form_of bs ≡ cond (is_word bs) (Some Word) (cond (is_typed bs) (Some Typed) None)
-unfolding form_of
-form-letter bs h =
-    ap (cond (is_word bs) (Some Word))
-    (cond-false (is_number bs) _ _ (not-number bs (letter-digit (first bs) h))
-    ∙ ap (cond (is_typed bs) (Some Typed)) (cond-false (is_string bs) _ _ (not-string bs (letter-quote (first bs) h)) ∙ cond-false (is_symbol bs) _ _ (not-symbol bs (letter-plain (first bs) h))))
+unfolding form_of is_number is_typed
+form-letter bs h = grind (arith, not-string bs, not-symbol bs, letter-only (first bs))
 
 form-digit : (bs : List ℕ) → is_ascii_digit (first bs) ≡ true → form_of bs ≡ cond (is_number bs) (Some Number) None
-unfolding form_of
-form-digit bs h =
-    cond-false (is_word bs) _ _ (not-word bs (digit-letter (first bs) h))
-    ∙ ap (cond (is_number bs) (Some Number))
-    (cond-false (is_typed bs) _ _ (not-typed bs (digit-letter (first bs) h)) ∙ cond-false (is_string bs) _ _ (not-string bs (digit-quote (first bs) h)) ∙ cond-false (is_symbol bs) _ _ (not-symbol bs (digit-plain (first bs) h)))
+unfolding form_of is_number is_typed
+form-digit bs h = grind (arith, not-word bs, not-string bs, not-symbol bs, digit-only (first bs))
 
 form-other : (bs : List ℕ) → is_word_start (first bs) ≡ false → is_ascii_digit (first bs) ≡ false → form_of bs ≡ cond (is_string bs) (Some String) (cond (is_symbol bs) (Some Symbol) None)
-unfolding form_of
-form-other bs h k =
-    cond-false (is_word bs) _ _ (not-word bs h) ∙ cond-false (is_number bs) _ _ (not-number bs k) ∙ cond-false (is_typed bs) _ _ (not-typed bs h)
+unfolding form_of is_number is_typed
+form-other bs h k = grind (arith, not-word bs h)
 
 -- the longest prefix
-longest-step : (m : ℕ) (text : List ℕ) → form_of (take (suc m) text) ≡ None → longest (suc m) text ≡ longest m text
-unfolding longest
-longest-step m text e = ap (λ o. of_kind o (suc m) (longest m text)) e
-
-longest-here : (m : ℕ) (text : List ℕ) (kind : TokenKind) → form_of (take (suc m) text) ≡ Some kind → longest (suc m) text ≡ Some (kind, suc m)
-unfolding longest
-longest-here m text kind e = ap (λ o. of_kind o (suc m) (longest m text)) e
-
 longest-found : (text : List ℕ) (n : ℕ) (kind : TokenKind) (m : ℕ) → 0 < n → n ≤ m → form_of (take n text) ≡ Some kind → ((j : ℕ) → n < j → j ≤ m → form_of (take j text) ≡ None) → longest m text ≡ Some (kind, n)
+unfolding longest
 longest-found text n kind zero pos l here more = absurd (omega arith)
 longest-found text n kind (suc m) pos l here more =
     ⊎_elim
-    (λ below. longest-step m text (more (suc m) below (omega arith)) ∙ longest-found text n kind m pos (omega arith) here (λ j h k. more j h (omega arith)))
-    (λ above. let same : suc m ≡ n = omega arith in longest-here m text kind (ap (λ j. form_of (take j text)) same ∙ here) ∙ ap (λ j. Some (kind, j)) same)
+    (λ (below : n < suc m). rw (more (suc m) below (omega arith)) (longest-found text n kind m pos (omega arith) here (λ j h k. more j h (omega arith))))
+    (λ (above : suc m ≤ n). let same : suc m ≡ n = omega arith in rw (same, here))
     (cases_lt n (suc m))
 
 pub longest-none : (text : List ℕ) (m : ℕ) → ((j : ℕ) → 0 < j → j ≤ m → form_of (take j text) ≡ None) → longest m text ≡ None
 unfolding longest
 longest-none text zero more = refl
-longest-none text (suc m) more = longest-step m text (more (suc m) (omega arith) (omega arith)) ∙ longest-none text m (λ j h k. more j h (omega arith))
+longest-none text (suc m) more = rw (more (suc m) (omega arith) (omega arith)) (longest-none text m (λ j h k. more j h (omega arith)))
 
 pub found : (text : List ℕ) (n : ℕ) (kind : TokenKind) → 0 < n → n ≤ length text → form_of (take n text) ≡ Some kind → ((j : ℕ) → n < j → j ≤ length text → form_of (take j text) ≡ None) → token_at text ≡ Found kind n
 unfolding token_at
@@ -191,12 +124,12 @@ token-number text pos digit =
     (λ j h l. form-digit (take j text) (ap is_ascii_digit (first-take text j (omega arith)) ∙ digit) ∙ cond-false (is_number (take j text)) _ _ (t.0.longer j h l))
 
 pub string-no-symbol : (bs : List ℕ) → is_quote (first bs) ≡ true → is_symbol bs ≡ false
-string-no-symbol bs h = not-symbol bs (quote-plain (first bs) h)
+string-no-symbol bs h = not-symbol bs (grind arith)
 
 string-quote : (text : List ℕ) → 0 < string_len text → is_quote (first text) ≡ true
 unfolding string_len
 string-quote [] h = absurd (omega arith)
-string-quote (b ∷ bs) h = by_test (is_quote b) (λ e. e) (λ e. absurd (omega (arith, cond-false (is_quote b) (through_len (through_quote b false bs)) 0 e)))
+string-quote (b ∷ bs) h = grind arith
 
 module _ (text : List ℕ) (letter : is_word_start (first text) ≡ false) (digit : is_ascii_digit (first text) ≡ false) where
   form-prefix : (j : ℕ) → 0 < j → form_of (take j text) ≡ cond (is_string (take j text)) (Some String) (cond (is_symbol (take j text)) (Some Symbol) None)

@@ -1,7 +1,7 @@
 -- Names are ordered as the numbers that their bytes spell, eight at a time.
-use Rattle.std.proofs.Common.{◌≡◌, ℕ, ◌+◌, ◌-◌, ◌*◌, ◌%◌, ◌<◌, ◌≤◌, ◌≢◌, nat_eq, true, false, List, [], ◌∷◌, ◌++◌, length, get_or, take, drop, replicate, zero, suc, nat_cmp, is_eq, Ordering, Less, Equal, Greater, sym, refl, ap, subst, ◌∙◌, arith, Fits, w8, take-append-drop, drop-drop, length-take-le, get_or-take, get_or-drop, length-drop, drop_of_length-le}
-use Rattle.std.specs.{Cmp.{ranks, nat_cmp_is}, Cmp.Lexicographic.{slice_cmp, pointwise, texts_ties}, Ordering.{ordering_then, MatchOrdering}, Slice.Scan.{big_endian}, List.{list_all}}
-use Rattle.std.proofs.{lemmas.Bool.{and_parts}, lemmas.Bool.Decides.{nat_tests}, lemmas.List.{drop-replicate}}
+use Rattle.std.proofs.Common.{◌≡◌, ℕ, ◌+◌, ◌-◌, ◌*◌, ◌%◌, ◌<◌, ◌≤◌, ◌≢◌, nat_eq, true, false, List, [], ◌∷◌, ◌++◌, length, get_or, take, drop, replicate, zero, suc, nat_cmp, is_eq, Ordering, Less, Equal, Greater, sym, refl, ap, subst, ◌∙◌, ⊎_elim, arith, Fits, w8, take-append-drop, drop-drop, length-take-le, get_or-take, get_or-drop, length-drop, drop_of_length-le}
+use Rattle.std.specs.{Cmp.{nat_cmp_is}, Cmp.Lexicographic.{nat_list_cmp_total, slice_cmp, pointwise, texts_ties}, Ordering.{ordering_then}, Slice.Scan.{big_endian}, List.{list_all}}
+use Rattle.std.proofs.{lemmas.Bool.{and_parts, cases_lt, cases_order}, lemmas.Bool.Decides.{nat_tests}, lemmas.Cmp.{tied_itself}, lemmas.List.{drop-replicate}}
 use Rattle.fb_text.specs.{Bytes.{is_word_byte}, Stored.{IsStoredIn}}
 use Rattle.fb_text.proofs.NameLemmas.{is_word-all, is_word-ascii}
 
@@ -10,19 +10,6 @@ cmp_bytes = slice_cmp nat_cmp
 
 abbrev AreBytes : List ℕ → Type 0
 AreBytes xs = (k : ℕ) → Fits w8 (get_or xs k 0)
-
-level : (x y : ℕ) → x ≡ y → nat_cmp x y ≡ Equal
-level x y e = sym (nat_cmp_is x y Equal e)
-
-below : (x y : ℕ) → x < y → nat_cmp x y ≡ Less
-below x y l = sym (nat_cmp_is x y Less l)
-
-above : (x y : ℕ) → y < x → nat_cmp x y ≡ Greater
-above x y l = sym (nat_cmp_is x y Greater l)
-
-same_bytes : (xs : List ℕ) → cmp_bytes xs xs ≡ Equal
-same_bytes [] = refl
-same_bytes (x ∷ xs) = ap (λ r. ordering_then r (cmp_bytes xs xs)) (level x x refl) ∙ same_bytes xs
 
 -- a lesser number in front stays less with further bytes
 rises : (n a b : ℕ) (xs ys : List ℕ) → n ≤ length xs → n ≤ length ys → AreBytes xs → a < b → big_endian a (take n xs) < big_endian b (take n ys)
@@ -36,30 +23,15 @@ rises (suc n) a b (x ∷ xs) (y ∷ ys) p q h l =
 -- the first n bytes as numbers, and then the other bytes
 pub by_number : (n a : ℕ) (xs ys : List ℕ) → n ≤ length xs → n ≤ length ys → AreBytes xs → AreBytes ys
     → cmp_bytes xs ys ≡ ordering_then (nat_cmp (big_endian a (take n xs)) (big_endian a (take n ys))) (cmp_bytes (drop n xs) (drop n ys))
-by_number zero a xs ys p q g h = sym (ap (λ r. ordering_then r (cmp_bytes xs ys)) (level a a refl))
+by_number zero a xs ys p q g h = rw (← nat_cmp_is a a Equal refl)
 by_number (suc n) a [] ys p q g h = absurd (omega arith)
 by_number (suc n) a (x ∷ xs) [] p q g h = absurd (omega arith)
 by_number (suc n) a (x ∷ xs) (y ∷ ys) p q g h =
-    by (nat_cmp x y) refl (ranks x y) (by_number n (a * 256 + x) xs ys (omega arith) (omega arith) (λ k. g (suc k)) (λ k. h (suc k)))
-  where
-    rest : Ordering
-    rest = cmp_bytes (drop n xs) (drop n ys)
-
-    by : (r : Ordering) → nat_cmp x y ≡ r → MatchOrdering r (x < y) (x ≡ y) (y < x)
-        → cmp_bytes xs ys ≡ ordering_then (nat_cmp (big_endian (a * 256 + x) (take n xs)) (big_endian (a * 256 + x) (take n ys))) (cmp_bytes (drop n xs) (drop n ys))
-        → ordering_then (nat_cmp x y) (cmp_bytes xs ys) ≡ ordering_then (nat_cmp (big_endian (a * 256 + x) (take n xs)) (big_endian (a * 256 + y) (take n ys))) (cmp_bytes (drop n xs) (drop n ys))
-    by Less e l more =
-        let under : x < y = l in
-        let less = rises n (a * 256 + x) (a * 256 + y) xs ys (omega arith) (omega arith) (λ k. g (suc k)) (omega arith) in
-        ap (λ r. ordering_then r (cmp_bytes xs ys)) e ∙ sym (ap (λ r. ordering_then r rest) (below _ _ less))
-    by Equal e l more =
-        let same : x ≡ y = l in
-        ap (λ r. ordering_then r (cmp_bytes xs ys)) e ∙ more
-        ∙ ap (λ z. ordering_then (nat_cmp (big_endian (a * 256 + x) (take n xs)) (big_endian (a * 256 + z) (take n ys))) rest) same
-    by Greater e l more =
-        let over : y < x = l in
-        let less = rises n (a * 256 + y) (a * 256 + x) ys xs (omega arith) (omega arith) (λ k. h (suc k)) (omega arith) in
-        ap (λ r. ordering_then r (cmp_bytes xs ys)) e ∙ sym (ap (λ r. ordering_then r rest) (above _ _ less))
+    ⊎_elim (λ (same : x ≡ y). rw (← same, ← nat_cmp_is x x Equal refl) (by_number n (a * 256 + x) xs ys (omega arith) (omega arith) (λ k. g (suc k)) (λ k. h (suc k))))
+    (⊎_elim
+    (λ (l : x < y). rw (← nat_cmp_is x y Less l, ← nat_cmp_is _ _ Less (rises n (a * 256 + x) (a * 256 + y) xs ys (omega arith) (omega arith) (λ k. g (suc k)) (omega arith))))
+    (λ (l : y < x). rw (← nat_cmp_is x y Greater l, ← nat_cmp_is _ _ Greater (rises n (a * 256 + y) (a * 256 + x) ys xs (omega arith) (omega arith) (λ k. h (suc k)) (omega arith)))))
+    (cases_order x y)
 
 -- ---- zeros after a name
 not_zero : (b : ℕ) → is_word_byte b ≡ true → 0 < b
@@ -70,11 +42,11 @@ padded : (a b : List ℕ) (m n : ℕ) → length a + m ≡ length b + n → list
     → cmp_bytes (a ++ replicate m 0) (b ++ replicate n 0) ≡ cmp_bytes a b
 padded [] [] m n e g h =
     let same : m ≡ n = omega (arith, e) in
-    ap (λ k. cmp_bytes (replicate m 0) (replicate k 0)) (sym same) ∙ same_bytes (replicate m 0)
+    ap (λ k. cmp_bytes (replicate m 0) (replicate k 0)) (sym same) ∙ tied_itself nat_list_cmp_total (replicate m 0)
 padded [] (y ∷ b) zero n e g h = absurd (omega (arith, e))
-padded [] (y ∷ b) (suc m) n e g h = ap (λ r. ordering_then r (cmp_bytes (replicate m 0) (b ++ replicate n 0))) (below 0 y (not_zero y (and_parts _ _ h).0))
+padded [] (y ∷ b) (suc m) n e g h = ap (λ r. ordering_then r (cmp_bytes (replicate m 0) (b ++ replicate n 0))) (sym (nat_cmp_is 0 y Less (not_zero y (and_parts _ _ h).0)))
 padded (x ∷ a) [] m zero e g h = absurd (omega (arith, e))
-padded (x ∷ a) [] m (suc n) e g h = ap (λ r. ordering_then r (cmp_bytes (a ++ replicate m 0) (replicate n 0))) (above x 0 (not_zero x (and_parts _ _ g).0))
+padded (x ∷ a) [] m (suc n) e g h = ap (λ r. ordering_then r (cmp_bytes (a ++ replicate m 0) (replicate n 0))) (sym (nat_cmp_is x 0 Greater (not_zero x (and_parts _ _ g).0)))
 padded (x ∷ a) (y ∷ b) m n e g h = ap (ordering_then (nat_cmp x y)) (padded a b m n (omega (arith, e)) (and_parts _ _ g).1 (and_parts _ _ h).1)
 
 whole : (bytes : List ℕ) (len : ℕ) → IsStoredIn 64 bytes len → take len bytes ++ replicate (64 - len) 0 ≡ bytes
@@ -99,7 +71,8 @@ zero_of (suc n) (suc k) = zero_of n k
 
 -- what a name's field has are bytes
 pub are_bytes : (xs : List ℕ) (m : ℕ) → IsStoredIn 64 xs m → AreBytes xs
-are_bytes xs m h k = by (nat_cmp k m) (ranks k m)
+are_bytes xs m h k =
+    ⊎_elim (λ (inside : k < m). record { fits = omega (arith, is_word-ascii _ h.name.word k, get_or-take m xs k 0 inside) }) past (cases_lt k m)
   where
     past : m ≤ k → Fits w8 (get_or xs k 0)
     past l =
@@ -107,31 +80,19 @@ are_bytes xs m h k = by (nat_cmp k m) (ranks k m)
         let is_zero : get_or xs k 0 ≡ 0 = ap (λ j. get_or xs j 0) (sym at) ∙ sym (get_or-drop m xs (k - m) 0) ∙ ap (λ ys. get_or ys (k - m) 0) h.rest ∙ zero_of (64 - m) (k - m) in
         record { fits = omega (arith, is_zero) }
 
-    by : (r : Ordering) → MatchOrdering r (k < m) (k ≡ m) (m < k) → Fits w8 (get_or xs k 0)
-    by Less l =
-        let inside : k < m = l in
-        record { fits = omega (arith, is_word-ascii _ h.name.word k, get_or-take m xs k 0 inside) }
-    by Equal l = let e : k ≡ m = l in past (omega (arith, e))
-    by Greater l = let e : m < k = l in past (omega (arith, e))
-
-sub_sub : (a b c : ℕ) → a - b - c ≡ a - (b + c)
-sub_sub a b c = omega arith
-
 -- only zeros are after the name
 zeros_from : (xs : List ℕ) (m n : ℕ) → m ≤ n → IsStoredIn 64 xs m → drop n xs ≡ replicate (64 - n) 0
-zeros_from xs m n l h = subst (λ k. drop k xs ≡ replicate (64 - k) 0) (omega (arith, l)) (sym (drop-drop (n - m) m xs) ∙ ap (drop (n - m)) h.rest ∙ drop-replicate (n - m) (64 - m) 0 ∙ ap (λ k. replicate k 0) (sub_sub 64 m (n - m)))
+zeros_from xs m n l h = subst (λ k. drop k xs ≡ replicate (64 - k) 0) (omega (arith, l)) (sym (drop-drop (n - m) m xs) ∙ ap (drop (n - m)) h.rest ∙ drop-replicate (n - m) (64 - m) 0 ∙ ap (λ k. replicate k 0) (omega arith))
 
 -- and after a zero
 zeros_left : (xs : List ℕ) (m j : ℕ) → IsStoredIn 64 xs m → get_or xs j 0 ≡ 0 → drop (j + 1) xs ≡ replicate (64 - (j + 1)) 0
-zeros_left xs m j h z = by (nat_cmp j m) (ranks j m)
-  where
-    by : (r : Ordering) → MatchOrdering r (j < m) (j ≡ m) (m < j) → drop (j + 1) xs ≡ replicate (64 - (j + 1)) 0
-    by Less l =
-        let inside : j < m = l in
-        let some = byte_of (take m xs) j (is_word-all _ h.name.word) (omega (arith, inside, length-take-le m xs (omega (arith, h.room, h.within)))) in
-        absurd (omega (arith, some, get_or-take m xs j 0 inside, z))
-    by Equal l = let e : j ≡ m = l in zeros_from xs m (j + 1) (omega (arith, e)) h
-    by Greater l = let e : m < j = l in zeros_from xs m (j + 1) (omega (arith, e)) h
+zeros_left xs m j h z =
+    ⊎_elim
+    (λ (inside : j < m).
+    let some = byte_of (take m xs) j (is_word-all _ h.name.word) (omega (arith, inside, length-take-le m xs (omega (arith, h.room, h.within)))) in
+    absurd (omega (arith, some, get_or-take m xs j 0 inside, z)))
+    (λ (l : m ≤ j). zeros_from xs m (j + 1) (omega (arith, l)) h)
+    (cases_lt j m)
 
 -- the last byte, from the number
 last_byte : (n a : ℕ) (xs : List ℕ) → n < length xs → AreBytes xs → big_endian a (take (suc n) xs) % 256 ≡ get_or xs n 0
@@ -141,12 +102,7 @@ last_byte (suc n) a (x ∷ xs) l h = last_byte n (a * 256 + x) xs (omega arith) 
 
 -- ---- the order from the bytes that are left
 decided : (x y : ℕ) (o : Ordering) → x ≢ y → nat_cmp x y ≡ ordering_then (nat_cmp x y) o
-decided x y o differ = by (nat_cmp x y) (ranks x y)
-  where
-    by : (r : Ordering) → MatchOrdering r (x < y) (x ≡ y) (y < x) → r ≡ ordering_then r o
-    by Less l = refl
-    by Equal l = absurd (differ l)
-    by Greater l = refl
+decided x y o differ = grind (arith, nat_tests)
 
 -- where the bytes before i are equal
 abbrev pub IsLeft : List ℕ → List ℕ → List ℕ → List ℕ → ℕ → Type 0
@@ -176,12 +132,12 @@ module _ (a b xs ys : List ℕ) (m n i x y : ℕ) (g : IsStoredIn 64 xs m) (h : 
   unequal_words differ = decided x y _ differ ∙ sym step
 
   pub equal_words : x ≡ y → IsLeft a b xs ys (i + 8)
-  equal_words e = step ∙ ap (λ r. ordering_then r (cmp_bytes (drop (i + 8) xs) (drop (i + 8) ys))) (level x y e)
+  equal_words e = step ∙ ap (λ r. ordering_then r (cmp_bytes (drop (i + 8) xs) (drop (i + 8) ys))) (sym (nat_cmp_is x y Equal e))
 
   -- equal words that end with a zero are the last ones
   pub last_words : x ≡ y → x % 256 ≡ 0 → Equal ≡ cmp_bytes a b
   last_words e z =
-      sym (equal_words e ∙ (λ j. cmp_bytes (ends xs m i x g le p z j) (ends ys n i y h le q (ap (λ w. w % 256) (sym e) ∙ z) j)) ∙ same_bytes (replicate (64 - (i + 8)) 0))
+      sym (equal_words e ∙ (λ j. cmp_bytes (ends xs m i x g le p z j) (ends ys n i y h le q (ap (λ w. w % 256) (sym e) ∙ z) j)) ∙ tied_itself nat_list_cmp_total (replicate (64 - (i + 8)) 0))
 
 -- all words are equal
 pub none_left : (a b xs ys : List ℕ) (i : ℕ) → length xs ≤ i → length ys ≤ i → IsLeft a b xs ys i → Equal ≡ cmp_bytes a b
@@ -189,9 +145,4 @@ none_left a b xs ys i p q left = sym (left ∙ (λ j. cmp_bytes (drop_of_length-
 
 -- names of unequal words are not equal
 pub unequal_names : (a b : List ℕ) (x y : ℕ) → x ≢ y → nat_cmp x y ≡ cmp_bytes a b → false ≡ pointwise nat_eq a b
-unequal_names a b x y differ e = by (nat_cmp x y) (ranks x y) e
-  where
-    by : (r : Ordering) → MatchOrdering r (x < y) (x ≡ y) (y < x) → r ≡ cmp_bytes a b → false ≡ pointwise nat_eq a b
-    by Less l e = ap is_eq e ∙ sym (texts_ties a b)
-    by Equal l e = absurd (differ l)
-    by Greater l e = ap is_eq e ∙ sym (texts_ties a b)
+unequal_names a b x y differ e = let no : false ≡ is_eq (nat_cmp x y) = grind (arith, nat_tests) in no ∙ ap is_eq e ∙ sym (texts_ties a b)

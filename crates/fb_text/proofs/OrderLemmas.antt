@@ -1,41 +1,37 @@
 -- Two lists with the same items are the same in order.
-use Rattle.std.proofs.Common.{◌↔◌, nat_eq, ◌≡◌, ℕ, Bool, true, false, cond, ◌||◌, List, [], ◌∷◌, ◌++◌, map, is_some, Some, None, refl, sym, true≢false, ap, ◌∙◌}
-use Rattle.std.proofs.lemmas.Map.Views.{All-insert_key, Contains-from_any, list_any-from_Contains}
+use Rattle.std.proofs.Common.{◌↔◌, nat_eq, ◌≡◌, ℕ, Bool, true, cond, ◌||◌, List, [], ◌∷◌, ◌++◌, map, is_some, Some, None, refl, sym, ap, ◌∙◌, arith}
+use Rattle.std.proofs.lemmas.Map.Views.{All-insert_key, Contains-from_any, list_any-from_Contains, tells_apart}
 use Rattle.std.proofs.{lemmas.Cmp.{eq_by_cmp_equiv}, lemmas.List.{nil_from_length}, lemmas.List.Elements.{All-from_recursion, recursion_from_All}}
 use Rattle.std.specs.{declared.cmp.Ordering.{Ordering}, declared.cmp.Ordering.TheVariants.{Less, Equal, Greater}, List.{list_any, AllByRecursion, Contains}}
-use Rattle.std.specs.{Ordering.{eq_by_cmp, is_eq, match_ordering, ordering_reverse, ordering_then}, List.Sorted.{IsStrictlySortedBy}, BTreeMap.{is_at}}
+use Rattle.std.specs.{Ordering.{eq_by_cmp, is_eq, ordering_reverse, ordering_then}, List.Sorted.{IsStrictlySortedBy}, BTreeMap.{is_at}}
 use Rattle.std.specs.{Cmp.Lexicographic.{pointwise, texts_ties}, Cmp.{IsTotalOrder}}
 use Rattle.std.specs.FinMap.{IsAntisymmetric, from_entries, entries, entries-insert, get-from_entries, contains_key-keys, same_map, len-entries, len-empty}
-use Rattle.std.specs.{FinMap.Entries.{find, put, by_order}, BTreeSet.{insert_key}}
+use Rattle.std.specs.{FinMap.Entries.{find, put}, BTreeSet.{insert_key}}
 use Rattle.fb_text.specs.Order.{in_order, name_cmp}
-use Rattle.fb_text.proofs.Tests.{or_assoc}
+use Rattle.fb_text.proofs.Tests.{by_bool, or_assoc}
 
 pub is_equal : (r : Ordering) → is_eq r ≡ true → r ≡ Equal
-is_equal Less e = absurd (true≢false (sym e))
-is_equal Equal e = refl
-is_equal Greater e = absurd (true≢false (sym e))
+is_equal r e = grind arith
 
 pub both_equal : (r s : Ordering) → ordering_then r s ≡ Equal → (r ≡ Equal) × (s ≡ Equal)
-both_equal Less s e = absurd (let no : ⊥ = cc in no)
-both_equal Equal s e = (λ _. Equal, e)
-both_equal Greater s e = absurd (let no : ⊥ = cc in no)
+both_equal r s e = grind arith
 
 -- two names are equal where their order finds them so
 pub same_name : (a b : List ℕ) → pointwise nat_eq a b ≡ is_at (name_cmp a) b
 same_name a b = texts_ties a b
 
+-- the three answers of an order
+by_order : {P : Type 0} (r : Ordering) → (r ≡ Less → P) → (r ≡ Equal → P) → (r ≡ Greater → P) → P
+by_order Less l e g = l refl
+by_order Equal l e g = e refl
+by_order Greater l e g = g refl
+
 -- each item as a key
 abbrev pairs : {K : Type 0} → List K → List (K × Unit {0})
 pairs xs = map (λ x. (x, tt)) xs
 
-or_swap : (a b c : Bool) → (a || (b || c)) ≡ (b || (a || c))
-or_swap true true c = refl
-or_swap true false c = refl
-or_swap false b c = refl
-
 is_some-cond : (b : Bool) → is_some {T = Unit {0}} (cond b (Some tt) None) ≡ b
-is_some-cond true = refl
-is_some-cond false = refl
+is_some-cond b = grind arith
 
 module _ {K : Type 0} (R : K → K → Ordering) where
   -- whether the list has an item that compares equal
@@ -46,26 +42,16 @@ module _ {K : Type 0} (R : K → K → Ordering) where
   has-append [] ys q = refl
   has-append (x ∷ xs) ys q = ap (λ b. eq_by_cmp R q x || b) (has-append xs ys q) ∙ or_assoc (eq_by_cmp R q x) (has xs q) (has ys q)
 
-  has-push : (xs : List K) (x q : K) → has (xs ++ x ∷ []) q ≡ has (x ∷ xs) q
-  has-push [] x q = refl
-  has-push (y ∷ xs) x q = ap (λ b. eq_by_cmp R q y || b) (has-push xs x q) ∙ or_swap (eq_by_cmp R q y) (eq_by_cmp R q x) (has xs q)
-
   keys-put : (k : K) (es : List (K × Unit {0})) → map (λ e. e.0) (put R k tt es) ≡ insert_key R (map (λ e. e.0) es) k
   keys-put k [] = refl
-  keys-put k (e ∷ es) = by (keys-put k es) (R k e.0)
-    where
-      by : map (λ x. x.0) (put R k tt es) ≡ insert_key R (map (λ x. x.0) es) k → (r : Ordering) → map (λ x. x.0) (by_order r ((k, tt) ∷ e ∷ es) ((e.0, tt) ∷ es) (e ∷ put R k tt es)) ≡ match_ordering r (k ∷ e.0 ∷ map (λ x. x.0) es) (e.0 ∷ map (λ x. x.0) es) (e.0 ∷ insert_key R (map (λ x. x.0) es) k)
-      by h Less = refl
-      by h Equal = refl
-      by h Greater = ap (λ l. e.0 ∷ l) h
+  keys-put k (e ∷ es) = by_order (R k e.0) (λ l. rw l) (λ q. rw q) (λ g. rw g (ap (λ l. e.0 ∷ l) (keys-put k es)))
 
   find-pairs : (xs : List K) (q : K) → find R q (pairs xs) ≡ cond (has xs q) (Some tt) None
   find-pairs [] q = refl
-  find-pairs (x ∷ xs) q = by (find-pairs xs q) (eq_by_cmp R q x)
-    where
-      by : find R q (pairs xs) ≡ cond (has xs q) (Some tt) None → (b : Bool) → cond b (Some tt) (find R q (pairs xs)) ≡ cond (b || has xs q) (Some tt) None
-      by h true = refl
-      by h false = h
+  find-pairs (x ∷ xs) q = by_bool (eq_by_cmp R q x) (λ t. rw t) (λ f. rw f (find-pairs xs q))
+
+  pub has_member : IsAntisymmetric R → (xs : List K) (q : K) → has xs q ≡ true → Contains xs q
+  has_member same xs q h = Contains-from_any (tells_apart same) q xs h
 
   module _ (o : IsTotalOrder R) where
     -- the items in order are the keys of a finite map
@@ -88,14 +74,6 @@ module _ {K : Type 0} (R : K → K → Ordering) where
         let maps = same_map o same (from_entries {R = R} (pairs xs)) (from_entries {R = R} (pairs ys)) (λ q. get-from_entries o (pairs xs) q ∙ find-pairs xs q ∙ ap (λ b. cond b (Some tt) None) (is q) ∙ sym (get-from_entries o (pairs ys) q ∙ find-pairs ys q)) in
         in_order-is xs ∙ ap (λ m. map (λ e. e.0) (entries m)) maps ∙ sym (in_order-is ys)
 
-    pub in_order-push : IsAntisymmetric R → (xs : List K) (x : K) → in_order R (xs ++ x ∷ []) ≡ insert_key R (in_order R xs) x
-    in_order-push same xs x = in_order-same same (xs ++ x ∷ []) (x ∷ xs) (has-push xs x)
-
-    -- to order parts first changes nothing
-    pub in_order-append : IsAntisymmetric R → (xs ys : List K) → in_order R (in_order R xs ++ in_order R ys) ≡ in_order R (xs ++ ys)
-    in_order-append same xs ys =
-        in_order-same same _ _ (λ q. has-append (in_order R xs) (in_order R ys) q ∙ (λ i. has-in_order xs q i || has-in_order ys q i) ∙ sym (has-append xs ys q))
-
     -- a key put into its place leaves the keys sorted
     less_after : (k x : K) (xs : List K) → R k x ≡ Less → AllByRecursion (λ y. R x y ≡ Less) xs → AllByRecursion (λ y. R k y ≡ Less) xs
     less_after k x [] e a = tt
@@ -107,26 +85,20 @@ module _ {K : Type 0} (R : K → K → Ordering) where
     insert-sorted : (ks : List K) (k : K) → IsStrictlySortedBy R ks → IsStrictlySortedBy R (insert_key R ks k)
     unfolding IsStrictlySortedBy
     insert-sorted [] k s = (tt, tt)
-    insert-sorted (x ∷ xs) k s = by (R k x) refl (insert-sorted xs k s.1)
-      where
-        by : (r : Ordering) → R k x ≡ r → IsStrictlySortedBy R (insert_key R xs k) → IsStrictlySortedBy R (match_ordering r (k ∷ x ∷ xs) (x ∷ xs) (x ∷ insert_key R xs k))
-        by Less e h = ((e, less_after k x xs e s.0), s)
-        by Equal e h = s
-        by Greater e h = (recursion_from_All (λ y. R x y ≡ Less) _ (All-insert_key R k (λ y. R x y ≡ Less) xs (All-from_recursion (λ y. R x y ≡ Less) xs s.0) (greater_is_less k x e)), h)
+    insert-sorted (x ∷ xs) k s =
+        by_order (R k x) (λ l. rw l ((l, less_after k x xs l s.0), s)) (λ e. rw e s)
+        (λ g. rw g (recursion_from_All (λ y. R x y ≡ Less) _ (All-insert_key R k (λ y. R x y ≡ Less) xs (All-from_recursion (λ y. R x y ≡ Less) xs s.0) (greater_is_less k x g)), insert-sorted xs k s.1))
 
     pub in_order-sorted : (xs : List K) → IsStrictlySortedBy R (in_order R xs)
     unfolding IsStrictlySortedBy
     in_order-sorted [] = tt
     in_order-sorted (x ∷ xs) = insert-sorted (in_order R xs) x (in_order-sorted xs)
 
+    pub member_has : (xs : List K) (q : K) → Contains xs q → has xs q ≡ true
+    member_has xs q c = list_any-from_Contains (eq_by_cmp_equiv o) q xs c
+
     pub in_order-members : IsAntisymmetric R → (xs : List K) (q : K) → Contains (in_order R xs) q ↔ Contains xs q
     in_order-members same xs q = (
-      λ h. member xs (sym (has-in_order xs q) ∙ listed (in_order R xs) h),
-      λ h. member (in_order R xs) (has-in_order xs q ∙ listed xs h),
+      λ c. has_member same xs q (sym (has-in_order xs q) ∙ member_has (in_order R xs) q c),
+      λ c. has_member same (in_order R xs) q (has-in_order xs q ∙ member_has xs q c),
     )
-      where
-        member : (ys : List K) → has ys q ≡ true → Contains ys q
-        member ys h = Contains-from_any (λ x y e. same x y (is_equal (R x y) e)) q ys h
-
-        listed : (ys : List K) → Contains ys q → has ys q ≡ true
-        listed ys h = list_any-from_Contains (eq_by_cmp_equiv o) q ys h

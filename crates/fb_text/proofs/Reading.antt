@@ -14,8 +14,7 @@ behind ts (Ok us) = Ok (ts ++ us)
 behind ts (Err bad) = Err bad
 
 behind-nil : (r : Result (List Token) Span) → behind [] r ≡ r
-behind-nil (Ok us) = refl
-behind-nil (Err bad) = refl
+behind-nil r = grind arith
 
 -- the bytes inside a piece are passed over
 skip : (k place : ℕ) (xs : List ℕ) → tokens_from k place xs ≡ tokens_from 0 (place + k) (drop k xs)

@@ -1,19 +1,16 @@
 -- The relation of reading and the function that reads are one.
-use Rattle.std.proofs.Common.{◌≡◌, ◌≢◌, ℕ, zero, suc, ◌+◌, ◌<◌, ◌≤◌, Bool, true, false, not, List, [], ◌∷◌, ◌++◌, length, take, drop, codes, nat_eq, sym, refl, ap, subst, ◌∙◌, arith, length-drop, length-append, length-take-le, take-append-drop, Option, Some, None, Result, Ok, Err, true≢false, ⊎_elim}
-use Rattle.std.proofs.{Math.Seq.{drop-append-add}, lemmas.Bool.{cond-true, cond-false, cases_lt}, lemmas.Bool.Decides.{Decides-eqb, nat_tests}}
+use Rattle.std.proofs.Common.{◌≡◌, ◌≢◌, ℕ, zero, suc, ◌+◌, ◌<◌, ◌≤◌, Bool, true, false, not, List, [], ◌∷◌, ◌++◌, length, take, drop, codes, nat_eq, sym, refl, ap, subst, ◌∙◌, arith, length-drop, length-append, length-take-le, take-append-drop, Option, Some, None, Result, Ok, Err, ⊎_elim}
+use Rattle.std.proofs.{Math.Seq.{drop-append-add}, lemmas.Bool.{both_ways, cond-true, cases_lt}, lemmas.Bool.Decides.{Decides-eqb, nat_tests}}
 use Rattle.std.proofs.{lemmas.List.Elements.{All-nil, All-cons, All-head, All-tail}, lemmas.Option.{none-some, same_Some}, lemmas.Slice.Eq.{starts_is}}
 use Rattle.std.specs.{Prelude.{◌==◌, All, option_map}, List.{prefix_len, starts_with}}
 use Rattle.fb_text.specs.{Bytes.{is_blank, is_word_start, first}, Words.{is_word}, Forms.{form_of, is_number, is_typed, is_string, is_symbol}}
-use Rattle.fb_text.specs.Tokens.{IsLongest, before_close, char_len, comment_at, longest, of_kind, piece_at, token_at, token_or_char, tokens_from, tokens_of, with_token}
+use Rattle.fb_text.specs.Tokens.{IsLongest, before_close, char_len, comment_at, longest, piece_at, token_at, token_or_char, tokens_from, tokens_of, with_token}
 use Rattle.fb_text.specs.Reads.{AtBlank, AtComment, AtEnd, AtLineComment, AtOpenComment, AtOther, AtToken, BeginsToken, EndsLine, HasNoForm, IsFirstClose, NeverCloses, Reads, token_of}
 use Rattle.fb_text.specs.{declared.token.Span.{Span}, declared.token.Token.{Token}, declared.token.TokenKind.{TokenKind}}
 use Rattle.fb_text.specs.{declared.token.TokenKind.TheVariants.{Other}, declared.scan.Piece.{Piece}, declared.scan.Piece.TheVariants.{Gap, Unclosed}}
-use Rattle.fb_text.proofs.{Boundaries.{longest-is}, Longest.{by_test}, LongestToken.{found, longest-none}, Reading.{found-step, gap-step, unclosed-step}}
+use Rattle.fb_text.proofs.{Boundaries.{longest-is}, Longest.{by_test}, LongestToken.{found, longest-none}, Pieces.{blank-piece}, ScanLemmas.{starts, closes-at}, Reading.{found-step, gap-step, unclosed-step}}
 
 -- prefixes
-starts : (needle text : List ℕ) → starts_with nat_eq text needle ≡ true → text ≡ needle ++ drop (length needle) text
-starts needle text h = (starts_is Decides-eqb text needle (starts_with nat_eq text needle) refl).0 h
-
 starting : (needle text rest : List ℕ) → text ≡ needle ++ rest → starts_with nat_eq text needle ≡ true
 starting needle text rest e = (starts_is Decides-eqb text needle (starts_with nat_eq text needle) refl).1 rest e
 
@@ -23,30 +20,12 @@ not-starting needle text h = by_test (starts_with nat_eq text needle) (λ t. abs
 -- the first `*)`
 close-by : (prefix back : List ℕ) → (n : ℕ) × (before_close (prefix ++ (codes "*)" ++ back)) ≡ Some n) × (n ≤ length prefix)
 unfolding before_close
-close-by [] back = (0, cond-true (starts_with nat_eq (codes "*)" ++ back) (codes "*)")) (Some 0) (option_map suc (before_close (drop 1 (codes "*)" ++ back)))) (starting (codes "*)") (codes "*)" ++ back) back refl), omega arith)
+close-by [] back = (0, refl, omega arith)
 close-by (b ∷ prefix) back =
     let later = close-by prefix back in
     by_test (starts_with nat_eq (b ∷ (prefix ++ (codes "*)" ++ back))) (codes "*)"))
-    (λ t. (0, cond-true _ (Some 0) (option_map suc (before_close (prefix ++ (codes "*)" ++ back)))) t, omega arith))
-    (λ f. (suc later.0, cond-false _ (Some 0) (option_map suc (before_close (prefix ++ (codes "*)" ++ back)))) f ∙ ap (option_map suc) later.1, omega (arith, later.2)))
-
-record ClosesAt (text : List ℕ) (n : ℕ) : Type 0 where
-  pub parts : text ≡ take n text ++ (codes "*)" ++ drop (suc (suc n)) text)
-  pub within : n ≤ length text
-
-closes-later : (b : ℕ) (bs : List ℕ) (n : ℕ) (o : Option ℕ) → before_close bs ≡ o → option_map suc o ≡ Some n → ((m : ℕ) → before_close bs ≡ Some m → ClosesAt bs m) → ClosesAt (b ∷ bs) n
-closes-later b bs n None e h more = cc
-closes-later b bs n (Some m) e h more =
-    let at = more m e in
-    subst (ClosesAt (b ∷ bs)) (same_Some (suc m) n h) (record { parts = ap (λ xs. b ∷ xs) at.parts; within = omega (arith, at.within) })
-
-closes-at : (text : List ℕ) (n : ℕ) → before_close text ≡ Some n → ClosesAt text n
-unfolding before_close
-closes-at [] n e = cc
-closes-at (b ∷ bs) n e =
-    by_test (starts_with nat_eq (b ∷ bs) (codes "*)"))
-    (λ t. subst (ClosesAt (b ∷ bs)) (same_Some 0 n (sym (cond-true _ _ _ t) ∙ e)) (record { parts = starts (codes "*)") (b ∷ bs) t; within = omega arith }))
-    (λ f. closes-later b bs n (before_close bs) refl (sym (cond-false _ _ _ f) ∙ e) (closes-at bs))
+    (λ t. (0, rw t, omega arith))
+    (λ f. (suc later.0, rw f (ap (option_map suc) later.1), omega (arith, later.2)))
 
 never : (text : List ℕ) → before_close text ≡ None → NeverCloses text
 never text e prefix back is =
@@ -82,17 +61,8 @@ in_line b = not (b == 10)
 
 line-len : (line rest : List ℕ) → All (λ b. b ≢ 10) line → EndsLine rest → prefix_len in_line (line ++ rest) ≡ length line
 line-len [] [] a e = refl
-line-len [] (b ∷ bs) a e = cond-false (in_line b) (1 + prefix_len in_line bs) 0 (grind (arith, nat_tests))
-line-len (b ∷ line) rest a e =
-    let plain = All-head (λ c. c ≢ 10) b line a in
-    let passes : in_line b ≡ true = grind (arith, nat_tests) in
-    cond-true (in_line b) (1 + prefix_len in_line (line ++ rest)) 0 passes ∙ omega (arith, line-len line rest (All-tail (λ c. c ≢ 10) b line a) e)
-
-line-passes : (b : ℕ) → in_line b ≡ true → b ≢ 10
-line-passes b h e = grind (arith, nat_tests)
-
-line-stops : (b : ℕ) → in_line b ≡ false → b ≡ 10
-line-stops b h = grind (arith, nat_tests)
+line-len [] (b ∷ bs) a e = grind (arith, nat_tests)
+line-len (b ∷ line) rest a e = grind (arith, nat_tests, line-len line rest (All-tail (λ c. c ≢ 10) b line a) e, All-head (λ c. c ≢ 10) b line a)
 
 one-more : (b : ℕ) (bs : List ℕ) → in_line b ≡ true → prefix_len in_line (b ∷ bs) ≡ suc (prefix_len in_line bs)
 one-more b bs h = cond-true (in_line b) (1 + prefix_len in_line bs) 0 h ∙ omega arith
@@ -101,57 +71,31 @@ line-all : (xs : List ℕ) → All (λ b. b ≢ 10) (take (prefix_len in_line xs
 line-all [] = All-nil (λ b. b ≢ 10)
 line-all (b ∷ bs) =
     by_test (in_line b)
-    (λ t. subst (λ n. All (λ c. c ≢ 10) (take n (b ∷ bs))) (sym (one-more b bs t)) (All-cons (λ c. c ≢ 10) b (take (prefix_len in_line bs) bs) (line-passes b t) (line-all bs)))
-    (λ f. subst (λ n. All (λ c. c ≢ 10) (take n (b ∷ bs))) (sym (cond-false (in_line b) (1 + prefix_len in_line bs) 0 f)) (All-nil (λ c. c ≢ 10)))
+    (λ t. rw (one-more b bs t) (All-cons (λ c. c ≢ 10) b (take (prefix_len in_line bs) bs) (λ e. grind (arith, nat_tests)) (line-all bs)))
+    (λ f. rw f (All-nil (λ c. c ≢ 10)))
 
 line-ends : (xs : List ℕ) → EndsLine (drop (prefix_len in_line xs) xs)
 line-ends [] = tt
 line-ends (b ∷ bs) =
     by_test (in_line b)
-    (λ t. subst (λ n. EndsLine (drop n (b ∷ bs))) (sym (one-more b bs t)) (line-ends bs))
-    (λ f. subst (λ n. EndsLine (drop n (b ∷ bs))) (sym (cond-false (in_line b) (1 + prefix_len in_line bs) 0 f)) (line-stops b f))
+    (λ t. rw (one-more b bs t) (line-ends bs))
+    (λ f. rw f (grind (arith, nat_tests)))
 
 -- what stands at the front
-blank-piece : (text : List ℕ) → is_blank (first text) ≡ true → piece_at text ≡ Gap 1
-unfolding piece_at
-blank-piece text t = cond-true (is_blank (first text)) _ _ t
-
 abbrev closing : Option ℕ → Piece
 closing o = elim o [ Some n ↦ Gap (n + 4) | None ↦ Unclosed ]
 
-open-blank : is_blank 40 ≡ false
-unfolding is_blank
-open-blank = refl
-
-slash-blank : is_blank 47 ≡ false
-unfolding is_blank
-slash-blank = refl
-
 comment-piece : (text after : List ℕ) → text ≡ codes "(*" ++ after → piece_at text ≡ closing (before_close after)
-unfolding piece_at comment_at
-comment-piece text after e =
-    cond-false (is_blank (first text)) _ _ (ap (λ t. is_blank (first t)) e ∙ open-blank)
-    ∙ cond-true (starts_with nat_eq text (codes "(*")) _ _ (starting (codes "(*") text after e)
-    ∙ ap (λ t. closing (before_close (drop 2 t))) e
-
-slash-comment : (rest : List ℕ) → starts_with nat_eq (codes "//" ++ rest) (codes "(*") ≡ false
-slash-comment rest = refl
+unfolding piece_at comment_at is_blank
+comment-piece text after e = rw e
 
 line-piece : (text rest : List ℕ) → text ≡ codes "//" ++ rest → piece_at text ≡ Gap (prefix_len in_line rest + 2)
-unfolding piece_at
-line-piece text rest e =
-    cond-false (is_blank (first text)) _ _ (ap (λ t. is_blank (first t)) e ∙ slash-blank)
-    ∙ cond-false (starts_with nat_eq text (codes "(*")) _ _ (ap (λ t. starts_with nat_eq t (codes "(*")) e ∙ slash-comment rest)
-    ∙ cond-true (starts_with nat_eq text (codes "//")) _ _ (starting (codes "//") text rest e)
-    ∙ ap (λ t. Gap (prefix_len in_line t)) e
-    ∙ ap Gap (omega (arith, one-more 47 rest refl))
+unfolding piece_at is_blank
+line-piece text rest e = rw e (ap Gap (omega (arith, one-more 47 rest refl)))
 
 token-piece : (text : List ℕ) → BeginsToken text → piece_at text ≡ token_at text
 unfolding piece_at
-token-piece text h =
-    cond-false (is_blank (first text)) _ _ h.no_blank
-    ∙ cond-false (starts_with nat_eq text (codes "(*")) _ _ (not-starting (codes "(*") text h.no_comment)
-    ∙ cond-false (starts_with nat_eq text (codes "//")) _ _ (not-starting (codes "//") text h.no_line_comment)
+token-piece text h = rw (h.no_blank, not-starting (codes "(*") text h.no_comment, not-starting (codes "//") text h.no_line_comment)
 
 -- steps of reading
 some-bytes : (text : List ℕ) → text ≢ [] → 0 < length text
@@ -172,9 +116,8 @@ blank-step place text b rest e t =
 
 comment-drop : (text after inside rest : List ℕ) → text ≡ codes "(*" ++ after → after ≡ inside ++ (codes "*)" ++ rest) → drop (length inside + 4) text ≡ rest
 comment-drop text after inside rest e parts =
-    ap (drop (length inside + 4)) e
-    ∙ ap (λ n. drop n (codes "(*" ++ after)) (let s : length inside + 4 ≡ suc (suc (length inside + 2)) = omega arith in s)
-    ∙ ap (drop (length inside + 2)) parts ∙ drop-append-add inside (codes "*)" ++ rest) 2
+    let more : length inside + 4 ≡ suc (suc (length inside + 2)) = omega arith in
+    rw (e, more, parts) (drop-append-add inside (codes "*)" ++ rest) 2)
 
 comment-step : (place : ℕ) (text after inside rest : List ℕ) → text ≡ codes "(*" ++ after → IsFirstClose after inside rest → tokens_from 0 place text ≡ tokens_from 0 (place + (length inside + 4)) rest
 comment-step place text after inside rest e close =
@@ -186,11 +129,9 @@ open-step place text after e h = unclosed-step place text (omega (arith, ap leng
 
 line-step : (place : ℕ) (text line rest : List ℕ) → text ≡ codes "//" ++ (line ++ rest) → All (λ b. b ≢ 10) line → EndsLine rest → tokens_from 0 place text ≡ tokens_from 0 (place + (length line + 2)) rest
 line-step place text line rest e all ends =
+    let more : length line + 2 ≡ suc (suc (length line + 0)) = omega arith in
     gap-step place text (length line + 2) (omega (arith, ap length e)) (omega arith) (line-piece text (line ++ rest) e ∙ ap (λ n. Gap (n + 2)) (line-len line rest all ends))
-    ∙ ap (tokens_from 0 (place + (length line + 2)))
-    (ap (drop (length line + 2)) e
-    ∙ ap (λ n. drop n (codes "//" ++ (line ++ rest))) (let s : length line + 2 ≡ suc (suc (length line + 0)) = omega arith in s)
-    ∙ drop-append-add line rest 0)
+    ∙ ap (tokens_from 0 (place + (length line + 2))) (rw (e, more) (drop-append-add line rest 0))
 
 token-step : (place : ℕ) (text : List ℕ) (kind : TokenKind) (n : ℕ) → BeginsToken text → IsLongest text kind n → tokens_from 0 place text ≡ with_token (token_of kind place n) (tokens_from 0 (place + n) (drop n text))
 token-step place text kind zero begins is = absurd (none-some kind (sym form-nil ∙ is.form))
@@ -241,16 +182,12 @@ line-reads m place text after l e more =
     AtLineComment line rest whole (line-all after) (line-ends after)
     (subst (Reads (place + (length line + 2)) rest) (sym (line-step place text line rest whole (line-all after) (line-ends after))) (more (place + (length line + 2)) rest shorter))
 
-none-case : (o : Option TokenKind) (m : ℕ) (text : List ℕ) → form_of (take (suc m) text) ≡ o → of_kind o (suc m) (longest m text) ≡ None → (form_of (take (suc m) text) ≡ None) × (longest m text ≡ None)
-none-case None m text e h = (e, h)
-none-case (Some kind) m text e h = absurd (none-some (kind, suc m) (sym h))
-
 no-form : (m : ℕ) (text : List ℕ) → longest m text ≡ None → (j : ℕ) → j ≤ m → form_of (take j text) ≡ None
 unfolding longest
 no-form zero text h zero l = form-nil
 no-form zero text h (suc j) l = absurd (omega arith)
 no-form (suc m) text h j l =
-    let both = none-case (form_of (take (suc m) text)) m text refl h in
+    let both : (form_of (take (suc m) text) ≡ None) × (longest m text ≡ None) = grind arith in
     ⊎_elim (λ below. no-form m text both.1 j (omega arith)) (λ above. let last : j ≡ suc m = omega arith in ap (λ i. form_of (take i text)) last ∙ both.0) (cases_lt j (suc m))
 
 token-reads : (m place : ℕ) (text : List ℕ) (o : Option (TokenKind × ℕ)) → length text ≤ suc m → BeginsToken text → longest (length text) text ≡ o → Later m → Reads place text (tokens_from 0 place text)
@@ -266,9 +203,6 @@ token-reads m place text (Some f) l begins e more =
     let shorter : length (drop f.1 text) ≤ m = omega (arith, l, is.some, length-drop f.1 text) in
     AtToken f.0 f.1 (tokens_from 0 (place + f.1) (drop f.1 text)) begins long (more (place + f.1) (drop f.1 text) shorter) (token-step place text f.0 f.1 begins long)
 
-not-both : (b : Bool) → b ≡ false → b ≡ true → ⊥
-not-both b f t = true≢false (sym t ∙ f)
-
 step-reads : (m place : ℕ) (text : List ℕ) → 0 < length text → length text ≤ suc m → Later m → Reads place text (tokens_from 0 place text)
 step-reads m place text some l more =
     by_test (is_blank (first text))
@@ -283,8 +217,8 @@ step-reads m place text some l more =
     (record {
       some = λ e. absurd (omega (arith, some, ap length e));
       no_blank = plain;
-      no_comment = λ rest e. not-both _ no_comment (starting (codes "(*") text rest e);
-      no_line_comment = λ rest e. not-both _ no_line (starting (codes "//") text rest e);
+      no_comment = λ rest e. both_ways _ no_comment (starting (codes "(*") text rest e);
+      no_line_comment = λ rest e. both_ways _ no_line (starting (codes "//") text rest e);
     })
     refl more)))
 

@@ -1,7 +1,9 @@
 -- A name at the front of a field, before zeros.
-use Rattle.std.proofs.Common.{◌≡◌, ℕ, ◌+◌, ◌-◌, ◌≤◌, List, ◌++◌, length, drop, replicate, sym, refl, ap, subst, ◌∙◌, arith}
-use Rattle.std.proofs.lemmas.List.{take_at, drop_at, take-append-le, drop-append-le, length-append, length-replicate, drop-replicate, replicate-append-replicate}
-use Rattle.fb_text.specs.{Spelling.{IsName}, Stored.{IsStoredIn}}
+use Rattle.std.proofs.Common.{◌≡◌, ℕ, ◌+◌, ◌-◌, ◌≤◌, true, List, ◌++◌, length, take, drop, replicate, sym, refl, ap, subst, ◌∙◌, arith}
+use Rattle.std.proofs.lemmas.List.{take_all, take_at, drop_at, take-append-le, drop-append-le, length-append, length-replicate, drop-replicate, replicate-append-replicate}
+use Rattle.std.specs.Str.{str_to_ascii_uppercase}
+use Rattle.fb_text.specs.{Spelling.{IsName}, Stored.{IsStoredIn}, Words.{is_word}}
+use Rattle.fb_text.proofs.NameLemmas.{IsName-upper}
 
 -- the name, written over zeros
 pub stored_prefix : (size : ℕ) (name copied : List ℕ) → length name ≤ size → copied ≡ name → IsName name → IsStoredIn size (copied ++ drop (length name) (replicate size 0)) (length name)
@@ -25,3 +27,16 @@ stored_wider small size bytes copied len wider same is =
       within = omega (arith, is.within, wider);
       rest = drop-append-le len bytes zeros within ∙ (λ i. is.rest i ++ more i) ∙ replicate-append-replicate (small - len) (size - small) 0 ∙ ap (λ n. replicate n 0) (omega (arith, is.within, wider));
     })
+
+-- a word that is written in upper case over zeros, up to its length
+pub stored_upper : (size : ℕ) (bytes word : List ℕ) (i : ℕ) → i ≡ length word → length bytes ≡ size → take i bytes ≡ str_to_ascii_uppercase (take i word) → drop i bytes ≡ replicate (size - i) 0 → is_word word ≡ true → length word ≤ 64 → length word ≤ size → (take (length word) bytes ≡ str_to_ascii_uppercase word) × IsStoredIn size bytes (length word)
+stored_upper size bytes word i whole room prefix rest is short fits =
+    let written : take (length word) bytes ≡ str_to_ascii_uppercase word = ap (λ n. take n bytes) (sym whole) ∙ prefix ∙ ap str_to_ascii_uppercase (take_all i word (omega arith)) in (
+      written,
+      record {
+        room = room;
+        name = rw written (IsName-upper word is short);
+        within = fits;
+        rest = ap (λ n. drop n bytes) (sym whole) ∙ rest ∙ ap (λ n. replicate (size - n) 0) whole;
+      },
+    )

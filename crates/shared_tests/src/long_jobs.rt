@@ -1,27 +1,14 @@
 //! Calls beside a worker that runs jobs of nets and of plans, which read several units: they are answered while each of them runs.
-use fb_jobs::{Finished, Job, Key, Kind};
-use fb_shared::bench::{Limits, Reply};
-use fb_shared::library::Change;
-use fb_shared::parse::Source;
-use fb_shared::{Gate, Plain, Receipt, Seat, Shared, WorkEnd, work_on};
-use fb_text::Name;
+use crate::setup::{committed, key_of, pause, spins_to, work_beside};
+use fb_jobs::{Finished, Job, Kind};
+use fb_shared::bench::Reply;
+use fb_shared::{Gate, Plain, Seat, Shared, WorkEnd};
 use std::alloc::{AllocError, Global};
-use std::hint::spin_loop;
 use std::sync::Wait;
 use std::sync::atomic::{AtomicU64, Ordering};
 use std::test::Fail;
-use std::thread;
 use std::thread::join;
-use std::time::{Clock, Duration};
-
-const UNITS: &[(&str, &str)] = &[
-    ("T", "FUNCTION_BLOCK T END_FUNCTION_BLOCK"),
-    ("S", "SUBAPPLICATION S FBS X:T; END_FBS END_SUBAPPLICATION"),
-    (
-        "Y",
-        "SYSTEM Y APPLICATION A SUBAPPS P:S; END_SUBAPPS END_APPLICATION DEVICE D:DT RESOURCE R:RT END_RESOURCE END_DEVICE MAPPINGS A ON D.R; END_MAPPINGS END_SYSTEM",
-    ),
-];
+use std::time::Clock;
 
 /// Three of faults, two of nets and one of a plan.
 const JOBS: u64 = 6;
@@ -36,75 +23,16 @@ struct Answered {
     ended: AtomicU64,
 }
 
-const MOST_LOOKS: u64 = 20_000_000;
-
 impl Gate for Answered {
     fn run(&self, alloc: Global, worker: u32, job: &Job) -> Result<Finished, AllocError> {
         self.reads
             .fetch_add(job.reads().len() as u64, Ordering::SeqCst);
-        if self.late.load(Ordering::SeqCst) == 0 {
-            self.wait_for_calls();
+        let calls = self.calls.load(Ordering::SeqCst).saturating_add(2);
+        if self.late.load(Ordering::SeqCst) == 0 && !spins_to(&self.calls, calls) {
+            self.late.store(1, Ordering::SeqCst);
         }
         Plain.run(alloc, worker, job)
     }
-}
-
-impl Answered {
-    fn wait_for_calls(&self) {
-        let before = self.calls.load(Ordering::SeqCst);
-        for _ in 0..MOST_LOOKS {
-            if self.calls.load(Ordering::SeqCst).saturating_sub(before) >= 2 {
-                return;
-            }
-            spin_loop();
-        }
-        self.late.store(1, Ordering::SeqCst);
-    }
-}
-
-fn plan_of_y() -> Option<Key> {
-    Some(Key {
-        kind: Kind::Deploy,
-        unit: Name::read("Y").ok()?,
-    })
-}
-
-fn puts_all(alloc: Global) -> Option<Vec<Change>> {
-    let mut changes = Vec::new(alloc);
-    for (unit, text) in UNITS {
-        let unit = Name::read(unit).ok()?;
-        let source = Source::read(alloc, unit, text).ok()?;
-        changes.push(Change::Put { base: 0, source }).ok()?;
-    }
-    Some(changes)
-}
-
-// a workbench with the units, and the seats of its two callers
-fn committed<R: Wait>(rt: &R, alloc: Global) -> Option<(Shared, Seat, Seat)> {
-    let (shared, mut seats) = Shared::new(alloc, Limits::new(4, 1_000_000)?, 2).ok()?;
-    let second = seats.pop()?;
-    let mut first = seats.pop()?;
-    let changes = puts_all(alloc)?;
-    shared.commit(rt, &mut first, &changes).ok()?;
-    Some((shared, first, second))
-}
-
-// how a worker ends with a turn for each job, and how many receipts it then has
-fn work<R: Wait>(
-    rt: &R,
-    alloc: Global,
-    shared: &Shared,
-    mut seat: Seat,
-    gate: &Answered,
-) -> (WorkEnd, usize) {
-    let mut receipts = Vec::new(alloc);
-    let end = work_on(rt, alloc, shared, &mut seat, &mut receipts, gate, JOBS);
-    gate.ended.store(1, Ordering::SeqCst);
-    (end, receipts.len())
-}
-
-fn has_plan(receipt: &Receipt) -> bool {
-    matches!(receipt.reply(), Reply::Value(_))
 }
 
 // asks for the plan until the worker has ended, and says whether it is known then
@@ -116,12 +44,13 @@ fn ask_meanwhile<R: Wait + Clock>(
 ) -> Option<bool> {
     for _ in 0..100_000u32 {
         let is_over = gate.ended.load(Ordering::SeqCst) == 1;
-        let receipt = shared.ask(rt, &mut seat, plan_of_y()?).ok()?;
+        let plan = key_of(Kind::Deploy, "Y").ok()?;
+        let receipt = shared.ask(rt, &mut seat, plan).ok()?;
         gate.calls.fetch_add(1, Ordering::SeqCst);
         if is_over {
-            return Some(has_plan(&receipt));
+            return Some(matches!(receipt.reply(), Reply::Value(_)));
         }
-        thread::sleep(rt, Duration::from_millis(1));
+        pause(rt, 1);
     }
     None
 }
@@ -129,7 +58,7 @@ fn ask_meanwhile<R: Wait + Clock>(
 #[test]
 fn calls_are_answered_while_a_long_job_runs(rt: HostRuntime) -> Result<(), Fail> {
     let alloc: Global = rt.alloc();
-    let (shared, first, second) = committed(&rt, alloc).ok_or("a workbench")?;
+    let (shared, first, second) = committed(&rt, alloc, 1_000_000, &["T", "S", "Y"])?;
     let gate = Answered {
         calls: AtomicU64::new(0),
         late: AtomicU64::new(0),
@@ -138,14 +67,12 @@ fn calls_are_answered_while_a_long_job_runs(rt: HostRuntime) -> Result<(), Fail>
     };
     let told = join(
         &rt,
-        || work(&rt, alloc, &shared, second, &gate),
+        || work_beside(&rt, alloc, &shared, second, &gate, JOBS, &gate.ended),
         || ask_meanwhile(&rt, &shared, first, &gate),
     );
     assert_eq!(rt; told, ((WorkEnd::TurnsOver, 12), Some(true)));
-    let (late, reads) = (
-        gate.late.load(Ordering::SeqCst),
-        gate.reads.load(Ordering::SeqCst),
-    );
+    let late = gate.late.load(Ordering::SeqCst);
+    let reads = gate.reads.load(Ordering::SeqCst);
     assert!(rt; late == 0 && reads > 2 * JOBS, "{late} late, {reads} reads");
     Ok(())
 }

@@ -1,13 +1,12 @@
 -- The two halves together are the shelf that they were.
-use Rattle.std.proofs.Common.{◌≡◌, ◌+◌, ◌-◌, ◌<◌, ◌++◌, suc, [], length, take, drop, get_or, set, refl, ap, ◌∙◌, arith, slice_get, Some}
+use Rattle.std.proofs.Common.{◌≡◌, ◌+◌, ◌-◌, ◌<◌, ◌++◌, suc, [], length, take, drop, get_or, refl, ap, ◌∙◌, arith, slice_get, Some}
 use Rattle.std.proofs.lemmas.List.{length-append}
-use Rattle.fb_library.specs.{Entries.{shelf_of, shelves_of}, Shelves.{names_of}}
-use Rattle.fb_library.proofs.{Halves.{joined_lower, joined_upper, joined_last, last_counts}, ShelfRows.{split_wider}, Wider.{IsWider}}
-use Rattle.fb_library.proofs.shelves.halve.Goals.{After-drop-index_mut}
+use Rattle.fb_library.specs.{Entries.{shelf_of}, Shelves.{names_of}}
+use Rattle.fb_library.proofs.{Halves.{joined_lower, joined_upper, joined_last, last_counts}, ShelfRows.{split_wider}}
 use Rattle.fb_library.proofs.shelves.halve.Goals as goal
 
-halves : (g : _) (c : After-drop-index_mut g) → IsWider (shelves_of g.E.Entries.entries c.args.shelves.now.items) (shelves_of g.E.Entries.entries (set c.insert.new.self.items (c.args.at + 1) (record { last = c.index_mut.result.now.last; entries = c.in_ok-high.high })))
-halves g c =
+pub returns : goal.returns
+returns g c =
     let entries = g.E.Entries.entries in
     let low = entries c.in_ok-low.low in
     let high = entries c.in_ok-low.high in
@@ -23,14 +22,6 @@ halves g c =
     let ends : c.in-Some.last ≡ get_or (names_of all) k [] = joined_last low high k c.in-Some.last named ∙ (λ i. get_or (names_of (joined i)) k []) in
     let lower : entries c.in_ok-low-2.low.value ≡ take (suc k) all = ap entries c.in_ok-low-2.ensures.ok ∙ joined_lower low high k count ∙ (λ i. take (suc k) (joined i)) in
     let upper : entries c.in_ok-high.high.value ≡ drop (suc k) all = ap entries c.in_ok-high.ensures.ok ∙ joined_upper low high k count ∙ (λ i. drop (suc k) (joined i)) in
-    split_wider (shelf_of entries) c.args.shelves.now.items c.insert.new.self.items c.args.at (c.args.at + 1) k old (record { last = c.in-Some.last; entries = c.in_ok-low-2.low }) c.index_mut.result.now (record { last = c.index_mut.result.now.last; entries = c.in_ok-high.high })
-    c.requires.at next some c.index.ensures c.in_ok-insert.ensures.items c.index_mut.ensures.value refl ends lower upper c.requires.order
-
-pub returns-clause-order : goal.returns-clause-order
-returns-clause-order g c = (halves g c).order
-
-pub returns-clause-same : goal.returns-clause-same
-returns-clause-same g c = (halves g c).same
-
-pub returns-clause-room : goal.returns-clause-room
-returns-clause-room g c = (halves g c).room
+    let wider = split_wider (shelf_of entries) c.args.shelves.now.items c.insert.new.self.items c.args.at (c.args.at + 1) k old (record { last = c.in-Some.last; entries = c.in_ok-low-2.low }) c.index_mut.result.now (record { last = c.index_mut.result.now.last; entries = c.in_ok-high.high })
+    c.requires.at next some c.index.ensures c.in_ok-insert.ensures.items c.index_mut.ensures.value refl ends lower upper c.requires.order in
+    record { order = wider.order; same = wider.same; room = wider.room }

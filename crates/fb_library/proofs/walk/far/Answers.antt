@@ -1,22 +1,16 @@
-use Rattle.std.proofs.{Common.{◌≡◌, ◌∷◌, [], ◌++◌, refl, ap, sym, subst, ◌∙◌, arith}, lemmas.Result.{IfOk-weaker}, lemmas.List.{nil_from_length}}
+use Rattle.std.proofs.{Common.{◌≡◌, ◌∷◌, [], refl, ap, sym, ◌∙◌, arith}, lemmas.Result.{IfOk-weaker}, lemmas.List.{nil_from_length}}
 use Rattle.fb_library.specs.{Near.{in_all_trees}, Seen.{has_name}, View.{mentions_at, mentions_in}}
 use Rattle.fb_library.proofs.FarLemmas.{seen_rests, rests_seen}
-use Rattle.fb_library.proofs.WalkLemmas.{IsWalk, IsWalk-one, IsWalk-step, begun, one_pushed, opens_falls, mentioned_somewhere, Contains-has, has-Contains}
+use Rattle.fb_library.proofs.WalkLemmas.{IsWalk-one, IsWalk-step, begun, one_pushed, opens_falls, mentioned_somewhere, Contains-has, has-Contains}
 use Rattle.fb_library.proofs.walk.far.Goals as goal
 
 pub loop-name-init : goal.loop-name-init
 loop-name-init g c =
-    IsWalk-one (mentions_at (g.V.View.sources c.args.view.now)) c.args.unit c.insert.new.self.keys c.push.new.self.items
-    (begun c.new-seen.result c.insert.new.self c.args.unit c.new-seen.ensures.empty c.in_ok-insert.ensures.updates)
-    (one_pushed c.new-pending.result.items c.push.new.self.items c.args.unit c.new-pending.ensures.items c.in_ok-push.ensures.items)
+    IsWalk-one _ _ _ _ (begun _ _ _ c.new-seen.ensures.empty c.in_ok-insert.ensures.updates) (one_pushed _ _ _ c.new-pending.ensures.items c.in_ok-push.ensures.items)
 
 pub loop-name-preserved : goal.loop-name-preserved
 loop-name-preserved g c =
-    let next = mentions_at (g.V.View.sources c.args.view.now) in
-    let starts = c.args.unit ∷ [] in
-    let name = c.in-Some.name in
-    let before : IsWalk next starts c.loop-name.seen.keys (c.pop.new.self.items ++ name ∷ []) = subst (IsWalk next starts c.loop-name.seen.keys) c.in-Some.ensures.items c.loop-name.invariant in
-    IsWalk-step next starts _ _ _ _ name before c.in_ok-open_mentions.ensures
+    IsWalk-step (mentions_at (g.V.View.sources c.args.view.now)) (c.args.unit ∷ []) _ _ _ _ c.in-Some.name (rw c.in-Some.ensures.items at c.loop-name.invariant) c.in_ok-open_mentions.ensures
 
 pub loop-name-smaller : goal.loop-name-smaller
 loop-name-smaller g c =
@@ -29,7 +23,6 @@ returns-clause-sound g c =
 
 pub returns-clause-complete : goal.returns-clause-complete
 returns-clause-complete g c =
-    let sources = g.V.View.sources c.args.view.now in
     let empty : c.loop-name.pending.items ≡ [] = nil_from_length c.loop-name.pending.items (omega (arith, c.in_default.ensures.cases, c.loop-name.pending.ok.0)) in
-    let walk : IsWalk (mentions_at sources) (c.args.unit ∷ []) c.loop-name.seen.keys [] = subst (IsWalk (mentions_at sources) (c.args.unit ∷ []) c.loop-name.seen.keys) empty c.loop-name.invariant in
+    let walk = rw empty at c.loop-name.invariant in
     IfOk-weaker c.names_of.result _ _ (λ names is v rests. Contains-has v names.items (ap (λ l. has_name l v) is ∙ rests_seen walk v rests)) c.names_of.ensures.items

@@ -1,4 +1,4 @@
-use Rattle.std.proofs.{Common.{◌≡◌, ◌≤◌, ◌∙◌, ap, arith, drop, length, replicate, take}, lemmas.List.{take-append-le}}
+use Rattle.std.proofs.{Common.{◌≤◌, ◌∙◌, ap, arith, drop, length, replicate, take}, lemmas.List.{take-append-le}}
 use Rattle.fb_text.proofs.StoredLemmas.{stored_wider}
 use Rattle.fb_text.proofs.name.Name.of_short.Goals as goal
 

@@ -1,5 +1,5 @@
-use Rattle.std.proofs.Common.{◌≡◌, ℕ, ◌+◌, ◌*◌, ◌∙◌, subst, arith}
-use Rattle.fb_text.proofs.NameOrder.{IsLeft, all_left, unequal_words, equal_words, last_words, none_left}
+use Rattle.std.proofs.Common.{◌≡◌, ◌+◌, ◌*◌, ◌∙◌, arith}
+use Rattle.fb_text.proofs.NameOrder.{all_left, unequal_words, equal_words, last_words, none_left}
 use Rattle.fb_text.proofs.name.NameOrd.cmp.Goals as goal
 
 pub loop-i-init : goal.loop-i-init
@@ -15,10 +15,9 @@ returns-then-x-eq0 c =
 
 pub loop-i-preserved : goal.loop-i-preserved
 loop-i-preserved c =
-    let i : ℕ = c.loop-i.i in
-    let next : 8 * i + 8 ≡ 8 * (i + 1) = omega arith in
-    subst (IsLeft c.args.self.now c.args.other.now c.self.inside.bytes c.other.inside.bytes) next
-    (equal_words c.args.self.now c.args.other.now c.self.inside.bytes c.other.inside.bytes _ _ (8 * i) _ _ c.self.invariant c.other.invariant (omega arith) c.loop-i.invariant c.eight_from-x.ensures c.eight_from-y.ensures c.if-x-y.false)
+    let next : 8 * c.loop-i.i + 8 ≡ 8 * (c.loop-i.i + 1) = omega arith in
+    rw (← next)
+    (equal_words c.args.self.now c.args.other.now c.self.inside.bytes c.other.inside.bytes _ _ (8 * c.loop-i.i) _ _ c.self.invariant c.other.invariant (omega arith) c.loop-i.invariant c.eight_from-x.ensures c.eight_from-y.ensures c.if-x-y.false)
 
 pub returns : goal.returns
 returns c = none_left c.args.self.now c.args.other.now c.self.inside.bytes c.other.inside.bytes (8 * c.loop-i.i) (omega arith) (omega arith) c.loop-i.invariant
