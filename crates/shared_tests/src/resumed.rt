@@ -163,7 +163,7 @@ fn old_receipts_are_right_without_a_checkpoint(rt: HostRuntime) -> Result<(), Fa
 fn seats_that_do_not_fit_a_resumed_workbench(rt: HostRuntime) -> Result<(), Fail> {
     let (other, mut ahead, _second) = kept_shared(&rt, rt.alloc())?;
     let receipt = other.ask(&rt, &mut ahead, faults_of("A")?)?;
-    let (shared, mut first, _second) = kept_shared(&rt, rt.alloc())?;
+    let (shared, mut first, _second): (Shared, Seat, Seat) = kept_shared(&rt, rt.alloc())?;
     first.show(&receipt);
     let refused = shared.ask(&rt, &mut first, faults_of("A")?).err();
     assert_eq!(rt; refused, Some(SharedRefused::Behind { seen: 7, len: 6 }));
