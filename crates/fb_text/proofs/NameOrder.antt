@@ -1,6 +1,6 @@
 -- Names are ordered as the numbers that their bytes spell, eight at a time.
-use Rattle.std.proofs.Common.{◌≡◌, ℕ, ◌+◌, ◌-◌, ◌*◌, ◌%◌, ◌<◌, ◌≤◌, ◌≢◌, nat_eq, true, false, List, [], ◌∷◌, ◌++◌, length, get_or, take, drop, replicate, zero, suc, nat_cmp, is_eq, Ordering, Less, Equal, Greater, sym, refl, ap, subst, ◌∙◌, ⊎_elim, arith, Fits, w8, take-append-drop, drop-drop, length-take-le, get_or-take, get_or-drop, length-drop, drop_of_length-le}
-use Rattle.std.specs.{Cmp.{nat_cmp_is}, Cmp.Lexicographic.{nat_list_cmp_total, slice_cmp, pointwise, texts_ties}, Ordering.{ordering_then}, Slice.Scan.{big_endian}, List.{list_all}}
+use Rattle.std.proofs.Common.{◌≡◌, ℕ, ◌+◌, ◌-◌, ◌*◌, ◌%◌, ◌<◌, ◌≤◌, ◌≢◌, true, List, [], ◌∷◌, ◌++◌, length, get_or, take, drop, replicate, zero, suc, nat_cmp, Ordering, Less, Equal, Greater, sym, refl, ap, subst, ◌∙◌, ⊎_elim, arith, Fits, w8, take-append-drop, drop-drop, length-take-le, get_or-take, get_or-drop, length-drop, drop_of_length-le}
+use Rattle.std.specs.{Cmp.{nat_cmp_is}, Cmp.Lexicographic.{nat_list_cmp_total, slice_cmp}, Ordering.{ordering_then}, Slice.Scan.{big_endian}, List.{list_all}}
 use Rattle.std.proofs.{lemmas.Bool.{and_parts, cases_lt, cases_order}, lemmas.Bool.Decides.{nat_tests}, lemmas.Cmp.{tied_itself}, lemmas.List.{drop-replicate}}
 use Rattle.fb_text.specs.{Bytes.{is_word_byte}, Stored.{IsStoredIn}}
 use Rattle.fb_text.proofs.NameLemmas.{is_word-all, is_word-ascii}
@@ -142,7 +142,3 @@ module _ (a b xs ys : List ℕ) (m n i x y : ℕ) (g : IsStoredIn 64 xs m) (h : 
 -- all words are equal
 pub none_left : (a b xs ys : List ℕ) (i : ℕ) → length xs ≤ i → length ys ≤ i → IsLeft a b xs ys i → Equal ≡ cmp_bytes a b
 none_left a b xs ys i p q left = sym (left ∙ (λ j. cmp_bytes (drop_of_length-le xs p j) (drop_of_length-le ys q j)))
-
--- names of unequal words are not equal
-pub unequal_names : (a b : List ℕ) (x y : ℕ) → x ≢ y → nat_cmp x y ≡ cmp_bytes a b → false ≡ pointwise nat_eq a b
-unequal_names a b x y differ e = let no : false ≡ is_eq (nat_cmp x y) = grind (arith, nat_tests) in no ∙ ap is_eq e ∙ sym (texts_ties a b)

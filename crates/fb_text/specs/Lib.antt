@@ -8,6 +8,7 @@ pub mod CompactNames
 pub mod Forms
 pub mod Scan
 pub mod Tokens
+pub mod Packed
 pub mod Reads
 pub mod Order
 pub mod Elementary

@@ -178,13 +178,7 @@ impl PartialEq for Name {
     ghost laws = { partial_equiv_from_equiv nat_list_eq_equiv };
 
     fn eq(&self, other: &Self) -> bool {
-        if eight_from(&self.bytes, 0) != eight_from(&other.bytes, 0) {
-            return false;
-        }
-        if eight_from(&self.bytes, 8) != eight_from(&other.bytes, 8) {
-            return false;
-        }
-        self.as_bytes() == other.as_bytes()
+        self.cmp(other).is_eq()
     }
 }
 

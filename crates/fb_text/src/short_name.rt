@@ -13,9 +13,9 @@ pub const SHORT_ROOM: usize = 22;
 /// A name of at most 22 bytes. A contract sees it as the list of these bytes.
 #[derive(Clone, Copy)]
 pub struct ShortName {
+    len: u8,
     // The bytes after the first `len` are 0, so equal names have equal fields.
     bytes: [u8; SHORT_ROOM],
-    len: u8,
 }
 
 impl Model for ShortName {
