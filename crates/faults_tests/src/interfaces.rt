@@ -3,7 +3,7 @@
 use crate::plant::{lines_of, row_in};
 use fb_iface::{Ports, interface, is_beside, is_same_role, is_same_side};
 use fb_library::parse::Source;
-use fb_tree::text::{Name, WideUse};
+use fb_tree::text::{Name, NameUse};
 use fb_tree::{Role, Side};
 use std::alloc::{AllocError, Global};
 use std::test::Fail;
@@ -20,44 +20,44 @@ TYPE S : STRUCT X:INT; Y:AD; END_STRUCT END_TYPE => [ ] [ ] [ ] [ ] [ ] [ ]
 SYSTEM Y => none
 "#;
 
-fn say_port(told: &mut String, name: &Name, type_name: Option<&Name>) -> Result<(), AllocError> {
-    match type_name {
-        Some(type_name) => write!(told, " {name}:{type_name}"),
+fn say_port(told: &mut String, name: &Name, used: Option<&NameUse>) -> Result<(), AllocError> {
+    match used {
+        Some(used) => write!(told, " {name}:{}", used.name.as_str()),
         None => write!(told, " {name}"),
     }
 }
 
-fn say_events(told: &mut String, ports: &Ports, side: Side) -> Result<(), AllocError> {
+fn say_events(told: &mut String, ports: &Ports<'_>, side: Side) -> Result<(), AllocError> {
     told.push_str(" [")?;
     for (name, event) in ports.events().iter() {
-        if is_same_side(event.side, side) {
-            say_port(told, name, event.type_name.as_ref().map(WideUse::name))?;
+        if is_same_side(event.side(), side) {
+            say_port(told, name, event.type_name())?;
         }
     }
     told.push_str(" ]")
 }
 
-fn say_data(told: &mut String, ports: &Ports, side: Side) -> Result<(), AllocError> {
+fn say_data(told: &mut String, ports: &Ports<'_>, side: Side) -> Result<(), AllocError> {
     told.push_str(" [")?;
     for (name, variable) in ports.variables().iter() {
-        if is_beside(side, variable.section) {
-            say_port(told, name, Some(variable.type_use.name()))?;
+        if is_beside(side, variable.section()) {
+            say_port(told, name, Some(&variable.type_use().name))?;
         }
     }
     told.push_str(" ]")
 }
 
-fn say_adapters(told: &mut String, ports: &Ports, role: Role) -> Result<(), AllocError> {
+fn say_adapters(told: &mut String, ports: &Ports<'_>, role: Role) -> Result<(), AllocError> {
     told.push_str(" [")?;
     for (name, instance) in ports.instances().iter() {
-        if is_same_role(instance.role, role) {
-            say_port(told, name, Some(instance.type_name.name()))?;
+        if is_same_role(instance.role(), role) {
+            say_port(told, name, Some(instance.type_name()))?;
         }
     }
     told.push_str(" ]")
 }
 
-pub fn ports_told(alloc: Global, ports: &Ports) -> Result<String, AllocError> {
+fn ports_told(alloc: Global, ports: &Ports<'_>) -> Result<String, AllocError> {
     let mut told = String::new(alloc);
     say_events(&mut told, ports, Side::Input)?;
     say_events(&mut told, ports, Side::Output)?;
@@ -68,19 +68,23 @@ pub fn ports_told(alloc: Global, ports: &Ports) -> Result<String, AllocError> {
     Ok(told)
 }
 
-fn interface_told(alloc: Global, text: &str) -> Result<String, Fail> {
-    let source = Source::read(alloc, Name::read("U")?, text)?;
-    match interface(alloc, &source)? {
-        Some(ports) => Ok(ports_told(alloc, &ports)?),
-        None => Ok("none".to_string(alloc)?),
+pub fn interface_told(alloc: Global, source: &Source) -> Result<String, AllocError> {
+    match interface(alloc, source)? {
+        Some(ports) => ports_told(alloc, &ports),
+        None => "none".to_string(alloc),
     }
+}
+
+fn interface_of(alloc: Global, text: &str) -> Result<String, Fail> {
+    let source = Source::read(alloc, Name::read("U")?, text)?;
+    Ok(interface_told(alloc, &source)?)
 }
 
 #[test]
 fn ports_of_units(rt: HostRuntime) -> Result<(), Fail> {
     for line in lines_of(rt.alloc(), INTERFACES)?.as_str().split('\n') {
         if let Some((text, expected)) = row_in(line) {
-            let told = interface_told(rt.alloc(), text)?;
+            let told = interface_of(rt.alloc(), text)?;
             assert_eq!(rt; told.as_str().trim_start(), expected, "{text}");
         }
     }

@@ -1,10 +1,10 @@
 //! Libraries, ports and faults, of which each allocation is refused in turn.
 use crate::checkers::{Checker, found_by};
-use crate::interfaces::ports_told;
+use crate::interfaces::interface_told;
 use crate::libraries::RECURSIVE;
 use crate::plant::{all_told, library, plant_with, put, say_names};
 use fb_faults::faults;
-use fb_iface::{Fault, Ports, interface};
+use fb_iface::Fault;
 use fb_library::parse::Source;
 use fb_library::{Change, Library, far, near};
 use fb_tree::text::Name;
@@ -88,7 +88,7 @@ fn faults_of_units(rt: HostRuntime) -> Result<(), Fail> {
 #[derive(Drop)]
 struct Interfaced {
     source: Arc<Source>,
-    found: Option<Option<Ports>>,
+    found: Option<String>,
 }
 
 impl Trial for Interfaced {
@@ -102,13 +102,13 @@ impl Trial for Interfaced {
     }
 
     fn call(&mut self, alloc: Global) -> bool {
-        kept(&mut self.found, interface(alloc, self.source.as_ref()))
+        kept(&mut self.found, interface_told(alloc, self.source.as_ref()))
     }
 
     fn told(&self, alloc: Global) -> Result<String, Fail> {
         match &self.found {
-            Some(Some(ports)) => Ok(ports_told(alloc, ports)?),
-            _ => Ok(String::new(alloc)),
+            Some(told) => Ok(told.clone()?),
+            None => Ok(String::new(alloc)),
         }
     }
 }

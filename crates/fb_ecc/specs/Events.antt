@@ -5,8 +5,8 @@ use Rattle.fb_tree.specs.{Tree.{ChartTree, ConditionTree, TransitionTree, always
 use Rattle.fb_tree.specs.{declared.interface.Side.{Side}, declared.network.End.{End}, declared.network.Role.{Role}}
 use Rattle.fb_tree.specs.declared.interface.Side.TheVariants as sides
 use Rattle.fb_tree.specs.declared.network.Role.TheVariants as roles
-use Rattle.fb_iface.specs.{declared.code.Code.TheVariants.{EventUnknown}, declared.fault.Fault.{Fault}, declared.ports.DeclaredEvent.{DeclaredEvent}}
-use Rattle.fb_iface.specs.{declared.ports.DeclaredInstance.{DeclaredInstance}, Names.{stands_for}, Ports.{Meanings, same_side}, Scope.{Scope, instance_ports}}
+use Rattle.fb_iface.specs.{declared.code.Code.TheVariants.{EventUnknown}, declared.fault.Fault.{Fault}, Ports.{DeclaredEvent}}
+use Rattle.fb_iface.specs.{Ports.{DeclaredInstance, Meanings, same_side}, Names.{stands_for}, Scope.{Scope, instance_ports}}
 use Rattle.fb_ecc.specs.{declared.events.EventTarget.{EventTarget}, declared.events.EventTarget.TheVariants.{Found, Unknown, NotChecked}}
 
 abbrev pub opposite : Side → Side

@@ -49,7 +49,7 @@ fn report_block<V: View>(
 /// Reports the faults of a chart, as they are found.
 pub fn report_charts(
     alloc: Global,
-    scope: &Scope,
+    scope: &Scope<'_>,
     chart: &Chart,
     found: &mut Vec<Fault>,
 ) -> Result<(), AllocError>

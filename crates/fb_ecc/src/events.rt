@@ -22,7 +22,11 @@ pub enum EventTarget {
 }
 
 /// Reports the events of transitions that are no event inputs, and those of actions that are no event outputs.
-pub fn report_events(scope: &Scope, chart: &Chart, found: &mut Vec<Fault>) -> Result<(), AllocError>
+pub fn report_events(
+    scope: &Scope<'_>,
+    chart: &Chart,
+    found: &mut Vec<Fault>,
+) -> Result<(), AllocError>
     ensures { OnOk result
         (found.new.items
         ≡ found.old.items ++ event_faults (scope_in scope.now) (chart_tree chart.now)) }
@@ -33,7 +37,7 @@ pub fn report_events(scope: &Scope, chart: &Chart, found: &mut Vec<Fault>) -> Re
 
 /// Reports the events of transitions that are no event inputs.
 fn report_triggers(
-    scope: &Scope,
+    scope: &Scope<'_>,
     transitions: &[Transition],
     found: &mut Vec<Fault>,
 ) -> Result<(), AllocError>
@@ -58,7 +62,11 @@ fn event_of(condition: &Condition) -> Option<&End>
 }
 
 /// Reports the events of actions that are no event outputs.
-fn report_sent(scope: &Scope, states: &[State], found: &mut Vec<Fault>) -> Result<(), AllocError>
+fn report_sent(
+    scope: &Scope<'_>,
+    states: &[State],
+    found: &mut Vec<Fault>,
+) -> Result<(), AllocError>
     ensures { OnOk result (found.new.items ≡ found.old.items
         ++ flat_map
         (λ s. flat_map (sent_faults (scope_in scope.now)) (state_tree s).actions) states.now) }
@@ -71,7 +79,7 @@ fn report_sent(scope: &Scope, states: &[State], found: &mut Vec<Fault>) -> Resul
 
 /// Reports those of each action.
 fn report_sent_by(
-    scope: &Scope,
+    scope: &Scope<'_>,
     actions: &[Action],
     found: &mut Vec<Fault>,
 ) -> Result<(), AllocError>
@@ -87,7 +95,7 @@ fn report_sent_by(
 
 /// Reports an event that is written and is not of this side.
 fn report_written(
-    scope: &Scope,
+    scope: &Scope<'_>,
     side: Side,
     event: Option<&End>,
     found: &mut Vec<Fault>,
@@ -118,7 +126,7 @@ fn span_of(event: &End) -> Span
 }
 
 /// What a reference names, if it must be an event of this side.
-fn target_of(scope: &Scope, side: Side, event: &End) -> EventTarget
+fn target_of(scope: &Scope<'_>, side: Side, event: &End) -> EventTarget
     ensures { result ≡ event_named (scope_in scope.now) side event.now.name event.now.port }
 {
     let name = event.name.name.name();
@@ -129,19 +137,19 @@ fn target_of(scope: &Scope, side: Side, event: &End) -> EventTarget
 }
 
 /// What a name means among ports.
-fn target_among(ports: &Ports, side: Side, name: &Name) -> EventTarget
+fn target_among(ports: &Ports<'_>, side: Side, name: &Name) -> EventTarget
     ensures { result ≡ event_among side ports.now name.now }
 {
     match ports.event(name) {
-        Some(event) if is_same_side(event.side, side) => EventTarget::Found,
+        Some(event) if is_same_side(event.side(), side) => EventTarget::Found,
         _ => EventTarget::Unknown,
     }
 }
 
 /// What a port of a plug or socket is.
 fn target_behind(
-    scope: &Scope,
-    instance: Option<&DeclaredInstance>,
+    scope: &Scope<'_>,
+    instance: Option<&DeclaredInstance<'_>>,
     side: Side,
     name: &Name,
 ) -> EventTarget
@@ -149,7 +157,7 @@ fn target_behind(
         (option_copied instance.entry) name.now }
 {
     match instance {
-        Some(instance) => match through(instance.role, side) {
+        Some(instance) => match through(instance.role(), side) {
             Some(side) => target_of_adapter(scope.instance_ports(instance), side, name),
             None => EventTarget::Unknown,
         },
@@ -158,7 +166,7 @@ fn target_behind(
 }
 
 /// What a port of an adapter is. One whose type is not usable is not checked.
-fn target_of_adapter(ports: Option<&Ports>, side: Side, name: &Name) -> EventTarget
+fn target_of_adapter(ports: Option<&Ports<'_>>, side: Side, name: &Name) -> EventTarget
     ensures { result ≡ event_of_adapter (option_map (λ p. p.now) ports.entry) name.now side }
 {
     match ports {

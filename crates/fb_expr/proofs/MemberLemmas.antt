@@ -2,7 +2,7 @@
 use Rattle.std.proofs.Common.{◌≡◌, ℕ, Bool, true, false, true≢false, cond, List, [], ◌∷◌, ◌++◌, Option, Some, None, refl, sym, ap, subst, ◌∙◌}
 use Rattle.fb_tree.specs.{Text.declared.token.Span.{Span}, Expression.{ReferenceTree}, declared.reference.Member.{Member}}
 use Rattle.fb_iface.specs.{Fields.{Fields, NotChecked, NoFields, HasFields}, Names.{stands_for}, Ports.{Meanings}, Scope.{ports_of}}
-use Rattle.fb_iface.specs.declared.ports.DeclaredVariable.{DeclaredVariable}
+use Rattle.fb_iface.specs.Ports.{DeclaredVariable}
 use Rattle.fb_expr.specs.{Demands.{is_field, referent_through}, Names.{Names}}
 use Rattle.fb_expr.specs.References.{data_referent, field_referent, fields_behind, is_before_port, is_data, is_some_count, member_among, own_referent, port_named, port_referent, step, variable_named, walk}
 use Rattle.fb_expr.specs.{declared.references.Referent.{Referent}, declared.references.Referent.TheVariants.{Variable, Unjudged, Unknown, NoMember}}

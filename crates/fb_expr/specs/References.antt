@@ -8,7 +8,7 @@ use Rattle.fb_tree.specs.declared.network.Role.TheVariants as roles
 use Rattle.fb_iface.specs.{Class.{class_of_name, class_of_type, is_free}, Fields.{Fields, NotChecked, NoFields, HasFields}, Names.{stands_for}, Ports.{Meanings}}
 use Rattle.fb_iface.specs.{Scope.{Scope, ports_of}, declared.classes.Class.{Class}, declared.classes.Class.TheVariants.{O, Free}}
 use Rattle.fb_iface.specs.{declared.code.Code.TheVariants.{MemberUnknown, VariableUnknown}, declared.fault.Fault.{Fault}}
-use Rattle.fb_iface.specs.{declared.ports.DeclaredInstance.{DeclaredInstance}, declared.ports.DeclaredVariable.{DeclaredVariable}}
+use Rattle.fb_iface.specs.Ports.{DeclaredInstance, DeclaredVariable}
 use Rattle.fb_expr.specs.{Names.{Names}, declared.references.Referent.{Referent}}
 use Rattle.fb_expr.specs.declared.references.Referent.TheVariants.{Variable, Unjudged, Unknown, NoMember}
 

@@ -1,7 +1,7 @@
 //! The check of the expressions and statements of a unit (IEC 61499-1, 5.2.1 and 5.2.2: execution control charts and algorithms).
 ghost use Rattle.std.specs.{Prelude.{◌≡◌, ◌++◌, IfOk, OnOk}, List.{flat_map}};
 ghost use Rattle.fb_tree.specs.Tree.{algorithm_tree, chart_tree, condition_tree, transition_tree};
-ghost use Rattle.fb_iface.specs.Fault.{faults_in_order};
+ghost use Rattle.fb_iface.specs.{CachedFields.{structures_in}, Fault.{faults_in_order}, ScopeTypes.{scope_in}};
 ghost use Rattle.fb_expr.specs.{Charts.{algorithm_faults, expr_faults_of, expression_faults, guard_faults, transition_faults}, Names.{names_in}};
 
 use crate::expressions::judge_at;
@@ -27,24 +27,23 @@ pub fn expr_faults<V: View>(alloc: Global, view: &V, unit: &Name) -> Result<Vec<
     };
     let scope = Scope::of_type(alloc, view, declared)?;
     let structures = Structures::near(alloc, view, unit)?;
-    let names = Names {
-        scope: &scope,
-        structures: &structures,
-    };
-    report_expressions(names, &declared.chart, &mut found)?;
+    report_expressions(&scope, &structures, &declared.chart, &mut found)?;
     sorted_faults(alloc, found.as_slice())
 }
 
 /// Reports the faults of the expressions of guards and of the statements of algorithms, as they are found.
 pub fn report_expressions(
-    names: Names<'_>,
+    scope: &Scope<'_>,
+    structures: &Structures<'_>,
     chart: &Chart,
     found: &mut Vec<Fault>,
 ) -> Result<(), AllocError>
-    ensures { OnOk result
-        (found.new.items
-        ≡ found.old.items ++ expression_faults (names_in names.entry) (chart_tree chart.now)) }
+    ensures { OnOk result (found.new.items ≡ found.old.items
+        ++ expression_faults
+        (record { scope = scope_in scope.now; fields = structures_in structures.now })
+        (chart_tree chart.now)) }
 {
+    let names = Names { scope, structures };
     report_transitions(names, chart.transitions.as_slice(), found)?;
     report_algorithms(names, chart.algorithms.as_slice(), found)
 }

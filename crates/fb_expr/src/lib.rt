@@ -13,4 +13,3 @@ mod statements;
 
 pub use check::{expr_faults, report_expressions};
 pub use laws::{expr_faults_are_local, expr_faults_are_unmet};
-pub use names::Names;

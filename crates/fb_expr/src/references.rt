@@ -29,17 +29,17 @@ use crate::names::Names;
 use crate::spans::span_of_names;
 use fb_iface::{
     Behind, Class, Code, DeclaredInstance, DeclaredVariable, Fault, Ports, Scope, Structures,
-    class_by_name, class_of_wide,
+    UsedType, class_by_name, class_by_use, class_of,
 };
 use fb_tree::text::{Name, Place, Span};
-use fb_tree::{Member, Reference, Role, Section, TypeForm, WideTypeUse};
+use fb_tree::{Member, Reference, Role, Section, TypeForm, TypeUse};
 use std::alloc::AllocError;
 
 /// What a reference means.
-#[derive(Clone, Copy, Debug)]
-pub enum Referent {
+#[derive(Drop)]
+pub enum Referent<'a> {
     /// A variable or a field of this type, and whether subscripts are after its name.
-    Variable(WideTypeUse, bool),
+    Variable(UsedType<'a>, bool),
     /// Data of a plug or a socket whose type is not usable, or a name after a type that is not
     /// known.
     Unjudged,
@@ -77,7 +77,7 @@ pub fn judge_names(
 
 /// The class of a variable of the unit, without or with subscripts. A name that means none is reported.
 pub fn judge_variable(
-    scope: &Scope,
+    scope: &Scope<'_>,
     name: &Name,
     subscripted: bool,
     place: Place,
@@ -89,7 +89,7 @@ pub fn judge_variable(
         ++ reference_faults (variable_named (scope_in scope.now) name.now subscripted) place) }
 {
     match scope.own().variable(name) {
-        Some(variable) => Ok(class_of_use(&variable.type_use, subscripted)),
+        Some(variable) => Ok(class_of_use(variable.type_use(), subscripted)),
         None => {
             report_name(Code::VariableUnknown, place.span(), found)?;
             Ok(Class::Free)
@@ -98,7 +98,7 @@ pub fn judge_variable(
 }
 
 /// What a reference means.
-fn referred(names: Names<'_>, reference: &Reference) -> Referent
+fn referred<'a>(names: Names<'a>, reference: &Reference) -> Referent<'a>
     ensures { result ≡ referent_of (names_in names.entry) (reference_tree reference.now) }
 {
     let name = reference.name();
@@ -117,7 +117,12 @@ fn referred(names: Names<'_>, reference: &Reference) -> Referent
 }
 
 /// What is referred to by further names after a variable of the unit.
-fn referred_from(names: Names<'_>, name: &Name, subscripted: bool, members: &[Member]) -> Referent
+fn referred_from<'a>(
+    names: Names<'a>,
+    name: &Name,
+    subscripted: bool,
+    members: &[Member],
+) -> Referent<'a>
     ensures { result
         ≡ walk (names_in names.entry)
         (variable_named (names_in names.entry).scope name.now subscripted) members.now }
@@ -127,23 +132,23 @@ fn referred_from(names: Names<'_>, name: &Name, subscripted: bool, members: &[Me
 }
 
 /// What a name means by itself: a variable of the unit.
-fn referred_variable(scope: &Scope, name: &Name, subscripted: bool) -> Referent
+fn referred_variable<'a>(scope: &Scope<'a>, name: &Name, subscripted: bool) -> Referent<'a>
     ensures { result ≡ variable_named (scope_in scope.now) name.now subscripted }
 {
     match scope.own().variable(name) {
-        Some(variable) => Referent::Variable(variable.type_use, subscripted),
+        Some(variable) => Referent::Variable(UsedType::of(variable.type_use()), subscripted),
         None => Referent::Unknown,
     }
 }
 
 /// The plug or the socket that a name means.
-fn adapter_named<'a>(own: &'a Ports, name: &Name) -> Option<&'a DeclaredInstance>
+fn adapter_named<'a>(own: &'a Ports<'a>, name: &Name) -> Option<&'a DeclaredInstance<'a>>
     ensures found { is_some result ≡ is_at_adapter (stands_for own.now.instances name.now) }
     ensures named { IfSome result
         (λ adapter. stands_for own.now.instances name.now ≡ Some adapter.now) }
 {
     match own.instance(name) {
-        Some(instance) if is_for_adapters(instance.role) => Some(instance),
+        Some(instance) if is_for_adapters(instance.role()) => Some(instance),
         _ => None,
     }
 }
@@ -158,7 +163,11 @@ fn is_for_adapters(role: Role) -> bool
 }
 
 /// What a name means after that of a plug or a socket.
-fn referred_port(scope: &Scope, adapter: &DeclaredInstance, member: &Member) -> Referent
+fn referred_port<'a>(
+    scope: &Scope<'a>,
+    adapter: &DeclaredInstance<'_>,
+    member: &Member,
+) -> Referent<'a>
     ensures { result
         ≡ port_referent (instance_ports (scope_in scope.now) adapter.now) member.now.name.name
         (is_some_count member.now.subscripts) }
@@ -170,12 +179,12 @@ fn referred_port(scope: &Scope, adapter: &DeclaredInstance, member: &Member) -> 
 }
 
 /// What a name means among the data of an adapter type.
-fn referred_data(ports: &Ports, name: &Name, subscripted: bool) -> Referent
+fn referred_data<'a>(ports: &Ports<'a>, name: &Name, subscripted: bool) -> Referent<'a>
     ensures { result ≡ data_referent (stands_for ports.now.variables name.now) subscripted }
 {
     match ports.variable(name) {
-        Some(variable) if is_port(variable.section) => {
-            Referent::Variable(variable.type_use, subscripted)
+        Some(variable) if is_port(variable.section()) => {
+            Referent::Variable(UsedType::of(variable.type_use()), subscripted)
         }
         _ => Referent::Unknown,
     }
@@ -192,8 +201,8 @@ fn is_port(section: Section) -> bool
 }
 
 /// What is referred to by further names after what these names begin at.
-fn referred_behind(names: Names<'_>, base: Referent, members: &[Member]) -> Referent
-    ensures { result ≡ walk (names_in names.entry) base members.now }
+fn referred_behind<'a>(names: Names<'a>, base: Referent<'a>, members: &[Member]) -> Referent<'a>
+    ensures { result ≡ walk (names_in names.entry) base.entry members.now }
 {
     let mut referent = base;
     for member in members {
@@ -204,34 +213,34 @@ fn referred_behind(names: Names<'_>, base: Referent, members: &[Member]) -> Refe
 
 /// What is referred to by one further name. After one that is unknown or not checked none is
 /// checked.
-fn referred_member(names: Names<'_>, referent: Referent, member: &Member) -> Referent
-    ensures { result ≡ step (names_in names.entry) referent member.now }
+fn referred_member<'a>(names: Names<'a>, referent: Referent<'a>, member: &Member) -> Referent<'a>
+    ensures { result ≡ step (names_in names.entry) referent.entry member.now }
 {
     match referent {
         Referent::Variable(used, subscripted) => {
-            referred_field(behind(names.structures, &used, subscripted), member)
+            referred_field(behind(names.structures, used.get(), subscripted), member)
         }
         Referent::Unjudged | Referent::Unknown | Referent::NoMember(_) => referent,
     }
 }
 
 /// What may be named after a type, without or with a subscript.
-fn behind<'a>(structures: &'a Structures, used: &WideTypeUse, subscripted: bool) -> Behind<'a>
+fn behind<'a>(structures: &'a Structures<'a>, used: &TypeUse, subscripted: bool) -> Behind<'a>
     ensures { fields_shown result
         ≡ fields_behind (structures_in structures.now) used.now.form used.now.name.name
         subscripted }
 {
-    match (used.form(), subscripted) {
+    match (used.form, subscripted) {
         (TypeForm::Plain, false) | (TypeForm::Array, true) => {
-            behind_named(structures, used.name())
+            behind_named(structures, &used.name.name.name())
         }
-        (TypeForm::Plain, true) => without_fields(behind_named(structures, used.name())),
+        (TypeForm::Plain, true) => without_fields(behind_named(structures, &used.name.name.name())),
         (TypeForm::Array, false) | (TypeForm::Sized, _) => Behind::NoFields,
     }
 }
 
 /// What may be named after a plain type of this name. After one of class Free no name is checked.
-fn behind_named<'a>(structures: &'a Structures, name: &Name) -> Behind<'a>
+fn behind_named<'a>(structures: &'a Structures<'a>, name: &Name) -> Behind<'a>
     ensures { fields_shown result ≡ fields_named (structures_in structures.now) name.now }
 {
     if class_by_name(name).is_free() {
@@ -252,7 +261,7 @@ fn without_fields(behind: Behind<'_>) -> Behind<'_>
 }
 
 /// What a name means among these fields.
-fn referred_field(behind: Behind<'_>, member: &Member) -> Referent
+fn referred_field<'a>(behind: Behind<'a>, member: &Member) -> Referent<'a>
     ensures { result ≡ member_among (fields_shown behind.entry) member.now }
 {
     match behind {
@@ -263,44 +272,44 @@ fn referred_field(behind: Behind<'_>, member: &Member) -> Referent
 }
 
 /// What a name means by the field that it names.
-fn field_referent(field: Option<&DeclaredVariable>, member: &Member) -> Referent
+fn field_referent<'a>(field: Option<&DeclaredVariable<'a>>, member: &Member) -> Referent<'a>
     ensures { result ≡ field_referent (option_copied field.entry) member.now }
 {
     match field {
-        Some(field) => Referent::Variable(field.type_use, member.subscripts > 0),
+        Some(field) => { Referent::Variable(UsedType::of(field.type_use()), member.subscripts > 0) }
         None => Referent::NoMember(member.name.span.span()),
     }
 }
 
-impl Referent {
+impl<'a> Referent<'a> {
     /// Its class. What is unknown or not checked meets every rule.
     fn class(&self) -> Class
         ensures { result ≡ class_of_referent self.now }
     {
         match self {
-            Referent::Variable(used, subscripted) => class_of_use(used, *subscripted),
+            Referent::Variable(used, subscripted) => class_of_use(used.get(), *subscripted),
             Referent::Unjudged | Referent::Unknown | Referent::NoMember(_) => Class::Free,
         }
     }
 }
 
 /// The class of a variable of this type, or of its element.
-fn class_of_use(used: &WideTypeUse, subscripted: bool) -> Class
+fn class_of_use(used: &TypeUse, subscripted: bool) -> Class
     ensures { result ≡ class_with used.now subscripted }
 {
     if subscripted {
         element_class(used)
     } else {
-        class_of_wide(used)
+        class_of(used)
     }
 }
 
 /// The class of the elements of an array. A type that is no array has other values.
-fn element_class(used: &WideTypeUse) -> Class
+fn element_class(used: &TypeUse) -> Class
     ensures { result ≡ class_of_element used.now.form used.now.name.name }
 {
-    match used.form() {
-        TypeForm::Array => class_by_name(used.name()),
+    match used.form {
+        TypeForm::Array => class_by_use(&used.name),
         TypeForm::Plain | TypeForm::Sized => Class::O,
     }
 }
@@ -308,7 +317,7 @@ fn element_class(used: &WideTypeUse) -> Class
 /// Reports a name that is no variable, or a further one that is no field. `span` is that of the
 /// names that mean a variable.
 fn report_reference(
-    referent: &Referent,
+    referent: &Referent<'_>,
     span: Span,
     found: &mut Vec<Fault>,
 ) -> Result<(), AllocError>

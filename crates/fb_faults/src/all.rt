@@ -7,7 +7,7 @@ ghost use Rattle.fb_faults.specs.Faults.{block_faults, chart_here, faults_here, 
 
 use crate::mappings::report_mappings;
 use fb_ecc::report_charts;
-use fb_expr::{Names, report_expressions};
+use fb_expr::report_expressions;
 use fb_netcheck::iface::{
     Code, Fault, Ports, Scope, Structures, ports_of, report_declarations, sorted_faults,
 };
@@ -80,14 +80,14 @@ fn report_declared<V: View>(
 }
 
 /// The place of the network of a type of this kind, by the ports of the type.
-fn setting_of<V: View>(
+fn setting_of<'a, V: View>(
     alloc: Global,
-    view: &V,
+    view: &'a V,
     unit: &Name,
     kind: UnitKind,
-    own: Ports,
+    own: Ports<'a>,
     declared: &TypeDeclaration,
-) -> Result<Setting, AllocError>
+) -> Result<Setting<'a>, AllocError>
     requires { own ≡ meanings_in_type (type_tree declared.now) }
     ensures { IfOk result (λ here. place_in here
         ≡ (type_place (V.sources view.now) unit.now kind (type_tree declared.now)).0) }
@@ -102,7 +102,7 @@ fn report_block<V: View>(
     alloc: Global,
     view: &V,
     unit: &Name,
-    own: Ports,
+    own: Ports<'_>,
     declared: &TypeDeclaration,
     found: &mut Vec<Fault>,
 ) -> Result<(), AllocError>
@@ -118,7 +118,7 @@ fn report_block<V: View>(
 fn report_here<V: View>(
     alloc: Global,
     view: &V,
-    here: &Setting,
+    here: &Setting<'_>,
     declared: &TypeDeclaration,
     found: &mut Vec<Fault>,
 ) -> Result<(), AllocError>
@@ -133,7 +133,7 @@ fn report_here<V: View>(
 fn report_chart<V: View>(
     alloc: Global,
     view: &V,
-    here: &Setting,
+    here: &Setting<'_>,
     chart: &Chart,
     found: &mut Vec<Fault>,
 ) -> Result<(), AllocError>
@@ -145,11 +145,7 @@ fn report_chart<V: View>(
         return Ok(());
     }
     let structures = Structures::near(alloc, view, &here.unit)?;
-    let names = Names {
-        scope: &here.scope,
-        structures: &structures,
-    };
-    report_expressions(names, chart, found)?;
+    report_expressions(&here.scope, &structures, chart, found)?;
     report_charts(alloc, &here.scope, chart, found)
 }
 
@@ -158,7 +154,7 @@ fn report_subapplication<V: View>(
     alloc: Global,
     view: &V,
     unit: &Name,
-    own: Ports,
+    own: Ports<'_>,
     declared: &TypeDeclaration,
     found: &mut Vec<Fault>,
 ) -> Result<(), AllocError>

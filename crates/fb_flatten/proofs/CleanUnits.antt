@@ -9,7 +9,7 @@ use Rattle.fb_types.specs.Iface.Ports.{events_in, instances_in, meanings_in_type
 use Rattle.fb_types.specs.Iface.Spaces.{chart_spaces, interface_spaces, network_spaces, resource_names, spaces_of}
 use Rattle.fb_types.specs.{declared.systems.Application.{Application}, Tree.declared.network.Sort.{Sort}, Library.View.{Sources, tree_at}}
 use Rattle.fb_types.specs.{Iface.Recursion.{recursion_faults}, Iface.Names.{first_ones, is_same, stands_for}}
-use Rattle.fb_types.specs.{Iface.Types.{instance_faults, instances_of, type_faults}, Iface.declared.ports.DeclaredInstance.{DeclaredInstance}}
+use Rattle.fb_types.specs.{Iface.Types.{instance_faults, instances_of, type_faults}, Iface.Ports.{DeclaredInstance}}
 use Rattle.fb_types.specs.{Network.Plain.{PlainNetwork}, Network.declared.network.End.TheVariants.{Own}, Network.declared.network.Port.{Port}}
 use Rattle.fb_types.specs.{Applications.{applications_of, plain_application}, Networks.{end_named, network_of, plain_network}, Ports.{plain_ports}}
 use Rattle.fb_types.specs.Tree.declared.kinds.UnitKind.TheVariants as kinds

@@ -9,7 +9,7 @@ use Rattle.fb_types.specs.Iface.Ports.{meanings_in_type, events_on, data_on, ins
 use Rattle.fb_types.specs.{Tree.Mentions.{instance_types, parts_of, types_in}, Tree.declared.interface.Side.{Side}}
 use Rattle.fb_types.specs.{Tree.declared.interface.Side.TheVariants.{Input, Output}, Tree.declared.network.Role.{Role}}
 use Rattle.fb_types.specs.{Library.View.{Sources, tree_at, parts_at, parts_in}, Iface.Names.{first_ones, stands_for}}
-use Rattle.fb_types.specs.{Iface.declared.ports.DeclaredInstance.{DeclaredInstance}, Network.declared.network.Instance.{Instance}}
+use Rattle.fb_types.specs.{Iface.Ports.{DeclaredInstance}, Network.declared.network.Instance.{Instance}}
 use Rattle.fb_types.specs.{Network.declared.network.Port.{Port}, Network.Plain.{PlainNetwork}, Applications.{applications_of, plain_application}}
 use Rattle.fb_types.specs.{ByName.{applications_at, declared}, Networks.{instance_in_role, plain_instance, network_of, leaf}}
 use Rattle.fb_types.specs.{Ports.{plain_ports, plain_event, plain_data, plain_adapter}, declared.systems.Application.{Application}, Units.{own_instances}}

@@ -8,7 +8,7 @@ use Rattle.fb_types.specs.{Tree.declared.network.Connection.{Connection as Conne
 use Rattle.fb_types.specs.{Tree.declared.network.Role.{Role}, Tree.declared.network.Sort.{Sort}, Library.View.{Sources, tree_at}}
 use Rattle.fb_types.specs.{Iface.Names.{first_ones, has_name, is_same, stands_for}, Iface.Ports.{Meanings, instances_in, meanings_in}}
 use Rattle.fb_types.specs.{Iface.Scope.{ports_of, type_ports_of, usable}, Iface.Types.{instance_faults, suits, type_fault}}
-use Rattle.fb_types.specs.Iface.declared.ports.DeclaredInstance.{DeclaredInstance}
+use Rattle.fb_types.specs.Iface.Ports.{DeclaredInstance}
 use Rattle.fb_types.specs.Network.Clean.{IsDeclared, IsDestination, IsSource, adapter_name_at, port_named, side_at, type_of}
 use Rattle.fb_types.specs.Networks.{end_named, instance_in_role, network_of, plain_connection, plain_end, plain_instance, plain_network}
 use Rattle.fb_types.specs.{Network.Network.{IsConnected, View, instance_named, place_of}, Network.Plain.{PlainNetwork}, Network.declared.network.End.{End}}

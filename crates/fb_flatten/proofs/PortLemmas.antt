@@ -6,8 +6,8 @@ use Rattle.fb_types.specs.{Tree.Tree.{DeclTree, block_type, adapter_type, subapp
 use Rattle.fb_types.specs.Iface.Ports.{Meanings, events_in, instances_in, meanings_in, same_role, same_side, variables_in}
 use Rattle.fb_types.specs.{Ports.{plain_adapter, plain_data, plain_event, plain_ports}, Tree.declared.interface.Side.{Side}}
 use Rattle.fb_types.specs.{Tree.declared.interface.Side.TheVariants.{Input, Output}, Tree.declared.network.Role.{Role}, Tree.declared.network.Sort.{Sort}}
-use Rattle.fb_types.specs.{Iface.Sides.{is_data_on}, Iface.declared.ports.DeclaredEvent.{DeclaredEvent}}
-use Rattle.fb_types.specs.{Iface.declared.ports.DeclaredInstance.{DeclaredInstance}, Iface.declared.ports.DeclaredVariable.{DeclaredVariable}}
+use Rattle.fb_types.specs.{Iface.Sides.{is_data_on}, Iface.Ports.{DeclaredEvent}}
+use Rattle.fb_types.specs.Iface.Ports.{DeclaredInstance, DeclaredVariable}
 use Rattle.fb_types.specs.{Network.Clean.{port_named}, Network.Sorts.{same_sort}, Network.declared.network.Port.{Port}, Networks.{network_of}}
 use Rattle.fb_types.specs.Tree.declared.network.Role.TheVariants as roles
 use Rattle.fb_types.specs.Tree.declared.network.Sort.TheVariants as sorts

@@ -5,8 +5,8 @@ use Rattle.std.specs.List.{flat_map, list_any}
 use Rattle.fb_tree.specs.Tree.{EventTree, InstanceTree, InterfaceTree, NetworkTree, VariablesTree, event_tree, instance_tree}
 use Rattle.fb_tree.specs.{declared.interface.Event.{Event}, declared.network.Instance.{Instance}, Text.declared.name.NameUse.{NameUse}}
 use Rattle.fb_iface.specs.{Names.{first_ones, has_name, is_repeated, is_same, repeated, stands_for}, Ports.{events_in, instances_in, variables_together}}
-use Rattle.fb_iface.specs.{declared.ports.DeclaredEvent.{DeclaredEvent}, declared.ports.DeclaredInstance.{DeclaredInstance}}
-use Rattle.fb_iface.specs.declared.ports.DeclaredVariable.{DeclaredVariable}
+use Rattle.fb_iface.specs.Ports.{DeclaredEvent, DeclaredInstance}
+use Rattle.fb_iface.specs.Ports.{DeclaredVariable}
 use Rattle.fb_iface.proofs.{PlaceLemmas.{passing-more}, RepeatLemmas.{repeated_all, repeated_among}, TableLemmas.{first-more, first_all, first_among}}
 use Rattle.fb_iface.proofs.TreeLemmas.{same_items}
 

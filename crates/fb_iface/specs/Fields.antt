@@ -2,7 +2,7 @@
 use Rattle.std.specs.{Prelude.{ℕ, List, Option, Some, None, if◌then◌else◌}, List.{flat_map}}
 use Rattle.fb_tree.specs.Tree.{DeclTree, StructureTree, block_type, adapter_type, subapplication_type, system_configuration, structure_type}
 use Rattle.fb_library.specs.{Near.{bases_at, carried_of}, Seen.{has_name}, View.{Sources, tree_at}}
-use Rattle.fb_iface.specs.{Names.{first_ones}, Ports.{variables_together}, declared.ports.DeclaredVariable.{DeclaredVariable}}
+use Rattle.fb_iface.specs.{Names.{first_ones}, Ports.{DeclaredVariable, variables_together}}
 
 -- what a further name may name after a plain type
 pub data Fields : Type 0 where

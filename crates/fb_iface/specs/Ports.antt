@@ -2,12 +2,26 @@
 use Rattle.std.specs.{Prelude.{ℕ, Bool, true, false, List, [], map, filter, Option, option_map}, List.{flat_map}}
 use Rattle.fb_tree.specs.Text.declared.name.NameUse.{NameUse}
 use Rattle.fb_tree.specs.Tree.{DeclTree, InterfaceTree, NetworkTree, TypeTree, VariablesTree, block_type, adapter_type, subapplication_type, system_configuration, structure_type}
-use Rattle.fb_tree.specs.{declared.interface.Side.{Side}, declared.interface.TypeUse.{TypeUse}, declared.network.Role.{Role}}
+use Rattle.fb_tree.specs.{declared.interface.Section.{Section}, declared.interface.Side.{Side}, declared.interface.TypeUse.{TypeUse}, declared.network.Role.{Role}}
 use Rattle.fb_tree.specs.declared.interface.Side.TheVariants as sides
 use Rattle.fb_tree.specs.declared.network.Role.TheVariants as roles
 use Rattle.fb_library.specs.View.{tree_of}
-use Rattle.fb_iface.specs.{declared.ports.DeclaredEvent.{DeclaredEvent}, declared.ports.DeclaredInstance.{DeclaredInstance}}
-use Rattle.fb_iface.specs.{declared.ports.DeclaredVariable.{DeclaredVariable}, Names.{first_ones}, Sides.{is_data_on}}
+use Rattle.fb_iface.specs.{Names.{first_ones}, Sides.{is_data_on}}
+
+-- an event of an interface, with its type if one is written
+pub record DeclaredEvent : Type 0 where
+  pub side : Side
+  pub type_name : Option NameUse
+
+-- a variable of an interface, or a field of a structure
+pub record DeclaredVariable : Type 0 where
+  pub section : Section
+  pub type_use : TypeUse
+
+-- an instance, a plug or a socket
+pub record DeclaredInstance : Type 0 where
+  pub role : Role
+  pub type_name : NameUse
 
 -- the events of an interface, in the order of the text
 abbrev pub events_in : InterfaceTree → List (List ℕ × DeclaredEvent)

@@ -4,7 +4,7 @@ use Rattle.fb_tree.specs.{Tree.{DeclTree, InstanceTree, NetworkTree, TypeTree}, 
 use Rattle.fb_tree.specs.declared.network.Role.{Role}
 use Rattle.fb_library.specs.View.{Sources, tree_at}
 use Rattle.fb_iface.specs.{Names.{has_name, stands_for}, Ports.{Meanings, meanings_in, meanings_in_network, meanings_in_type}, Types.{suits}}
-use Rattle.fb_iface.specs.declared.ports.DeclaredInstance.{DeclaredInstance}
+use Rattle.fb_iface.specs.Ports.{DeclaredInstance}
 
 -- the ports of a type of this kind, if it is the kind that the section requires
 abbrev pub ports_where : Role → UnitKind → Meanings → Option Meanings

@@ -1,7 +1,7 @@
 -- Names after WITH.
 use Rattle.std.specs.{Prelude.{ℕ, Bool, false, not, List, filter, Option, Some, None}, List.{flat_map}}
 use Rattle.fb_tree.specs.{Tree.{EventTree, InterfaceTree}, declared.interface.Side.{Side}}
-use Rattle.fb_iface.specs.{declared.code.Code.TheVariants.{WithUnknown}, declared.ports.DeclaredVariable.{DeclaredVariable}, declared.fault.Fault.{Fault}}
+use Rattle.fb_iface.specs.{declared.code.Code.TheVariants.{WithUnknown}, Ports.{DeclaredVariable}, declared.fault.Fault.{Fault}}
 use Rattle.fb_iface.specs.{Ports.{variables_in}, Fault.{faults_at}, Names.{stands_for}, Sides.{goes_with}}
 
 -- whether what a name means can go with an event of this side

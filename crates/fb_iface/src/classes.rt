@@ -1,9 +1,9 @@
 //! Classes of types and constants.
 ghost use Rattle.std.specs.Prelude.{◌≡◌};
-ghost use Rattle.fb_iface.specs.Class.{class_of_form, class_of_literal, class_of_name, class_of_simple, class_of_type, is_free, named_class, takes};
+ghost use Rattle.fb_iface.specs.Class.{class_of_literal, class_of_name, class_of_simple, class_of_type, is_free, named_class, takes};
 
-use fb_tree::text::{Name, TypeClass, type_class};
-use fb_tree::{LiteralForm, Simple, TypeForm, TypeUse, WideTypeUse};
+use fb_tree::text::{Name, NameUse, TypeClass, type_class};
+use fb_tree::{LiteralForm, Simple, TypeForm, TypeUse};
 
 /// What a value may be combined with.
 #[derive(Clone, Copy, Debug, PartialEq, Eq)]
@@ -47,23 +47,17 @@ fn class_by_type(class: TypeClass) -> Class
 pub fn class_of(used: &TypeUse) -> Class
     ensures { result ≡ class_of_type used.now }
 {
-    class_in(used.form, &used.name.name.name())
-}
-
-/// The class of the type of a declared variable.
-pub fn class_of_wide(used: &WideTypeUse) -> Class
-    ensures { result ≡ class_of_type used.now }
-{
-    class_in(used.form(), used.name())
-}
-
-fn class_in(form: TypeForm, name: &Name) -> Class
-    ensures { result ≡ class_of_form form name.now }
-{
-    match form {
-        TypeForm::Plain => class_by_name(name),
+    match used.form {
+        TypeForm::Plain => class_by_use(&used.name),
         TypeForm::Sized | TypeForm::Array => Class::O,
     }
+}
+
+/// The class of the type that is used by this name.
+pub fn class_by_use(used: &NameUse) -> Class
+    ensures { result ≡ class_of_name used.now.name }
+{
+    class_by_type(type_class(used.name.as_str().as_bytes()))
 }
 
 /// The class of a literal.

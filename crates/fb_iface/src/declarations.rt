@@ -39,7 +39,7 @@ pub fn report_declarations<V: View>(
     view: &V,
     unit: &Name,
     decl: &Decl,
-    own: &Ports,
+    own: &Ports<'_>,
     found: &mut Vec<Fault>,
 ) -> Result<(), AllocError>
     requires { own.now ≡ meanings_in (decl_tree decl.now) }

@@ -5,7 +5,7 @@ ghost use Rattle.fb_iface.specs.{Declarations.{literal_faults_of}, Literals.{ini
 
 use crate::fault::Fault;
 use crate::literals::report_constant;
-use fb_tree::{Decl, Variables, WideTypeUse};
+use fb_tree::{Decl, Variables};
 use std::alloc::AllocError;
 
 /// Reports the initial values that do not fit their type.
@@ -38,7 +38,7 @@ fn report_initial(group: &Variables, found: &mut Vec<Fault>) -> Result<(), Alloc
         (found.new.items ≡ found.old.items ++ initial_faults (variables_tree group.now)) }
 {
     match &group.initial {
-        Some(constant) => { report_constant(&WideTypeUse::of(&group.type_use), constant, found) }
+        Some(constant) => report_constant(&group.type_use, constant, found),
         None => Ok(()),
     }
 }

@@ -9,7 +9,7 @@ use fb_tree::Decl;
 use std::alloc::{AllocError, Global};
 
 /// The ports of a unit. A broken text has none, and those of a system or a structure are empty.
-pub fn interface(alloc: Global, source: &Source) -> Result<Option<Ports>, AllocError>
+pub fn interface(alloc: Global, source: &Source) -> Result<Option<Ports<'_>>, AllocError>
     ensures { IfOk result (λ ports. ports ≡ meanings_of source.now.text) }
 {
     match source.body() {
@@ -19,7 +19,7 @@ pub fn interface(alloc: Global, source: &Source) -> Result<Option<Ports>, AllocE
 }
 
 /// The ports of a declaration.
-pub fn ports_of(alloc: Global, decl: &Decl) -> Result<Ports, AllocError>
+pub fn ports_of(alloc: Global, decl: &Decl) -> Result<Ports<'_>, AllocError>
     ensures { IfOk result (λ ports. ports ≡ meanings_in (decl_tree decl.now)) }
 {
     match decl {

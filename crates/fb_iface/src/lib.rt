@@ -17,10 +17,11 @@ mod recursion;
 mod repeats;
 mod scope;
 mod structures;
+mod used;
 mod withs;
 
 pub use classes::{
-    Class, class_by_form, class_by_name, class_of, class_of_constant, class_of_wide, is_taken,
+    Class, class_by_form, class_by_name, class_by_use, class_of, class_of_constant, is_taken,
 };
 pub use code::Code;
 pub use declarations::{iface_faults, report_declarations};
@@ -34,6 +35,7 @@ pub use ports::{
 };
 pub use scope::Scope;
 pub use structures::{Behind, FieldTable, Structures};
+pub use used::{UsedName, UsedType};
 
 /// Of `fb_parse`, for the crates above.
 pub mod parse {

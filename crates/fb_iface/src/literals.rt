@@ -3,16 +3,16 @@ ghost use Rattle.std.specs.Prelude.{◌≡◌, ◌++◌, OnOk};
 ghost use Rattle.fb_tree.specs.Tree.{one_value, constant_tree};
 ghost use Rattle.fb_iface.specs.Literals.{constant_faults, fits_alone, list_faults, literal_fault, misfits};
 
-use crate::classes::{Class, class_by_name, class_of_constant, class_of_wide, is_taken};
+use crate::classes::{Class, class_by_use, class_of, class_of_constant, is_taken};
 use crate::code::Code;
 use crate::fault::Fault;
 use fb_tree::text::Span;
-use fb_tree::{Constant, Simple, TypeForm, WideTypeUse};
+use fb_tree::{Constant, Simple, TypeForm, TypeUse};
 use std::alloc::AllocError;
 
 /// Reports a constant that does not fit the type, or the elements of a list that do not.
 pub fn report_constant(
-    used: &WideTypeUse,
+    used: &TypeUse,
     constant: &Constant,
     found: &mut Vec<Fault>,
 ) -> Result<(), AllocError>
@@ -27,15 +27,11 @@ pub fn report_constant(
 }
 
 /// Reports a single constant.
-fn report_alone(
-    used: &WideTypeUse,
-    value: &Simple,
-    found: &mut Vec<Fault>,
-) -> Result<(), AllocError>
+fn report_alone(used: &TypeUse, value: &Simple, found: &mut Vec<Fault>) -> Result<(), AllocError>
     ensures { OnOk result
         (found.new.items ≡ found.old.items ++ constant_faults used.now (one_value value.now)) }
 {
-    if !is_fit(used.form(), class_of_wide(used), class_of_constant(value)) {
+    if !is_fit(used.form, class_of(used), class_of_constant(value)) {
         found.push(misfit(value.span()))?;
     }
     Ok(())
@@ -52,7 +48,7 @@ fn is_fit(form: TypeForm, class: Class, constant: Class) -> bool
 }
 
 fn report_list(
-    used: &WideTypeUse,
+    used: &TypeUse,
     values: &[Simple],
     span: Span,
     found: &mut Vec<Fault>,
@@ -60,10 +56,10 @@ fn report_list(
     ensures { OnOk result
         (found.new.items ≡ found.old.items ++ list_faults used.now.form used.now values.now span) }
 {
-    match used.form() {
-        TypeForm::Array => report_elements(class_by_name(used.name()), values, found),
+    match used.form {
+        TypeForm::Array => report_elements(class_by_use(&used.name), values, found),
         TypeForm::Plain | TypeForm::Sized => {
-            if !class_of_wide(used).is_free() {
+            if !class_of(used).is_free() {
                 found.push(misfit(span))?;
             }
             Ok(())

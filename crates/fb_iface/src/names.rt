@@ -26,7 +26,7 @@ pub fn first_declared<D: Copy>(
 }
 
 /// Declares a name, unless it is declared already: then it keeps its first meaning.
-pub(crate) fn declare<D: Copy>(
+pub(crate) fn declare<D: Drop>(
     name: Name,
     declared: D,
     table: &mut IndexMap<Name, D>,

@@ -5,44 +5,115 @@ ghost use Rattle.fb_iface.specs.{Names.{first_ones, with_firsts}, Ports.{events_
 ghost use Rattle.fb_iface.specs.Sides.{is_data_on};
 
 use crate::names::declare;
-use fb_tree::text::{Name, WideUse};
+use fb_tree::text::{Name, NameUse};
 use fb_tree::{
-    Event, Interface, Network, Role, Section, Side, TypeDeclaration, Variables, WideTypeUse,
+    Event, Instance, Interface, Network, Role, Section, Side, TypeDeclaration, TypeUse, Variables,
 };
 use indexmap::IndexMap;
 use std::alloc::{AllocError, Global};
 use std::marker::Model;
 
-/// An event of an interface, with its type if one is written.
-#[derive(Clone, Copy, Debug)]
-pub struct DeclaredEvent {
-    pub side: Side,
-    pub type_name: Option<WideUse>,
+/// An event of an interface, with its type if one is written: a view into the tree that declares it.
+#[derive(Drop)]
+pub struct DeclaredEvent<'a> {
+    event: &'a Event,
 }
 
-/// A variable of an interface.
-#[derive(Clone, Copy, Debug)]
-pub struct DeclaredVariable {
-    pub section: Section,
-    pub type_use: WideTypeUse,
+impl<'a> Model for DeclaredEvent<'a> {
+    ghost use Rattle.fb_iface.specs.Ports.{DeclaredEvent as Meaning};
+
+    ghost Value = { Meaning };
+
+    ghost view = { λ d. record { side = d.event.now.side; type_name = d.event.now.type_name } };
 }
 
-/// An instance, a plug or a socket.
-#[derive(Clone, Copy, Debug)]
-pub struct DeclaredInstance {
-    pub role: Role,
-    pub type_name: WideUse,
+impl<'a> DeclaredEvent<'a> {
+    ghost use Rattle.std.specs.Option.{option_copied};
+
+    /// Its side.
+    pub fn side(&self) -> Side
+        ensures { result ≡ self.now.side }
+    {
+        self.event.side
+    }
+
+    /// The name of its type, if one is written.
+    pub fn type_name(&self) -> Option<&'a NameUse>
+        ensures { option_copied result ≡ self.now.type_name }
+    {
+        self.event.type_name.as_ref()
+    }
+}
+
+/// A variable of an interface, or a field of a structure: a view into the tree that declares it.
+#[derive(Drop)]
+pub struct DeclaredVariable<'a> {
+    group: &'a Variables,
+}
+
+impl<'a> Model for DeclaredVariable<'a> {
+    ghost use Rattle.fb_iface.specs.Ports.{DeclaredVariable as Meaning};
+
+    ghost Value = { Meaning };
+
+    ghost view = { λ d. record { section = d.group.now.section; type_use = d.group.now.type_use } };
+}
+
+impl<'a> DeclaredVariable<'a> {
+    /// Its section.
+    pub fn section(&self) -> Section
+        ensures { result ≡ self.now.section }
+    {
+        self.group.section
+    }
+
+    /// Its type.
+    pub fn type_use(&self) -> &'a TypeUse
+        ensures { result.now ≡ self.now.type_use }
+    {
+        &self.group.type_use
+    }
+}
+
+/// An instance, a plug or a socket: a view into the tree that declares it.
+#[derive(Drop)]
+pub struct DeclaredInstance<'a> {
+    instance: &'a Instance,
+}
+
+impl<'a> Model for DeclaredInstance<'a> {
+    ghost use Rattle.fb_iface.specs.Ports.{DeclaredInstance as Meaning};
+
+    ghost Value = { Meaning };
+
+    ghost view = { λ d. record { role = d.instance.now.role; type_name = d.instance.now.type_name } };
+}
+
+impl<'a> DeclaredInstance<'a> {
+    /// Its role.
+    pub fn role(&self) -> Role
+        ensures { result ≡ self.now.role }
+    {
+        self.instance.role
+    }
+
+    /// The name of its type.
+    pub fn type_name(&self) -> &'a NameUse
+        ensures { result.now ≡ self.now.type_name }
+    {
+        &self.instance.type_name
+    }
 }
 
 /// What the events, variables and instances of a unit are, by their names, in the order of the text. A name that is declared more than once
 /// means its first declaration: an internal variable or an instance may hide a port of that name.
-pub struct Ports {
-    events: IndexMap<Name, DeclaredEvent>,
-    variables: IndexMap<Name, DeclaredVariable>,
-    instances: IndexMap<Name, DeclaredInstance>,
+pub struct Ports<'a> {
+    events: IndexMap<Name, DeclaredEvent<'a>>,
+    variables: IndexMap<Name, DeclaredVariable<'a>>,
+    instances: IndexMap<Name, DeclaredInstance<'a>>,
 }
 
-impl Drop for Ports {
+impl<'a> Drop for Ports<'a> {
     fn drop(self) {
         let Self {
             events: _,
@@ -52,7 +123,7 @@ impl Drop for Ports {
     }
 }
 
-impl Model for Ports {
+impl<'a> Model for Ports<'a> {
     ghost use Rattle.fb_iface.specs.Ports.{Meanings};
 
     ghost Value = { Meanings };
@@ -60,13 +131,13 @@ impl Model for Ports {
     ghost view = { λ p. record { events = p.events.entries; variables = p.variables.entries; instances = p.instances.entries } };
 }
 
-impl Ports {
+impl<'a> Ports<'a> {
     ghost use Rattle.std.specs.{Prelude.{[]}, Option.{option_copied}};
     ghost use Rattle.fb_tree.specs.Tree.{type_tree};
     ghost use Rattle.fb_iface.specs.{Names.{stands_for}, Ports.{meanings_in_network, meanings_in_type}};
 
     /// No ports.
-    pub fn new(alloc: Global) -> Ports
+    pub fn new(alloc: Global) -> Ports<'a>
         ensures { result ≡ record { events = []; variables = []; instances = [] } }
     {
         Ports {
@@ -77,7 +148,7 @@ impl Ports {
     }
 
     /// The ports of a type.
-    pub fn of_type(alloc: Global, declared: &TypeDeclaration) -> Result<Ports, AllocError>
+    pub fn of_type(alloc: Global, declared: &'a TypeDeclaration) -> Result<Ports<'a>, AllocError>
         ensures { IfOk result (λ ports. ports ≡ meanings_in_type (type_tree declared.now)) }
     {
         Ok(Ports {
@@ -88,7 +159,7 @@ impl Ports {
     }
 
     /// The instances of a network, which has no events and variables of its own.
-    pub fn of_network(alloc: Global, network: &Network) -> Result<Ports, AllocError>
+    pub fn of_network(alloc: Global, network: &'a Network) -> Result<Ports<'a>, AllocError>
         ensures { IfOk result (λ ports. ports ≡ meanings_in_network (network_tree network.now)) }
     {
         Ok(Ports {
@@ -100,7 +171,7 @@ impl Ports {
 
     /// The event that the name means.
     #[tactic(auto, using(crate::proofs::TableLemmas::found_by_name))]
-    pub fn event(&self, name: &Name) -> Option<&DeclaredEvent>
+    pub fn event(&self, name: &Name) -> Option<&DeclaredEvent<'a>>
         ensures { option_copied result ≡ stands_for self.now.events name.now }
     {
         self.events.get(name)
@@ -108,7 +179,7 @@ impl Ports {
 
     /// The variable that the name means, an internal one too.
     #[tactic(auto, using(crate::proofs::TableLemmas::found_by_name))]
-    pub fn variable(&self, name: &Name) -> Option<&DeclaredVariable>
+    pub fn variable(&self, name: &Name) -> Option<&DeclaredVariable<'a>>
         ensures { option_copied result ≡ stands_for self.now.variables name.now }
     {
         self.variables.get(name)
@@ -116,28 +187,28 @@ impl Ports {
 
     /// The instance, plug or socket that the name means.
     #[tactic(auto, using(crate::proofs::TableLemmas::found_by_name))]
-    pub fn instance(&self, name: &Name) -> Option<&DeclaredInstance>
+    pub fn instance(&self, name: &Name) -> Option<&DeclaredInstance<'a>>
         ensures { option_copied result ≡ stands_for self.now.instances name.now }
     {
         self.instances.get(name)
     }
 
     /// The events by their names: the event inputs are those of the side `Input`.
-    pub fn events(&self) -> &IndexMap<Name, DeclaredEvent>
+    pub fn events(&self) -> &IndexMap<Name, DeclaredEvent<'a>>
         ensures { result.now.entries ≡ self.now.events }
     {
         &self.events
     }
 
     /// The variables by their names, internal ones too: the data inputs are those in a section beside `Input` ([`is_beside`]).
-    pub fn variables(&self) -> &IndexMap<Name, DeclaredVariable>
+    pub fn variables(&self) -> &IndexMap<Name, DeclaredVariable<'a>>
         ensures { result.now.entries ≡ self.now.variables }
     {
         &self.variables
     }
 
     /// The instances by their names, plugs and sockets too.
-    pub fn instances(&self) -> &IndexMap<Name, DeclaredInstance>
+    pub fn instances(&self) -> &IndexMap<Name, DeclaredInstance<'a>>
         ensures { result.now.entries ≡ self.now.instances }
     {
         &self.instances
@@ -178,35 +249,25 @@ pub fn is_beside(side: Side, section: Section) -> bool
 }
 
 /// The events of an interface by their names.
-fn event_table(
+fn event_table<'a>(
     alloc: Global,
-    interface: &Interface,
-) -> Result<IndexMap<Name, DeclaredEvent>, AllocError>
+    interface: &'a Interface,
+) -> Result<IndexMap<Name, DeclaredEvent<'a>>, AllocError>
     ensures { IfOk result
         (λ table. table.entries ≡ first_ones (events_in (interface_tree interface.now))) }
 {
     let mut table = IndexMap::with_capacity(alloc, interface.events.len())?;
     for event in &interface.events {
-        declare(event.name.name.name(), declared_event(event), &mut table)?;
+        declare(event.name.name.name(), DeclaredEvent { event }, &mut table)?;
     }
     Ok(table)
 }
 
-/// What the name of an event means.
-fn declared_event(event: &Event) -> DeclaredEvent
-    ensures { result ≡ record { side = event.now.side; type_name = event.now.type_name } }
-{
-    DeclaredEvent {
-        side: event.side,
-        type_name: event.type_name.as_ref().map(WideUse::of),
-    }
-}
-
 /// Variables or fields by their names.
-pub(crate) fn variable_table(
+pub(crate) fn variable_table<'a>(
     alloc: Global,
-    groups: &[Variables],
-) -> Result<IndexMap<Name, DeclaredVariable>, AllocError>
+    groups: &'a [Variables],
+) -> Result<IndexMap<Name, DeclaredVariable<'a>>, AllocError>
     ensures { IfOk result (λ table. table.entries
         ≡ first_ones (flat_map variables_together (map variables_tree groups.now))) }
 {
@@ -227,39 +288,31 @@ fn count_of(groups: &[Variables]) -> usize {
 }
 
 /// Declares the variables that are declared together.
-fn declare_together(
-    group: &Variables,
-    table: &mut IndexMap<Name, DeclaredVariable>,
+fn declare_together<'a>(
+    group: &'a Variables,
+    table: &mut IndexMap<Name, DeclaredVariable<'a>>,
 ) -> Result<(), AllocError>
     ensures { OnOk result (table.new.entries
         ≡ with_firsts table.old.entries (variables_together (variables_tree group.now))) }
 {
-    let type_use = WideTypeUse::of(&group.type_use);
     for name in &group.names {
-        let meaning = DeclaredVariable {
-            section: group.section,
-            type_use,
-        };
-        declare(name.name.name(), meaning, table)?;
+        declare(name.name.name(), DeclaredVariable { group }, table)?;
     }
     Ok(())
 }
 
 /// The instances of a network by their names.
-fn instance_table(
+fn instance_table<'a>(
     alloc: Global,
-    network: &Network,
-) -> Result<IndexMap<Name, DeclaredInstance>, AllocError>
+    network: &'a Network,
+) -> Result<IndexMap<Name, DeclaredInstance<'a>>, AllocError>
     ensures { IfOk result
         (λ table. table.entries ≡ first_ones (instances_in (network_tree network.now))) }
 {
     let mut table = IndexMap::with_capacity(alloc, network.instances.len())?;
     for instance in &network.instances {
-        let meaning = DeclaredInstance {
-            role: instance.role,
-            type_name: WideUse::of(&instance.type_name),
-        };
-        declare(instance.name.name.name(), meaning, &mut table)?;
+        let name = instance.name.name.name();
+        declare(name, DeclaredInstance { instance }, &mut table)?;
     }
     Ok(table)
 }

@@ -21,7 +21,7 @@ use std::collections::HashSet;
 /// Reports second and later declarations in each name space of a unit with these ports.
 pub fn report_duplicates(
     alloc: Global,
-    own: &Ports,
+    own: &Ports<'_>,
     decl: &Decl,
     found: &mut Vec<Fault>,
 ) -> Result<(), AllocError>
@@ -40,7 +40,7 @@ pub fn report_duplicates(
 
 fn report_in_type(
     alloc: Global,
-    own: &Ports,
+    own: &Ports<'_>,
     declared: &TypeDeclaration,
     found: &mut Vec<Fault>,
 ) -> Result<(), AllocError>
@@ -55,7 +55,7 @@ fn report_in_type(
 
 fn report_in_interface(
     alloc: Global,
-    own: &Ports,
+    own: &Ports<'_>,
     interface: &Interface,
     found: &mut Vec<Fault>,
 ) -> Result<(), AllocError>
@@ -180,7 +180,7 @@ fn report_in_network(
 /// Reports those among the instances of the network of a type with these ports, and among the parameters of each.
 fn report_in_own_network(
     alloc: Global,
-    own: &Ports,
+    own: &Ports<'_>,
     network: &Network,
     found: &mut Vec<Fault>,
 ) -> Result<(), AllocError>

@@ -16,34 +16,34 @@ use std::collections::HashMap;
 
 /// A type that is present and not broken, with its ports.
 #[derive(Drop)]
-struct TypePorts {
+struct TypePorts<'a> {
     kind: UnitKind,
-    ports: Ports,
+    ports: Ports<'a>,
 }
 
 /// What names mean in a network. The ports of each type are read once, however many instances have it.
-pub struct Scope {
-    own: Ports,
-    types: HashMap<Name, TypePorts>,
+pub struct Scope<'a> {
+    own: Ports<'a>,
+    types: HashMap<Name, TypePorts<'a>>,
 }
 
-impl Drop for Scope {
+impl<'a> Drop for Scope<'a> {
     fn drop(self) {
         let Self { own: _, types: _ } = self;
     }
 }
 
-impl Scope {
+impl<'a> Scope<'a> {
     /// What names mean in a network, by the unit's own names.
     pub fn new<V: View>(
         alloc: Global,
-        view: &V,
-        own: Ports,
+        view: &'a V,
+        own: Ports<'a>,
         network: &Network,
-    ) -> Result<Scope, AllocError>
+    ) -> Result<Scope<'a>, AllocError>
         ensures { IfOk result (λ scope. scope_in scope
             ≡ record {
-              own = own;
+              own = own.entry;
               type_ports = type_ports_of (V.sources view.now)
                   (network_tree network.now);
             }) }
@@ -55,9 +55,9 @@ impl Scope {
     /// What names mean in a type.
     pub fn of_type<V: View>(
         alloc: Global,
-        view: &V,
-        declared: &TypeDeclaration,
-    ) -> Result<Scope, AllocError>
+        view: &'a V,
+        declared: &'a TypeDeclaration,
+    ) -> Result<Scope<'a>, AllocError>
         ensures { IfOk result
             (λ scope. scope_in scope
             ≡ scope_of_type (V.sources view.now) (type_tree declared.now)) }
@@ -69,9 +69,9 @@ impl Scope {
     /// What names mean in the network of an application.
     pub fn of_network<V: View>(
         alloc: Global,
-        view: &V,
-        network: &Network,
-    ) -> Result<Scope, AllocError>
+        view: &'a V,
+        network: &'a Network,
+    ) -> Result<Scope<'a>, AllocError>
         ensures { IfOk result
             (λ scope. scope_in scope
             ≡ scope_of_network (V.sources view.now) (network_tree network.now)) }
@@ -81,7 +81,7 @@ impl Scope {
     }
 
     /// The unit's own names.
-    pub fn own(&self) -> &Ports
+    pub fn own(&self) -> &Ports<'a>
         ensures { result.now ≡ (scope_in self.now).own }
     {
         &self.own
@@ -89,7 +89,7 @@ impl Scope {
 
     /// The ports of a type that an instance of the network has, if it is usable in this role: present, not broken and of the
     /// kind that the section of the instance requires.
-    pub fn type_ports(&self, role: Role, type_name: &Name) -> Option<&Ports>
+    pub fn type_ports(&self, role: Role, type_name: &Name) -> Option<&Ports<'a>>
         ensures { option_map (λ p. p.now) result
             ≡ (scope_in self.now).type_ports role type_name.now }
     {
@@ -100,14 +100,14 @@ impl Scope {
     }
 
     /// The ports of an instance, a plug or a socket, if its type is usable.
-    pub fn instance_ports(&self, instance: &DeclaredInstance) -> Option<&Ports>
+    pub fn instance_ports(&self, instance: &DeclaredInstance<'_>) -> Option<&Ports<'a>>
         ensures { option_map (λ p. p.now) result ≡ instance_ports (scope_in self.now) instance.now }
     {
-        self.type_ports(instance.role, instance.type_name.name())
+        self.type_ports(instance.role(), &instance.type_name().name.name())
     }
 
     /// The ports of what the name means among the instances, plugs and sockets.
-    pub fn ports_of(&self, name: &Name) -> Option<&Ports>
+    pub fn ports_of(&self, name: &Name) -> Option<&Ports<'a>>
         ensures { option_map (λ p. p.now) result ≡ ports_of (scope_in self.now) name.now }
     {
         match self.own.instance(name) {
@@ -118,11 +118,11 @@ impl Scope {
 }
 
 /// The types of instances, each once.
-fn types_of<V: View>(
+fn types_of<'a, V: View>(
     alloc: Global,
-    view: &V,
+    view: &'a V,
     instances: &[Instance],
-) -> Result<HashMap<Name, TypePorts>, AllocError>
+) -> Result<HashMap<Name, TypePorts<'a>>, AllocError>
     ensures { IfOk result (λ types. (name : List ℕ) → get (pointwise nat_eq) types name
         ≡ option_map kept_of
         (mentioned_type (V.sources view.now) (map instance_tree instances.now) name)) }
@@ -135,11 +135,11 @@ fn types_of<V: View>(
 }
 
 /// Adds a type, if it is present and not broken and isn't there yet.
-fn add_type<V: View>(
+fn add_type<'a, V: View>(
     alloc: Global,
-    view: &V,
+    view: &'a V,
     name: &Name,
-    types: &mut HashMap<Name, TypePorts>,
+    types: &mut HashMap<Name, TypePorts<'a>>,
 ) -> Result<(), AllocError>
     ensures { OnOk result ((q : List ℕ) → get (pointwise nat_eq) types.new q
         ≡ with_type name.now (tree_at (V.sources view.now) name.now)

@@ -16,31 +16,31 @@ use std::marker::Model;
 
 /// The fields of a structure by name, in the order of the text. A name that is declared more than once means its first
 /// declaration.
-pub struct FieldTable {
-    by_name: IndexMap<Name, DeclaredVariable>,
+pub struct FieldTable<'a> {
+    by_name: IndexMap<Name, DeclaredVariable<'a>>,
 }
 
-impl Drop for FieldTable {
+impl<'a> Drop for FieldTable<'a> {
     fn drop(self) {
         let Self { by_name: _ } = self;
     }
 }
 
-impl Model for FieldTable {
+impl<'a> Model for FieldTable<'a> {
     ghost use Rattle.std.specs.Prelude.{List, ℕ};
-    ghost use Rattle.fb_iface.specs.declared.ports.DeclaredVariable.{DeclaredVariable};
+    ghost use Rattle.fb_iface.specs.Ports.{DeclaredVariable};
 
     ghost Value = { List (List ℕ × DeclaredVariable) };
 
     ghost view = { λ t. t.by_name.entries };
 }
 
-impl FieldTable {
+impl<'a> FieldTable<'a> {
     ghost use Rattle.std.specs.Option.{option_copied};
     ghost use Rattle.fb_iface.specs.Names.{stands_for};
 
     /// The fields of a structure.
-    fn of_structure(alloc: Global, structure: &Structure) -> Result<FieldTable, AllocError>
+    fn of_structure(alloc: Global, structure: &'a Structure) -> Result<FieldTable<'a>, AllocError>
         ensures { IfOk result
             (λ fields. fields ≡ first_ones (fields_in (structure_tree structure.now))) }
     {
@@ -50,7 +50,7 @@ impl FieldTable {
 
     /// The field that the name means.
     #[tactic(auto, using(crate::proofs::TableLemmas::found_by_name))]
-    pub fn field(&self, name: &Name) -> Option<&DeclaredVariable>
+    pub fn field(&self, name: &Name) -> Option<&DeclaredVariable<'a>>
         ensures { option_copied result ≡ stands_for self.now name.now }
     {
         self.by_name.get(name)
@@ -59,11 +59,11 @@ impl FieldTable {
 
 /// What is kept of a carried type that a further name may be after.
 #[derive(Drop)]
-enum CachedFields {
+enum CachedFields<'a> {
     /// The type is absent or broken.
     NotChecked,
     /// The fields of a structure.
-    Known(FieldTable),
+    Known(FieldTable<'a>),
 }
 
 /// What a further name may name after a plain type.
@@ -73,24 +73,28 @@ pub enum Behind<'a> {
     /// The type is known and has no fields.
     NoFields,
     /// The fields of a structure.
-    Fields(&'a FieldTable),
+    Fields(&'a FieldTable<'a>),
 }
 
 /// The types of values that a unit and its parts carry: structures with their fields, and those that are absent or broken. The fields
 /// of each structure are read once.
-pub struct Structures {
-    by_name: HashMap<Name, CachedFields>,
+pub struct Structures<'a> {
+    by_name: HashMap<Name, CachedFields<'a>>,
 }
 
-impl Drop for Structures {
+impl<'a> Drop for Structures<'a> {
     fn drop(self) {
         let Self { by_name: _ } = self;
     }
 }
 
-impl Structures {
+impl<'a> Structures<'a> {
     /// Those that the unit and its parts carry.
-    pub fn near<V: View>(alloc: Global, view: &V, unit: &Name) -> Result<Structures, AllocError>
+    pub fn near<V: View>(
+        alloc: Global,
+        view: &'a V,
+        unit: &Name,
+    ) -> Result<Structures<'a>, AllocError>
         ensures { IfOk result
             (λ it. structures_in it ≡ fields_near (V.sources view.now) unit.now) }
     {
@@ -123,11 +127,11 @@ fn bases<V: View>(alloc: Global, view: &V, unit: &Name) -> Result<Vec<Name>, All
 }
 
 /// What is kept of the types with these names.
-fn kept_types<V: View>(
+fn kept_types<'a, V: View>(
     alloc: Global,
-    view: &V,
+    view: &'a V,
     names: &[Name],
-) -> Result<HashMap<Name, CachedFields>, AllocError>
+) -> Result<HashMap<Name, CachedFields<'a>>, AllocError>
     ensures { IfOk result
         (λ types. (name : List ℕ) → kept_fields (get (pointwise nat_eq) types name)
         ≡ fields_among (V.sources view.now) names.now name) }
@@ -142,11 +146,11 @@ fn kept_types<V: View>(
 }
 
 /// What is kept of a type; nothing if it is known and no structure.
-fn kept_type<V: View>(
+fn kept_type<'a, V: View>(
     alloc: Global,
-    view: &V,
+    view: &'a V,
     name: &Name,
-) -> Result<Option<CachedFields>, AllocError>
+) -> Result<Option<CachedFields<'a>>, AllocError>
     ensures { IfOk result
         (λ kept. kept_fields kept ≡ fields_of_tree (tree_at (V.sources view.now) name.now)) }
 {

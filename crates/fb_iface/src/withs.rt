@@ -12,7 +12,7 @@ use fb_tree::{Decl, Event, Interface, Side};
 use std::alloc::AllocError;
 
 /// Reports the names after `WITH` that are no data of the event's side. The unit has these ports.
-pub fn report_withs(own: &Ports, decl: &Decl, found: &mut Vec<Fault>) -> Result<(), AllocError>
+pub fn report_withs(own: &Ports<'_>, decl: &Decl, found: &mut Vec<Fault>) -> Result<(), AllocError>
     requires { own.now ≡ meanings_in (decl_tree decl.now) }
     ensures { OnOk result
         (found.new.items ≡ found.old.items ++ with_faults_of (decl_tree decl.now)) }
@@ -27,7 +27,7 @@ pub fn report_withs(own: &Ports, decl: &Decl, found: &mut Vec<Fault>) -> Result<
 
 /// Reports those of an interface.
 fn report_in_interface(
-    own: &Ports,
+    own: &Ports<'_>,
     interface: &Interface,
     found: &mut Vec<Fault>,
 ) -> Result<(), AllocError>
@@ -42,7 +42,7 @@ fn report_in_interface(
 }
 
 /// Reports those of one event.
-fn report_event(own: &Ports, event: &Event, found: &mut Vec<Fault>) -> Result<(), AllocError>
+fn report_event(own: &Ports<'_>, event: &Event, found: &mut Vec<Fault>) -> Result<(), AllocError>
     ensures { OnOk result (found.new.items
         ≡ found.old.items ++ event_withs (stands_for own.now.variables) (event_tree event.now)) }
 {
@@ -55,11 +55,11 @@ fn report_event(own: &Ports, event: &Event, found: &mut Vec<Fault>) -> Result<()
 }
 
 /// Whether what the name means goes along with an event of this side.
-fn goes_along(own: &Ports, side: Side, name: &NameUse) -> bool
+fn goes_along(own: &Ports<'_>, side: Side, name: &NameUse) -> bool
     ensures { result ≡ goes_along side (stands_for own.now.variables name.now.name) }
 {
     match own.variable(&name.name.name()) {
-        Some(variable) => is_beside(side, variable.section),
+        Some(variable) => is_beside(side, variable.section()),
         None => false,
     }
 }

@@ -1,6 +1,6 @@
 -- The names that most files cite, passed on from one place. Declares nothing.
-pub use Rattle.fb_deploy.specs.{Deploy.{faulty, planned}, Faults.Faults.{faults_of}, Iface.declared.ports.DeclaredEvent.{DeclaredEvent}, Iface.declared.ports.DeclaredInstance.{DeclaredInstance}}
-pub use Rattle.fb_deploy.specs.{Iface.declared.ports.DeclaredVariable.{DeclaredVariable}, Iface.Names.{first_ones, stands_for}, Iface.declared.classes.Class.TheVariants.{Any, B, Free, I, Num, O, W}}
+pub use Rattle.fb_deploy.specs.{Deploy.{faulty, planned}, Faults.Faults.{faults_of}, Iface.Ports.{DeclaredEvent, DeclaredInstance}}
+pub use Rattle.fb_deploy.specs.{Iface.Ports.{DeclaredVariable}, Iface.Names.{first_ones, stands_for}, Iface.declared.classes.Class.TheVariants.{Any, B, Free, I, Num, O, W}}
 pub use Rattle.fb_deploy.specs.{Flatten.Nets.{net_at}, Iface.declared.fault.Fault.{Fault}}
 pub use Rattle.fb_deploy.specs.{Plans.{plan_at}, Iface.Ports.{Meanings, data_on, events_on, instances_as, instances_in, meanings_in, meanings_in_network, meanings_in_type, meanings_of, variables_in}}
 pub use Rattle.fb_deploy.specs.{Parse.Body.{BrokenAt, IsBody, Whole, body_of}, Iface.Declarations.{declared_name, iface_faults_of}, Library.View.{Sources, text_or_empty, tree_at, tree_of, type_in}}

@@ -7,7 +7,7 @@ use Rattle.fb_tree.specs.Tree.{ApplicationTree, DeclTree, InstanceTree, NetworkT
 use Rattle.fb_tree.specs.{declared.kinds.UnitKind.{UnitKind}, declared.kinds.UnitKind.TheVariants.{Block, Subapplication, System}}
 use Rattle.fb_tree.specs.{declared.network.Connection.{Connection}, declared.network.End.{End}}
 use Rattle.fb_iface.specs.{Library.View.{Sources, parts_in, tree_at, tree_of}, Names.{first_ones, is_same, stands_for}, Ports.{instances_in}}
-use Rattle.fb_iface.specs.{Scope.{Scope, scope_of_network, scope_of_type}, declared.ports.DeclaredInstance.{DeclaredInstance}, Library.Parts.{part}}
+use Rattle.fb_iface.specs.{Scope.{Scope, scope_of_network, scope_of_type}, Ports.{DeclaredInstance}, Library.Parts.{part}}
 use Rattle.fb_iface.proofs.{Library.Locality.{near_part, near_unit}, ScopeLocal.{in_order_has, network_scope_local, scope_local}}
 use Rattle.fb_netcheck.specs.{Connections.{connection_faults}, Ends.{target}, Local.{NetFaultsAreLocal}}
 use Rattle.fb_netcheck.specs.{Networks.{application_network, declared_faults, network_faults, tree_faults, type_network}, Parameters.{all_parameters}}

@@ -11,7 +11,7 @@ use Rattle.fb_iface.specs.Library.View.{Sources, tree_at}
 use Rattle.fb_iface.specs.Declarations.{declaration_faults, duplicate_faults, literal_faults_of, mixed_faults, name_faults, with_faults_of}
 use Rattle.fb_iface.specs.{Recursion.{recursion_faults}, Names.{first_ones, has_name, is_same, stands_for}, Ports.{Meanings, instances_in, meanings_in}}
 use Rattle.fb_iface.specs.{Scope.{instance_ports, mentioned_type, ports_of, type_ports_of, usable}, Types.{instance_faults, suits, type_fault, type_faults}}
-use Rattle.fb_iface.specs.{declared.fault.Fault.{Fault}, declared.ports.DeclaredInstance.{DeclaredInstance}}
+use Rattle.fb_iface.specs.{declared.fault.Fault.{Fault}, Ports.{DeclaredInstance}}
 use Rattle.fb_netcheck.specs.{declared.ends.Holder.{Holder}, declared.ends.Holder.TheVariants.{Own}, declared.ends.Port.{Port}}
 use Rattle.fb_netcheck.specs.{declared.ends.Position.{Position}, declared.ends.Position.TheVariants.{Source, Destination}, declared.ends.Target.{Target}}
 use Rattle.fb_netcheck.specs.{declared.ends.Target.TheVariants.{Unknown, NotChecked, Found}, Clean.{AreRight, ConnectionsAreRight, IsCleanEnd}}

@@ -7,8 +7,8 @@ use Rattle.fb_tree.specs.declared.interface.Section.TheVariants as sections
 use Rattle.fb_tree.specs.declared.kinds.UnitKind.TheVariants as kinds
 use Rattle.fb_tree.specs.declared.network.Role.TheVariants as roles
 use Rattle.fb_tree.specs.declared.network.Sort.TheVariants as sorts
-use Rattle.fb_iface.specs.{declared.ports.DeclaredEvent.{DeclaredEvent}, declared.ports.DeclaredInstance.{DeclaredInstance}}
-use Rattle.fb_iface.specs.{declared.ports.DeclaredVariable.{DeclaredVariable}, Names.{stands_for}, Ports.{Meanings, same_side}, Scope.{ports_of}}
+use Rattle.fb_iface.specs.Ports.{DeclaredEvent, DeclaredInstance}
+use Rattle.fb_iface.specs.{Ports.{DeclaredVariable, Meanings, same_side}, Names.{stands_for}, Scope.{ports_of}}
 use Rattle.fb_netcheck.specs.declared.ends.Flow.TheVariants as flows
 use Rattle.fb_netcheck.specs.{declared.ends.Holder.{Holder}, declared.ends.Holder.TheVariants.{Own, OfInstance, OfPlug, OfSocket}, declared.ends.Port.{Port}}
 use Rattle.fb_netcheck.specs.{declared.ends.Position.{Position}, declared.ends.Position.TheVariants.{Source, Destination}, declared.ends.Target.{Target}}

@@ -4,7 +4,7 @@ use Rattle.fb_tree.specs.{Tree.{InstanceTree, ParameterTree}, declared.interface
 use Rattle.fb_tree.specs.{declared.interface.Section.TheVariants.{Input, Output, Internal, Field}, declared.interface.TypeUse.{TypeUse}}
 use Rattle.fb_tree.specs.declared.network.Role.{Role}
 use Rattle.fb_tree.specs.declared.network.Role.TheVariants as roles
-use Rattle.fb_iface.specs.{declared.code.Code.TheVariants.{ParameterUnknown}, declared.fault.Fault.{Fault}, declared.ports.DeclaredVariable.{DeclaredVariable}}
+use Rattle.fb_iface.specs.{declared.code.Code.TheVariants.{ParameterUnknown}, declared.fault.Fault.{Fault}, Ports.{DeclaredVariable}}
 use Rattle.fb_iface.specs.{Fault.{fault_at}, Literals.{constant_faults}, Names.{stands_for}, Ports.{Meanings}, Scope.{Scope}}
 
 -- a value fits the type of its data input

@@ -18,7 +18,7 @@ use std::collections::BTreeMap;
 pub fn report_connections<V: View>(
     alloc: Global,
     view: &V,
-    here: &Setting,
+    here: &Setting<'_>,
     connections: &[Connection],
     found: &mut Vec<Fault>,
 ) -> Result<(), AllocError>
@@ -47,7 +47,7 @@ pub fn report_connections<V: View>(
 fn report_connection<V: View>(
     alloc: Global,
     view: &V,
-    here: &Setting,
+    here: &Setting<'_>,
     connection: &Connection,
     known: &mut Spellings,
     found: &mut Vec<Fault>,
@@ -80,8 +80,8 @@ fn report_connection<V: View>(
 fn report_joined(
     kind: UnitKind,
     connection: &Connection,
-    source: &Target,
-    destination: &Target,
+    source: &Target<'_>,
+    destination: &Target<'_>,
     found: &mut Vec<Fault>,
 ) -> Result<(), AllocError>
     ensures { OnOk result (found.new.items

@@ -5,9 +5,11 @@ ghost use Rattle.fb_netcheck.specs.Settings.{place_in};
 ghost use Rattle.fb_netcheck.specs.Ends.{adapter_port, data_port, end_span, event_port, holder_of, is_right, last_name, port_in, right_side, target, target_in, target_of, target_of_instance};
 
 use crate::setting::Setting;
-use fb_iface::{DeclaredEvent, DeclaredInstance, DeclaredVariable, Ports, is_same_side};
-use fb_tree::text::{Name, NameUse, Span, WideUse};
-use fb_tree::{End, Role, Section, Side, Sort, UnitKind, WideTypeUse};
+use fb_iface::{
+    DeclaredEvent, DeclaredInstance, DeclaredVariable, Ports, UsedName, UsedType, is_same_side,
+};
+use fb_tree::text::{Name, NameUse, Span};
+use fb_tree::{End, Role, Section, Side, Sort, UnitKind};
 
 /// The side of an end in its connection.
 #[derive(Clone, Copy, Debug, PartialEq, Eq)]
@@ -26,28 +28,28 @@ pub enum Holder {
 }
 
 /// What flows through a port.
-#[derive(Clone, Copy, Debug)]
-pub enum Flow {
+#[derive(Drop)]
+pub enum Flow<'a> {
     Event,
-    Data(WideTypeUse),
-    Adapter(WideUse),
+    Data(UsedType<'a>),
+    Adapter(UsedName<'a>),
 }
 
 /// A port. Among adapters a socket is an input and a plug an output.
-#[derive(Clone, Copy, Debug)]
-pub struct Port {
+#[derive(Drop)]
+pub struct Port<'a> {
     pub side: Side,
-    pub flow: Flow,
+    pub flow: Flow<'a>,
 }
 
 /// What an end names.
-#[derive(Clone, Copy, Debug)]
-pub enum Target {
+#[derive(Drop)]
+pub enum Target<'a> {
     /// No port of the connection's sort.
     Unknown,
     /// A port of a type that is absent, broken or of the wrong kind.
     NotChecked,
-    Found(Holder, Port),
+    Found(Holder, Port<'a>),
 }
 
 /// The side of the port at an end, by whose port it is.
@@ -63,7 +65,7 @@ fn side_at(position: Position, holder: Holder) -> Side
 }
 
 /// Whether it is a port of the right side.
-pub fn is_right_target(position: Position, target: &Target) -> bool
+pub fn is_right_target(position: Position, target: &Target<'_>) -> bool
     ensures { result ≡ is_right position target.now }
 {
     match target {
@@ -89,7 +91,7 @@ fn last(end: &End) -> &NameUse
 }
 
 /// What an end of a connection names.
-pub fn target_at(here: &Setting, sort: Sort, end: &End) -> Target
+pub fn target_at<'a>(here: &Setting<'a>, sort: Sort, end: &End) -> Target<'a>
     ensures { result ≡ target (place_in here.now) sort end.now }
 {
     let name = end.name.name.name();
@@ -104,18 +106,18 @@ pub fn target_at(here: &Setting, sort: Sort, end: &End) -> Target
 }
 
 /// A port of an instance, plug or socket.
-fn target_at_instance(
-    here: &Setting,
+fn target_at_instance<'a>(
+    here: &Setting<'a>,
     sort: Sort,
-    instance: Option<&DeclaredInstance>,
+    instance: Option<&DeclaredInstance<'_>>,
     name: &Name,
-) -> Target
+) -> Target<'a>
     ensures { result ≡ target_of_instance here.now.kind sort (option_copied instance.entry)
         (option_and_then (instance_ports (scope_in here.now.scope)) (option_copied instance.entry)) name.now }
 {
     match instance {
         None => Target::Unknown,
-        Some(instance) => match held_by(here.kind, sort, instance.role) {
+        Some(instance) => match held_by(here.kind, sort, instance.role()) {
             None => Target::Unknown,
             Some(holder) => {
                 let ports = here.scope.instance_ports(instance);
@@ -138,7 +140,12 @@ fn held_by(kind: UnitKind, sort: Sort, role: Role) -> Option<Holder>
 }
 
 /// A port of a type, if this is usable.
-fn target_at_type(holder: Holder, sort: Sort, ports: Option<&Ports>, name: &Name) -> Target
+fn target_at_type<'a>(
+    holder: Holder,
+    sort: Sort,
+    ports: Option<&Ports<'a>>,
+    name: &Name,
+) -> Target<'a>
     ensures { result ≡ target_in holder sort (option_map (λ p. p.now) ports.entry) name.now }
 {
     match ports {
@@ -147,8 +154,8 @@ fn target_at_type(holder: Holder, sort: Sort, ports: Option<&Ports>, name: &Name
     }
 }
 
-fn found(holder: Holder, port: Option<Port>) -> Target
-    ensures { result ≡ target_of holder port }
+fn found<'a>(holder: Holder, port: Option<Port<'a>>) -> Target<'a>
+    ensures { result ≡ target_of holder port.entry }
 {
     match port {
         None => Target::Unknown,
@@ -157,7 +164,7 @@ fn found(holder: Holder, port: Option<Port>) -> Target
 }
 
 /// The port of this sort that a name means.
-fn port_by_name(sort: Sort, ports: &Ports, name: &Name) -> Option<Port>
+fn port_by_name<'a>(sort: Sort, ports: &Ports<'a>, name: &Name) -> Option<Port<'a>>
     ensures { result ≡ port_in sort ports.now name.now }
 {
     match sort {
@@ -167,7 +174,7 @@ fn port_by_name(sort: Sort, ports: &Ports, name: &Name) -> Option<Port>
     }
 }
 
-fn event_by_name(ports: &Ports, name: &Name) -> Option<Port>
+fn event_by_name<'a>(ports: &Ports<'a>, name: &Name) -> Option<Port<'a>>
     ensures { result ≡ option_map event_port (stands_for ports.now.events name.now) }
 {
     match ports.event(name) {
@@ -176,16 +183,16 @@ fn event_by_name(ports: &Ports, name: &Name) -> Option<Port>
     }
 }
 
-fn port_of_event(event: &DeclaredEvent) -> Port
+fn port_of_event<'a>(event: &DeclaredEvent<'a>) -> Port<'a>
     ensures { result ≡ event_port event.now }
 {
     Port {
-        side: event.side,
+        side: event.side(),
         flow: Flow::Event,
     }
 }
 
-fn data_by_name(ports: &Ports, name: &Name) -> Option<Port>
+fn data_by_name<'a>(ports: &Ports<'a>, name: &Name) -> Option<Port<'a>>
     ensures { result ≡ option_and_then data_port (stands_for ports.now.variables name.now) }
 {
     match ports.variable(name) {
@@ -195,11 +202,11 @@ fn data_by_name(ports: &Ports, name: &Name) -> Option<Port>
 }
 
 /// Internal variables and fields are no ports.
-fn port_of_variable(variable: &DeclaredVariable) -> Option<Port>
+fn port_of_variable<'a>(variable: &DeclaredVariable<'a>) -> Option<Port<'a>>
     ensures { result ≡ data_port variable.now }
 {
-    let flow = Flow::Data(variable.type_use);
-    match variable.section {
+    let flow = Flow::Data(UsedType::of(variable.type_use()));
+    match variable.section() {
         Section::Input => Some(Port {
             side: Side::Input,
             flow,
@@ -212,7 +219,7 @@ fn port_of_variable(variable: &DeclaredVariable) -> Option<Port>
     }
 }
 
-fn adapter_by_name(ports: &Ports, name: &Name) -> Option<Port>
+fn adapter_by_name<'a>(ports: &Ports<'a>, name: &Name) -> Option<Port<'a>>
     ensures { result ≡ option_and_then adapter_port (stands_for ports.now.instances name.now) }
 {
     match ports.instance(name) {
@@ -222,11 +229,11 @@ fn adapter_by_name(ports: &Ports, name: &Name) -> Option<Port>
 }
 
 /// Instances are no ports.
-fn port_of_instance(instance: &DeclaredInstance) -> Option<Port>
+fn port_of_instance<'a>(instance: &DeclaredInstance<'a>) -> Option<Port<'a>>
     ensures { result ≡ adapter_port instance.now }
 {
-    let flow = Flow::Adapter(instance.type_name);
-    match instance.role {
+    let flow = Flow::Adapter(UsedName::of(instance.type_name()));
+    match instance.role() {
         Role::Socket => Some(Port {
             side: Side::Input,
             flow,

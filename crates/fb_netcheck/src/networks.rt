@@ -115,7 +115,7 @@ fn report_application<V: View>(
 pub fn report_network<V: View>(
     alloc: Global,
     view: &V,
-    here: &Setting,
+    here: &Setting<'_>,
     network: &Network,
     found: &mut Vec<Fault>,
 ) -> Result<(), AllocError>

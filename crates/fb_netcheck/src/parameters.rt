@@ -10,7 +10,7 @@ use std::alloc::AllocError;
 
 /// Reports parameters that are no data inputs of their instance's type, and values that do not fit.
 pub fn report_parameters(
-    scope: &Scope,
+    scope: &Scope<'_>,
     instances: &[Instance],
     found: &mut Vec<Fault>,
 ) -> Result<(), AllocError>
@@ -26,7 +26,7 @@ pub fn report_parameters(
 
 /// Reports those of one instance.
 fn report_in_instance(
-    scope: &Scope,
+    scope: &Scope<'_>,
     instance: &Instance,
     found: &mut Vec<Fault>,
 ) -> Result<(), AllocError>
@@ -45,7 +45,7 @@ fn report_in_instance(
 
 /// Reports the parameters of an instance whose type has these ports, if it is usable.
 fn report_typed(
-    ports: Option<&Ports>,
+    ports: Option<&Ports<'_>>,
     parameters: &[Parameter],
     found: &mut Vec<Fault>,
 ) -> Result<(), AllocError>
@@ -61,7 +61,7 @@ fn report_typed(
 }
 
 fn report_of_type(
-    ports: &Ports,
+    ports: &Ports<'_>,
     parameters: &[Parameter],
     found: &mut Vec<Fault>,
 ) -> Result<(), AllocError>
@@ -82,7 +82,7 @@ fn report_of_type(
 
 /// Reports a parameter that is no data input, or whose value does not fit.
 fn report_parameter(
-    variable: Option<&DeclaredVariable>,
+    variable: Option<&DeclaredVariable<'_>>,
     parameter: &Parameter,
     found: &mut Vec<Fault>,
 ) -> Result<(), AllocError>
@@ -91,8 +91,8 @@ fn report_parameter(
         ++ parameter_faults (option_copied variable.entry) (parameter_tree parameter.now)) }
 {
     match variable {
-        Some(variable) => match variable.section {
-            Section::Input => report_constant(&variable.type_use, &parameter.value, found),
+        Some(variable) => match variable.section() {
+            Section::Input => report_constant(variable.type_use(), &parameter.value, found),
             Section::Output | Section::Internal | Section::Field => {
                 report_unknown(parameter, found)
             }

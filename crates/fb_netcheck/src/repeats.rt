@@ -165,7 +165,8 @@ fn is_same_port(port: &Option<NameUse>, other: &Option<NameUse>) -> bool
     }
 }
 
-fn is_same_name(name: &NameUse, other: &NameUse) -> bool
+/// Whether two names are the same.
+pub fn is_same_name(name: &NameUse, other: &NameUse) -> bool
     ensures { result ≡ is_same name.now.name other.now.name }
 {
     name.name.as_str() == other.name.as_str()

@@ -5,13 +5,13 @@ use fb_tree::UnitKind;
 use fb_tree::text::Name;
 
 /// The setting of a network: the unit, its kind, and what names mean in the network.
-pub struct Setting {
+pub struct Setting<'a> {
     pub unit: Name,
     pub kind: UnitKind,
-    pub scope: Scope,
+    pub scope: Scope<'a>,
 }
 
-impl Drop for Setting {
+impl<'a> Drop for Setting<'a> {
     fn drop(self) {
         let Self {
             unit: _,

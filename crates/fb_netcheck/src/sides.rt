@@ -12,7 +12,7 @@ use std::alloc::AllocError;
 pub fn report_end(
     position: Position,
     end: &End,
-    target: &Target,
+    target: &Target<'_>,
     found: &mut Vec<Fault>,
 ) -> Result<(), AllocError>
     ensures { OnOk result
@@ -44,8 +44,8 @@ pub fn fault_at(code: Code, end: &End) -> Fault
 pub fn report_pass_through(
     kind: UnitKind,
     connection: &Connection,
-    source: &Target,
-    destination: &Target,
+    source: &Target<'_>,
+    destination: &Target<'_>,
     found: &mut Vec<Fault>,
 ) -> Result<(), AllocError>
     ensures { OnOk result (found.new.items
@@ -68,7 +68,7 @@ pub fn report_pass_through(
 }
 
 /// Whether an end names an own port of the right side.
-fn is_own_target(position: Position, target: &Target) -> bool
+fn is_own_target(position: Position, target: &Target<'_>) -> bool
     ensures { result ≡ is_own_port position target.now }
 {
     match target {

@@ -3,9 +3,10 @@ ghost use Rattle.std.specs.{Prelude.{◌≡◌, [], ◌∷◌, ◌++◌, All, If
 ghost use Rattle.fb_tree.specs.Text.Tokens.{LiesIn};
 ghost use Rattle.fb_netcheck.specs.{Known.{AreSpellings, part_cmp}, Spellings.{same_type, same_words, word, words, words_at}};
 
+use crate::repeats::is_same_name;
 use fb_iface::library::{View, part_of, text_by_name};
-use fb_tree::text::{Name, Span, Token, TokenFault, same_name, tokens};
-use fb_tree::{TypeForm, WideTypeUse};
+use fb_tree::text::{Name, Span, Token, TokenFault, tokens};
+use fb_tree::{TypeForm, TypeUse};
 use std::alloc::{AllocError, Global};
 use std::collections::BTreeMap;
 
@@ -18,9 +19,9 @@ pub fn is_same_type<V: View>(
     alloc: Global,
     view: &V,
     unit: &Name,
-    used: &WideTypeUse,
+    used: &TypeUse,
     other_unit: &Name,
-    other: &WideTypeUse,
+    other: &TypeUse,
     known: &mut Spellings,
 ) -> Result<bool, AllocError>
     requires { AreSpellings (V.sources view.now) (get part_cmp known.old) }
@@ -28,11 +29,11 @@ pub fn is_same_type<V: View>(
     ensures same { IfOk result
         (λ same. same ≡ same_type (V.sources view.now) unit.now used.now other_unit.now other.now) }
 {
-    match (used.form(), other.form()) {
-        (TypeForm::Plain, TypeForm::Plain) => Ok(same_name(used.name(), other.name())),
+    match (used.form, other.form) {
+        (TypeForm::Plain, TypeForm::Plain) => Ok(is_same_name(&used.name, &other.name)),
         (TypeForm::Sized, TypeForm::Sized) | (TypeForm::Array, TypeForm::Array) => {
-            let span = used.place().span();
-            let other_span = other.place().span();
+            let span = used.span.span();
+            let other_span = other.span.span();
             spell(alloc, view, unit, span, known)?;
             spell(alloc, view, other_unit, other_span, known)?;
             is_spelled_alike(alloc, view, unit, span, other_unit, other_span, known)

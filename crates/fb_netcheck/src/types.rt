@@ -4,23 +4,24 @@ ghost use Rattle.fb_netcheck.specs.{Known.{AreSpellings, part_cmp}, Ends.{target
 ghost use Rattle.fb_netcheck.specs.Types.{flows_agree, home, joined_types, same_at_ends, targets_agree};
 
 use crate::ends::{Flow, Position, Target, is_right_target};
+use crate::repeats::is_same_name;
 use crate::setting::Setting;
 use crate::sides::fault_at;
 use crate::spellings::{Spellings, is_same_type};
 use fb_iface::library::View;
-use fb_iface::{Code, Fault, class_of_wide};
-use fb_tree::text::{Name, same_name};
-use fb_tree::{Connection, End, TypeForm, WideTypeUse};
+use fb_iface::{Code, Fault, class_of};
+use fb_tree::text::Name;
+use fb_tree::{Connection, End, TypeForm, TypeUse};
 use std::alloc::{AllocError, Global};
 
 /// Reports a connection whose ends are of the right sides and of two types. The ends name these.
 pub fn report_type<V: View>(
     alloc: Global,
     view: &V,
-    here: &Setting,
+    here: &Setting<'_>,
     connection: &Connection,
-    source: &Target,
-    destination: &Target,
+    source: &Target<'_>,
+    destination: &Target<'_>,
     known: &mut Spellings,
     found: &mut Vec<Fault>,
 ) -> Result<(), AllocError>
@@ -42,13 +43,13 @@ pub fn report_type<V: View>(
 }
 
 /// The unit in whose text the port at an end is declared.
-fn home_at(here: &Setting, end: &End) -> Name
+fn home_at(here: &Setting<'_>, end: &End) -> Name
     ensures { result ≡ home (place_in here.now) end.now }
 {
     match &end.port {
         None => here.unit,
         Some(_) => match here.scope.own().instance(&end.name.name.name()) {
-            Some(instance) => *instance.type_name.name(),
+            Some(instance) => instance.type_name().name.name(),
             None => here.unit,
         },
     }
@@ -58,10 +59,10 @@ fn home_at(here: &Setting, end: &End) -> Name
 fn are_agreed<V: View>(
     alloc: Global,
     view: &V,
-    here: &Setting,
+    here: &Setting<'_>,
     connection: &Connection,
-    target: &Target,
-    other: &Target,
+    target: &Target<'_>,
+    other: &Target<'_>,
     known: &mut Spellings,
 ) -> Result<bool, AllocError>
     requires { AreSpellings (V.sources view.now) (get part_cmp known.old) }
@@ -90,10 +91,10 @@ fn are_agreed<V: View>(
 fn is_flow_agreed<V: View>(
     alloc: Global,
     view: &V,
-    here: &Setting,
+    here: &Setting<'_>,
     connection: &Connection,
-    flow: &Flow,
-    other: &Flow,
+    flow: &Flow<'_>,
+    other: &Flow<'_>,
     known: &mut Spellings,
 ) -> Result<bool, AllocError>
     requires { AreSpellings (V.sources view.now) (get part_cmp known.old) }
@@ -104,13 +105,14 @@ fn is_flow_agreed<V: View>(
 {
     match (flow, other) {
         (Flow::Data(used), Flow::Data(other)) => {
-            if class_of_wide(used).is_free() || class_of_wide(other).is_free() {
+            let (used, other) = (used.get(), other.get());
+            if class_of(used).is_free() || class_of(other).is_free() {
                 Ok(true)
             } else {
                 is_same_at_ends(alloc, view, here, connection, used, other, known)
             }
         }
-        (Flow::Adapter(used), Flow::Adapter(other)) => Ok(same_name(used.name(), other.name())),
+        (Flow::Adapter(used), Flow::Adapter(other)) => Ok(is_same_name(used.get(), other.get())),
         _ => Ok(true),
     }
 }
@@ -119,10 +121,10 @@ fn is_flow_agreed<V: View>(
 fn is_same_at_ends<V: View>(
     alloc: Global,
     view: &V,
-    here: &Setting,
+    here: &Setting<'_>,
     connection: &Connection,
-    used: &WideTypeUse,
-    other: &WideTypeUse,
+    used: &TypeUse,
+    other: &TypeUse,
     known: &mut Spellings,
 ) -> Result<bool, AllocError>
     requires { AreSpellings (V.sources view.now) (get part_cmp known.old) }
@@ -130,8 +132,8 @@ fn is_same_at_ends<V: View>(
     ensures same { IfOk result (λ same. same
         ≡ same_at_ends (V.sources view.now) (place_in here.now) connection.now used.now other.now) }
 {
-    match (used.form(), other.form()) {
-        (TypeForm::Plain, TypeForm::Plain) => Ok(same_name(used.name(), other.name())),
+    match (used.form, other.form) {
+        (TypeForm::Plain, TypeForm::Plain) => Ok(is_same_name(&used.name, &other.name)),
         _ => {
             let unit = home_at(here, &connection.source);
             let other_unit = home_at(here, &connection.destination);

@@ -26,24 +26,24 @@ pub fn ports_of_type(alloc: Global, declared: &TypeDeclaration) -> Result<Vec<Po
     Ok(ports)
 }
 
-fn push_events(side: Side, names: &Ports, ports: &mut Vec<Port>) -> Result<(), AllocError>
+fn push_events(side: Side, names: &Ports<'_>, ports: &mut Vec<Port>) -> Result<(), AllocError>
     ensures { OnOk result
         (ports.new.items ≡ ports.old.items ++ map (plain_event side) (events_on side names.now)) }
 {
     for (name, event) in names.events().iter() {
-        if is_same_side(event.side, side) {
+        if is_same_side(event.side(), side) {
             ports.push(port(Sort::Event, side, *name, None))?;
         }
     }
     Ok(())
 }
 
-fn push_data(side: Side, names: &Ports, ports: &mut Vec<Port>) -> Result<(), AllocError>
+fn push_data(side: Side, names: &Ports<'_>, ports: &mut Vec<Port>) -> Result<(), AllocError>
     ensures { OnOk result
         (ports.new.items ≡ ports.old.items ++ map (plain_data side) (data_on side names.now)) }
 {
     for (name, variable) in names.variables().iter() {
-        if is_beside(side, variable.section) {
+        if is_beside(side, variable.section()) {
             ports.push(port(Sort::Data, side, *name, None))?;
         }
     }
@@ -54,15 +54,15 @@ fn push_data(side: Side, names: &Ports, ports: &mut Vec<Port>) -> Result<(), All
 fn push_adapters(
     side: Side,
     role: Role,
-    names: &Ports,
+    names: &Ports<'_>,
     ports: &mut Vec<Port>,
 ) -> Result<(), AllocError>
     ensures { OnOk result
         (ports.new.items ≡ ports.old.items ++ map (plain_adapter side) (instances_as role names.now)) }
 {
     for (name, instance) in names.instances().iter() {
-        if is_same_role(instance.role, role) {
-            let adapter = Some(*instance.type_name.name());
+        if is_same_role(instance.role(), role) {
+            let adapter = Some(instance.type_name().name.name());
             ports.push(port(Sort::Adapter, side, *name, adapter))?;
         }
     }

@@ -36,9 +36,9 @@ fn plant_of(alloc: Global, texts: &[&str]) -> Result<Library, Fail> {
     Ok(library)
 }
 
-fn say_events(told: &mut String, ports: &Ports) -> Result<(), AllocError> {
+fn say_events(told: &mut String, ports: &Ports<'_>) -> Result<(), AllocError> {
     for (name, event) in ports.events().iter() {
-        match event.side {
+        match event.side() {
             Side::Input => write!(told, "event input {name}; ")?,
             Side::Output => write!(told, "event output {name}; ")?,
         }
@@ -46,10 +46,10 @@ fn say_events(told: &mut String, ports: &Ports) -> Result<(), AllocError> {
     Ok(())
 }
 
-fn say_data(told: &mut String, ports: &Ports) -> Result<(), AllocError> {
+fn say_data(told: &mut String, ports: &Ports<'_>) -> Result<(), AllocError> {
     for (name, variable) in ports.variables().iter() {
-        let used = variable.type_use.name();
-        match variable.section {
+        let used = variable.type_use().name.name.name();
+        match variable.section() {
             Section::Input => write!(told, "data input {name}:{used}; ")?,
             Section::Output => write!(told, "data output {name}:{used}; ")?,
             Section::Internal | Section::Field => write!(told, "variable {name}:{used}; ")?,

@@ -1,12 +1,13 @@
 use Rattle.std.proofs.{Common.{◌≡◌, ◌++◌, ◌∙◌, ap, sym, append_assoc}, lemmas.List.Folds.{flat_map-map}, lemmas.Result.{on_ok_weaker}}
 use Rattle.std.specs.List.{flat_map}
 use Rattle.fb_tree.specs.Tree.{algorithm_tree, transition_tree}
-use Rattle.fb_expr.specs.{Names.{names_in}, Charts.{algorithm_faults, transition_faults}}
+use Rattle.fb_iface.specs.{CachedFields.{structures_in}, ScopeTypes.{scope_in}}
+use Rattle.fb_expr.specs.{Names.{Names}, Charts.{algorithm_faults, transition_faults}}
 use Rattle.fb_expr.proofs.check.report_expressions.Goals as goal
 
 pub returns : goal.returns
 returns c =
-    let names = names_in c.args.names in
+    let names : Names = record { scope = scope_in c.args.scope.now; fields = structures_in c.args.structures.now } in
     let chart = c.args.chart.now in
     let old = c.args.found.now.items in
     let guards : c.report_transitions.new.found.items ≡ old ++ flat_map (λ t. transition_faults names (transition_tree t)) chart.transitions.items = c.in_ok-report_transitions.ensures ∙ ap (λ l. old ++ flat_map (λ t. transition_faults names (transition_tree t)) l) c.as_slice.ensures.value in

@@ -1,7 +1,7 @@
 use Rattle.std.proofs.{Common.{◌≡◌, ℕ, List, ◌+◌, ◌<◌, ◌∷◌, [], ◌++◌, length, map, sym, ap, ◌∙◌, arith, take}, lemmas.Grind.{common_steps}}
 use Rattle.std.proofs.lemmas.List.{map-append, take_all}
 use Rattle.fb_tree.specs.{Tree.{EventTree, event_tree}, declared.interface.Event.{Event}}
-use Rattle.fb_iface.specs.{declared.ports.DeclaredEvent.{DeclaredEvent}, Names.{first_ones, with_first, with_firsts}}
+use Rattle.fb_iface.specs.{Ports.{DeclaredEvent}, Names.{first_ones, with_first, with_firsts}}
 use Rattle.fb_iface.proofs.{TableLemmas.{firsts_all, with_firsts-push}, TreeLemmas.{same_items}}
 use Rattle.fb_iface.proofs.ports.event_table.Goals as goal
 
@@ -15,7 +15,7 @@ loop-event-preserved c =
     let within : n < length events = omega (arith, ap length slice) in
     let more : take (n + 1) events ≡ take n events ++ x ∷ [] = grind (arith, common_steps) in
     c.in_ok-declare.ensures
-    ∙ (λ i. with_first (c.loop-event.invariant i) (c.name.ensures i, c.declared_event.ensures i))
+    ∙ (λ i. with_first (c.loop-event.invariant i) (c.name.ensures i, record { side = x.side; type_name = x.type_name }))
     ∙ sym (with_firsts-push [] (map meant (take n events)) (meant x))
     ∙ ap (with_firsts []) (sym (ap (map meant) more ∙ map-append meant (take n events) (x ∷ [])))
 

@@ -1,7 +1,7 @@
 use Rattle.std.proofs.{Common.{◌≡◌, ℕ, List, ◌+◌, ◌<◌, ◌∷◌, [], ◌++◌, length, map, sym, ap, ◌∙◌, arith, take}, lemmas.Grind.{common_steps}}
 use Rattle.std.proofs.lemmas.List.{map-append, take_all}
 use Rattle.fb_tree.specs.{Tree.{InstanceTree, instance_tree}, declared.network.Instance.{Instance}}
-use Rattle.fb_iface.specs.{declared.ports.DeclaredInstance.{DeclaredInstance}, Names.{first_ones, with_first, with_firsts}}
+use Rattle.fb_iface.specs.{Ports.{DeclaredInstance}, Names.{first_ones, with_first, with_firsts}}
 use Rattle.fb_iface.proofs.{TableLemmas.{firsts_all, with_firsts-push}, TreeLemmas.{same_items}}
 use Rattle.fb_iface.proofs.ports.instance_table.Goals as goal
 
@@ -15,7 +15,7 @@ loop-instance-preserved c =
     let within : n < length instances = omega (arith, ap length slice) in
     let more : take (n + 1) instances ≡ take n instances ++ x ∷ [] = grind (arith, common_steps) in
     c.in_ok-declare.ensures
-    ∙ (λ i. with_first (c.loop-instance.invariant i) (c.name.ensures i, record { role = x.role; type_name = c.of.ensures i }))
+    ∙ (λ i. with_first (c.loop-instance.invariant i) (c.name-name.ensures i, record { role = x.role; type_name = x.type_name }))
     ∙ sym (with_firsts-push [] (map meant (take n instances)) (meant x))
     ∙ ap (with_firsts []) (sym (ap (map meant) more ∙ map-append meant (take n instances) (x ∷ [])))
 
