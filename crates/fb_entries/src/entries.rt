@@ -9,10 +9,10 @@ ghost use Rattle.fb_entries.specs.Marking.{is_handed_out, is_unkept, keys_with, 
 ghost use Rattle.fb_entries.specs.{Found.{units_of}, Keyed.{can_take, entry_at, IsFirstReady}, Renew.{HasRoom, IsCarriedOut, IsRenewal, IsTakenBack}};
 
 use crate::entry::{Entry, join, keep, leave, mark_out, store_precomputed};
-use crate::keys::only_present;
-use crate::reach::{reached_keys, reindexed};
+use crate::keys::{parted, present_keys};
+use crate::reach::reindexed;
 use crate::renewal::{
-    Renewal, absent, changed_units, join_all, leave_all, not_in, put_blank, renew_all, take_out,
+    Renewal, changed_units, join_all, leave_all, not_in, put_blank, renew_all, take_out,
     without_entry,
 };
 use fb_index::Index;
@@ -162,7 +162,8 @@ impl Entries {
         Ok(CommitEffects { index, renewal })
     }
 
-    /// What changes of these units alter; `library` is the library after them, and `index` is that of its texts.
+    /// What changes of these units alter; `library` is the library after them, and `index` is that of its texts. They reach the keys of the units that
+    /// rest on one of them for the kinds that need all that a unit rests on, and those of the units that one of them is near for the others.
     fn find(
         &self,
         alloc: Global,
@@ -174,11 +175,11 @@ impl Entries {
         ensures { IfOk result (IsRenewal library.now units.now self.now) }
     {
         let own = keys_by_name(alloc, units)?;
-        let present = only_present(alloc, library, &own)?;
+        let (present, gone) = parted(alloc, library, &own)?;
         let fresh = without_entry(alloc, &self.by_key, &present)?;
-        let gone = absent(alloc, library, &own)?;
-        let reached = reached_keys(alloc, index, units)?;
-        let renewed = only_present(alloc, library, &reached)?;
+        let near = index.near_of(alloc, units)?;
+        let far = index.far_of(alloc, units)?;
+        let renewed = present_keys(alloc, library, &near, &far)?;
         let unready = not_in(alloc, &self.ready, &renewed)?;
         Ok(Renewal {
             fresh,

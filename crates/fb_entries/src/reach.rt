@@ -1,13 +1,12 @@
-//! What changed units reach, by the index of what each unit mentions.
-ghost use Rattle.std.specs.Prelude.{◌≡◌, ◌↔◌, true, None, IfOk};
-ghost use Rattle.fb_jobs.specs.{declared.key.Key.{Key}, Reach.{first_repeated, AgreeApartFrom}};
+//! The index of what each unit mentions, after changes.
+ghost use Rattle.std.specs.Prelude.{◌≡◌, None, IfOk};
+ghost use Rattle.fb_jobs.specs.Reach.{first_repeated, AgreeApartFrom};
 ghost use Rattle.fb_index.specs.{Library.Texts.{sources_of}, Library.View.{mentioned_at}};
 ghost use Rattle.fb_tree.specs.Mentions.{mentioned, nothing_mentioned};
-ghost use Rattle.fb_entries.specs.{Indexed.{IsIndexOf, IsReached}, Marking.{is_of}};
+ghost use Rattle.fb_entries.specs.Indexed.{IsIndexOf};
 
 use fb_index::Index;
 use fb_index::library::{Library, mentions_by_name};
-use fb_jobs::{Key, keys_near_and_far};
 use fb_text::Name;
 use fb_tree::Mentions;
 use std::alloc::{AllocError, Global};
@@ -48,20 +47,4 @@ fn mentions_or<'a>(library: &'a Library, unit: &Name, none: &'a Mentions) -> &'a
         Some(mentions) => mentions,
         None => none,
     }
-}
-
-/// The keys whose values one of the changed names decides: those of the units that rest on it for the kinds that need all that a
-/// unit rests on, those of the units that it is near for the others.
-pub(crate) fn reached_keys(
-    alloc: Global,
-    index: &Index,
-    changed: &[Name],
-) -> Result<Vec<Key>, AllocError>
-    ensures { IfOk result
-        (λ keys. (key : Key) → (is_of key keys.items ≡ true)
-        ↔ IsReached index.now changed.now key.kind key.unit) }
-{
-    let near = index.near_of(alloc, changed)?;
-    let far = index.far_of(alloc, changed)?;
-    keys_near_and_far(alloc, &near, &far)
 }

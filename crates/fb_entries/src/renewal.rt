@@ -3,12 +3,12 @@ ghost use Rattle.std.specs.Prelude.{◌≡◌, not, is_none, map, filter, IfOk, 
 ghost use Rattle.std.specs.BTreeMap as tree;
 ghost use Rattle.std.specs.BTreeSet as set;
 ghost use Rattle.fb_index.specs.{Library.Texts.{unit_of}, Library.Changes.{edits_of}};
-ghost use Rattle.fb_jobs.specs.{Keys.{has_key}, KeyOrder.{key_cmp}};
+ghost use Rattle.fb_jobs.specs.KeyOrder.{key_cmp};
 ghost use Rattle.fb_entries.specs.Marking.{KeepsOtherEntries, HasEntries, LosesEntries, RenewsEntries, KeepsOtherKeys, HasKeys, LosesKeys};
 
 use crate::entry::{Entry, join, leave, renew};
-use fb_index::library::{Change, Library};
-use fb_jobs::{Key, has_key};
+use fb_index::library::Change;
+use fb_jobs::Key;
 use fb_text::Name;
 use std::alloc::{AllocError, Global};
 use std::collections::{BTreeMap, BTreeSet};
@@ -65,20 +65,6 @@ pub(crate) fn without_entry(
         }
     }
     Ok(fresh)
-}
-
-/// The keys of these that the library doesn't have.
-pub(crate) fn absent(alloc: Global, library: &Library, keys: &[Key]) -> Result<Vec<Key>, AllocError>
-    ensures { IfOk result
-        (λ gone. gone.items ≡ filter (λ key. not (has_key library.now key)) keys.now) }
-{
-    let mut gone = Vec::new(alloc);
-    for key in keys {
-        if !has_key(library, *key) {
-            gone.push(*key)?;
-        }
-    }
-    Ok(gone)
 }
 
 /// The keys of these that are not in the set.

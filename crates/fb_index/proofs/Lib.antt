@@ -1,4 +1,5 @@
 pub mod Bits
+mod Listed
 pub mod Lookups
 pub mod Replacing
 pub mod Units

@@ -67,7 +67,7 @@ impl Users {
         self.put_in(alloc, unit, new, &before)
     }
 
-    /// The users of a name, in order.
+    /// The users of a name.
     pub fn under(&self, alloc: Global, name: &Name) -> Result<Vec<Name>, AllocError>
         ensures { IfOk result (λ units. units.items ≡ users_of self.now name.now) }
     {
@@ -82,7 +82,7 @@ impl Users {
         ensures { IfOk result (λ units. units ≡ users_of self.now name.now) }
     {
         match self.by_name.get(name) {
-            Some(units) => units.copy(),
+            Some(units) => units.copy(alloc),
             None => Ok(NameSet::new(alloc)),
         }
     }

@@ -1,5 +1,6 @@
 -- What a job knows beside its reads holds in them.
 use Rattle.std.proofs.Common.{arith, ◌≡◌, ◌⊎◌, inl, inr, ℕ, zero, suc, ◌<◌, length, get_or, ◌&&◌, Bool, true, false, true≢false, cond, ◌||◌, is_none, is_some, List, [], ◌∷◌, ◌++◌, refl, sym, ap, subst, ◌∙◌, Option, Some, None, Contains, filter}
+use Rattle.std.proofs.lemmas.{Bool.{false≢true}, List.{append-nil}, Slice.Zip.{all_zipped_more}}
 use Rattle.std.proofs.lemmas.List.Elements.{All-contains, Contains-append_left, Contains-append_right}
 use Rattle.std.specs.{Map.{lookup}, List.{AllZip, list_any}, Option.{option_and_then, option_map}, FinMap.{get}, BTreeMap.{is_at}, Ordering.{is_eq}}
 use Rattle.std.specs.{declared.sync.Arc.{Arc}, declared.alloc.Global.{Global}}
@@ -15,10 +16,10 @@ use Rattle.fb_deploy.specs.Flatten.Nets.{finite_net, first_net, has_net_in, is_r
 use Rattle.fb_deploy.proofs.{Library.Locality.{near_far, rests_both}, Library.Sources.{get_source}, Library.WalkLemmas.{has-Contains, Contains-has}}
 use Rattle.fb_deploy.proofs.Flatten.FarNames.{far_is_all}
 use Rattle.fb_tree.specs.Tree.{DeclTree, block_type, adapter_type, subapplication_type, system_configuration, structure_type}
-use Rattle.fb_jobs.specs.{declared.hints.Hint.{Hint}, declared.key.Kind.{Kind}, declared.key.Key.{Key}, declared.value.Value.{Value}}
+use Rattle.fb_jobs.specs.{declared.hints.Hint.{Hint}, declared.key.Kind.{Kind}, declared.key.Key.{Key}, declared.value.Value.{Value}, declared.cached.Judged.{Judged}}
 use Rattle.fb_jobs.specs.{declared.value.Value.TheVariants.{Faults, Net, Deploy}, Hints.{AreChosen, AreHints, IsHint, net_key}}
 use Rattle.fb_jobs.specs.Keys.{Finding, FaultsFound, NetFound, DeployFound, NothingFound, has_key, has_kind_at, needs, needs_of, net_finding, scratch}
-use Rattle.fb_jobs.specs.Cached.{IsCached, AddsBlocking, AddsNet, AreBlocking, AreFaultlessAmong, AreNetsOf, AreWithoutFaults, IsBlockedNet, IsFlag, IsKeptFaultless, IsNetOfUnit, IsOwnNet, IsThere, Nets, faults_key, hint_in, is_flagged, judged, named_if, net_in, some_faults}
+use Rattle.fb_jobs.specs.Cached.{IsCached, AddsNet, AreBlocking, AreFaultlessAmong, AreJudged, AreNetsOf, AreWithoutFaults, IsBlockedBy, IsFlag, IsKeptFaultless, IsNetOfUnit, IsOwnNet, IsThere, Nets, faults_key, hint_in, is_flagged, judged, named_if, net_in, some_faults}
 use Rattle.fb_jobs.specs.{Cache.{AreKept}, Kinds.{needs_all}, declared.cached.Cached.{Cached}}
 use Rattle.fb_jobs.specs.{Reads.{Agree, Seen, is_among, read_names, read_texts, reads_for, reads_under}, Values.{finding_of}, Work.{IsOwnIn}}
 use Rattle.fb_jobs.specs.declared.key.Kind.TheVariants as kind
@@ -291,16 +292,19 @@ far_for kind.Faults sources unit all = cc
 far_for kind.Net sources unit all = refl
 far_for kind.Deploy sources unit all = refl
 
-blocked_own : (T : Texts) (key : Key) (kept : Key → Option Finding) (net : Value) → AreKept T kept → needs_all key.kind ≡ true → has_key T key ≡ true → IsBlockedNet kept (reads_for T key) net → finding_of net ≡ scratch T (net_key key.unit)
+blocked_own : (T : Texts) (key : Key) (kept : Key → Option Finding) (names : List (List ℕ)) (net : Value) → AreKept T kept → needs_all key.kind ≡ true → has_key T key ≡ true → AreBlocking kept (reads_for T key) names → is_some_name names ≡ true → finding_of net ≡ NetFound (blocked names) → finding_of net ≡ scratch T (net_key key.unit)
 unfolding needs scratch
-blocked_own T key kept net right all has (names, are, some, is) =
+blocked_own T key kept names net right all has are some is =
     let sources = sources_of T in
     let far = far_of sources key.unit in
     let under : AreBlocking kept (reads_under T far) names = subst (λ (ns : List (List ℕ)). AreBlocking kept (reads_under T ns) names) (far_for key.kind sources key.unit all) are in
     is ∙ ap net_finding (sym (blocked_at sources key.unit names (net_there key.kind (get sources key.unit) all (kind_there T key has)) (block_it T kept (is_part_among sources far) far names right under) some))
 
 -- one read more
-pub blocking_more : (kept : Key → Option Finding) (reads : List Seen) (it : Seen) (names more : List (List ℕ)) → AreBlocking kept reads names → AddsBlocking kept it names more → AreBlocking kept (reads ++ it ∷ []) more
+abbrev AddsBlocking : (Key → Option Finding) → Seen → List (List ℕ) → List (List ℕ) → Type 0
+AddsBlocking kept it old new = (has : Bool) × (judged kept it ≡ Some has) × (new ≡ old ++ named_if has it.name [])
+
+blocking_more : (kept : Key → Option Finding) (reads : List Seen) (it : Seen) (names more : List (List ℕ)) → AreBlocking kept reads names → AddsBlocking kept it names more → AreBlocking kept (reads ++ it ∷ []) more
 blocking_more kept [] it names more are (has, is, adds) =
     (has, [], is, refl, adds ∙ ap (λ ns. ns ++ named_if has it.name []) are)
 blocking_more kept (r ∷ reads) it names more (had, rest, was, before, named) (has, is, adds) =
@@ -309,6 +313,25 @@ blocking_more kept (r ∷ reads) it names more (had, rest, was, before, named) (
     named_later : (b : Bool) (name : List ℕ) (xs ys : List (List ℕ)) → (named_if b name xs ++ ys) ≡ named_if b name (xs ++ ys)
     named_later true name xs ys = refl
     named_later false name xs ys = refl
+
+module _ (kept : Key → Option Finding) (it : Seen) (old new : Judged) where
+  more_judged : (flag : Bool) → IsFlag kept it flag → new.faultless.items ≡ old.faultless.items ++ flag ∷ [] → (new.is_all ≡ true → (old.is_all ≡ true) × AddsBlocking kept it old.faulty.items new.faulty.items) → (reads : List Seen) → AreJudged kept reads old → AreJudged kept (reads ++ it ∷ []) new
+  more_judged flag is more adds reads are = record {
+    flags_are = subst (AllZip (IsFlag kept) (reads ++ it ∷ [])) (sym more) (all_zipped_more (IsFlag kept) reads old.faultless.items it flag are.flags_are is);
+    faulty_are = λ all. let was = adds all in blocking_more kept reads it old.faulty.items new.faulty.items (are.faulty_are was.0) was.1;
+  }
+
+  -- a unit with faults
+  pub one_faulty : judged kept it ≡ Some true → new.faultless.items ≡ old.faultless.items ++ false ∷ [] → new.faulty.items ≡ old.faulty.items ++ it.name ∷ [] → new.is_all ≡ old.is_all → (reads : List Seen) → AreJudged kept reads old → AreJudged kept (reads ++ it ∷ []) new
+  one_faulty is flags names all = more_judged false (λ e. absurd (false≢true e)) flags (λ e. (sym all ∙ e, (true, is, names)))
+
+  -- a unit without faults
+  pub one_faultless : judged kept it ≡ Some false → new.faultless.items ≡ old.faultless.items ++ true ∷ [] → new.faulty.items ≡ old.faulty.items → new.is_all ≡ old.is_all → (reads : List Seen) → AreJudged kept reads old → AreJudged kept (reads ++ it ∷ []) new
+  one_faultless is flags names all = more_judged true (λ e. is) flags (λ e. (sym all ∙ e, (false, is, names ∙ sym (append-nil old.faulty.items))))
+
+  -- a unit of which it is not known
+  pub one_unknown : new.faultless.items ≡ old.faultless.items ++ false ∷ [] → new.is_all ≡ false → (reads : List Seen) → AreJudged kept reads old → AreJudged kept (reads ++ it ∷ []) new
+  one_unknown flags all = more_judged false (λ e. absurd (false≢true e)) flags (λ e. absurd (false≢true (sym all ∙ e)))
 
 -- ---- together
 
@@ -328,11 +351,11 @@ flags_stay T key kept flags right all are =
     faultless_stay T key kept (is_flagged (reads_for T key) flags) right all (flags_among T kept (reads_for T key) flags (current_under T (needs T key)) are)
 
 -- the net of the own unit in the texts: kept, found, or blocked
-pub own_known : (T : Texts) (key : Key) (kept found : Key → Option Finding) (own known : Option (Arc Value Global)) → AreKept T kept → AreKept T found → needs_all key.kind ≡ true → has_key T key ≡ true → IsOwnNet kept found key.unit own → ((value : Arc Value Global) → known ≡ Some value → (own ≡ Some value) ⊎ IsBlockedNet kept (reads_for T key) value.value) → IsNetOfUnit T key.unit known
-own_known T key kept found own known right right_found all has is or value there =
+pub own_known : (T : Texts) (key : Key) (kept found : Key → Option Finding) (own known : Option (Arc Value Global)) (is_all : Bool) (faulty : List (List ℕ)) → AreKept T kept → AreKept T found → needs_all key.kind ≡ true → has_key T key ≡ true → IsOwnNet kept found key.unit own → (is_all ≡ true → AreBlocking kept (reads_for T key) faulty) → ((value : Arc Value Global) → known ≡ Some value → (own ≡ Some value) ⊎ IsBlockedBy is_all faulty value.value) → IsNetOfUnit T key.unit known
+own_known T key kept found own known is_all faulty right right_found all has is are or value there =
     elim (or value there) [
       | inl e ↦ own_kept T kept found key.unit own right right_found is value e
-      | inr blocked_by ↦ blocked_own T key kept value.value right all has blocked_by
+      | inr by ↦ blocked_own T key kept faulty value.value right all has (are by.all) by.some by.net_is
     ]
 
 -- what is kept of what the key needs

@@ -1,10 +1,10 @@
 -- What a job knows beside its reads and its hints.
-use Rattle.std.specs.Prelude.{◌≡◌, ◌⊎◌, ℕ, Bool, true, false, ◌&&◌, ◌||◌, if◌then◌else◌, is_some, List, [], ◌∷◌, ◌++◌, Option, Some, None, Contains}
-use Rattle.std.specs.{BTreeMap.{is_at}, declared.sync.Arc.{Arc}, declared.alloc.Global.{Global}}
+use Rattle.std.specs.Prelude.{◌≡◌, ◌⊎◌, ℕ, Bool, true, false, ◌&&◌, ◌||◌, if◌then◌else◌, is_some, List, [], ◌∷◌, Option, Some, None, Contains}
+use Rattle.std.specs.{BTreeMap.{is_at}, List.{AllZip}, declared.sync.Arc.{Arc}, declared.alloc.Global.{Global}}
 use Rattle.std.specs.BTreeMap as tree
 use Rattle.fb_text.specs.Order.{name_cmp}
 use Rattle.fb_deploy.specs.{Library.Texts.{Texts}, Flatten.Blocking.{is_some_fault, is_some_name}, Flatten.Net.{PlainNet, blocked, plain_net}}
-use Rattle.fb_jobs.specs.{declared.hints.Hint.{Hint}, declared.cached.Cached.{Cached}, declared.key.Key.{Key}, declared.value.Value.{Value}}
+use Rattle.fb_jobs.specs.{declared.hints.Hint.{Hint}, declared.cached.Cached.{Cached}, declared.cached.Judged.{Judged}, declared.key.Key.{Key}, declared.value.Value.{Value}}
 use Rattle.fb_jobs.specs.declared.value.Value.TheVariants.{Faults, Net, Deploy}
 use Rattle.fb_jobs.specs.{Keys.{Finding, FaultsFound, NetFound, DeployFound, NothingFound, has_key, scratch}, Reads.{Seen, read_names, read_texts, is_among}}
 use Rattle.fb_jobs.specs.{Hints.{AreHints, net_key}, Values.{finding_of}}
@@ -102,13 +102,16 @@ abbrev pub AreBlocking : (Key → Option Finding) → List Seen → List (List �
 AreBlocking kept [] names = names ≡ []
 AreBlocking kept (it ∷ reads) names = (has : Bool) × (rest : List (List ℕ)) × (judged kept it ≡ Some has) × AreBlocking kept reads rest × (names ≡ named_if has it.name rest)
 
--- one read more
-abbrev pub AddsBlocking : (Key → Option Finding) → Seen → List (List ℕ) → List (List ℕ) → Type 0
-AddsBlocking kept it old new = (has : Bool) × (judged kept it ≡ Some has) × (new ≡ old ++ named_if has it.name [])
+-- flags for the reads, and if of each it is known whether its unit has faults, the names of those that have
+pub record AreJudged (kept : Key → Option Finding) (reads : List Seen) (it : Judged) : Type 0 where
+  pub flags_are : AllZip (IsFlag kept) reads it.faultless.items
+  pub faulty_are : it.is_all ≡ true → AreBlocking kept reads it.faulty.items
 
--- the net of a unit that is blocked by these
-abbrev pub IsBlockedNet : (Key → Option Finding) → List Seen → Value → Type 0
-IsBlockedNet kept reads net = (names : List (List ℕ)) × AreBlocking kept reads names × (is_some_name names ≡ true) × (finding_of net ≡ NetFound (blocked names))
+-- the net of a unit that is blocked by these, if these are all
+pub record IsBlockedBy (is_all : Bool) (names : List (List ℕ)) (net : Value) : Type 0 where
+  pub all : is_all ≡ true
+  pub some : is_some_name names ≡ true
+  pub net_is : finding_of net ≡ NetFound (blocked names)
 
 -- ---- together
 

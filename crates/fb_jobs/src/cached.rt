@@ -1,13 +1,13 @@
 //! What a job knows beside its reads: the nets of its hints, the net of its own unit, and which units have no faults.
-ghost use Rattle.std.specs.{Prelude.{◌≡◌, ◌⊎◌, ℕ, List, true, false, [], None, Some, option_map, option_copied, get_or, IfOk, IfSome, OnOk}, List.{AllZip}};
+ghost use Rattle.std.specs.{Prelude.{◌≡◌, ◌⊎◌, ℕ, List, true, false, [], ◌∷◌, ◌++◌, None, Some, option_map, option_copied, get_or, IfOk, OnOk}, List.{AllZip}};
 ghost use Rattle.std.specs.{declared.alloc.Global.{Global}, declared.sync.Arc.{Arc}};
 ghost use Rattle.std.specs.BTreeMap as tree;
 ghost use Rattle.std.specs.BTreeSet as set;
 ghost use Rattle.fb_text.specs.Order.{name_cmp};
 ghost use Rattle.fb_deploy.specs.{Flatten.Net.{plain_net}, Library.Texts.{Texts}};
 ghost use Rattle.fb_jobs.specs.{Cache.{AreKept}, Keys.{has_key}, declared.value.Value.{Value}};
-ghost use Rattle.fb_jobs.specs.Cached.{AddsBlocking, AddsNet, AreBlocking, AreNetsOf, IsBlockedNet, IsFlag, IsCached, IsOwnNet, faults_key, hint_in, is_flagged, judged, net_in, some_faults};
-ghost use Rattle.fb_jobs.specs.{Reads.{reads_for}, Values.{all_seen, seen_of}};
+ghost use Rattle.fb_jobs.specs.Cached.{AddsNet, AreBlocking, AreJudged, AreNetsOf, IsBlockedBy, IsFlag, IsCached, IsOwnNet, faults_key, hint_in, is_flagged, judged, net_in, some_faults};
+ghost use Rattle.fb_jobs.specs.{Reads.{Seen, reads_for}, Values.{all_seen, seen_of}};
 
 use crate::cache::Cache;
 use crate::hints::{Hint, hints_among, net_key};
@@ -60,10 +60,14 @@ impl Cached {
             return Ok(Cached::of_hints(alloc, Vec::new(alloc)));
         }
         let own = own_net(kept, key)?;
-        let faultless = faultless_unless(alloc, kept, reads, own.is_some() && is_new)?;
+        let Judged {
+            faultless,
+            faulty,
+            is_all,
+        } = judged_unless(alloc, kept, reads, own.is_some() && is_new)?;
         Ok(Cached {
             hints: hints_among(alloc, kept, &key.unit, reads)?,
-            own: own_or_blocked(alloc, kept, own, reads, &faultless)?,
+            own: own_or_blocked(alloc, own, is_all, faulty)?,
             faultless,
         })
     }
@@ -177,113 +181,87 @@ fn has_faults<K: Cache>(kept: &K, read: &Read) -> Option<bool>
     has_kept_faults(kept, &read.name)
 }
 
-/// Whether what was read is present, and kept without faults.
-fn is_faultless<K: Cache>(kept: &K, read: &Read) -> bool
-    ensures { IsFlag (K.kept kept.now) (seen_of read.now) result }
-{
-    match has_faults(kept, read) {
-        Some(has) => !has,
-        None => false,
-    }
+/// Which of the units that were read are known to have faults, and which are known to have none.
+#[derive(Drop)]
+struct Judged {
+    /// Of each read, by its place, whether its unit is known to be present and without faults.
+    faultless: Vec<bool>,
+    /// The names of those that are known to have faults.
+    faulty: Vec<Name>,
+    /// Whether it is known of each unit whether it has faults.
+    is_all: bool,
 }
 
-/// Adds the name that was read if its unit has faults. The result is whether that is known.
-fn add_blocking<K: Cache>(kept: &K, names: &mut Vec<Name>, read: &Read) -> Result<bool, AllocError>
-    ensures { IfOk result (λ is. is ≡ true
-        → AddsBlocking (K.kept kept.now) (seen_of read.now) names.old.items names.new.items) }
+/// Adds what is known of one more read.
+fn judge<K: Cache>(kept: &K, found: &mut Judged, read: &Read) -> Result<(), AllocError>
+    ensures { OnOk result ((reads : List Seen) → AreJudged (K.kept kept.now) reads found.old
+        → AreJudged (K.kept kept.now) (reads ++ seen_of read.now ∷ []) found.new) }
 {
     match has_faults(kept, read) {
         Some(true) => {
-            names.push(read.name)?;
-            Ok(true)
+            found.faulty.push(read.name)?;
+            Ok(found.faultless.push(false)?)
         }
-        Some(false) => Ok(true),
-        None => Ok(false),
+        Some(false) => Ok(found.faultless.push(true)?),
+        None => {
+            found.is_all = false;
+            Ok(found.faultless.push(false)?)
+        }
     }
 }
 
-/// The names of the reads whose units have faults, if of each unit that was read it is known whether it has.
-fn blocking_names<K: Cache>(
-    alloc: Global,
-    kept: &K,
-    reads: &[Read],
-) -> Result<Option<Vec<Name>>, AllocError>
-    ensures { IfOk result (λ found. IfSome found
-        (λ names. AreBlocking (K.kept kept.now) (all_seen reads.now) names.items)) }
+/// What is known of the faults of what was read: of each unit by one search of what is kept.
+fn judged_reads<K: Cache>(alloc: Global, kept: &K, reads: &[Read]) -> Result<Judged, AllocError>
+    ensures { IfOk result (AreJudged (K.kept kept.now) (all_seen reads.now)) }
 {
-    let mut names = Vec::new(alloc);
+    let mut found = Judged {
+        faultless: Vec::with_capacity(alloc, reads.len())?,
+        faulty: Vec::new(alloc),
+        is_all: true,
+    };
     for read in reads {
-        if !add_blocking(kept, &mut names, read)? {
-            return Ok(None);
-        }
+        judge(kept, &mut found, read)?;
     }
-    Ok(Some(names))
+    Ok(found)
 }
 
-/// The net of a unit that rests on what was read, if units with faults are known to block it.
-fn blocked_net<K: Cache>(
-    alloc: Global,
-    kept: &K,
-    reads: &[Read],
-) -> Result<Option<Arc<Value>>, AllocError>
-    ensures { IfOk result (λ found. IfSome found
-        (λ net. IsBlockedNet (K.kept kept.now) (all_seen reads.now) net.value)) }
-{
-    match blocking_names(alloc, kept, reads)? {
-        Some(names) if !names.is_empty() => {
-            Ok(Some(Arc::new(alloc, Value::Net(Net::Blocked(names)))?))
-        }
-        _ => Ok(None),
-    }
-}
-
-/// Of each read, by its place, whether it is known that its unit is present and without faults.
-pub(crate) fn faultless_of<K: Cache>(
-    alloc: Global,
-    kept: &K,
-    reads: &[Read],
-) -> Result<Vec<bool>, AllocError>
-    ensures { IfOk result
-        (λ flags. AllZip (IsFlag (K.kept kept.now)) (all_seen reads.now) flags.items) }
-{
-    let mut flags = Vec::with_capacity(alloc, reads.len())?;
-    for read in reads {
-        flags.push(is_faultless(kept, read))?;
-    }
-    Ok(flags)
-}
-
-/// Of each read, by its place, whether its unit is known to be present and without faults; nothing for a new key whose own net is known: it needs none of this.
-fn faultless_unless<K: Cache>(
+/// The same; nothing for a new key whose own net is known: it needs none of this.
+fn judged_unless<K: Cache>(
     alloc: Global,
     kept: &K,
     reads: &[Read],
     is_useless: bool,
-) -> Result<Vec<bool>, AllocError>
-    ensures { IfOk result (λ flags. (flags.items ≡ [])
-        ⊎ AllZip (IsFlag (K.kept kept.now)) (all_seen reads.now) flags.items) }
+) -> Result<Judged, AllocError>
+    ensures flags { IfOk result (λ it. (it.faultless.items ≡ [])
+        ⊎ AllZip (IsFlag (K.kept kept.now)) (all_seen reads.now) it.faultless.items) }
+    ensures faulty { IfOk result (λ it. it.is_all ≡ true
+        → AreBlocking (K.kept kept.now) (all_seen reads.now) it.faulty.items) }
 {
     if is_useless {
-        return Ok(Vec::new(alloc));
+        return Ok(Judged {
+            faultless: Vec::new(alloc),
+            faulty: Vec::new(alloc),
+            is_all: false,
+        });
     }
-    faultless_of(alloc, kept, reads)
+    judged_reads(alloc, kept, reads)
 }
 
-/// The net of the own unit if it is known, or else if it is known to be blocked.
-fn own_or_blocked<K: Cache>(
+/// The net of the own unit if it is known, or else if it is known to be blocked: of all units that it rests on it is known whether they have faults, and
+/// some have.
+fn own_or_blocked(
     alloc: Global,
-    kept: &K,
     own: Option<Arc<Value>>,
-    reads: &[Read],
-    faultless: &[bool],
+    is_all: bool,
+    faulty: Vec<Name>,
 ) -> Result<Option<Arc<Value>>, AllocError>
     ensures { IfOk result (λ known. (value : Arc Value Global) → known ≡ Some value
-        → (own ≡ Some value) ⊎ IsBlockedNet (K.kept kept.now) (all_seen reads.now) value.value) }
+        → (own ≡ Some value) ⊎ IsBlockedBy is_all faulty.items value.value) }
 {
-    if own.is_some() || !faultless.contains(&false) {
+    if own.is_some() || !is_all || faulty.is_empty() {
         return Ok(own);
     }
-    blocked_net(alloc, kept, reads)
+    Ok(Some(Arc::new(alloc, Value::Net(Net::Blocked(faulty)))?))
 }
 
 /// The list, or nothing of it.

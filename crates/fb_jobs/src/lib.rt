@@ -28,7 +28,7 @@ pub use kinds::{all_kinds, keys_by_name, keys_near_and_far};
 pub use laws::{
     current_nets, current_reads, kinds_in_order, least_stale, locality, needs_in_order,
 };
-pub use read::{Read, has_key};
+pub use read::{Read, has_key, has_net_and_plan};
 pub use reads::needed;
 pub use result::Finished;
 pub use same::{is_one_name, is_same_value};

@@ -1,13 +1,18 @@
 //! What was read for a key, and which keys there are.
 ghost use Rattle.std.specs.Prelude.{◌≡◌};
+ghost use Rattle.fb_deploy.specs.{Flatten.Nets.{has_net_in}, Library.View.{tree_in}, Plans.{has_plan_in}};
+ghost use Rattle.fb_parse.specs.Body.{body_tree};
 ghost use Rattle.fb_jobs.specs.Keys.{has_key};
+ghost use Rattle.fb_jobs.specs.declared.key.Kind.TheVariants as kind;
 
 use crate::key::{Key, Kind};
 use fb_deploy::flatten::has_net;
 use fb_deploy::is_system;
 use fb_deploy::library::Library;
 use fb_deploy::parse::Source;
+use fb_parse::Body;
 use fb_text::Name;
+use fb_tree::Decl;
 use std::sync::Arc;
 
 /// What was read under a name: a source with its revision, or nothing, with revision 0.
@@ -36,5 +41,29 @@ pub fn has_key(library: &Library, key: Key) -> bool
         Kind::Faults => library.source(&key.unit).is_some(),
         Kind::Net => has_net(library, &key.unit),
         Kind::Deploy => is_system(library, &key.unit),
+    }
+}
+
+/// Whether a unit with this body has a net, and whether it has a plan.
+fn has_net_and_plan_in(body: &Body) -> (bool, bool)
+    ensures net { result.0 ≡ has_net_in (tree_in (body_tree body.now)) }
+    ensures plan { result.1 ≡ has_plan_in (tree_in (body_tree body.now)) }
+{
+    match body {
+        Body::Tree(Decl::Subapplication(_)) => (true, false),
+        Body::Tree(Decl::System(_)) => (true, true),
+        Body::Tree(_) | Body::Broken(_) => (false, false),
+    }
+}
+
+/// Whether the library has the key of a unit's net, and whether that of its plan: both by one search.
+#[tactic(auto, unfolding(crate::specs::Keys::has_key))]
+pub fn has_net_and_plan(library: &Library, unit: &Name) -> (bool, bool)
+    ensures net { result.0 ≡ has_key library.now (record { kind = kind.Net; unit = unit.now }) }
+    ensures plan { result.1 ≡ has_key library.now (record { kind = kind.Deploy; unit = unit.now }) }
+{
+    match library.source(unit) {
+        Some(source) => has_net_and_plan_in(source.body()),
+        None => (false, false),
     }
 }

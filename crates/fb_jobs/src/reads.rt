@@ -1,5 +1,5 @@
 //! The reads of a library for a key.
-ghost use Rattle.std.specs.Prelude.{◌≡◌, true, IfOk, IfSome, OnOk};
+ghost use Rattle.std.specs.Prelude.{◌≡◌, true, Some, None, IfOk, IfSome, OnOk};
 ghost use Rattle.fb_deploy.specs.Library.Texts.{held};
 ghost use Rattle.fb_jobs.specs.{Keys.{needs}, Again.{AreReadAgain, AreReads, IsReadAgain}, Reads.{read_names, reads_under}, Replaced.{all_replaced, more_replaced}};
 ghost use Rattle.fb_jobs.specs.{Texts.{seen_under, text_of}, Values.{all_seen, seen_of, IsOwn}};
@@ -12,6 +12,7 @@ use crate::reuse::mentions_the_same;
 use crate::texts::{Replacement, TextReads};
 use fb_deploy::flatten::all_far;
 use fb_deploy::library::{Library, Version, near};
+use fb_deploy::parse::Source;
 use fb_text::Name;
 use std::alloc::{AllocError, Global};
 use std::sync::Arc;
@@ -27,6 +28,46 @@ pub fn needed(alloc: Global, library: &Library, key: Key) -> Result<Vec<Name>, A
     }
 }
 
+/// That nothing is read under a name.
+fn absent(name: Name) -> Read
+    ensures seen { seen_of result ≡ record { name = name; found = None } }
+    ensures own { IsOwn result }
+{
+    Read {
+        name,
+        revision: 0,
+        source: None,
+    }
+}
+
+/// What is read under a name where there is a source.
+fn present(name: Name, revision: u64, source: &Arc<Source>) -> Result<Read, AllocError>
+    requires { source.now.value.unit ≡ name }
+    ensures seen { IfOk result (λ read. seen_of read ≡ record {
+      name = name;
+      found = Some (record { revision = revision; text = source.now.value.text });
+    }) }
+    ensures own { IfOk result IsOwn }
+{
+    Ok(Read {
+        name,
+        revision,
+        source: Some(source.clone()?),
+    })
+}
+
+/// What is read under a name.
+fn read_now(library: &Library, name: Name) -> Result<Read, AllocError>
+    ensures seen { IfOk result
+        (λ read. seen_of read ≡ record { name = name; found = held library.now name }) }
+    ensures own { IfOk result IsOwn }
+{
+    match library.filed(&name) {
+        Some(filed) => present(name, filed.revision(), filed.source()),
+        None => Ok(absent(name)),
+    }
+}
+
 /// What is read under a name, and what is kept of it: all by one search of the library.
 fn read_under(library: &Library, name: Name) -> Result<(Read, Option<Arc<Version>>), AllocError>
     ensures seen { IfOk result
@@ -35,19 +76,10 @@ fn read_under(library: &Library, name: Name) -> Result<(Read, Option<Arc<Version
     ensures kept { IfOk result (λ made. seen_under name (text_of made.1) ≡ seen_of made.0) }
 {
     let Some(filed) = library.filed(&name) else {
-        let nothing = Read {
-            name,
-            revision: 0,
-            source: None,
-        };
-        return Ok((nothing, None));
+        return Ok((absent(name), None));
     };
     let version = filed.version().clone()?;
-    let read = Read {
-        name,
-        revision: filed.revision(),
-        source: Some(filed.source().clone()?),
-    };
+    let read = present(name, filed.revision(), filed.source())?;
     Ok((read, Some(version)))
 }
 
@@ -85,25 +117,39 @@ fn is_same_read(before: &Read, now: &Read) -> bool
     }
 }
 
-/// The text that replaces what was read under a name, if it is another. None if it mentions something else, or none is there now.
+/// What is kept of a name.
+fn version_under(library: &Library, name: &Name) -> Result<Option<Arc<Version>>, AllocError>
+    ensures { IfOk result (λ version. seen_under name.now (text_of version)
+        ≡ record { name = name.now; found = held library.now name.now }) }
+{
+    match library.filed(name) {
+        Some(filed) => Ok(Some(filed.version().clone()?)),
+        None => Ok(None),
+    }
+}
+
+/// The text that replaces what was read under a name, if it is another: only that is looked up again. None if it mentions something else, or none is there
+/// now.
 fn text_instead(
+    library: &Library,
     before: &Read,
     now: &Read,
-    version: Option<Arc<Version>>,
-) -> Option<Option<Arc<Version>>>
+) -> Result<Option<Option<Arc<Version>>>, AllocError>
     requires name { before.now.name ≡ now.now.name }
-    requires version { seen_under now.now.name (text_of version) ≡ seen_of now.now }
-    ensures { IfSome result (IsReadAgain (seen_of before.now) (seen_of now.now)) }
+    requires now { seen_of now.now
+        ≡ record { name = now.now.name; found = held library.now now.now.name } }
+    ensures { IfOk result
+        (λ found. IfSome found (IsReadAgain (seen_of before.now) (seen_of now.now))) }
 {
     if is_same_read(before, now) {
-        return Some(None);
+        return Ok(Some(None));
     }
     if !mentions_the_same(before, now) {
-        return None;
+        return Ok(None);
     }
-    match version {
-        Some(version) => Some(Some(version)),
-        None => None,
+    match version_under(library, &now.name)? {
+        Some(version) => Ok(Some(Some(version))),
+        None => Ok(None),
     }
 }
 
@@ -135,25 +181,14 @@ fn read_each_again(
     let mut replacements = Vec::new(alloc);
     for place in 0..before.len() {
         let it = &before[place];
-        let (read, version) = read_under(library, it.name)?;
-        let Some(text) = text_instead(it, &read, version) else {
+        let read = read_now(library, it.name)?;
+        let Some(text) = text_instead(library, it, &read)? else {
             return Ok(None);
         };
         add_replacement(&mut replacements, place, text)?;
         reads.push(read)?;
     }
     Ok(Some((reads, replacements)))
-}
-
-/// What is kept of a name.
-fn version_under(library: &Library, name: &Name) -> Result<Option<Arc<Version>>, AllocError>
-    ensures { IfOk result (λ version. seen_under name.now (text_of version)
-        ≡ record { name = name.now; found = held library.now name.now }) }
-{
-    match library.filed(name) {
-        Some(filed) => Ok(Some(filed.version().clone()?)),
-        None => Ok(None),
-    }
 }
 
 /// What is kept of these reads, looked up again.

@@ -1,10 +1,10 @@
 -- One more read, and the text that replaces it.
-use Rattle.std.proofs.Common.{◌≡◌, ◌+◌, ◌<◌, ◌++◌, [], ◌∷◌, List, length, length-take-le, take, drop, arith, ap, sym, refl, subst, ◌∙◌, All}
+use Rattle.std.proofs.Common.{◌≡◌, ◌+◌, ◌<◌, ◌++◌, [], ◌∷◌, List, length, length-take-le, take, drop, arith, ap, sym, refl, subst, ◌∙◌, All, Option, IfSome}
 use Rattle.std.proofs.lemmas.List.{drop_more, get_or-map, length-map, map-append, take_more}
 use Rattle.std.proofs.{lemmas.List.Elements.{All-push}, lemmas.Slice.Zip.{all_zipped_more}}
-use Rattle.std.specs.List.{AllZip}
-use Rattle.fb_deploy.specs.Library.Texts.{held}
-use Rattle.fb_jobs.specs.{Reuse.{MentionsTheSame}, Reads.{Seen, read_names, reads_under}, Replaced.{all_replaced}}
+use Rattle.std.specs.{List.{AllZip}, declared.sync.Arc.{Arc}, declared.alloc.Global.{Global}}
+use Rattle.fb_deploy.specs.{Library.Texts.{held}, Library.declared.filed.Version.{Version}}
+use Rattle.fb_jobs.specs.{Again.{IsReadAgain}, Reuse.{MentionsTheSame}, Reads.{Seen, read_names, reads_under}, Replaced.{all_replaced}}
 use Rattle.fb_jobs.specs.{Values.{seen_of, all_seen, IsOwn}, declared.read.Read.{Read}}
 use Rattle.fb_jobs.proofs.{HintLemmas.{names_more}, ReplacedLemmas.{replaced_once_more}}
 use Rattle.fb_jobs.proofs.reads.read_each_again.Goals as goal
@@ -18,6 +18,7 @@ loop-place-preserved c =
     let it = c.index-before-place.result in
     let read = c.in_ok-read.read in
     let again = c.loop-place.invariant.0 in
+    let instead : IsReadAgain (seen_of it) (seen_of read) c.in-Some.text = subst (λ (found : Option (Option (Arc Version Global))). IfSome found (IsReadAgain (seen_of it) (seen_of read))) c.in-Some.is c.in_ok-text.ensures in
     let below : i < length before = c.loop-place-test.true in
     let more : take (i + 1) before ≡ take i before ++ it ∷ [] = take_more before i it below ∙ ap (λ (z : Read). take i before ++ z ∷ []) (sym c.index-before-place.is) in
     let pushed = ap all_seen c.in_ok-push.ensures.items ∙ map-append seen_of reads (read ∷ []) in
@@ -44,10 +45,10 @@ loop-place-preserved c =
         mentions =
             subst (λ (rs : List Seen). AllZip MentionsTheSame rs (all_seen c.push.new.self.items)) (sym seen_before)
             (subst (AllZip MentionsTheSame (all_seen (take i before) ++ seen_of it ∷ [])) (sym pushed)
-            (all_zipped_more MentionsTheSame (all_seen (take i before)) (all_seen reads) (seen_of it) (seen_of read) again.mentions c.in-Some.ensures.mentions));
+            (all_zipped_more MentionsTheSame (all_seen (take i before)) (all_seen reads) (seen_of it) (seen_of read) again.mentions instead.mentions));
       },
       ap (all_replaced (all_seen before)) c.in_ok-add_replacement.ensures
           ∙ replaced_once_more (all_seen before) (all_seen reads) rest c.loop-place.replacements.items (seen_of it) (seen_of read)
-          (c.loop-place.invariant.1 ∙ ap (λ l. all_seen reads ++ l) left) c.in-Some.text i long c.in-Some.ensures.instead_is
+          (c.loop-place.invariant.1 ∙ ap (λ l. all_seen reads ++ l) left) c.in-Some.text i long instead.instead_is
           ∙ ap (λ l. l ++ rest) (sym pushed),
     )

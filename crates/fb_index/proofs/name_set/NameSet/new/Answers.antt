@@ -6,4 +6,4 @@ use Rattle.fb_index.proofs.name_set.NameSet.new.Goals as goal
 
 pub invariant_of-result : goal.invariant_of-result
 unfolding IsStrictlySortedBy
-invariant_of-result c = subst (λ es. IsStrictlySortedBy name_cmp (map (λ e. e.0) es)) (sym c.new.ensures) tt
+invariant_of-result c = subst (λ es. IsStrictlySortedBy name_cmp (map (λ e. e.0) es)) (sym c.new-2.ensures) tt

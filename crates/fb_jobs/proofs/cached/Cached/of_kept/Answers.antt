@@ -1,7 +1,7 @@
 -- What is kept holds in the reads.
-use Rattle.std.proofs.Common.{◌≡◌, ◌⊎◌, true, List, [], All, Vec, Some, sym, ap, subst, ◌∙◌, rules}
-use Rattle.std.specs.{declared.alloc.Global.{Global}, declared.sync.Arc.{Arc}, List.{AllZip}}
-use Rattle.fb_jobs.specs.{declared.value.Value.{Value}, Kinds.{needs_all}, Keys.{needs}, Cached.{IsBlockedNet, IsFlag, IsCached}, Hints.{AreChosen}}
+use Rattle.std.proofs.Common.{◌≡◌, ◌⊎◌, true, List, [], All, Vec, sym, ap, subst, ◌∙◌, rules}
+use Rattle.std.specs.{declared.alloc.Global.{Global}, List.{AllZip}}
+use Rattle.fb_jobs.specs.{Kinds.{needs_all}, Keys.{needs}, Cached.{AreBlocking, IsFlag, IsCached}, Hints.{AreChosen}}
 use Rattle.fb_jobs.specs.{Reads.{IsOf, Seen}, declared.hints.Hint.{Hint}, declared.cached.Cached.{Cached}}
 use Rattle.fb_jobs.proofs.{Currents.{of_under}, HintLemmas.{no_hints}, CachedLemmas.{hints_alone, kept_known, own_known}}
 use Rattle.fb_jobs.proofs.cached.Cached.of_kept.Goals as goal
@@ -11,14 +11,16 @@ returns g c texts right right_found has same =
     let key = c.args.key.now in
     let kept = g.K.Cache.kept c.args.kept.now in
     let found = g.K.Cache.found c.args.kept.now in
-    let it : Cached = record { hints = c.in_ok-hints_among.field-0; own = c.in_ok-own_or_blocked.field-0; faultless = c.in_ok-faultless.faultless } in
+    let judged = c.in_ok-faultless.field-0 in
+    let it : Cached = record { hints = c.in_ok-hints_among.field-0; own = c.in_ok-own_or_blocked.field-0; faultless = judged.faultless } in
     let all : needs_all key.kind ≡ true = search rules in
-    let known = subst (λ (reads : List Seen). (value : Arc Value Global) → it.own ≡ Some value → (c.in_ok-own.own ≡ Some value) ⊎ IsBlockedNet kept reads value.value) same c.in_ok-own_or_blocked.ensures in
     subst (λ (reads : List Seen). IsCached reads key it) (sym same)
     (kept_known texts key kept found it right right_found all
     (subst (λ (reads : List Seen). AreChosen texts kept key.unit reads it.hints.items) same (c.in_ok-hints_among.ensures texts (subst (All (IsOf texts)) (sym same) (of_under texts (needs texts key)))))
-    (own_known texts key kept found c.in_ok-own.own it.own right right_found all has c.in_ok-own.ensures known)
-    (subst (λ (reads : List Seen). (it.faultless.items ≡ []) ⊎ AllZip (IsFlag kept) reads it.faultless.items) same c.in_ok-faultless.ensures))
+    (own_known texts key kept found c.in_ok-own.own it.own judged.is_all judged.faulty.items right right_found all has c.in_ok-own.ensures
+    (subst (λ (reads : List Seen). judged.is_all ≡ true → AreBlocking kept reads judged.faulty.items) same c.in_ok-faultless.ensures.faulty)
+    c.in_ok-own_or_blocked.ensures)
+    (subst (λ (reads : List Seen). (it.faultless.items ≡ []) ⊎ AllZip (IsFlag kept) reads it.faultless.items) same c.in_ok-faultless.ensures.flags))
 
 pub returns-then-not-needs_all : goal.returns-then-not-needs_all
 returns-then-not-needs_all g c texts right right_found has same =

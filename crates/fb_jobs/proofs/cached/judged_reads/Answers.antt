@@ -1,9 +1,8 @@
 -- One more read.
 use Rattle.std.proofs.{Common.{◌≡◌, ◌+◌, ◌++◌, ◌∷◌, [], List, take, arith, ap, sym, subst, ◌∙◌}, lemmas.Grind.{common_steps}}
 use Rattle.std.proofs.lemmas.List.{map-append, take_all}
-use Rattle.fb_jobs.specs.{declared.read.Read.{Read}, Cached.{AreBlocking}, Reads.{Seen}, Values.{all_seen, seen_of}}
-use Rattle.fb_jobs.proofs.CachedLemmas.{blocking_more}
-use Rattle.fb_jobs.proofs.cached.blocking_names.Goals as goal
+use Rattle.fb_jobs.specs.{declared.read.Read.{Read}, Cached.{AreJudged}, Reads.{Seen}, Values.{all_seen, seen_of}}
+use Rattle.fb_jobs.proofs.cached.judged_reads.Goals as goal
 
 pub loop-read-preserved : goal.loop-read-preserved
 loop-read-preserved g c =
@@ -13,10 +12,10 @@ loop-read-preserved g c =
     let read = c.read-item.result in
     let more : take (i + 1) reads ≡ take i reads ++ read ∷ [] = grind (arith, common_steps) in
     let seen_more : all_seen (take (i + 1) reads) ≡ all_seen (take i reads) ++ seen_of read ∷ [] = ap all_seen more ∙ map-append seen_of (take i reads) (read ∷ []) in
-    subst (λ (rs : List Seen). AreBlocking kept rs c.add_blocking.new.names.items) (sym seen_more)
-    (blocking_more kept (all_seen (take i reads)) (seen_of read) c.loop-read.names.items c.add_blocking.new.names.items c.loop-read.invariant (c.in_ok-add_blocking.ensures c.if-not-branch.false))
+    subst (λ (rs : List Seen). AreJudged kept rs c.judge.new.found) (sym seen_more)
+    (c.in_ok-judge.ensures (all_seen (take i reads)) c.loop-read.invariant)
 
 pub returns : goal.returns
 returns g c =
     let whole : take c.loop-read.read-index c.args.reads.now ≡ c.args.reads.now = take_all c.loop-read.read-index c.args.reads.now c.loop-read-test.false in
-    subst (λ (reads : List Read). AreBlocking (g.K.Cache.kept c.args.kept.now) (all_seen reads) c.loop-read.names.items) whole c.loop-read.invariant
+    subst (λ (reads : List Read). AreJudged (g.K.Cache.kept c.args.kept.now) (all_seen reads) c.loop-read.found) whole c.loop-read.invariant

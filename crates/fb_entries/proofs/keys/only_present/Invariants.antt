@@ -1,6 +1,0 @@
-use Rattle.std.proofs.Common.{◌≡◌, take, filter}
-use Rattle.fb_jobs.specs.Keys.{has_key}
-use Rattle.fb_entries.proofs.keys.only_present.Given as goal
-
-abbrev pub invariant-loop-key : goal.invariant-loop-key
-invariant-loop-key l = l.present.items ≡ filter (has_key l.library) (take l.key-index l.keys)

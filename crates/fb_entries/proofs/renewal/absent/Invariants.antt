@@ -1,6 +1,0 @@
-use Rattle.std.proofs.Common.{◌≡◌, take, filter, not}
-use Rattle.fb_jobs.specs.Keys.{has_key}
-use Rattle.fb_entries.proofs.renewal.absent.Given as goal
-
-abbrev pub invariant-loop-key : goal.invariant-loop-key
-invariant-loop-key l = l.gone.items ≡ filter (λ key. not (has_key l.library key)) (take l.key-index l.keys)
