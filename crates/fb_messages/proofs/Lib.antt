@@ -3,4 +3,5 @@ pub mod Changes
 pub mod Entries
 pub mod Members
 pub mod Printed
+pub mod Ranges
 pub mod RequestReads

@@ -2,12 +2,15 @@
 #![tactic(auto)]
 
 mod deploy_reply;
+mod known;
 mod laws;
 mod net_reply;
+mod number;
 mod reply;
 mod request;
 mod to_json;
 
+pub use json::Scratch;
 pub use laws::limits_are_read;
 pub use reply::{Refusal, Reply};
 pub use request::{AskedChange, Request, request_in};

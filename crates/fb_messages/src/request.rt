@@ -1,15 +1,16 @@
-//! From a JSON value to the request that it is.
-ghost use Rattle.std.specs.Prelude.{◌≡◌, IfOk, codes, map, option_and_then, option_map};
-ghost use Rattle.serde_json.specs.View.{items_view, view};
-ghost use Rattle.fb_messages.specs.Requests.{ask_in, change_in, changes_of, checkpoint_in, commit_in, deliver, give_back_in, kind_at, kind_called, member_text, number_at, put_in, remove_in, request_by, request_in, work_of};
-ghost use Rattle.fb_messages.specs.RequestView.{change_view, request_view};
+//! From a line to the request that it is.
+ghost use Rattle.std.specs.Prelude.{◌≡◌, IfOk, codes, drop, map, option_and_then, option_map};
+ghost use Rattle.fb_messages.specs.Requests.{ask_in, change_in, changes_of, checkpoint_in, commit_in, deliver, give_back_in, kind_at, kind_called, member_text, number_at, put_in, remove_in, request_by, request_in, request_of, work_of};
+ghost use Rattle.fb_messages.specs.{Knowns.{data_in, items_in}, RequestView.{change_view, request_view}};
 
+use crate::known::{Known, KnownItems, value_in};
 use fb_history::Limits;
 use fb_jobs::Kind;
-use serde_json::Value;
+use json::Scratch;
+use simdutf8::basic::from_utf8;
 use std::alloc::{AllocError, Global};
 
-/// A change of a commit, before its name is read. It lends its texts from the value.
+/// A change of a commit, before its name is read. It lends its texts from the line.
 #[derive(Clone, Copy)]
 pub enum AskedChange<'a> {
     Put {
@@ -23,7 +24,7 @@ pub enum AskedChange<'a> {
     },
 }
 
-/// A request, before its names are read. It lends its texts from the value.
+/// A request, before its names are read. It lends its texts from the line.
 pub enum Request<'a> {
     Commit(Vec<AskedChange<'a>>),
     Ask { kind: Kind, unit: &'a str },
@@ -48,16 +49,16 @@ impl Drop for Request<'_> {
     }
 }
 
-fn member_text<'a>(value: &'a Value, name: &str) -> Option<&'a str>
-    ensures { option_map (λ s. s.now) result ≡ member_text name.now (view value.now) }
+fn member_text<'a>(value: &Known<'_, 'a>, name: &str) -> Option<&'a str>
+    ensures { option_map (λ s. s.now) result ≡ member_text name.now (data_in value.now.value.now) }
 {
-    value.get(name).and_then(Value::as_str)
+    value.get(name)?.as_str()
 }
 
-fn number_at(value: &Value, name: &str) -> Option<u64>
-    ensures { result ≡ number_at name.now (view value.now) }
+fn number_at(value: &Known<'_, '_>, name: &str) -> Option<u64>
+    ensures { result ≡ number_at name.now (data_in value.now.value.now) }
 {
-    value.get(name).and_then(Value::as_u64)
+    value.get(name)?.as_u64()
 }
 
 fn kind_called(text: &str) -> Option<Kind>
@@ -74,14 +75,14 @@ fn kind_called(text: &str) -> Option<Kind>
     }
 }
 
-fn kind_at(value: &Value, name: &str) -> Option<Kind>
-    ensures { result ≡ kind_at name.now (view value.now) }
+fn kind_at(value: &Known<'_, '_>, name: &str) -> Option<Kind>
+    ensures { result ≡ kind_at name.now (data_in value.now.value.now) }
 {
     kind_called(member_text(value, name)?)
 }
 
-fn put_in(value: &Value) -> Option<AskedChange<'_>>
-    ensures { option_map change_view result ≡ put_in (view value.now) }
+fn put_in<'a>(value: &Known<'_, 'a>) -> Option<AskedChange<'a>>
+    ensures { option_map change_view result ≡ put_in (data_in value.now.value.now) }
 {
     let unit = member_text(value, "put")?;
     let base = number_at(value, "base")?;
@@ -89,8 +90,8 @@ fn put_in(value: &Value) -> Option<AskedChange<'_>>
     Some(AskedChange::Put { unit, base, text })
 }
 
-fn remove_in(value: &Value) -> Option<AskedChange<'_>>
-    ensures { option_map change_view result ≡ remove_in (view value.now) }
+fn remove_in<'a>(value: &Known<'_, 'a>) -> Option<AskedChange<'a>>
+    ensures { option_map change_view result ≡ remove_in (data_in value.now.value.now) }
 {
     let unit = member_text(value, "remove")?;
     let base = number_at(value, "base")?;
@@ -98,8 +99,8 @@ fn remove_in(value: &Value) -> Option<AskedChange<'_>>
 }
 
 /// A change has one of `put` and `remove`.
-fn change_in(value: &Value) -> Option<AskedChange<'_>>
-    ensures { option_map change_view result ≡ change_in (view value.now) }
+fn change_in<'a>(value: &Known<'_, 'a>) -> Option<AskedChange<'a>>
+    ensures { option_map change_view result ≡ change_in (data_in value.now.value.now) }
 {
     match (value.get("put"), value.get("remove")) {
         (Some(_), None) => put_in(value),
@@ -108,17 +109,18 @@ fn change_in(value: &Value) -> Option<AskedChange<'_>>
     }
 }
 
+#[tactic(auto, using(crate::proofs::Changes::no_more, crate::proofs::Changes::one_more_change, crate::proofs::Changes::one_no_change, crate::proofs::Changes::last_change))]
 fn changes_of<'a>(
     alloc: Global,
-    values: &'a [Value],
+    mut values: KnownItems<'_, 'a>,
 ) -> Result<Option<Vec<AskedChange<'a>>>, AllocError>
     ensures { IfOk result
         (λ found. option_map (λ changes. map change_view changes.items) found
-        ≡ changes_of (items_view values.now)) }
+        ≡ changes_of (items_in (drop values.entry.at values.entry.items.now))) }
 {
     let mut changes = Vec::new(alloc);
-    for value in values {
-        match change_in(value) {
+    while let Some(value) = values.next() {
+        match change_in(&value) {
             Some(change) => changes.push(change)?,
             None => return Ok(None),
         }
@@ -126,28 +128,31 @@ fn changes_of<'a>(
     Ok(Some(changes))
 }
 
-fn commit_in(alloc: Global, value: &Value) -> Result<Option<Request<'_>>, AllocError>
-    ensures { IfOk result (λ found. option_map request_view found ≡ commit_in (view value.now)) }
+fn commit_in<'a>(alloc: Global, value: &Known<'_, 'a>) -> Result<Option<Request<'a>>, AllocError>
+    ensures { IfOk result (λ found. option_map request_view found ≡ commit_in (data_in value.now.value.now)) }
 {
-    match value.get("changes").and_then(Value::as_array) {
+    let Some(changes) = value.get("changes") else {
+        return Ok(None);
+    };
+    let Some(values) = changes.items() else {
+        return Ok(None);
+    };
+    match changes_of(alloc, values)? {
         None => Ok(None),
-        Some(values) => match changes_of(alloc, values)? {
-            None => Ok(None),
-            Some(changes) => Ok(Some(Request::Commit(changes))),
-        },
+        Some(changes) => Ok(Some(Request::Commit(changes))),
     }
 }
 
-fn ask_in(value: &Value) -> Option<Request<'_>>
-    ensures { option_map request_view result ≡ ask_in (view value.now) }
+fn ask_in<'a>(value: &Known<'_, 'a>) -> Option<Request<'a>>
+    ensures { option_map request_view result ≡ ask_in (data_in value.now.value.now) }
 {
     let kind = kind_at(value, "kind")?;
     let unit = member_text(value, "unit")?;
     Some(Request::Ask { kind, unit })
 }
 
-fn give_back_in(value: &Value) -> Option<Request<'_>>
-    ensures { option_map request_view result ≡ give_back_in (view value.now) }
+fn give_back_in<'a>(value: &Known<'_, 'a>) -> Option<Request<'a>>
+    ensures { option_map request_view result ≡ give_back_in (data_in value.now.value.now) }
 {
     let kind = kind_at(value, "kind")?;
     let unit = member_text(value, "unit")?;
@@ -157,9 +162,9 @@ fn give_back_in(value: &Value) -> Option<Request<'_>>
 /// How many turns one request for work has at most.
 const MOST_TURNS: u64 = 1_000;
 
-fn work_in(value: &Value) -> Option<Request<'_>>
+fn work_in<'a>(value: &Known<'_, 'a>) -> Option<Request<'a>>
     ensures { option_map request_view result
-        ≡ option_and_then work_of (number_at (codes "turns") (view value.now)) }
+        ≡ option_and_then work_of (number_at (codes "turns") (data_in value.now.value.now)) }
 {
     let turns = number_at(value, "turns")?;
     if 1 <= turns && turns <= MOST_TURNS {
@@ -169,15 +174,15 @@ fn work_in(value: &Value) -> Option<Request<'_>>
     }
 }
 
-fn deliver_in(value: &Value) -> Option<Request<'_>>
+fn deliver_in<'a>(value: &Known<'_, 'a>) -> Option<Request<'a>>
     ensures { option_map request_view result
-        ≡ option_map deliver (number_at (codes "job") (view value.now)) }
+        ≡ option_map deliver (number_at (codes "job") (data_in value.now.value.now)) }
 {
     Some(Request::Deliver(number_at(value, "job")?))
 }
 
-fn checkpoint_in(value: &Value) -> Option<Request<'_>>
-    ensures { option_map request_view result ≡ checkpoint_in (view value.now) }
+fn checkpoint_in<'a>(value: &Known<'_, 'a>) -> Option<Request<'a>>
+    ensures { option_map request_view result ≡ checkpoint_in (data_in value.now.value.now) }
 {
     let units = number_at(value, "units")?;
     let history = number_at(value, "history")?;
@@ -188,10 +193,10 @@ fn checkpoint_in(value: &Value) -> Option<Request<'_>>
 fn request_by<'a>(
     alloc: Global,
     op: &str,
-    value: &'a Value,
+    value: &Known<'_, 'a>,
 ) -> Result<Option<Request<'a>>, AllocError>
     ensures { IfOk result
-        (λ found. option_map request_view found ≡ request_by op.now (view value.now)) }
+        (λ found. option_map request_view found ≡ request_by op.now (data_in value.now.value.now)) }
 {
     if op == "commit" {
         commit_in(alloc, value)
@@ -213,13 +218,37 @@ fn request_by<'a>(
 }
 
 /// The request that a value is, or None: its op is unknown, or a member is missing, is of another kind or out of its
-/// range. Fails if there is no memory for the changes of a commit.
+/// range.
 #[tactic(auto, unfolding(crate::specs::Requests::request_in))]
-pub fn request_in(alloc: Global, value: &Value) -> Result<Option<Request<'_>>, AllocError>
-    ensures { IfOk result (λ found. option_map request_view found ≡ request_in (view value.now)) }
+fn request_of_value<'a>(
+    alloc: Global,
+    value: &Known<'_, 'a>,
+) -> Result<Option<Request<'a>>, AllocError>
+    ensures { IfOk result (λ found. option_map request_view found ≡ request_in (data_in value.now.value.now)) }
 {
     match member_text(value, "op") {
         None => Ok(None),
         Some(op) => request_by(alloc, op, value),
+    }
+}
+
+/// The request that a line is, or None. It lends its texts from the line, or from `scratch` if they have escapes. Fails if there is no
+/// memory for the values in it.
+pub fn request_in<'a>(
+    alloc: Global,
+    line: &'a [u8],
+    scratch: &'a mut Scratch,
+) -> Result<Option<Request<'a>>, AllocError>
+    ensures { IfOk result (λ found. option_map request_view found ≡ request_of line.now) }
+{
+    let Ok(text) = from_utf8(line) else {
+        return Ok(None);
+    };
+    let Some(value) = value_in(alloc, text, scratch)? else {
+        return Ok(None);
+    };
+    match Known::of(&value) {
+        None => Ok(None),
+        Some(known) => request_of_value(alloc, &known),
     }
 }

@@ -1,6 +1,7 @@
 -- The lines of bytes that come in pieces.
-use Rattle.std.proofs.Common.{◌≡◌, ◌≢◌, ◌<◌, ◌+◌, ℕ, [], ◌∷◌, ◌++◌, ◌==◌, ◌∙◌, Bool, List, ap, arith, cond, false, get_or, length, refl, take, true}
+use Rattle.std.proofs.Common.{◌≡◌, ◌≢◌, ◌<◌, ◌≤◌, ◌+◌, ℕ, [], ◌∷◌, ◌++◌, ◌==◌, ◌∙◌, Bool, List, ap, arith, cond, false, get_or, length, refl, suc, take, true, zero}
 use Rattle.std.proofs.{lemmas.Bool.Decides.{nat_tests}, lemmas.List.{take_more}}
+use Rattle.memchr.specs.Find.{NoneBefore, Nowhere, Passes, is_byte}
 use Rattle.fb_wire.specs.Lines.{IsLine, lines_of, onto_first}
 
 -- the last of the first lines and the first of the others are one line
@@ -69,14 +70,24 @@ pub after_part : (given partial prefix : List ℕ) (lines : List (List ℕ)) →
 after_part given partial prefix lines is line =
     lines_of-append given prefix ∙ rw (is, lines_of-part prefix line) (joined-last lines partial prefix [])
 
-IsLine-append : (xs ys : List ℕ) → IsLine xs → IsLine ys → IsLine (xs ++ ys)
-IsLine-append [] ys h k = k
-IsLine-append (x ∷ xs) ys h k = (h.0, IsLine-append xs ys h.1 k)
+line_with : (bs : List ℕ) (n : ℕ) → n ≤ length bs → ((k : ℕ) → k < n → Passes (is_byte 10) bs k → ⊥) → IsLine (take n bs)
+line_with bs zero within none = tt
+line_with [] (suc n) within none = absurd (omega arith)
+line_with (b ∷ bs) (suc n) within none = (no (b == 10) (none 0 (omega arith)), line_with bs n (omega arith) (λ k below. none (suc k) (omega arith)))
+  where
+    no : (t : Bool) → (t ≡ true → ⊥) → t ≡ false
+    no true not = absurd (not refl)
+    no false not = refl
 
-pub is_line_more : (bs : List ℕ) (i : ℕ) → i < length bs → IsLine (take i bs) → (get_or bs i 0 ≡ 10 → ⊥) → IsLine (take (i + 1) bs)
-is_line_more bs i within line other =
-    let here : (get_or bs i 0 == 10) ≡ false = grind (arith, nat_tests) in
-    rw (take_more bs i 0 within) (IsLine-append (take i bs) (get_or bs i 0 ∷ []) line (here, tt))
+-- the bytes before the first line feed
+pub line_to : (bs : List ℕ) (n : ℕ) → NoneBefore (Passes (is_byte 10) bs) 0 (length bs) n → IsLine (take n bs)
+line_to bs n first = line_with bs n (omega (arith, first.high)) (λ k below. first.before k (omega arith) below)
 
-pub take_feed : (bs : List ℕ) (i : ℕ) → i < length bs → get_or bs i 0 ≡ 10 → take (i + 1) bs ≡ take i bs ++ 10 ∷ []
-take_feed bs i within is = take_more bs i 0 within ∙ ap (λ b. take i bs ++ b ∷ []) is
+-- bytes without a line feed
+pub line_before : (bs : List ℕ) → Nowhere (Passes (is_byte 10) bs) 0 (length bs) → IsLine (take (length bs) bs)
+line_before bs none = line_with bs (length bs) (omega arith) (λ k below. none k (omega arith) below)
+
+pub take_feed : (bs : List ℕ) (i : ℕ) → i < length bs → Passes (is_byte 10) bs i → take (i + 1) bs ≡ take i bs ++ 10 ∷ []
+take_feed bs i within is =
+    let feed : get_or bs i 0 ≡ 10 = grind (arith, nat_tests) in
+    take_more bs i 0 within ∙ ap (λ b. take i bs ++ b ∷ []) feed

@@ -2,17 +2,15 @@
 ghost use Rattle.std.specs.Prelude.{◌≡◌, ◌↔◌, [], IfErr, IfOk, IsTrue, false, is_err, true};
 ghost use Rattle.fb_bench.specs.Calls.{Exchanges};
 ghost use Rattle.fb_wire.specs.{Lines.{is_blank}, Progress.{LineSaid, Progress, StopsInside}, Conversations.{plan_of}};
-ghost use Rattle.serde_json.specs.View.{view};
-ghost use Rattle.fb_messages.specs.Requests.{request_in, request_of};
+ghost use Rattle.fb_messages.specs.Requests.{request_of};
 ghost use Rattle.fb_streams.specs.Streams.{StaysFlushed, WritesAll};
 
 use crate::answer::answer;
 use crate::end::RunEnd;
 use fb_bench::Desk;
 use fb_messages::jobs::Job;
-use fb_messages::{Reply, request_in};
+use fb_messages::{Reply, Scratch, request_in};
 use fb_streams::{Sink, StreamError};
-use serde_json::Value;
 use std::alloc::{AllocError, Global};
 use std::mem;
 
@@ -28,24 +26,14 @@ fn answer_line<D: Desk>(
     alloc: Global,
     desk: &mut D,
     held: &mut Vec<Job>,
+    scratch: &mut Scratch,
     line: &[u8],
 ) -> Result<Reply, AllocError>
     ensures { Progress (Exchanges D.step D.checkpoint_step)
         (plan_of held.old.items (request_of line.now)) desk.old result held.new.items desk.new }
 {
-    match Value::from_slice(alloc, line) {
-        Ok(value) => {
-            let request = request_in(alloc, &value)?;
-            answer(alloc, desk, held, &request)
-        }
-        Err(e) => {
-            if e.is_memory() {
-                Err(AllocError)
-            } else {
-                answer(alloc, desk, held, &None)
-            }
-        }
-    }
+    let request = request_in(alloc, line, scratch)?;
+    answer(alloc, desk, held, &request)
 }
 
 /// Writes all the bytes, and flushes.
@@ -70,6 +58,8 @@ pub fn write_all<S: Sink>(writer: &mut S, bytes: &[u8]) -> Result<(), StreamErro
 pub(crate) struct Conversation {
     /// The jobs that were taken, in the order of their numbers.
     pub(crate) held: Vec<Job>,
+    /// Room for the texts of a line that have escapes.
+    scratch: Scratch,
     /// The bytes of a reply, which the next one takes over.
     room: Vec<u8>,
     /// What was read of the next line.
@@ -83,6 +73,7 @@ impl Conversation {
     {
         Conversation {
             held: Vec::new(alloc),
+            scratch: Scratch::new(alloc),
             room: Vec::new(alloc),
             line: Vec::new(alloc),
         }
@@ -107,7 +98,13 @@ pub(crate) fn say_line<D: Desk, S: Sink>(
     if is_blank(&conversation.line) {
         return Ok(());
     }
-    let Ok(reply) = answer_line(alloc, desk, &mut conversation.held, &conversation.line) else {
+    let Ok(reply) = answer_line(
+        alloc,
+        desk,
+        &mut conversation.held,
+        &mut conversation.scratch,
+        &conversation.line,
+    ) else {
         return Err(RunEnd::Memory);
     };
     let room = mem::replace(&mut conversation.room, Vec::new(alloc));

@@ -8,25 +8,24 @@ use crate::end::RunEnd;
 use crate::line::{Conversation, say_line};
 use fb_bench::Desk;
 use fb_streams::Sink;
+use memchr::memchr;
 use std::alloc::Global;
 
 /// How long a line may be.
 const MAX_LINE: usize = 1_048_576;
 
 /// How many bytes are before the first line feed.
-#[tactic(auto, using(crate::proofs::Cuts::is_line_more, crate::proofs::Cuts::take_feed))]
+#[tactic(auto, using(crate::proofs::Cuts::line_before, crate::proofs::Cuts::line_to, crate::proofs::Cuts::take_feed))]
 fn line_len(bytes: &[u8]) -> usize
     ensures within { result ≤ length bytes.now }
     ensures line { IsLine (take result bytes.now) }
     ensures end { result < length bytes.now
         → take (result + 1) bytes.now ≡ take result bytes.now ++ 10 ∷ [] }
 {
-    for (i, b) in bytes.iter().enumerate() {
-        if *b == b'\n' {
-            return i;
-        }
+    match memchr(b'\n', bytes) {
+        Some(place) => place,
+        None => bytes.len(),
     }
-    bytes.len()
 }
 
 /// Adds bytes to a line that is not too long.

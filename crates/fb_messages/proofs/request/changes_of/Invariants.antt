@@ -1,7 +1,11 @@
-use Rattle.std.proofs.Common.{◌≡◌, Some, map, take}
-use Rattle.serde_json.specs.View.{items_of, view}
-use Rattle.fb_messages.specs.{Requests.{changes_of}, RequestView.{change_view}}
+use Rattle.std.proofs.Common.{◌≡◌, ◌++◌, drop, map, option_map}
+use Rattle.serde_json.specs.Events.{items_len}
+use Rattle.fb_messages.specs.{Knowns.{items_in}, RequestView.{change_view}, Requests.{changes_of}}
 use Rattle.fb_messages.proofs.request.changes_of.Given as goal
 
 abbrev pub invariant-loop-value : goal.invariant-loop-value
-invariant-loop-value l = changes_of (items_of (map view (take l.value-index l.values))) ≡ Some (map change_view l.changes.items)
+invariant-loop-value l =
+    option_map (λ more. map change_view l.changes.items ++ more) (changes_of (items_in (drop l.values.at l.values.items.now))) ≡ changes_of (items_in (drop l.fn.values.at l.fn.values.items.now))
+
+abbrev pub decreases-loop-value : goal.decreases-loop-value
+decreases-loop-value l = items_len (items_in (drop l.values.at l.values.items.now))
