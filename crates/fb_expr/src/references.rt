@@ -29,9 +29,9 @@ use crate::names::Names;
 use crate::spans::span_of_names;
 use fb_iface::{
     Behind, Class, Code, DeclaredInstance, DeclaredVariable, Fault, Ports, Scope, Structures,
-    UsedType, class_by_name, class_by_use, class_of,
+    UsedType, class_by_use, class_of,
 };
-use fb_tree::text::{Name, Place, Span};
+use fb_tree::text::{Name, NameUse, Place, Span};
 use fb_tree::{Member, Reference, Role, Section, TypeForm, TypeUse};
 use std::alloc::AllocError;
 
@@ -232,21 +232,21 @@ fn behind<'a>(structures: &'a Structures<'a>, used: &TypeUse, subscripted: bool)
 {
     match (used.form, subscripted) {
         (TypeForm::Plain, false) | (TypeForm::Array, true) => {
-            behind_named(structures, &used.name.name.name())
+            behind_named(structures, &used.name)
         }
-        (TypeForm::Plain, true) => without_fields(behind_named(structures, &used.name.name.name())),
+        (TypeForm::Plain, true) => without_fields(behind_named(structures, &used.name)),
         (TypeForm::Array, false) | (TypeForm::Sized, _) => Behind::NoFields,
     }
 }
 
 /// What may be named after a plain type of this name. After one of class Free no name is checked.
-fn behind_named<'a>(structures: &'a Structures<'a>, name: &Name) -> Behind<'a>
-    ensures { fields_shown result ≡ fields_named (structures_in structures.now) name.now }
+fn behind_named<'a>(structures: &'a Structures<'a>, used: &NameUse) -> Behind<'a>
+    ensures { fields_shown result ≡ fields_named (structures_in structures.now) used.now.name }
 {
-    if class_by_name(name).is_free() {
+    if class_by_use(used).is_free() {
         Behind::NotChecked
     } else {
-        structures.get(name)
+        structures.get(&used.name.name())
     }
 }
 

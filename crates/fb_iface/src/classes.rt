@@ -2,7 +2,7 @@
 ghost use Rattle.std.specs.Prelude.{◌≡◌};
 ghost use Rattle.fb_iface.specs.Class.{class_of_literal, class_of_name, class_of_simple, class_of_type, is_free, named_class, takes};
 
-use fb_tree::text::{Name, NameUse, TypeClass, type_class};
+use fb_tree::text::{NameUse, TypeClass, type_class};
 use fb_tree::{LiteralForm, Simple, TypeForm, TypeUse};
 
 /// What a value may be combined with.
@@ -22,13 +22,6 @@ pub enum Class {
     Num,
     /// `0` or `1`, which is a truth value too.
     Any,
-}
-
-/// The class of the type with this name.
-pub fn class_by_name(name: &Name) -> Class
-    ensures { result ≡ class_of_name name.now }
-{
-    class_by_type(type_class(name.as_str().as_bytes()))
 }
 
 fn class_by_type(class: TypeClass) -> Class

@@ -20,9 +20,7 @@ mod structures;
 mod used;
 mod withs;
 
-pub use classes::{
-    Class, class_by_form, class_by_name, class_by_use, class_of, class_of_constant, is_taken,
-};
+pub use classes::{Class, class_by_form, class_by_use, class_of, class_of_constant, is_taken};
 pub use code::Code;
 pub use declarations::{iface_faults, report_declarations};
 pub use fault::{Fault, sorted_faults};

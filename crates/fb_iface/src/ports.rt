@@ -278,13 +278,24 @@ pub(crate) fn variable_table<'a>(
     Ok(table)
 }
 
-/// How many variables there are.
+/// How many variables there are. This reads the first name of each group, and does little beside, so that the processor fetches many
+/// groups at once: while it fills the table it would wait for each.
 fn count_of(groups: &[Variables]) -> usize {
     let mut count: usize = 0;
     for group in groups {
-        count = count.saturating_add(group.names.len());
+        if is_named(group) {
+            count = count.saturating_add(group.names.len());
+        }
     }
     count
+}
+
+/// Whether there are names, and the first is not empty.
+fn is_named(group: &Variables) -> bool {
+    match group.names.first() {
+        Some(first) => !first.name.as_str().is_empty(),
+        None => false,
+    }
 }
 
 /// Declares the variables that are declared together.
