@@ -137,5 +137,5 @@ fn place<V>(places: &[Placed<V>], name: &Name) -> Result<usize, usize>
     ensures found { IfOk result (IsAt (names_in places.now) name.now) }
     ensures absent { IfErr result (IsGapFor (names_in places.now) name.now) }
 {
-    places.binary_search_by_key(name, |placed| placed.name)
+    places.binary_search_by(|placed| placed.name.cmp(name))
 }

@@ -164,7 +164,7 @@ fn shelf_for<V, E: Entries<V>>(shelves: &[Shelf<E>], name: &Name) -> usize
     requires { AreShelves (shelves_of E.entries shelves.now) }
     ensures { IsShelfFor (lasts_on E.entries shelves.now) name.now result }
 {
-    match shelves.binary_search_by_key(name, |shelf| shelf.last) {
+    match shelves.binary_search_by(|shelf| shelf.last.cmp(name)) {
         Ok(at) => at,
         Err(at) => at,
     }
