@@ -40,7 +40,7 @@ fn absent(name: Name) -> Read
     }
 }
 
-/// What is read under a name where there is a source.
+/// What is read under a name that has a source.
 fn present(name: Name, revision: u64, source: &Arc<Source>) -> Result<Read, AllocError>
     requires { source.now.value.unit ≡ name }
     ensures seen { IfOk result (λ read. seen_of read ≡ record {
