@@ -1,7 +1,7 @@
 -- What the contracts of this crate cite.
 pub mod Requests
 pub mod RequestView
-pub mod Knowns
+pub mod InRange
 pub mod Replies
 pub mod NetReplies
 pub mod DeployReplies

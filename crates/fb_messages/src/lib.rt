@@ -2,7 +2,7 @@
 #![tactic(auto)]
 
 mod deploy_reply;
-mod known;
+mod in_range;
 mod laws;
 mod net_reply;
 mod number;

@@ -1,9 +1,9 @@
 //! From a line to the request that it is.
 ghost use Rattle.std.specs.Prelude.{◌≡◌, IfOk, codes, drop, map, option_and_then, option_map};
 ghost use Rattle.fb_messages.specs.Requests.{ask_in, change_in, changes_of, checkpoint_in, commit_in, deliver, give_back_in, kind_at, kind_called, member_text, number_at, put_in, remove_in, request_by, request_in, request_of, work_of};
-ghost use Rattle.fb_messages.specs.{Knowns.{data_in, items_in}, RequestView.{change_view, request_view}};
+ghost use Rattle.fb_messages.specs.{InRange.{data_in, items_in}, RequestView.{change_view, request_view}};
 
-use crate::known::{Known, KnownItems, value_in};
+use crate::in_range::{InRange, ItemsInRange, value_in};
 use fb_history::Limits;
 use fb_jobs::Kind;
 use json::Scratch;
@@ -49,13 +49,13 @@ impl Drop for Request<'_> {
     }
 }
 
-fn member_text<'a>(value: &Known<'_, 'a>, name: &str) -> Option<&'a str>
+fn member_text<'a>(value: &InRange<'_, 'a>, name: &str) -> Option<&'a str>
     ensures { option_map (λ s. s.now) result ≡ member_text name.now (data_in value.now.value.now) }
 {
     value.get(name)?.as_str()
 }
 
-fn number_at(value: &Known<'_, '_>, name: &str) -> Option<u64>
+fn number_at(value: &InRange<'_, '_>, name: &str) -> Option<u64>
     ensures { result ≡ number_at name.now (data_in value.now.value.now) }
 {
     value.get(name)?.as_u64()
@@ -75,13 +75,13 @@ fn kind_called(text: &str) -> Option<Kind>
     }
 }
 
-fn kind_at(value: &Known<'_, '_>, name: &str) -> Option<Kind>
+fn kind_at(value: &InRange<'_, '_>, name: &str) -> Option<Kind>
     ensures { result ≡ kind_at name.now (data_in value.now.value.now) }
 {
     kind_called(member_text(value, name)?)
 }
 
-fn put_in<'a>(value: &Known<'_, 'a>) -> Option<AskedChange<'a>>
+fn put_in<'a>(value: &InRange<'_, 'a>) -> Option<AskedChange<'a>>
     ensures { option_map change_view result ≡ put_in (data_in value.now.value.now) }
 {
     let unit = member_text(value, "put")?;
@@ -90,7 +90,7 @@ fn put_in<'a>(value: &Known<'_, 'a>) -> Option<AskedChange<'a>>
     Some(AskedChange::Put { unit, base, text })
 }
 
-fn remove_in<'a>(value: &Known<'_, 'a>) -> Option<AskedChange<'a>>
+fn remove_in<'a>(value: &InRange<'_, 'a>) -> Option<AskedChange<'a>>
     ensures { option_map change_view result ≡ remove_in (data_in value.now.value.now) }
 {
     let unit = member_text(value, "remove")?;
@@ -99,7 +99,7 @@ fn remove_in<'a>(value: &Known<'_, 'a>) -> Option<AskedChange<'a>>
 }
 
 /// A change has one of `put` and `remove`.
-fn change_in<'a>(value: &Known<'_, 'a>) -> Option<AskedChange<'a>>
+fn change_in<'a>(value: &InRange<'_, 'a>) -> Option<AskedChange<'a>>
     ensures { option_map change_view result ≡ change_in (data_in value.now.value.now) }
 {
     match (value.get("put"), value.get("remove")) {
@@ -112,7 +112,7 @@ fn change_in<'a>(value: &Known<'_, 'a>) -> Option<AskedChange<'a>>
 #[tactic(auto, using(crate::proofs::Changes::no_more, crate::proofs::Changes::one_more_change, crate::proofs::Changes::one_no_change, crate::proofs::Changes::last_change))]
 fn changes_of<'a>(
     alloc: Global,
-    mut values: KnownItems<'_, 'a>,
+    mut values: ItemsInRange<'_, 'a>,
 ) -> Result<Option<Vec<AskedChange<'a>>>, AllocError>
     ensures { IfOk result
         (λ found. option_map (λ changes. map change_view changes.items) found
@@ -128,7 +128,7 @@ fn changes_of<'a>(
     Ok(Some(changes))
 }
 
-fn commit_in<'a>(alloc: Global, value: &Known<'_, 'a>) -> Result<Option<Request<'a>>, AllocError>
+fn commit_in<'a>(alloc: Global, value: &InRange<'_, 'a>) -> Result<Option<Request<'a>>, AllocError>
     ensures { IfOk result (λ found. option_map request_view found ≡ commit_in (data_in value.now.value.now)) }
 {
     let Some(changes) = value.get("changes") else {
@@ -143,7 +143,7 @@ fn commit_in<'a>(alloc: Global, value: &Known<'_, 'a>) -> Result<Option<Request<
     }
 }
 
-fn ask_in<'a>(value: &Known<'_, 'a>) -> Option<Request<'a>>
+fn ask_in<'a>(value: &InRange<'_, 'a>) -> Option<Request<'a>>
     ensures { option_map request_view result ≡ ask_in (data_in value.now.value.now) }
 {
     let kind = kind_at(value, "kind")?;
@@ -151,7 +151,7 @@ fn ask_in<'a>(value: &Known<'_, 'a>) -> Option<Request<'a>>
     Some(Request::Ask { kind, unit })
 }
 
-fn give_back_in<'a>(value: &Known<'_, 'a>) -> Option<Request<'a>>
+fn give_back_in<'a>(value: &InRange<'_, 'a>) -> Option<Request<'a>>
     ensures { option_map request_view result ≡ give_back_in (data_in value.now.value.now) }
 {
     let kind = kind_at(value, "kind")?;
@@ -162,7 +162,7 @@ fn give_back_in<'a>(value: &Known<'_, 'a>) -> Option<Request<'a>>
 /// How many turns one request for work has at most.
 const MOST_TURNS: u64 = 1_000;
 
-fn work_in<'a>(value: &Known<'_, 'a>) -> Option<Request<'a>>
+fn work_in<'a>(value: &InRange<'_, 'a>) -> Option<Request<'a>>
     ensures { option_map request_view result
         ≡ option_and_then work_of (number_at (codes "turns") (data_in value.now.value.now)) }
 {
@@ -174,14 +174,14 @@ fn work_in<'a>(value: &Known<'_, 'a>) -> Option<Request<'a>>
     }
 }
 
-fn deliver_in<'a>(value: &Known<'_, 'a>) -> Option<Request<'a>>
+fn deliver_in<'a>(value: &InRange<'_, 'a>) -> Option<Request<'a>>
     ensures { option_map request_view result
         ≡ option_map deliver (number_at (codes "job") (data_in value.now.value.now)) }
 {
     Some(Request::Deliver(number_at(value, "job")?))
 }
 
-fn checkpoint_in<'a>(value: &Known<'_, 'a>) -> Option<Request<'a>>
+fn checkpoint_in<'a>(value: &InRange<'_, 'a>) -> Option<Request<'a>>
     ensures { option_map request_view result ≡ checkpoint_in (data_in value.now.value.now) }
 {
     let units = number_at(value, "units")?;
@@ -193,7 +193,7 @@ fn checkpoint_in<'a>(value: &Known<'_, 'a>) -> Option<Request<'a>>
 fn request_by<'a>(
     alloc: Global,
     op: &str,
-    value: &Known<'_, 'a>,
+    value: &InRange<'_, 'a>,
 ) -> Result<Option<Request<'a>>, AllocError>
     ensures { IfOk result
         (λ found. option_map request_view found ≡ request_by op.now (data_in value.now.value.now)) }
@@ -222,7 +222,7 @@ fn request_by<'a>(
 #[tactic(auto, unfolding(crate::specs::Requests::request_in))]
 fn request_of_value<'a>(
     alloc: Global,
-    value: &Known<'_, 'a>,
+    value: &InRange<'_, 'a>,
 ) -> Result<Option<Request<'a>>, AllocError>
     ensures { IfOk result (λ found. option_map request_view found ≡ request_in (data_in value.now.value.now)) }
 {
@@ -247,8 +247,8 @@ pub fn request_in<'a>(
     let Some(value) = value_in(alloc, text, scratch)? else {
         return Ok(None);
     };
-    match Known::of(&value) {
+    match InRange::of(&value) {
         None => Ok(None),
-        Some(known) => request_of_value(alloc, &known),
+        Some(in_range) => request_of_value(alloc, &in_range),
     }
 }

@@ -1,6 +1,6 @@
 use Rattle.std.proofs.Common.{◌≡◌, ◌++◌, drop, map, option_map}
 use Rattle.serde_json.specs.Events.{items_len}
-use Rattle.fb_messages.specs.{Knowns.{items_in}, RequestView.{change_view}, Requests.{changes_of}}
+use Rattle.fb_messages.specs.{InRange.{items_in}, RequestView.{change_view}, Requests.{changes_of}}
 use Rattle.fb_messages.proofs.request.changes_of.Given as goal
 
 abbrev pub invariant-loop-value : goal.invariant-loop-value

@@ -1,6 +1,6 @@
 use Rattle.std.proofs.Common.{◌∙◌, ap, sym}
 use Rattle.serde_json.specs.Read.{read}
-use Rattle.fb_messages.specs.Knowns.{data_in}
+use Rattle.fb_messages.specs.InRange.{data_in}
 use Rattle.fb_messages.proofs.RequestReads.{request_of-read, request_of-unread}
 use Rattle.fb_messages.proofs.request.request_in.Goals as goal
 
@@ -23,4 +23,4 @@ pub returns : goal.returns
 returns c =
     let same = rw c.in-Ok.is at c.from_utf8.ensures in
     let some = (rw c.in-Some-of.is at c.of.ensures) ∙ (rw c.in-Some.is at c.in_ok-value.ensures) ∙ ap read same.0 in
-    rw (request_of-read c.args.line.now (data_in c.in-Some-of.known.value.now) same.1 (sym some)) c.request_of_value.ensures
+    rw (request_of-read c.args.line.now (data_in c.in-Some-of.in_range.value.now) same.1 (sym some)) c.request_of_value.ensures

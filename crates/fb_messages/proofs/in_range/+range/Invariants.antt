@@ -1,7 +1,7 @@
 use Rattle.std.proofs.Common.{◌≡◌, drop, is_some}
 use Rattle.json.specs.Value.{items_view, members_view}
 use Rattle.serde_json.specs.{Data.{Members}, Read.{of_items, of_members}}
-use Rattle.fb_messages.proofs.known.+range.Given as goal
+use Rattle.fb_messages.proofs.in_range.+range.Given as goal
 
 abbrev pub invariant-are_in_range-loop-item : goal.invariant-are_in_range-loop-item
 invariant-are_in_range-loop-item l = is_some (of_items (items_view (drop l.item-index l.items))) ≡ is_some (of_items (items_view l.items))

@@ -3,7 +3,7 @@ use Rattle.json.specs.Value.{members_view, value_view}
 use Rattle.json.proofs.Trees.{view-Object}
 use Rattle.serde_json.specs.{Data.{no_members}, Read.{of_json, of_members}}
 use Rattle.fb_messages.proofs.Ranges.{members_step, some_object}
-use Rattle.fb_messages.proofs.known.+range.Goals as goal
+use Rattle.fb_messages.proofs.in_range.+range.Goals as goal
 
 pub are_members_in_range-loop-member-preserved : goal.are_members_in_range-loop-member-preserved
 are_members_in_range-loop-member-preserved t c =

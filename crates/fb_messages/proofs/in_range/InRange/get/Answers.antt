@@ -1,8 +1,8 @@
 use Rattle.json.specs.Value.{value_view}
 use Rattle.serde_json.specs.Find.{get}
-use Rattle.fb_messages.specs.Knowns.{data_in}
+use Rattle.fb_messages.specs.InRange.{data_in}
 use Rattle.fb_messages.proofs.Ranges.{found_is, found_some, get_pairs, lost_is, some_data}
-use Rattle.fb_messages.proofs.known.Known.get.Goals as goal
+use Rattle.fb_messages.proofs.in_range.InRange.get.Goals as goal
 
 pub returns-in-None : goal.returns-in-None
 returns-in-None c =

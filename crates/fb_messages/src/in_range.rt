@@ -3,7 +3,7 @@ ghost use Rattle.std.specs.Prelude.{◌≡◌, ◌≤◌, IfOk, MatchOption, dro
 ghost use Rattle.json.specs.Value.{items_view, members_view, value_view};
 ghost use Rattle.serde_json.specs.Data.{Members};
 ghost use Rattle.serde_json.specs.Read.{of_items, of_json, of_members, read};
-ghost use Rattle.fb_messages.specs.Knowns.{data_in, items_in};
+ghost use Rattle.fb_messages.specs.InRange.{data_in, items_in};
 
 use crate::number::count_of;
 use json::{Error, Reader, Scratch, Value};
@@ -72,32 +72,32 @@ fn are_members_in_range(members: &[(&str, Value<'_>)]) -> bool
 
 /// A JSON value of which each number is in range.
 #[derive(Drop)]
-pub(crate) struct Known<'v, 'a> {
+pub(crate) struct InRange<'v, 'a> {
     value: &'v Value<'a>,
     ghost in_range: { is_some (of_json (value_view value.now)) ≡ true },
 }
 
-impl<'v, 'a> Known<'v, 'a> {
+impl<'v, 'a> InRange<'v, 'a> {
     ghost use Rattle.serde_json.specs.Find.{as_array, as_number, as_str, as_u64, get};
 
     /// None if a number is out of range.
-    pub(crate) fn of(value: &'v Value<'a>) -> Option<Known<'v, 'a>>
+    pub(crate) fn of(value: &'v Value<'a>) -> Option<InRange<'v, 'a>>
         ensures { option_map (λ it. data_in it.value.now) result ≡ of_json (value_view value.now) }
     {
         if is_in_range(value) {
-            Some(Known { value })
+            Some(InRange { value })
         } else {
             None
         }
     }
 
     /// The member of this name.
-    pub(crate) fn get(&self, name: &str) -> Option<Known<'v, 'a>>
+    pub(crate) fn get(&self, name: &str) -> Option<InRange<'v, 'a>>
         ensures { option_map (λ it. data_in it.value.now) result ≡ get name.now (data_in self.now.value.now) }
     {
         match self.value.get(name) {
             None => None,
-            Some(value) => Some(Known { value }),
+            Some(value) => Some(InRange { value }),
         }
     }
 
@@ -113,11 +113,11 @@ impl<'v, 'a> Known<'v, 'a> {
         count_of(self.value.as_number()?)?
     }
 
-    pub(crate) fn items(&self) -> Option<KnownItems<'v, 'a>>
+    pub(crate) fn items(&self) -> Option<ItemsInRange<'v, 'a>>
         ensures { option_map (λ it. items_in (drop it.at it.items.now)) result ≡ as_array (data_in self.now.value.now) }
     {
         if let Value::Array(items) = self.value {
-            Some(KnownItems { items, at: 0 })
+            Some(ItemsInRange { items, at: 0 })
         } else {
             None
         }
@@ -126,18 +126,18 @@ impl<'v, 'a> Known<'v, 'a> {
 
 /// The items of an array from a place on, of which each number is in range.
 #[derive(Drop)]
-pub(crate) struct KnownItems<'v, 'a> {
+pub(crate) struct ItemsInRange<'v, 'a> {
     items: &'v [Value<'a>],
     at: usize,
     ghost within: { at ≤ length items.now },
     ghost in_range: { is_some (of_items (items_view (drop at items.now))) ≡ true },
 }
 
-impl<'v, 'a> KnownItems<'v, 'a> {
+impl<'v, 'a> ItemsInRange<'v, 'a> {
     ghost use Rattle.serde_json.specs.Data.{item, no_items};
 
     /// The next item.
-    pub(crate) fn next(&mut self) -> Option<Known<'v, 'a>>
+    pub(crate) fn next(&mut self) -> Option<InRange<'v, 'a>>
         ensures { MatchOption result (items_in (drop self.old.at self.old.items.now) ≡ no_items)
             (λ first. items_in (drop self.old.at self.old.items.now)
             ≡ item (data_in first.value.now) (items_in (drop self.new.at self.new.items.now))) }
@@ -147,6 +147,6 @@ impl<'v, 'a> KnownItems<'v, 'a> {
             return None;
         }
         self.at += 1;
-        Some(Known { value: &items[at] })
+        Some(InRange { value: &items[at] })
     }
 }
