@@ -17,7 +17,6 @@ mod reference;
 mod statement;
 mod structure;
 mod system;
-mod wide_type;
 
 pub use chart::{Action, Algorithm, Chart, Condition, State, Transition};
 pub use constant::{Constant, Literal, LiteralForm, Simple};
@@ -32,7 +31,6 @@ pub use reference::{Member, Reference, ReferenceNames};
 pub use statement::{Counting, Stmt};
 pub use structure::Structure;
 pub use system::{Application, Device, Mapping, Resource, System};
-pub use wide_type::WideTypeUse;
 
 /// Of `fb_text`, for the crates above.
 pub mod text {
