@@ -66,6 +66,7 @@ fn append_each<R: Reader>(
         let item = reader.read(alloc, tokens)?;
         items.push(item)?;
     }
+    items.shrink_to_fit();
     Ok(items)
 }
 

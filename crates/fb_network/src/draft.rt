@@ -81,12 +81,17 @@ pub fn finish(alloc: Global, draft: Draft, mut edges: Vec<Edge>) -> Result<Flat,
     ensures { IfOk result (IsFinish draft edges.items) }
 {
     let Draft {
-        prefixes,
-        leaves,
+        mut prefixes,
+        mut leaves,
         mut joins,
     } = draft;
     sort_joins(&prefixes, &mut joins)?;
     sort_edges(&prefixes, &mut edges)?;
+    // A net is kept for long.
+    prefixes.shrink_to_fit();
+    leaves.shrink_to_fit();
+    joins.shrink_to_fit();
+    edges.shrink_to_fit();
     let tables = Tables {
         prefixes,
         leaves,

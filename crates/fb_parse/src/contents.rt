@@ -111,6 +111,19 @@ impl Contents {
         Ok(contents)
     }
 
+    /// Gives back the room that is not used.
+    fn shrink(&mut self)
+        ensures { contents_tree self.new ≡ contents_tree self.old }
+    {
+        self.interface.events.shrink_to_fit();
+        self.interface.variables.shrink_to_fit();
+        self.network.instances.shrink_to_fit();
+        self.network.connections.shrink_to_fit();
+        self.chart.states.shrink_to_fit();
+        self.chart.transitions.shrink_to_fit();
+        self.chart.algorithms.shrink_to_fit();
+    }
+
     /// Appends what another section holds.
     fn append(&mut self, other: Contents) -> Result<(), AllocError>
         ensures { IfOk result
@@ -161,5 +174,6 @@ pub fn joined(alloc: Global, sections: Vec<Contents>) -> Result<Contents, AllocE
     for section in sections {
         contents.append(section)?;
     }
+    contents.shrink();
     Ok(contents)
 }
