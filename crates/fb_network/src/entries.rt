@@ -7,16 +7,19 @@ use crate::network::{is_same_sort, sort_number};
 use crate::place::{Place, compare_places, is_same_place, moved, path_of};
 use crate::prefix::Prefix;
 use fb_tree::Sort;
-use fb_tree::text::{Name, same_name};
+use fb_tree::text::{CompactName, Name, same_name};
 use std::alloc::{AllocError, Global};
 use std::cmp::Ordering;
 
 /// A block, with the name of its type.
-#[derive(Clone, Copy, Debug)]
+#[derive(Debug, Drop)]
 pub struct Leaf {
     pub place: Place,
-    pub type_name: Name,
+    pub type_name: CompactName,
 }
+
+// Each block of a net takes this number of bytes, and the text of its path.
+const _: () = prove!(size_of::<Leaf>() == 32);
 
 /// A link.
 #[derive(Clone, Copy, Debug)]
@@ -42,7 +45,7 @@ pub fn push_leaves_moved(leaves: &mut Vec<Leaf>, by: u32, inner: &[Leaf]) -> Res
     for leaf in inner {
         leaves.push(Leaf {
             place: moved(&leaf.place, by)?,
-            type_name: leaf.type_name,
+            type_name: leaf.type_name.clone()?,
         })?;
     }
     Ok(())
@@ -130,7 +133,7 @@ pub fn plain_blocks(
     for leaf in leaves {
         blocks.push(FlatBlock {
             path: path_of(alloc, prefixes, &leaf.place)?,
-            type_name: leaf.type_name,
+            type_name: leaf.type_name.name(),
         })?;
     }
     Ok(blocks)

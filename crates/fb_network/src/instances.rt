@@ -9,6 +9,7 @@ use crate::look_up::Nets;
 use crate::network::{Instance, InstanceKind};
 use crate::place::{Place, number};
 use crate::table::{Table, put};
+use fb_tree::text::CompactName;
 use std::alloc::{AllocError, Global};
 use std::collections::BTreeMap;
 
@@ -28,7 +29,7 @@ fn take_instance<N: Nets>(
         InstanceKind::Block => {
             draft.leaves.push(Leaf {
                 place: name,
-                type_name: instance.type_name,
+                type_name: CompactName::keep(alloc, &instance.type_name)?,
             })?;
             Ok(Vec::new(alloc))
         }

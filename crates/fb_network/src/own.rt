@@ -64,5 +64,6 @@ pub fn texts_of(alloc: Global, network: &Network) -> Result<Vec<Path>, AllocErro
     push_names(alloc, &mut texts, network.instances())?;
     push_sources(alloc, &mut texts, network.connections())?;
     push_destinations(alloc, &mut texts, network.connections())?;
+    texts.shrink_to_fit();
     Ok(texts)
 }

@@ -5,12 +5,12 @@ ghost use Rattle.fb_network.specs.Laid.{block_at, border_at, link_at};
 use crate::entries::{Edge, Join, Leaf, is_equal_edge, is_equal_join};
 use crate::place::is_same_place;
 use crate::prefix::Prefix;
-use fb_tree::text::same_name;
 
 fn is_same_leaf(prefixes: &[Prefix], a: &Leaf, others: &[Prefix], b: &Leaf) -> bool
     ensures { IsTrue result ↔ (block_at prefixes.now a.now ≡ block_at others.now b.now) }
 {
-    is_same_place(prefixes, &a.place, others, &b.place) && same_name(&a.type_name, &b.type_name)
+    is_same_place(prefixes, &a.place, others, &b.place)
+        && a.type_name.is(&b.type_name.name())
 }
 
 fn is_same_join(prefixes: &[Prefix], a: &Join, others: &[Prefix], b: &Join) -> bool

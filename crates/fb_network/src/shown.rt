@@ -31,7 +31,7 @@ fn put_leaf(
 {
     let leaf = &leaves[place];
     put_path(prefixes, &leaf.place, path)?;
-    Ok(leaf.type_name)
+    Ok(leaf.type_name.name())
 }
 
 fn put_join(

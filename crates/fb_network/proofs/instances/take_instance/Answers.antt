@@ -1,12 +1,13 @@
 -- A block is one leaf more, and what a subapplication instance holds is taken in.
-use Rattle.std.proofs.{Common.{refl, sym, ◌∙◌, ap}, lemmas.Result.{IfOk-weaker}}
+use Rattle.std.proofs.{Common.{◌≡◌, [], ◌∷◌, ◌++◌, refl, sym, subst, ◌∙◌, ap}, lemmas.Result.{IfOk-weaker}}
 use Rattle.std.specs.Option.{option_copied}
 use Rattle.fb_network.proofs.Standings.{takes_block, takes_inner, takes_unknown}
 use Rattle.fb_network.proofs.instances.take_instance.Goals as goal
 
 pub returns-in_ok-push-in-Block : goal.returns-in_ok-push-in-Block
 returns-in_ok-push-in-Block g c =
-    takes_block c.args.draft.now _ c.args.instance.now c.new.result.items c.args.name c.in-Block.is c.requires refl refl c.in_ok-push-in-Block.ensures.items c.new.ensures.items
+    let leaves = subst (λ t. c.push.new.self.items ≡ c.args.draft.now.leaves.items ++ record { place = c.args.name; type_name = t } ∷ []) c.in_ok-keep-in-Block.ensures c.in_ok-push-in-Block.ensures.items in
+    takes_block c.args.draft.now _ c.args.instance.now c.new.result.items c.args.name c.in-Block.is c.requires refl refl leaves c.new.ensures.items
 
 pub returns-in-Some : goal.returns-in-Some
 returns-in-Some g c =
