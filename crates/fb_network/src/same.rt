@@ -9,8 +9,7 @@ use crate::prefix::Prefix;
 fn is_same_leaf(prefixes: &[Prefix], a: &Leaf, others: &[Prefix], b: &Leaf) -> bool
     ensures { IsTrue result ↔ (block_at prefixes.now a.now ≡ block_at others.now b.now) }
 {
-    is_same_place(prefixes, &a.place, others, &b.place)
-        && a.type_name.is(&b.type_name.name())
+    is_same_place(prefixes, &a.place, others, &b.place) && a.type_name.is(&b.type_name.name())
 }
 
 fn is_same_join(prefixes: &[Prefix], a: &Join, others: &[Prefix], b: &Join) -> bool
