@@ -159,23 +159,6 @@ impl Name {
         // SAFETY: the bytes of a name are letters, digits and `_`, which are ASCII.
         unsafe { str::from_utf8_unchecked(self.as_bytes()) }
     }
-
-    /// The order, eight bytes at a time.
-    fn order_by_eights(&self, other: &Name) -> Ordering
-        ensures { result ≡ slice_cmp nat_cmp self.now other.now }
-    {
-        for i in 0..8 {
-            let x = eight_from(&self.bytes, 8 * i);
-            let y = eight_from(&other.bytes, 8 * i);
-            if x != y {
-                return x.cmp(&y);
-            }
-            if x % 256 == 0 {
-                return Ordering::Equal;
-            }
-        }
-        Ordering::Equal
-    }
 }
 
 impl Clone for NameUse {
@@ -222,14 +205,18 @@ impl Ord for Name {
 
     ghost matches_eq = { texts_ties };
 
-    #[inline(always)]
     fn cmp(&self, other: &Self) -> Ordering {
-        let first = eight_from(&self.bytes, 0);
-        let others = eight_from(&other.bytes, 0);
-        if first != others {
-            return first.cmp(&others);
+        for i in 0..8 {
+            let x = eight_from(&self.bytes, 8 * i);
+            let y = eight_from(&other.bytes, 8 * i);
+            if x != y {
+                return x.cmp(&y);
+            }
+            if x % 256 == 0 {
+                return Ordering::Equal;
+            }
         }
-        self.order_by_eights(other)
+        Ordering::Equal
     }
 }
 
