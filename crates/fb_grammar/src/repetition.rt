@@ -66,7 +66,6 @@ fn append_each<R: Reader>(
         let item = reader.read(alloc, tokens)?;
         items.push(item)?;
     }
-    items.shrink_to_fit();
     Ok(items)
 }
 

@@ -2,7 +2,7 @@
 
 ghost use Rattle.fb_parse.specs.Contents.{charts_merged, contents_tree, interfaces_merged, joined, merged, networks_merged, nothing, of_adapters, of_algorithm, of_connections, of_events, of_instances, of_states, of_transitions, of_variables};
 ghost use Rattle.fb_tree.specs.Tree.{algorithm_tree, chart_tree, event_tree, instance_tree, interface_tree, network_tree, state_tree, transition_tree, variables_tree};
-ghost use Rattle.std.specs.Prelude.{◌≡◌, IfOk, map};
+ghost use Rattle.std.specs.Prelude.{◌≡◌, ◌++◌, IfOk, OnOk, map};
 
 use fb_tree::{
     Algorithm, Chart, Connection, Event, Instance, Interface, Network, State, Transition, Variables,
@@ -135,32 +135,55 @@ impl Contents {
     }
 }
 
-fn append_interface(whole: &mut Interface, mut part: Interface) -> Result<(), AllocError>
+/// Appends a list, which becomes the whole if nothing was there.
+fn append_list<T: Drop>(whole: &mut Vec<T>, mut part: Vec<T>) -> Result<(), AllocError>
+    ensures { OnOk result (whole.new.items ≡ whole.old.items ++ part.items) }
+{
+    if whole.is_empty() {
+        *whole = part;
+        return Ok(());
+    }
+    whole.append(&mut part)
+}
+
+fn append_interface(whole: &mut Interface, part: Interface) -> Result<(), AllocError>
     ensures { IfOk result (λ _. interface_tree whole.new
         ≡ interfaces_merged (interface_tree whole.old) (interface_tree part)) }
 {
-    whole.events.append(&mut part.events)?;
-    whole.variables.append(&mut part.variables)
+    let Interface { events, variables } = part;
+    append_list(&mut whole.events, events)?;
+    append_list(&mut whole.variables, variables)
 }
 
-fn append_network(whole: &mut Network, mut part: Network) -> Result<(), AllocError>
+fn append_network(whole: &mut Network, part: Network) -> Result<(), AllocError>
     ensures { IfOk result (λ _. network_tree whole.new
         ≡ networks_merged (network_tree whole.old) (network_tree part)) }
 {
-    whole.instances.append(&mut part.instances)?;
-    whole.connections.append(&mut part.connections)?;
-    whole.is_written = whole.is_written || part.is_written;
+    let Network {
+        instances,
+        connections,
+        is_written,
+    } = part;
+    append_list(&mut whole.instances, instances)?;
+    append_list(&mut whole.connections, connections)?;
+    whole.is_written = whole.is_written || is_written;
     Ok(())
 }
 
-fn append_chart(whole: &mut Chart, mut part: Chart) -> Result<(), AllocError>
+fn append_chart(whole: &mut Chart, part: Chart) -> Result<(), AllocError>
     ensures { IfOk result (λ _. chart_tree whole.new
         ≡ charts_merged (chart_tree whole.old) (chart_tree part)) }
 {
-    whole.states.append(&mut part.states)?;
-    whole.transitions.append(&mut part.transitions)?;
-    whole.algorithms.append(&mut part.algorithms)?;
-    whole.is_written = whole.is_written || part.is_written;
+    let Chart {
+        states,
+        transitions,
+        algorithms,
+        is_written,
+    } = part;
+    append_list(&mut whole.states, states)?;
+    append_list(&mut whole.transitions, transitions)?;
+    append_list(&mut whole.algorithms, algorithms)?;
+    whole.is_written = whole.is_written || is_written;
     Ok(())
 }
 

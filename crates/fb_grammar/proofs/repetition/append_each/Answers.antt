@@ -12,5 +12,4 @@ loop-alloc-preserved g c =
 pub returns : goal.returns
 returns g c =
     let next : is_next c.args.kinds.now c.loop-alloc.tokens ≡ false = search rules in
-    rw c.shrink_to_fit.ensures.items
-    (each_done (g.R.Reader.reads c.args.reader.now) c.args.kinds.now (map g.R.Reader.view c.loop-alloc.items.items) c.loop-alloc.tokens (with_prefix (map g.R.Reader.view c.args.items.items) (read_each (g.R.Reader.reads c.args.reader.now) c.args.kinds.now (length c.args.tokens.now) c.args.tokens.now)) next c.loop-alloc.invariant)
+    each_done (g.R.Reader.reads c.args.reader.now) c.args.kinds.now (map g.R.Reader.view c.loop-alloc.items.items) c.loop-alloc.tokens (with_prefix (map g.R.Reader.view c.args.items.items) (read_each (g.R.Reader.reads c.args.reader.now) c.args.kinds.now (length c.args.tokens.now) c.args.tokens.now)) next c.loop-alloc.invariant
