@@ -8,6 +8,7 @@ use fb_tree::{
     Algorithm, Chart, Connection, Event, Instance, Interface, Network, State, Transition, Variables,
 };
 use std::alloc::{AllocError, Global};
+use std::mem;
 
 /// What sections hold, in the order of the text.
 #[derive(Drop)]
@@ -136,54 +137,42 @@ impl Contents {
 }
 
 /// Appends a list, which becomes the whole if nothing was there.
-fn append_list<T: Drop>(whole: &mut Vec<T>, mut part: Vec<T>) -> Result<(), AllocError>
-    ensures { OnOk result (whole.new.items ≡ whole.old.items ++ part.items) }
+fn append_list<T: Drop>(whole: &mut Vec<T>, part: &mut Vec<T>) -> Result<(), AllocError>
+    ensures { OnOk result (whole.new.items ≡ whole.old.items ++ part.old.items) }
 {
     if whole.is_empty() {
-        *whole = part;
+        mem::swap(whole, part);
         return Ok(());
     }
-    whole.append(&mut part)
+    whole.append(part)
 }
 
-fn append_interface(whole: &mut Interface, part: Interface) -> Result<(), AllocError>
+fn append_interface(whole: &mut Interface, mut part: Interface) -> Result<(), AllocError>
     ensures { IfOk result (λ _. interface_tree whole.new
         ≡ interfaces_merged (interface_tree whole.old) (interface_tree part)) }
 {
-    let Interface { events, variables } = part;
-    append_list(&mut whole.events, events)?;
-    append_list(&mut whole.variables, variables)
+    append_list(&mut whole.events, &mut part.events)?;
+    append_list(&mut whole.variables, &mut part.variables)
 }
 
-fn append_network(whole: &mut Network, part: Network) -> Result<(), AllocError>
+fn append_network(whole: &mut Network, mut part: Network) -> Result<(), AllocError>
     ensures { IfOk result (λ _. network_tree whole.new
         ≡ networks_merged (network_tree whole.old) (network_tree part)) }
 {
-    let Network {
-        instances,
-        connections,
-        is_written,
-    } = part;
-    append_list(&mut whole.instances, instances)?;
-    append_list(&mut whole.connections, connections)?;
-    whole.is_written = whole.is_written || is_written;
+    append_list(&mut whole.instances, &mut part.instances)?;
+    append_list(&mut whole.connections, &mut part.connections)?;
+    whole.is_written = whole.is_written || part.is_written;
     Ok(())
 }
 
-fn append_chart(whole: &mut Chart, part: Chart) -> Result<(), AllocError>
+fn append_chart(whole: &mut Chart, mut part: Chart) -> Result<(), AllocError>
     ensures { IfOk result (λ _. chart_tree whole.new
         ≡ charts_merged (chart_tree whole.old) (chart_tree part)) }
 {
-    let Chart {
-        states,
-        transitions,
-        algorithms,
-        is_written,
-    } = part;
-    append_list(&mut whole.states, states)?;
-    append_list(&mut whole.transitions, transitions)?;
-    append_list(&mut whole.algorithms, algorithms)?;
-    whole.is_written = whole.is_written || is_written;
+    append_list(&mut whole.states, &mut part.states)?;
+    append_list(&mut whole.transitions, &mut part.transitions)?;
+    append_list(&mut whole.algorithms, &mut part.algorithms)?;
+    whole.is_written = whole.is_written || part.is_written;
     Ok(())
 }
 
