@@ -10,7 +10,7 @@ use crate::peek::Shown;
 use crate::request::{Request, call_of_result, reply_of_job};
 use fb_entries::index::Index;
 use fb_entries::jobs::{Finished, Job, Key, Read, current_nets, current_reads, locality};
-use fb_entries::library::{Change, Library};
+use fb_entries::library::{Change, Library, Spot};
 use fb_entries::{Entries, Marks};
 use fb_history::{
     Asked, Call, CheckpointError, Committed, Delivered, GivenBack, History, Limits, Record,
@@ -737,8 +737,9 @@ impl Bench {
 fn first_stale(library: &Library, reads: &[Read]) -> Option<Name>
     ensures { result ≡ stale library.now (all_seen reads.now) }
 {
+    let mut spot = Spot::first();
     for read in reads {
-        if !is_current(library, read) {
+        if !is_current(library, read, &mut spot) {
             return Some(read.name);
         }
     }
@@ -746,10 +747,10 @@ fn first_stale(library: &Library, reads: &[Read]) -> Option<Name>
 }
 
 /// Whether the unit is absent now as then, or present with the same revision and the same text.
-fn is_current(library: &Library, read: &Read) -> bool
+fn is_current(library: &Library, read: &Read, spot: &mut Spot) -> bool
     ensures { result ≡ is_current library.now (seen_of read.now) }
 {
-    match (library.filed(&read.name), &read.source) {
+    match (library.filed_near(&read.name, spot), &read.source) {
         (None, None) => true,
         (Some(now), Some(then)) => now.revision() == read.revision
             && now.source().text() == then.text(),

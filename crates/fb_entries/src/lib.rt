@@ -20,7 +20,7 @@ pub mod parse {
 
 /// Of `fb_library`, for the crates above.
 pub mod library {
-    pub use fb_index::library::{Change, Library};
+    pub use fb_index::library::{Change, Library, Spot};
 }
 
 /// Of `fb_index`, for the crates above.

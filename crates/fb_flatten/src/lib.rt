@@ -41,7 +41,7 @@ pub mod parse {
 
 /// Of `fb_library`, for the crates above.
 pub mod library {
-    pub use fb_types::library::{Change, Library, Version, View, near, tree_by_name};
+    pub use fb_types::library::{Change, Library, Spot, Version, View, near, tree_by_name};
 }
 
 /// Of `fb_iface`, for the crates above.

@@ -43,7 +43,7 @@ pub mod parse {
 /// Of `fb_library`, for the crates above.
 pub mod library {
     pub use fb_library::{
-        Change, Library, Version, View, far, names_of, near, open_new, part_mentions, part_of,
-        text_by_name, tree_by_name, value_mentions,
+        Change, Library, Spot, Version, View, far, names_of, near, open_new, part_mentions,
+        part_of, text_by_name, tree_by_name, value_mentions,
     };
 }

@@ -10,5 +10,5 @@ pub use index::Index;
 
 /// Of `fb_library`, for the crates above.
 pub mod library {
-    pub use fb_library::{Change, Library, mentions_by_name};
+    pub use fb_library::{Change, Library, Spot, mentions_by_name};
 }

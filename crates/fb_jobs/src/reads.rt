@@ -11,7 +11,7 @@ use crate::read_list::ReadList;
 use crate::reuse::mentions_the_same;
 use crate::texts::{Replacement, TextReads};
 use fb_deploy::flatten::all_far;
-use fb_deploy::library::{Library, Version, near};
+use fb_deploy::library::{Library, Spot, Version, near};
 use fb_deploy::parse::Source;
 use fb_text::Name;
 use std::alloc::{AllocError, Global};
@@ -57,12 +57,12 @@ fn present(name: Name, revision: u64, source: &Arc<Source>) -> Result<Read, Allo
 }
 
 /// What is read under a name.
-fn read_now(library: &Library, name: Name) -> Result<Read, AllocError>
+fn read_now(library: &Library, name: Name, spot: &mut Spot) -> Result<Read, AllocError>
     ensures seen { IfOk result
         (λ read. seen_of read ≡ record { name = name; found = held library.now name }) }
     ensures own { IfOk result IsOwn }
 {
-    match library.filed(&name) {
+    match library.filed_near(&name, spot) {
         Some(filed) => present(name, filed.revision(), filed.source()),
         None => Ok(absent(name)),
     }
@@ -179,9 +179,10 @@ fn read_each_again(
 {
     let mut reads = Vec::with_capacity(alloc, before.len())?;
     let mut replacements = Vec::new(alloc);
+    let mut spot = Spot::first();
     for place in 0..before.len() {
         let it = &before[place];
-        let read = read_now(library, it.name)?;
+        let read = read_now(library, it.name, &mut spot)?;
         let Some(text) = text_instead(library, it, &read)? else {
             return Ok(None);
         };

@@ -1,5 +1,5 @@
 -- The places of a table, seen as entries.
-use Rattle.std.proofs.Common.{◌≡◌, ℕ, suc, List, ◌∷◌, map, take, drop, get_or, set, sym, ap, ◌∙◌, arith, Some}
+use Rattle.std.proofs.Common.{◌≡◌, ℕ, suc, ◌<◌, List, [], ◌∷◌, length, map, take, drop, get_or, set, sym, ap, ◌∙◌, arith, Some}
 use Rattle.std.proofs.{lemmas.List.{map-append, map-set, take-map, drop-map, get_or-map, length-map}, lemmas.Option.{slice_get-map}, lemmas.Simd.{map-map}}
 use Rattle.std.specs.{List.{insert, remove, slice_get}, Option.{option_map}, List.Sorted.{IsStrictlySortedBy}, Map.{lookup, remove_entry}}
 use Rattle.std.specs.BTreeMap.{is_at, insert_entry}
@@ -20,6 +20,12 @@ module _ {V : Type 0} where
 
   pub name_there : (ps : List (Placed V)) (i : ℕ) → slice_get (names_in ps) i ≡ option_map (λ (p : Placed V). p.name) (slice_get ps i)
   name_there ps i = ap (λ ns. slice_get ns i) (places_named ps) ∙ slice_get-map (λ (p : Placed V). p.name) ps i
+
+  pub named_there : (ps : List (Placed V)) (n : List ℕ) (i : ℕ) (p : Placed V) → i < length ps → p ≡ get_or ps i p → p.name ≡ n → IsAt (names_in ps) n i
+  named_there ps n i p lt is e = record {
+    in_range = omega (arith, lt, ap length (places_named ps), length-map ps (λ (p : Placed V). p.name));
+    named = rw (places_named ps) (get_or-map (λ (p : Placed V). p.name) ps i p [] lt ∙ ap (λ (p : Placed V). p.name) (sym is) ∙ e);
+  }
 
   pub value_there : (ps : List (Placed V)) (n : List ℕ) (i : ℕ) (d : Placed V) → IsStrictlySortedBy name_cmp (names_in ps) → IsAt (names_in ps) n i → Some (get_or ps i d).value.value ≡ lookup (is_at (name_cmp n)) (entries_of ps)
   value_there ps n i d sorted is =

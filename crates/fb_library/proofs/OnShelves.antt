@@ -1,13 +1,13 @@
 -- Shelves of entries: what is done at a name is done on one shelf.
-use Rattle.std.proofs.Common.{◌≡◌, ℕ, zero, suc, ◌<◌, ◌≤◌, true, List, [], ◌∷◌, ◌++◌, length, get_or, set, refl, sym, ap, subst, ◌∙◌, arith}
-use Rattle.std.proofs.{lemmas.Bool.{false≢true, or_left, or_right}, lemmas.Cmp.{tied_itself}, lemmas.Map.Keys.{Less-from_sorted}}
+use Rattle.std.proofs.Common.{◌≡◌, ℕ, zero, suc, ◌-◌, ◌<◌, ◌≤◌, true, false, inl, inr, List, [], ◌∷◌, ◌++◌, length, get_or, set, refl, sym, ap, subst, ◌∙◌, arith}
+use Rattle.std.proofs.{lemmas.Bool.{cases_lt, false≢true, or_left, or_right}, lemmas.Cmp.{tied_itself}, lemmas.Map.Keys.{Less-from_sorted}}
 use Rattle.std.proofs.{lemmas.List.Elements.{All-from_recursion, recursion_from_All}, lemmas.Map.Views.{All-keys-insert_entry}}
 use Rattle.std.specs.{List.{AllByRecursion}, List.Sorted.{IsStrictlySortedBy}, Map.{lookup, remove_entry}, BTreeMap.{is_at, insert_entry}}
-use Rattle.std.specs.{Ordering.{is_le}, declared.cmp.Ordering.TheVariants.{Less}}
+use Rattle.std.specs.{Ordering.{is_le, is_lt}, declared.cmp.Ordering.TheVariants.{Less}}
 use Rattle.fb_parse.specs.Text.Order.{name_cmp}
 use Rattle.fb_library.specs.{Place.{IsAt, IsGapFor}, Shelves.{names_of, lasts_of, all_on, IsShelf, AreShelves, IsShelfFor, reaches}}
 use Rattle.fb_library.proofs.Appended.{AllBelow, AllAbove, lookup_behind, lookup_before, put_behind, put_before, remove_behind, remove_before}
-use Rattle.fb_library.proofs.{Names.{name_total, exact_name, by_order}, Places.{greater, all_removed, sorted_put, sorted_removed}}
+use Rattle.fb_library.proofs.{Names.{name_total, exact_name, by_order}, Places.{greater, less, all_removed, sorted_put, sorted_removed}}
 
 -- ---- the order of names
 
@@ -19,6 +19,12 @@ lt_le x y z lt le = by_order (name_cmp y z) (λ l. name_total.trans x y z lt l) 
 
 pub le_self : (n : List ℕ) → is_le (name_cmp n n) ≡ true
 le_self n = ap is_le (tied_itself name_total n)
+
+pub not_below : (x n : List ℕ) → is_lt (name_cmp x n) ≡ false → is_le (name_cmp n x) ≡ true
+not_below x n e = by_order (name_cmp x n) (λ l. absurd (false≢true (sym (rw l at e)))) (λ q. rw (exact_name x n q) (le_self n)) (λ g. ap is_le (less x n g))
+
+pub is_below : (x n : List ℕ) → is_lt (name_cmp x n) ≡ true → name_cmp x n ≡ Less
+is_below x n e = by_order (name_cmp x n) (λ l. l) (λ q. absurd (false≢true (rw q at e))) (λ g. absurd (false≢true (rw g at e)))
 
 pub each : {A : Type 0} (P Q : A → Type 0) → ((x : A) → P x → Q x) → (xs : List A) → AllByRecursion P xs → AllByRecursion Q xs
 each P Q f [] all = tt
@@ -35,6 +41,19 @@ for_at lasts n i sorted is = record {
 
 pub for_gap : (lasts : List (List ℕ)) (n : List ℕ) (i : ℕ) → IsGapFor lasts n i → IsShelfFor lasts n i
 for_gap lasts n i gap = record { in_range = gap.in_range; below = gap.below; here = λ lt. ap is_le (gap.above i (omega arith) lt) }
+
+-- the shelf before it ends below the name, and it does not
+pub for_next : (lasts : List (List ℕ)) (n : List ℕ) (i : ℕ) → IsStrictlySortedBy name_cmp lasts → i < length lasts → is_le (name_cmp n (get_or lasts i [])) ≡ true → ((j : ℕ) → suc j ≡ i → name_cmp (get_or lasts j []) n ≡ Less) → IsShelfFor lasts n i
+for_next lasts n i sorted within up_to above = record {
+  in_range = omega (arith, within);
+  below = λ j lt. elim (cases_lt (suc j) i) [
+    | inl further ↦
+        let k = i - 1 in
+        name_total.trans (get_or lasts j []) (get_or lasts k []) n (Less-from_sorted name_cmp lasts j k [] sorted (omega arith) (omega arith)) (above k (omega arith))
+    | inr last ↦ above j (omega arith)
+  ];
+  here = λ lt. up_to;
+}
 
 for_tail : (last : List ℕ) (lasts : List (List ℕ)) (n : List ℕ) (i : ℕ) → IsShelfFor (last ∷ lasts) n (suc i) → IsShelfFor lasts n i
 for_tail last lasts n i is = record {

@@ -1,12 +1,12 @@
 -- Items that are kept, each of which reads as a shelf.
 use Rattle.std.proofs.Common.{◌≡◌, ℕ, suc, ◌+◌, ◌<◌, ◌≤◌, true, List, [], ◌∷◌, ◌++◌, length, map, take, drop, get_or, set, sym, ap, subst, ◌∙◌, arith, Ok, Err}
 use Rattle.std.proofs.{lemmas.List.{map-set, get_or-map, map_push, length-map}, lemmas.List.Edits.{get_or-insert_above}, lemmas.Simd.{map-map}}
-use Rattle.std.specs.{List.{AllByRecursion, insert}, List.Sorted.{IsStrictlySortedBy, IsBinarySearchResult}, Map.{remove_entry}, BTreeMap.{is_at, insert_entry}}
+use Rattle.std.specs.{List.{AllByRecursion, insert}, List.Sorted.{IsStrictlySortedBy, IsBinarySearchResult}, Map.{remove_entry}, BTreeMap.{is_at, insert_entry}, Ordering.{is_le}}
 use Rattle.std.specs.declared.cmp.Ordering.TheVariants.{Less}
 use Rattle.fb_parse.specs.Text.Order.{name_cmp}
 use Rattle.fb_library.specs.Shelves.{names_of, lasts_of, all_on, AreShelves, IsShelfFor, reaches}
 use Rattle.fb_library.proofs.EntryLemmas.{map_insert}
-use Rattle.fb_library.proofs.OnShelves.{Row, last_at, entries_at, with_entries, for_at, for_gap, for_reached, reached_for, passed, lasts_sorted, put_on, remove_on, shelves_put, shelves_removed}
+use Rattle.fb_library.proofs.OnShelves.{Row, last_at, entries_at, with_entries, for_at, for_gap, for_next, for_reached, reached_for, passed, lasts_sorted, put_on, remove_on, shelves_put, shelves_removed}
 use Rattle.fb_library.proofs.Wider.{ended_at, all_ended, reaches_ended, shelves_ended, one_more, all_more, reaches_more, shelves_more, IsExtended, IsWider, in_two, all_in_two, reaches_in_two, shelves_in_two}
 use Rattle.fb_library.proofs.Searches.{searched}
 
@@ -27,6 +27,15 @@ module _ {A V : Type 0} (row : A → Row V) where
   pub shelf_missed : (xs : List A) (n : List ℕ) (i : ℕ) → AreShelves (map row xs) → i ≤ length xs → IsBinarySearchResult (λ x. name_cmp (row x).0 n) xs (Err i) → IsShelfFor (lasts_of (map row xs)) n i
   shelf_missed xs n i are le is =
       rw (lasts_named xs) (for_gap (map last xs) n i (searched last xs n (Err i) (sorted_by_last xs are) le is).absent)
+
+  -- the item before this one ends below the name, and this one does not
+  pub shelf_next : (xs : List A) (n : List ℕ) (i : ℕ) (here before : A) → AreShelves (map row xs) → i < length xs → here ≡ get_or xs i here → is_le (name_cmp n (row here).0) ≡ true
+      → ((j : ℕ) → suc j ≡ i → (before ≡ get_or xs j before) × (name_cmp (row before).0 n ≡ Less)) → IsShelfFor (lasts_of (map row xs)) n i
+  shelf_next xs n i here before are lt there up_to above =
+      let named : (j : ℕ) (x : A) → j < length xs → x ≡ get_or xs j x → get_or (map last xs) j [] ≡ last x = λ j x l is. get_or-map last xs j x [] l ∙ ap last (sym is) in
+      rw (lasts_named xs)
+      (for_next (map last xs) n i (sorted_by_last xs are) (omega (arith, lt, length-map xs last)) (rw (named i here lt there) up_to)
+      (λ j e. rw (named j before (omega arith) (above j e).0) (above j e).1))
 
   counted_lasts : (xs : List A) → length (lasts_of (map row xs)) ≡ length xs
   counted_lasts xs = length-map (map row xs) (λ r. r.0) ∙ length-map xs row

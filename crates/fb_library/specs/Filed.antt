@@ -6,10 +6,11 @@ use Rattle.fb_library.specs.{Texts.{Texts, FiledText}, declared.filed.Version.{V
 abbrev pub filed_text : Version → FiledText
 filed_text it = record { unit = it.unit; held = record { revision = it.revision; text = string_bytes it.text.value } }
 
--- the source has the same unit and text
-pub record IsOfSource (source : Written) (it : FiledText) : Type 0 where
+-- the source has the same unit and text, and this is the same revision
+pub record IsFiled (source : Written) (number : ℕ) (it : FiledText) : Type 0 where
   pub unit : source.unit ≡ it.unit
   pub text : source.text ≡ it.held.text
+  pub revision : number ≡ it.held.revision
 
 abbrev pub texts_of : List (List ℕ × FiledText) → Texts
 texts_of units = map (λ e. (e.0, e.1.held)) units

@@ -10,7 +10,13 @@ use std::sync::Arc;
 /// Values by name, in the order of the names. A copy shares all that is not changed after it. A
 /// function leaves the entries unchanged if there was no memory.
 pub(crate) trait Entries<V>: Drop {
+    /// Where a look-up ended.
+    type Spot: Copy;
+
     ghost entries: { Self → List (List ℕ × V) };
+
+    /// A spot for the first look-up.
+    fn first_spot() -> Self::Spot;
 
     /// No entries.
     fn new(alloc: Global) -> Self
@@ -25,6 +31,11 @@ pub(crate) trait Entries<V>: Drop {
 
     /// The value under a name.
     fn get(&self, name: &Name) -> Option<&Arc<V>>
+        ensures { option_map (λ it. it.now.value) result
+            ≡ lookup (is_at (name_cmp name.now)) (entries self.now) };
+
+    /// The same. It begins at the spot where the last look-up ended, and is short if that was of a name near this one.
+    fn get_near(&self, name: &Name, spot: &mut Self::Spot) -> Option<&Arc<V>>
         ensures { option_map (λ it. it.now.value) result
             ≡ lookup (is_at (name_cmp name.now)) (entries self.now) };
 

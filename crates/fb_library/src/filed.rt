@@ -29,6 +29,8 @@ impl Drop for Version {
 
 /// What is kept of a unit: its source, and beside it what may be kept longer than that. Both are shared.
 pub struct Filed {
+    // that of the version, which is seldom in the cache
+    revision: u64,
     version: Arc<Version>,
     source: Arc<Source>,
 }
@@ -36,6 +38,7 @@ pub struct Filed {
 impl Drop for Filed {
     fn drop(self) {
         let Self {
+            revision: _,
             version: _,
             source: _,
         } = self;
@@ -47,11 +50,11 @@ impl Model for Filed {
 
     ghost Value = { FiledText };
 
-    ghost use Rattle.fb_library.specs.Filed.{filed_text, IsOfSource};
+    ghost use Rattle.fb_library.specs.Filed.{filed_text, IsFiled};
 
     ghost view = { λ it. filed_text it.version.value };
 
-    ghost invariant = { λ it. IsOfSource it.source.value (filed_text it.version.value) };
+    ghost invariant = { λ it. IsFiled it.source.value it.revision (filed_text it.version.value) };
 }
 
 impl Filed {
@@ -74,14 +77,18 @@ impl Filed {
             text,
         };
         let version = Arc::new(alloc, version)?;
-        Ok(Filed { version, source })
+        Ok(Filed {
+            revision,
+            version,
+            source,
+        })
     }
 
     /// The number of the commit that put it.
     pub fn revision(&self) -> u64
         ensures { result ≡ self.now.held.revision }
     {
-        self.version.revision
+        self.revision
     }
 
     /// The source, to be shared.

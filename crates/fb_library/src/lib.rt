@@ -25,7 +25,7 @@ pub use look_up::{View, declaration_by_name, text_by_name, tree_by_name};
 pub use mentions::{is_structure, mentions_by_name, part_mentions, value_mentions};
 pub use parts::part_of;
 pub use seen::{names_of, open_new};
-pub use table::Table;
+pub use table::{Spot, Table};
 pub use walk::{carried, far, near};
 
 /// Of `fb_parse`, for the crates above.

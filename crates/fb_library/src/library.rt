@@ -7,7 +7,7 @@ ghost use Rattle.fb_library.specs.{Texts.{held, text_at, revision_of, names_of, 
 use crate::change::Change;
 use crate::filed::Filed;
 use crate::look_up::View;
-use crate::table::Table;
+use crate::table::{Spot, Table};
 use fb_parse::Source;
 use fb_parse::text::Name;
 use std::alloc::{AllocError, Global};
@@ -78,6 +78,17 @@ impl Library {
         ensures own { IfSome result (λ it. it.now.unit ≡ unit.now) }
     {
         match self.units.get(unit) {
+            Some(filed) => Some(filed),
+            None => None,
+        }
+    }
+
+    /// The same. It begins at the spot where the last look-up ended, and is short if that was of a name near this one.
+    pub fn filed_near(&self, unit: &Name, spot: &mut Spot) -> Option<&Filed>
+        ensures held { option_map (λ it. it.now.held) result ≡ held self.now unit.now }
+        ensures own { IfSome result (λ it. it.now.unit ≡ unit.now) }
+    {
+        match self.units.get_near(unit, spot) {
             Some(filed) => Some(filed),
             None => None,
         }

@@ -41,7 +41,13 @@ impl<V> Model for Places<V> {
 }
 
 impl<V: Drop> Entries<V> for Places<V> {
+    type Spot = usize;
+
     ghost entries = { λ it. it };
+
+    fn first_spot() -> usize {
+        0
+    }
 
     fn new(alloc: Global) -> Places<V> {
         Places {
@@ -61,6 +67,17 @@ impl<V: Drop> Entries<V> for Places<V> {
         let places = self.places.as_slice();
         match place(places, name) {
             Ok(at) => Some(&places[at].value),
+            Err(_) => None,
+        }
+    }
+
+    fn get_near(&self, name: &Name, spot: &mut usize) -> Option<&Arc<V>> {
+        let places = self.places.as_slice();
+        match place_near(places, name, *spot) {
+            Ok(at) => {
+                *spot = at;
+                Some(&places[at].value)
+            }
             Err(_) => None,
         }
     }
@@ -129,6 +146,19 @@ fn copied<V: Drop>(alloc: Global, places: &[Placed<V>]) -> Result<Places<V>, All
         })?;
     }
     Ok(Places { places: copy })
+}
+
+/// The same, first looked for right behind another place.
+fn place_near<V>(places: &[Placed<V>], name: &Name, before: usize) -> Result<usize, usize>
+    requires { IsStrictlySortedBy name_cmp (names_in places.now) }
+    ensures found { IfOk result (IsAt (names_in places.now) name.now) }
+    ensures absent { IfErr result (IsGapFor (names_in places.now) name.now) }
+{
+    let next = before.saturating_add(1);
+    if next < places.len() && places[next].name.cmp(name).is_eq() {
+        return Ok(next);
+    }
+    place(places, name)
 }
 
 /// The place of the name, or the one at which it would be inserted.

@@ -40,7 +40,13 @@ impl<V, E: Entries<V>> Model for Shelves<V, E> {
 }
 
 impl<V: Drop, E: Entries<V>> Entries<V> for Shelves<V, E> {
+    type Spot = (usize, E::Spot);
+
     ghost entries = { λ it. it };
+
+    fn first_spot() -> (usize, E::Spot) {
+        (0, E::first_spot())
+    }
 
     fn new(alloc: Global) -> Shelves<V, E> {
         Shelves {
@@ -62,6 +68,16 @@ impl<V: Drop, E: Entries<V>> Entries<V> for Shelves<V, E> {
         let shelves = self.shelves.as_slice();
         match shelves.get(shelf_for(shelves, name)) {
             Some(shelf) => shelf.entries.get(name),
+            None => None,
+        }
+    }
+
+    fn get_near(&self, name: &Name, spot: &mut (usize, E::Spot)) -> Option<&Arc<V>> {
+        let shelves = self.shelves.as_slice();
+        let at = shelf_near(shelves, name, spot.0);
+        spot.0 = at;
+        match shelves.get(at) {
+            Some(shelf) => shelf.entries.get_near(name, &mut spot.1),
             None => None,
         }
     }
@@ -168,6 +184,28 @@ fn shelf_for<V, E: Entries<V>>(shelves: &[Shelf<E>], name: &Name) -> usize
         Ok(at) => at,
         Err(at) => at,
     }
+}
+
+/// Whether a name is on the shelf of this index if it is anywhere: those before it end below the name, and it does not.
+fn is_shelf_for<V, E: Entries<V>>(shelves: &[Shelf<E>], name: &Name, at: usize) -> bool
+    requires { AreShelves (shelves_of E.entries shelves.now) }
+    ensures { result ≡ true → IsShelfFor (lasts_on E.entries shelves.now) name.now at }
+{
+    if at >= shelves.len() || shelves[at].last.cmp(name).is_lt() {
+        return false;
+    }
+    at == 0 || shelves[at - 1].last.cmp(name).is_lt()
+}
+
+/// The index of the shelf where a name is if it is anywhere, first looked for at this index.
+fn shelf_near<V, E: Entries<V>>(shelves: &[Shelf<E>], name: &Name, at: usize) -> usize
+    requires { AreShelves (shelves_of E.entries shelves.now) }
+    ensures { IsShelfFor (lasts_on E.entries shelves.now) name.now result }
+{
+    if is_shelf_for(shelves, name, at) {
+        return at;
+    }
+    shelf_for(shelves, name)
 }
 
 /// Puts a value under a name, in place of what was there. There are `len` entries, and the result is how many there are then.

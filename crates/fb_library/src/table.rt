@@ -13,6 +13,19 @@ use std::alloc::{AllocError, Global};
 use std::marker::Model;
 use std::sync::Arc;
 
+/// Where a look-up in a table ended. Any spot serves for any table.
+#[derive(Clone, Copy)]
+pub struct Spot {
+    at: (usize, (usize, usize)),
+}
+
+impl Spot {
+    /// A spot for the first look-up.
+    pub fn first() -> Spot {
+        Spot { at: (0, (0, 0)) }
+    }
+}
+
 /// Values by name, in the order of the names. A copy shares all that is not changed after it.
 pub struct Table<V: Drop> {
     // A copy of n names costs a count for about n / 600 rooms of shelves.
@@ -62,6 +75,14 @@ impl<V: Drop> Table<V> {
             ≡ lookup (is_at (name_cmp name.now)) self.now }
     {
         self.rooms.get(name)
+    }
+
+    /// The same. It begins at the spot where the last look-up ended, and is short if that was of a name near this one.
+    pub fn get_near(&self, name: &Name, spot: &mut Spot) -> Option<&Arc<V>>
+        ensures { option_map (λ it. it.now.value) result
+            ≡ lookup (is_at (name_cmp name.now)) self.now }
+    {
+        self.rooms.get_near(name, &mut spot.at)
     }
 
     /// The name at an index, in the order of the names.

@@ -22,7 +22,7 @@ pub mod parse {
 
 /// Of `fb_library`, for the crates above.
 pub mod library {
-    pub use fb_flatten::library::{Change, Library, Version, View, near};
+    pub use fb_flatten::library::{Change, Library, Spot, Version, View, near};
 }
 
 /// Of `fb_iface`, for the crates above.

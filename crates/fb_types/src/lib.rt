@@ -52,8 +52,8 @@ pub mod parse {
 /// Of `fb_library`, for the crates above.
 pub mod library {
     pub use fb_iface::library::{
-        Change, Library, Version, View, far, names_of, near, open_new, part_mentions, tree_by_name,
-        value_mentions,
+        Change, Library, Spot, Version, View, far, names_of, near, open_new, part_mentions,
+        tree_by_name, value_mentions,
     };
 }
 
