@@ -186,9 +186,9 @@ impl Bench {
         let shared = entry.share_of(self.alloc, key)?;
         match &entry.value {
             None => Ok((Asked::Pending, Reply::Pending, shared)),
-            Some(value) => {
-                let answer = value.clone()?;
-                let stored = value.clone()?;
+            Some(kept) => {
+                let answer = kept.shared().clone()?;
+                let stored = kept.shared().clone()?;
                 Ok((Asked::Value(answer), Reply::Value(stored), shared))
             }
         }
@@ -251,7 +251,7 @@ impl Bench {
             None => Shown::NoSuchKey,
             Some(entry) => match &entry.value {
                 None => Shown::Pending,
-                Some(value) => Shown::Value(value),
+                Some(kept) => Shown::Value(kept.shared()),
             },
         }
     }

@@ -17,7 +17,7 @@ use crate::renewal::{
 };
 use fb_index::Index;
 use fb_index::library::{Change, Library};
-use fb_jobs::{Cache, Derivation, Key, Value, keys_by_name};
+use fb_jobs::{Cache, Derivation, Key, Kind, Value, keys_by_name};
 use fb_text::Name;
 use std::alloc::{AllocError, Global};
 use std::collections::{BTreeMap, BTreeSet};
@@ -283,7 +283,15 @@ impl Cache for Entries {
     ghost found = { λ it key. found_in (entry_at it key) };
 
     fn value(&self, key: &Key) -> Option<&Arc<Value>> {
-        self.by_key.get(key)?.value.as_ref()
+        Some(self.by_key.get(key)?.value.as_ref()?.shared())
+    }
+
+    fn has_faults(&self, unit: &Name) -> Option<bool> {
+        let key = Key {
+            kind: Kind::Faults,
+            unit: *unit,
+        };
+        self.by_key.get(&key)?.value.as_ref()?.has_faults()
     }
 
     fn found(&self, key: &Key) -> Option<&Arc<Value>> {

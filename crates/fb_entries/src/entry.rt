@@ -6,7 +6,7 @@ ghost use Rattle.std.specs.BTreeSet as set;
 ghost use Rattle.fb_jobs.specs.KeyOrder.{key_cmp};
 ghost use Rattle.fb_entries.specs.Marking.{blank, unless_kept, with_found, with_out, with_value, ChangesEntry, RenewsEntry, MarksKey, SameKeys};
 
-use fb_jobs::{Derivation, Key, Value};
+use fb_jobs::{Derivation, KeptValue, Key, Value};
 use std::alloc::{AllocError, Global};
 use std::collections::{BTreeMap, BTreeSet};
 use std::sync::Arc;
@@ -16,7 +16,7 @@ pub struct Entry {
     /// The key, to be shared with what is recorded of it.
     pub key: Arc<Key>,
     /// Its value, unless it is pending.
-    pub value: Option<Arc<Value>>,
+    pub value: Option<KeptValue>,
     /// Whether it is handed out.
     pub out: bool,
     /// The value of a pending key, if a job for another key computed it on the way.
@@ -82,7 +82,7 @@ pub(crate) fn keep(
     ensures { ChangesEntry key.now (with_value value derivation) (tree.get key_cmp entries.old) (tree.get key_cmp entries.new) }
 {
     if let Some(entry) = entries.get_mut(key) {
-        entry.value = Some(value);
+        entry.value = Some(KeptValue::new(value));
         entry.out = false;
         entry.found = None;
         entry.previous = Some(derivation);
@@ -90,7 +90,7 @@ pub(crate) fn keep(
 }
 
 /// What was found for an entry that has this value: nothing, if it has one.
-fn unless_kept(value: &Option<Arc<Value>>, found: Arc<Value>) -> Option<Arc<Value>>
+fn unless_kept(value: &Option<KeptValue>, found: Arc<Value>) -> Option<Arc<Value>>
     ensures { result ≡ unless_kept value.now found }
 {
     match value {

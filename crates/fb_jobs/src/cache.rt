@@ -1,10 +1,11 @@
 //! Values that are kept.
 ghost use Rattle.std.specs.Prelude.{◌≡◌, Option, option_map, option_copied};
-ghost use Rattle.fb_jobs.specs.{declared.key.Key.{Key}, Keys.{Finding}, Values.{finding_of}};
+ghost use Rattle.fb_jobs.specs.{declared.key.Key.{Key}, Cached.{faults_key, some_faults}, Keys.{Finding}, Values.{finding_of}};
 
 use crate::derivation::Derivation;
 use crate::key::Key;
 use crate::value::Value;
+use fb_text::Name;
 use std::sync::Arc;
 
 /// Values that are kept from before, by their keys.
@@ -17,6 +18,10 @@ pub trait Cache {
     fn value(&self, key: &Key) -> Option<&Arc<Value>>
         ensures { option_map (λ it. finding_of it.value) (option_copied result)
             ≡ kept self.now key.now };
+
+    /// Whether a unit has faults, if that is kept.
+    fn has_faults(&self, unit: &Name) -> Option<bool>
+        ensures { result ≡ some_faults (kept self.now (faults_key unit.now)) };
 
     /// The value of a pending key that a job for another key computed on its way.
     fn found(&self, key: &Key) -> Option<&Arc<Value>>

@@ -11,7 +11,7 @@ ghost use Rattle.fb_jobs.specs.{Reads.{Seen, reads_for}, Values.{all_seen, seen_
 
 use crate::cache::Cache;
 use crate::hints::{Hint, hints_among, net_key};
-use crate::key::{Key, Kind};
+use crate::key::Key;
 use crate::read::Read;
 use crate::value::Value;
 use fb_deploy::flatten::{Hints, KnownFaultless, Net};
@@ -154,23 +154,6 @@ pub(crate) fn own_net<K: Cache>(kept: &K, key: &Key) -> Result<Option<Arc<Value>
     }
 }
 
-/// Whether a unit has faults, if that is kept.
-fn has_kept_faults<K: Cache>(kept: &K, unit: &Name) -> Option<bool>
-    ensures { result ≡ some_faults (K.kept kept.now (faults_key unit.now)) }
-{
-    let key = Key {
-        kind: Kind::Faults,
-        unit: *unit,
-    };
-    match kept.value(&key) {
-        Some(value) => match &**value {
-            Value::Faults(found) => Some(!found.is_empty()),
-            Value::Net(_) | Value::Deploy(_) => None,
-        },
-        None => None,
-    }
-}
-
 /// Whether a unit that was read and is present has faults, if that is kept.
 fn has_faults<K: Cache>(kept: &K, read: &Read) -> Option<bool>
     ensures { result ≡ judged (K.kept kept.now) (seen_of read.now) }
@@ -178,7 +161,7 @@ fn has_faults<K: Cache>(kept: &K, read: &Read) -> Option<bool>
     if read.source.is_none() {
         return None;
     }
-    has_kept_faults(kept, &read.name)
+    kept.has_faults(&read.name)
 }
 
 /// Which of the units that were read are known to have faults, and which are known to have none.

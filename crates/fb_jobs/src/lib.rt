@@ -7,6 +7,7 @@ mod computed;
 mod derivation;
 mod hints;
 mod job;
+mod kept_value;
 mod key;
 mod kinds;
 mod laws;
@@ -23,6 +24,7 @@ pub use cache::Cache;
 pub use derivation::Derivation;
 pub use hints::Hint;
 pub use job::Job;
+pub use kept_value::KeptValue;
 pub use key::{Key, Kind};
 pub use kinds::{all_kinds, keys_by_name, keys_near_and_far};
 pub use laws::{
