@@ -148,7 +148,7 @@ fn copied<V: Drop>(alloc: Global, places: &[Placed<V>]) -> Result<Places<V>, All
     Ok(Places { places: copy })
 }
 
-/// The same, first looked for right behind another place.
+/// The same, first looked for right after another place.
 fn place_near<V>(places: &[Placed<V>], name: &Name, before: usize) -> Result<usize, usize>
     requires { IsStrictlySortedBy name_cmp (names_in places.now) }
     ensures found { IfOk result (IsAt (names_in places.now) name.now) }

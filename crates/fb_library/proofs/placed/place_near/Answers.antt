@@ -1,4 +1,4 @@
--- The place behind is of the name, or the name is looked for.
+-- The next place is of the name, or the name is looked for.
 use Rattle.std.proofs.Common.{◌≡◌, true, ◌∙◌, ap, sym, subst, arith}
 use Rattle.std.specs.Ordering.{is_eq}
 use Rattle.fb_parse.specs.Text.Order.{name_cmp}
