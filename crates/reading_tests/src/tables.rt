@@ -1,5 +1,5 @@
 //! Tables of values by name.
-use fb_library::{Table, names_of, open_new};
+use fb_library::{Spot, Table, names_of, open_new};
 use fb_text::Name;
 use std::alloc::Global;
 use std::collections::BTreeSet;
@@ -117,6 +117,44 @@ fn compare_order(rt: &impl Abort, alloc: Global, first: usize, step: usize) -> R
     compare_with_list(rt, alloc, &table, &every_second(alloc, 1)?)?;
     remove_from(alloc, &mut table, 1)?;
     compare_with_list(rt, alloc, &table, &[])
+}
+
+/// The value that a look-up from a spot on finds.
+fn value_near(table: &Table<usize>, name: &Name, spot: &mut Spot) -> Option<usize> {
+    match table.get_near(name, spot) {
+        Some(value) => Some(**value),
+        None => None,
+    }
+}
+
+/// Compares look-ups that begin where the last one ended with the others, of all names in steps of this size and round.
+fn compare_near(
+    rt: &impl Abort,
+    alloc: Global,
+    table: &Table<usize>,
+    step: usize,
+) -> Result<(), Fail> {
+    let mut spot = Spot::first();
+    let mut number: usize = 0;
+    for _ in 0..MANY {
+        let name = name(alloc, number)?;
+        assert_eq!(rt;
+            value_near(table, &name, &mut spot),
+            value(table, &name),
+            "a value"
+        );
+        number = number.wrapping_add(step) % MANY;
+    }
+    Ok(())
+}
+
+#[test]
+fn a_look_up_may_begin_anywhere(rt: HostRuntime) -> Result<(), Fail> {
+    let mut table = by_sevens(rt.alloc())?;
+    remove_from(rt.alloc(), &mut table, 0)?;
+    compare_near(&rt, rt.alloc(), &table, 1)?;
+    compare_near(&rt, rt.alloc(), &table, 7)?;
+    compare_near(&rt, rt.alloc(), &table, MANY - 1)
 }
 
 #[test]
