@@ -45,6 +45,7 @@ use Rattle.fb_locked.specs.History.contracts.record.Reply as Reply
 use Rattle.fb_locked.specs.History.contracts.record.Record as Record
 use Rattle.fb_locked.specs.contracts.seat.Receipt as Receipt
 use Rattle.fb_locked.specs.contracts.seat.Seat as Seat
+use Rattle.fb_locked.specs.Library.contracts.filed.Filed as Filed
 use Rattle.fb_locked.specs.Library.contracts.library.Library as Library
 use Rattle.fb_locked.specs.Index.contracts.name_set.NameSet as NameSet
 use Rattle.fb_locked.specs.Index.contracts.users.Users as Users
@@ -298,8 +299,14 @@ seat_field_send = search (crosses, maps.crosses, sendable) depth 60 fits 20000
 pub seat_send : IsSend Seat.the_row
 seat_send = search (seat_field_send, crosses, maps.crosses, sendable) depth 60 fits 20000
 
+pub filed_field_send : IsSend (Filed.the_field).row
+filed_field_send = search (source_field_send, source_field_sync, crosses, maps.crosses, sendable) depth 60 fits 20000
+
+pub filed_field_sync : IsSync (Filed.the_field).row
+filed_field_sync = search (source_field_send, source_field_sync, crosses, maps.crosses, sendable) depth 60 fits 20000
+
 pub library_field_send : IsSend (Library.the_field).row
-library_field_send = search (source_field_send, source_field_sync, crosses, maps.crosses, sendable) depth 60 fits 20000
+library_field_send = search (filed_field_send, filed_field_sync, crosses, maps.crosses, sendable) depth 60 fits 20000
 
 pub name_set_field_send : IsSend (NameSet.the_field).row
 name_set_field_send = search (crosses, maps.crosses, sendable) depth 60 fits 20000
