@@ -75,22 +75,22 @@ standing_type view o = grind arith
 -- no links more
 pub adds_none : (draft : Draft) → AddsLinks draft draft []
 adds_none draft =
-    record { grows = grows_none draft.prefixes.items; same_blocks = refl; links = λ links p. rw (append-nil links) p }
+    record { grows = grows_none draft.prefixes; same_blocks = refl; links = λ links p. rw (append-nil links) p }
 
 -- first some links, and then others
 pub adds_both : (start mid new : Draft) (xs ys : List Link) → AddsLinks start mid xs → AddsLinks mid new ys → AddsLinks start new (xs ++ ys)
 adds_both start mid new xs ys p q =
     record {
-      grows = grows_twice start.prefixes.items mid.prefixes.items new.prefixes.items p.grows q.grows;
+      grows = grows_twice start.prefixes mid.prefixes new.prefixes p.grows q.grows;
       same_blocks = q.same_blocks ∙ p.same_blocks;
       links = λ links r. rw (append_assoc links xs ys) at (q.links (links ++ xs) (p.links links r));
     }
 
 -- the links of pairs of places
-pub adds_pairs : (old new : Draft) (sort : Sort) (froms tos : List Place) → All (IsPlaceBelow (length old.prefixes.items)) froms → All (IsPlaceBelow (length old.prefixes.items)) tos → new.prefixes.items ≡ old.prefixes.items → new.leaves.items ≡ old.leaves.items → new.joins.items ≡ old.joins.items ++ join_pairs sort froms tos → AddsLinks old new (link_pairs sort (map (path_at old.prefixes.items) froms) (map (path_at old.prefixes.items) tos))
+pub adds_pairs : (old new : Draft) (sort : Sort) (froms tos : List Place) → All (IsPlaceBelow (length old.prefixes)) froms → All (IsPlaceBelow (length old.prefixes)) tos → new.prefixes ≡ old.prefixes → new.leaves.items ≡ old.leaves.items → new.joins.items ≡ old.joins.items ++ join_pairs sort froms tos → AddsLinks old new (link_pairs sort (map (path_at old.prefixes) froms) (map (path_at old.prefixes) tos))
 adds_pairs old new sort froms tos below reach prefixes_stay leaves_stay is =
-    let prefixes = old.prefixes.items in
-    let grows : Grows prefixes new.prefixes.items = ([], prefixes_stay ∙ sym (append-nil prefixes)) in
+    let prefixes = old.prefixes in
+    let grows : Grows prefixes new.prefixes = ([], prefixes_stay ∙ sym (append-nil prefixes)) in
     let pairs = pairs_read prefixes sort froms tos (map (path_at prefixes) froms) (map (path_at prefixes) tos) (record { in_range = below; is = refl }) (record { in_range = reach; is = refl }) in
     record {
       grows = grows;
@@ -99,14 +99,14 @@ adds_pairs old new sort froms tos below reach prefixes_stay leaves_stay is =
     }
 
 -- the links of an adapter's ports
-pub adds_members : (old new : Draft) (between : List PlainPrefix) (names : List (List ℕ)) (ports : List Port) (plugs sockets : List Place) (ns ms : List ℕ) → All (IsPlaceBelow (length old.prefixes.items)) sockets → names ≡ map (λ (port : Port). port.name) ports → Grows old.prefixes.items between → AreMembers between names ns (map (path_at old.prefixes.items) plugs) → Grows between new.prefixes.items → AreMembers new.prefixes.items names ms (map (path_at between) sockets) → new.leaves.items ≡ old.leaves.items → new.joins.items ≡ old.joins.items ++ adapter_joins ports ns ms → AddsLinks old new (adapter_links ports (map (path_at old.prefixes.items) plugs) (map (path_at old.prefixes.items) sockets))
+pub adds_members : (old new : Draft) (between : List PlainPrefix) (names : List (List ℕ)) (ports : List Port) (plugs sockets : List Place) (ns ms : List ℕ) → All (IsPlaceBelow (length old.prefixes)) sockets → names ≡ map (λ (port : Port). port.name) ports → Grows old.prefixes between → AreMembers between names ns (map (path_at old.prefixes) plugs) → Grows between new.prefixes → AreMembers new.prefixes names ms (map (path_at between) sockets) → new.leaves.items ≡ old.leaves.items → new.joins.items ≡ old.joins.items ++ adapter_joins ports ns ms → AddsLinks old new (adapter_links ports (map (path_at old.prefixes) plugs) (map (path_at old.prefixes) sockets))
 adds_members old new between names ports plugs sockets ns ms reach named g p h q leaves_stay is =
-    let prefixes = old.prefixes.items in
+    let prefixes = old.prefixes in
     let stay : ArePlaces between sockets (map (path_at prefixes) sockets) = places_grown g (record { in_range = reach; is = refl }) in
-    let grows = grows_twice prefixes between new.prefixes.items g h in
-    let plugged = members_grown between new.prefixes.items names ns (map (path_at prefixes) plugs) h p in
-    let socketed = subst (λ (ts : List (List ℕ)). AreMembers new.prefixes.items names ms ts) stay.is q in
-    let members = adapter_reads new.prefixes.items names ports named ns (map (path_at prefixes) plugs) ms (map (path_at prefixes) sockets) plugged socketed in
+    let grows = grows_twice prefixes between new.prefixes g h in
+    let plugged = members_grown between new.prefixes names ns (map (path_at prefixes) plugs) h p in
+    let socketed = subst (λ (ts : List (List ℕ)). AreMembers new.prefixes names ms ts) stay.is q in
+    let members = adapter_reads new.prefixes names ports named ns (map (path_at prefixes) plugs) ms (map (path_at prefixes) sockets) plugged socketed in
     record {
       grows = grows;
       same_blocks = leaves_stay;
@@ -114,10 +114,10 @@ adds_members old new between names ports plugs sockets ns ms reach named g p h q
     }
 
 -- the links of one connection, by the places behind its ends
-pub adds_connection : (view : View) (network : PlainNetwork) (table : List ℕ → Option Standing) (old new : Draft) (c : Connection) (source destination : Place) (froms tos : List Place) → Says old.prefixes.items source (end_text c.source) → Says old.prefixes.items destination (end_text c.destination) → froms ≡ places_behind table c.sort source c.source → tos ≡ places_behind table c.sort destination c.destination → AddsLinks old new (links_of_sort c.sort (adapter_at view network (place_of c.source)) (map (path_at old.prefixes.items) froms) (map (path_at old.prefixes.items) tos)) → AddsConnections view network table old new (c ∷ [])
+pub adds_connection : (view : View) (network : PlainNetwork) (table : List ℕ → Option Standing) (old new : Draft) (c : Connection) (source destination : Place) (froms tos : List Place) → Says old.prefixes source (end_text c.source) → Says old.prefixes destination (end_text c.destination) → froms ≡ places_behind table c.sort source c.source → tos ≡ places_behind table c.sort destination c.destination → AddsLinks old new (links_of_sort c.sort (adapter_at view network (place_of c.source)) (map (path_at old.prefixes) froms) (map (path_at old.prefixes) tos)) → AddsConnections view network table old new (c ∷ [])
 adds_connection view network table old new c source destination froms tos from_says to_says froms_are tos_are adds nets is =
-    let before = (behind_reads old.prefixes.items nets table network.instances c.sort source c.source is from_says).is in
-    let after = (behind_reads old.prefixes.items nets table network.instances c.sort destination c.destination is to_says).is in
+    let before = (behind_reads old.prefixes nets table network.instances c.sort source c.source is from_says).is in
+    let after = (behind_reads old.prefixes nets table network.instances c.sort destination c.destination is to_says).is in
     rw (append-nil (connection_links view network (instance_named network.instances) nets c)) (rw (froms_are, before, tos_are, after) at adds)
 
 -- places behind an end are in range
@@ -129,7 +129,7 @@ pub connects_more : (view : View) (network : PlainNetwork) (table : List ℕ →
 connects_more view network table start mid new ys k c same lt e p q nets is =
     let f = connection_links view network (instance_named network.instances) nets in
     let first = p nets is in
-    let then = q nets (table_grown start.prefixes.items mid.prefixes.items nets table network.instances first.grows is) in
+    let then = q nets (table_grown start.prefixes mid.prefixes nets table network.instances first.grows is) in
     rw (← next_taken ys k c lt e, flat_map-append f (take k ys) (c ∷ [])) (adds_both start mid new (flat_map f (take k ys)) (flat_map f (c ∷ [])) first then)
 
 -- the borders of one connection more

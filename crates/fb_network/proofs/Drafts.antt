@@ -14,18 +14,18 @@ added {below = below} {at = at} {prefixes = prefixes} {es = es} {fs = fs} {xs = 
     rw (is, ← same) (reading_both below at prefixes es fs xs ys p q)
 
 pub taken_in : (old new : Draft) (name : List ℕ) (inner : PlainFlat) (edges : List Edge) (by : ℕ) (prefixes : List PlainPrefix) (leaves : List Leaf) (joins : List Join) (own : List Edge)
-    → by ≡ length old.prefixes.items → new.prefixes.items ≡ old.prefixes.items ++ map (prefix_within name) prefixes
+    → by ≡ length old.prefixes → new.prefixes ≡ old.prefixes ++ map (prefix_within name) prefixes
     → new.leaves.items ≡ old.leaves.items ++ map (leaf_moved by) leaves → new.joins.items ≡ old.joins.items ++ map (join_moved by) joins → edges ≡ map (edge_moved by) own
     → IsLaid (length prefixes) leaves joins own → flat_at prefixes leaves joins own ≡ inner → TakesIn old new name inner edges
 taken_in old new name inner edges by prefixes leaves joins own count prefixes_are leaves_are joins_are edges_are laid is =
-    let grows : Grows old.prefixes.items new.prefixes.items = (map (prefix_within name) prefixes, prefixes_are) in
+    let grows : Grows old.prefixes new.prefixes = (map (prefix_within name) prefixes, prefixes_are) in
     record {
       grows = grows;
       blocks = λ blocks p. added new.leaves.items (map (block_within name) inner.blocks) leaves_are (ap (λ (net : PlainFlat). map (block_within name) net.blocks) is) (leaves_grown grows p)
-          (leaves_moved old.prefixes.items prefixes new.prefixes.items name by leaves count prefixes_are laid.leaves_below);
+          (leaves_moved old.prefixes prefixes new.prefixes name by leaves count prefixes_are laid.leaves_below);
       links = λ links p. added new.joins.items (map (link_within name) inner.links) joins_are (ap (λ (net : PlainFlat). map (link_within name) net.links) is) (joins_grown grows p)
-          (joins_moved old.prefixes.items prefixes new.prefixes.items name by joins count prefixes_are laid.joins_below);
-      borders = rw (edges_are, ← is) (edges_moved old.prefixes.items prefixes new.prefixes.items name by own count prefixes_are laid.edges_below);
+          (joins_moved old.prefixes prefixes new.prefixes name by joins count prefixes_are laid.joins_below);
+      borders = rw (edges_are, ← is) (edges_moved old.prefixes prefixes new.prefixes name by own count prefixes_are laid.edges_below);
     }
 
 -- what is left in order says what the entries say

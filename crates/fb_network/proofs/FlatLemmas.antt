@@ -33,26 +33,26 @@ flat_of {view = view} {network = network} {nets = nets} instances blocks made li
 
 -- what the draft and the borders say is what is composed
 pub record HoldsAll (part : View) (network : PlainNetwork) (nets : Nets) (draft : Draft) (edges : List Edge) : Type 0 where
-  pub blocks : AreLeaves draft.prefixes.items draft.leaves.items (composed_blocks network nets)
-  pub links : AreJoins draft.prefixes.items draft.joins.items (composed_links part network (instance_named network.instances) nets)
-  pub borders : AreEdges draft.prefixes.items edges (composed_borders network (instance_named network.instances) nets)
+  pub blocks : AreLeaves draft.prefixes draft.leaves.items (composed_blocks network nets)
+  pub links : AreJoins draft.prefixes draft.joins.items (composed_links part network (instance_named network.instances) nets)
+  pub borders : AreEdges draft.prefixes edges (composed_borders network (instance_named network.instances) nets)
 
-pub holds_all : (part : View) (network : PlainNetwork) (nets : Nets) (table : List ℕ → Option Standing) (start held draft : Draft) (edges : List Edge) → HasOwn start.prefixes.items network → HoldsInstances nets start held table network.instances → AddsConnections part network table held draft network.connections → AreEdgesOf network table edges network.connections → HoldsAll part network nets draft edges
+pub holds_all : (part : View) (network : PlainNetwork) (nets : Nets) (table : List ℕ → Option Standing) (start held draft : Draft) (edges : List Edge) → HasOwn start.prefixes network → HoldsInstances nets start held table network.instances → AddsConnections part network table held draft network.connections → AreEdgesOf network table edges network.connections → HoldsAll part network nets draft edges
 holds_all part network nets table start held draft edges own h adds are =
     let more = adds nets h.standing in
-    let own_there = own_grown start.prefixes.items draft.prefixes.items network (grows_twice start.prefixes.items held.prefixes.items draft.prefixes.items h.grows more.grows) own in
-    let stands = table_grown held.prefixes.items draft.prefixes.items nets table network.instances more.grows h.standing in
+    let own_there = own_grown start.prefixes draft.prefixes network (grows_twice start.prefixes held.prefixes draft.prefixes h.grows more.grows) own in
+    let stands = table_grown held.prefixes draft.prefixes nets table network.instances more.grows h.standing in
     record {
       blocks = rw more.same_blocks (leaves_grown more.grows h.blocks);
       links = more.links (flat_map (inner_links nets) network.instances) h.links;
-      borders = are draft.prefixes.items nets stands own_there;
+      borders = are draft.prefixes nets stands own_there;
     }
 
-pub laid_of : {part : View} {network : PlainNetwork} {nets : Nets} {draft : Draft} {edges : List Edge} → HoldsAll part network nets draft edges → IsLaid (length draft.prefixes.items) draft.leaves.items draft.joins.items edges
+pub laid_of : {part : View} {network : PlainNetwork} {nets : Nets} {draft : Draft} {edges : List Edge} → HoldsAll part network nets draft edges → IsLaid (length draft.prefixes) draft.leaves.items draft.joins.items edges
 laid_of h = record { leaves_below = h.blocks.in_range; joins_below = h.links.in_range; edges_below = h.borders.in_range }
 
 pub flat_in_whole : {part : View} {network : PlainNetwork} {nets : Nets} {draft : Draft} {edges : List Edge} (flat : PlainFlat) → HoldsAll part network nets draft edges → IsFinish draft edges flat → IsFlatInWhole part network nets flat
 flat_in_whole {network = network} {nets = nets} {draft = draft} {edges = edges} flat h f whole same clean ready =
-    flat_of (instance_named network.instances) flat.blocks (map (link_at draft.prefixes.items) draft.joins.items) flat.links (map (border_at draft.prefixes.items) edges) flat.borders
+    flat_of (instance_named network.instances) flat.blocks (map (link_at draft.prefixes) draft.joins.items) flat.links (map (border_at draft.prefixes) edges) flat.borders
     clean ready refl (f.blocks ∙ h.blocks.is) (h.links.is ∙ same_links network (instance_named network.instances) nets same) h.borders.is
     (record { kept = f.links.kept; added = f.links.added }) (record { kept = f.borders.kept; added = f.borders.added }) f.links.sorted f.borders.sorted

@@ -13,6 +13,7 @@ pub mod SystemLemmas
 pub mod Texts
 pub mod Tellings
 pub mod Readings
+pub mod Starts
 pub mod SortedOnce
 pub mod Drafts
 pub mod Standings

@@ -30,31 +30,31 @@ pub grows_twice : (a b c : List PlainPrefix) → Grows a b → Grows b c → Gro
 grows_twice a b c g h = (g.0 ++ h.0, h.1 ∙ ap (λ (fs : List PlainPrefix). fs ++ h.0) g.1 ∙ append_assoc a g.0 h.0)
 
 -- a block is taken in
-pub takes_block : {nets : Nets} (old new : Draft) (i : Instance) (edges : List Edge) (place : Place) → i.kind ≡ Block → Says old.prefixes.items place i.name → new.prefixes.items ≡ old.prefixes.items → new.joins.items ≡ old.joins.items → new.leaves.items ≡ old.leaves.items ++ record { place = place; type_name = i.type_name } ∷ [] → edges ≡ [] → TakesInstance nets old new i edges
+pub takes_block : {nets : Nets} (old new : Draft) (i : Instance) (edges : List Edge) (place : Place) → i.kind ≡ Block → Says old.prefixes place i.name → new.prefixes ≡ old.prefixes → new.joins.items ≡ old.joins.items → new.leaves.items ≡ old.leaves.items ++ record { place = place; type_name = i.type_name } ∷ [] → edges ≡ [] → TakesInstance nets old new i edges
 takes_block {nets = nets} old new i edges place kind says prefixes_stay joins_stay leaves_are none =
-    let grows : Grows old.prefixes.items new.prefixes.items = ([], prefixes_stay ∙ sym (append-nil old.prefixes.items)) in
+    let grows : Grows old.prefixes new.prefixes = ([], prefixes_stay ∙ sym (append-nil old.prefixes)) in
     let there = says_grown grows says in
     let leaf : Leaf = record { place = place; type_name = i.type_name } in
     let block : FlatBlock = record { path = i.name; type_name = i.type_name } in
-    let one : AreLeaves new.prefixes.items (leaf ∷ []) (block ∷ []) = record {
-      in_range = All-cons (IsLeafBelow (length new.prefixes.items)) leaf [] there.in_range (All-nil (IsLeafBelow (length new.prefixes.items)));
+    let one : AreLeaves new.prefixes (leaf ∷ []) (block ∷ []) = record {
+      in_range = All-cons (IsLeafBelow (length new.prefixes)) leaf [] there.in_range (All-nil (IsLeafBelow (length new.prefixes)));
       is = λ j. record { path = there.is j; type_name = i.type_name } ∷ [];
     } in
     record {
       grows = grows;
       blocks = λ blocks p. rw kind (added new.leaves.items (block ∷ []) leaves_are refl (leaves_grown grows p) one);
       links = λ links p. rw (kind, append-nil links, joins_stay) (joins_grown grows p);
-      borders = rw (kind, none) (reading_nothing IsEdgeBelow border_at new.prefixes.items);
+      borders = rw (kind, none) (reading_nothing IsEdgeBelow border_at new.prefixes);
     }
 
 -- a subapplication instance without a net holds nothing
 pub takes_unknown : {nets : Nets} (draft : Draft) (i : Instance) (edges : List Edge) → i.kind ≡ Subapplication → nets i.type_name ≡ None → edges ≡ [] → TakesInstance nets draft draft i edges
 takes_unknown {nets = nets} draft i edges kind missing none =
     record {
-      grows = grows_none draft.prefixes.items;
+      grows = grows_none draft.prefixes;
       blocks = λ blocks p. rw (kind, missing, append-nil blocks) p;
       links = λ links p. rw (kind, missing, append-nil links) p;
-      borders = rw (kind, missing, none) (reading_nothing IsEdgeBelow border_at draft.prefixes.items);
+      borders = rw (kind, missing, none) (reading_nothing IsEdgeBelow border_at draft.prefixes);
     }
 
 -- what a subapplication instance holds is taken in
@@ -71,9 +71,9 @@ takes_inner {nets = nets} old new i inner edges kind found t =
 pub holds_nothing : {nets : Nets} (draft : Draft) (table : List ℕ → Option Standing) → draft.leaves.items ≡ [] → draft.joins.items ≡ [] → ((q : List ℕ) → table q ≡ None) → HoldsInstances nets draft draft table []
 holds_nothing {nets = nets} draft table no_blocks no_links none =
     record {
-      grows = grows_none draft.prefixes.items;
-      blocks = rw no_blocks (reading_nothing IsLeafBelow block_at draft.prefixes.items);
-      links = rw no_links (reading_nothing IsJoinBelow link_at draft.prefixes.items);
+      grows = grows_none draft.prefixes;
+      blocks = rw no_blocks (reading_nothing IsLeafBelow block_at draft.prefixes);
+      links = rw no_links (reading_nothing IsJoinBelow link_at draft.prefixes);
       standing = λ name. rw (none name) tt;
     }
 
@@ -98,13 +98,13 @@ flat_map_push f xs x = flat_map-append f xs (x ∷ []) ∙ ap (λ (bs : List _).
 pub holds_more : {nets : Nets} (start draft new : Draft) (table after : List ℕ → Option Standing) (xs : List Instance) (i : Instance) (s : Standing) → HoldsInstances nets start draft table xs → TakesInstance nets draft new i s.borders.items → s.instance ≡ i → ((q : List ℕ) → after q ≡ or_alone s q (table q)) → HoldsInstances nets start new after (xs ++ i ∷ [])
 holds_more {nets = nets} start draft new table after xs i s h t same puts =
     record {
-      grows = grows_twice start.prefixes.items draft.prefixes.items new.prefixes.items h.grows t.grows;
-      blocks = subst (λ (bs : List FlatBlock). AreLeaves new.prefixes.items new.leaves.items bs) (sym (flat_map_push (inner_blocks nets) xs i)) (t.blocks _ h.blocks);
-      links = subst (λ (ls : List Link). AreJoins new.prefixes.items new.joins.items ls) (sym (flat_map_push (inner_links nets) xs i)) (t.links _ h.links);
+      grows = grows_twice start.prefixes draft.prefixes new.prefixes h.grows t.grows;
+      blocks = subst (λ (bs : List FlatBlock). AreLeaves new.prefixes new.leaves.items bs) (sym (flat_map_push (inner_blocks nets) xs i)) (t.blocks _ h.blocks);
+      links = subst (λ (ls : List Link). AreJoins new.prefixes new.joins.items ls) (sym (flat_map_push (inner_links nets) xs i)) (t.links _ h.links);
       standing = λ q.
-          subst (λ (o : Option Instance). StandsFor new.prefixes.items nets (after q) o) (sym (named_push xs i q))
-          (subst (λ (o : Option Standing). StandsFor new.prefixes.items nets o (or_instance i q (instance_named xs q))) (sym (puts q))
-          (stands_more nets draft.prefixes.items new.prefixes.items s i q t.grows same t.borders (table q) (instance_named xs q) (h.standing q)));
+          subst (λ (o : Option Instance). StandsFor new.prefixes nets (after q) o) (sym (named_push xs i q))
+          (subst (λ (o : Option Standing). StandsFor new.prefixes nets o (or_instance i q (instance_named xs q))) (sym (puts q))
+          (stands_more nets draft.prefixes new.prefixes s i q t.grows same t.borders (table q) (instance_named xs q) (h.standing q)));
     }
 
 -- what has been passed, and the next

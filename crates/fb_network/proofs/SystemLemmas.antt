@@ -27,14 +27,14 @@ system_links_are applications made links is kept added link = (
 
 -- the draft has what the applications hold
 pub record HoldsApplications (draft : Draft) (applications : List FlatApplication) : Type 0 where
-  pub blocks : AreLeaves draft.prefixes.items draft.leaves.items (flat_map application_blocks applications)
-  pub links : AreJoins draft.prefixes.items draft.joins.items (flat_map application_links applications)
+  pub blocks : AreLeaves draft.prefixes draft.leaves.items (flat_map application_blocks applications)
+  pub links : AreJoins draft.prefixes draft.joins.items (flat_map application_links applications)
 
 pub applications_none : (draft : Draft) → draft.leaves.items ≡ [] → draft.joins.items ≡ [] → HoldsApplications draft []
 applications_none draft no_leaves no_joins =
     record {
-      blocks = rw no_leaves (reading_nothing IsLeafBelow block_at draft.prefixes.items);
-      links = rw no_joins (reading_nothing IsJoinBelow link_at draft.prefixes.items);
+      blocks = rw no_leaves (reading_nothing IsLeafBelow block_at draft.prefixes);
+      links = rw no_joins (reading_nothing IsJoinBelow link_at draft.prefixes);
     }
 
 -- one application more has been taken in
@@ -45,9 +45,9 @@ applications_more old new xs k a edges lt e h t =
       links = rw (← next_taken xs k a lt e, flat_map_push application_links (take k xs) a) (t.links _ h.links);
     }
 
-pub applications_laid : (draft : Draft) (applications : List FlatApplication) (edges : List Edge) → HoldsApplications draft applications → edges ≡ [] → IsLaid (length draft.prefixes.items) draft.leaves.items draft.joins.items edges
+pub applications_laid : (draft : Draft) (applications : List FlatApplication) (edges : List Edge) → HoldsApplications draft applications → edges ≡ [] → IsLaid (length draft.prefixes) draft.leaves.items draft.joins.items edges
 applications_laid draft applications edges h none =
-    record { leaves_below = h.blocks.in_range; joins_below = h.links.in_range; edges_below = rw none (All-nil (IsEdgeBelow (length draft.prefixes.items))) }
+    record { leaves_below = h.blocks.in_range; joins_below = h.links.in_range; edges_below = rw none (All-nil (IsEdgeBelow (length draft.prefixes))) }
 
 without_members : {X : Type 0} (xs : List X) → ((x : X) → Contains xs x → Contains [] x) → xs ≡ []
 without_members [] none = refl
@@ -58,7 +58,7 @@ pub system_is : (draft : Draft) (applications : List FlatApplication) (edges : L
 system_is draft applications edges flat h none f =
     record {
       blocks = f.blocks ∙ h.blocks.is;
-      links = system_links_are applications (map (link_at draft.prefixes.items) draft.joins.items) flat.links h.links.is f.links.kept f.links.added;
+      links = system_links_are applications (map (link_at draft.prefixes) draft.joins.items) flat.links h.links.is f.links.kept f.links.added;
       links_sorted = f.links.sorted;
       borders = without_members flat.borders (λ b c. rw none at (f.borders.added b c));
     }

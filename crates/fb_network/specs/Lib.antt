@@ -18,6 +18,7 @@ pub mod Ready
 pub mod Part
 pub mod SystemFlat
 pub mod PlainPrefix
+pub mod Starts
 pub mod Laid
 pub mod Numbered
 pub mod Reading

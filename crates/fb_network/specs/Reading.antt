@@ -36,14 +36,14 @@ border_within name b = record { sort = b.sort; port = b.port; place = dotted nam
 
 -- the draft also has what the instance of that name holds; these are the instance's borders
 pub record TakesIn (old new : Draft) (name : List ℕ) (inner : PlainFlat) (edges : List Edge) : Type 0 where
-  pub grows : Grows old.prefixes.items new.prefixes.items
+  pub grows : Grows old.prefixes new.prefixes
   pub blocks :
-      (blocks : List FlatBlock) → AreLeaves old.prefixes.items old.leaves.items blocks
-      → AreLeaves new.prefixes.items new.leaves.items (blocks ++ blocks_of name (Some inner))
+      (blocks : List FlatBlock) → AreLeaves old.prefixes old.leaves.items blocks
+      → AreLeaves new.prefixes new.leaves.items (blocks ++ blocks_of name (Some inner))
   pub links :
-      (links : List Link) → AreJoins old.prefixes.items old.joins.items links
-      → AreJoins new.prefixes.items new.joins.items (links ++ links_of name (Some inner))
-  pub borders : AreEdges new.prefixes.items edges (map (border_within name) inner.borders)
+      (links : List Link) → AreJoins old.prefixes old.joins.items links
+      → AreJoins new.prefixes new.joins.items (links ++ links_of name (Some inner))
+  pub borders : AreEdges new.prefixes edges (map (border_within name) inner.borders)
 
 -- the ordered list has the same members as the other one
 pub record IsInOrder {X : Type 0} (cmp : X → X → Ordering) (made ordered : List X) : Type 0 where
@@ -53,6 +53,6 @@ pub record IsInOrder {X : Type 0} (cmp : X → X → Ordering) (made ordered : L
 
 -- the flat network has what the draft and the borders mean, links and borders in order
 pub record IsFinish (draft : Draft) (edges : List Edge) (flat : PlainFlat) : Type 0 where
-  pub blocks : flat.blocks ≡ map (block_at draft.prefixes.items) draft.leaves.items
-  pub links : IsInOrder link_cmp (map (link_at draft.prefixes.items) draft.joins.items) flat.links
-  pub borders : IsInOrder border_cmp (map (border_at draft.prefixes.items) edges) flat.borders
+  pub blocks : flat.blocks ≡ map (block_at draft.prefixes) draft.leaves.items
+  pub links : IsInOrder link_cmp (map (link_at draft.prefixes) draft.joins.items) flat.links
+  pub borders : IsInOrder border_cmp (map (border_at draft.prefixes) edges) flat.borders

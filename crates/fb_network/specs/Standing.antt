@@ -47,14 +47,14 @@ inner_borders nets i = inner_borders_of_kind i.kind nets i.name i.type_name
 
 -- the draft also has what the instance holds; these are the instance's borders
 pub record TakesInstance (nets : Nets) (old new : Draft) (i : Instance) (edges : List Edge) : Type 0 where
-  pub grows : Grows old.prefixes.items new.prefixes.items
+  pub grows : Grows old.prefixes new.prefixes
   pub blocks :
-      (blocks : List FlatBlock) → AreLeaves old.prefixes.items old.leaves.items blocks
-      → AreLeaves new.prefixes.items new.leaves.items (blocks ++ inner_blocks nets i)
+      (blocks : List FlatBlock) → AreLeaves old.prefixes old.leaves.items blocks
+      → AreLeaves new.prefixes new.leaves.items (blocks ++ inner_blocks nets i)
   pub links :
-      (links : List Link) → AreJoins old.prefixes.items old.joins.items links
-      → AreJoins new.prefixes.items new.joins.items (links ++ inner_links nets i)
-  pub borders : AreEdges new.prefixes.items edges (inner_borders nets i)
+      (links : List Link) → AreJoins old.prefixes old.joins.items links
+      → AreJoins new.prefixes new.joins.items (links ++ inner_links nets i)
+  pub borders : AreEdges new.prefixes edges (inner_borders nets i)
 
 -- the table has the instance with its borders
 abbrev pub StandsFor : List PlainPrefix → Nets → Option Standing → Option Instance → Type 0
@@ -78,10 +78,10 @@ or_instance i name (Some x) = Some x
 
 -- the draft and the table have these instances
 pub record HoldsInstances (nets : Nets) (old new : Draft) (table : List ℕ → Option Standing) (instances : List Instance) : Type 0 where
-  pub grows : Grows old.prefixes.items new.prefixes.items
-  pub blocks : AreLeaves new.prefixes.items new.leaves.items (flat_map (inner_blocks nets) instances)
-  pub links : AreJoins new.prefixes.items new.joins.items (flat_map (inner_links nets) instances)
-  pub standing : IsTable new.prefixes.items nets table instances
+  pub grows : Grows old.prefixes new.prefixes
+  pub blocks : AreLeaves new.prefixes new.leaves.items (flat_map (inner_blocks nets) instances)
+  pub links : AreJoins new.prefixes new.joins.items (flat_map (inner_links nets) instances)
+  pub standing : IsTable new.prefixes nets table instances
 
 -- the table has the first instance of each name, without its borders
 abbrev pub HasInstances : (List ℕ → Option Standing) → List Instance → Type 0
@@ -93,16 +93,16 @@ HasOwn prefixes network = slice_get prefixes 0 ≡ Some (record { start = []; en
 
 -- the draft has these further links, and no other blocks
 pub record AddsLinks (old new : Draft) (more : List Link) : Type 0 where
-  pub grows : Grows old.prefixes.items new.prefixes.items
+  pub grows : Grows old.prefixes new.prefixes
   pub same_blocks : new.leaves.items ≡ old.leaves.items
   pub links :
-      (links : List Link) → AreJoins old.prefixes.items old.joins.items links
-      → AreJoins new.prefixes.items new.joins.items (links ++ more)
+      (links : List Link) → AreJoins old.prefixes old.joins.items links
+      → AreJoins new.prefixes new.joins.items (links ++ more)
 
 -- if the table is that of the network's instances, the draft has the further links of connections
 abbrev pub AddsConnections : View → PlainNetwork → (List ℕ → Option Standing) → Draft → Draft → List Connection → Type 0
 AddsConnections view network table old new connections =
-    (nets : Nets) → IsTable old.prefixes.items nets table network.instances
+    (nets : Nets) → IsTable old.prefixes nets table network.instances
     → AddsLinks old new (flat_map (connection_links view network (instance_named network.instances) nets) connections)
 
 -- if the table is that of the network's instances, the entries are the borders of connections

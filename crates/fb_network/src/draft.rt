@@ -1,12 +1,11 @@
 //! Flat networks that are being composed.
-ghost use Rattle.std.specs.Prelude.{◌≡◌, [], ◌++◌, IfOk, OnOk, length, map};
-ghost use Rattle.fb_network.specs.{Laid.{prefix_within, IsLaid}, Reading.{IsFinish, TakesIn}};
+ghost use Rattle.std.specs.Prelude.{◌≡◌, [], IfOk, length};
+ghost use Rattle.fb_network.specs.{Laid.{IsLaid}, Reading.{IsFinish, TakesIn}};
 
 use crate::entries::{Edge, Join, Leaf, edges_moved, push_joins_moved, push_leaves_moved};
 use crate::flat::{Flat, Tables};
 use crate::order::{sort_edges, sort_joins};
-use crate::place::number;
-use crate::prefix::Prefix;
+use crate::prefixes::Prefixes;
 use fb_tree::text::Name;
 use std::alloc::{AllocError, Global};
 use std::sync::Arc;
@@ -14,7 +13,7 @@ use std::sync::Arc;
 /// The prefixes, the blocks and the links that a flat network has so far.
 #[derive(Debug, Drop)]
 pub struct Draft {
-    pub prefixes: Vec<Prefix>,
+    pub prefixes: Prefixes,
     pub leaves: Vec<Leaf>,
     pub joins: Vec<Join>,
 }
@@ -22,40 +21,16 @@ pub struct Draft {
 impl Draft {
     /// A draft without blocks and links.
     pub fn new(alloc: Global) -> Draft
-        ensures prefixes { result.prefixes.items ≡ [] }
+        ensures prefixes { result.prefixes ≡ [] }
         ensures leaves { result.leaves.items ≡ [] }
         ensures joins { result.joins.items ≡ [] }
     {
         Draft {
-            prefixes: Vec::new(alloc),
+            prefixes: Prefixes::new(alloc),
             leaves: Vec::new(alloc),
             joins: Vec::new(alloc),
         }
     }
-}
-
-/// Adds prefixes of an inner network, inside the instance of that name.
-fn push_prefixes_within(
-    alloc: Global,
-    prefixes: &mut Vec<Prefix>,
-    name: &Name,
-    inner: &[Prefix],
-) -> Result<(), AllocError>
-    ensures { OnOk result
-        (prefixes.new.items ≡ prefixes.old.items ++ map (prefix_within name.now) inner.now) }
-{
-    prefixes.reserve(inner.len())?;
-    for prefix in inner {
-        prefixes.push(prefix.within(alloc, name)?)?;
-    }
-    Ok(())
-}
-
-/// How many prefixes there are.
-pub fn count_of(prefixes: &[Prefix]) -> Result<u32, AllocError>
-    ensures { IfOk result (λ count. count ≡ length prefixes.now) }
-{
-    number(prefixes.len())
 }
 
 /// Takes in what the instance of that name holds, and gives the instance's borders.
@@ -68,8 +43,8 @@ pub fn take_in(
     ensures { IfOk result (λ edges. TakesIn draft.old draft.new name.now inner.now edges.items) }
 {
     let tables = &*inner.tables;
-    let before = count_of(&draft.prefixes)?;
-    push_prefixes_within(alloc, &mut draft.prefixes, name, &tables.prefixes)?;
+    let before = draft.prefixes.count()?;
+    draft.prefixes.push_within(name, &tables.prefixes)?;
     push_leaves_moved(&mut draft.leaves, before, &tables.leaves)?;
     push_joins_moved(&mut draft.joins, before, &tables.joins)?;
     edges_moved(alloc, before, &tables.edges)
@@ -77,7 +52,7 @@ pub fn take_in(
 
 /// The flat network of a draft and of borders, these and the links in order, each once.
 pub fn finish(alloc: Global, draft: Draft, mut edges: Vec<Edge>) -> Result<Flat, AllocError>
-    requires { IsLaid (length draft.prefixes.items) draft.leaves.items draft.joins.items edges.items }
+    requires { IsLaid (length draft.prefixes) draft.leaves.items draft.joins.items edges.items }
     ensures { IfOk result (IsFinish draft edges.items) }
 {
     let Draft {

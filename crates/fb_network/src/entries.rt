@@ -5,7 +5,7 @@ ghost use Rattle.fb_network.specs.{Laid.{block_at, border_at, edge_moved, join_m
 use crate::flat::{Border, FlatBlock, Link};
 use crate::network::{is_same_sort, sort_number};
 use crate::place::{Place, compare_places, is_same_place, moved, path_of};
-use crate::prefix::Prefix;
+use crate::prefixes::Prefixes;
 use fb_tree::Sort;
 use fb_tree::text::{CompactName, Name, same_name};
 use std::alloc::{AllocError, Global};
@@ -82,7 +82,7 @@ pub fn edges_moved(alloc: Global, by: u32, inner: &[Edge]) -> Result<Vec<Edge>, 
 }
 
 /// The order of two links by sort and paths.
-pub fn compare_joins(prefixes: &[Prefix], a: &Join, b: &Join) -> Ordering
+pub fn compare_joins(prefixes: &Prefixes, a: &Join, b: &Join) -> Ordering
     ensures { result ≡ link_cmp (link_at prefixes.now a.now) (link_at prefixes.now b.now) }
 {
     let sorts = sort_number(a.sort).cmp(&sort_number(b.sort));
@@ -91,7 +91,7 @@ pub fn compare_joins(prefixes: &[Prefix], a: &Join, b: &Join) -> Ordering
 }
 
 /// The order of two borders by sort, port and path.
-pub fn compare_edges(prefixes: &[Prefix], a: &Edge, b: &Edge) -> Ordering
+pub fn compare_edges(prefixes: &Prefixes, a: &Edge, b: &Edge) -> Ordering
     ensures { result ≡ border_cmp (border_at prefixes.now a.now) (border_at prefixes.now b.now) }
 {
     let sorts = sort_number(a.sort).cmp(&sort_number(b.sort));
@@ -101,7 +101,7 @@ pub fn compare_edges(prefixes: &[Prefix], a: &Edge, b: &Edge) -> Ordering
 
 /// Whether two links, each among its own prefixes, are equal. Links in order differ more often in where they end.
 #[tactic(auto, using(crate::proofs::Tellings::tellings))]
-pub fn is_equal_join(prefixes: &[Prefix], a: &Join, others: &[Prefix], b: &Join) -> bool
+pub fn is_equal_join(prefixes: &Prefixes, a: &Join, others: &Prefixes, b: &Join) -> bool
     ensures { result
         ≡ eq_by_cmp link_cmp (link_at prefixes.now a.now) (link_at others.now b.now) }
 {
@@ -112,7 +112,7 @@ pub fn is_equal_join(prefixes: &[Prefix], a: &Join, others: &[Prefix], b: &Join)
 
 /// Whether two borders, each among its own prefixes, are equal.
 #[tactic(auto, using(crate::proofs::Tellings::tellings))]
-pub fn is_equal_edge(prefixes: &[Prefix], a: &Edge, others: &[Prefix], b: &Edge) -> bool
+pub fn is_equal_edge(prefixes: &Prefixes, a: &Edge, others: &Prefixes, b: &Edge) -> bool
     ensures { result
         ≡ eq_by_cmp border_cmp (border_at prefixes.now a.now) (border_at others.now b.now) }
 {
@@ -124,7 +124,7 @@ pub fn is_equal_edge(prefixes: &[Prefix], a: &Edge, others: &[Prefix], b: &Edge)
 /// The blocks as plain values.
 pub fn plain_blocks(
     alloc: Global,
-    prefixes: &[Prefix],
+    prefixes: &Prefixes,
     leaves: &[Leaf],
 ) -> Result<Vec<FlatBlock>, AllocError>
     ensures { IfOk result (λ blocks. blocks.items ≡ map (block_at prefixes.now) leaves.now) }
@@ -142,7 +142,7 @@ pub fn plain_blocks(
 /// The links as plain values.
 pub fn plain_links(
     alloc: Global,
-    prefixes: &[Prefix],
+    prefixes: &Prefixes,
     joins: &[Join],
 ) -> Result<Vec<Link>, AllocError>
     ensures { IfOk result (λ links. links.items ≡ map (link_at prefixes.now) joins.now) }
@@ -161,7 +161,7 @@ pub fn plain_links(
 /// The borders as plain values.
 pub fn plain_borders(
     alloc: Global,
-    prefixes: &[Prefix],
+    prefixes: &Prefixes,
     edges: &[Edge],
 ) -> Result<Vec<Border>, AllocError>
     ensures { IfOk result (λ borders. borders.items ≡ map (border_at prefixes.now) edges.now) }

@@ -6,7 +6,7 @@ ghost use Rattle.fb_network.specs.LinkOrder.{link_cmp, link_cmp_total, border_cm
 use crate::entries::{Edge, Join, Leaf, plain_blocks, plain_borders, plain_links};
 use crate::network::sort_number;
 use crate::path::Path;
-use crate::prefix::Prefix;
+use crate::prefixes::Prefixes;
 use crate::same::{are_same_edges, are_same_joins, are_same_leaves};
 use fb_tree::Sort;
 use fb_tree::text::Name;
@@ -122,7 +122,7 @@ impl Ord for Border {
 /// The tables of a flat network.
 #[derive(Debug, Drop)]
 pub(crate) struct Tables {
-    pub(crate) prefixes: Vec<Prefix>,
+    pub(crate) prefixes: Prefixes,
     pub(crate) leaves: Vec<Leaf>,
     pub(crate) joins: Vec<Join>,
     pub(crate) edges: Vec<Edge>,
@@ -147,15 +147,15 @@ impl Model for Flat {
 
     ghost Value = { PlainFlat };
 
-    ghost view = { λ it. flat_at it.tables.value.prefixes.items it.tables.value.leaves.items it.tables.value.joins.items it.tables.value.edges.items };
+    ghost view = { λ it. flat_at it.tables.value.prefixes it.tables.value.leaves.items it.tables.value.joins.items it.tables.value.edges.items };
 
-    ghost invariant = { λ it. IsLaid (length it.tables.value.prefixes.items) it.tables.value.leaves.items it.tables.value.joins.items it.tables.value.edges.items };
+    ghost invariant = { λ it. IsLaid (length it.tables.value.prefixes) it.tables.value.leaves.items it.tables.value.joins.items it.tables.value.edges.items };
 }
 
 impl Flat {
     /// Where its lists are allocated.
     pub fn allocator(&self) -> Global {
-        *self.tables.prefixes.allocator()
+        *self.tables.leaves.allocator()
     }
 
     /// The same network, with the same tables.

@@ -10,22 +10,18 @@ use crate::links::push_links;
 use crate::look_up::{Nets, Networks};
 use crate::network::Network;
 use crate::own::texts_of;
-use crate::path::Path;
-use crate::prefix::Prefix;
 use std::alloc::{AllocError, Global};
 use std::sync::Arc;
 
 /// A draft with the prefix of a network's own texts, without blocks and links.
 fn own_draft(alloc: Global, network: &Network) -> Result<Draft, AllocError>
-    ensures own { IfOk result (λ draft. HasOwn draft.prefixes.items network.now) }
+    ensures own { IfOk result (λ draft. HasOwn draft.prefixes network.now) }
     ensures leaves { IfOk result (λ draft. draft.leaves.items ≡ []) }
     ensures joins { IfOk result (λ draft. draft.joins.items ≡ []) }
 {
     let texts = Arc::new(alloc, texts_of(alloc, network)?)?;
     let mut draft = Draft::new(alloc);
-    draft
-        .prefixes
-        .push(Prefix::new(Path::nothing(alloc), texts))?;
+    draft.prefixes.push_ends(texts)?;
     Ok(draft)
 }
 

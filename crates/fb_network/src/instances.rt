@@ -21,7 +21,7 @@ fn take_instance<N: Nets>(
     instance: &Instance,
     name: Place,
 ) -> Result<Vec<Edge>, AllocError>
-    requires { Says draft.old.prefixes.items name instance.now.name }
+    requires { Says draft.old.prefixes name instance.now.name }
     ensures { IfOk result
         (λ edges. TakesInstance (N.nets nets.now) draft.old draft.new instance.now edges.items) }
 {
@@ -47,7 +47,7 @@ pub fn take_instances<N: Nets>(
     nets: &N,
     instances: &[Instance],
 ) -> Result<Table, AllocError>
-    requires named { AreNamed draft.old.prefixes.items instances.now }
+    requires named { AreNamed draft.old.prefixes instances.now }
     requires no_blocks { draft.old.leaves.items ≡ [] }
     requires no_links { draft.old.joins.items ≡ [] }
     ensures { IfOk result

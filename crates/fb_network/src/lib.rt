@@ -26,7 +26,7 @@ mod pairs;
 mod path;
 mod path_table;
 mod place;
-mod prefix;
+mod prefixes;
 mod same;
 mod shown;
 mod sorted;

@@ -39,12 +39,12 @@ fn push_members(
     plugs: &[Place],
     sockets: &[Place],
 ) -> Result<(), AllocError>
-    requires plugs { All (IsPlaceBelow (length draft.old.prefixes.items)) plugs.now }
-    requires sockets { All (IsPlaceBelow (length draft.old.prefixes.items)) sockets.now }
+    requires plugs { All (IsPlaceBelow (length draft.old.prefixes)) plugs.now }
+    requires sockets { All (IsPlaceBelow (length draft.old.prefixes)) sockets.now }
     ensures { OnOk result
         (AddsLinks draft.old draft.new
-        (adapter_links ports.now (map (path_at draft.old.prefixes.items) plugs.now)
-        (map (path_at draft.old.prefixes.items) sockets.now))) }
+        (adapter_links ports.now (map (path_at draft.old.prefixes) plugs.now)
+        (map (path_at draft.old.prefixes) sockets.now))) }
 {
     let names = Arc::new(alloc, port_names(alloc, ports)?)?;
     let plugged = push_member_prefixes(alloc, &mut draft.prefixes, plugs, &names)?;
@@ -59,12 +59,12 @@ fn push_pairs(
     froms: &[Place],
     tos: &[Place],
 ) -> Result<(), AllocError>
-    requires froms { All (IsPlaceBelow (length draft.old.prefixes.items)) froms.now }
-    requires tos { All (IsPlaceBelow (length draft.old.prefixes.items)) tos.now }
+    requires froms { All (IsPlaceBelow (length draft.old.prefixes)) froms.now }
+    requires tos { All (IsPlaceBelow (length draft.old.prefixes)) tos.now }
     ensures { OnOk result
         (AddsLinks draft.old draft.new
-        (link_pairs sort (map (path_at draft.old.prefixes.items) froms.now)
-        (map (path_at draft.old.prefixes.items) tos.now))) }
+        (link_pairs sort (map (path_at draft.old.prefixes) froms.now)
+        (map (path_at draft.old.prefixes) tos.now))) }
 {
     push_join_pairs(&mut draft.joins, sort, froms, tos)
 }
@@ -81,14 +81,14 @@ fn push_between<V: Networks>(
     tos: &[Place],
 ) -> Result<(), AllocError>
     requires table { HasInstances (get name_cmp table.now) network.now.instances }
-    requires froms { All (IsPlaceBelow (length draft.old.prefixes.items)) froms.now }
-    requires tos { All (IsPlaceBelow (length draft.old.prefixes.items)) tos.now }
+    requires froms { All (IsPlaceBelow (length draft.old.prefixes)) froms.now }
+    requires tos { All (IsPlaceBelow (length draft.old.prefixes)) tos.now }
     ensures { OnOk result
         (AddsLinks draft.old draft.new
         (links_of_sort connection.now.sort
         (adapter_at (V.networks view.now) network.now (place_of connection.now.source))
-        (map (path_at draft.old.prefixes.items) froms.now)
-        (map (path_at draft.old.prefixes.items) tos.now))) }
+        (map (path_at draft.old.prefixes) froms.now)
+        (map (path_at draft.old.prefixes) tos.now))) }
 {
     match connection.sort {
         Sort::Event => push_pairs(draft, Sort::Event, froms, tos),
@@ -112,9 +112,9 @@ fn push_connection_links<V: Networks>(
     destination: Place,
 ) -> Result<(), AllocError>
     requires table { (nets : ready.Nets)
-        × IsTable draft.old.prefixes.items nets (get name_cmp table.now) network.now.instances }
-    requires source { Says draft.old.prefixes.items source (end_text connection.now.source) }
-    requires destination { Says draft.old.prefixes.items destination
+        × IsTable draft.old.prefixes nets (get name_cmp table.now) network.now.instances }
+    requires source { Says draft.old.prefixes source (end_text connection.now.source) }
+    requires destination { Says draft.old.prefixes destination
         (end_text connection.now.destination) }
     ensures { OnOk result
         (AddsConnections (V.networks view.now) network.now (get name_cmp table.now) draft.old
@@ -135,8 +135,8 @@ pub fn push_links<V: Networks>(
     table: &Table,
 ) -> Result<(), AllocError>
     requires table { (nets : ready.Nets)
-        × IsTable draft.old.prefixes.items nets (get name_cmp table.now) network.now.instances }
-    requires own { HasOwn draft.old.prefixes.items network.now }
+        × IsTable draft.old.prefixes nets (get name_cmp table.now) network.now.instances }
+    requires own { HasOwn draft.old.prefixes network.now }
     ensures { OnOk result
         (AddsConnections (V.networks view.now) network.now (get name_cmp table.now) draft.old
         draft.new network.now.connections) }

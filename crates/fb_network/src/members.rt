@@ -1,14 +1,13 @@
 //! The links of an adapter's ports between plugs and sockets (IEC 61499-1, 5.5).
 ghost use Rattle.std.specs.{Prelude.{◌≡◌, ◌++◌, IfOk, OnOk, length, map}, List.{All}};
 ghost use Rattle.fb_network.specs.{Laid.{path_at}, Reading.{Grows, IsPlaceBelow}};
-ghost use Rattle.fb_network.specs.Behind.{AreMembers, adapter_joins, prefix_behind, join_on_side, member_joins, plug_joins};
+ghost use Rattle.fb_network.specs.Behind.{AreMembers, adapter_joins, join_on_side, member_joins, plug_joins};
 
-use crate::draft::count_of;
 use crate::entries::Join;
 use crate::network::Port;
 use crate::path::Path;
-use crate::place::{Place, number, path_of};
-use crate::prefix::Prefix;
+use crate::place::{Place, number, put_path};
+use crate::prefixes::Prefixes;
 use fb_tree::Side;
 use std::alloc::{AllocError, Global};
 use std::sync::Arc;
@@ -24,38 +23,25 @@ pub fn port_names(alloc: Global, ports: &[Port]) -> Result<Vec<Path>, AllocError
     Ok(names)
 }
 
-fn prefix_behind_place(
-    alloc: Global,
-    prefixes: &[Prefix],
-    place: &Place,
-    names: &Arc<Vec<Path>>,
-) -> Result<Prefix, AllocError>
-    ensures { IfOk result
-        (λ prefix. prefix ≡ prefix_behind names.now.value.items (path_at prefixes.now place.now)) }
-{
-    let start = path_of(alloc, prefixes, place)?.pointed(alloc)?;
-    let ends = names.clone()?;
-    Ok(Prefix::new(start, ends))
-}
-
 /// Adds the prefix of what is below each of the places, and gives their numbers.
 pub fn push_member_prefixes(
     alloc: Global,
-    prefixes: &mut Vec<Prefix>,
+    prefixes: &mut Prefixes,
     places: &[Place],
     names: &Arc<Vec<Path>>,
 ) -> Result<Vec<u32>, AllocError>
-    requires { All (IsPlaceBelow (length prefixes.old.items)) places.now }
-    ensures grows { IfOk result (λ _. Grows prefixes.old.items prefixes.new.items) }
+    requires { All (IsPlaceBelow (length prefixes.old)) places.now }
+    ensures grows { IfOk result (λ _. Grows prefixes.old prefixes.new) }
     ensures members { IfOk result
-        (λ numbers. AreMembers prefixes.new.items names.now.value.items numbers.items
-        (map (path_at prefixes.old.items) places.now)) }
+        (λ numbers. AreMembers prefixes.new names.now.value.items numbers.items
+        (map (path_at prefixes.old) places.now)) }
 {
     let mut numbers = Vec::with_capacity(alloc, places.len())?;
+    let mut path = String::new(alloc);
     for place in places {
-        let prefix = prefix_behind_place(alloc, prefixes, place, names)?;
-        numbers.push(count_of(prefixes)?)?;
-        prefixes.push(prefix)?;
+        put_path(prefixes, place, &mut path)?;
+        numbers.push(prefixes.count()?)?;
+        prefixes.push(&path, "", names.clone()?)?;
     }
     Ok(numbers)
 }

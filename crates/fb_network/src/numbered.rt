@@ -4,25 +4,24 @@ ghost use Rattle.fb_network.specs.{Laid.{block_at, link_at}, Numbered.{block_num
 
 use crate::entries::{Join, Leaf};
 use crate::flat::Flat;
-use crate::place::parts_at;
-use crate::prefix::Prefix;
+use crate::prefixes::Prefixes;
 use fb_tree::Sort;
 
 /// The two parts of the path of a block.
 #[tactic(auto, using(crate::proofs::Numbers::numbers))]
-fn block_path<'a>(prefixes: &'a [Prefix], leaves: &[Leaf], number: u32) -> (&'a str, &'a str)
+fn block_path<'a>(prefixes: &'a Prefixes, leaves: &[Leaf], number: u32) -> (&'a str, &'a str)
     ensures { result.0.now ++ result.1.now
         ≡ (block_or_nothing (slice_get (map (block_at prefixes.now) leaves.now) number)).path }
 {
     match leaves.get(number as usize) {
-        Some(leaf) => parts_at(prefixes, &leaf.place),
+        Some(leaf) => prefixes.parts(&leaf.place),
         None => ("", ""),
     }
 }
 
 /// The name of the type of a block.
 #[tactic(auto, using(crate::proofs::Numbers::numbers))]
-fn block_type<'a>(_prefixes: &[Prefix], leaves: &'a [Leaf], number: u32) -> &'a str
+fn block_type<'a>(_prefixes: &Prefixes, leaves: &'a [Leaf], number: u32) -> &'a str
     ensures { result.now
         ≡ (block_or_nothing (slice_get (map (block_at _prefixes.now) leaves.now) number)).type_name }
 {
@@ -34,31 +33,31 @@ fn block_type<'a>(_prefixes: &[Prefix], leaves: &'a [Leaf], number: u32) -> &'a 
 
 /// The two parts of the path where a link begins.
 #[tactic(auto, using(crate::proofs::Numbers::numbers))]
-fn link_from<'a>(prefixes: &'a [Prefix], joins: &[Join], number: u32) -> (&'a str, &'a str)
+fn link_from<'a>(prefixes: &'a Prefixes, joins: &[Join], number: u32) -> (&'a str, &'a str)
     ensures { result.0.now ++ result.1.now
         ≡ (link_or_nothing (slice_get (map (link_at prefixes.now) joins.now) number)).from }
 {
     match joins.get(number as usize) {
-        Some(join) => parts_at(prefixes, &join.from),
+        Some(join) => prefixes.parts(&join.from),
         None => ("", ""),
     }
 }
 
 /// The two parts of the path where a link ends.
 #[tactic(auto, using(crate::proofs::Numbers::numbers))]
-fn link_to<'a>(prefixes: &'a [Prefix], joins: &[Join], number: u32) -> (&'a str, &'a str)
+fn link_to<'a>(prefixes: &'a Prefixes, joins: &[Join], number: u32) -> (&'a str, &'a str)
     ensures { result.0.now ++ result.1.now
         ≡ (link_or_nothing (slice_get (map (link_at prefixes.now) joins.now) number)).to }
 {
     match joins.get(number as usize) {
-        Some(join) => parts_at(prefixes, &join.to),
+        Some(join) => prefixes.parts(&join.to),
         None => ("", ""),
     }
 }
 
 /// The sort of a link.
 #[tactic(auto, using(crate::proofs::Numbers::numbers))]
-fn link_sort(_prefixes: &[Prefix], joins: &[Join], number: u32) -> Sort
+fn link_sort(_prefixes: &Prefixes, joins: &[Join], number: u32) -> Sort
     ensures { result
         ≡ (link_or_nothing (slice_get (map (link_at _prefixes.now) joins.now) number)).sort }
 {

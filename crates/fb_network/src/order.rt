@@ -3,11 +3,11 @@ ghost use Rattle.std.specs.Prelude.{IsTrue, OnOk};
 ghost use Rattle.fb_network.specs.{Laid.{border_at, link_at}, LinkOrder.{border_cmp, link_cmp}, Once.{IsOnce}};
 
 use crate::entries::{Edge, Join, compare_edges, compare_joins, is_equal_edge, is_equal_join};
-use crate::prefix::Prefix;
+use crate::prefixes::Prefixes;
 use std::alloc::AllocError;
 
 /// Whether each link is below the next.
-fn joins_rise(prefixes: &[Prefix], joins: &[Join]) -> bool
+fn joins_rise(prefixes: &Prefixes, joins: &[Join]) -> bool
     ensures { IsTrue result → IsOnce (link_at prefixes.now) link_cmp joins.now joins.now }
 {
     for i in 1..joins.len() {
@@ -19,7 +19,7 @@ fn joins_rise(prefixes: &[Prefix], joins: &[Join]) -> bool
 }
 
 /// Sorts links by their texts and removes duplicates. Those of a network inside one instance are in order already.
-pub fn sort_joins(prefixes: &[Prefix], joins: &mut Vec<Join>) -> Result<(), AllocError>
+pub fn sort_joins(prefixes: &Prefixes, joins: &mut Vec<Join>) -> Result<(), AllocError>
     ensures { OnOk result (IsOnce (link_at prefixes.now) link_cmp joins.old.items joins.new.items) }
 {
     if !joins_rise(prefixes, joins.as_slice()) {
@@ -30,7 +30,7 @@ pub fn sort_joins(prefixes: &[Prefix], joins: &mut Vec<Join>) -> Result<(), Allo
 }
 
 /// Sorts borders by their texts and removes duplicates.
-pub fn sort_edges(prefixes: &[Prefix], edges: &mut Vec<Edge>) -> Result<(), AllocError>
+pub fn sort_edges(prefixes: &Prefixes, edges: &mut Vec<Edge>) -> Result<(), AllocError>
     ensures { OnOk result
         (IsOnce (border_at prefixes.now) border_cmp edges.old.items edges.new.items) }
 {

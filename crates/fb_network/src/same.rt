@@ -4,28 +4,28 @@ ghost use Rattle.fb_network.specs.Laid.{block_at, border_at, link_at};
 
 use crate::entries::{Edge, Join, Leaf, is_equal_edge, is_equal_join};
 use crate::place::is_same_place;
-use crate::prefix::Prefix;
+use crate::prefixes::Prefixes;
 
-fn is_same_leaf(prefixes: &[Prefix], a: &Leaf, others: &[Prefix], b: &Leaf) -> bool
+fn is_same_leaf(prefixes: &Prefixes, a: &Leaf, others: &Prefixes, b: &Leaf) -> bool
     ensures { IsTrue result ↔ (block_at prefixes.now a.now ≡ block_at others.now b.now) }
 {
     is_same_place(prefixes, &a.place, others, &b.place) && a.type_name.is(&b.type_name.name())
 }
 
-fn is_same_join(prefixes: &[Prefix], a: &Join, others: &[Prefix], b: &Join) -> bool
+fn is_same_join(prefixes: &Prefixes, a: &Join, others: &Prefixes, b: &Join) -> bool
     ensures { IsTrue result ↔ (link_at prefixes.now a.now ≡ link_at others.now b.now) }
 {
     is_equal_join(prefixes, a, others, b)
 }
 
-fn is_same_edge(prefixes: &[Prefix], a: &Edge, others: &[Prefix], b: &Edge) -> bool
+fn is_same_edge(prefixes: &Prefixes, a: &Edge, others: &Prefixes, b: &Edge) -> bool
     ensures { IsTrue result ↔ (border_at prefixes.now a.now ≡ border_at others.now b.now) }
 {
     is_equal_edge(prefixes, a, others, b)
 }
 
 /// Whether both lists have the same blocks, each list among its own prefixes.
-pub fn are_same_leaves(prefixes: &[Prefix], a: &[Leaf], others: &[Prefix], b: &[Leaf]) -> bool
+pub fn are_same_leaves(prefixes: &Prefixes, a: &[Leaf], others: &Prefixes, b: &[Leaf]) -> bool
     ensures { IsTrue result ↔ (map (block_at prefixes.now) a.now ≡ map (block_at others.now) b.now) }
 {
     if a.len() != b.len() {
@@ -40,7 +40,7 @@ pub fn are_same_leaves(prefixes: &[Prefix], a: &[Leaf], others: &[Prefix], b: &[
 }
 
 /// Whether both lists have the same links, each list among its own prefixes.
-pub fn are_same_joins(prefixes: &[Prefix], a: &[Join], others: &[Prefix], b: &[Join]) -> bool
+pub fn are_same_joins(prefixes: &Prefixes, a: &[Join], others: &Prefixes, b: &[Join]) -> bool
     ensures { IsTrue result ↔ (map (link_at prefixes.now) a.now ≡ map (link_at others.now) b.now) }
 {
     if a.len() != b.len() {
@@ -55,7 +55,7 @@ pub fn are_same_joins(prefixes: &[Prefix], a: &[Join], others: &[Prefix], b: &[J
 }
 
 /// Whether both lists have the same borders, each list among its own prefixes.
-pub fn are_same_edges(prefixes: &[Prefix], a: &[Edge], others: &[Prefix], b: &[Edge]) -> bool
+pub fn are_same_edges(prefixes: &Prefixes, a: &[Edge], others: &Prefixes, b: &[Edge]) -> bool
     ensures { IsTrue result
         ↔ (map (border_at prefixes.now) a.now ≡ map (border_at others.now) b.now) }
 {

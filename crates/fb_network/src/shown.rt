@@ -1,26 +1,17 @@
 //! Entries of a flat network, whose places are written over texts that are used again.
-ghost use Rattle.std.specs.Prelude.{◌≡◌, ◌<◌, IfOk, OnOk, Some, length, map, slice_get, string_bytes};
-ghost use Rattle.fb_network.specs.Laid.{block_at, border_at, link_at, path_at};
+ghost use Rattle.std.specs.Prelude.{◌≡◌, ◌<◌, IfOk, Some, length, map, slice_get, string_bytes};
+ghost use Rattle.fb_network.specs.Laid.{block_at, border_at, link_at};
 
 use crate::entries::{Edge, Join, Leaf};
 use crate::flat::Flat;
-use crate::place::{Place, parts_at};
-use crate::prefix::Prefix;
+use crate::place::put_path;
+use crate::prefixes::Prefixes;
 use fb_tree::Sort;
 use fb_tree::text::Name;
 use std::alloc::AllocError;
 
-fn put_path(prefixes: &[Prefix], place: &Place, text: &mut String) -> Result<(), AllocError>
-    ensures { OnOk result (string_bytes text.new ≡ path_at prefixes.now place.now) }
-{
-    let (start, end) = parts_at(prefixes, place);
-    text.clear();
-    text.push_str(start)?;
-    text.push_str(end)
-}
-
 fn put_leaf(
-    prefixes: &[Prefix],
+    prefixes: &Prefixes,
     leaves: &[Leaf],
     place: usize,
     path: &mut String,
@@ -35,7 +26,7 @@ fn put_leaf(
 }
 
 fn put_join(
-    prefixes: &[Prefix],
+    prefixes: &Prefixes,
     joins: &[Join],
     place: usize,
     from: &mut String,
@@ -56,7 +47,7 @@ fn put_join(
 }
 
 fn put_edge(
-    prefixes: &[Prefix],
+    prefixes: &Prefixes,
     edges: &[Edge],
     place: usize,
     at: &mut String,

@@ -6,8 +6,8 @@ use Rattle.fb_network.proofs.draft.finish.Goals as goal
 
 pub invariant_of-result : goal.invariant_of-result
 invariant_of-result c =
-    let count = length c.args.draft.prefixes.items in
-    rw (c.in_ok-tables.ensures.ok, c.shrink_to_fit.ensures.items, c.shrink_to_fit-2.ensures.items, c.shrink_to_fit-3.ensures.items, c.shrink_to_fit-4.ensures.items)
+    let count = length c.args.draft.prefixes in
+    rw (c.in_ok-tables.ensures.ok, c.shrink_to_fit.ensures, c.shrink_to_fit-2.ensures.items, c.shrink_to_fit-3.ensures.items, c.shrink_to_fit-4.ensures.items)
     (record {
       leaves_below = c.requires.leaves_below;
       joins_below = all_left (IsJoinBelow count) c.args.draft.joins.items c.sort_joins.new.joins.items c.in_ok-sort_joins.ensures c.requires.joins_below;
@@ -16,6 +16,4 @@ invariant_of-result c =
 
 pub returns : goal.returns
 returns c =
-    let joins = rw c.deref.ensures.value at c.in_ok-sort_joins.ensures in
-    let edges = rw c.deref-2.ensures.value at c.in_ok-sort_edges.ensures in
-    rw (c.in_ok-tables.ensures.ok, c.shrink_to_fit.ensures.items, c.shrink_to_fit-2.ensures.items, c.shrink_to_fit-3.ensures.items, c.shrink_to_fit-4.ensures.items) (record { blocks = refl; links = once_ordered c.args.draft.joins.items c.sort_joins.new.joins.items joins; borders = once_ordered c.args.edges.items c.sort_edges.new.edges.items edges })
+    rw (c.in_ok-tables.ensures.ok, c.shrink_to_fit.ensures, c.shrink_to_fit-2.ensures.items, c.shrink_to_fit-3.ensures.items, c.shrink_to_fit-4.ensures.items) (record { blocks = refl; links = once_ordered c.args.draft.joins.items c.sort_joins.new.joins.items c.in_ok-sort_joins.ensures; borders = once_ordered c.args.edges.items c.sort_edges.new.edges.items c.in_ok-sort_edges.ensures })

@@ -7,14 +7,14 @@ use Rattle.fb_network.proofs.flat_network.compose_by_part.Goals as goal
 
 pub take_instances-requires-clause-named : goal.take_instances-requires-clause-named
 take_instances-requires-clause-named g c =
-    rw c.instances.ensures (are_named c.in_ok-draft.draft.prefixes.items c.args.network.now c.in_ok-draft.ensures.own)
+    rw c.instances.ensures (are_named c.in_ok-draft.draft.prefixes c.args.network.now c.in_ok-draft.ensures.own)
 
 pub push_links-requires-clause-table : goal.push_links-requires-clause-table
 push_links-requires-clause-table g c = (g.N.Nets.nets c.args.nets.now, (rw c.instances.ensures at c.in_ok-table.ensures).standing)
 
 pub push_links-requires-clause-own : goal.push_links-requires-clause-own
 push_links-requires-clause-own g c =
-    own_grown c.in_ok-draft.draft.prefixes.items c.take_instances.new.draft.prefixes.items c.args.network.now c.in_ok-table.ensures.grows c.in_ok-draft.ensures.own
+    own_grown c.in_ok-draft.draft.prefixes c.take_instances.new.draft.prefixes c.args.network.now c.in_ok-table.ensures.grows c.in_ok-draft.ensures.own
 
 pub finish-requires : goal.finish-requires
 finish-requires g c =

@@ -7,16 +7,16 @@ use Rattle.fb_network.proofs.links.push_connection_links.Goals as goal
 
 pub push_between-requires-clause-table : goal.push_between-requires-clause-table
 push_between-requires-clause-table g c =
-    table_instances c.args.draft.now.prefixes.items c.requires.table.0 (get name_cmp c.args.table.now) c.args.network.now.instances c.requires.table.1
+    table_instances c.args.draft.now.prefixes c.requires.table.0 (get name_cmp c.args.table.now) c.args.network.now.instances c.requires.table.1
 
 pub push_between-requires-clause-froms : goal.push_between-requires-clause-froms
 push_between-requires-clause-froms g c =
-    behind_below c.args.draft.now.prefixes.items c.args.network.now (get name_cmp c.args.table.now) c.args.connection.now.sort c.args.source c.args.connection.now.source c.deref.result.now c.requires.table c.requires.source
+    behind_below c.args.draft.now.prefixes c.args.network.now (get name_cmp c.args.table.now) c.args.connection.now.sort c.args.source c.args.connection.now.source c.deref.result.now c.requires.table c.requires.source
     (c.deref.ensures.value ∙ c.in_ok-froms.ensures)
 
 pub push_between-requires-clause-tos : goal.push_between-requires-clause-tos
 push_between-requires-clause-tos g c =
-    behind_below c.args.draft.now.prefixes.items c.args.network.now (get name_cmp c.args.table.now) c.args.connection.now.sort c.args.destination c.args.connection.now.destination c.deref-2.result.now c.requires.table c.requires.destination
+    behind_below c.args.draft.now.prefixes c.args.network.now (get name_cmp c.args.table.now) c.args.connection.now.sort c.args.destination c.args.connection.now.destination c.deref-2.result.now c.requires.table c.requires.destination
     (c.deref-2.ensures.value ∙ c.in_ok-tos.ensures)
 
 pub returns : goal.returns

@@ -12,8 +12,8 @@ loop-place-init g c = λ nets is. adds_none c.args.draft.now
 pub push_connection_links-requires : goal.push_connection_links-requires
 push_connection_links-requires g c =
     let network = c.args.network.now in
-    let before = c.args.draft.now.prefixes.items in
-    let prefixes = c.loop-place.draft.prefixes.items in
+    let before = c.args.draft.now.prefixes in
+    let prefixes = c.loop-place.draft.prefixes in
     let laid = c.requires.table in
     let connections = c.connections-connections.result.now in
     let grows = (c.loop-place.invariant laid.0 laid.1).grows in
