@@ -1,9 +1,9 @@
 -- Starts of prefixes in a text that grows.
 use Rattle.std.proofs.Common.{ℕ, ◌≡◌, ◌<◌, ◌-◌, ◌+◌, List, [], ◌∷◌, ◌++◌, drop, take, get_or, length, map, refl, sym, ap, subst, ◌∙◌, arith, append_assoc, length-append}
 use Rattle.std.proofs.lemmas.{List.{drop-append-le, length-drop, map-append, take-append-le, take-map}, List.Elements.{All-head, All-push, All-tail, All-weaker}}
-use Rattle.std.proofs.lemmas.Str.{IsCharBoundary-end, IsCharBoundary-from_take, IsUtf8-take}
+use Rattle.std.proofs.lemmas.Str.{IsCharBoundary-end, IsCharBoundary-from_take, IsUtf8-string_bytes, IsUtf8-take}
 use Rattle.std.proofs.Math.Seq.{drop-append_seam, take-length}
-use Rattle.std.specs.{List.{All}, Str.{IsCharBoundary, IsUtf8}}
+use Rattle.std.specs.{Prelude.{String, string_bytes}, String.{string_len}, List.{All}, Str.{IsCharBoundary, IsUtf8}}
 use Rattle.fb_network.specs.{Laid.{prefix_within}, PlainPrefix.{PlainPrefix}, declared.prefixes.Prefix.{Prefix}, Starts.{IsIn, prefix_in, start_in}}
 use Rattle.fb_network.proofs.Standings.{next_taken}
 
@@ -54,19 +54,28 @@ module _ (text more : List ℕ) (before : IsUtf8 text) (after : IsUtf8 (text ++ 
       map-append (prefix_in (text ++ more)) ps (p ∷ [])
       ∙ (λ i. starts_grown ps all i ++ record { start = added_start p begins ends i; ends = p.ends.value.items } ∷ [])
 
--- the same, of a text that is what it grows to
-pub all_kept : (text more now : List ℕ) → now ≡ text ++ more → IsUtf8 text → IsUtf8 now → (ps : List Prefix) → All (IsIn text) ps → All (IsIn now) ps
-all_kept text more now is before after ps all =
-    subst (λ (x : List ℕ). All (IsIn x) ps) (sym is) (all_grown text more before (subst IsUtf8 is after) ps all)
+-- the text of the starts, before and after something was added to it
+module _ {Z : Type 0} (old new : String Z) (more : List ℕ) (grown : string_bytes new ≡ string_bytes old ++ more) (ps : List Prefix) (all : All (IsIn (string_bytes old)) ps) where
+  after : IsUtf8 (string_bytes old ++ more)
+  after = subst IsUtf8 grown (IsUtf8-string_bytes new)
 
-pub all_added : (text more now : List ℕ) → now ≡ text ++ more → IsUtf8 text → IsUtf8 now → (ps : List Prefix) (p : Prefix) → All (IsIn text) ps → p.from ≡ length text → p.to ≡ length now → All (IsIn now) (ps ++ p ∷ [])
-all_added text more now is before after ps p all begins ends =
-    All-push (IsIn now) ps p (all_kept text more now is before after ps all)
-    (subst (λ (x : List ℕ). IsIn x p) (sym is) (added_in text more before (subst IsUtf8 is after) p begins (ends ∙ ap length is)))
+  pub all_kept : All (IsIn (string_bytes new)) ps
+  all_kept = subst (λ (x : List ℕ). All (IsIn x) ps) (sym grown) (all_grown (string_bytes old) more (IsUtf8-string_bytes old) after ps all)
 
-pub view_added : (text more now : List ℕ) → now ≡ text ++ more → IsUtf8 text → IsUtf8 now → (ps : List Prefix) (p : Prefix) → All (IsIn text) ps → p.from ≡ length text → p.to ≡ length now → map (prefix_in now) (ps ++ p ∷ []) ≡ map (prefix_in text) ps ++ record { start = more; ends = p.ends.value.items } ∷ []
-view_added text more now is before after ps p all begins ends =
-    ap (λ (x : List ℕ). map (prefix_in x) (ps ++ p ∷ [])) is ∙ added_view text more before (subst IsUtf8 is after) ps p all begins (ends ∙ ap length is)
+  module _ (p : Prefix) (from : p.from ≡ string_len old) (to : p.to ≡ string_len new) where
+    begins : p.from ≡ length (string_bytes old)
+    begins = from ∙ old.bytes.ok.0
+
+    ends : p.to ≡ length (string_bytes old ++ more)
+    ends = to ∙ new.bytes.ok.0 ∙ ap length grown
+
+    pub all_added : All (IsIn (string_bytes new)) (ps ++ p ∷ [])
+    all_added =
+        All-push (IsIn (string_bytes new)) ps p all_kept
+        (subst (λ (x : List ℕ). IsIn x p) (sym grown) (added_in (string_bytes old) more (IsUtf8-string_bytes old) after p begins ends))
+
+    pub view_added : map (prefix_in (string_bytes new)) (ps ++ p ∷ []) ≡ map (prefix_in (string_bytes old)) ps ++ record { start = more; ends = p.ends.value.items } ∷ []
+    view_added = ap (λ (x : List ℕ). map (prefix_in x) (ps ++ p ∷ [])) grown ∙ added_view (string_bytes old) more (IsUtf8-string_bytes old) after ps p all begins ends
 
 -- the next prefix of an inner network, inside its instance
 pub next_within : (old now new inner : List PlainPrefix) (name : List ℕ) (k : ℕ) (text : List ℕ) (rows : List Prefix) (x : Prefix) → map (prefix_in text) rows ≡ inner → k < length rows → x ≡ get_or rows k x → now ≡ old ++ map (prefix_within name) (take k inner) → new ≡ now ++ prefix_within name (prefix_in text x) ∷ [] → new ≡ old ++ map (prefix_within name) (take (k + 1) inner)
