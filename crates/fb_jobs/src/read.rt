@@ -1,7 +1,7 @@
 //! What was read for a key, and which keys there are.
-ghost use Rattle.std.specs.Prelude.{◌≡◌};
-ghost use Rattle.fb_deploy.specs.{Flatten.Nets.{has_net_in}, Library.View.{tree_in}, Plans.{has_plan_in}};
-ghost use Rattle.fb_parse.specs.Body.{body_tree};
+ghost use Rattle.std.specs.{Prelude.{◌≡◌, Option}, Option.{option_map}};
+ghost use Rattle.fb_deploy.specs.{Flatten.Nets.{has_net_in}, Plans.{has_plan_in}};
+ghost use Rattle.fb_tree.specs.{Mentions.{unit_kind_of}, Tree.{DeclTree}};
 ghost use Rattle.fb_jobs.specs.Keys.{has_key};
 ghost use Rattle.fb_jobs.specs.declared.key.Kind.TheVariants as kind;
 
@@ -10,9 +10,8 @@ use fb_deploy::flatten::has_net;
 use fb_deploy::is_system;
 use fb_deploy::library::Library;
 use fb_deploy::parse::Source;
-use fb_parse::Body;
 use fb_text::Name;
-use fb_tree::Decl;
+use fb_tree::UnitKind;
 use std::sync::Arc;
 
 /// What was read under a name: a source with its revision, or nothing, with revision 0.
@@ -44,15 +43,15 @@ pub fn has_key(library: &Library, key: Key) -> bool
     }
 }
 
-/// Whether a unit with this body has a net, and whether it has a plan.
-fn has_net_and_plan_in(body: &Body) -> (bool, bool)
-    ensures net { result.0 ≡ has_net_in (tree_in (body_tree body.now)) }
-    ensures plan { result.1 ≡ has_plan_in (tree_in (body_tree body.now)) }
+/// Whether a unit of this kind has a net, and whether it has a plan.
+fn has_net_and_plan_as(kind: Option<UnitKind>) -> (bool, bool)
+    ensures net { (tree : Option DeclTree) → kind ≡ option_map unit_kind_of tree → result.0 ≡ has_net_in tree }
+    ensures plan { (tree : Option DeclTree) → kind ≡ option_map unit_kind_of tree → result.1 ≡ has_plan_in tree }
 {
-    match body {
-        Body::Tree(Decl::Subapplication(_)) => (true, false),
-        Body::Tree(Decl::System(_)) => (true, true),
-        Body::Tree(_) | Body::Broken(_) => (false, false),
+    match kind {
+        Some(UnitKind::Subapplication) => (true, false),
+        Some(UnitKind::System) => (true, true),
+        _ => (false, false),
     }
 }
 
@@ -62,8 +61,8 @@ pub fn has_net_and_plan(library: &Library, unit: &Name) -> (bool, bool)
     ensures net { result.0 ≡ has_key library.now (record { kind = kind.Net; unit = unit.now }) }
     ensures plan { result.1 ≡ has_key library.now (record { kind = kind.Deploy; unit = unit.now }) }
 {
-    match library.source(unit) {
-        Some(source) => has_net_and_plan_in(source.body()),
+    match library.filed(unit) {
+        Some(filed) => has_net_and_plan_as(filed.kind()),
         None => (false, false),
     }
 }

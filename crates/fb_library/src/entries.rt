@@ -15,9 +15,6 @@ pub(crate) trait Entries<V>: Drop {
 
     ghost entries: { Self → List (List ℕ × V) };
 
-    /// A spot for the first look-up.
-    fn first_spot() -> Self::Spot;
-
     /// No entries.
     fn new(alloc: Global) -> Self
         ensures { entries result ≡ [] };

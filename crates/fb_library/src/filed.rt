@@ -1,10 +1,13 @@
 //! What is filed under the name of a unit.
 //! Text and revision are shared apart from the source, so that jobs and histories keep them without the tree, 16 bytes a read.
-ghost use Rattle.std.specs.Prelude.{◌≡◌, IfOk};
-ghost use Rattle.fb_library.specs.Filed.{filed_text};
+ghost use Rattle.std.specs.{Prelude.{◌≡◌, IfOk}, Option.{option_map}};
+ghost use Rattle.fb_parse.specs.Body.{body_tree};
+ghost use Rattle.fb_tree.specs.Mentions.{unit_kind_of};
+ghost use Rattle.fb_library.specs.{Filed.{filed_text}, View.{tree_in, tree_of}};
 
-use fb_parse::Source;
 use fb_parse::text::Name;
+use fb_parse::{Body, Source};
+use fb_tree::{UnitKind, kind};
 use std::alloc::{AllocError, Global};
 use std::marker::Model;
 use std::sync::Arc;
@@ -29,8 +32,9 @@ impl Drop for Version {
 
 /// What is kept of a unit: its source, and beside it what may be kept longer than that. Both are shared.
 pub struct Filed {
-    // that of the version, which is seldom in the cache
+    // what the version and the source say too, which are seldom in the cache
     revision: u64,
+    kind: Option<UnitKind>,
     version: Arc<Version>,
     source: Arc<Source>,
 }
@@ -39,6 +43,7 @@ impl Drop for Filed {
     fn drop(self) {
         let Self {
             revision: _,
+            kind: _,
             version: _,
             source: _,
         } = self;
@@ -54,7 +59,17 @@ impl Model for Filed {
 
     ghost view = { λ it. filed_text it.version.value };
 
-    ghost invariant = { λ it. IsFiled it.source.value it.revision (filed_text it.version.value) };
+    ghost invariant = { λ it. IsFiled it.source.value it.revision it.kind (filed_text it.version.value) };
+}
+
+/// The kind of what a text declares, if the text is not broken.
+fn kind_in(body: &Body) -> Option<UnitKind>
+    ensures { result ≡ option_map unit_kind_of (tree_in (body_tree body.now)) }
+{
+    match body {
+        Body::Tree(decl) => Some(kind(decl)),
+        Body::Broken(_) => None,
+    }
 }
 
 impl Filed {
@@ -77,8 +92,10 @@ impl Filed {
             text,
         };
         let version = Arc::new(alloc, version)?;
+        let kind = kind_in(source.body());
         Ok(Filed {
             revision,
+            kind,
             version,
             source,
         })
@@ -89,6 +106,13 @@ impl Filed {
         ensures { result ≡ self.now.held.revision }
     {
         self.revision
+    }
+
+    /// The kind of the unit; None if the text is broken.
+    pub fn kind(&self) -> Option<UnitKind>
+        ensures { result ≡ option_map unit_kind_of (tree_of self.now.held.text) }
+    {
+        self.kind
     }
 
     /// The source, to be shared.

@@ -45,10 +45,6 @@ impl<V: Drop> Entries<V> for Places<V> {
 
     ghost entries = { λ it. it };
 
-    fn first_spot() -> usize {
-        0
-    }
-
     fn new(alloc: Global) -> Places<V> {
         Places {
             places: Vec::new(alloc),

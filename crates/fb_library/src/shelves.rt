@@ -44,10 +44,6 @@ impl<V: Drop, E: Entries<V>> Entries<V> for Shelves<V, E> {
 
     ghost entries = { λ it. it };
 
-    fn first_spot() -> (usize, E::Spot) {
-        (0, E::first_spot())
-    }
-
     fn new(alloc: Global) -> Shelves<V, E> {
         Shelves {
             shelves: Vec::new(alloc),
