@@ -323,7 +323,7 @@ impl Bench {
         let wanted = key;
         let job = Job::for_kept(self.alloc, &self.library, wanted, &self.entries)?;
         let shared = self.shared_key(job.key())?;
-        let answer = reply_of_job(self.alloc, shared, &job)?;
+        let answer = reply_of_job(shared, &job)?;
         Ok((job, answer))
     }
 
@@ -448,13 +448,13 @@ impl Bench {
         }
         let answer = self.judged(finished.key(), finished.reads());
         let shared = self.shared_key(finished.key())?;
-        let call = call_of_result(self.alloc, shared, finished)?;
+        let call = call_of_result(shared.clone()?, finished)?;
         match answer {
             Delivered::Accepted => {
                 // For the proof: a result whose reads are current has the value of the present texts, and so have the nets found on its way.
                 current_reads();
                 current_nets();
-                let share = self.take_in(caller, call, finished)?;
+                let share = self.take_in(caller, call, shared, finished)?;
                 Ok((Delivered::Accepted, share))
             }
             refused => {
@@ -471,8 +471,10 @@ impl Bench {
         &mut self,
         caller: u32,
         call: Call,
+        shared: Arc<Key>,
         finished: &Finished,
     ) -> Result<Arc<Record>, AllocError>
+        requires key { shared.value ≡ finished.now.key }
         requires room { length self.old.log.records < self.old.log.limit }
         requires call { call_of call ≡ ToDeliver finished.now }
         requires accepted { Accepted ≡ deliver_answer (state_of self.old) finished.now }
@@ -485,7 +487,7 @@ impl Bench {
         ensures err { OnErr result (self.new ≡ self.old) }
     {
         let value = finished.value().clone()?;
-        let derivation = finished.derivation()?;
+        let derivation = finished.derivation(shared)?;
         let found = shares_of(self.alloc, finished.found())?;
         let answer = Reply::Accepted;
         let share = self.history.push(caller, call, answer)?;
@@ -740,7 +742,7 @@ fn first_stale(library: &Library, reads: &[Read]) -> Option<Name>
     let mut spot = Spot::first();
     for read in reads {
         if !is_current(library, read, &mut spot) {
-            return Some(read.name);
+            return Some(read.name.name());
         }
     }
     None
@@ -750,7 +752,7 @@ fn first_stale(library: &Library, reads: &[Read]) -> Option<Name>
 fn is_current(library: &Library, read: &Read, spot: &mut Spot) -> bool
     ensures { result ≡ is_current library.now (seen_of read.now) }
 {
-    match (library.filed_near(&read.name, spot), &read.source) {
+    match (library.filed_near(&read.name.name(), spot), &read.source) {
         (None, None) => true,
         (Some(now), Some(then)) => now.revision() == read.revision
             && now.source().text() == then.text(),

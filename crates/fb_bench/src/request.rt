@@ -5,7 +5,7 @@ ghost use Rattle.fb_history.specs.{Machine.{ToDeliver, OfTake}, Records.{call_of
 use fb_entries::jobs::{Finished, Job, Key};
 use fb_entries::library::Change;
 use fb_history::{Call, Reply, Wanted};
-use std::alloc::{AllocError, Global};
+use std::alloc::AllocError;
 use std::sync::Arc;
 
 /// A call to be made.
@@ -19,25 +19,19 @@ pub enum Request<'a> {
 }
 
 /// The delivery of a result, sharing its texts.
-pub(crate) fn call_of_result(
-    alloc: Global,
-    key: Arc<Key>,
-    finished: &Finished,
-) -> Result<Call, AllocError>
+pub(crate) fn call_of_result(key: Arc<Key>, finished: &Finished) -> Result<Call, AllocError>
     requires { key.value ≡ finished.now.key }
     ensures { IfOk result (λ it. call_of it ≡ ToDeliver finished.now) }
 {
     let reads = finished.texts().clone()?;
-    let wanted = Wanted { key, reads };
-    Ok(Call::Deliver(Box::new(alloc, wanted)?))
+    Ok(Call::Deliver(Wanted { key, reads }))
 }
 
 /// The job that is handed out, sharing its texts.
-pub(crate) fn reply_of_job(alloc: Global, key: Arc<Key>, job: &Job) -> Result<Reply, AllocError>
+pub(crate) fn reply_of_job(key: Arc<Key>, job: &Job) -> Result<Reply, AllocError>
     requires { key.value ≡ job.now.key }
     ensures { IfOk result (λ it. reply_of it ≡ OfTake (Some job.now)) }
 {
     let reads = job.texts().clone()?;
-    let wanted = Wanted { key, reads };
-    Ok(Reply::Job(Box::new(alloc, wanted)?))
+    Ok(Reply::Job(Wanted { key, reads }))
 }

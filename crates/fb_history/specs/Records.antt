@@ -23,7 +23,7 @@ text_edits changes = map text_edit changes
 abbrev pub call_of : Call → machine.Call
 call_of (Commit changes) = ToCommit (text_edits changes.value.items)
 call_of Take = ToTake
-call_of (Deliver it) = ToDeliver (wanted_job it.value)
+call_of (Deliver it) = ToDeliver (wanted_job it)
 call_of (GiveBack key) = ToGiveBack key.value
 call_of (Ask key) = ToAsk key.value
 
@@ -34,7 +34,7 @@ shown_in NoSuchKey = Unknown
 
 abbrev pub reply_of : Reply → machine.Reply
 reply_of (kept.Committed answer) = OfCommit answer.value
-reply_of (kept.Job it) = OfTake (Some (wanted_job it.value))
+reply_of (kept.Job it) = OfTake (Some (wanted_job it))
 reply_of kept.Nothing = OfTake None
 reply_of kept.Accepted = OfDeliver Accepted
 reply_of (kept.NotAccepted refused) = OfDeliver refused.value

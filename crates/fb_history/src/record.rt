@@ -91,11 +91,11 @@ impl TextChange {
     }
 }
 
-/// A recorded call, in 16 bytes: what is larger is in a box, or is shared with what the workbench keeps of the key.
+/// A recorded call, in 24 bytes: what is larger is in a box, or is shared with what the workbench keeps of the key.
 pub enum Call {
     Commit(Box<Vec<TextChange>>),
     Take,
-    Deliver(Box<Wanted>),
+    Deliver(Wanted),
     GiveBack(Arc<Key>),
     Ask(Arc<Key>),
 }
@@ -108,11 +108,11 @@ impl Drop for Call {
     }
 }
 
-/// The answer to a recorded call, in 16 bytes: what is larger is in a box, or is shared.
+/// The answer to a recorded call, in 24 bytes: what is larger is in a box, or is shared.
 pub enum Reply {
     Committed(Box<Committed>),
     /// The job that is handed out.
-    Job(Box<Wanted>),
+    Job(Wanted),
     /// There is no job to hand out.
     Nothing,
     /// The result is accepted.

@@ -161,7 +161,7 @@ fn has_faults<K: Cache>(kept: &K, read: &Read) -> Option<bool>
     if read.source.is_none() {
         return None;
     }
-    kept.has_faults(&read.name)
+    kept.has_faults(&read.name.name())
 }
 
 /// Which of the units that were read are known to have faults, and which are known to have none.
@@ -182,7 +182,7 @@ fn judge<K: Cache>(kept: &K, found: &mut Judged, read: &Read) -> Result<(), Allo
 {
     match has_faults(kept, read) {
         Some(true) => {
-            found.faulty.push(read.name)?;
+            found.faulty.push(read.name.name())?;
             Ok(found.faultless.push(false)?)
         }
         Some(false) => Ok(found.faultless.push(true)?),
@@ -276,7 +276,7 @@ pub(crate) fn flagged_names(
     let mut names = BTreeSet::new(alloc);
     for place in 0..reads.len() {
         if flag_at(flags, place) {
-            names.insert(reads[place].name)?;
+            names.insert(reads[place].name.name())?;
         }
     }
     Ok(names)

@@ -12,7 +12,7 @@ use std::sync::Arc;
 
 /// A value of a key, with the reads that give it, and their texts. All are shared with all others that keep them.
 pub struct Derivation {
-    key: Key,
+    key: Arc<Key>,
     reads: Arc<Vec<Read>>,
     texts: Arc<TextReads>,
     value: Arc<Value>,
@@ -36,20 +36,20 @@ impl Model for Derivation {
 
     ghost use Rattle.fb_jobs.specs.{Finished.{plain_job}, Reuse.{IsDerivation}};
 
-    ghost view = { λ it. plain_job it.key it.reads.value.items };
+    ghost view = { λ it. plain_job it.key.value it.reads.value.items };
 
-    ghost invariant = { λ it. IsDerivation it.key it.reads.value.items it.texts.value it.value.value };
+    ghost invariant = { λ it. IsDerivation it.key.value it.reads.value.items it.texts.value it.value.value };
 }
 
 impl Derivation {
     pub(crate) fn new(
-        key: Key,
+        key: Arc<Key>,
         reads: Arc<Vec<Read>>,
         texts: Arc<TextReads>,
         value: Arc<Value>,
     ) -> Derivation
-        requires { IsDerivation key reads.value.items texts.value value.value }
-        ensures { result ≡ plain_job key reads.value.items }
+        requires { IsDerivation key.value reads.value.items texts.value value.value }
+        ensures { result ≡ plain_job key.value reads.value.items }
     {
         Derivation {
             key,
@@ -63,11 +63,12 @@ impl Derivation {
     pub fn share(&self) -> Result<Derivation, AllocError>
         ensures { IfOk result (λ made. made ≡ self.now) }
     {
+        let key = self.key.clone()?;
         let reads = self.reads.clone()?;
         let texts = self.texts.clone()?;
         let value = self.value.clone()?;
         Ok(Derivation {
-            key: self.key,
+            key,
             reads,
             texts,
             value,
@@ -77,7 +78,7 @@ impl Derivation {
     pub(crate) fn key(&self) -> Key
         ensures { result ≡ self.now.key }
     {
-        self.key
+        *self.key
     }
 
     pub(crate) fn reads(&self) -> &[Read]

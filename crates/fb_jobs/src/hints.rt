@@ -63,12 +63,13 @@ fn add_hint<K: Cache>(
     ensures { OnOk result ((texts : Texts) → IsOf texts (seen_of read.now)
         → AddsChosen texts (K.kept kept.now) unit.now read.now.name hints.old.items hints.new.items) }
 {
-    if same_name(unit, &read.name) || !is_subapplication(read) {
+    let name = read.name.name();
+    if same_name(unit, &name) || !is_subapplication(read) {
         return Ok(());
     }
-    if let Some(value) = kept.value(&net_key(read.name)) {
+    if let Some(value) = kept.value(&net_key(name)) {
         hints.push(Hint {
-            unit: read.name,
+            unit: name,
             value: value.clone()?,
         })?;
     }

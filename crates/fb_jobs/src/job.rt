@@ -228,7 +228,8 @@ impl Job {
         ensures found { IfOk result (IsAt (read_names self.now.reads) name.now) }
         ensures absent { IfErr result (IsGapFor (read_names self.now.reads) name.now) }
     {
-        self.reads.binary_search_by(|read| read.name.cmp(name))
+        self.reads
+            .binary_search_by(|read| read.name.as_str().cmp(name.as_str()))
     }
 
     /// The source that was read under a name.

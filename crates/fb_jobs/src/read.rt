@@ -10,13 +10,13 @@ use fb_deploy::flatten::has_net;
 use fb_deploy::is_system;
 use fb_deploy::library::Library;
 use fb_deploy::parse::Source;
-use fb_text::Name;
+use fb_text::{CompactName, Name};
 use fb_tree::UnitKind;
 use std::sync::Arc;
 
 /// What was read under a name: a source with its revision, or nothing, with revision 0.
 pub struct Read {
-    pub name: Name,
+    pub name: CompactName,
     pub revision: u64,
     pub source: Option<Arc<Source>>,
 }

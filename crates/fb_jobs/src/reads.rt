@@ -13,7 +13,7 @@ use crate::texts::{Replacement, TextReads};
 use fb_deploy::flatten::all_far;
 use fb_deploy::library::{Library, Spot, Version, near};
 use fb_deploy::parse::Source;
-use fb_text::Name;
+use fb_text::{CompactName, Name};
 use std::alloc::{AllocError, Global};
 use std::sync::Arc;
 
@@ -29,7 +29,7 @@ pub fn needed(alloc: Global, library: &Library, key: Key) -> Result<Vec<Name>, A
 }
 
 /// That nothing is read under a name.
-fn absent(name: Name) -> Read
+fn absent(name: CompactName) -> Read
     ensures seen { seen_of result ≡ record { name = name; found = None } }
     ensures own { IsOwn result }
 {
@@ -41,7 +41,7 @@ fn absent(name: Name) -> Read
 }
 
 /// What is read under a name that has a source.
-fn present(name: Name, revision: u64, source: &Arc<Source>) -> Result<Read, AllocError>
+fn present(name: CompactName, revision: u64, source: &Arc<Source>) -> Result<Read, AllocError>
     requires { source.now.value.unit ≡ name }
     ensures seen { IfOk result (λ read. seen_of read ≡ record {
       name = name;
@@ -57,29 +57,35 @@ fn present(name: Name, revision: u64, source: &Arc<Source>) -> Result<Read, Allo
 }
 
 /// What is read under a name.
-fn read_now(library: &Library, name: Name, spot: &mut Spot) -> Result<Read, AllocError>
+fn read_now(library: &Library, name: &CompactName, spot: &mut Spot) -> Result<Read, AllocError>
     ensures seen { IfOk result
-        (λ read. seen_of read ≡ record { name = name; found = held library.now name }) }
+        (λ read. seen_of read ≡ record { name = name.now; found = held library.now name.now }) }
     ensures own { IfOk result IsOwn }
 {
-    match library.filed_near(&name, spot) {
-        Some(filed) => present(name, filed.revision(), filed.source()),
-        None => Ok(absent(name)),
+    match library.filed_near(&name.name(), spot) {
+        Some(filed) => present(name.clone()?, filed.revision(), filed.source()),
+        None => Ok(absent(name.clone()?)),
     }
 }
 
 /// What is read under a name, and what is kept of it: all by one search of the library.
-fn read_under(library: &Library, name: Name) -> Result<(Read, Option<Arc<Version>>), AllocError>
+fn read_under(
+    alloc: Global,
+    library: &Library,
+    name: Name,
+    spot: &mut Spot,
+) -> Result<(Read, Option<Arc<Version>>), AllocError>
     ensures seen { IfOk result
         (λ made. seen_of made.0 ≡ record { name = name; found = held library.now name }) }
     ensures own { IfOk result (λ made. IsOwn made.0) }
     ensures kept { IfOk result (λ made. seen_under name (text_of made.1) ≡ seen_of made.0) }
 {
-    let Some(filed) = library.filed(&name) else {
-        return Ok((absent(name), None));
+    let kept = CompactName::keep(alloc, &name)?;
+    let Some(filed) = library.filed_near(&name, spot) else {
+        return Ok((absent(kept), None));
     };
     let version = filed.version().clone()?;
-    let read = present(name, filed.revision(), filed.source())?;
+    let read = present(kept, filed.revision(), filed.source())?;
     Ok((read, Some(version)))
 }
 
@@ -94,8 +100,9 @@ pub(crate) fn reads_anew(
     let names = needed(alloc, library, key)?;
     let mut reads = Vec::with_capacity(alloc, names.len())?;
     let mut texts = ReadList::with_capacity(alloc, names.len())?;
+    let mut spot = Spot::first();
     for name in &names {
-        let (read, version) = read_under(library, *name)?;
+        let (read, version) = read_under(alloc, library, *name, &mut spot)?;
         reads.push(read)?;
         texts = texts.with(*name, version)?;
     }
@@ -147,7 +154,7 @@ fn text_instead(
     if !mentions_the_same(before, now) {
         return Ok(None);
     }
-    match version_under(library, &now.name)? {
+    match version_under(library, &now.name.name())? {
         Some(version) => Ok(Some(Some(version))),
         None => Ok(None),
     }
@@ -167,6 +174,25 @@ fn add_replacement(
     Ok(())
 }
 
+/// How many texts there are that are not empty. This touches each, and does little beside, so that the processor fetches many at once.
+fn texts_among(reads: &[Read]) -> usize {
+    let mut count: usize = 0;
+    for read in reads {
+        if has_text(read) {
+            count = count.saturating_add(1);
+        }
+    }
+    count
+}
+
+fn has_text(read: &Read) -> bool {
+    match &read.source {
+        Some(source) => Arc::strong_count(source) > 0
+            && source.text().as_bytes().first().is_some_and(|b| *b > 0),
+        None => false,
+    }
+}
+
 /// What is read now under the names of earlier reads, and the texts that replace those that were read. None if one of the names mentions something else now.
 fn read_each_again(
     alloc: Global,
@@ -177,12 +203,12 @@ fn read_each_again(
         (λ made. AreReadAgain library.now (all_seen before.now) made.0.items
         (all_replaced (all_seen before.now) made.1.items))) }
 {
-    let mut reads = Vec::with_capacity(alloc, before.len())?;
+    let mut reads = Vec::with_capacity(alloc, before.len().max(texts_among(before)))?;
     let mut replacements = Vec::new(alloc);
     let mut spot = Spot::first();
     for place in 0..before.len() {
         let it = &before[place];
-        let read = read_now(library, it.name, &mut spot)?;
+        let read = read_now(library, &it.name, &mut spot)?;
         let Some(text) = text_instead(library, it, &read)? else {
             return Ok(None);
         };
@@ -199,7 +225,8 @@ fn texts_of(alloc: Global, library: &Library, reads: &[Read]) -> Result<TextRead
 {
     let mut texts = ReadList::with_capacity(alloc, reads.len())?;
     for read in reads {
-        texts = texts.with(read.name, version_under(library, &read.name)?)?;
+        let name = read.name.name();
+        texts = texts.with(name, version_under(library, &name)?)?;
     }
     TextReads::of_list(alloc, texts)
 }

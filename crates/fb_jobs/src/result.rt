@@ -91,14 +91,15 @@ impl Finished {
         &self.work.value
     }
 
-    /// The value with the reads that give it.
-    pub fn derivation(&self) -> Result<Derivation, AllocError>
+    /// The value with the reads that give it, under a share of the key.
+    pub fn derivation(&self, key: Arc<Key>) -> Result<Derivation, AllocError>
+        requires { key.value ≡ self.now.key }
         ensures { IfOk result (λ made. made ≡ self.now) }
     {
         let reads = self.reads.clone()?;
         let texts = self.texts.clone()?;
         let value = self.work.value.clone()?;
-        Ok(Derivation::new(self.key, reads, texts, value))
+        Ok(Derivation::new(key, reads, texts, value))
     }
 
     /// The nets of other units that were computed on the way, from scratch by the same reads.

@@ -68,13 +68,14 @@ fn is_still_read(
         → (is_faultless ≡ true → faultless now.now.name ≡ true)
         → IsStillRead unit.now faultless (seen_of before.now) (seen_of now.now)) }
 {
-    if !same_name(&before.name, &now.name) {
+    let name = now.name.name();
+    if !same_name(&before.name.name(), &name) {
         return Ok(false);
     }
     match (&before.source, &now.source) {
         (None, None) => Ok(true),
         (Some(source), Some(other)) if is_faultless => {
-            is_still_text(alloc, unit, &now.name, source, other)
+            is_still_text(alloc, unit, &name, source, other)
         }
         _ => Ok(false),
     }
