@@ -6,6 +6,8 @@
 #[cfg(test)]
 mod alone;
 #[cfg(test)]
+mod by_name;
+#[cfg(test)]
 mod carried;
 #[cfg(test)]
 mod charts;

@@ -5,7 +5,7 @@ ghost use Rattle.fb_tree.specs.declared.interface.Side.TheVariants as sides;
 ghost use Rattle.fb_iface.specs.ScopeTypes.{scope_in};
 ghost use Rattle.fb_ecc.specs.Events.{event_among, event_behind, event_faults, event_in, event_named, event_of_adapter, event_on, opposite, sent_faults, side_through, span_from, trigger_faults, written_fault};
 
-use fb_iface::{Code, DeclaredInstance, Fault, Ports, Scope, is_same_side};
+use fb_iface::{Code, DeclaredInstance, Fault, PortsByName, Scope, is_same_side};
 use fb_tree::text::{Name, NameUse, Span};
 use fb_tree::{Action, Chart, Condition, End, Role, Side, State, Transition};
 use std::alloc::AllocError;
@@ -137,7 +137,7 @@ fn target_of(scope: &Scope<'_>, side: Side, event: &End) -> EventTarget
 }
 
 /// What a name means among ports.
-fn target_among(ports: &Ports<'_>, side: Side, name: &Name) -> EventTarget
+fn target_among(ports: &PortsByName<'_>, side: Side, name: &Name) -> EventTarget
     ensures { result ≡ event_among side ports.now name.now }
 {
     match ports.event(name) {
@@ -149,16 +149,16 @@ fn target_among(ports: &Ports<'_>, side: Side, name: &Name) -> EventTarget
 /// What a port of a plug or socket is.
 fn target_behind(
     scope: &Scope<'_>,
-    instance: Option<&DeclaredInstance<'_>>,
+    instance: Option<DeclaredInstance<'_>>,
     side: Side,
     name: &Name,
 ) -> EventTarget
     ensures { result ≡ event_behind (scope_in scope.now) side
-        (option_copied instance.entry) name.now }
+        instance.entry name.now }
 {
     match instance {
         Some(instance) => match through(instance.role(), side) {
-            Some(side) => target_of_adapter(scope.instance_ports(instance), side, name),
+            Some(side) => target_of_adapter(scope.instance_ports(&instance), side, name),
             None => EventTarget::Unknown,
         },
         None => EventTarget::Unknown,
@@ -166,7 +166,7 @@ fn target_behind(
 }
 
 /// What a port of an adapter is. One whose type is not usable is not checked.
-fn target_of_adapter(ports: Option<&Ports<'_>>, side: Side, name: &Name) -> EventTarget
+fn target_of_adapter(ports: Option<&PortsByName<'_>>, side: Side, name: &Name) -> EventTarget
     ensures { result ≡ event_of_adapter (option_map (λ p. p.now) ports.entry) name.now side }
 {
     match ports {

@@ -28,7 +28,7 @@ ghost use Rattle.fb_expr.specs.References.{
 use crate::names::Names;
 use crate::spans::span_of_names;
 use fb_iface::{
-    Behind, Class, Code, DeclaredInstance, DeclaredVariable, Fault, Ports, Scope, Structures,
+    Behind, Class, Code, DeclaredInstance, DeclaredVariable, Fault, PortsByName, Scope, Structures,
     UsedType, class_by_use, class_of,
 };
 use fb_tree::text::{Name, NameUse, Place, Span};
@@ -107,7 +107,7 @@ fn referred<'a>(names: Names<'a>, reference: &Reference) -> Referent<'a>
     match members.first() {
         Some(second) if !subscripted => match adapter_named(names.scope.own(), &name) {
             Some(adapter) => {
-                let port = referred_port(names.scope, adapter, second);
+                let port = referred_port(names.scope, &adapter, second);
                 referred_behind(names, port, &members[1..])
             }
             None => referred_from(names, &name, subscripted, members),
@@ -142,10 +142,10 @@ fn referred_variable<'a>(scope: &Scope<'a>, name: &Name, subscripted: bool) -> R
 }
 
 /// The plug or the socket that a name means.
-fn adapter_named<'a>(own: &'a Ports<'a>, name: &Name) -> Option<&'a DeclaredInstance<'a>>
+fn adapter_named<'a>(own: &PortsByName<'a>, name: &Name) -> Option<DeclaredInstance<'a>>
     ensures found { is_some result ≡ is_at_adapter (stands_for own.now.instances name.now) }
     ensures named { IfSome result
-        (λ adapter. stands_for own.now.instances name.now ≡ Some adapter.now) }
+        (λ adapter. stands_for own.now.instances name.now ≡ Some adapter) }
 {
     match own.instance(name) {
         Some(instance) if is_for_adapters(instance.role()) => Some(instance),
@@ -179,7 +179,7 @@ fn referred_port<'a>(
 }
 
 /// What a name means among the data of an adapter type.
-fn referred_data<'a>(ports: &Ports<'a>, name: &Name, subscripted: bool) -> Referent<'a>
+fn referred_data<'a>(ports: &PortsByName<'a>, name: &Name, subscripted: bool) -> Referent<'a>
     ensures { result ≡ data_referent (stands_for ports.now.variables name.now) subscripted }
 {
     match ports.variable(name) {

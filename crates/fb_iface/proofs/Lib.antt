@@ -5,6 +5,7 @@ pub mod DuplicateLemmas
 pub mod FaultLemmas
 pub mod FieldLemmas
 pub mod FieldsLocal
+pub mod FindLemmas
 pub mod NameLemmas
 pub mod PlaceLemmas
 pub mod RepeatLemmas

@@ -5,6 +5,7 @@ pub mod Names
 pub mod Spaces
 pub mod Sides
 pub mod Ports
+pub mod ByName
 pub mod Withs
 pub mod Class
 pub mod Literals

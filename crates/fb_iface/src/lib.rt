@@ -1,6 +1,7 @@
 //! Faults, the interfaces of units, what names mean in networks, and the check of what a unit declares.
 #![tactic(auto)]
 
+mod by_name;
 mod classes;
 mod code;
 mod declarations;
@@ -20,6 +21,7 @@ mod structures;
 mod used;
 mod withs;
 
+pub use by_name::PortsByName;
 pub use classes::{Class, class_by_form, class_by_use, class_of, class_of_constant, is_taken};
 pub use code::Code;
 pub use declarations::{iface_faults, report_declarations};

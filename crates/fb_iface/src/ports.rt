@@ -16,7 +16,7 @@ use std::marker::Model;
 /// An event of an interface, with its type if one is written: a view into the tree that declares it.
 #[derive(Drop)]
 pub struct DeclaredEvent<'a> {
-    event: &'a Event,
+    pub(crate) event: &'a Event,
 }
 
 impl<'a> Model for DeclaredEvent<'a> {
@@ -48,7 +48,7 @@ impl<'a> DeclaredEvent<'a> {
 /// A variable of an interface, or a field of a structure: a view into the tree that declares it.
 #[derive(Drop)]
 pub struct DeclaredVariable<'a> {
-    group: &'a Variables,
+    pub(crate) group: &'a Variables,
 }
 
 impl<'a> Model for DeclaredVariable<'a> {
@@ -78,7 +78,7 @@ impl<'a> DeclaredVariable<'a> {
 /// An instance, a plug or a socket: a view into the tree that declares it.
 #[derive(Drop)]
 pub struct DeclaredInstance<'a> {
-    instance: &'a Instance,
+    pub(crate) instance: &'a Instance,
 }
 
 impl<'a> Model for DeclaredInstance<'a> {
@@ -132,7 +132,7 @@ impl<'a> Model for Ports<'a> {
 }
 
 impl<'a> Ports<'a> {
-    ghost use Rattle.std.specs.{Prelude.{[]}, Option.{option_copied}};
+    ghost use Rattle.std.specs.Prelude.{[]};
     ghost use Rattle.fb_tree.specs.Tree.{type_tree};
     ghost use Rattle.fb_iface.specs.{Names.{stands_for}, Ports.{meanings_in_network, meanings_in_type}};
 
@@ -171,26 +171,37 @@ impl<'a> Ports<'a> {
 
     /// The event that the name means.
     #[tactic(auto, using(crate::proofs::TableLemmas::found_by_name))]
-    pub fn event(&self, name: &Name) -> Option<&DeclaredEvent<'a>>
-        ensures { option_copied result ≡ stands_for self.now.events name.now }
+    pub fn event(&self, name: &Name) -> Option<DeclaredEvent<'a>>
+        ensures { result ≡ stands_for self.now.events name.now }
     {
-        self.events.get(name)
+        match self.events.get(name) {
+            Some(found) => Some(DeclaredEvent { event: found.event }),
+            None => None,
+        }
     }
 
     /// The variable that the name means, an internal one too.
     #[tactic(auto, using(crate::proofs::TableLemmas::found_by_name))]
-    pub fn variable(&self, name: &Name) -> Option<&DeclaredVariable<'a>>
-        ensures { option_copied result ≡ stands_for self.now.variables name.now }
+    pub fn variable(&self, name: &Name) -> Option<DeclaredVariable<'a>>
+        ensures { result ≡ stands_for self.now.variables name.now }
     {
-        self.variables.get(name)
+        match self.variables.get(name) {
+            Some(found) => Some(DeclaredVariable { group: found.group }),
+            None => None,
+        }
     }
 
     /// The instance, plug or socket that the name means.
     #[tactic(auto, using(crate::proofs::TableLemmas::found_by_name))]
-    pub fn instance(&self, name: &Name) -> Option<&DeclaredInstance<'a>>
-        ensures { option_copied result ≡ stands_for self.now.instances name.now }
+    pub fn instance(&self, name: &Name) -> Option<DeclaredInstance<'a>>
+        ensures { result ≡ stands_for self.now.instances name.now }
     {
-        self.instances.get(name)
+        match self.instances.get(name) {
+            Some(found) => Some(DeclaredInstance {
+                instance: found.instance,
+            }),
+            None => None,
+        }
     }
 
     /// The events by their names: the event inputs are those of the side `Input`.

@@ -109,7 +109,7 @@ fn report_variables(
 }
 
 /// Whether there are more variables than this.
-fn are_more(groups: &[Variables], count: usize) -> bool
+pub(crate) fn are_more(groups: &[Variables], count: usize) -> bool
     ensures { IsTrue result ↔ (count < length (flat_map (λ v. v.names.items) groups.now)) }
 {
     let mut left = count;

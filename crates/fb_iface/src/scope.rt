@@ -5,6 +5,7 @@ ghost use Rattle.fb_library.specs.View.{tree_at};
 ghost use Rattle.fb_iface.specs.Scope.{instance_ports, mentioned_type, ports_of, scope_of_network, scope_of_type, type_ports_of};
 ghost use Rattle.fb_iface.specs.ScopeTypes.{kept_of, scope_in, with_type};
 
+use crate::by_name::PortsByName;
 use crate::instances::is_suited;
 use crate::interfaces;
 use crate::ports::{DeclaredInstance, Ports};
@@ -18,12 +19,12 @@ use std::collections::HashMap;
 #[derive(Drop)]
 struct TypePorts<'a> {
     kind: UnitKind,
-    ports: Ports<'a>,
+    ports: PortsByName<'a>,
 }
 
 /// What names mean in a network. The ports of each type are read once, however many instances have it.
 pub struct Scope<'a> {
-    own: Ports<'a>,
+    own: PortsByName<'a>,
     types: HashMap<Name, TypePorts<'a>>,
 }
 
@@ -49,6 +50,7 @@ impl<'a> Scope<'a> {
             }) }
     {
         let types = types_of(alloc, view, network.instances.as_slice())?;
+        let own = PortsByName::by_tables(own);
         Ok(Scope { own, types })
     }
 
@@ -81,7 +83,7 @@ impl<'a> Scope<'a> {
     }
 
     /// The unit's own names.
-    pub fn own(&self) -> &Ports<'a>
+    pub fn own(&self) -> &PortsByName<'a>
         ensures { result.now ≡ (scope_in self.now).own }
     {
         &self.own
@@ -89,7 +91,7 @@ impl<'a> Scope<'a> {
 
     /// The ports of a type that an instance of the network has, if it is usable in this role: present, not broken and of the
     /// kind that the section of the instance requires.
-    pub fn type_ports(&self, role: Role, type_name: &Name) -> Option<&Ports<'a>>
+    pub fn type_ports(&self, role: Role, type_name: &Name) -> Option<&PortsByName<'a>>
         ensures { option_map (λ p. p.now) result
             ≡ (scope_in self.now).type_ports role type_name.now }
     {
@@ -100,18 +102,18 @@ impl<'a> Scope<'a> {
     }
 
     /// The ports of an instance, a plug or a socket, if its type is usable.
-    pub fn instance_ports(&self, instance: &DeclaredInstance<'_>) -> Option<&Ports<'a>>
+    pub fn instance_ports(&self, instance: &DeclaredInstance<'_>) -> Option<&PortsByName<'a>>
         ensures { option_map (λ p. p.now) result ≡ instance_ports (scope_in self.now) instance.now }
     {
         self.type_ports(instance.role(), &instance.type_name().name.name())
     }
 
     /// The ports of what the name means among the instances, plugs and sockets.
-    pub fn ports_of(&self, name: &Name) -> Option<&Ports<'a>>
+    pub fn ports_of(&self, name: &Name) -> Option<&PortsByName<'a>>
         ensures { option_map (λ p. p.now) result ≡ ports_of (scope_in self.now) name.now }
     {
         match self.own.instance(name) {
-            Some(instance) => self.instance_ports(instance),
+            Some(instance) => self.instance_ports(&instance),
             None => None,
         }
     }
@@ -151,7 +153,7 @@ fn add_type<'a, V: View>(
     if let Some(decl) = tree_by_name(view, name) {
         let kept = TypePorts {
             kind: kind(decl),
-            ports: interfaces::ports_of(alloc, decl)?,
+            ports: interfaces::ports_by_name(alloc, decl)?,
         };
         types.insert(*name, kept)?;
     }

@@ -1,12 +1,13 @@
 //! What the ends of connections name (IEC 61499-1, 5.3: composite types; 5.4: subapplication types; 5.5: adapters).
-ghost use Rattle.std.specs.{Prelude.{◌≡◌}, Option.{option_and_then, option_copied, option_map}};
+ghost use Rattle.std.specs.{Prelude.{◌≡◌}, Option.{option_and_then, option_map}};
 ghost use Rattle.fb_iface.specs.{ScopeTypes.{scope_in}, Names.{stands_for}, Scope.{instance_ports}};
 ghost use Rattle.fb_netcheck.specs.Settings.{place_in};
 ghost use Rattle.fb_netcheck.specs.Ends.{adapter_port, data_port, end_span, event_port, holder_of, is_right, last_name, port_in, right_side, target, target_in, target_of, target_of_instance};
 
 use crate::setting::Setting;
 use fb_iface::{
-    DeclaredEvent, DeclaredInstance, DeclaredVariable, Ports, UsedName, UsedType, is_same_side,
+    DeclaredEvent, DeclaredInstance, DeclaredVariable, PortsByName, UsedName, UsedType,
+    is_same_side,
 };
 use fb_tree::text::{Name, NameUse, Span};
 use fb_tree::{End, Role, Section, Side, Sort, UnitKind};
@@ -109,18 +110,18 @@ pub fn target_at<'a>(here: &Setting<'a>, sort: Sort, end: &End) -> Target<'a>
 fn target_at_instance<'a>(
     here: &Setting<'a>,
     sort: Sort,
-    instance: Option<&DeclaredInstance<'_>>,
+    instance: Option<DeclaredInstance<'_>>,
     name: &Name,
 ) -> Target<'a>
-    ensures { result ≡ target_of_instance here.now.kind sort (option_copied instance.entry)
-        (option_and_then (instance_ports (scope_in here.now.scope)) (option_copied instance.entry)) name.now }
+    ensures { result ≡ target_of_instance here.now.kind sort instance.entry
+        (option_and_then (instance_ports (scope_in here.now.scope)) instance.entry) name.now }
 {
     match instance {
         None => Target::Unknown,
         Some(instance) => match held_by(here.kind, sort, instance.role()) {
             None => Target::Unknown,
             Some(holder) => {
-                let ports = here.scope.instance_ports(instance);
+                let ports = here.scope.instance_ports(&instance);
                 target_at_type(holder, sort, ports, name)
             }
         },
@@ -143,7 +144,7 @@ fn held_by(kind: UnitKind, sort: Sort, role: Role) -> Option<Holder>
 fn target_at_type<'a>(
     holder: Holder,
     sort: Sort,
-    ports: Option<&Ports<'a>>,
+    ports: Option<&PortsByName<'a>>,
     name: &Name,
 ) -> Target<'a>
     ensures { result ≡ target_in holder sort (option_map (λ p. p.now) ports.entry) name.now }
@@ -164,7 +165,7 @@ fn found<'a>(holder: Holder, port: Option<Port<'a>>) -> Target<'a>
 }
 
 /// The port of this sort that a name means.
-fn port_by_name<'a>(sort: Sort, ports: &Ports<'a>, name: &Name) -> Option<Port<'a>>
+fn port_by_name<'a>(sort: Sort, ports: &PortsByName<'a>, name: &Name) -> Option<Port<'a>>
     ensures { result ≡ port_in sort ports.now name.now }
 {
     match sort {
@@ -174,11 +175,11 @@ fn port_by_name<'a>(sort: Sort, ports: &Ports<'a>, name: &Name) -> Option<Port<'
     }
 }
 
-fn event_by_name<'a>(ports: &Ports<'a>, name: &Name) -> Option<Port<'a>>
+fn event_by_name<'a>(ports: &PortsByName<'a>, name: &Name) -> Option<Port<'a>>
     ensures { result ≡ option_map event_port (stands_for ports.now.events name.now) }
 {
     match ports.event(name) {
-        Some(event) => Some(port_of_event(event)),
+        Some(event) => Some(port_of_event(&event)),
         None => None,
     }
 }
@@ -192,11 +193,11 @@ fn port_of_event<'a>(event: &DeclaredEvent<'a>) -> Port<'a>
     }
 }
 
-fn data_by_name<'a>(ports: &Ports<'a>, name: &Name) -> Option<Port<'a>>
+fn data_by_name<'a>(ports: &PortsByName<'a>, name: &Name) -> Option<Port<'a>>
     ensures { result ≡ option_and_then data_port (stands_for ports.now.variables name.now) }
 {
     match ports.variable(name) {
-        Some(variable) => port_of_variable(variable),
+        Some(variable) => port_of_variable(&variable),
         None => None,
     }
 }
@@ -219,11 +220,11 @@ fn port_of_variable<'a>(variable: &DeclaredVariable<'a>) -> Option<Port<'a>>
     }
 }
 
-fn adapter_by_name<'a>(ports: &Ports<'a>, name: &Name) -> Option<Port<'a>>
+fn adapter_by_name<'a>(ports: &PortsByName<'a>, name: &Name) -> Option<Port<'a>>
     ensures { result ≡ option_and_then adapter_port (stands_for ports.now.instances name.now) }
 {
     match ports.instance(name) {
-        Some(instance) => port_of_instance(instance),
+        Some(instance) => port_of_instance(&instance),
         None => None,
     }
 }

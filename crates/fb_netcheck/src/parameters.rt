@@ -1,10 +1,10 @@
 //! Parameters of block instances.
-ghost use Rattle.std.specs.{Prelude.{◌≡◌, ◌++◌, None, OnOk, map}, List.{flat_map}, Option.{option_copied, option_map}};
+ghost use Rattle.std.specs.{Prelude.{◌≡◌, ◌++◌, None, OnOk, map}, List.{flat_map}, Option.{option_map}};
 ghost use Rattle.fb_tree.specs.Tree.{instance_tree, parameter_tree};
 ghost use Rattle.fb_iface.specs.{Names.{stands_for}, ScopeTypes.{scope_in}};
 ghost use Rattle.fb_netcheck.specs.Parameters.{instance_parameters, parameter_faults, typed_parameters};
 
-use fb_iface::{Code, DeclaredVariable, Fault, Ports, Scope, report_constant};
+use fb_iface::{Code, DeclaredVariable, Fault, PortsByName, Scope, report_constant};
 use fb_tree::{Instance, Parameter, Role, Section};
 use std::alloc::AllocError;
 
@@ -45,7 +45,7 @@ fn report_in_instance(
 
 /// Reports the parameters of an instance whose type has these ports, if it is usable.
 fn report_typed(
-    ports: Option<&Ports<'_>>,
+    ports: Option<&PortsByName<'_>>,
     parameters: &[Parameter],
     found: &mut Vec<Fault>,
 ) -> Result<(), AllocError>
@@ -61,7 +61,7 @@ fn report_typed(
 }
 
 fn report_of_type(
-    ports: &Ports<'_>,
+    ports: &PortsByName<'_>,
     parameters: &[Parameter],
     found: &mut Vec<Fault>,
 ) -> Result<(), AllocError>
@@ -82,13 +82,13 @@ fn report_of_type(
 
 /// Reports a parameter that is no data input, or whose value does not fit.
 fn report_parameter(
-    variable: Option<&DeclaredVariable<'_>>,
+    variable: Option<DeclaredVariable<'_>>,
     parameter: &Parameter,
     found: &mut Vec<Fault>,
 ) -> Result<(), AllocError>
     ensures { OnOk result (found.new.items
         ≡ found.old.items
-        ++ parameter_faults (option_copied variable.entry) (parameter_tree parameter.now)) }
+        ++ parameter_faults variable.entry (parameter_tree parameter.now)) }
 {
     match variable {
         Some(variable) => match variable.section() {

@@ -12,4 +12,4 @@ returns-in_ok-insert g c =
     let decl = decl_tree c.in-Some.decl.now in
     let there : tree_at (g.V.View.sources c.args.view.now) name ≡ Some decl = grind (arith, common_steps) in
     let absent : is_some (old name) ≡ false = sym c.contains_key.ensures ∙ c.if-contains_key.false in
-    λ q. with_type-new name q decl (tree_at (g.V.View.sources c.args.view.now) name) (record { kind = c.kind.result; ports = c.in_ok-ports_of.field-0 }) old (get (pointwise nat_eq) c.insert.new.self q) there (λ i. record { kind = c.kind.ensures i; ports = c.in_ok-ports_of.ensures i }) absent (c.in_ok-insert.ensures.updates.0 q)
+    λ q. with_type-new name q decl (tree_at (g.V.View.sources c.args.view.now) name) (record { kind = c.kind.result; ports = c.in_ok-ports_by_name.field-0 }) old (get (pointwise nat_eq) c.insert.new.self q) there (λ i. record { kind = c.kind.ensures i; ports = c.in_ok-ports_by_name.ensures i }) absent (c.in_ok-insert.ensures.updates.0 q)

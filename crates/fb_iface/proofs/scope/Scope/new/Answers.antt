@@ -11,6 +11,6 @@ returns g c =
     let mentioned = λ (name : List ℕ). mentioned_type sources (map instance_tree c.args.network.now.instances.items) name in
     let types : (name : List ℕ) → get (pointwise nat_eq) c.in_ok-types.types name ≡ option_map kept_of (mentioned name) = λ name. c.in_ok-types.ensures name ∙ ap (λ l. option_map kept_of (mentioned_type sources (map instance_tree l) name)) c.as_slice.ensures.value in
     λ i. record {
-      own = c.args.own;
+      own = c.by_tables-own.ensures i;
       type_ports = λ role name. (ap (kept_ports role) (types name) ∙ kept_usable role (mentioned name)) i;
     }

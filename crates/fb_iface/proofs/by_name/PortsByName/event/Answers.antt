@@ -1,0 +1,12 @@
+use Rattle.std.proofs.Common.{sym, ap, ◌∙◌}
+use Rattle.fb_tree.specs.Tree.{type_tree}
+use Rattle.fb_iface.specs.{ByName.{meanings_by}, Names.{stands_for}, Ports.{Meanings}}
+use Rattle.fb_iface.proofs.FindLemmas.{event_in_type}
+use Rattle.fb_iface.proofs.by_name.PortsByName.event.Goals as goal
+
+pub returns-in-Tree : goal.returns-in-Tree
+returns-in-Tree c =
+    let name = c.args.name.now in
+    c.find_event.ensures
+    ∙ event_in_type (type_tree c.in-Tree.declared.now) name
+    ∙ ap (λ (m : Meanings). stands_for m.events name) (ap meanings_by (sym c.in-Tree.is) ∙ c.self.view_is)
