@@ -64,5 +64,5 @@ pub mod flatten {
 
 /// Of `fb_deploy`, for the crates above.
 pub mod deploy {
-    pub use fb_deploy::{Command, Deploy, Plan, ResourcePlan};
+    pub use fb_deploy::{Deploy, Plan, ResourcePlan};
 }

@@ -42,7 +42,7 @@ pub mod plain {
 
 /// Of `fb_placing`, for the crates above.
 pub mod placing {
-    pub use fb_placing::{Command, Home, Homes, Misplaced, Plan, ResourcePlan, homes_of, plan_of};
+    pub use fb_placing::{Home, Homes, Misplaced, Plan, ResourcePlan, homes_of, plan_of};
 }
 
 /// Of `fb_flatten`, for the crates above.

@@ -13,6 +13,11 @@ one_token : {E : Type 0} (r : Result (Unit {0}) E) (old new : Written) (t : Toke
 one_token (Ok done) old new t wrote = (wrote.room.0, wrote.ok)
 one_token (Err e) old new t wrote = tt
 
+-- a token, and what is written behind it
+pub keyed : (old mid new : Written) (t : Token) (us : List Token) → (mid.before ≡ old.before) × (mid.tokens ≡ old.tokens ++ t ∷ []) → (new.before ≡ mid.before) × (new.tokens ≡ mid.tokens ++ us)
+    → (new.before ≡ old.before) × (new.tokens ≡ old.tokens ++ t ∷ us)
+keyed old mid new t us = after {E = Unit {0}} (Ok tt) old mid new (t ∷ []) us
+
 pub two_members : {E : Type 0} (r : Result (Unit {0}) E) (old begun one two new : Written) (a b : List Token)
     → (begun.before ≡ old.before) × (begun.tokens ≡ old.tokens ++ begin_object ∷ [])
     → (one.before ≡ begun.before) × (one.tokens ≡ begun.tokens ++ a) → (two.before ≡ one.before) × (two.tokens ≡ one.tokens ++ b) → Writes r two new end_object

@@ -1,12 +1,12 @@
 //! The replies that show plans.
-ghost use Rattle.std.specs.Prelude.{codes};
-ghost use Rattle.serde_json.specs.Data.{array, string};
+ghost use Rattle.serde_json.specs.Data.{array};
 ghost use Rattle.fb_jobs.specs.Deploy.Deploy.{plain_deploy};
-ghost use Rattle.fb_messages.specs.{DeployReplies.{deploy_said, misplaced_item, plan_said, resource_item, resource_items}, NetReplies.{link_items}};
-ghost use Rattle.fb_messages.specs.Tokens.{IsMember, IsSaid};
+ghost use Rattle.fb_messages.specs.{DeployReplies.{command_items, deploy_said, misplaced_item, plan_said, resource_item, resource_items}};
+ghost use Rattle.fb_messages.specs.{NetReplies.{link_items}, Tokens.{IsSaid}};
 
-use crate::to_json::{ToJson, write_list, write_list_member, write_one, write_one_list, write_two};
-use fb_jobs::deploy::{Command, Deploy, Plan, ResourcePlan};
+use crate::net_reply::sort_text;
+use crate::to_json::{ToJson, write_one, write_one_list, write_three, write_two};
+use fb_jobs::deploy::{Deploy, Plan, ResourcePlan};
 use fb_jobs::placing::Misplaced;
 use json::Writer;
 use std::alloc::AllocError;
@@ -22,45 +22,67 @@ impl ToJson for Misplaced {
     }
 }
 
-impl ToJson for Command {
-    ghost said = { string };
-
-    fn write(&self, out: &mut Writer) -> Result<(), AllocError> {
-        out.string(self.as_str())
-    }
-}
-
-impl ToJson for ResourcePlan {
-    ghost said = { resource_item };
-
-    fn write(&self, out: &mut Writer) -> Result<(), AllocError> {
-        out.begin_array()?;
-        out.string(self.name().as_str())?;
-        write_list(out, self.commands())?;
-        out.end_array()
-    }
-}
-
+/// The links between resources. Two texts are used for all places.
 fn write_cuts(out: &mut Writer, plan: &Plan) -> Result<(), AllocError>
-    ensures { IsMember result out.old out.new (codes "cuts") (array (link_items plan.now.cuts)) }
+    ensures { IsSaid result out.old out.new (array (link_items plan.now.cuts)) }
 {
-    let cuts = plan.plain_cuts(plan.allocator())?;
-    write_list_member(out, "cuts", &cuts)
+    let mut from = String::new(plan.allocator());
+    let mut to = String::new(plan.allocator());
+    out.begin_array()?;
+    for place in 0..plan.cut_count() {
+        let sort = plan.put_cut(place, &mut from, &mut to)?;
+        write_three(out, sort_text(sort), from.as_str(), to.as_str())?;
+    }
+    out.end_array()
 }
 
-fn write_resources(out: &mut Writer, plan: &Plan) -> Result<(), AllocError>
-    ensures { IsMember result out.old out.new (codes "resources")
-        (array (resource_items plan.now.resources)) }
+fn write_commands(
+    out: &mut Writer,
+    resource: &ResourcePlan<'_>,
+    text: &mut String,
+) -> Result<(), AllocError>
+    ensures { IsSaid result out.old out.new (array (command_items resource.now.commands)) }
 {
-    let resources = plan.plain_resources(plan.allocator())?;
-    write_list_member(out, "resources", &resources)
+    out.begin_array()?;
+    for place in 0..resource.command_count() {
+        resource.put_command(place, text)?;
+        out.string(text.as_str())?;
+    }
+    out.end_array()
+}
+
+fn write_resource(
+    out: &mut Writer,
+    resource: &ResourcePlan<'_>,
+    text: &mut String,
+) -> Result<(), AllocError>
+    ensures { IsSaid result out.old out.new (resource_item resource.now) }
+{
+    out.begin_array()?;
+    out.string(resource.name().as_str())?;
+    write_commands(out, resource, text)?;
+    out.end_array()
+}
+
+/// The resources. One text is used for all commands.
+fn write_resources(out: &mut Writer, plan: &Plan) -> Result<(), AllocError>
+    ensures { IsSaid result out.old out.new (array (resource_items plan.now.resources)) }
+{
+    let mut text = String::new(plan.allocator());
+    out.begin_array()?;
+    for place in 0..plan.resource_count() {
+        write_resource(out, &plan.resource(place), &mut text)?;
+    }
+    out.end_array()
 }
 
 fn write_plan(out: &mut Writer, plan: &Plan) -> Result<(), AllocError>
     ensures { IsSaid result out.old out.new (plan_said plan.now.cuts plan.now.resources) }
 {
     out.begin_object()?;
+    out.key("cuts")?;
     write_cuts(out, plan)?;
+    out.key("resources")?;
     write_resources(out, plan)?;
     out.end_object()
 }

@@ -2,31 +2,22 @@
 ghost use Rattle.std.specs.Prelude.{◌≡◌};
 ghost use Rattle.serde_json.specs.Data.{array};
 ghost use Rattle.fb_jobs.specs.Flatten.Net.{plain_net};
-ghost use Rattle.fb_messages.specs.{NetReplies.{block_items, border_items, flat_said, link_item, link_items, net_said, sort_text}, Tokens.{IsSaid}};
+ghost use Rattle.fb_messages.specs.{NetReplies.{block_items, border_items, flat_said, link_items, net_said, sort_text}, Tokens.{IsSaid}};
 
 use crate::to_json::{ToJson, write_one_list, write_three, write_two};
 use fb_jobs::flatten::Net;
-use fb_network::{Flat, Link};
+use fb_network::Flat;
 use fb_tree::Sort;
 use json::Writer;
 use std::alloc::AllocError;
 
-fn sort_text(sort: Sort) -> &'static str
+pub fn sort_text(sort: Sort) -> &'static str
     ensures { result.now ≡ sort_text sort }
 {
     match sort {
         Sort::Event => "event",
         Sort::Data => "data",
         Sort::Adapter => "adapter",
-    }
-}
-
-impl ToJson for Link {
-    ghost said = { link_item };
-
-    fn write(&self, out: &mut Writer) -> Result<(), AllocError> {
-        let sort = sort_text(self.sort);
-        write_three(out, sort, self.from.as_str(), self.to.as_str())
     }
 }
 

@@ -93,18 +93,6 @@ pub fn write_text_member(out: &mut Writer, name: &str, text: &str) -> Result<(),
     out.string(text)
 }
 
-/// A member that is a list.
-pub fn write_list_member<T: ToJson>(
-    out: &mut Writer,
-    name: &str,
-    items: &[T],
-) -> Result<(), AllocError>
-    ensures { IsMember result out.old out.new name.now (array (items_of (map T.said items.now))) }
-{
-    out.key(name)?;
-    write_list(out, items)
-}
-
 /// An object with one member.
 pub fn write_one<T: ToJson>(out: &mut Writer, name: &str, value: &T) -> Result<(), AllocError>
     ensures { IsSaid result out.old out.new (one_member name.now (T.said value.now)) }
@@ -133,6 +121,7 @@ pub fn write_one_list<T: ToJson>(
         (one_member name.now (array (items_of (map T.said items.now)))) }
 {
     out.begin_object()?;
-    write_list_member(out, name, items)?;
+    out.key(name)?;
+    write_list(out, items)?;
     out.end_object()
 }

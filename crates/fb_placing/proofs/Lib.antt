@@ -17,7 +17,6 @@ pub mod CreateLemmas
 pub mod IndexLemmas
 pub mod ResourceLemmas
 pub mod InsideLemmas
-pub mod SameLists
 pub mod HousedLemmas
 pub mod ApartLemmas
 pub mod ListedLemmas

@@ -1,7 +1,6 @@
 -- Texts in parts, byte by byte.
-use Rattle.std.proofs.Common.{ℕ, zero, suc, ◌≡◌, Bool, true, false, ◌<◌, ◌≤◌, ◌+◌, List, [], ◌∷◌, ◌++◌, Some, None, length, get_or, take, drop, refl, sym, ap, ◌∙◌, arith, add-one, append-nil, ◌↔◌, IsTrue}
-use Rattle.std.proofs.lemmas.Option.{slice_get-get_or}
-use Rattle.std.proofs.{Math.Seq.{drop-cons, take-suc}, lemmas.Grind.{flat_map-append, same_number_lists}, lemmas.List.{drop_all, take_all}}
+use Rattle.std.proofs.Common.{ℕ, zero, suc, ◌≡◌, Bool, true, false, ◌<◌, ◌≤◌, ◌+◌, List, [], ◌∷◌, ◌++◌, Some, None, length, get_or, take, drop, refl, sym, ap, ◌∙◌, arith, add-one, append-nil}
+use Rattle.std.proofs.{Math.Seq.{drop-cons, take-suc}, lemmas.Grind.{flat_map-append}, lemmas.List.{drop_all, take_all}}
 use Rattle.std.specs.{Prelude.{not, slice_get}, Str.{bytes_eq}, Cmp.Lexicographic.{same_text}, Borrow.{Bor}}
 use Rattle.fb_placing.specs.TextParts.{joined}
 
@@ -49,14 +48,16 @@ joined_more parts i lt =
 pub joined_all : (parts : List (Bor (List ℕ))) (i : ℕ) → length parts ≤ i → joined (take i parts) ≡ joined parts
 joined_all parts i past = ap joined (take_all i parts past)
 
-some_same : (a b : ℕ) → Some a ≡ Some b → a ≡ b
+some_same : {X : Type 0} (a b : X) → Some a ≡ Some b → a ≡ b
 some_same a b e = cc
 
--- texts of one length with the same bytes
-pub same_by_bytes : (xs ys : List ℕ) → length xs ≡ length ys → ((k : ℕ) → k < length xs → slice_get xs k ≡ slice_get ys k) → xs ≡ ys
-same_by_bytes xs ys long same =
-    same_number_lists xs ys long
-    (λ k lt. some_same (get_or xs k 0) (get_or ys k 0) (sym (slice_get-get_or xs k 0 lt) ∙ same k lt ∙ slice_get-get_or ys k 0 (omega (arith, lt, long))))
+-- lists of one length with the same items
+pub same_by_items : {X : Type 0} (xs ys : List X) → length xs ≡ length ys → ((k : ℕ) → k < length xs → slice_get xs k ≡ slice_get ys k) → xs ≡ ys
+same_by_items [] [] long same = refl
+same_by_items [] (y ∷ ys) long same = absurd (omega (arith, long))
+same_by_items (x ∷ xs) [] long same = absurd (omega (arith, long))
+same_by_items (x ∷ xs) (y ∷ ys) long same =
+    λ i. some_same x y (same 0 (omega (arith))) i ∷ same_by_items xs ys (omega (arith, long)) (λ k lt. same (suc k) (omega (arith, lt))) i
 
 -- texts that are not told apart are one
 pub same_unless : (xs ys : List ℕ) (b : Bool) → b ≡ not (bytes_eq xs ys) → b ≡ false → xs ≡ ys
@@ -65,7 +66,3 @@ same_unless xs ys b e f = by_test (bytes_eq xs ys) refl
     by_test : (t : Bool) → bytes_eq xs ys ≡ t → xs ≡ ys
     by_test true h = same_text xs ys (sym h)
     by_test false h = absurd (let no : true ≡ false = sym (e ∙ ap not h) ∙ f in cc)
-
--- what is told of two texts
-pub told_same : (told : Bool) (x x' y y' : List ℕ) → x ≡ x' → y ≡ y' → IsTrue told ↔ (x ≡ y) → IsTrue told ↔ (x' ≡ y')
-told_same told x x' y y' p q same = (λ t. sym p ∙ same.0 t ∙ q, λ e. same.1 (p ∙ e ∙ sym q))

@@ -15,8 +15,7 @@ pub use laws::homes_are_nearest;
 pub use paths::names::path_names;
 pub use plan::Plan;
 pub use plan::build::plan_of;
-pub use plan::command::Command;
-pub use plan::resources::ResourcePlan;
+pub use plan::shown::ResourcePlan;
 
 /// Of `fb_network`, for the crates above.
 pub mod plain {

@@ -1,5 +1,5 @@
 //! Plans: a flat network, and the commands of each resource by numbers.
-ghost use Rattle.std.specs.Prelude.{◌≡◌, ◌↔◌, IfOk, IsTrue};
+ghost use Rattle.std.specs.Prelude.{◌≡◌, ◌↔◌, IsTrue};
 ghost use Rattle.fb_placing.specs.CommandIndexes.{plain_plan};
 
 pub(crate) mod assigned_commands;
@@ -11,15 +11,15 @@ mod constants;
 mod create_commands;
 pub(crate) mod resources;
 mod same;
+pub(crate) mod shown;
 pub(crate) mod text_parts;
 mod write_commands;
 
 use crate::plan::command::Command;
-use crate::plan::command_index::{ResourceCommands, plain_links, plain_resources};
-use crate::plan::resources::ResourcePlan;
-use crate::plan::same::{Subject, are_same_links, are_same_resources};
-use fb_network::{Flat, Link};
-use std::alloc::{AllocError, Global};
+use crate::plan::command_index::ResourceCommands;
+use crate::plan::same::{are_same_links, are_same_resources};
+use fb_network::Flat;
+use std::alloc::Global;
 use std::marker::Model;
 
 /// The links between resources, and the commands of each resource, in the order of the text. They refer to blocks and
@@ -74,33 +74,11 @@ impl Plan {
         *self.cuts.allocator()
     }
 
-    /// The links between resources as plain values, in order.
-    pub fn plain_cuts(&self, alloc: Global) -> Result<Vec<Link>, AllocError>
-        ensures { IfOk result (λ cuts. cuts.items ≡ self.now.cuts) }
-    {
-        plain_links(alloc, &self.flat, &self.cuts)
-    }
-
-    /// The resources as plain values, in the order of the text, each with its commands in their order.
-    pub fn plain_resources(&self, alloc: Global) -> Result<Vec<ResourcePlan>, AllocError>
-        ensures { IfOk result (λ resources. resources.items ≡ self.now.resources) }
-    {
-        plain_resources(alloc, &self.flat, &self.writes, &self.resources)
-    }
-
     /// Whether both have the same content. It takes no memory.
     pub fn is_same(&self, other: &Plan) -> bool
         ensures { IsTrue result ↔ (self.now ≡ other.now) }
     {
-        let it = Subject {
-            flat: &self.flat,
-            writes: &self.writes,
-        };
-        let others = Subject {
-            flat: &other.flat,
-            writes: &other.writes,
-        };
         are_same_links(&self.flat, &self.cuts, &other.flat, &other.cuts)
-            && are_same_resources(&it, &self.resources, &others, &other.resources)
+            && are_same_resources(self, other)
     }
 }

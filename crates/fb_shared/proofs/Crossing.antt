@@ -35,7 +35,6 @@ use Rattle.fb_types.specs.Network.contracts.flat.Flat as Flat
 use Rattle.fb_types.specs.contracts.nets.Net as Net
 use Rattle.fb_locked.specs.Placing.contracts.homes.Misplaced as Misplaced
 use Rattle.fb_locked.specs.Placing.contracts.plan.command.Command as Command
-use Rattle.fb_locked.specs.Placing.contracts.plan.resources.ResourcePlan as ResourcePlan
 use Rattle.fb_locked.specs.Deploy.contracts.planning.Deploy as Deploy
 use Rattle.fb_locked.specs.Jobs.contracts.value.Value as Value
 use Rattle.fb_locked.specs.Jobs.contracts.read.Read as Read
@@ -242,17 +241,11 @@ command_field_send = search (crosses, maps.crosses, sendable) depth 60 fits 2000
 pub command_field_sync : IsSync (Command.the_field).row
 command_field_sync = search (crosses, maps.crosses, sendable) depth 60 fits 20000
 
-pub resource_plan_field_send : IsSend (ResourcePlan.the_field).row
-resource_plan_field_send = search (path_field_send, command_field_send, crosses, maps.crosses, sendable) depth 60 fits 20000
-
-pub resource_plan_field_sync : IsSync (ResourcePlan.the_field).row
-resource_plan_field_sync = search (path_field_sync, command_field_sync, crosses, maps.crosses, sendable) depth 60 fits 20000
-
 pub deploy_field_send : IsSend (Deploy.the_field).row
-deploy_field_send = search (net_field_send, misplaced_field_send, link_field_send, resource_plan_field_send, crosses, maps.crosses, sendable) depth 60 fits 20000
+deploy_field_send = search (net_field_send, misplaced_field_send, link_field_send, command_field_send, crosses, maps.crosses, sendable) depth 60 fits 20000
 
 pub deploy_field_sync : IsSync (Deploy.the_field).row
-deploy_field_sync = search (net_field_sync, misplaced_field_sync, link_field_sync, resource_plan_field_sync, crosses, maps.crosses, sendable) depth 60 fits 20000
+deploy_field_sync = search (net_field_sync, misplaced_field_sync, link_field_sync, command_field_sync, crosses, maps.crosses, sendable) depth 60 fits 20000
 
 pub value_field_send : IsSend (Value.the_field).row
 value_field_send = search (fault_field_send, net_field_send, deploy_field_send, crosses, maps.crosses, sendable) depth 60 fits 20000

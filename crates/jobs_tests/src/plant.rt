@@ -6,7 +6,7 @@ ghost use Rattle.fb_index.specs.Indexed.{nothing_indexed};
 
 use crate::setup::{job_for, key_of, puts};
 use crate::told::{net_told, say_links};
-use fb_deploy::{Deploy, ResourcePlan, plan};
+use fb_deploy::{Deploy, Plan, plan};
 use fb_ecc::ecc_faults;
 use fb_expr::expr_faults;
 use fb_faults::faults;
@@ -117,12 +117,14 @@ fn placement_told(alloc: Global, library: &Library) -> Result<String, Fail> {
     }
 }
 
-fn resources_told(alloc: Global, resources: &[ResourcePlan]) -> Result<String, AllocError> {
-    let mut told = String::new(alloc);
-    for resource in resources {
+fn resources_told(alloc: Global, plan: &Plan) -> Result<String, AllocError> {
+    let (mut told, mut command) = (String::new(alloc), String::new(alloc));
+    for number in 0..plan.resource_count() {
+        let resource = plan.resource(number);
         write!(told, "{}", resource.name().as_str())?;
-        for command in resource.commands() {
-            write!(told, ", {}", command.as_str())?;
+        for place in 0..resource.command_count() {
+            resource.put_command(place, &mut command)?;
+            write!(told, ", {command}")?;
         }
         told.push_str("; ")?;
     }
@@ -135,7 +137,7 @@ fn plan_told(alloc: Global, library: &Library) -> Result<String, Fail> {
         return Err(Fail::from("no system"));
     }
     match plan(alloc, library, system)? {
-        Deploy::Plan(plan) => Ok(resources_told(alloc, &plan.plain_resources(alloc)?)?),
+        Deploy::Plan(plan) => Ok(resources_told(alloc, &plan)?),
         Deploy::Stopped(_) | Deploy::Faulty(_) => Err(Fail::from("no plan")),
     }
 }

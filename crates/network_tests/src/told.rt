@@ -221,21 +221,38 @@ pub fn placement_told(alloc: Global, library: &Library, system: &str) -> Result<
     placed_told(alloc, &placed)
 }
 
-fn say_commands(told: &mut String, resource: &ResourcePlan) -> Result<(), AllocError> {
-    let between = between(told);
-    write!(told, "{between}RESOURCE {}", resource.name().as_str())?;
-    for command in resource.commands() {
-        write!(told, "; {}", command.as_str())?;
+/// Adds cut links. Two texts are used for all places.
+fn say_cuts(alloc: Global, told: &mut String, plan: &Plan) -> Result<(), AllocError> {
+    let (mut from, mut to) = (String::new(alloc), String::new(alloc));
+    for place in 0..plan.cut_count() {
+        let sort = plan.put_cut(place, &mut from, &mut to)?;
+        let between = between(told);
+        write!(told, "{between}{sort:?} {from} TO {to}")?;
     }
     Ok(())
 }
 
-/// Cut links, and the commands of each resource.
+fn say_commands(
+    told: &mut String,
+    resource: &ResourcePlan<'_>,
+    command: &mut String,
+) -> Result<(), AllocError> {
+    let between = between(told);
+    write!(told, "{between}RESOURCE {}", resource.name().as_str())?;
+    for place in 0..resource.command_count() {
+        resource.put_command(place, command)?;
+        write!(told, "; {command}")?;
+    }
+    Ok(())
+}
+
+/// Cut links, and the commands of each resource. One text is used for all commands.
 fn commands_told(alloc: Global, plan: &Plan) -> Result<String, Fail> {
     let mut told = String::new(alloc);
-    say_links(&mut told, &plan.plain_cuts(alloc)?)?;
-    for resource in &plan.plain_resources(alloc)? {
-        say_commands(&mut told, resource)?;
+    say_cuts(alloc, &mut told, plan)?;
+    let mut command = String::new(alloc);
+    for place in 0..plan.resource_count() {
+        say_commands(&mut told, &plan.resource(place), &mut command)?;
     }
     Ok(told)
 }

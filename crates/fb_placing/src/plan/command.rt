@@ -4,6 +4,7 @@ ghost use Rattle.std.specs.Cmp.Lexicographic.{pointwise, nat_list_eq_equiv, nat_
 ghost use Rattle.fb_tree.specs.Text.Order.{name_cmp};
 ghost use Rattle.fb_placing.specs.TextParts.{joined};
 
+use crate::plan::text_parts::write_parts;
 use std::alloc::{AllocError, Global};
 use std::cmp::Ordering;
 use std::fmt;
@@ -43,9 +44,7 @@ impl Command {
         ensures { IfOk result (λ command. command ≡ joined parts.now) }
     {
         let mut text = String::with_capacity(alloc, room_for(parts))?;
-        for part in parts {
-            text.push_str(part)?;
-        }
+        write_parts(&mut text, parts)?;
         Ok(Command { text })
     }
 

@@ -1,10 +1,9 @@
 //! Commands by the numbers of what they are about.
 ghost use Rattle.std.specs.Prelude.{◌≡◌, IfOk, map, slice_get};
 ghost use Rattle.fb_network.specs.{Laid.{text_or_nothing}, Numbered.{link_numbered}};
-ghost use Rattle.fb_placing.specs.{CommandIndexes.{command_text, command_texts_of, plain_resource}, TextParts.{joined}};
+ghost use Rattle.fb_placing.specs.{CommandIndexes.{command_text}, TextParts.{joined}};
 
 use crate::plan::command::Command;
-use crate::plan::resources::ResourcePlan;
 use fb_network::{Flat, Link, Path};
 use std::alloc::{AllocError, Global};
 
@@ -60,42 +59,6 @@ pub(crate) fn parts_of<'a>(
         }
         CommandIndex::Start => ["START ", name.as_str(), "", "", "", ""],
     }
-}
-
-/// The commands of a resource as plain values.
-fn plain_commands(
-    alloc: Global,
-    flat: &Flat,
-    writes: &[Command],
-    it: &ResourceCommands,
-) -> Result<Vec<Command>, AllocError>
-    ensures { IfOk result (λ commands. commands.items
-        ≡ command_texts_of flat.now writes.now it.now.name it.now.items.items) }
-{
-    let mut commands = Vec::with_capacity(alloc, it.items.len())?;
-    for item in &it.items {
-        let parts = parts_of(flat, writes, &it.name, *item);
-        commands.push(Command::of_parts(alloc, &parts)?)?;
-    }
-    Ok(commands)
-}
-
-/// Resources with their commands as plain values.
-pub(crate) fn plain_resources(
-    alloc: Global,
-    flat: &Flat,
-    writes: &[Command],
-    resources: &[ResourceCommands],
-) -> Result<Vec<ResourcePlan>, AllocError>
-    ensures { IfOk result (λ plans. plans.items
-        ≡ map (plain_resource flat.now writes.now) resources.now) }
-{
-    let mut plans = Vec::with_capacity(alloc, resources.len())?;
-    for it in resources {
-        let commands = plain_commands(alloc, flat, writes, it)?;
-        plans.push(ResourcePlan::new(it.name.copy()?, commands))?;
-    }
-    Ok(plans)
 }
 
 /// A link as a plain value.

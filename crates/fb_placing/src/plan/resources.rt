@@ -1,62 +1,15 @@
-//! The resources of a system, and plans of these as plain values.
+//! The resources of a system.
 ghost use Rattle.std.specs.Prelude.{◌≡◌, ◌++◌, map, IfOk, OnOk};
 ghost use Rattle.fb_tree.specs.Tree.{device_tree, resource_tree};
 ghost use Rattle.fb_library.specs.View.{tree_at};
 ghost use Rattle.fb_network.specs.Places.{dotted};
 ghost use Rattle.fb_placing.specs.{Systems.{devices_in}, Resources.{resources_of}};
 
-use crate::plan::command::Command;
 use fb_library::{View, tree_by_name};
 use fb_network::Path;
 use fb_tree::text::Name;
 use fb_tree::{Decl, Device, Resource};
 use std::alloc::{AllocError, Global};
-use std::marker::Model;
-
-/// A resource, as `DEVICE.RESOURCE`, with its commands in their order.
-#[derive(Debug)]
-pub struct ResourcePlan {
-    name: Path,
-    commands: Vec<Command>,
-}
-
-impl Drop for ResourcePlan {
-    fn drop(self) {
-        let Self {
-            name: _,
-            commands: _,
-        } = self;
-    }
-}
-
-impl Model for ResourcePlan {
-    ghost use Rattle.fb_placing.specs.PlainResource.{PlainResource};
-
-    ghost Value = { PlainResource };
-
-    ghost view = { λ it. record { name = it.name; commands = it.commands.items } };
-}
-
-impl ResourcePlan {
-    /// The resource of this name with these commands.
-    pub(crate) fn new(name: Path, commands: Vec<Command>) -> ResourcePlan
-        ensures { result ≡ record { name = name; commands = commands.items } }
-    {
-        ResourcePlan { name, commands }
-    }
-
-    pub fn name(&self) -> &Path
-        ensures { result.now ≡ self.now.name }
-    {
-        &self.name
-    }
-
-    pub fn commands(&self) -> &[Command]
-        ensures { result.now ≡ self.now.commands }
-    {
-        &self.commands
-    }
-}
 
 /// The devices of a system.
 fn devices_of<'a, V: View>(view: &'a V, system: &Name) -> &'a [Device]

@@ -1,21 +1,13 @@
 //! Whether two plans have the same content. It takes no memory.
-ghost use Rattle.std.specs.Prelude.{◌≡◌, ◌↔◌, IsTrue, map};
+ghost use Rattle.std.specs.Prelude.{◌≡◌, ◌↔◌, ◌<◌, IsTrue, length, map, slice_get};
 ghost use Rattle.fb_tree.specs.Text.Order.{name_cmp};
 ghost use Rattle.fb_network.specs.{LinkOrder.{link_cmp}, Numbered.{link_numbered}};
-ghost use Rattle.fb_placing.specs.CommandIndexes.{command_text, command_texts_of, plain_resource};
 
-use crate::plan::command::Command;
-use crate::plan::command_index::{CommandIndex, ResourceCommands, parts_of};
+use crate::plan::Plan;
+use crate::plan::shown::ResourcePlan;
 use crate::plan::text_parts::is_same_text;
-use fb_network::{Flat, Path, compare_parts, sort_number};
+use fb_network::{Flat, compare_parts, sort_number};
 use std::cmp::Ordering;
-
-/// A flat network and the commands that set parameters, which the numbers of items are about.
-#[derive(Clone, Copy)]
-pub(crate) struct Subject<'a> {
-    pub flat: &'a Flat,
-    pub writes: &'a [Command],
-}
 
 /// The order of the paths at which two links begin, each of its own flat network.
 fn compare_froms(flat: &Flat, a: u32, other: &Flat, b: u32) -> Ordering
@@ -68,42 +60,25 @@ pub(crate) fn are_same_links(flat: &Flat, a: &[u32], other: &Flat, b: &[u32]) ->
     true
 }
 
-/// Whether both are the same command of a resource.
-fn is_same_command(
-    it: &Subject<'_>,
-    name: &Path,
-    a: CommandIndex,
-    other: &Subject<'_>,
-    other_name: &Path,
-    b: CommandIndex,
-) -> bool
-    ensures { IsTrue result
-        ↔ (command_text it.now.flat.now it.now.writes.now name.now a
-        ≡ command_text other.now.flat.now other.now.writes.now other_name.now b) }
+/// Whether both resources have the same command at a place.
+fn is_same_command(a: &ResourcePlan<'_>, b: &ResourcePlan<'_>, place: usize) -> bool
+    requires a { place < length a.now.commands }
+    requires b { place < length b.now.commands }
+    ensures { IsTrue result ↔ (slice_get a.now.commands place ≡ slice_get b.now.commands place) }
 {
-    let a = parts_of(it.flat, it.writes, name, a);
-    let b = parts_of(other.flat, other.writes, other_name, b);
-    is_same_text(&a, &b)
+    is_same_text(&a.parts(place), &b.parts(place))
 }
 
-/// Whether both lists have the same commands of a resource.
-fn are_same_commands(
-    it: &Subject<'_>,
-    name: &Path,
-    a: &[CommandIndex],
-    other: &Subject<'_>,
-    other_name: &Path,
-    b: &[CommandIndex],
-) -> bool
-    ensures { IsTrue result
-        ↔ (command_texts_of it.now.flat.now it.now.writes.now name.now a.now
-        ≡ command_texts_of other.now.flat.now other.now.writes.now other_name.now b.now) }
+/// Whether both resources have the same commands.
+#[tactic(auto, using(crate::proofs::TextPartLemmas::same_by_items))]
+fn are_same_commands(a: &ResourcePlan<'_>, b: &ResourcePlan<'_>) -> bool
+    ensures { IsTrue result ↔ (a.now.commands ≡ b.now.commands) }
 {
-    if a.len() != b.len() {
+    if a.command_count() != b.command_count() {
         return false;
     }
-    for place in 0..a.len() {
-        if !is_same_command(it, name, a[place], other, other_name, b[place]) {
+    for place in 0..a.command_count() {
+        if !is_same_command(a, b, place) {
             return false;
         }
     }
@@ -111,35 +86,22 @@ fn are_same_commands(
 }
 
 /// Whether both are the same resource with the same commands.
-fn is_same_resource(
-    it: &Subject<'_>,
-    a: &ResourceCommands,
-    other: &Subject<'_>,
-    b: &ResourceCommands,
-) -> bool
-    ensures { IsTrue result
-        ↔ (plain_resource it.now.flat.now it.now.writes.now a.now
-        ≡ plain_resource other.now.flat.now other.now.writes.now b.now) }
+fn is_same_resource(a: &ResourcePlan<'_>, b: &ResourcePlan<'_>) -> bool
+    ensures { IsTrue result ↔ (a.now ≡ b.now) }
 {
-    a.name == b.name && are_same_commands(it, &a.name, &a.items, other, &b.name, &b.items)
+    a.name() == b.name() && are_same_commands(a, b)
 }
 
-/// Whether both lists have the same resources with the same commands.
-pub(crate) fn are_same_resources(
-    it: &Subject<'_>,
-    a: &[ResourceCommands],
-    other: &Subject<'_>,
-    b: &[ResourceCommands],
-) -> bool
-    ensures { IsTrue result
-        ↔ (map (plain_resource it.now.flat.now it.now.writes.now) a.now
-        ≡ map (plain_resource other.now.flat.now other.now.writes.now) b.now) }
+/// Whether both plans have the same resources with the same commands.
+#[tactic(auto, using(crate::proofs::TextPartLemmas::same_by_items))]
+pub(crate) fn are_same_resources(a: &Plan, b: &Plan) -> bool
+    ensures { IsTrue result ↔ (a.now.resources ≡ b.now.resources) }
 {
-    if a.len() != b.len() {
+    if a.resource_count() != b.resource_count() {
         return false;
     }
-    for place in 0..a.len() {
-        if !is_same_resource(it, &a[place], other, &b[place]) {
+    for place in 0..a.resource_count() {
+        if !is_same_resource(&a.resource(place), &b.resource(place)) {
             return false;
         }
     }

@@ -1,4 +1,4 @@
-//! Texts in parts, which are compared without joining them.
+//! Texts in parts, which are compared without joining them, or written over a text.
 ghost use Rattle.std.specs.Prelude.{◌≡◌, ◌↔◌, IsTrue, OnOk, length, slice_get, string_bytes, ◌++◌};
 ghost use Rattle.fb_placing.specs.TextParts.{joined};
 
@@ -68,12 +68,20 @@ pub(crate) fn is_same_text(a: &[&str], b: &[&str]) -> bool
     are_same_parts(a, b) || are_same_bytes(a, b)
 }
 
+/// Replaces a text by the one that the parts make.
+pub(crate) fn write_parts(text: &mut String, parts: &[&str]) -> Result<(), AllocError>
+    ensures { OnOk result (string_bytes text.new ≡ joined parts.now) }
+{
+    text.clear();
+    for part in parts {
+        text.push_str(part)?;
+    }
+    Ok(())
+}
+
 /// Replaces a text by one of two parts.
 pub(crate) fn write_both(text: &mut String, start: &str, end: &str) -> Result<(), AllocError>
     ensures { OnOk result (string_bytes text.new ≡ start.now ++ end.now) }
 {
-    text.clear();
-    text.push_str(start)?;
-    text.push_str(end)?;
-    Ok(())
+    write_parts(text, &[start, end])
 }

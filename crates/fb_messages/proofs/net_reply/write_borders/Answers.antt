@@ -1,16 +1,10 @@
 -- One entry more is written.
-use Rattle.std.proofs.Common.{◌++◌, ◌∙◌}
 use Rattle.std.specs.Prelude.{string_bytes}
-use Rattle.fb_messages.specs.{NetReplies.{border_item, three}, Tokens.{tokens_of}}
+use Rattle.fb_messages.specs.NetReplies.{border_item, three}
 use Rattle.fb_messages.proofs.Entries.{entry_more}
 use Rattle.fb_messages.proofs.net_reply.write_borders.Goals as goal
 
 pub loop-place-preserved : goal.loop-place-preserved
 loop-place-preserved c =
-    let said = c.in_ok-write_three.ensures in
-    let out = c.loop-place.out.tokens in
-    record {
-      before = said.0 ∙ c.loop-place.invariant.before;
-      tokens = entry_more border_item c.args.flat.now.borders c.loop-place.place (record { sort = c.in_ok-sort.sort; port = c.in_ok-sort.port; place = string_bytes c.put_border.new.at }) out c.write_three.new.out.tokens _ c.in_ok-sort.ensures
-          (said.1 ∙ (λ i. out ++ tokens_of (three (c.sort_text.ensures i) (c.as_str.ensures.text i) (c.as_str-in-loop-place.ensures.value i)))) c.loop-place.invariant.tokens;
-    }
+    entry_more border_item c.args.flat.now.borders c.loop-place.place (record { sort = c.in_ok-sort.sort; port = c.in_ok-sort.port; place = string_bytes c.put_border.new.at }) _ c.args.out.now c.loop-place.out c.write_three.new.out c.in_ok-sort.ensures
+    (λ i. three (c.sort_text.ensures i) (c.as_str.ensures.text i) (c.as_str-in-loop-place.ensures.value i)) c.in_ok-write_three.ensures c.loop-place.invariant

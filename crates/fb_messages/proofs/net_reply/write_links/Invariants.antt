@@ -1,12 +1,6 @@
--- With the links that are left, and the bracket, it will be the list.
-use Rattle.std.proofs.Common.{◌≡◌, ◌++◌}
-use Rattle.serde_json.specs.Data.{array}
-use Rattle.fb_messages.specs.{NetReplies.{link_item, link_items}, Tokens.{tokens_of}}
-use Rattle.fb_messages.proofs.Entries.{tokens_left}
+use Rattle.fb_messages.specs.NetReplies.{link_item}
+use Rattle.fb_messages.proofs.Entries.{WillBeList}
 use Rattle.fb_messages.proofs.net_reply.write_links.Given as goal
 
 abbrev pub invariant-loop-place : goal.invariant-loop-place
-invariant-loop-place l = record {
-  before : l.out.before ≡ l.fn.out.before;
-  tokens : l.out.tokens ++ tokens_left link_item l.flat.links l.place ≡ l.fn.out.tokens ++ tokens_of (array (link_items l.flat.links));
-}
+invariant-loop-place l = WillBeList link_item l.flat.links l.place l.fn.out l.out

@@ -1,7 +1,7 @@
 -- One part more.
 use Rattle.std.proofs.Common.{ℕ, ◌++◌, List, sym, ap, ◌∙◌}
 use Rattle.fb_placing.proofs.TextPartLemmas.{joined_all, joined_more, part_text}
-use Rattle.fb_placing.proofs.plan.command.Command.of_parts.Goals as goal
+use Rattle.fb_placing.proofs.plan.text_parts.write_parts.Goals as goal
 
 pub loop-part-preserved : goal.loop-part-preserved
 loop-part-preserved c =
