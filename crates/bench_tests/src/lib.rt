@@ -27,6 +27,8 @@ mod refusals;
 #[cfg(test)]
 mod refused;
 #[cfg(test)]
+mod rounds;
+#[cfg(test)]
 mod streams;
 #[cfg(test)]
 mod structures;

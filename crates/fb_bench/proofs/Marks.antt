@@ -1,15 +1,21 @@
 -- What an entry says of the marks of its key.
-use Rattle.std.proofs.Common.{◌≡◌, ℕ, Bool, true, false, ◌||◌, ◌&&◌, not, List, refl, sym, ap, ◌∙◌, subst, Option, Some, None, cond}
+use Rattle.std.proofs.Common.{◌≡◌, ℕ, Bool, true, false, ◌||◌, ◌&&◌, not, List, refl, sym, ap, ◌∙◌, subst, Option, Some, None, [], ◌∷◌, arith, cond}
+use Rattle.std.proofs.lemmas.{Bool.{and_parts}, Bool.Decides.{nat_tests}, Cmp.{nat_list_eq_equiv}}
 use Rattle.std.specs.{Option.{option_map}, BTreeMap.{is_at}, List.{list_any}, Map.{lookup}, declared.sync.Arc.{Arc}, declared.alloc.Global.{Global}}
-use Rattle.fb_entries.specs.{Keyed.{Keyed, IsFirstReady, can_take, entry_at}, Library.Texts.{Texts}, Jobs.declared.key.Key.{Key}}
-use Rattle.fb_entries.specs.{Jobs.declared.value.Value.{Value}, Jobs.Values.{finding_of}, Jobs.Hints.{AreKept}, Jobs.Keys.{Finding, has_key, scratch}}
-use Rattle.fb_entries.specs.{Jobs.KeyOrder.{key_cmp, same_key}, declared.entry.Entry.{Entry}, Jobs.Reads.{PlainJob, stale}, Found.{found_in, kept_in}}
+use Rattle.fb_entries.specs.{Keyed.{Keyed, IsFirstReady, can_take, entry_at}, Library.Texts.{Texts, Held, held}, Jobs.declared.key.Key.{Key}}
+use Rattle.fb_entries.specs.{Jobs.declared.value.Value.{Value}, Jobs.Values.{finding_of}, Jobs.Hints.{AreKept}, Jobs.Keys.{Finding, has_key, needs, scratch}}
+use Rattle.fb_entries.specs.{Jobs.KeyOrder.{key_cmp, same_key}, declared.entry.Entry.{Entry}, Jobs.Reads.{PlainJob, reads_under, same_found, stale}, Found.{found_in, kept_in}}
 use Rattle.fb_entries.specs.Marking.{unless_kept, with_found, with_out, with_value, ChangesEntry, MarksKey, SameKeys}
-use Rattle.fb_history.specs.Machine.{State, is_ready, next, after_take, after_deliver, removed, unless_stale, deliver_answer}
+use Rattle.fb_history.specs.Machine.{State, OfTake, ToTake, is_ready, next, after_take, after_deliver, plain_job_for, removed, taken, unless_stale, deliver_answer}
+use Rattle.fb_history.specs.BenchView.{BenchView, recorded, reply_at, state_of}
 use Rattle.fb_history.specs.{declared.answers.Delivered.{Delivered}, declared.answers.Delivered.TheVariants.{Accepted, NoSuchKey, NotPending, Stale}}
 use Rattle.fb_bench.specs.Consistent.{Agrees, EntryFits, IsScratch}
 use Rattle.fb_entries.proofs.Jobs.Order.{keys_equal}
-use Rattle.fb_history.proofs.Least.{next_none, next_some}
+use Rattle.fb_history.proofs.{Least.{next_none, next_passes, next_some}, Steps.{after_take_is, reply_take, state_recorded}}
+
+pending_has : (s : State) (k : Key) (o : Option Entry) → EntryFits s k o → s.pending k ≡ true → has_key s.units k ≡ true
+pending_has s k None fits waits = cc
+pending_has s k (Some it) fits waits = fits.0
 
 pub ready_has : (s : State) (k : Key) (o : Option Entry) → EntryFits s k o → is_ready s k ≡ true → has_key s.units k ≡ true
 ready_has s k None fits ready = let no : is_ready s k ≡ false = ap (λ b. b && not (s.out k)) fits.1 in cc
@@ -105,6 +111,29 @@ accepted_parts false p o e = cc
 -- what is accepted was read as it is
 pub accepted_fresh : (s : State) (it : PlainJob) → Accepted ≡ deliver_answer s it → stale s.units it.reads ≡ None
 accepted_fresh s it e = accepted_parts (has_key s.units it.key) (s.pending it.key) (stale s.units it.reads) e
+
+same_itself : (o : Option Held) → same_found o o ≡ true
+same_itself None = refl
+same_itself (Some it) = grind (arith, nat_tests, nat_list_eq_equiv.refl it.text)
+
+fresh_under : (texts : Texts) (names : List (List ℕ)) → stale texts (reads_under texts names) ≡ None
+fresh_under texts [] = refl
+fresh_under texts (name ∷ names) = rw (same_itself (held texts name)) (fresh_under texts names)
+
+accepted_for : (s : State) (key : Option Key) (job : PlainJob) → next s ≡ key → OfTake (Some job) ≡ OfTake (taken key s) → ((k : Key) → (after_take key s).pending k ≡ true → has_key (after_take key s).units k ≡ true) → Accepted ≡ deliver_answer (after_take key s) job
+accepted_for s None job is handed has = cc
+accepted_for s (Some key) job is handed has =
+    let waits : s.pending key ≡ true = (and_parts (s.pending key) (not (s.out key)) (next_passes s key (sym is))).0 in
+    let same : job ≡ plain_job_for s.units key = cc in
+    rw (same, has key waits, waits, fresh_under s.units (needs s.units key)) refl
+
+-- what was just taken is accepted
+pub taken_accepted : {units : Texts} {commits : ℕ} {entries : Keyed} (bench inside now : BenchView) (caller : ℕ) (job : PlainJob) → inside ≡ now → now ≡ recorded bench caller ToTake → Agrees units commits entries (state_of inside) → OfTake (Some job) ≡ reply_at bench ToTake → Accepted ≡ deliver_answer (state_of now) job
+taken_accepted {units} {commits} {entries} bench inside now caller job view is agrees handed =
+    let s : State = state_of bench in
+    let taking : state_of now ≡ after_take (next s) s = ap state_of is ∙ state_recorded bench caller ToTake ∙ after_take_is s in
+    let fits = subst (λ t. Agrees units commits entries t) (ap state_of view ∙ taking) agrees in
+    subst (λ t. Accepted ≡ deliver_answer t job) (sym taking) (accepted_for s (next s) job refl (handed ∙ reply_take s) (λ k waits. pending_has (after_take (next s) s) k (entry_at entries k) (fits.each k) waits))
 
 -- a result that is refused leaves the state
 pub deliver_stays : (d : Delivered) (k : Key) (s : State) → (d ≡ Accepted → ⊥) → after_deliver d k s ≡ s

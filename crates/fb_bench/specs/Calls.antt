@@ -1,8 +1,9 @@
 -- How a call or a checkpoint relates a desk before it and after it.
-use Rattle.std.specs.Prelude.{◌≡◌, ℕ, Result, Ok, Err}
+use Rattle.std.specs.Prelude.{◌≡◌, ◌⊎◌, ℕ, None, Option, Some, Result, Ok, Err}
+use Rattle.fb_entries.specs.Jobs.Reads.{PlainJob}
 use Rattle.fb_history.specs.{Checkpoints.{Checking, KeptUpTo, OverUnits, OverNumbers}, Limits.{Bounds}}
 use Rattle.fb_history.specs.Machine.{Call, ToCommit, ToTake, ToDeliver, ToGiveBack, ToAsk, Reply, OfCommit, OfTake, OfDeliver, OfGiveBack, OfAsk}
-use Rattle.fb_history.specs.declared.answers.Asked.{Asked}
+use Rattle.fb_history.specs.{declared.answers.Asked.{Asked}, declared.answers.Delivered.{Delivered}}
 use Rattle.fb_bench.specs.{Records.{job_in, shown_in}, declared.answers.Taken.{Taken}, declared.desk.DeskError.{DeskError}}
 use Rattle.fb_bench.specs.{declared.desk.DeskError.TheVariants.{HistoryFull, Behind, Memory}, declared.desk.DeskCheckpointError.{DeskCheckpointError}}
 use Rattle.fb_bench.specs.declared.desk.DeskCheckpointError.TheVariants as refused
@@ -51,6 +52,16 @@ Serves Step old call reply_of (Ok answer) new = Step old call (Replied (reply_of
 Serves Step old call reply_of (Err HistoryFull) new = Step old call FullHistory new
 Serves Step old call reply_of (Err Behind) new = Step old call BehindHistory new
 Serves Step old call reply_of (Err Memory) new = new ≡ old
+
+-- the call took a job, whose delivery has this result
+abbrev pub DeliversTaken : {D : Type 0} → (D → Call → Answer → D → Type 0) → D → Result Delivered DeskError → D → Type 0
+DeliversTaken {D} Step old result new = (mid : D) × (job : PlainJob) × Step old ToTake (Replied (OfTake (Some job))) mid × Serves Step mid (ToDeliver job) OfDeliver result new
+
+-- A take, and the delivery of the job that it hands out. An error is that of the take, or comes after it.
+abbrev pub ServesRound : {D : Type 0} → (D → Call → Answer → D → Type 0) → D → Result (Option Delivered) DeskError → D → Type 0
+ServesRound Step old (Ok None) new = Step old ToTake (Replied (OfTake None)) new
+ServesRound Step old (Ok (Some answer)) new = DeliversTaken Step old (Ok answer) new
+ServesRound Step old (Err why) new = Serves Step old ToTake take_reply (Err why) new ⊎ DeliversTaken Step old (Err why) new
 
 -- The checkpoint was made, or refused as the answer states. For lack of memory nothing changed.
 abbrev pub ServesCheckpoint : {D : Type 0} → (D → Bounds → CheckpointAnswer → D → Type 0) → D → Bounds → Result ℕ DeskCheckpointError → D → Type 0

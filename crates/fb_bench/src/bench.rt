@@ -60,14 +60,14 @@ impl Model for Bench {
 impl Bench {
     ghost use Rattle.std.specs.Prelude.{◌≡◌, ◌+◌, ◌<◌, ◌^◌, ◌↔◌, true, false, Some, Ok, Err, IfOk, IfErr, OnOk, OnErr, IsTrue, is_some, length, slice_get, count_by};
     ghost use Rattle.std.specs.{Option.{option_map}, List.Sorted.{IsStrictlySortedBy}};
-    ghost use Rattle.fb_entries.specs.{Jobs.KeyOrder.{key_cmp}, Jobs.Keys.{scratch}, Jobs.Reads.{read_texts}, Jobs.Values.{all_seen}, Indexed.{IsIndexOf}};
+    ghost use Rattle.fb_entries.specs.{Jobs.KeyOrder.{key_cmp}, Jobs.Values.{all_seen}, Indexed.{IsIndexOf}};
     ghost use Rattle.fb_entries.specs.Library.Texts.{held, revision_of};
     ghost use Rattle.fb_history.specs.Machine.{ToTake, ToDeliver, ToGiveBack, ToAsk, OfCommit, OfTake, OfDeliver, OfGiveBack, OfAsk, shown, next, deliver_answer, keys_of};
     ghost use Rattle.fb_history.specs.declared.answers.Delivered.TheVariants.{Accepted};
     ghost use Rattle.fb_history.specs.BenchView.{IsOrigin, IsFull, new_bench, state_of, reply_at, recorded, record_of, record_numbered, all_turns, last_number, pages_after, calls_of, IsReplay, AreTurns};
     ghost use Rattle.fb_history.specs.{Records.{records_in}, Checkpoints.{checking, checkpointed, ChecksAs}, Due.{is_due}, Laws.{entry_after}};
-    ghost use Rattle.fb_bench.specs.{Records.{call_of, reply_of, shown_in, job_in, commit_of}, Founds.{HasNetsOf}, Refusals.{IsFullRefusal}};
-    ghost use Rattle.fb_bench.specs.{Requests.{call_for, reply_in}, Calls.{Fits}, Headline.{LeavesState, ShowsEntry}, Peeks.{shown_by, is_pending}};
+    ghost use Rattle.fb_bench.specs.{Records.{call_of, reply_of, shown_in, job_in, commit_of}, Refusals.{IsFullRefusal, round_as}};
+    ghost use Rattle.fb_bench.specs.{Requests.{call_for, reply_in}, Calls.{Fits, ServesRound}, Solo.{IsCallStep}, Headline.{LeavesState, ShowsEntry}, Peeks.{shown_by, is_pending}};
 
     /// An empty workbench. It keeps the allocator for all its calls.
     pub fn new(alloc: Global, limits: Limits) -> Bench
@@ -446,18 +446,13 @@ impl Bench {
         if self.history.is_full() {
             return Err(Refused::HistoryFull);
         }
-        let answer = self.judged(finished.key(), finished.reads());
-        let shared = self.shared_key(finished.key())?;
-        let call = call_of_result(shared.clone()?, finished)?;
-        match answer {
+        match self.judged(finished.key(), finished.reads()) {
             Delivered::Accepted => {
-                // For the proof: a result whose reads are current has the value of the present texts, and so have the nets found on its way.
-                current_reads();
-                current_nets();
-                let share = self.take_in(caller, call, shared, finished)?;
+                let share = self.take_in(caller, finished)?;
                 Ok((Delivered::Accepted, share))
             }
             refused => {
+                let call = self.delivery_of(finished)?;
                 let stored = refused;
                 let reply = Reply::of_delivery(self.alloc, stored)?;
                 let share = self.history.push(caller, call, reply)?;
@@ -466,28 +461,31 @@ impl Bench {
         }
     }
 
+    /// The call that delivers a result, as it is recorded.
+    fn delivery_of(&self, finished: &Finished) -> Result<Call, AllocError>
+        ensures { IfOk result (λ call. call_of call ≡ ToDeliver finished.now) }
+    {
+        let shared = self.shared_key(finished.key())?;
+        call_of_result(shared, finished)
+    }
+
     /// Records a result that is accepted, and keeps its value and the nets that were found on the way.
-    fn take_in(
-        &mut self,
-        caller: u32,
-        call: Call,
-        shared: Arc<Key>,
-        finished: &Finished,
-    ) -> Result<Arc<Record>, AllocError>
-        requires key { shared.value ≡ finished.now.key }
+    fn take_in(&mut self, caller: u32, finished: &Finished) -> Result<Arc<Record>, AllocError>
         requires room { length self.old.log.records < self.old.log.limit }
-        requires call { call_of call ≡ ToDeliver finished.now }
         requires accepted { Accepted ≡ deliver_answer (state_of self.old) finished.now }
-        requires value { scratch (state_of self.old).units finished.now.key
-            ≡ scratch (read_texts finished.now.reads) finished.now.key }
-        requires nets { HasNetsOf (state_of self.old).units finished.now }
         ensures step { OnOk result (self.new ≡ recorded self.old caller (ToDeliver finished.now)) }
         ensures share { IfOk result
             (λ it. it.value ≡ record_of self.old caller (ToDeliver finished.now)) }
         ensures err { OnErr result (self.new ≡ self.old) }
     {
+        // For the proof: a result whose reads are current has the value of the present texts, and so have the nets found on its way.
+        let _reads = finished.reads();
+        current_reads();
+        current_nets();
+        let shared = self.shared_key(finished.key())?;
         let value = finished.value().clone()?;
-        let derivation = finished.derivation(shared)?;
+        let derivation = finished.derivation(shared.clone()?)?;
+        let call = call_of_result(shared, finished)?;
         let found = shares_of(self.alloc, finished.found())?;
         let answer = Reply::Accepted;
         let share = self.history.push(caller, call, answer)?;
@@ -495,6 +493,21 @@ impl Bench {
         self.entries.keep(&key, value, derivation);
         keep_all(&mut self.entries, found);
         Ok(share)
+    }
+
+    /// Takes a job, runs it and delivers its result, which is accepted, since all that it has read is unchanged. False if there is nothing to take.
+    pub fn work_once(&mut self, caller: u32) -> Result<bool, Refused>
+        ensures round { ServesRound (IsCallStep caller) self.old (round_as result) self.new }
+    {
+        let Taken::Job(job) = self.take(caller)? else {
+            return Ok(false);
+        };
+        let finished = job.run(self.alloc)?;
+        if self.history.is_full() {
+            return Err(Refused::HistoryFull);
+        }
+        self.take_in(caller, &finished)?;
+        Ok(true)
     }
 
     /// Whether the key is handed out.

@@ -1,5 +1,6 @@
 //! Desks: the recorded calls, as one session makes them.
 ghost use Rattle.std.specs.Prelude.{◌≡◌};
+ghost use Rattle.fb_bench.specs.Refusals.{refused_as};
 
 use crate::answers::{Answered, Taken};
 use crate::bench::Bench;
@@ -7,6 +8,7 @@ use crate::request::Request;
 use fb_entries::jobs::{Finished, Key};
 use fb_entries::library::Change;
 use fb_history::{Asked, CheckpointError, Committed, Delivered, GivenBack, Limits, Refused};
+use std::alloc::Global;
 
 /// Why a desk does not record a call.
 #[derive(Clone, Copy, PartialEq, Eq, Debug)]
@@ -17,6 +19,17 @@ pub enum DeskError {
     Behind,
     /// Memory was refused, and nothing has changed.
     Memory,
+}
+
+impl From<Refused> for DeskError {
+    ghost from_gives = { λ refused error. error ≡ refused_as refused };
+
+    fn from(refused: Refused) -> DeskError {
+        match refused {
+            Refused::HistoryFull => DeskError::HistoryFull,
+            Refused::Memory => DeskError::Memory,
+        }
+    }
 }
 
 /// Why a desk does not make the present state the start of its history.
@@ -38,7 +51,7 @@ pub trait Desk {
     ghost use Rattle.std.specs.Prelude.{IfOk};
     ghost use Rattle.fb_history.specs.{Limits.{Bounds}, Machine.{Call, ToCommit, ToTake, ToDeliver, ToGiveBack, ToAsk, OfCommit, OfDeliver, OfGiveBack}};
     ghost use Rattle.fb_bench.specs.{Records.{listed}, Requests.{call_for, reply_in}};
-    ghost use Rattle.fb_bench.specs.Calls.{Answer, CheckpointAnswer, Fits, Serves, ServesCheckpoint, take_reply, ask_reply};
+    ghost use Rattle.fb_bench.specs.Calls.{Answer, CheckpointAnswer, Fits, Serves, ServesCheckpoint, ServesRound, take_reply, ask_reply};
 
     /// In the first state of a desk the call may get this answer, and the second state is the one after it.
     ghost step: { Self → Call → Answer → Self → Type 0 };
@@ -89,6 +102,19 @@ pub trait Desk {
         }
     }
 
+    /// Takes a job, runs it and delivers its result: the answer to the delivery, or None if there is nothing to take.
+    fn work_once(&mut self, alloc: Global) -> Result<Option<Delivered>, DeskError>
+        ensures { ServesRound step self.old result self.new }
+    {
+        let Taken::Job(job) = self.take()? else {
+            return Ok(None);
+        };
+        let Ok(finished) = job.run(alloc) else {
+            return Err(DeskError::Memory);
+        };
+        Ok(Some(self.deliver(&finished)?))
+    }
+
     /// Clears the mark that a key is handed out.
     fn give_back(&mut self, key: Key) -> Result<GivenBack, DeskError>
         ensures { Serves step self.old (ToGiveBack key) OfGiveBack result self.new }
@@ -134,7 +160,7 @@ impl<'a> Solo<'a> {
 
 impl Desk for Solo<'_> {
     ghost use Rattle.std.specs.Prelude.{IfOk};
-    ghost use Rattle.fb_bench.specs.{Calls.{Fits, Serves, ServesCheckpoint}, Requests.{call_for, reply_in}};
+    ghost use Rattle.fb_bench.specs.{Calls.{Fits, Serves, ServesCheckpoint, ServesRound}, Requests.{call_for, reply_in}};
     ghost use Rattle.fb_bench.specs.Solo.{IsOpenCheckpoint, IsOpenCall, SoloCheckpoint, SoloCall};
 
     ghost step = { SoloCall };
@@ -146,11 +172,15 @@ impl Desk for Solo<'_> {
         ensures step { Serves SoloCall self.old (call_for request.now) reply_in result self.new }
         ensures open { IsOpenCall self.old.bench.now result }
     {
-        match self.bench.perform(self.caller, request) {
-            Ok((_record, answer)) => Ok(answer),
-            Err(Refused::HistoryFull) => Err(DeskError::HistoryFull),
-            Err(Refused::Memory) => Err(DeskError::Memory),
-        }
+        let (_record, answer) = self.bench.perform(self.caller, request)?;
+        Ok(answer)
+    }
+
+    fn work_once(&mut self, _alloc: Global) -> Result<Option<Delivered>, DeskError>
+        ensures { ServesRound SoloCall self.old result self.new }
+    {
+        let has_worked = self.bench.work_once(self.caller)?;
+        Ok(has_worked.then_some(Delivered::Accepted))
     }
 
     fn checkpoint(&mut self, limits: Limits) -> Result<u64, DeskCheckpointError>

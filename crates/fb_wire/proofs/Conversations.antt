@@ -1,16 +1,17 @@
 -- Plans, runs and talks, one after another.
 use Rattle.std.proofs.Common.{◌-◌, ◌+◌, ◌<◌, ◌≡◌, ℕ, [], ◌∷◌, ◌++◌, ◌∙◌, Err, List, None, Ok, Option, Result, Some, ap, append-nil, ap₂, arith, false, length, nat_le, option_map, refl, subst, suc, sym, true}
 use Rattle.std.specs.{declared.alloc.AllocError.{AllocError}, Result.{result_ok}}
+use mathlib.Core.Logic.{inl, inr}
 use Rattle.fb_bench.specs.{History.Checkpoints.{KeptUpTo, OverNumbers, OverUnits}, History.Limits.{Bounds}}
 use Rattle.fb_bench.specs.{History.Machine.{Call, OfDeliver, OfTake, Reply as MachineReply, ToDeliver, ToTake}, Solo.{IsStep, SoloStep}}
 use Rattle.fb_bench.specs.declared.desk.Solo.{Solo}
-use Rattle.fb_bench.specs.Calls.{Answer, AskedCall, AskedCheckpoint, BehindHistory, Checked, CheckpointAnswer, Exchange, Exchanges, FullHistory, Replied, Serves, ServesCheckpoint, SharedHistory, take_reply}
-use Rattle.fb_bench.specs.{declared.answers.Taken.{Taken}, History.declared.answers.Delivered.{Delivered}, declared.desk.DeskError.{DeskError}}
+use Rattle.fb_bench.specs.Calls.{Answer, AskedCall, AskedCheckpoint, BehindHistory, Checked, CheckpointAnswer, DeliversTaken, Exchange, Exchanges, FullHistory, Replied, Serves, ServesCheckpoint, ServesRound, SharedHistory, take_reply}
+use Rattle.fb_bench.specs.{declared.answers.Taken.{Taken}, History.declared.answers.Delivered.{Delivered}, History.declared.answers.Delivered.TheVariants.{Accepted, NoSuchKey, NotPending, Stale}, declared.desk.DeskError.{DeskError}}
 use Rattle.fb_bench.specs.{declared.desk.DeskError.TheVariants.{Behind, HistoryFull, Memory}, declared.desk.DeskCheckpointError.{DeskCheckpointError}}
-use Rattle.fb_messages.specs.{Jobs.Reads.{PlainJob}, Replies.{refused, work_done, work_refused}, ReplyView.{data_of, refusal_text}}
+use Rattle.fb_messages.specs.{Replies.{refused, work_done, work_refused}, ReplyView.{data_of, refusal_text}}
 use Rattle.fb_messages.specs.{declared.reply.Refusal.{Refusal}, declared.reply.Reply.{Reply}}
-use Rattle.fb_wire.specs.{declared.answer.Round.{Round}, Lines.{is_blank}, Said.{checkpoint_said, said_to}}
-use Rattle.fb_wire.specs.Progress.{KeepsTaken, LineSaid, Progress, ProgressTo, RoundProgress, answer_in, checked_in, data_in, left_after, refusal_for, unrecorded}
+use Rattle.fb_wire.specs.{Lines.{is_blank}, Said.{checkpoint_said, said_to}}
+use Rattle.fb_wire.specs.Progress.{KeepsTaken, LineSaid, Progress, ProgressTo, answer_in, checked_in, data_in, refusal_for, unrecorded}
 use Rattle.fb_wire.specs.Conversations.{Jobs, BeginsWith, Plan, Runs, after_deliver, after_take, asks, call_once, checkpoint_once, checks, held_after, says, take_plan, work_plan}
 use Rattle.fb_bench.specs.declared.desk.DeskCheckpointError.TheVariants as checkpoint
 use Rattle.serde_json.specs.Data.{Data}
@@ -30,28 +31,29 @@ refused_said n HistoryFull r is = rw is refl
 refused_said n Behind r is = rw is refl
 refused_said n Memory r is = rw is refl
 
-pub refused_take : (held : Jobs) (count : ℕ) (more : ℕ → Plan) (why : DeskError) (r : Result Refusal AllocError) → result_ok r ≡ refusal_for why
-    → option_map (after_take held count more) (unrecorded why) ≡ option_map (λ it. says (work_refused count (refusal_text it)) held) (result_ok r)
-refused_take held count more HistoryFull r is = rw is refl
-refused_take held count more Behind r is = rw is refl
-refused_take held count more Memory r is = rw is refl
-
 pub refused_delivery : (held : Jobs) (count : ℕ) (more : ℕ → Plan) (why : DeskError) (r : Result Refusal AllocError) → result_ok r ≡ refusal_for why
     → option_map (after_deliver held count more) (unrecorded why) ≡ option_map (λ it. says (work_refused count (refusal_text it)) held) (result_ok r)
 refused_delivery held count more HistoryFull r is = rw is refl
 refused_delivery held count more Behind r is = rw is refl
 refused_delivery held count more Memory r is = rw is refl
 
-pub refused_memory : (why : DeskError) → None ≡ refusal_for why → unrecorded why ≡ None
-refused_memory HistoryFull is = absurd cc
-refused_memory Behind is = absurd cc
-refused_memory Memory is = refl
+pub after_refused : (held : Jobs) (count : ℕ) (more : ℕ → Plan) (answer : Delivered) → (answer ≡ Accepted → ⊥) → after_deliver held count more (Replied (OfDeliver answer)) ≡ more count
+after_refused held count more Accepted not = absurd (not refl)
+after_refused held count more NoSuchKey not = refl
+after_refused held count more NotPending not = refl
+after_refused held count more (Stale name) not = refl
 
 pub refused_kept : (old : Jobs) (why : DeskError) (reply : Option Data) → ((n : ℕ) → option_map (said_to n) (unrecorded why) ≡ reply) → KeepsTaken old (unrecorded why) reply old
 refused_kept old why None is = tt
 refused_kept old HistoryFull (Some reply) is = let same : Some (said_to (length old + 1) FullHistory) ≡ Some reply = is (length old + 1) in (cc, refl)
 refused_kept old Behind (Some reply) is = let same : Some (said_to (length old + 1) BehindHistory) ≡ Some reply = is (length old + 1) in (cc, refl)
 refused_kept old Memory (Some reply) is = let none : None ≡ Some reply = is 0 in absurd cc
+
+-- what is left of a work's plan after one round, where `more` continues with a count; none for lack of memory
+abbrev left_after : Jobs → ℕ → (ℕ → Plan) → Result (Option Delivered) DeskError → Option Plan
+left_after held count more (Ok None) = Some (says (work_done count) held)
+left_after held count more (Ok (Some answer)) = Some (after_deliver held count more (Replied (OfDeliver answer)))
+left_after held count more (Err why) = option_map (after_deliver held count more) (unrecorded why)
 
 -- ---- plans
 
@@ -73,21 +75,13 @@ module _ {S : Type 0} (Step : S → Exchange → S → Type 0) where
   none_served plan old e held = (plan, reaches_itself plan old)
 
   -- one more round of a work
-  pub work_goes_on : (plan : Plan) (old mid new : S) (held : Jobs) (turns i count : ℕ) (round : Round) → i < turns → ProgressTo Step plan old (work_plan held (turns - i) count) mid
-      → RoundProgress Step held count (work_plan held (turns - (i + 1))) mid (Ok round) new → ProgressTo Step plan old (left_after held count (work_plan held (turns - (i + 1))) round) new
+  work_goes_on : (plan left : Plan) (old mid new : S) (held : Jobs) (turns i count : ℕ) → i < turns → ProgressTo Step plan old (work_plan held (turns - i) count) mid
+      → ProgressTo Step (asks ToTake (after_take held count (work_plan held (turns - (i + 1))))) mid left new → ProgressTo Step plan old left new
   unfolding work_plan
-  work_goes_on plan old mid new held turns i count round within far served =
+  work_goes_on plan left old mid new held turns i count within far served =
       let width : turns - i ≡ suc (turns - (i + 1)) = omega arith in
       let Q : ℕ → Type 0 = λ n. ProgressTo Step plan old (work_plan held n count) mid in
-      reaches_on plan (work_plan held (suc (turns - (i + 1))) count) _ old mid new (subst Q width far) served
-
-  pub work_stops : (plan : Plan) (old mid new : S) (held : Jobs) (turns i count : ℕ) (e : AllocError) → i < turns → ProgressTo Step plan old (work_plan held (turns - i) count) mid
-      → RoundProgress Step held count (work_plan held (turns - (i + 1))) mid (Err e) new → (rest : Plan) × ProgressTo Step plan old rest new
-  unfolding work_plan
-  work_stops plan old mid new held turns i count e within far served =
-      let width : turns - i ≡ suc (turns - (i + 1)) = omega arith in
-      let Q : ℕ → Type 0 = λ n. ProgressTo Step plan old (work_plan held n count) mid in
-      (served.0, reaches_on plan (work_plan held (suc (turns - (i + 1))) count) served.0 old mid new (subst Q width far) served.1)
+      reaches_on plan (work_plan held (suc (turns - (i + 1))) count) left old mid new (subst Q width far) served
 
   pub work_ends : (plan : Plan) (old new : S) (held : Jobs) (left count : ℕ) → left ≡ 0 → ProgressTo Step plan old (work_plan held left count) new → ProgressTo Step plan old (says (work_done count) held) new
   unfolding work_plan
@@ -201,22 +195,42 @@ module _ {S : Type 0} (CallStep : S → Call → Answer → S → Type 0) (Check
       let open_plan : asks ToTake next ≡ take_plan held = rw room refl in
       subst P open_plan (by_any old new ToTake next take_reply r step)
 
-  -- a round whose job was taken, run and delivered
-  pub round_served : (old mid new : S) (held : Jobs) (count : ℕ) (more : ℕ → Plan) (job : PlainJob) (taken : Result Taken DeskError) (r : Result Delivered DeskError) (round : Result Round AllocError)
-      → Serves CallStep old ToTake take_reply taken mid → answer_in take_reply taken ≡ Some (Replied (OfTake (Some job)))
-      → Serves CallStep mid (ToDeliver job) OfDeliver r new
-      → option_map (after_deliver held count more) (answer_in OfDeliver r) ≡ option_map (left_after held count more) (result_ok round)
-      → RoundProgress Step held count more old round new
-  round_served old mid new held count more job taken r (Ok round) first is second ends =
-      reaches_on Step (asks ToTake (after_take held count more)) (asks (ToDeliver job) (after_deliver held count more)) (left_after held count more round) old mid new
-      (reaches_by old mid ToTake (after_take held count more) (Replied (OfTake (Some job))) (serves_some old mid ToTake take_reply taken (Replied (OfTake (Some job))) first is))
-      (by_answer mid new (ToDeliver job) (after_deliver held count more) OfDeliver r (left_after held count more round) second ends)
-  round_served old mid new held count more job taken r (Err e) first is second ends =
-      let far = by_any mid new (ToDeliver job) (after_deliver held count more) OfDeliver r second in (
-        far.0,
-        reaches_on Step (asks ToTake (after_take held count more)) (asks (ToDeliver job) (after_deliver held count more)) far.0 old mid new
-            (reaches_by old mid ToTake (after_take held count more) (Replied (OfTake (Some job))) (serves_some old mid ToTake take_reply taken (Replied (OfTake (Some job))) first is)) far.1,
-      )
+  -- a round whose job was taken goes on by its delivery
+  round_delivers : (old new : S) (held : Jobs) (count : ℕ) (more : ℕ → Plan) (r : Result Delivered DeskError) (left : Plan) (made : DeliversTaken CallStep old r new)
+      → ProgressTo Step (asks (ToDeliver made.1) (after_deliver held count more)) made.0 left new → ProgressTo Step (asks ToTake (after_take held count more)) old left new
+  round_delivers old new held count more r left made far =
+      reaches_on Step (asks ToTake (after_take held count more)) (asks (ToDeliver made.1) (after_deliver held count more)) left old made.0 new
+      (reaches_by old made.0 ToTake (after_take held count more) (Replied (OfTake (Some made.1))) made.2) far
+
+  round_served : (old new : S) (held : Jobs) (count : ℕ) (more : ℕ → Plan) (r : Result (Option Delivered) DeskError) (left : Plan)
+      → ServesRound CallStep old r new → left_after held count more r ≡ Some left → ProgressTo Step (asks ToTake (after_take held count more)) old left new
+  round_served old new held count more (Ok None) left step is = by_plan old new ToTake (after_take held count more) (Replied (OfTake None)) left step is
+  round_served old new held count more (Ok (Some answer)) left made is =
+      round_delivers old new held count more (Ok answer) left made (by_answer made.0 new (ToDeliver made.1) (after_deliver held count more) OfDeliver (Ok answer) left made.3 is)
+  round_served old new held count more (Err HistoryFull) left (inl step) is = by_plan old new ToTake (after_take held count more) FullHistory left step is
+  round_served old new held count more (Err Behind) left (inl step) is = by_plan old new ToTake (after_take held count more) BehindHistory left step is
+  round_served old new held count more (Err Memory) left (inl same) is = absurd cc
+  round_served old new held count more (Err why) left (inr made) is =
+      round_delivers old new held count more (Err why) left made (by_answer made.0 new (ToDeliver made.1) (after_deliver held count more) OfDeliver (Err why) left made.3 is)
+
+  -- a round that ended by an error
+  round_stopped : (old new : S) (held : Jobs) (count : ℕ) (more : ℕ → Plan) (why : DeskError) → ServesRound CallStep old (Err why) new → (rest : Plan) × ProgressTo Step (asks ToTake (after_take held count more)) old rest new
+  round_stopped old new held count more why (inl step) = by_any old new ToTake (after_take held count more) take_reply (Err why) step
+  round_stopped old new held count more why (inr made) =
+      let far = by_any made.0 new (ToDeliver made.1) (after_deliver held count more) OfDeliver (Err why) made.3 in
+      (far.0, round_delivers old new held count more (Err why) far.0 made far.1)
+
+  -- what the work has left after a round
+  pub work_left : (plan : Plan) (old mid new : S) (held : Jobs) (turns i count : ℕ) (r : Result (Option Delivered) DeskError) (left : Plan) → i < turns → ProgressTo Step plan old (work_plan held (turns - i) count) mid
+      → ServesRound CallStep mid r new → left_after held count (work_plan held (turns - (i + 1))) r ≡ Some left → ProgressTo Step plan old left new
+  work_left plan old mid new held turns i count r left within far served is =
+      work_goes_on Step plan left old mid new held turns i count within far (round_served mid new held count (work_plan held (turns - (i + 1))) r left served is)
+
+  pub work_stops : (plan : Plan) (old mid new : S) (held : Jobs) (turns i count : ℕ) (why : DeskError) → i < turns → ProgressTo Step plan old (work_plan held (turns - i) count) mid
+      → ServesRound CallStep mid (Err why) new → (rest : Plan) × ProgressTo Step plan old rest new
+  work_stops plan old mid new held turns i count why within far served =
+      let stopped = round_stopped mid new held count (work_plan held (turns - (i + 1))) why served in
+      (stopped.0, work_goes_on Step plan stopped.0 old mid new held turns i count within far stopped.1)
 
 -- a run on a lent workbench
 pub Runs-solo : (old new : Solo) (pairs : List Exchange) → Runs SoloStep old pairs new → Runs (IsStep old.caller) old.bench.now pairs new.bench.now × (new.bench.ghost_name ≡ old.bench.ghost_name)

@@ -1,8 +1,8 @@
 -- For private clauses: how far a plan has come on a desk.
-use Rattle.std.specs.Prelude.{[], ◌∷◌, ◌++◌, ⊤, ◌≡◌, ℕ, ◌+◌, Err, List, MatchResult, None, Ok, Option, Result, Some, Vec, false, length, option_map}
+use Rattle.std.specs.Prelude.{[], ◌∷◌, ◌++◌, ⊤, ◌≡◌, ℕ, ◌+◌, Err, List, MatchResult, None, Ok, Option, Result, Some, Vec, false, length}
 use Rattle.std.specs.{declared.alloc.AllocError.{AllocError}, declared.alloc.Global.{Global}}
 use Rattle.serde_json.specs.Data.{Data}
-use Rattle.fb_bench.specs.{History.Checkpoints.{KeptUpTo, OverNumbers, OverUnits}, History.Machine.{OfTake, Reply as MachineReply, ToTake}}
+use Rattle.fb_bench.specs.{History.Checkpoints.{KeptUpTo, OverNumbers, OverUnits}, History.Machine.{Reply as MachineReply}}
 use Rattle.fb_bench.specs.Calls.{Answer, BehindHistory, Checked, CheckpointAnswer, Exchange, FullHistory, Replied, SharedHistory}
 use Rattle.fb_bench.specs.declared.desk.DeskCheckpointError.{DeskCheckpointError}
 use Rattle.fb_bench.specs.{declared.desk.DeskError.{DeskError}, declared.desk.DeskError.TheVariants.{Behind, HistoryFull, Memory}}
@@ -10,13 +10,11 @@ use Rattle.fb_bench.specs.declared.desk.DeskCheckpointError.TheVariants as check
 use Rattle.fb_library.specs.{Texts.{Edit}, Changes.{edit_of, edits_of}, declared.change.Change.{Change}}
 use Rattle.fb_wire.specs.{declared.change.ChangeError.{ChangeError}, Lines.{Fits, IsTooLong, is_blank, lines_of}, Ends.{IsNothing, IsPrefixOfReply, OutputAt}}
 use Rattle.fb_wire.specs.declared.end.RunEnd.{RunEnd}
-use Rattle.fb_wire.specs.{Conversations.{AnswersLine, AnswersLines, Jobs, BeginsWith, Plan, Runs, after_take, asks, held_after, plan_of, says}, Said.{said_to}}
-use Rattle.fb_wire.specs.{declared.answer.Round.{Round}, declared.answer.Taking.{Taking}, declared.answer.Taking.TheVariants.{Ended, Job}}
+use Rattle.fb_wire.specs.{Conversations.{AnswersLine, AnswersLines, Jobs, BeginsWith, Plan, Runs, held_after, plan_of, says}, Said.{said_to}}
 use Rattle.fb_wire.specs.declared.change.ChangeError.TheVariants as fault
-use Rattle.fb_messages.specs.{Requests.{request_of}, Replies.{work_done, work_refused}, ReplyView.{data_of, refusal_text}, declared.reply.Reply.{Reply}}
+use Rattle.fb_messages.specs.{Requests.{request_of}, ReplyView.{data_of, refusal_text}, declared.reply.Reply.{Reply}}
 use Rattle.fb_messages.specs.declared.reply.Refusal.{Refusal}
 use Rattle.fb_wire.specs.declared.end.RunEnd.TheVariants as end
-use Rattle.fb_wire.specs.declared.answer.Round.TheVariants as rounds
 use Rattle.fb_messages.specs.declared.reply.Refusal.TheVariants as because
 
 -- some calls and checkpoints of the plan lead the desk from old to new, and this is left of it
@@ -57,23 +55,6 @@ checked_in (Err checkpoint.Memory) = None
 abbrev pub data_in : Result Reply AllocError → Option Data
 data_in (Ok reply) = Some (data_of reply)
 data_in (Err e) = None
-
--- what is left of a work's plan after one round, where `more` continues with a count
-abbrev pub left_after : Jobs → ℕ → (ℕ → Plan) → Round → Plan
-left_after held count more rounds.Accepted = more (count + 1)
-left_after held count more rounds.Refused = more count
-left_after held count more rounds.Nothing = says (work_done count) held
-left_after held count more (rounds.Stopped refusal) = says (work_refused count (refusal_text refusal)) held
-
-abbrev pub RoundProgress : {S : Type 0} → (S → Exchange → S → Type 0) → Jobs → ℕ → (ℕ → Plan) → S → Result Round AllocError → S → Type 0
-RoundProgress Step held count more old (Ok round) new = ProgressTo Step (asks ToTake (after_take held count more)) old (left_after held count more round) new
-RoundProgress Step held count more old (Err e) new = (rest : Plan) × ProgressTo Step (asks ToTake (after_take held count more)) old rest new
-
--- the job is the one that was taken, or the round shows how the answer ends the work
-abbrev pub Takes : Option Answer → Result Taking AllocError → Type 0
-Takes answered (Ok (Job found)) = answered ≡ Some (Replied (OfTake (Some found)))
-Takes answered (Ok (Ended round)) = (held : Jobs) (count : ℕ) (more : ℕ → Plan) → option_map (after_take held count more) answered ≡ Some (left_after held count more round)
-Takes answered (Err e) = answered ≡ None
 
 -- the reply to a take, and the jobs that are held after it
 abbrev pub KeepsTaken : Jobs → Option Answer → Option Data → Jobs → Type 0

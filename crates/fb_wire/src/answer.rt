@@ -1,12 +1,12 @@
 //! The calls of a desk for a request, and the reply.
 ghost use Rattle.std.specs.{Prelude.{◌≡◌, ℕ, Some, length, map, option_map}, Option.{option_copied}, Result.{result_ok}};
 ghost use Rattle.fb_text.specs.Name.{name_of};
-ghost use Rattle.fb_bench.specs.{Calls.{Exchanges, take_reply}, History.Machine.{OfDeliver, ToAsk, ToCommit, ToDeliver, ToGiveBack}};
+ghost use Rattle.fb_bench.specs.{Calls.{Exchanges, take_reply}, History.Machine.{ToAsk, ToCommit, ToDeliver, ToGiveBack}};
 ghost use Rattle.fb_bench.specs.{Requests.{call_for, reply_in}, Records.{listed}};
 ghost use Rattle.fb_messages.specs.{ReplyView.{data_of}, RequestView.{change_view, request_view}};
 ghost use Rattle.fb_wire.specs.Said.{checkpoint_said, commit_said, deliver_said, reply_said, said_to};
-ghost use Rattle.fb_wire.specs.Progress.{KeepsTaken, Progress, RoundProgress, Takes, answer_in, checked_in, data_in, left_after, refusal_for, unrecorded};
-ghost use Rattle.fb_wire.specs.Conversations.{Jobs, Plan, after_deliver, call_once, checkpoint_once, commit_plan, deliver_plan, edits_in, job_at, plan_of, take_plan, with_name, work_plan};
+ghost use Rattle.fb_wire.specs.Progress.{KeepsTaken, Progress, answer_in, checked_in, data_in, refusal_for, unrecorded};
+ghost use Rattle.fb_wire.specs.Conversations.{Jobs, call_once, checkpoint_once, commit_plan, deliver_plan, edits_in, job_at, plan_of, take_plan, with_name, work_plan};
 
 use crate::change::{ChangeError, changes_of};
 use fb_bench::{
@@ -208,79 +208,18 @@ fn answer_number<D: Desk>(
     }
 }
 
-/// How one round of a `work` request went: its take, run and deliver.
-#[derive(Clone, Copy)]
-pub(crate) enum Round {
-    Accepted,
-    /// The result was refused as any result may be, and the work continues.
-    Refused,
-    /// There was nothing to take.
-    Nothing,
-    Stopped(Refusal),
-}
-
-#[derive(Drop)]
-enum Taking {
-    Job(Job),
-    Ended(Round),
-}
-
-fn job_or_round(taken: Result<Taken, DeskError>) -> Result<Taking, AllocError>
-    ensures { Takes (answer_in take_reply taken) result }
-{
-    match taken {
-        Ok(Taken::Job(job)) => Ok(Taking::Job(job)),
-        Ok(Taken::Nothing) => Ok(Taking::Ended(Round::Nothing)),
-        Err(refused) => Ok(Taking::Ended(Round::Stopped(refusal_of(refused)?))),
-    }
-}
-
-fn round_by(delivered: Result<Delivered, DeskError>) -> Result<Round, AllocError>
-    ensures { (held : Jobs) (count : ℕ) (more : ℕ → Plan)
-        → option_map (after_deliver held count more) (answer_in OfDeliver delivered)
-        ≡ option_map (left_after held count more) (result_ok result) }
-{
-    match delivered {
-        Ok(Delivered::Accepted) => Ok(Round::Accepted),
-        Ok(Delivered::NoSuchKey) => Ok(Round::Refused),
-        Ok(Delivered::NotPending) => Ok(Round::Refused),
-        Ok(Delivered::Stale(_)) => Ok(Round::Refused),
-        Err(refused) => Ok(Round::Stopped(refusal_of(refused)?)),
-    }
-}
-
-/// Takes a job, runs it and delivers its result.
-fn work_once<D: Desk>(alloc: Global, desk: &mut D) -> Result<Round, AllocError>
-    ensures { (held : Jobs) (count : ℕ) (more : ℕ → Plan)
-        → RoundProgress (Exchanges D.step D.checkpoint_step) held count more desk.old result desk.new }
-{
-    let taken = desk.take();
-    let job = match job_or_round(taken) {
-        Ok(Taking::Job(job)) => job,
-        Ok(Taking::Ended(round)) => return Ok(round),
-        Err(e) => return Err(e),
-    };
-    let Ok(finished) = job.run(alloc) else {
-        return Err(AllocError);
-    };
-    let delivered = desk.deliver(&finished);
-    round_by(delivered)
-}
-
 fn answer_work<D: Desk>(alloc: Global, desk: &mut D, turns: u64) -> Result<Reply, AllocError>
     ensures { (held : Jobs) → Progress (Exchanges D.step D.checkpoint_step) (work_plan held turns 0) desk.old result held desk.new }
 {
     let mut accepted = 0;
     for _round in 0..turns {
-        let round = match work_once(alloc, desk) {
-            Ok(round) => round,
-            Err(e) => return Err(e),
+        let delivered = match desk.work_once(alloc) {
+            Ok(Some(delivered)) => delivered,
+            Ok(None) => return Ok(Reply::Worked(accepted)),
+            Err(refused) => return Ok(Reply::WorkRefused(accepted, refusal_of(refused)?)),
         };
-        match round {
-            Round::Accepted => accepted += 1,
-            Round::Refused => {}
-            Round::Nothing => return Ok(Reply::Worked(accepted)),
-            Round::Stopped(refusal) => return Ok(Reply::WorkRefused(accepted, refusal)),
+        if let Delivered::Accepted = delivered {
+            accepted += 1;
         }
     }
     Ok(Reply::Worked(accepted))
