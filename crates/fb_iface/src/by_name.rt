@@ -12,7 +12,7 @@ use std::alloc::{AllocError, Global};
 use std::marker::Model;
 
 /// The most names that a type without tables declares. Most types are asked for few names, and to search these in the tree takes less time
-/// than to make tables of all.
+/// than to make tables of all. Where many instances have a type of more names, tables take less.
 const FEW: usize = 40;
 
 /// Where names are looked up.

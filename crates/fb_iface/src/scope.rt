@@ -22,7 +22,7 @@ struct TypePorts<'a> {
     ports: PortsByName<'a>,
 }
 
-/// What names mean in a network. The ports of each type are read once, however many instances have it.
+/// What names mean in a network. Each type is kept once, however many instances have it.
 pub struct Scope<'a> {
     own: PortsByName<'a>,
     types: HashMap<Name, TypePorts<'a>>,
