@@ -1,7 +1,7 @@
 -- The entries after a commit.
 use Rattle.std.proofs.Common.{◌≡◌, ℕ, Bool, true, false, ◌||◌, ◌&&◌, not, List, [], ◌∷◌, map, refl, sym, ap, ◌∙◌, subst, Option, Some, None, cond}
 use Rattle.std.proofs.lemmas.Cmp.{eq_by_cmp_equiv}
-use Rattle.std.specs.{List.{list_any}, Map.{remove_entry}, BTreeMap.{is_at, insert_entry}, Ordering.{match_ordering}, declared.sync.Arc.{Arc}}
+use Rattle.std.specs.{Map.{remove_entry}, BTreeMap.{is_at, insert_entry}, Ordering.{match_ordering}, declared.sync.Arc.{Arc}}
 use Rattle.std.specs.{declared.alloc.Global.{Global}, declared.cmp.Ordering.TheVariants.{Less, Equal, Greater}, Option.{option_map}}
 use Rattle.fb_text.proofs.{Tests.{or_false, and_false, and_true}, OrderLemmas.{is_equal}}
 use Rattle.fb_entries.proofs.Library.Names.{exact_name, name_total}
@@ -53,27 +53,8 @@ agree_unreached commit es T k unreached n among = ap (option_map text_in) (held_
 
 -- ---- names among names
 
-any_none : {A : Type 0} (xs : List A) → list_any (λ x. false) xs ≡ false
-any_none [] = refl
-any_none (x ∷ xs) = any_none xs
-
-shuffle : (a b c d : Bool) → ((a || b) || (c || d)) ≡ ((a || c) || (b || d))
-shuffle true b c d = refl
-shuffle false true true d = refl
-shuffle false true false d = refl
-shuffle false false c d = refl
-
-any_or : {A : Type 0} (p r : A → Bool) (xs : List A) → list_any (λ x. p x || r x) xs ≡ (list_any p xs || list_any r xs)
-any_or p r [] = refl
-any_or p r (x ∷ xs) = ap (λ b. (p x || r x) || b) (any_or p r xs) ∙ shuffle (p x) (r x) (list_any p xs) (list_any r xs)
-
 flips : (a b : List ℕ) → is_at (name_cmp a) b ≡ is_at (name_cmp b) a
 flips a b = (eq_by_cmp_equiv name_total).symm a b
-
--- some of these are among those, where some of those are among these
-pub any_swap : (ds ns : List (List ℕ)) → list_any (λ d. is_among d ns) ds ≡ list_any (λ n. is_among n ds) ns
-any_swap [] ns = sym (any_none ns)
-any_swap (d ∷ ds) ns = (λ i. list_any (λ n. flips d n i) ns || any_swap ds ns i) ∙ sym (any_or (λ n. is_at (name_cmp n) d) (λ n. is_among n ds) ns)
 
 -- ---- one entry
 

@@ -18,9 +18,6 @@ epoch_receipts_send = search (epoch_receipts_field_send, crosses, sendable) dept
 receipt_store_field_sync : IsSync (ReceiptStore.the_field).row
 receipt_store_field_sync = search (epoch_receipts_send, crosses, sendable) depth 60 fits 20000
 
-pub receipt_store_sync : IsSync ReceiptStore.the_row
-receipt_store_sync = search (receipt_store_field_sync, crosses, sendable) depth 60 fits 20000
-
 connection_field_send : IsSend (Connection.the_field).row
 connection_field_send = search (crosses, sendable) depth 60 fits 20000
 
@@ -35,9 +32,6 @@ queue_state_send = search (queue_state_field_send, crosses, sendable) depth 60 f
 
 queue_field_sync : IsSync (ConnectionQueue.the_field).row
 queue_field_sync = search (queue_state_send, crosses, sendable) depth 60 fits 20000
-
-pub queue_sync : IsSync ConnectionQueue.the_row
-queue_sync = search (queue_field_sync, crosses, sendable) depth 60 fits 20000
 
 host_state_field_sync : IsSync (HostState.the_field).row
 host_state_field_sync = search (shared_field_sync, receipt_store_field_sync, queue_field_sync, crosses, sendable) depth 60 fits 20000

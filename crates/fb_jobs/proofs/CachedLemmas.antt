@@ -224,10 +224,6 @@ puts_none passes names empty other has =
 
 -- ---- a net that is blocked
 
-no_text : (o : Option Held) → is_some o ≡ true → is_none (option_map text_in o) ≡ false
-no_text None e = cc
-no_text (Some it) e = refl
-
 or_absent : (b absent part : Bool) → absent ≡ false → (b || (absent && part)) ≡ b
 or_absent true absent part e = refl
 or_absent false absent part e = ap (λ a. a && part) e

@@ -47,13 +47,6 @@ first_at-append {X = X} {Y = Y} key value (x ∷ xs) ys q = by_test (bytes_eq (k
 one_more : {X : Type 0} (xs : List X) (i : ℕ) (x : X) → i < length xs → x ≡ get_or xs i x → take i xs ++ x ∷ [] ≡ take (i + 1) xs
 one_more {X = X} xs i x lt e = ap (λ (y : X). take i xs ++ y ∷ []) e ∙ sym (take-suc xs i x lt) ∙ ap (λ (n : ℕ). take n xs) (sym (add-one i))
 
--- no item so far has the text as its key, and this one has not
-pub first_passed : {X Y : Type 0} (key : X → List ℕ) (value : X → Y) (xs : List X) (i : ℕ) (x : X) (q : List ℕ) → i < length xs → x ≡ get_or xs i x → first_at key value (take i xs) q ≡ None → bytes_eq (key x) q ≡ false → first_at key value (take (i + 1) xs) q ≡ None
-first_passed {X = X} {Y = Y} key value xs i x q lt e none differs =
-    ap (λ (ys : List X). first_at key value ys q) (sym (one_more xs i x lt e)) ∙ first_at-push key value (take i xs) x q
-    ∙ ap (λ (o : Option Y). option_or o (cond (bytes_eq (key x) q) (Some (value x)) None)) none
-    ∙ ap (λ (b : Bool). cond b (Some (value x)) None) differs
-
 -- no item so far has the text as its key, and this one has
 pub first_found : {X Y : Type 0} (key : X → List ℕ) (value : X → Y) (xs : List X) (i : ℕ) (x : X) (q : List ℕ) → i < length xs → x ≡ get_or xs i x → first_at key value (take i xs) q ≡ None → bytes_eq (key x) q ≡ true → first_at key value xs q ≡ Some (value x)
 first_found {X = X} {Y = Y} key value xs i x q lt e none same =

@@ -1,10 +1,10 @@
 -- Instances with their unit, and where names lead to from them.
-use Rattle.std.proofs.Common.{ℕ, suc, ◌≡◌, ◌<◌, List, [], ◌∷◌, ◌++◌, Option, Some, None, refl, sym, ◌∙◌, ap, drop, get_or, length, map, arith}
+use Rattle.std.proofs.Common.{ℕ, suc, ◌≡◌, ◌<◌, List, [], ◌∷◌, ◌++◌, Option, Some, None, refl, sym, ◌∙◌, ap, drop, get_or, length, map}
 use Rattle.std.proofs.Math.Seq.{drop-cons}
-use Rattle.std.specs.{Borrow.{Bor}, Prelude.{find, is_none, is_some, not, option_and_then, option_map}, Option.{option_map_or}, Str.{bytes_eq}}
+use Rattle.std.specs.{Borrow.{Bor}, Prelude.{find, option_and_then, option_map}, Option.{option_map_or}, Str.{bytes_eq}}
 use Rattle.fb_tree.specs.Tree.{ApplicationTree, InstanceTree}
 use Rattle.fb_library.specs.View.{Sources}
-use Rattle.fb_placing.specs.Resolved.{PlainResolved, application_called, instance_called, leads_nowhere, path_names, resolved_among, resolved_at, resolved_beyond, resolved_from, resolved_in, resolved_inside}
+use Rattle.fb_placing.specs.Resolved.{PlainResolved, application_called, instance_called, path_names, resolved_among, resolved_at, resolved_beyond, resolved_from, resolved_in, resolved_inside}
 use Rattle.fb_placing.specs.Tables.{Instances, instance_at, instances_called}
 use Rattle.fb_placing.proofs.InstanceLemmas.{among_called}
 
@@ -27,21 +27,6 @@ beyond_stops sources names i d s lt e =
     ap (λ (ns : List (Bor (List ℕ))). resolved_beyond sources (Some s) (map (λ n. n.now) ns)) (drop-cons names i d lt)
     ∙ ap (λ (o : Option PlainResolved). resolved_beyond sources o (map (λ n. n.now) (drop (suc i) names))) e
     ∙ beyond_nothing sources (map (λ n. n.now) (drop (suc i) names))
-
--- one name leads to an application, or nowhere
-pub nowhere_alone : (sources : Sources) (system : List ℕ) (applications : List ApplicationTree) (names : List (Bor (List ℕ))) (d : Bor (List ℕ)) (o : Option Instances) → length names ≡ 1 → option_map instance_at o ≡ instances_called applications (get_or names 0 d).now → not (is_some o) ≡ leads_nowhere sources system applications (map (λ n. n.now) names)
-nowhere_alone sources system applications [] d o one e = absurd (omega arith)
-nowhere_alone sources system applications (n ∷ (m ∷ ns)) d o one e = absurd (omega arith)
-nowhere_alone sources system applications (n ∷ []) d o one e = by_found (find (λ (a : ApplicationTree). bytes_eq a.name.name n.now) applications) e
-  where
-    by_found : (p : Option ApplicationTree) → option_map instance_at o ≡ option_map (λ (a : ApplicationTree). instance_called a.network.instances) p → not (is_some o) ≡ is_none (option_map (λ (a : ApplicationTree). a) p)
-    by_found p f = by_both o p f
-      where
-        by_both : (o : Option Instances) (p : Option ApplicationTree) → option_map instance_at o ≡ option_map (λ (a : ApplicationTree). instance_called a.network.instances) p → not (is_some o) ≡ is_none (option_map (λ (a : ApplicationTree). a) p)
-        by_both None None f = refl
-        by_both (Some t) (Some a) f = refl
-        by_both None (Some a) f = absurd (cc)
-        by_both (Some t) None f = absurd (cc)
 
 beyond_more : (sources : Sources) (o : Option PlainResolved) (names : List (List ℕ)) (name : List ℕ) → resolved_beyond sources o (names ++ name ∷ []) ≡ option_and_then (resolved_inside sources name) (resolved_beyond sources o names)
 beyond_more sources o [] name = refl

@@ -21,12 +21,3 @@ added_first {X = X} old new text x none is q = is q ∙ by_test (bytes_eq text q
         by_old : (o : Option X) → o ≡ option_or o None
         by_old None = refl
         by_old (Some y) = refl
-
--- the text stands for something
-pub kept_first : {X : Type 0} (old : List ℕ → Option X) (text : List ℕ) (x : X) → is_some (old text) ≡ true → (q : List ℕ) → old q ≡ option_or (old q) (cond (bytes_eq text q) (Some x) None)
-kept_first {X = X} old text x some q = by_test (bytes_eq text q) refl (old q) refl
-  where
-    by_test : (b : Bool) → bytes_eq text q ≡ b → (o : Option X) → old q ≡ o → o ≡ option_or o (cond b (Some x) None)
-    by_test b e (Some y) f = refl
-    by_test false e None f = refl
-    by_test true e None f = absurd (let gone = ap is_some (ap old (same_text text q e) ∙ f) in cc)

@@ -1,6 +1,6 @@
 -- Texts in parts, byte by byte.
-use Rattle.std.proofs.Common.{ℕ, zero, suc, ◌≡◌, Bool, true, false, ◌<◌, ◌≤◌, ◌+◌, List, [], ◌∷◌, ◌++◌, Some, None, length, get_or, take, drop, refl, sym, ap, ◌∙◌, arith, add-one, append-nil}
-use Rattle.std.proofs.{Math.Seq.{drop-cons, take-suc}, lemmas.Grind.{flat_map-append}, lemmas.List.{drop_all, take_all}}
+use Rattle.std.proofs.Common.{ℕ, zero, suc, ◌≡◌, Bool, true, false, ◌<◌, ◌≤◌, ◌+◌, List, [], ◌∷◌, ◌++◌, Some, length, get_or, take, drop, refl, sym, ap, ◌∙◌, arith, add-one, append-nil}
+use Rattle.std.proofs.{Math.Seq.{drop-cons, take-suc}, lemmas.Grind.{flat_map-append}, lemmas.List.{take_all}}
 use Rattle.std.specs.{Prelude.{not, slice_get}, Str.{bytes_eq}, Cmp.Lexicographic.{same_text}, Borrow.{Bor}}
 use Rattle.fb_placing.specs.TextParts.{joined}
 
@@ -32,10 +32,6 @@ part_here parts i k d lt within = ap (λ (t : List ℕ). slice_get t k) (parts_l
 -- a byte behind the part
 pub part_behind : (parts : List (Bor (List ℕ))) (i k j : ℕ) → i < length parts → k ≡ length (part_text parts i) + j → slice_get (joined (drop i parts)) k ≡ slice_get (joined (drop (i + 1) parts)) j
 part_behind parts i k j lt behind = ap (λ (t : List ℕ). slice_get t k) (parts_left parts i lt) ∙ byte_behind (part_text parts i) (joined (drop (i + 1) parts)) k j behind
-
--- behind the last part
-pub part_none : (parts : List (Bor (List ℕ))) (i k : ℕ) → length parts ≤ i → slice_get (joined (drop i parts)) k ≡ None
-part_none parts i k past = ap (λ (ps : List (Bor (List ℕ))). slice_get (joined ps) k) (drop_all i parts past)
 
 -- one part more
 pub joined_more : (parts : List (Bor (List ℕ))) (i : ℕ) → i < length parts → joined (take (i + 1) parts) ≡ joined (take i parts) ++ part_text parts i

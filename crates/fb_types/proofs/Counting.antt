@@ -60,9 +60,6 @@ mapped_further f xs i x within here =
     sym (map_push f (take i xs) x) ∙ ap (map f) (ap (λ y. take i xs ++ y ∷ []) here ∙ sym (take_more xs i x within))
 
 module _ (counts : List ℕ → Option ℕ) where
-  pub nothing_further : (so_far : ℕ) → CountsOn counts so_far [] so_far
-  nothing_further so_far view prefix all c = subst (λ (l : List Instance). IsCount view l so_far) (sym (append-nil prefix)) c
-
   further : (so_far : ℕ) (list : List Instance) (o : Option Instance) (n m : ℕ) → CountsOn counts so_far list n → m ≡ counted_with counts n o → CountsOn counts so_far (list ++ cons_option o []) m
   further so_far list None n m before e view prefix all c =
       let same = append-nil list in

@@ -76,9 +76,6 @@ AreDecided-skip names before undecided name old these = (
   λ u h. or_cases (has_name names u) (same u name) (sym (has-push names name u) ∙ h) (these.1 u) (λ s. ap (has_name undecided) (same_is u name s) ∙ old),
 )
 
-pub AreDecided-none : (before : List (List ℕ)) → AreDecided [] before before
-AreDecided-none before = (λ u h. h, λ u h. absurd (false≢true h))
-
 -- the names that are decided are found where they reach themselves
 pub found_of_decided : (next : List ℕ → List (List ℕ)) (names before undecided found : List (List ℕ)) → IsDecided next undecided found → AreDecided names before undecided → (u : List ℕ) → Contains names u → (Contains found u → Follows next u u) × (Follows next u u → Contains found u)
 found_of_decided next names before undecided found decided these u there = (

@@ -7,7 +7,7 @@ use Rattle.fb_tree.proofs.Text.Tests.{by_bool, or_cases, or_assoc, or_false, no_
 use Rattle.fb_tree.specs.Text.Order.{name_cmp}
 use Rattle.fb_iface.proofs.{Library.SeenLemmas.{same, same_is, same_self}, Library.WalkLemmas.{Contains-has, has-Contains, has-push, mentioned_somewhere}}
 use Rattle.fb_iface.specs.{Library.View.{Sources, parts_at, parts_in}, Library.Seen.{has_name}}
-use Rattle.fb_types.specs.{Graph.{Edges, edges_at, IsReverse, IsGraph}, Steps.{enters}, declared.search.Step.{Step}}
+use Rattle.fb_types.specs.{Graph.{Edges, edges_at, IsReverse}, Steps.{enters}, declared.search.Step.{Step}}
 use Rattle.fb_types.specs.declared.search.Step.TheVariants.{Enter, Leave}
 use Rattle.fb_types.proofs.{NameLemmas.{or_none_left, or_none_right, same_swap}, SearchLemmas.{all_parts, reachable, fuel, fuel_opens, at_step}}
 
@@ -181,14 +181,3 @@ module _ (sources : Sources) (begun : List (List ℕ)) where
                   (λ t. at.bounded u (awaits-last steps w u ∙ or_left (awaits steps u) _ t))
                   (mentioned w u);
             }
-
-  pub graph_at_end : (names : List (List ℕ)) (forth back : Edges) (steps : List Step) → steps ≡ [] → IsExplored sources begun names forth back steps → IsGraph sources begun names forth back
-  graph_at_end names forth back steps none explored =
-      let at : IsExplored sources begun names forth back [] = subst (λ (x : List Step). IsExplored sources begun names forth back x) none explored in
-      record {
-        begins = λ u h. sym (or_false (has_name names u)) ∙ at.begins u h;
-        closed = λ u v h m. sym (or_false (has_name names v)) ∙ at.closed u v h m;
-        mentions = at.mentions;
-        outside = at.outside;
-        reverse = at.reverse;
-      }

@@ -9,7 +9,7 @@ use Rattle.fb_network.specs.declared.application.FlatApplication.{FlatApplicatio
 use Rattle.fb_tree.proofs.Text.Members.{contains_nothing, contains_flat_map}
 use Rattle.fb_types.specs.{Applications.{applications_of}, Networks.{network_of}, ByName.{applications_at}, declared.systems.Application.{Application}}
 use Rattle.fb_types.specs.Tables.{IsUnitCount, is_system_tree}
-use Rattle.fb_types.specs.Units.{AreFlatApplications, NoApplication, ThenApplication, IsFlatApplication, IsTooLarge, IsWithinLimit, instances_in, own_instances}
+use Rattle.fb_types.specs.Units.{AreFlatApplications, NoApplication, ThenApplication, IsFlatApplication, IsTooLarge, IsWithinLimit, own_instances}
 
 pub flats-push : {view : View} {applications : List Application} {flats : List FlatApplication} (application : Application) (flat : FlatApplication) → AreFlatApplications view applications flats → IsFlatApplication view application flat → AreFlatApplications view (applications ++ application ∷ []) (flats ++ flat ∷ [])
 flats-push application flat NoApplication is = ThenApplication application flat is NoApplication
@@ -28,9 +28,6 @@ not_too_large c le = record { held = c.held; holds = c.holds; within = let e = c
 -- the instances of a unit that is no system are those of its network
 pub own_of_type : (tree : DeclTree) → is_system_tree tree ≡ false → (network_of tree).instances ≡ own_instances tree
 own_of_type tree e = grind arith
-
-pub own_of_system : (tree : DeclTree) → is_system_tree tree ≡ true → instances_in (applications_of tree) ≡ own_instances tree
-own_of_system tree e = grind arith
 
 -- what a map gives something of is something
 pub some_of_map : {X Y : Type 0} (f : X → Y) (o : Option X) (y : Y) → option_map f o ≡ Some y → is_some o ≡ true

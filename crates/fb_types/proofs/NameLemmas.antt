@@ -17,9 +17,6 @@ or_none_left a b e = grind arith
 pub or_none_right : (a b : Bool) → (a || b) ≡ false → b ≡ false
 or_none_right a b e = grind arith
 
-pub or_swap : (a b c : Bool) → ((a || b) || c) ≡ ((a || c) || b)
-or_swap a b c = grind arith
-
 pub or_under : (a b c : Bool) → (a || (b || c)) ≡ ((b || a) || c)
 or_under a b c = grind arith
 

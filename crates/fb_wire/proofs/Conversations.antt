@@ -103,12 +103,6 @@ module _ {S : Type 0} (CallStep : S → Call → Answer → S → Type 0) (Check
   reaches_by : (old new : S) (call : Call) (next : Answer → Plan) (answer : Answer) → CallStep old call answer new → ProgressTo Step (asks call next) old (next answer) new
   reaches_by old new call next answer step = (AskedCall call answer ∷ [], (refl, refl), (new, step, refl))
 
-  by_some : (old new : S) (call : Call) (a b : Answer) → CallStep old call a new → Some a ≡ Some b → CallStep old call b new
-  by_some old new call a b step is =
-      let same : a ≡ b = cc in
-      let P : Answer → Type 0 = λ x. CallStep old call x new in
-      subst P same step
-
   call_replied : (old new : S) (call : Call) (answer : Answer) (reply : Reply) (held : Jobs) → CallStep old call answer new → Some (said_to 0 answer) ≡ Some (data_of reply)
       → ProgressTo Step (call_once held call) old (says (data_of reply) held) new
   call_replied old new call answer reply held step is =
@@ -120,14 +114,6 @@ module _ {S : Type 0} (CallStep : S → Call → Answer → S → Type 0) (Check
   checkpoint_replied old new limits answer reply held step is =
       let same : checkpoint_said answer ≡ data_of reply = cc in
       (AskedCheckpoint limits answer ∷ [], (refl, ap (λ d. says d held) (sym same)), (new, step, refl))
-
-  -- what a served call was answered
-  serves_some : {R : Type 0} (old new : S) (call : Call) (reply_of : R → MachineReply) (r : Result R DeskError) (answer : Answer)
-      → Serves CallStep old call reply_of r new → answer_in reply_of r ≡ Some answer → CallStep old call answer new
-  serves_some old new call reply_of (Ok r) answer step is = by_some old new call (Replied (reply_of r)) answer step is
-  serves_some old new call reply_of (Err HistoryFull) answer step is = by_some old new call FullHistory answer step is
-  serves_some old new call reply_of (Err Behind) answer step is = by_some old new call BehindHistory answer step is
-  serves_some old new call reply_of (Err Memory) answer step is = absurd cc
 
   -- a call whose answer alone is the reply
   pub call_served : {R : Type 0} (old new : S) (call : Call) (reply_of : R → MachineReply) (r : Result R DeskError) (reply : Result Reply AllocError) (held : Jobs)
