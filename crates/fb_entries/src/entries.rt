@@ -127,16 +127,8 @@ impl Entries {
             (λ marks. marks.out.items ≡ keys_with is_handed_out self.now.entries) }
         ensures ordered { IsStrictlySortedBy key_cmp (keys_of self.now.entries) }
     {
-        let mut pending = Vec::new(alloc);
-        let mut out = Vec::new(alloc);
-        for (key, entry) in self.by_key.iter() {
-            if entry.value.is_none() {
-                pending.push(*key)?;
-            }
-            if entry.out {
-                out.push(*key)?;
-            }
-        }
+        let pending = pending_keys(alloc, &self.by_key)?;
+        let out = keys_out(alloc, &self.by_key)?;
         Ok(Marks { pending, out })
     }
 
@@ -273,6 +265,34 @@ impl Entries {
     {
         store_precomputed(&mut self.by_key, key, found);
     }
+}
+
+/// The keys that are pending.
+fn pending_keys(alloc: Global, entries: &BTreeMap<Key, Entry>) -> Result<Vec<Key>, AllocError>
+    ensures keys { IfOk result
+        (λ keys. keys.items ≡ keys_with is_unkept entries.now.entries) }
+    ensures ordered { IsStrictlySortedBy key_cmp (keys_of entries.now.entries) }
+{
+    let mut keys = Vec::new(alloc);
+    for (key, entry) in entries.iter() {
+        if entry.value.is_none() {
+            keys.push(*key)?;
+        }
+    }
+    Ok(keys)
+}
+
+/// The keys that are handed out.
+fn keys_out(alloc: Global, entries: &BTreeMap<Key, Entry>) -> Result<Vec<Key>, AllocError>
+    ensures { IfOk result (λ keys. keys.items ≡ keys_with is_handed_out entries.now.entries) }
+{
+    let mut keys = Vec::new(alloc);
+    for (key, entry) in entries.iter() {
+        if entry.out {
+            keys.push(*key)?;
+        }
+    }
+    Ok(keys)
 }
 
 impl Cache for Entries {

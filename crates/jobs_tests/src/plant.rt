@@ -206,7 +206,7 @@ fn users_told(alloc: Global, library: &Library) -> Result<String, Fail> {
 
 fn say_reads(told: &mut String, reads: &[Read]) -> Result<(), AllocError> {
     for read in reads {
-        write!(told, " {}", read.name)?;
+        write!(told, " {}", read.name.as_str())?;
     }
     Ok(())
 }
