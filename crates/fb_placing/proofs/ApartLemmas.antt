@@ -99,3 +99,10 @@ inside_parts start end block prefix name first (b ∷ rest) e f same alike some 
       rest,
       (λ i. sym same i ++ f i) ∙ (λ i. prefix ++ (alike i ++ at i ∷ rest)) ∙ sym (append_assoc prefix name (46 ∷ rest)) ∙ ap (λ (l : List ℕ). l ++ 46 ∷ rest) (sym e),
     )
+
+-- a path whose first part begins with the text of a block and a point
+pub inside_start : (start end block first rest : List ℕ) → start ≡ first ++ rest → first ≡ block → 0 < length rest → nat_eq (slice_index_or rest 0 0) 46 ≡ true → IsInside (start ++ end) block
+inside_start start end block first [] e alike some point = absurd (omega (arith, some))
+inside_start start end block first (b ∷ rest) e alike some point =
+    let at : b ≡ 46 = (Decides-eqb b 46).0 point in
+    (rest ++ end, ap (λ (s : List ℕ). s ++ end) (e ∙ (λ i. alike i ++ at i ∷ rest)) ∙ append_assoc block (46 ∷ rest) end)

@@ -9,6 +9,7 @@ pub mod Resolver
 pub mod Homes
 pub mod Cuts
 pub mod HomeTable
+pub mod Found
 pub mod Laws
 pub mod ConstantTexts
 pub mod PlacedCommands

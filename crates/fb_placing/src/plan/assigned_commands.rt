@@ -101,26 +101,23 @@ fn push_connection<'a>(
 fn push_link<'a>(
     flat: &Flat,
     link: u32,
-    froms: &mut EndFinder<'a, '_>,
-    tos: &mut EndFinder<'a, '_>,
+    ends: &mut EndFinder<'a, '_>,
     cuts: &mut Vec<u32>,
     commands: &mut Vec<AssignedCommand<'a>>,
 ) -> Result<(), AllocError>
-    requires { froms.old.homes.now ≡ tos.old.homes.now }
-    ensures homes { (froms.new.homes.now ≡ froms.old.homes.now)
-        × (tos.new.homes.now ≡ tos.old.homes.now) }
+    ensures homes { ends.new.homes.now ≡ ends.old.homes.now }
     ensures cuts { OnOk result (map (link_numbered flat.now) cuts.new.items
         ≡ map (link_numbered flat.now) cuts.old.items
-        ++ cuts_of (home_by_path froms.old.homes.now.by_path) (link_numbered flat.now link ∷ [])) }
+        ++ cuts_of (home_by_path ends.old.homes.now.by_path) (link_numbered flat.now link ∷ [])) }
     ensures commands { OnOk result ((writes : List (List ℕ))
         → map (plain_command flat.now writes) commands.new.items
         ≡ map (plain_command flat.now writes) commands.old.items
-        ++ connection_commands (home_by_path froms.old.homes.now.by_path) (link_numbered flat.now link ∷ [])) }
+        ++ connection_commands (home_by_path ends.old.homes.now.by_path) (link_numbered flat.now link ∷ [])) }
 {
     let (start, end) = flat.link_from(link);
-    let from = froms.home(start, end)?;
+    let from = ends.home(start, end)?;
     let (start, end) = flat.link_to(link);
-    let to = tos.home(start, end)?;
+    let to = ends.home(start, end)?;
     if same_home(from, to) {
         push_connection(flat, link, from, commands)
     } else {
@@ -147,10 +144,9 @@ pub(crate) fn push_links<'a>(
 {
     let count = number(flat.link_count())?;
     commands.reserve(flat.link_count())?;
-    let mut froms = EndFinder::new(alloc, homes);
-    let mut tos = EndFinder::new(alloc, homes);
+    let mut ends = EndFinder::new(alloc, homes);
     for link in 0..count {
-        push_link(flat, link, &mut froms, &mut tos, cuts, commands)?;
+        push_link(flat, link, &mut ends, cuts, commands)?;
     }
     Ok(())
 }

@@ -15,10 +15,9 @@ loop-link-preserved c =
     let lt : n < length flat.links = omega (arith, c.loop-link-test.true, c.in_ok-count.ensures.same, c.link_count.ensures) in
     let there = link_there flat.links n x lt in
     record {
-      froms = c.push_link.ensures.homes.0 ∙ c.loop-link.invariant.froms;
-      tos = c.push_link.ensures.homes.1 ∙ c.loop-link.invariant.tos;
+      homes = c.push_link.ensures.homes ∙ c.loop-link.invariant.homes;
       cuts = step_added (cuts_of homes) (filter-append (is_cut homes)) flat.links n x (map (link_numbered flat) c.args.cuts.now.items) _ _ lt there c.loop-link.invariant.cuts
-          (c.in_ok-push_link.ensures.cuts ∙ ap (λ (t : HomeTable). map (link_numbered flat) c.loop-link.cuts.items ++ cuts_of (home_by_path t.by_path) (x ∷ [])) c.loop-link.invariant.froms);
+          (c.in_ok-push_link.ensures.cuts ∙ ap (λ (t : HomeTable). map (link_numbered flat) c.loop-link.cuts.items ++ cuts_of (home_by_path t.by_path) (x ∷ [])) c.loop-link.invariant.homes);
       commands = λ writes. step_added (connection_commands homes) (filter_map-append (connection_command homes)) flat.links n x (map (plain_command flat writes) c.args.commands.now.items) _ _ lt there (c.loop-link.invariant.commands writes)
-          (c.in_ok-push_link.ensures.commands writes ∙ ap (λ (t : HomeTable). map (plain_command flat writes) c.loop-link.commands.items ++ connection_commands (home_by_path t.by_path) (x ∷ [])) c.loop-link.invariant.froms);
+          (c.in_ok-push_link.ensures.commands writes ∙ ap (λ (t : HomeTable). map (plain_command flat writes) c.loop-link.commands.items ++ connection_commands (home_by_path t.by_path) (x ∷ [])) c.loop-link.invariant.homes);
     }

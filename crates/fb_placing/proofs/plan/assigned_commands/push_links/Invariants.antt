@@ -6,8 +6,7 @@ use Rattle.fb_placing.proofs.plan.assigned_commands.push_links.Given as goal
 
 abbrev pub invariant-loop-link : goal.invariant-loop-link
 invariant-loop-link l = record {
-  froms : l.froms.homes.now ≡ l.homes;
-  tos : l.tos.homes.now ≡ l.homes;
+  homes : l.ends.homes.now ≡ l.homes;
   cuts : map (link_numbered l.flat) l.cuts.items
       ≡ map (link_numbered l.flat) l.fn.cuts.items ++ cuts_of (home_by_path l.homes.by_path) (take l.link l.flat.links);
   commands :
