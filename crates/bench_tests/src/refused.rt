@@ -4,7 +4,7 @@ use crate::conversation::{ALWAYS, new_bench, said};
 use crate::cuts::{Conversation, LATE, LATE_CALLS, behind, conversation_of, is_prefix, lines_in};
 use fb_wire::bench::Bench;
 use fb_wire::{IntoWrite, MemoryFeed, RunEnd, run_script};
-use refusing::{Refusals, refuse, report, was_refused};
+use refusing::{each_refused, refuse, report, was_refused};
 use std::alloc::Global;
 use std::test::Fail;
 
@@ -115,32 +115,13 @@ fn tried(
     Ok((is_refused, is_short))
 }
 
-fn each_refused(
-    alloc: Global,
-    conversation: &Conversation,
-    can_go_on: bool,
-) -> Result<Refusals, Fail> {
-    let mut memory = 0u32;
-    for number in 1..100_000u32 {
-        let (is_refused, is_short) = tried(alloc, conversation, can_go_on, number)?;
-        if !is_refused {
-            return Ok(Refusals {
-                allocations: number - 1,
-                memory,
-            });
-        }
-        memory = memory.saturating_add(u32::from(is_short));
-    }
-    Err(Fail::from("ever more allocations"))
-}
-
 #[test]
 fn each_allocation_of_a_run(rt: HostRuntime) -> Result<(), Fail> {
     let lines = conversation_of(rt.alloc(), LINES, CALLS)?;
-    let found = each_refused(rt.alloc(), &lines, true)?;
+    let found = each_refused(|number| tried(rt.alloc(), &lines, true, number))?;
     report(&rt, "run_script", " of nine lines", found)?;
     let late = conversation_of(rt.alloc(), LATE, LATE_CALLS)?;
-    let found = each_refused(rt.alloc(), &late, false)?;
+    let found = each_refused(|number| tried(rt.alloc(), &late, false, number))?;
     report(&rt, "run_script", " of a late result", found)?;
     Ok(())
 }

@@ -1,7 +1,7 @@
 //! Libraries of units, and the parts of faults and interfaces.
 use crate::plant::{library, put, say_names};
 use fb_faults::faults;
-use fb_iface::{Code, Fault, first_declared, interface, sorted_faults};
+use fb_iface::{Code, Fault, interface, sorted_faults};
 use fb_library::parse::{Body, Source};
 use fb_library::{Change, Library, View, declaration_by_name, far, near, tree_by_name};
 use fb_tree::text::{Name, Span};
@@ -157,19 +157,5 @@ fn codes_have_words_and_numbers(rt: HostRuntime) -> Result<(), Fail> {
         "NO_SUCH_RESOURCE 22 STRUCT_RECURSIVE 24",
         "codes"
     );
-    Ok(())
-}
-
-/// The numbers that mean two names, where X is declared twice, and how many names there are.
-fn first_numbers(alloc: Global, x: Name, y: Name) -> Result<([Option<i32>; 2], usize), AllocError> {
-    let table = first_declared(alloc, [(x, 1), (y, 2), (x, 3)].as_slice())?;
-    let numbers = [table.get(&x).copied(), table.get(&y).copied()];
-    Ok((numbers, table.len()))
-}
-
-#[test]
-fn a_name_stands_for_its_first_declaration(rt: HostRuntime) -> Result<(), Fail> {
-    let found = first_numbers(rt.alloc(), Name::read("x")?, Name::read("y")?)?;
-    assert_eq!(rt; found, ([Some(1), Some(2)], 2), "numbers");
     Ok(())
 }

@@ -1,5 +1,5 @@
 -- Spellings, prefixes and what reading by a predictive form gives.
-use Rattle.std.proofs.Common.{◌≡◌, ℕ, zero, suc, ◌≤◌, ◌<◌, Bool, true, false, cond, ◌||◌, not, nat_eq, ◌⊎◌, inl, inr, List, [], ◌∷◌, ◌++◌, length, Some, None, Ok, Err, refl, sym, ◌∙◌, ap, subst, arith, append_assoc, length-append, ap₂}
+use Rattle.std.proofs.Common.{◌≡◌, ℕ, zero, suc, ◌≤◌, Bool, true, false, cond, ◌||◌, not, nat_eq, ◌⊎◌, inl, inr, List, [], ◌∷◌, ◌++◌, length, Some, None, Ok, Err, refl, sym, ◌∙◌, ap, subst, arith, append_assoc, length-append, ap₂}
 use Rattle.std.proofs.lemmas.Bool.{and_parts, or_left, or_right}
 use borrow.Author.Tests.{eqb-true}
 use Rattle.fb_tree.proofs.Text.Tests.{not_true}
@@ -85,10 +85,6 @@ prefix_of_spelling (option x) us None s = subst (Prefix x) (sym s) (prefix_nil x
 prefix_of_spelling (option x) us (Some v) s = prefix_of_spelling x us v s
 prefix_of_spelling (many x) us vs s = (us, [], vs, sym (append_nil us), s, prefix_nil x)
 prefix_of_spelling (as_value f x) us v s = prefix_of_spelling x us s.0 s.1
-
--- what a spelling with no tokens says
-null_of_each : {A : Type 0} (x : Form A) (ts us : List Lexeme) → us ≡ ts → ts ≡ [] → us ≡ []
-null_of_each x ts us e f = e ∙ f
 
 nullable_of_spelling : {A : Type 0} (x : Form A) (ts : List Lexeme) (v : A) → Spells x ts v → ts ≡ [] → is_nullable x ≡ true
 nullable_of_spelling (one kinds) ts v s e = cc (s.0, e)
@@ -552,13 +548,6 @@ pub one_spelled : {A : Type 0} (x : Form A) → is_predictive x ≡ true → (ts
 one_spelled {A} x h ts v w s t =
     let pair : (v, []) ≡ (w, []) = ok_one (read x ts) (v, []) (w, []) (ok_of_spelled x h ts v s) (ok_of_spelled x h ts w t) in
     ap (λ (z : A × List Lexeme). z.0) pair
-
-empty_of_length : (ts : List Lexeme) → length ts < 1 → ts ≡ []
-empty_of_length [] h = refl
-empty_of_length (t ∷ ts) h = absurd (omega arith)
-
-pub spelled_of_end : {A : Type 0} (x : Form A) (ts : List Lexeme) (v : A) (rest : List Lexeme) → read x ts ≡ Ok (v, rest) → length rest < 1 → Spells x ts v
-spelled_of_end {A} x ts v rest e h = spelled_of_ok x ts v (e ∙ ap (λ (z : List Lexeme). Ok (v, z)) (empty_of_length rest h))
 
 pub none_spelled_of_rest : {A : Type 0} (x : Form A) → is_predictive x ≡ true → (ts : List Lexeme) (v : A) (rest : List Lexeme) → read x ts ≡ Ok (v, rest) → 1 ≤ length rest → (w : A) → Spells x ts w → ⊥
 none_spelled_of_rest {A} x h ts v rest e le w s =

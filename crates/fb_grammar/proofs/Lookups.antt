@@ -1,9 +1,9 @@
 -- Words and symbols are found among those of their length.
-use Rattle.std.proofs.Common.{◌≡◌, ℕ, ◌≤◌, ◌<◌, Bool, true, ◌&&◌, ◌||◌, List, [], ◌∷◌, slice_index, refl, length, map, filter, Option, None, not, nat_eq, nat_le, nat_lt, arith, sym, ap, ◌∙◌, eq-eqb, false, Some, if◌then◌else◌, true≢false}
-use Rattle.std.proofs.{lemmas.Bool.Decides.{nat_tests}, lemmas.Bool.{and_parts}, lemmas.List.{length-map}, lemmas.Map.Entries.{lookup-filter-keys}}
-use Rattle.std.specs.{List.{list_all}, Map.{lookup}, Char.{to_ascii_lowercase}, Cmp.Lexicographic.{pointwise, same_text}}
+use Rattle.std.proofs.Common.{◌≡◌, ℕ, ◌≤◌, ◌<◌, Bool, true, ◌&&◌, ◌||◌, List, [], ◌∷◌, slice_index, refl, length, map, filter, None, nat_eq, nat_le, nat_lt, arith, sym, ap, ◌∙◌, eq-eqb, false, true≢false}
+use Rattle.std.proofs.{lemmas.Bool.Decides.{nat_tests}, lemmas.Bool.{false_from_ne_true}, lemmas.List.{length-map}, lemmas.Map.Entries.{lookup-filter-keys}}
+use Rattle.std.specs.{Map.{lookup}, Char.{to_ascii_lowercase}, Cmp.Lexicographic.{pointwise, same_text}}
 use Rattle.fb_tree.specs.Text.Forms.{same_word}
-use Rattle.fb_grammar.specs.{declared.kind.Kind.{Kind}, ReservedWords.{keyword, reserved_words, symbol, symbols}, ByLength.{initial, words_between, symbols_of}}
+use Rattle.fb_grammar.specs.{ReservedWords.{keyword, reserved_words, symbol, symbols}, ByLength.{initial, words_between, symbols_of}}
 
 same_length : (a b : List ℕ) → same_word a b ≡ true → length b ≡ length a
 unfolding same_word
@@ -55,20 +55,6 @@ same_initial a b e =
     of_lowercase [] = refl
     of_lowercase (c ∷ x) = refl
 
--- a word is found among those that begin as it does
-pub by_initial : (low high begins b : ℕ) (word : List ℕ) (found : Option Kind) → begins ≡ initial word → begins ≡ b → found ≡ lookup (same_word word) (filter (λ e. nat_eq (initial e.0) b) (words_between low high)) → found ≡ lookup (same_word word) (words_between low high)
-by_initial low high begins b word found is h e = e ∙ lookup-filter-keys (same_word word) (λ k. nat_eq (initial k) b) true (λ k s. eq-eqb (initial k) b (same_initial word k s ∙ sym is ∙ h)) (words_between low high)
-
--- and not where none of them does
-pub no_initial : (low high : ℕ) (word : List ℕ) → list_all (λ e. not (nat_eq (initial word) (initial e.0))) (words_between low high) ≡ true → None ≡ lookup (same_word word) (words_between low high)
-no_initial low high word h = go (words_between low high) h
-  where
-    step : (b : Bool) (found : Option Kind) (kind : Kind) → (b ≡ true → ⊥) → found ≡ (if b then Some kind else found)
-    step true found kind h = absurd (h refl)
-    step false found kind h = refl
-
-    go : (es : List (List ℕ × Kind)) → list_all (λ e. not (nat_eq (initial word) (initial e.0))) es ≡ true → None ≡ lookup (same_word word) es
-    go [] all = refl
-    go (e ∷ es) all =
-        let parts = and_parts (not (nat_eq (initial word) (initial e.0))) (list_all (λ f. not (nat_eq (initial word) (initial f.0))) es) all in
-        go es parts.1 ∙ step (same_word word e.0) (lookup (same_word word) es) e.1 (λ s. true≢false (sym parts.0 ∙ ap not (eq-eqb (initial word) (initial e.0) (sym (same_initial word e.0 s)))))
+-- words with other first letters are two words
+pub other_initial : (a b : List ℕ) → nat_eq (initial a) (initial b) ≡ false → same_word a b ≡ false
+other_initial a b apart = false_from_ne_true (same_word a b) (λ same. true≢false (sym (eq-eqb (initial a) (initial b) (sym (same_initial a b same))) ∙ apart))

@@ -179,9 +179,6 @@ module _ (text : List ℕ) (place : ℕ) (utf8 : IsUtf8 text) (starts : IsCharBo
   found-front kind n bytes e same =
       subst (λ bs. IsFront text (kind_of kind bs) (record { start = place; end = place + n })) (ap (λ k. take k (drop place text)) (let size : place + n - place ≡ n = omega arith in size) ∙ sym same) (token-front kind n e)
 
-  pub found-within : (kind : TokenKind) (n : ℕ) → piece_at (drop place text) ≡ Found kind n → place + n ≤ length text
-  found-within kind n e = omega (arith, (fits (Found kind n) e).ends.0, length-drop place text)
-
   pub unclosed-front : piece_at (drop place text) ≡ Unclosed → IsFront text NeverClosed (record { start = place; end = length text })
   unclosed-front e =
       let pulled = unclosed-pulled text place left e in
@@ -266,9 +263,6 @@ pub record HasPassed (text : List ℕ) (from place : ℕ) (quotes : OpenQuotes) 
   pub same : pulled_at text from ≡ pulled_at text place
   pub boundary : IsCharBoundary text place
   pub are_open : AreOpen text place quotes
-
-pub nothing-passed : (text : List ℕ) (from : ℕ) (quotes : OpenQuotes) → IsCharBoundary text from → AreOpen text from quotes → HasPassed text from from quotes
-nothing-passed text from quotes boundary known = record { same = refl; boundary = boundary; are_open = known }
 
 AreOpen-end : (text : List ℕ) (place end : ℕ) (quotes : OpenQuotes) → place ≤ end → AreOpen text place quotes → AreOpen text end quotes
 AreOpen-end text place end quotes h known = subst (λ n. AreOpen text n quotes) (let back : place + (end - place) ≡ end = omega arith in back) (AreOpen-later text place (end - place) quotes known)

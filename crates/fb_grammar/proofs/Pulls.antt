@@ -1,5 +1,5 @@
 -- The places of what is pulled of a text.
-use Rattle.std.proofs.Common.{◌≡◌, ℕ, zero, suc, ◌+◌, ◌-◌, ◌<◌, ◌≤◌, List, [], ◌∷◌, ◌++◌, length, drop, refl, sym, ap, subst, ◌∙◌, arith, add-zero, length-drop, IsUtf8}
+use Rattle.std.proofs.Common.{◌≡◌, ℕ, zero, suc, ◌+◌, ◌-◌, ◌<◌, ◌≤◌, List, [], ◌∷◌, length, drop, refl, sym, ap, subst, ◌∙◌, arith, add-zero, length-drop, IsUtf8}
 use Rattle.std.proofs.lemmas.Str.{IsCharBoundary-end, IsCharBoundary-from_rest, IsCharBoundary-start, IsUtf8-drop}
 use Rattle.std.proofs.{lemmas.List.{drop-drop}, lemmas.List.Elements.{All-cons, All-nil}}
 use Rattle.std.specs.{Prelude.{All}, Str.{IsCharBoundary}}
@@ -42,34 +42,3 @@ within-from text utf8 zero place (b ∷ bs) left e boundary =
 pub pulled-within : (text : List ℕ) → IsUtf8 text → All (Within text) (tokens_to_end text)
 unfolding tokens_to_end
 pulled-within text utf8 = within-from text utf8 0 0 text (omega arith) refl (IsCharBoundary-start text utf8)
-
--- there is a last token, and it ends at this place
-abbrev EndsAt : ℕ → List Lexeme → Type 0
-EndsAt end [] = ⊥
-EndsAt end (token ∷ []) = token.span.end ≡ end
-EndsAt end (token ∷ next ∷ tokens) = EndsAt end (next ∷ tokens)
-
-ends-behind : (end : ℕ) (token : Lexeme) (tokens : List Lexeme) → EndsAt end tokens → EndsAt end (token ∷ tokens)
-ends-behind end token [] h = absurd h
-ends-behind end token (next ∷ tokens) h = h
-
-ends-before : (text : List ℕ) (place : ℕ) (piece : Piece) (following : ℕ → List Lexeme) → ((n : ℕ) → EndsAt (length text) (following n)) → EndsAt (length text) (pulled_before text place piece following)
-ends-before text place (Gap n) following h = h n
-ends-before text place Unclosed following h = refl
-ends-before text place (Found kind n) following h = ends-behind (length text) (lexeme_of text (token_of kind place n)) (following n) (h n)
-
-ends-from : (text : List ℕ) (inside place : ℕ) (rest : List ℕ) → EndsAt (length text) (pulled_from text inside place rest)
-unfolding pulled_from
-ends-from text inside place [] = refl
-ends-from text (suc inside) place (b ∷ bs) = ends-from text inside (place + 1) bs
-ends-from text zero place (b ∷ bs) = ends-before text place (piece_at (b ∷ bs)) (λ n. pulled_from text (n - 1) (place + 1) bs) (λ n. ends-from text (n - 1) (place + 1) bs)
-
-last-ends : (end : ℕ) (tokens : List Lexeme) (last : Lexeme) → EndsAt end (tokens ++ last ∷ []) → last.span.end ≡ end
-last-ends end [] last h = h
-last-ends end (token ∷ []) last h = h
-last-ends end (token ∷ next ∷ tokens) last h = last-ends end (next ∷ tokens) last h
-
--- what is behind all tokens ends with the text
-pub pulled-end : (text : List ℕ) (tokens : List Lexeme) (last : Lexeme) → tokens_to_end text ≡ tokens ++ last ∷ [] → last.span.end ≡ length text
-unfolding tokens_to_end
-pulled-end text tokens last e = last-ends (length text) tokens last (subst (EndsAt (length text)) e (ends-from text 0 0 text))

@@ -16,12 +16,20 @@ fn initial(word: &[u8]) -> u8
     }
 }
 
+/// Whether the two are one word in any case; most words differ in their first letters.
+#[tactic(auto, using(crate::proofs::Lookups::other_initial))]
+fn is_word(word: &[u8], spelling: &[u8]) -> bool
+    ensures { result ≡ same_word word.now spelling.now }
+{
+    initial(word) == initial(spelling) && same_word(word, spelling)
+}
+
 /// The kind of the first of these words that this is in any case.
 fn among(word: &[u8], words: &[(&[u8], Kind)]) -> Option<Kind>
     ensures { result ≡ lookup (same_word word.now) (map (λ e. (e.0.now, e.1)) words.now) }
 {
     for (spelling, kind) in words {
-        if same_word(word, spelling) {
+        if is_word(word, spelling) {
             return Some(*kind);
         }
     }
@@ -29,253 +37,247 @@ fn among(word: &[u8], words: &[(&[u8], Kind)]) -> Option<Kind>
 }
 
 /// The reserved words of 2 letters.
+#[tactic(auto, unfolding(crate::specs::ByLength::words_between))]
 fn word_of_2(word: &[u8]) -> Option<Kind>
     ensures { result ≡ lookup (same_word word.now) (words_between 2 2) }
 {
-    match initial(word) {
-        b't' => among(word, &[(b"TO", Kind::To)]),
-        b'o' => among(word, &[(b"OF", Kind::Of), (b"OR", Kind::Or)]),
-        b'i' => among(word, &[(b"IF", Kind::If)]),
-        b'b' => among(word, &[(b"BY", Kind::By)]),
-        b'd' => among(word, &[(b"DO", Kind::Do)]),
-        _ => None,
-    }
+    among(
+        word,
+        &[
+            (b"TO", Kind::To),
+            (b"OF", Kind::Of),
+            (b"IF", Kind::If),
+            (b"BY", Kind::By),
+            (b"DO", Kind::Do),
+            (b"OR", Kind::Or),
+        ],
+    )
 }
 
 /// The reserved words of 3 letters.
+#[tactic(auto, unfolding(crate::specs::ByLength::words_between))]
 fn word_of_3(word: &[u8]) -> Option<Kind>
     ensures { result ≡ lookup (same_word word.now) (words_between 3 3) }
 {
-    match initial(word) {
-        b'v' => among(word, &[(b"VAR", Kind::Var)]),
-        b'f' => among(word, &[(b"FBS", Kind::Fbs), (b"FOR", Kind::For)]),
-        b'a' => among(word, &[(b"AND", Kind::And)]),
-        b'x' => among(word, &[(b"XOR", Kind::Xor)]),
-        b'n' => among(word, &[(b"NOT", Kind::Not)]),
-        b'm' => among(word, &[(b"MOD", Kind::Mod)]),
-        _ => None,
-    }
+    among(
+        word,
+        &[
+            (b"VAR", Kind::Var),
+            (b"FBS", Kind::Fbs),
+            (b"FOR", Kind::For),
+            (b"AND", Kind::And),
+            (b"XOR", Kind::Xor),
+            (b"NOT", Kind::Not),
+            (b"MOD", Kind::Mod),
+        ],
+    )
 }
 
 /// The reserved words of 4 letters.
+#[tactic(auto, unfolding(crate::specs::ByLength::words_between))]
 fn word_of_4(word: &[u8]) -> Option<Kind>
     ensures { result ≡ lookup (same_word word.now) (words_between 4 4) }
 {
-    match initial(word) {
-        b'w' => among(word, &[(b"WITH", Kind::With)]),
-        b't' => among(
-            word,
-            &[
-                (b"THEN", Kind::Then),
-                (b"TRUE", Kind::True),
-                (b"TYPE", Kind::TypeWord),
-            ],
-        ),
-        b'e' => among(word, &[(b"ELSE", Kind::Else), (b"EXIT", Kind::Exit)]),
-        b'c' => among(word, &[(b"CASE", Kind::Case)]),
-        _ => None,
-    }
+    among(
+        word,
+        &[
+            (b"WITH", Kind::With),
+            (b"THEN", Kind::Then),
+            (b"ELSE", Kind::Else),
+            (b"CASE", Kind::Case),
+            (b"EXIT", Kind::Exit),
+            (b"TRUE", Kind::True),
+            (b"TYPE", Kind::TypeWord),
+        ],
+    )
 }
 
 /// The reserved words of 5 letters.
+#[tactic(auto, unfolding(crate::specs::ByLength::words_between))]
 fn word_of_5(word: &[u8]) -> Option<Kind>
     ensures { result ≡ lookup (same_word word.now) (words_between 5 5) }
 {
-    match initial(word) {
-        b'p' => among(word, &[(b"PLUGS", Kind::Plugs)]),
-        b'a' => among(word, &[(b"ARRAY", Kind::Array)]),
-        b'e' => among(word, &[(b"ELSIF", Kind::Elsif)]),
-        b'w' => among(word, &[(b"WHILE", Kind::While)]),
-        b'u' => among(word, &[(b"UNTIL", Kind::Until)]),
-        b'f' => among(word, &[(b"FALSE", Kind::False)]),
-        _ => None,
-    }
+    among(
+        word,
+        &[
+            (b"PLUGS", Kind::Plugs),
+            (b"ARRAY", Kind::Array),
+            (b"ELSIF", Kind::Elsif),
+            (b"WHILE", Kind::While),
+            (b"UNTIL", Kind::Until),
+            (b"FALSE", Kind::False),
+        ],
+    )
 }
 
 /// The reserved words of 6 letters.
+#[tactic(auto, unfolding(crate::specs::ByLength::words_between))]
 fn word_of_6(word: &[u8]) -> Option<Kind>
     ensures { result ≡ lookup (same_word word.now) (words_between 6 6) }
 {
-    match initial(word) {
-        b's' => among(
-            word,
-            &[(b"SYSTEM", Kind::System), (b"STRUCT", Kind::Struct)],
-        ),
-        b'd' => among(word, &[(b"DEVICE", Kind::Device)]),
-        b'e' => among(word, &[(b"END_IF", Kind::EndIf)]),
-        b'r' => among(
-            word,
-            &[(b"REPEAT", Kind::Repeat), (b"RETURN", Kind::Return)],
-        ),
-        _ => None,
-    }
+    among(
+        word,
+        &[
+            (b"SYSTEM", Kind::System),
+            (b"DEVICE", Kind::Device),
+            (b"END_IF", Kind::EndIf),
+            (b"REPEAT", Kind::Repeat),
+            (b"RETURN", Kind::Return),
+            (b"STRUCT", Kind::Struct),
+        ],
+    )
 }
 
 /// The reserved words of 7 letters.
+#[tactic(auto, unfolding(crate::specs::ByLength::words_between))]
 fn word_of_7(word: &[u8]) -> Option<Kind>
     ensures { result ≡ lookup (same_word word.now) (words_between 7 7) }
 {
-    match initial(word) {
-        b'a' => among(word, &[(b"ADAPTER", Kind::Adapter)]),
-        b'e' => among(
-            word,
-            &[
-                (b"END_VAR", Kind::EndVar),
-                (b"END_FBS", Kind::EndFbs),
-                (b"END_FOR", Kind::EndFor),
-            ],
-        ),
-        b's' => among(
-            word,
-            &[
-                (b"SOCKETS", Kind::Sockets),
-                (b"SUBAPPS", Kind::Subapps),
-                (b"SERVICE", Kind::Service),
-            ],
-        ),
-        _ => None,
-    }
+    among(
+        word,
+        &[
+            (b"ADAPTER", Kind::Adapter),
+            (b"END_VAR", Kind::EndVar),
+            (b"SOCKETS", Kind::Sockets),
+            (b"END_FBS", Kind::EndFbs),
+            (b"SUBAPPS", Kind::Subapps),
+            (b"SERVICE", Kind::Service),
+            (b"END_FOR", Kind::EndFor),
+        ],
+    )
 }
 
 /// The reserved words of 8 letters.
+#[tactic(auto, unfolding(crate::specs::ByLength::words_between))]
 fn word_of_8(word: &[u8]) -> Option<Kind>
     ensures { result ≡ lookup (same_word word.now) (words_between 8 8) }
 {
-    match initial(word) {
-        b'r' => among(word, &[(b"RESOURCE", Kind::Resource)]),
-        b'm' => among(word, &[(b"MAPPINGS", Kind::Mappings)]),
-        b'e' => among(
-            word,
-            &[(b"END_CASE", Kind::EndCase), (b"END_TYPE", Kind::EndType)],
-        ),
-        _ => None,
-    }
+    among(
+        word,
+        &[
+            (b"RESOURCE", Kind::Resource),
+            (b"MAPPINGS", Kind::Mappings),
+            (b"END_CASE", Kind::EndCase),
+            (b"END_TYPE", Kind::EndType),
+        ],
+    )
 }
 
 /// The reserved words of 9 letters.
+#[tactic(auto, unfolding(crate::specs::ByLength::words_between))]
 fn word_of_9(word: &[u8]) -> Option<Kind>
     ensures { result ≡ lookup (same_word word.now) (words_between 9 9) }
 {
-    match initial(word) {
-        b'e' => among(
-            word,
-            &[
-                (b"END_EVENT", Kind::EndEvent),
-                (b"END_PLUGS", Kind::EndPlugs),
-                (b"EC_STATES", Kind::EcStates),
-                (b"END_WHILE", Kind::EndWhile),
-            ],
-        ),
-        b'v' => among(word, &[(b"VAR_INPUT", Kind::VarInput)]),
-        b'a' => among(word, &[(b"ALGORITHM", Kind::Algorithm)]),
-        _ => None,
-    }
+    among(
+        word,
+        &[
+            (b"END_EVENT", Kind::EndEvent),
+            (b"VAR_INPUT", Kind::VarInput),
+            (b"END_PLUGS", Kind::EndPlugs),
+            (b"EC_STATES", Kind::EcStates),
+            (b"ALGORITHM", Kind::Algorithm),
+            (b"END_WHILE", Kind::EndWhile),
+        ],
+    )
 }
 
 /// The reserved words of 10 letters.
+#[tactic(auto, unfolding(crate::specs::ByLength::words_between))]
 fn word_of_10(word: &[u8]) -> Option<Kind>
     ensures { result ≡ lookup (same_word word.now) (words_between 10 10) }
 {
-    match initial(word) {
-        b'e' => among(
-            word,
-            &[
-                (b"END_SYSTEM", Kind::EndSystem),
-                (b"END_DEVICE", Kind::EndDevice),
-                (b"END_STATES", Kind::EndStates),
-                (b"END_REPEAT", Kind::EndRepeat),
-                (b"END_STRUCT", Kind::EndStruct),
-            ],
-        ),
-        b'v' => among(word, &[(b"VAR_OUTPUT", Kind::VarOutput)]),
-        _ => None,
-    }
+    among(
+        word,
+        &[
+            (b"END_SYSTEM", Kind::EndSystem),
+            (b"END_DEVICE", Kind::EndDevice),
+            (b"VAR_OUTPUT", Kind::VarOutput),
+            (b"END_STATES", Kind::EndStates),
+            (b"END_REPEAT", Kind::EndRepeat),
+            (b"END_STRUCT", Kind::EndStruct),
+        ],
+    )
 }
 
 /// The reserved words of 11 letters.
+#[tactic(auto, unfolding(crate::specs::ByLength::words_between))]
 fn word_of_11(word: &[u8]) -> Option<Kind>
     ensures { result ≡ lookup (same_word word.now) (words_between 11 11) }
 {
-    match initial(word) {
-        b'e' => among(
-            word,
-            &[
-                (b"END_ADAPTER", Kind::EndAdapter),
-                (b"EVENT_INPUT", Kind::EventInput),
-                (b"END_SOCKETS", Kind::EndSockets),
-                (b"END_SUBAPPS", Kind::EndSubapps),
-                (b"END_SERVICE", Kind::EndService),
-            ],
-        ),
-        b'a' => among(word, &[(b"APPLICATION", Kind::Application)]),
-        _ => None,
-    }
+    among(
+        word,
+        &[
+            (b"END_ADAPTER", Kind::EndAdapter),
+            (b"APPLICATION", Kind::Application),
+            (b"EVENT_INPUT", Kind::EventInput),
+            (b"END_SOCKETS", Kind::EndSockets),
+            (b"END_SUBAPPS", Kind::EndSubapps),
+            (b"END_SERVICE", Kind::EndService),
+        ],
+    )
 }
 
 /// The reserved words of 12 to 13 letters.
+#[tactic(auto, unfolding(crate::specs::ByLength::words_between))]
 fn word_of_12_to_13(word: &[u8]) -> Option<Kind>
     ensures { result ≡ lookup (same_word word.now) (words_between 12 13) }
 {
-    match initial(word) {
-        b'e' => among(
-            word,
-            &[
-                (b"END_RESOURCE", Kind::EndResource),
-                (b"END_MAPPINGS", Kind::EndMappings),
-                (b"EVENT_OUTPUT", Kind::EventOutput),
-                (b"END_ALGORITHM", Kind::EndAlgorithm),
-            ],
-        ),
-        _ => None,
-    }
+    among(
+        word,
+        &[
+            (b"END_RESOURCE", Kind::EndResource),
+            (b"END_MAPPINGS", Kind::EndMappings),
+            (b"EVENT_OUTPUT", Kind::EventOutput),
+            (b"END_ALGORITHM", Kind::EndAlgorithm),
+        ],
+    )
 }
 
 /// The reserved words of 14 letters.
+#[tactic(auto, unfolding(crate::specs::ByLength::words_between))]
 fn word_of_14(word: &[u8]) -> Option<Kind>
     ensures { result ≡ lookup (same_word word.now) (words_between 14 14) }
 {
-    match initial(word) {
-        b'f' => among(word, &[(b"FUNCTION_BLOCK", Kind::FunctionBlock)]),
-        b's' => among(word, &[(b"SUBAPPLICATION", Kind::Subapplication)]),
-        b'e' => among(word, &[(b"EC_TRANSITIONS", Kind::EcTransitions)]),
-        _ => None,
-    }
+    among(
+        word,
+        &[
+            (b"FUNCTION_BLOCK", Kind::FunctionBlock),
+            (b"SUBAPPLICATION", Kind::Subapplication),
+            (b"EC_TRANSITIONS", Kind::EcTransitions),
+        ],
+    )
 }
 
 /// The reserved words of 15 to 16 letters.
+#[tactic(auto, unfolding(crate::specs::ByLength::words_between))]
 fn word_of_15_to_16(word: &[u8]) -> Option<Kind>
     ensures { result ≡ lookup (same_word word.now) (words_between 15 16) }
 {
-    match initial(word) {
-        b'e' => among(
-            word,
-            &[
-                (b"END_APPLICATION", Kind::EndApplication),
-                (b"END_CONNECTIONS", Kind::EndConnections),
-                (b"END_TRANSITIONS", Kind::EndTransitions),
-            ],
-        ),
-        b'd' => among(word, &[(b"DATA_CONNECTIONS", Kind::DataConnections)]),
-        _ => None,
-    }
+    among(
+        word,
+        &[
+            (b"END_APPLICATION", Kind::EndApplication),
+            (b"DATA_CONNECTIONS", Kind::DataConnections),
+            (b"END_CONNECTIONS", Kind::EndConnections),
+            (b"END_TRANSITIONS", Kind::EndTransitions),
+        ],
+    )
 }
 
 /// The reserved words of 17 to 19 letters.
+#[tactic(auto, unfolding(crate::specs::ByLength::words_between))]
 fn word_of_17_to_19(word: &[u8]) -> Option<Kind>
     ensures { result ≡ lookup (same_word word.now) (words_between 17 19) }
 {
-    match initial(word) {
-        b'e' => among(
-            word,
-            &[
-                (b"END_FUNCTION_BLOCK", Kind::EndFunctionBlock),
-                (b"END_SUBAPPLICATION", Kind::EndSubapplication),
-                (b"EVENT_CONNECTIONS", Kind::EventConnections),
-            ],
-        ),
-        b'a' => among(word, &[(b"ADAPTER_CONNECTIONS", Kind::AdapterConnections)]),
-        _ => None,
-    }
+    among(
+        word,
+        &[
+            (b"END_FUNCTION_BLOCK", Kind::EndFunctionBlock),
+            (b"END_SUBAPPLICATION", Kind::EndSubapplication),
+            (b"EVENT_CONNECTIONS", Kind::EventConnections),
+            (b"ADAPTER_CONNECTIONS", Kind::AdapterConnections),
+        ],
+    )
 }
 
 /// The kind of a reserved word, in any case.

@@ -29,7 +29,6 @@ pub use fault::{Fault, sorted_faults};
 pub use instances::is_suited;
 pub use interfaces::{interface, ports_of};
 pub use literals::report_constant;
-pub use names::first_declared;
 pub use ports::{
     DeclaredEvent, DeclaredInstance, DeclaredVariable, Ports, is_beside, is_same_role, is_same_side,
 };

@@ -1,9 +1,7 @@
 -- What is indexed of the units after one of them was replaced.
-use Rattle.std.proofs.Common.{◌≡◌, ℕ, false, List, refl, ap, ◌∙◌, unwrap_or}
-use Rattle.std.specs.BTreeMap.{is_at}
-use Rattle.fb_text.specs.Order.{name_cmp}
+use Rattle.std.proofs.Common.{ℕ, false, List, refl, ap, ◌∙◌, unwrap_or}
 use Rattle.fb_tree.specs.Mentions.{Mentioned, nothing_mentioned}
-use Rattle.fb_index.specs.Indexed.{Indexed, nothing_indexed, IsIndexedAs, IsReplaced, SameUnit}
+use Rattle.fb_index.specs.Indexed.{Indexed, nothing_indexed, IsIndexedAs, SameUnit}
 
 pub indexed_none : (unit : List ℕ) → IsIndexedAs nothing_indexed unit nothing_mentioned
 indexed_none unit = record { parts = λ name. refl; of_values = λ name. refl; structure = refl }
@@ -14,6 +12,3 @@ still_indexed same was = record {
   of_values = λ name. same.of_values name ∙ was.of_values name;
   structure = ap (λ o. unwrap_or o false) same.mark ∙ was.structure;
 }
-
-pub indexed_other : (old new : Indexed) (unit other : List ℕ) (m others : Mentioned) → IsReplaced old unit m new → is_at (name_cmp unit) other ≡ false → IsIndexedAs old other others → IsIndexedAs new other others
-indexed_other old new unit other m others it apart was = still_indexed (it.others other apart) was

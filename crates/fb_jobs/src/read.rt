@@ -6,8 +6,6 @@ ghost use Rattle.fb_jobs.specs.Keys.{has_key};
 ghost use Rattle.fb_jobs.specs.declared.key.Kind.TheVariants as kind;
 
 use crate::key::{Key, Kind};
-use fb_deploy::flatten::has_net;
-use fb_deploy::is_system;
 use fb_deploy::library::Library;
 use fb_deploy::parse::Source;
 use fb_text::{CompactName, Name};
@@ -38,8 +36,8 @@ pub fn has_key(library: &Library, key: Key) -> bool
 {
     match key.kind {
         Kind::Faults => library.source(&key.unit).is_some(),
-        Kind::Net => has_net(library, &key.unit),
-        Kind::Deploy => is_system(library, &key.unit),
+        Kind::Net => has_net_and_plan(library, &key.unit).0,
+        Kind::Deploy => has_net_and_plan(library, &key.unit).1,
     }
 }
 

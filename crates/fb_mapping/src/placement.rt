@@ -1,4 +1,4 @@
-//! The placement of systems.
+//! The placement of systems. `plan` of `fb_deploy` goes the same way, by the flat network and `homes_of`; what each makes of the homes is of another type.
 ghost use Rattle.std.specs.Prelude.{◌≡◌, IfOk};
 ghost use Rattle.fb_mapping.specs.Placed.{IsPlaced, IsSystem, flat_placed, plain_placed};
 

@@ -66,14 +66,6 @@ impl Path {
         Ok(Path { text })
     }
 
-    /// This path followed by a point.
-    pub fn pointed(&self, alloc: Global) -> Result<Path, AllocError>
-        ensures { IfOk result (λ path. path ≡ dotted self.now []) }
-    {
-        let text = joined(alloc, self.as_str(), "")?;
-        Ok(Path { text })
-    }
-
     /// This path, inside the instance of that name.
     pub fn within(&self, alloc: Global, name: &Name) -> Result<Path, AllocError>
         ensures { IfOk result (λ path. path ≡ dotted name.now self.now) }
@@ -96,14 +88,6 @@ impl Path {
     {
         let text = self.text.clone()?;
         Ok(Path { text })
-    }
-
-    /// The text of the path, which is consumed.
-    pub fn into_string(self) -> String
-        ensures { string_bytes result ≡ self }
-    {
-        let Path { text } = self;
-        text
     }
 
     pub fn as_str(&self) -> &str

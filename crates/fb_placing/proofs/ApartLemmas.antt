@@ -1,7 +1,7 @@
 -- Blocks none of which stands inside another one.
-use Rattle.std.proofs.Common.{ℕ, ◌≡◌, ◌<◌, ◌+◌, ◌==◌, ◌⊎◌, inl, inr, Bool, true, false, cond, List, [], ◌∷◌, ◌++◌, Option, Some, None, refl, sym, ◌∙◌, ap, subst, take, get_or, length, append_assoc, arith}
+use Rattle.std.proofs.Common.{ℕ, ◌≡◌, ◌<◌, ◌+◌, ◌==◌, ◌⊎◌, inl, inr, Bool, true, false, cond, List, [], ◌∷◌, ◌++◌, Option, Some, None, refl, sym, ◌∙◌, ap, subst, take, get_or, length, append_assoc}
 use Rattle.std.proofs.{lemmas.Bool.Decides.{Decides-eqb}}
-use Rattle.std.specs.{Prelude.{nat_eq, slice_index_or}, Option.{option_or}, Str.{bytes_eq}}
+use Rattle.std.specs.{Borrow.{Bor}, Option.{IfSome, option_copied, option_or}, Str.{bytes_eq}}
 use Rattle.fb_placing.specs.{Cuts.{home_at}, Points.{AreApart, HasNoPoint, IsInside}, declared.homes.Home.{Home}}
 use Rattle.fb_network.specs.Prefixes.{IsPrefix, IsNearest, nearest}
 use Rattle.fb_placing.proofs.{FirstEntryLemmas.{first_at-push}, InsideLemmas.{nearest_inside}, ListLemmas.{one_more}, TableLemmas.{same_text}}
@@ -91,18 +91,9 @@ module _ {X : Type 0} (at : List ℕ → Option X) (block : List ℕ) (x : X) (a
   pub apart_inside : (rest : List ℕ) → nearest at (block ++ 46 ∷ rest) ≡ Some x
   apart_inside rest = nearest_inside at block rest nothing_inside ∙ nearest_here at block x there
 
--- a path in two parts that begins with the text of a block and a point
-pub inside_parts : (start end block prefix name first rest : List ℕ) → block ≡ prefix ++ name → end ≡ first ++ rest → prefix ≡ start → first ≡ name → 0 < length rest → nat_eq (slice_index_or rest 0 0) 46 ≡ true → IsInside (start ++ end) block
-inside_parts start end block prefix name first [] e f same alike some point = absurd (omega (arith, some))
-inside_parts start end block prefix name first (b ∷ rest) e f same alike some point =
-    let at : b ≡ 46 = (Decides-eqb b 46).0 point in (
-      rest,
-      (λ i. sym same i ++ f i) ∙ (λ i. prefix ++ (alike i ++ at i ∷ rest)) ∙ sym (append_assoc prefix name (46 ∷ rest)) ∙ ap (λ (l : List ℕ). l ++ 46 ∷ rest) (sym e),
-    )
+pub home_inside : {X : Type 0} (at : List ℕ → Option X) (whole block : List ℕ) (x : X) → AreApart at → IsInside whole block → at block ≡ Some x → nearest at whole ≡ Some x
+home_inside at whole block x apart inside there = ap (nearest at) inside.1 ∙ apart_inside at block x apart there inside.0
 
--- a path whose first part begins with the text of a block and a point
-pub inside_start : (start end block first rest : List ℕ) → start ≡ first ++ rest → first ≡ block → 0 < length rest → nat_eq (slice_index_or rest 0 0) 46 ≡ true → IsInside (start ++ end) block
-inside_start start end block first [] e alike some point = absurd (omega (arith, some))
-inside_start start end block first (b ∷ rest) e alike some point =
-    let at : b ≡ 46 = (Decides-eqb b 46).0 point in
-    (rest ++ end, ap (λ (s : List ℕ). s ++ end) (e ∙ (λ i. alike i ++ at i ∷ rest)) ∙ append_assoc block (46 ∷ rest) end)
+pub homes_inside : (at : List ℕ → Option (List ℕ)) (whole block : List ℕ) (home : Option (Bor (List ℕ))) → AreApart at → IsInside whole block → option_copied home ≡ at block → IfSome home (λ h. nearest at whole ≡ Some h.now)
+homes_inside at whole block None apart inside e = tt
+homes_inside at whole block (Some h) apart inside e = home_inside at whole block h.now apart inside (sym e)

@@ -1,6 +1,19 @@
 -- Paths in two parts: their names, and their prefixes.
-use Rattle.std.proofs.Common.{ℕ, ◌≡◌, ◌==◌, Bool, true, false, cond, List, [], ◌∷◌, ◌++◌, refl, ◌∙◌, ap}
-use Rattle.fb_placing.specs.{Points.{HasNoPoint}, Resolved.{on_first, path_names}}
+use Rattle.std.proofs.{Common.{ℕ, suc, ◌<◌, ◌≡◌, ◌≢◌, ◌==◌, Bool, true, false, cond, List, [], ◌∷◌, ◌++◌, Option, Some, None, MatchOption, length, get_or, refl, sym, ◌∙◌, ap, subst, arith}, lemmas.List.{take-append-drop}}
+use Rattle.std.proofs.{lemmas.Bool.{ne_eqb}, lemmas.Str.Pattern.{NoCharPasses-char, drop_at_char}}
+use Rattle.std.specs.{Prelude.{nat_eq}, Borrow.{Bor}, Str.{NoCharPasses, Pattern.{RFindsChar, SplitsAroundMatch}}, Option.{IfNone, IfSome}}
+use Rattle.fb_placing.specs.{Points.{HasNoPoint, IsSplit}, Resolved.{on_first, path_names}}
+
+no_point : (text : List ℕ) → ((i : ℕ) → i < length text → get_or text i 0 ≢ 46) → HasNoPoint text
+no_point [] none = tt
+no_point (b ∷ bs) none = (ne_eqb b 46 (none 0 (omega arith)), no_point bs (λ i l. none (suc i) (omega (arith, l))))
+
+-- a path at its last point, if it has one
+pub split_at_last : (path : List ℕ) (r : Option (Bor (List ℕ) × Bor (List ℕ))) → MatchOption r (RFindsChar 46 path None) (λ x. SplitsAroundMatch (RFindsChar 46) path x.0.now x.1.now) → IfSome r (λ x. IsSplit path x.0.now x.1.now) × IfNone r (HasNoPoint path)
+split_at_last path None none = (tt, no_point path (λ i. NoCharPasses-char 46 path i none (omega arith)))
+split_at_last path (Some x) at =
+    let parts : path ≡ x.0.now ++ 46 ∷ x.1.now = sym (take-append-drop at.0 path) ∙ (λ k. sym at.3 k ++ (drop_at_char 46 path at.0 at.1 at.2.1 (omega arith) ∙ ap (λ (bs : List ℕ). 46 ∷ bs) (sym at.4)) k) in
+    ((parts, no_point x.1.now (λ i. NoCharPasses-char 46 x.1.now i (subst (NoCharPasses (λ d. nat_eq d 46)) (sym at.4) at.2.0) (omega arith))), tt)
 
 -- the names of a name are that name
 pub one_name : (name : List ℕ) → HasNoPoint name → path_names name ≡ name ∷ []

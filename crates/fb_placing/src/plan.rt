@@ -1,4 +1,8 @@
 //! Plans: a flat network, and the commands of each resource by numbers.
+//!
+//! Commands are made in three steps. Those that make a block (`Created`) or set a parameter (`PlacedCommand`, the only one with a text of its own) are sorted
+//! by their places. Then all commands of the system follow each other, each with its resource (`AssignedCommand`). At last each resource has a list of its own
+//! (`ResourceCommands`). From there to the reply a command is a `CommandIndex`, whose text `ResourcePlan` puts together when it is asked.
 ghost use Rattle.std.specs.Prelude.{◌≡◌, ◌↔◌, IsTrue};
 ghost use Rattle.fb_placing.specs.CommandIndexes.{plain_plan};
 

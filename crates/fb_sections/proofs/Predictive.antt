@@ -1,9 +1,8 @@
 -- One token tells how to go on in each section.
 use Rattle.std.proofs.Common.{[], ◌∷◌, refl}
-use Rattle.fb_grammar.specs.Kind.{name_kinds}
-use Rattle.fb_grammar.specs.declared.kind.Kind.TheVariants.{EventInput, EventOutput, VarInput, VarOutput, Var, Struct, Plugs, Sockets, Fbs, Subapps, EventConnections, DataConnections, AdapterConnections, EcStates, Service, Resource, Device, Mappings, Point}
+use Rattle.fb_grammar.specs.declared.kind.Kind.TheVariants.{EventInput, EventOutput, VarInput, VarOutput, Var, Struct, Plugs, Sockets, Fbs, Subapps, EventConnections, DataConnections, AdapterConnections, EcStates, Service, Device, Mappings}
 use Rattle.fb_grammar.specs.Words.{name, names}
-use Rattle.fb_grammar.proofs.Shapes.{Closed, Shape}
+use Rattle.fb_grammar.proofs.Shapes.{Closed}
 use Rattle.fb_sections.specs.Constants.{number, range, ranges, length_of_string, plain_type, array_type, type_use, simple, constant_list, constant}
 use Rattle.fb_sections.specs.Network.{parameter, listed_parameters, parameters, optional_parameters, instance, plugs, sockets, blocks, inner_subapplication, subapplications, end, connection, connections}
 use Rattle.fb_sections.specs.Chart.{sent_event, action, actions, state, states}
@@ -43,10 +42,6 @@ pub closed_subapplications : Closed subapplications (Subapps ∷ [])
 unfolding subapplications inner_subapplication name
 closed_subapplications = record { predictive = refl; filled = refl; first = refl; after = refl }
 
-pub shape_end : Shape end name_kinds (Point ∷ [])
-unfolding end optional_name name
-shape_end = record { predictive = refl; filled = refl; first = refl; after = λ kind among. among }
-
 pub closed_connections : Closed connections (EventConnections ∷ DataConnections ∷ AdapterConnections ∷ [])
 unfolding connections connection end optional_name name
 closed_connections = record { predictive = refl; filled = refl; first = refl; after = refl }
@@ -62,10 +57,6 @@ closed_service = record { predictive = refl; filled = refl; first = refl; after 
 pub closed_mappings : Closed mappings (Mappings ∷ [])
 unfolding mappings mapping path name
 closed_mappings = record { predictive = refl; filled = refl; first = refl; after = refl }
-
-pub closed_resource : Closed resource (Resource ∷ [])
-unfolding resource header optional_semicolon optional_parameters parameters listed_parameters parameter constant constant_list simple number name
-closed_resource = record { predictive = refl; filled = refl; first = refl; after = refl }
 
 pub closed_device : Closed device (Device ∷ [])
 unfolding device resource header optional_semicolon optional_parameters parameters listed_parameters parameter constant constant_list simple number name

@@ -5,12 +5,12 @@ use Rattle.std.specs.List.{flat_map}
 use Rattle.fb_tree.proofs.Text.Tests.{or_assoc}
 use Rattle.fb_grammar.specs.{declared.kind.Kind.{Kind}, declared.kind.Kind.TheVariants.{If, Case, For, While}, declared.lexeme.Lexeme.{Lexeme}}
 use Rattle.fb_grammar.specs.{Kind.{is_among, same_kind}, declared.stop.Stop.{Stop}, declared.stop.Stop.TheVariants.{Memory, Broken}}
-use Rattle.fb_grammar.specs.{Form.{Form, both, either, many, as_value}, Gives.{Fails}, Words.{further, cons}, Reading.{Outcome, ◌>>=◌, is_next, first, read}}
+use Rattle.fb_grammar.specs.{Form.{Form, either, many}, Gives.{Fails}, Words.{further}, Reading.{Outcome, ◌>>=◌, is_next, first, read}}
 use Rattle.fb_grammar.specs.Repetition.{with_prefix}
 use Rattle.fb_grammar.proofs.Loops.{many_more, many_fails, many_none, Begins}
 use Rattle.fb_tree.specs.{Expression.{Expression}, Statement.{Statement}}
 use Rattle.fb_structured_text.specs.Expression.{expression}
-use Rattle.fb_structured_text.specs.Statement.{statement, simple_firsts, simple_statement, nested_statement, if_statement, arms, arm, announced, case_statement, case, cases, for_statement, while_statement, repeat_statement, labels, label, int}
+use Rattle.fb_structured_text.specs.Statement.{statement, simple_firsts, simple_statement, nested_statement, if_statement, arms, arm, announced, case_statement, case, for_statement, while_statement, repeat_statement, labels, label, int}
 use Rattle.fb_structured_text.proofs.StatementLevels.{closed-simple, closed-statement, nested_firsts, statement_firsts}
 
 -- what begins a statement
@@ -122,16 +122,6 @@ nested_repeat e inner ts h g f w = not_for e inner ts h g f ∙ read-other (whil
 
 -- one value, and then others
 
-abbrev paired : {A B : Type 0} → A → Outcome B → Outcome (A × B)
-paired v r = r >>= λ b. Ok ((v, b.0), b.1)
-
-cons_first : {A : Type 0} (v : A) (r : Outcome (List A)) → with_prefix (v ∷ []) r ≡ (paired v r >>= λ p. Ok (p.0.0 ∷ p.0.1, p.1))
-cons_first v (Ok b) = refl
-cons_first v (Err rest) = refl
-
-pub cons_start : {A : Type 0} (x y : Form A) (ts : List Lexeme) (v : A) (mid : List Lexeme) → read x ts ≡ Ok (v, mid) → with_prefix (v ∷ []) (read (many y) mid) ≡ read (as_value cons (both x (many y))) ts
-cons_start x y ts v mid e = rw e (cons_first v (read (many y) mid))
-
 pub begins-arm : (word : Kind) (e : Form Expression) (inner : Form Statement) → Begins (arm word e inner) (word ∷ [])
 unfolding arm announced
 begins-arm word e inner = record { filled = refl; first = refl }
@@ -145,20 +135,12 @@ begins-case inner = record { filled = refl; first = refl }
 abbrev pub flat : Outcome (List (List Statement)) → Outcome (List Statement)
 flat r = r >>= λ b. Ok (flat_map (λ (z : List Statement). z) b.0, b.1)
 
-flat_first : (v : List Statement) (r : Outcome (List (List Statement))) → with_prefix v (flat r) ≡ (paired v r >>= λ p. Ok (flat_map (λ (z : List Statement). z) (cons p.0), p.1))
-flat_first v (Ok b) = refl
-flat_first v (Err rest) = refl
-
 flat_again : (prefix v : List Statement) (r : Outcome (List (List Statement))) → with_prefix prefix (flat (r >>= λ b. Ok (v ∷ b.0, b.1))) ≡ with_prefix (prefix ++ v) (flat r)
 flat_again prefix v (Ok b) = ap (λ (z : List Statement). Ok (z, b.1)) (sym (append_assoc prefix v (flat_map (λ (z : List Statement). z) b.0)))
 flat_again prefix v (Err rest) = refl
 
 next-case : (inner : Form Statement) (ts : List Lexeme) (t : Bool) → is_next (first labels) ts ≡ t → is_next (first (case inner)) ts ≡ t
 next-case inner ts t h = ap (λ (k : List Kind). is_next k ts) (begins-case inner).first ∙ h
-
-pub cases_start : (inner : Form Statement) (ts : List Lexeme) (v : List Statement) (mid : List Lexeme) → read (case inner) ts ≡ Ok (v, mid) → with_prefix v (flat (read (many (case inner)) mid)) ≡ read (cases inner) ts
-unfolding cases
-cases_start inner ts v mid e = rw e (flat_first v (read (many (case inner)) mid))
 
 pub cases_more : (inner : Form Statement) (prefix new : List Statement) (ts : List Lexeme) (v : List Statement) (mid : List Lexeme) (total : Outcome (List Statement)) → is_next (first labels) ts ≡ true → read (case inner) ts ≡ Ok (v, mid)
     → new ≡ prefix ++ v → with_prefix prefix (flat (read (many (case inner)) ts)) ≡ total → with_prefix new (flat (read (many (case inner)) mid)) ≡ total
@@ -185,27 +167,11 @@ cases_done inner prefix ts total next so_far =
 abbrev pub gone : Outcome (List (Unit {0})) → Outcome (Unit {0})
 gone r = r >>= λ b. Ok (tt, b.1)
 
-gone_first : (v : Unit {0}) (r : Outcome (List (Unit {0}))) → gone r ≡ ((paired v r >>= λ p. Ok (cons p.0, p.1)) >>= λ p. Ok (tt, p.1))
-gone_first v (Ok b) = refl
-gone_first v (Err rest) = refl
-
 gone_again : (v : Unit {0}) (r : Outcome (List (Unit {0}))) → gone (r >>= λ b. Ok (v ∷ b.0, b.1)) ≡ gone r
 gone_again v (Ok b) = refl
 gone_again v (Err rest) = refl
-
-pub labels_start : (ts mid : List Lexeme) → read label ts ≡ Ok (tt, mid) → gone (read (many (further label)) mid) ≡ read labels ts
-unfolding labels
-labels_start ts mid e = rw e (gone_first tt (read (many (further label)) mid))
 
 pub labels_more : (ts mid : List Lexeme) (total : Outcome (Unit {0})) → is_next (first (further label)) ts ≡ true → read (further label) ts ≡ Ok (tt, mid)
     → gone (read (many (further label)) ts) ≡ total → gone (read (many (further label)) mid) ≡ total
 labels_more ts mid total next e so_far =
     sym (gone_again tt (read (many (further label)) mid)) ∙ ap gone (sym (many_more (further label) ts tt mid refl next e)) ∙ so_far
-
-pub labels_fails : (ts : List Lexeme) (stop : Stop) (rest : List Lexeme) (total : Outcome (Unit {0})) → is_next (first (further label)) ts ≡ true → Fails stop rest (read (further label) ts)
-    → gone (read (many (further label)) ts) ≡ total → Fails stop rest total
-labels_fails ts Memory rest total next e so_far = tt
-labels_fails ts Broken rest total next e so_far = sym so_far ∙ ap gone (many_fails (further label) ts rest next e)
-
-pub labels_done : (ts : List Lexeme) (total : Outcome (Unit {0})) → is_next (first (further label)) ts ≡ false → gone (read (many (further label)) ts) ≡ total → total ≡ Ok (tt, ts)
-labels_done ts total next so_far = sym so_far ∙ ap gone (many_none (further label) ts next)

@@ -120,19 +120,6 @@ impl Name {
         Name::of_word(b"_")
     }
 
-    /// The name with this spelling, which is in upper case.
-    pub(crate) fn of_spelling(spelling: &[u8]) -> Name
-        requires { IsName spelling.now }
-        ensures { result ≡ spelling.now }
-    {
-        let mut bytes = [0; 64];
-        bytes[..spelling.len()].copy_from_slice(spelling);
-        Name {
-            bytes,
-            len: spelling.len() as u8,
-        }
-    }
-
     /// The name of this length at the beginning of bytes that are zeros after it.
     pub(crate) fn of_short(short: &[u8; SHORT_ROOM], len: u8) -> Name
         requires { IsStoredIn 22 short.now len }

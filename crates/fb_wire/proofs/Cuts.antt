@@ -1,6 +1,6 @@
 -- The lines of bytes that come in pieces.
 use Rattle.std.proofs.Common.{◌≡◌, ◌≢◌, ◌<◌, ◌≤◌, ◌+◌, ℕ, [], ◌∷◌, ◌++◌, ◌==◌, ◌∙◌, Bool, List, ap, arith, cond, false, get_or, length, refl, suc, take, true, zero}
-use Rattle.std.proofs.{lemmas.Bool.Decides.{nat_tests}, lemmas.List.{take_more}}
+use Rattle.std.proofs.{lemmas.Bool.{Decides.{nat_tests}, false_from_ne_true}, lemmas.List.{take_more}}
 use Rattle.memchr.specs.Find.{NoneBefore, Nowhere, Passes, is_byte}
 use Rattle.fb_wire.specs.Lines.{IsLine, lines_of, onto_first}
 
@@ -73,11 +73,7 @@ after_part given partial prefix lines is line =
 line_with : (bs : List ℕ) (n : ℕ) → n ≤ length bs → ((k : ℕ) → k < n → Passes (is_byte 10) bs k → ⊥) → IsLine (take n bs)
 line_with bs zero within none = tt
 line_with [] (suc n) within none = absurd (omega arith)
-line_with (b ∷ bs) (suc n) within none = (no (b == 10) (none 0 (omega arith)), line_with bs n (omega arith) (λ k below. none (suc k) (omega arith)))
-  where
-    no : (t : Bool) → (t ≡ true → ⊥) → t ≡ false
-    no true not = absurd (not refl)
-    no false not = refl
+line_with (b ∷ bs) (suc n) within none = (false_from_ne_true (b == 10) (none 0 (omega arith)), line_with bs n (omega arith) (λ k below. none (suc k) (omega arith)))
 
 -- the bytes before the first line feed
 pub line_to : (bs : List ℕ) (n : ℕ) → NoneBefore (Passes (is_byte 10) bs) 0 (length bs) n → IsLine (take n bs)

@@ -5,7 +5,7 @@ use fb_serve::CallerState;
 use fb_shared::Shared;
 use fb_wire::bench::Limits;
 use fb_wire::{IntoWrite, MemoryFeed, RunEnd};
-use refusing::{Refusals, refuse, report, was_refused};
+use refusing::{each_refused, refuse, report, was_refused};
 use std::alloc::Global;
 use std::io::Print;
 use std::sync::Wait;
@@ -137,21 +137,21 @@ fn tried<R: Wait>(rt: &R, alloc: Global, talk: Talk, number: u32) -> Result<Sess
     Ok(first)
 }
 
+// Whether an allocation of a session was refused, and whether the session ended for lack of memory.
+fn session_without<R: Wait>(
+    rt: &R,
+    alloc: Global,
+    talk: Talk,
+    number: u32,
+) -> Result<(bool, bool), Fail> {
+    let session = tried(rt, alloc, talk, number)?;
+    Ok((session.is_refused, session.end == RunEnd::Memory))
+}
+
 // Refuses each allocation of a session in turn, and prints what was found.
 fn try_session<R: Wait + Print>(rt: &R, alloc: Global, talk: Talk) -> Result<(), Fail> {
-    let mut memory = 0u32;
-    for number in 1..100_000u32 {
-        let session = tried(rt, alloc, talk, number)?;
-        if !session.is_refused {
-            let found = Refusals {
-                allocations: number - 1,
-                memory,
-            };
-            return Ok(report(rt, "run_host_session", talk.about, found)?);
-        }
-        memory = memory.saturating_add(u32::from(session.end == RunEnd::Memory));
-    }
-    Err(Fail::from("ever more allocations"))
+    let found = each_refused(|number| session_without(rt, alloc, talk, number))?;
+    Ok(report(rt, "run_host_session", talk.about, found)?)
 }
 
 #[test]

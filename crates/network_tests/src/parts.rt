@@ -41,7 +41,6 @@ fn paths_are_names_joined_by_points(rt: HostRuntime) -> Result<(), Fail> {
     let alloc = rt.alloc();
     assert_eq!(rt; joined(alloc)?.as_str(), "A.B.C", "two within one");
     assert_eq!(rt; longer(alloc)?.as_str(), "A.B", "one behind one");
-    assert_eq!(rt; longer(alloc)?.into_string().as_str(), "A.B", "its text");
     let names = path_names(alloc, "APP.SUB.F")?;
     assert_eq!(rt; names.as_slice(), ["APP", "SUB", "F"].as_slice(), "names");
     Ok(())

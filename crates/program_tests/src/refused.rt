@@ -6,33 +6,11 @@ use fb_serve::{CallerState, Session, keep_working, run_session};
 use fb_shared::{Receipt, Seat, Shared, WorkEnd};
 use fb_wire::bench::Limits;
 use fb_wire::{IntoWrite, MemoryFeed, RunEnd};
-use refusing::{Refusals, refuse, report, was_refused};
+use refusing::{each_refused, refuse, report, was_refused};
 use std::alloc::{AllocError, Global};
 use std::sync::Wait;
 use std::test::Fail;
 use std::time::Clock;
-
-// Makes an attempt with each allocation refused in turn, until none is refused. It gives whether one was refused, and whether it ended for lack
-// of memory.
-fn each_refused<F: Fn(u32) -> Result<(bool, bool), Fail>>(attempt: F) -> Result<Refusals, Fail>
-    requires { F.IsAlwaysCallable attempt }
-{
-    let mut memory = 0u32;
-    for number in 1..100_000u32 {
-        let (is_refused, is_short) = attempt(number)?;
-        if is_short && !is_refused {
-            return Err(Fail::from("no memory, though none was refused"));
-        }
-        if !is_refused {
-            return Ok(Refusals {
-                allocations: number - 1,
-                memory,
-            });
-        }
-        memory = memory.saturating_add(u32::from(is_short));
-    }
-    Err(Fail::from("ever more allocations"))
-}
 
 // Words that find no memory are read again.
 fn words_without(alloc: Global, line: &str, number: u32) -> Result<(bool, bool), Fail> {

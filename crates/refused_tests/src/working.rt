@@ -3,7 +3,7 @@ use crate::nest::{PLAIN, puts};
 use crate::owners::{both_of, pair};
 use fb_bench::{GivenBack, Limits, Reply};
 use fb_shared::{Plain, Receipt, Seat, Shared, WorkEnd, work_on};
-use refusing::{Refusals, refuse, report, was_refused};
+use refusing::{each_refused, refuse, report, was_refused};
 use std::alloc::Global;
 use std::sync::Wait;
 use std::test::Fail;
@@ -56,28 +56,18 @@ fn work_anew<R: Wait>(rt: &R, alloc: Global, number: u32) -> Result<(WorkEnd, bo
     Ok((end, is_refused, is_done && is_closed))
 }
 
-// A worker has used its turns, or found no memory where an allocation was refused.
-fn each_refused<R: Wait>(rt: &R, alloc: Global) -> Result<Refusals, Fail> {
-    let mut memory = 0u32;
-    for number in 1..10_000u32 {
-        let (end, is_refused, is_right) = work_anew(rt, alloc, number)?;
-        let is_memory = end == WorkEnd::Memory;
-        if !is_right || !(is_refused && is_memory || end == WorkEnd::TurnsOver) {
-            return Err(Fail::from("another end"));
-        }
-        if !is_refused {
-            return Ok(Refusals {
-                allocations: number - 1,
-                memory,
-            });
-        }
-        memory = memory.saturating_add(u32::from(is_memory));
+// Whether an allocation was refused, and whether the worker found no memory. Otherwise it has used its turns.
+fn worked_without<R: Wait>(rt: &R, alloc: Global, number: u32) -> Result<(bool, bool), Fail> {
+    let (end, is_refused, is_right) = work_anew(rt, alloc, number)?;
+    let is_memory = end == WorkEnd::Memory;
+    if !is_right || !is_memory && end != WorkEnd::TurnsOver {
+        return Err(Fail::from("another end"));
     }
-    Err(Fail::from("ever more allocations"))
+    Ok((is_refused, is_memory))
 }
 
 #[test]
 fn a_worker_finds_no_memory(rt: HostRuntime) -> Result<(), Fail> {
-    let found = each_refused(&rt, rt.alloc())?;
+    let found = each_refused(|number| worked_without(&rt, rt.alloc(), number))?;
     Ok(report(&rt, "work_on", "", found)?)
 }

@@ -85,9 +85,6 @@ fn refused<T: Trial>(
     let is_served = trial.call(alloc);
     let is_refused = was_refused(alloc);
     if !is_served {
-        if !is_refused {
-            return Err(Fail::from("no memory, though none was refused yet"));
-        }
         again(alloc, &mut trial, before.as_str())?;
     }
     if trial.told(alloc)?.as_str() != wanted {
@@ -96,13 +93,17 @@ fn refused<T: Trial>(
     Ok((is_refused, !is_served))
 }
 
-/// Refuses each allocation of the call in turn. Each time it finds no memory, and then has changed nothing and can be made again, or it
-/// answers as it does with ample memory.
-pub fn each_refused<T: Trial>(alloc: Global, setting: T::Setting) -> Result<Refusals, Fail> {
-    let wanted = ample::<T>(alloc, setting)?;
+/// Makes an attempt with each allocation refused in turn, until none is refused. It gives whether one was refused, and whether it ended for
+/// lack of memory.
+pub fn each_refused<F: Fn(u32) -> Result<(bool, bool), Fail>>(attempt: F) -> Result<Refusals, Fail>
+    requires { F.IsAlwaysCallable attempt }
+{
     let mut memory = 0u32;
     for number in 1..MOST {
-        let (is_refused, is_memory) = refused::<T>(alloc, setting, number, wanted.as_str())?;
+        let (is_refused, is_memory) = attempt(number)?;
+        if is_memory && !is_refused {
+            return Err(Fail::from("no memory, though none was refused"));
+        }
         if !is_refused {
             return Ok(Refusals {
                 allocations: number - 1,
@@ -128,7 +129,8 @@ pub fn report(rt: &impl Print, call: &str, way: &str, found: Refusals) -> io::Re
     println!(rt; "refused: {call}{way}: {allocations} allocations, {memory} times no memory")
 }
 
-/// Refuses each allocation of a call in turn, and prints what was found.
+/// Refuses each allocation of a call in turn, and prints what was found. Each time the call finds no memory, and then has changed nothing and
+/// can be made again, or it answers as it does with ample memory.
 pub fn try_call<T: Trial>(
     rt: &impl Print,
     alloc: Global,
@@ -136,7 +138,8 @@ pub fn try_call<T: Trial>(
     way: &str,
     setting: T::Setting,
 ) -> Result<(), Fail> {
-    let found = each_refused::<T>(alloc, setting)?;
+    let wanted = ample::<T>(alloc, setting)?;
+    let found = each_refused(|number| refused::<T>(alloc, setting, number, wanted.as_str()))?;
     report(rt, call, way, found)?;
     Ok(())
 }

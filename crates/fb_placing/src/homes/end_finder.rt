@@ -1,12 +1,12 @@
 //! The homes of the ends of links. Those of links beside each other are often in one block.
-//! If no block is inside another one, which is looked up once for each plan, an end has the home of its block: a net gives a path in two parts, and the
-//! second begins with the block's name, or the first ends with it and a plug or socket. Otherwise each prefix is looked up, the longest first. Definitions allow any homes.
-ghost use Rattle.std.specs.Prelude.{◌≡◌, ◌++◌, IfOk, IfSome, IsTrue, None, Some, option_copied};
+//! If no block is inside another one, which a plan finds out once, an end has the home of its block: a net gives a path in two parts, and the second begins
+//! with the block's name, or the first ends with it and a plug or socket. Otherwise, and if that block has no home, each prefix is looked up, the longest first.
+ghost use Rattle.std.specs.Prelude.{◌≡◌, ◌++◌, ℕ, IfOk, IfSome, IsTrue, List, None, option_copied};
 ghost use Rattle.fb_network.specs.Prefixes.{nearest};
-ghost use Rattle.fb_placing.specs.{Points.{IsInside}, HomeTable.{home_by_path}, Found.{IsFound}};
+ghost use Rattle.fb_placing.specs.{Points.{IsInside}, HomeTable.{home_by_path}, Found.{IsFound, IsHome}};
 
 use crate::homes::table::{HomeTable, home_by_path, nearest_home};
-use crate::paths::split::{split_first, split_last};
+use crate::paths::split::split_last;
 use crate::plan::text_parts::write_both;
 use fb_network::Path;
 use std::alloc::{AllocError, Global};
@@ -29,20 +29,32 @@ pub(crate) struct EndFinder<'a, 't> {
     ghost known: { IsFound homes.now.by_path recent × IsFound homes.now.by_path earlier },
 }
 
-/// Whether a path, of which these are the bytes of the two parts, is in a block.
-fn stands_in(start: &[u8], end: &[u8], block: &[u8]) -> bool
+/// What a text has after its beginning.
+fn after<'t>(text: &'t [u8], beginning: &[u8]) -> Option<&'t [u8]>
+    ensures { IfSome result (λ rest. text.now ≡ beginning.now ++ rest.now) }
+{
+    text.strip_prefix(beginning)
+}
+
+/// What a path, of which these are the bytes of the two parts, has after those of a block, or the beginning of that.
+fn rest_after<'p>(start: &'p [u8], end: &'p [u8], block: &[u8]) -> Option<&'p [u8]>
+    ensures { IfSome result (λ rest. (more : List ℕ)
+        × (start.now ++ end.now ≡ block.now ++ (rest.now ++ more))) }
+{
+    match after(block, start) {
+        Some(name) => after(end, name),
+        None => after(start, block),
+    }
+}
+
+/// Whether a path, of which these are the two parts, is in a block.
+fn stands_in(start: &str, end: &str, block: &str) -> bool
     ensures { IsTrue result → IsInside (start.now ++ end.now) block.now }
 {
-    if block.len() < start.len() {
-        let (first, rest) = start.split_at(block.len());
-        return first == block && rest[0] == b'.';
+    match rest_after(start.as_bytes(), end.as_bytes(), block.as_bytes()) {
+        Some([first, ..]) => *first == b'.',
+        _ => false,
     }
-    let (prefix, name) = block.split_at(start.len());
-    if prefix != start || end.len() <= name.len() {
-        return false;
-    }
-    let (first, rest) = end.split_at(name.len());
-    first == name && rest[0] == b'.'
 }
 
 /// The path of the block in which an end is, in two parts: an end is a port of a block, or of one of its plugs and sockets, whose ports have a first part of
@@ -50,16 +62,12 @@ fn stands_in(start: &[u8], end: &[u8], block: &[u8]) -> bool
 fn block_of<'p>(start: &'p str, end: &'p str) -> Option<(&'p str, &'p str)>
     ensures { IfSome result (λ parts. IsInside (start.now ++ end.now) (parts.0.now ++ parts.1.now)) }
 {
-    if let Some((name, _)) = split_first(end) {
+    if let Some((name, _)) = end.split_once('.') {
         return Some((start, name));
     }
-    let Some((outer, _)) = split_last(start) else {
-        return None;
-    };
-    match split_last(outer) {
-        Some((block, _)) => Some((block, "")),
-        None => None,
-    }
+    let (outer, _) = split_last(start)?;
+    let (block, _) = split_last(outer)?;
+    Some((block, ""))
 }
 
 impl<'a> FoundBlock<'a> {
@@ -75,32 +83,37 @@ impl<'a> FoundBlock<'a> {
 
     /// The home of an end, whose path has two parts, if it is in the block.
     fn home_of(&self, homes: &HomeTable<'a>, start: &str, end: &str) -> Option<&'a Path>
-        requires { IsFound homes.now.by_path self.now }
-        ensures { IfSome result (λ home.
-            nearest (home_by_path homes.now.by_path) (start.now ++ end.now) ≡ Some home.now) }
+        requires apart { IsTrue homes.now.apart }
+        requires found { IsFound homes.now.by_path self.now }
+        ensures { IfSome result (λ home. IsHome homes.now.by_path start.now end.now home.now) }
     {
-        if homes.apart {
-            if let Some(home) = self.home {
-                if stands_in(start.as_bytes(), end.as_bytes(), self.path.as_bytes()) {
-                    return Some(home);
-                }
-            }
+        let home = self.home?;
+        if stands_in(start, end, self.path.as_str()) {
+            return Some(home);
         }
         None
     }
 
-    /// Looks up the block in which an end is, if no block is inside another one.
-    fn look_up(&mut self, homes: &HomeTable<'a>, start: &str, end: &str) -> Result<(), AllocError>
-        requires { IsFound homes.now.by_path self.old }
-        ensures { IsFound homes.now.by_path self.new }
+    /// Looks up the block in which an end is, and gives its home.
+    fn look_up(
+        &mut self,
+        homes: &HomeTable<'a>,
+        start: &str,
+        end: &str,
+    ) -> Result<Option<&'a Path>, AllocError>
+        requires apart { IsTrue homes.now.apart }
+        requires found { IsFound homes.now.by_path self.old }
+        ensures found { IsFound homes.now.by_path self.new }
+        ensures home { IfOk result
+            (λ home. IfSome home (λ home. IsHome homes.now.by_path start.now end.now home.now)) }
     {
         let Some((outer, name)) = block_of(start, end) else {
-            return Ok(());
+            return Ok(None);
         };
         self.home = None;
         write_both(&mut self.path, outer, name)?;
         self.home = home_by_path(&homes.by_path, self.path.as_str());
-        Ok(())
+        Ok(self.home)
     }
 }
 
@@ -117,25 +130,12 @@ impl<'a, 't> EndFinder<'a, 't> {
         }
     }
 
-    /// The home of an end that is in neither of the two blocks. That of the longest prefix that has one is looked up where its block has none.
-    fn look_up(&mut self, start: &str, end: &str) -> Result<Option<&'a Path>, AllocError>
+    /// The home of the block in which an end is, if it has one.
+    fn home_of_block(&mut self, start: &str, end: &str) -> Result<Option<&'a Path>, AllocError>
+        requires { IsTrue self.old.homes.now.apart }
         ensures homes { self.new.homes.now ≡ self.old.homes.now }
-        ensures found { IfOk result (λ home. option_copied home
-            ≡ nearest (home_by_path self.old.homes.now.by_path) (start.now ++ end.now)) }
-    {
-        self.recent.look_up(self.homes, start, end)?;
-        if let Some(home) = self.recent.home_of(self.homes, start, end) {
-            return Ok(Some(home));
-        }
-        write_both(&mut self.text, start, end)?;
-        Ok(nearest_home(&self.homes.by_path, self.text.as_str()))
-    }
-
-    /// The home of an end, whose path has two parts.
-    pub(crate) fn home(&mut self, start: &str, end: &str) -> Result<Option<&'a Path>, AllocError>
-        ensures homes { self.new.homes.now ≡ self.old.homes.now }
-        ensures found { IfOk result (λ home. option_copied home
-            ≡ nearest (home_by_path self.old.homes.now.by_path) (start.now ++ end.now)) }
+        ensures home { IfOk result (λ home.
+            IfSome home (λ home. IsHome self.old.homes.now.by_path start.now end.now home.now)) }
     {
         if let Some(home) = self.recent.home_of(self.homes, start, end) {
             return Ok(Some(home));
@@ -144,6 +144,21 @@ impl<'a, 't> EndFinder<'a, 't> {
         if let Some(home) = self.recent.home_of(self.homes, start, end) {
             return Ok(Some(home));
         }
-        self.look_up(start, end)
+        self.recent.look_up(self.homes, start, end)
+    }
+
+    /// The home of an end, whose path has two parts.
+    pub(crate) fn home(&mut self, start: &str, end: &str) -> Result<Option<&'a Path>, AllocError>
+        ensures homes { self.new.homes.now ≡ self.old.homes.now }
+        ensures found { IfOk result (λ home. option_copied home
+            ≡ nearest (home_by_path self.old.homes.now.by_path) (start.now ++ end.now)) }
+    {
+        if self.homes.apart {
+            if let Some(home) = self.home_of_block(start, end)? {
+                return Ok(Some(home));
+            }
+        }
+        write_both(&mut self.text, start, end)?;
+        Ok(nearest_home(&self.homes.by_path, self.text.as_str()))
     }
 }

@@ -1,5 +1,5 @@
 -- One home more is clear.
-use Rattle.std.proofs.{Common.{◌≡◌, ℕ, List, None, Bool, true, false, not, refl, sym, ◌∙◌, ap, subst, rules}, lemmas.List.{take_all}}
+use Rattle.std.proofs.{Common.{◌≡◌, ℕ, List, None, true, false, sym, ◌∙◌, ap, subst, rules}, lemmas.Bool.{not-false}, lemmas.List.{take_all}}
 use denote.Shadow.{shadow}
 use denote.Text.{Utf8}
 use Rattle.std.specs.Borrow.{Bor}
@@ -8,10 +8,6 @@ use Rattle.fb_placing.specs.{Points.{HasNoPoint}, HomeTable.{home_by_path}}
 use Rattle.fb_placing.proofs.{ApartLemmas.{AreClear, all_clear, clear_name, clear_parted, one_clear}, TableLemmas.{same_text}}
 use Rattle.fb_placing.proofs.homes.table.are_apart.Goals.{in-Some+then-ne+else-is_some-2, in-Some+else-ne, in_default}
 use Rattle.fb_placing.proofs.homes.table.are_apart.Goals as goal
-
-not_other : (b : Bool) → not b ≡ false → b ≡ true
-not_other true e = refl
-not_other false e = absurd (let no : ⊥ = cc in no)
 
 pub loop-home-preserved : goal.loop-home-preserved
 loop-home-preserved c =
@@ -33,7 +29,7 @@ loop-home-preserved c =
       | in-Some+else-ne w ↦
           let outer = w.in-Some.outer.now in
           let kept : c.match-split_last.last.now ≡ c.loop-home.last.now = ap (λ (b : Bor (List ℕ)). b.now) w.last-is in
-          let same : outer ≡ c.loop-home.last.now = same_text outer c.loop-home.last.now (not_other _ (sym w.ne.ensures ∙ w.if-ne.false)) in
+          let same : outer ≡ c.loop-home.last.now = same_text outer c.loop-home.last.now (not-false _ (sym w.ne.ensures ∙ w.if-ne.false)) in
           let parts = w.in-Some.ensures.parts in
           record {
             text = subst (λ (t : List ℕ). shadow (Utf8 t)) (sym kept) c.loop-home.invariant.text;

@@ -1,10 +1,9 @@
--- Behind a point begins a character.
-use Rattle.std.proofs.{Common.{◌≡◌, ℕ, List, ◌-◌, get_or, sym, ◌∙◌, ap, arith}, lemmas.Str.{IsCharBoundary-after_ascii}}
+-- The path is split at its last point.
+use Rattle.fb_placing.proofs.SplitLemmas.{split_at_last}
 use Rattle.fb_placing.proofs.paths.split.split_last.Goals as goal
 
-pub range_from-requires : goal.range_from-requires
-range_from-requires c =
-    let path = c.args.path.now in
-    let k = c.loop-i.i - 1 in
-    let point : get_or path k 0 ≡ 46 = ap (λ (t : List ℕ). get_or t k 0) (sym c.as_bytes.ensures.value) ∙ c.if-as_bytes-i-eq46.true in
-    λ some. IsCharBoundary-after_ascii path k c.utf8.path (omega arith) (omega (arith, point))
+pub returns-clause-parts : goal.returns-clause-parts
+returns-clause-parts c = (split_at_last c.args.path.now c.rsplit_once.result c.rsplit_once.ensures.cases).0
+
+pub returns-clause-alone : goal.returns-clause-alone
+returns-clause-alone c = (split_at_last c.args.path.now c.rsplit_once.result c.rsplit_once.ensures.cases).1
