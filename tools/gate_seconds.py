@@ -54,7 +54,7 @@ def heads():
             head = HEAD.match(next(lines))
         if head:
             found.append((os.path.basename(file), head))
-    return sorted(found, key=lambda it: (it[1][1], int(it[1][4]), bool(it[1][6])), reverse=True)
+    return sorted(found, key=lambda it: (it[1][1], int(it[1][4]), bool(it[1][6]), it[0]), reverse=True)
 
 
 def last_whole():
