@@ -47,7 +47,7 @@ MODEL = re.compile(r" of Intel\(R\) Xeon\(R\) Processor @ ([\d.]+)GHz")
 
 @functools.cache
 def heads():
-    """Of each run that was kept its file and what its first line says, the newest first."""
+    """Of each run that was kept its file and what its first line says, the newest first: by day, crates, and whether it was whole; then by the file's name."""
     found = []
     for file in glob.glob(f"{TOP}/docs/gate/*.tsv"):
         with open(file, encoding="utf-8") as lines:
