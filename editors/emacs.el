@@ -11,5 +11,16 @@
   (setq-local comment-start "// "))
 
 (add-to-list 'auto-mode-alist '("\\.fb\\'" . fb61499-mode))
-(add-to-list 'eglot-server-programs (cons 'fb61499-mode bench61499-server))
+(defclass bench61499-eglot-server (eglot-lsp-server) ()
+  :documentation "The language server, which may ask to show a document: the differences of two texts.")
+
+(cl-defmethod eglot-client-capabilities :around ((_server bench61499-eglot-server))
+  (let ((capabilities (cl-call-next-method)))
+    (plist-put capabilities :window (plist-put (plist-get capabilities :window) :showDocument '(:support t)))))
+
+(cl-defmethod eglot-handle-request ((_server bench61499-eglot-server) (_method (eql window/showDocument)) &key uri &allow-other-keys)
+  (view-file-other-window (url-unhex-string (url-filename (url-generic-parse-url uri))))
+  '(:success t))
+
+(add-to-list 'eglot-server-programs (cons 'fb61499-mode (cons 'bench61499-eglot-server bench61499-server)))
 (add-hook 'fb61499-mode-hook #'eglot-ensure)

@@ -10,6 +10,18 @@ if vim.lsp.config then -- Neovim 0.11
   return
 end
 
+-- Before 0.9 Neovim shows no document that a server asks for, such as the differences of two texts.
+if not vim.lsp.handlers['window/showDocument'] then
+  server.capabilities = vim.lsp.protocol.make_client_capabilities()
+  server.capabilities.window.showDocument.support = true
+  server.handlers = {
+    ['window/showDocument'] = function(_, shown)
+      vim.cmd('sview ' .. vim.fn.fnameescape(vim.uri_to_fname(shown.uri)))
+      return { success = true }
+    end,
+  }
+end
+
 local client
 server.on_exit = function() client = nil end
 vim.api.nvim_create_autocmd({ 'BufReadPost', 'BufNewFile' }, {

@@ -22,11 +22,14 @@ SECTIONS = (
     ("The headline", "After any list of calls every entry that is shown is the one from scratch.", (
         ("fb_history", "entries_follow_the_texts"), ("fb_bench", "Bench::perform"), ("fb_bench", "Bench::start"), ("fb_bench", "Bench::len"), ("fb_bench", "Bench::peek"),
     )),
-    ("Reading alone", "A text has one list of tokens, and spells one tree or is broken at a place.", (("fb_text", "tokens"), ("fb_parse", "Source::read"), ("fb_parse", "Source::body"))),
+    ("Reading alone", "A text has one list of tokens, and spells one tree or is broken at a place.", (("fb_text", "tokens"), ("fb_parse", "Source::read"), ("fb_parse", "one_body"))),
     ("Networks and plans", "The flat network of a unit, and the placement and the plan of a system.", (("fb_flatten", "net"), ("fb_mapping", "place"), ("fb_deploy", "plan"))),
     ("The lines", "What a conversation writes is what its lines ask and the answers give.", (("fb_wire", "run_lines"), ("fb_wire", "run_script"))),
     ("The lock", "Calls with seats, workers, and the close.", (
-        ("fb_locked", "Locked::perform_into"), ("fb_shared", "Shared::perform_into"), ("fb_shared", "Shared::ask"), ("fb_shared", "Shared::close"), ("fb_shared", "Shared::resume"), ("fb_shared", "work_on"),
+        ("fb_locked", "Locked::perform_into"), ("fb_shared", "Shared::ask"), ("fb_shared", "Shared::close"), ("fb_shared", "Shared::resume"), ("fb_shared", "work_on"),
+    )),
+    ("Reads", "What a host shows without a record.", (
+        ("fb_bench", "Bench::snapshot"), ("fb_bench", "Snapshot::showing"), ("fb_locked", "Locked::read"), ("fb_shared", "Shared::read"), ("fb_shared", "Shared::watch"), ("fb_host", "reads_go_on"),
     )),
 )
 ITEM = re.compile(r"(?:abbrev |unfoldable )?(?:pub )?(record |data )?([^\s:(){}]+)(?= ?[:({]| :)")

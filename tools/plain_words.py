@@ -14,6 +14,8 @@ TOP = os.path.dirname(os.path.dirname(os.path.abspath(__file__)))
 COMMENTS = {"src/**/*.rt": re.compile(r"^\s*//[/!] ?(.*)$"), "specs/**/*.antt": re.compile(r"(?:^|\s)--+ (.*)$")}
 READS_CRATES = True
 PAGES = {
+    "CHANGES.md",
+    "CONTRIBUTING.md",
     "README.md",
     "benchmarks/plain/README.md",
     "clients/README.md",
@@ -25,6 +27,7 @@ PAGES = {
     "docs/LANGUAGE.md",
     "docs/PROMISES.md",
     "docs/PROVED.md",
+    "docs/PROVING.md",
     "docs/RECIPES.md",
     "docs/TRUST.md",
     "docs/WORKBENCH.md",

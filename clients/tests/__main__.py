@@ -16,7 +16,7 @@ from pathlib import Path
 from typing import NamedTuple
 
 HERE = Path(__file__).resolve().parent
-FIRST = "test_board", "test_structures", "test_rules", "test_board_page", "test_team", "test_library", "test_lsp"
+FIRST = "test_board", "test_sync", "test_structures", "test_rules", "test_board_page", "test_team", "test_library", "test_lsp"
 """The files that take longest, and so begin first."""
 MOST = 5
 """So many tests may be run once more."""

@@ -39,11 +39,13 @@ class Address:
     def __init__(self, url: str, line: str, process: subprocess.Popen[str]):
         self.url, self.line, self.process = url, line, process
         self.port = urlsplit(url).port
+        self.token = urlsplit(url).query.removeprefix("token=")
+        self.cookie = f"bench61499_{self.port}={self.token}"
 
     def request(self, path: str, method: str = "GET", body: bytes | None = None, **headers: str) -> tuple[int, str]:
-        """The status and the content of an answer. Underscores in names of headers stand for hyphens."""
+        """The status and the content of an answer to somebody who was let in. Underscores in names of headers stand for hyphens."""
         connection = HTTPConnection("127.0.0.1", self.port, timeout=PATIENCE)
-        connection.request(method, path, body, {name.replace("_", "-"): value for name, value in headers.items()})
+        connection.request(method, path, body, {"Cookie": self.cookie, **{name.replace("_", "-"): value for name, value in headers.items()}})
         answer = connection.getresponse()
         status, content = answer.status, answer.read().decode()
         connection.close()
@@ -66,7 +68,7 @@ class Address:
     @contextmanager
     def viewer(self, query: str = "") -> Iterator[Viewer]:
         connection = HTTPConnection("127.0.0.1", self.port, timeout=PATIENCE)
-        connection.request("GET", f"/events{query}")
+        connection.request("GET", f"/events{query}", headers={"Cookie": self.cookie})
         with connection.getresponse() as answer:
             yield Viewer(answer)
         connection.close()
@@ -78,7 +80,7 @@ class Viewer:
     def __init__(self, answer: HTTPResponse):
         self._answer = answer
         self.units: dict[str, dict[str, Any]] = {}
-        self.changes: list[dict[str, Any]] = []
+        self._changes: dict[int, dict[str, Any]] = {}
         self.answers: dict[tuple[str, str], tuple[int, bool]] = {}
         self.about: dict[str, Any] = {}
         self.ended = ""
@@ -93,11 +95,20 @@ class Viewer:
             line = self._answer.readline()
         news = json.loads(line[6:])
         self.about = news.get("about", self.about)
-        for unit, kind, revision, state, faults, file in news["units"]:
+        for unit, kind, revision, state, faults, file, _ in news["units"]:
             self.units[unit] = {"kind": kind, "revision": revision, "state": state, "faults": faults, "file": file}
-        self.changes += news["changes"]
+        self._changes.update((it["serial"], it) for it in news["changes"])
         self.answers.update(((kind, unit), (serial, current)) for kind, unit, serial, current in news["answers"])
         self.ended, self.problems = news["ended"], news["problems"]
+
+    @property
+    def changes(self) -> list[dict[str, Any]]:
+        """The changes in their order."""
+        return sorted(self._changes.values(), key=lambda it: it["time"])
+
+    def steps(self) -> list[tuple[Any, ...]]:
+        """What the changes did to units, and who made them."""
+        return [(*step, it["author"]) for it in self.changes for step in it["steps"]]
 
     def until(self, condition: Callable[[Viewer], object]) -> Viewer:
         """Waits for events until a condition holds. An event comes every few seconds, be there news or not."""

@@ -1,8 +1,10 @@
 """An editor as the tests play it: it starts a language server, and sends and reads messages."""
 from __future__ import annotations
 
+import re
 import subprocess
 import threading
+from collections.abc import Sequence
 from pathlib import Path
 from typing import Any
 
@@ -12,7 +14,7 @@ from bench61499.lsp.rpc import read_message, write_message
 
 
 class Editor:
-    """An editor with one language server. It keeps what the server shows: diagnostics by file, and messages to the user.
+    """An editor with one language server. It keeps what the server shows and asks: diagnostics by file, messages to the user, and requests.
 
     Where what a test waits for doesn't come, the server is killed after `patience` seconds, and the test fails.
     """
@@ -25,6 +27,8 @@ class Editor:
         self.shown: dict[str, list] = {}
         self.versions: dict[str, int] = {}
         self.messages: list[str] = []
+        self.passed_over: set[str] = set()
+        self.asked: list[dict] = []
         self._number = 0
 
     def close(self) -> None:
@@ -54,8 +58,10 @@ class Editor:
             name = Path(message["params"]["uri"]).name
             self.shown[name] = message["params"]["diagnostics"]
             self.versions[name] = message["params"].get("version")
-        if message.get("method") == "window/showMessage":
+        if message.get("method") == "window/showMessage" and message["params"]["message"] not in self.passed_over:
             self.messages.append(message["params"]["message"])
+        if "method" in message and "id" in message:
+            self.asked.append(message)
         return message
 
     def await_codes(self, **expected: list[str]) -> None:
@@ -67,6 +73,27 @@ class Editor:
         while not self.messages:
             self.read()
         return self.messages.pop(0)
+
+    def await_asked(self, method: str) -> dict:
+        """The next request of the server, which has to be one of this method."""
+        while not self.asked:
+            self.read()
+        asked = self.asked.pop(0)
+        assert asked["method"] == method, asked
+        return asked
+
+    def answer(self, asked: dict, result: object) -> None:
+        self.send({"id": asked["id"], "result": result})
+
+    def await_told(self, file: str, *expected: tuple[int, str]) -> None:
+        """Reads until exactly these severities and words, which are patterns, are shown of a file."""
+        while not self.tells(file, expected):
+            self.read()
+
+    def tells(self, file: str, expected: Sequence[tuple[int, str]]) -> bool:
+        shown = self.shown.get(file, [{"severity": 0, "message": "nothing"}])
+        its = [(it["severity"], it["message"]) for it in shown]
+        return len(its) == len(expected) and all(one == other and re.fullmatch(words, told) for (one, told), (other, words) in zip(its, expected))
 
     def codes(self, file: str) -> list[str] | None:
         return [it.get("code", it["message"]) for it in self.shown[file]] if file in self.shown else None

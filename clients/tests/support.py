@@ -10,9 +10,10 @@ import subprocess
 import sys
 import tempfile
 import threading
+import time
 import unittest
-from collections.abc import Iterator
-from contextlib import AbstractContextManager, contextmanager
+from collections.abc import Callable, Iterator
+from contextlib import AbstractContextManager, contextmanager, suppress
 from functools import cache
 from pathlib import Path
 from unittest import TestCase
@@ -24,6 +25,10 @@ BREAKS = json.loads((CONVEYOR / "breaks.json").read_text())
 sys.path.insert(0, str(CLIENTS / "python"))
 
 from bench61499 import HistoryFull, NoWorkbench, Session, find_program  # noqa: E402
+
+with suppress(NoWorkbench):
+    # So all programs under test start the same one, and do not say that it is not proved.
+    os.environ["BENCH61499_PROGRAM"] = find_program()
 
 
 @cache
@@ -102,6 +107,15 @@ def _answer(listener: socket.socket, replies: tuple[bytes, ...]) -> None:
         lines.readline()
 
 
+def until(is_so: Callable[[], object], seconds: float = 30) -> None:
+    """Waits until something is so."""
+    end = time.monotonic() + seconds
+    while not is_so():
+        if time.monotonic() > end:
+            raise AssertionError(f"it is not so after {seconds:g} s")
+        time.sleep(0.005)
+
+
 def free_port() -> int:
     """A port that nobody listens at."""
     with socket.create_server(("127.0.0.1", 0)) as listener:
@@ -148,7 +162,7 @@ class InFolder(TestCase):
 
     def write(self, name: str, content: str | bytes) -> Path:
         file = self.folder / name
-        file.parent.mkdir(exist_ok=True)
+        file.parent.mkdir(parents=True, exist_ok=True)
         file.write_bytes(content if isinstance(content, bytes) else content.encode())
         return file
 

@@ -3,6 +3,7 @@ import json
 import random
 import unittest
 from pathlib import Path
+from unittest.mock import Mock
 
 from generated import checked
 
@@ -29,7 +30,7 @@ class AnswersTest(unittest.TestCase):
                 plant.put(Path(f"/plant/{name}.fb"), text)
             plant.refresh()
             self.places = {f"file:///plant/{name}.fb": Places(text) for name, text in library.texts.items()}
-            yield library, Answers(plant, lambda end: True, lambda path: [], self.fail)
+            yield library, Answers(plant, lambda end: True, lambda path: [], self.fail, Mock(actions=lambda path, shown: []))
 
     def check(self, answer):
         """All ranges of an answer, as it is sent, are ranges of the texts that it names."""

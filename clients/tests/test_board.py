@@ -2,19 +2,27 @@
 from __future__ import annotations
 
 import os
+import resource
 import signal
+import socket
 import subprocess
+import time
 import unittest
+from collections.abc import Callable
+from contextlib import ExitStack
 from http.client import HTTPConnection
 from pathlib import Path
 from unittest import mock
 
-from boards import Address, board
-from support import CONVEYOR, InFolder, free_port, run, serving, workbench
+from boards import PATIENCE, Address, Viewer, board
+from support import CONVEYOR, GREETING, InFolder, answering, free_port, hosting, run, serving, until, workbench
 
-from bench61499 import Put, Remove, Session
-from bench61499.board.state import Board
-from bench61499.board.watch import HEARTBEAT, SharedWatch
+from bench61499 import Put, Remove, Session, batches
+from bench61499.board.server import CONNECTIONS, NO_NAME, NO_TOKEN
+from bench61499.board.state import WISHES_KEPT, Board, Key, NoEntry
+from bench61499.board.views import net_view
+from bench61499.board.watch import HEARTBEAT, Asking, SharedWatch
+from bench61499.cli.board import NO_READS, NOT_NEEDED
 
 STATES = {"FEEDER", "HANDOVER", "ITEM", "LAMP", "LIFTER", "PLANT", "STATION"}
 WRONG = "FUNCTION_BLOCK A EVENT_INPUT E WITH X; END_EVENT END_FUNCTION_BLOCK"
@@ -43,11 +51,19 @@ class BoardTest(InFolder):
         """The text that the pieces of a unit spell."""
         return "\n".join("".join(it if isinstance(it, str) else it["words"] for it in line) for line in unit["lines"])
 
+    def known(self, at: Address, viewer: Viewer, path: str, unit: str) -> dict:
+        """The answer, once it is known."""
+        kind = {"/net": "net", "/plan": "deploy"}[path]
+        query = {"name": unit, "aspect": "1.5"} if kind == "net" else {"name": unit}
+        at.json(path, **query)
+        viewer.until(lambda it: it.answers.get((kind, unit), (0, False))[1])
+        return at.json(path, **query)
+
 
 class FolderTest(BoardTest):
     def test_all_units(self) -> None:
         at = self.conveyor()
-        self.assertEqual(at.line, f"the board of . is at http://127.0.0.1:{at.port}/\n")
+        self.assertRegex(at.line, rf"^the board of \. is at http://127\.0\.0\.1:{at.port}/\?token=[0-9a-f]{{32}}\n$")
         with at.viewer() as viewer:
             viewer.settled(len(STATES))
         self.assertEqual(viewer.units.keys(), STATES)
@@ -60,8 +76,11 @@ class FolderTest(BoardTest):
             viewer.settled(len(STATES))
             self.edit("FEEDER.fb", "DONE TO IDLE", "DONE TO IDEL")
             viewer.until(lambda it: it.state("FEEDER") == "faulty")
+            viewer.until(lambda it: it.changes[0]["came_count"] == 2)
             (change,) = viewer.changes
-            self.assertEqual({**change, "time": 0}, {"number": 1, "time": 0, "unit": "FEEDER", "old": 1, "new": 2, "author": "FEEDER.fb", "count": 1, "replaces": 0})
+            self.assertEqual({**change, "time": 0, "number": 0}, {
+                "serial": 1, "number": 0, "time": 0, "author": "FEEDER.fb", "commit": 2, "count": 1, "steps": [["FEEDER", 1, 2]],
+                "came": [["FEEDER", "STATE_UNKNOWN", "IDEL"], ["PLANT", "NO_PLAN", ""]], "came_count": 2, "went": [], "went_count": 0})
             unit = at.json("/unit", name="feeder")
         self.assertEqual(
             unit["faults"],
@@ -80,8 +99,7 @@ class FolderTest(BoardTest):
             viewer.until(lambda it: it.state("A") == "faulty")
             self.write("LAMP.fb", (CONVEYOR / "LAMP.fb").read_bytes())
             viewer.until(lambda it: it.state("LAMP") == it.state("PLANT") == "fine")
-        self.assertEqual([(it["unit"], it["old"], it["new"], it["author"]) for it in viewer.changes],
-                         [("LAMP", 1, 0, "LAMP.fb"), ("A", 0, 3, "inner/A.fb"), ("LAMP", 0, 4, "LAMP.fb")])
+        self.assertEqual(viewer.steps(), [("LAMP", 1, 0, "LAMP.fb"), ("A", 0, 3, "inner/A.fb"), ("LAMP", 0, 4, "LAMP.fb")])
 
     def test_files_that_are_no_units(self) -> None:
         self.copy_conveyor()
@@ -236,14 +254,6 @@ class AnswersTest(BoardTest):
         ]:
             self.assertEqual(at.json("/instance", name=unit, path=path), place)
 
-    def known(self, at: Address, viewer, path: str, unit: str) -> dict:
-        """The answer, once it is known."""
-        kind = {"/net": "net", "/plan": "deploy"}[path]
-        query = {"name": unit, "aspect": "1.5"} if kind == "net" else {"name": unit}
-        at.json(path, **query)
-        viewer.until(lambda it: it.answers.get((kind, unit), (0, False))[1])
-        return at.json(path, **query)
-
 
 class SharedTest(BoardTest):
     """A workbench that others use too."""
@@ -271,8 +281,8 @@ class SharedTest(BoardTest):
             base = self.engineer.revision("FEEDER")
             text = (CONVEYOR / "FEEDER.fb").read_text().replace("DONE TO IDLE", "DONE TO IDEL")
             number = self.engineer.commit([Put("FEEDER", base, text)])
-            viewer.until(lambda it: it.state("FEEDER") == "faulty")
-            self.assertEqual([(it["unit"], it["old"], it["new"], it["author"]) for it in viewer.changes], [("FEEDER", base, number, "")])
+            viewer.until(lambda it: it.state("FEEDER") == "faulty" and it.changes)
+            self.assertEqual(viewer.steps(), [("FEEDER", base, number, "")])
             self.engineer.commit([Remove("FEEDER", number)])
             viewer.until(lambda it: it.state("FEEDER") == "absent" and it.state("STATION") == "faulty")
             unit = at.json("/unit", name="FEEDER")
@@ -318,7 +328,7 @@ class SharedTest(BoardTest):
             viewer.until(lambda it: it.answers["net", "PLANT"][1] and it.answers["net", "PLANT"][0] > serial)
             self.engineer.commit([Remove("STATION", number)])
             viewer.until(lambda it: it.state("PLANT") == "faulty")
-            self.assertNotIn("STATION", {it["unit"] for it in viewer.changes})
+            self.assertNotIn("STATION", {it[0] for it in viewer.steps()})
 
     def test_a_text_that_is_another_one(self) -> None:
         self.write("A.fb", "FUNCTION_BLOCK A END_FUNCTION_BLOCK")
@@ -355,23 +365,14 @@ class SharedTest(BoardTest):
     def test_units_that_are_asked_for(self) -> None:
         at = self.shared()
         with at.viewer() as viewer:
-            viewer.take()
-            token = viewer.about["token"]
-            self.assertEqual(at.request("/look", "POST", b'{"unit":"A"}', X_Board_Token=token), (200, '{"unit":"A","new":true}'))
+            self.assertEqual(at.request("/look", "POST", b'{"unit":"A"}'), (200, '{"unit":"A","new":true}'))
             viewer.until(lambda it: it.state("A") == "absent")
             self.engineer.commit([Put("A", 0, WRONG)])
             viewer.until(lambda it: it.state("A") == "faulty")
-            self.assertEqual(at.request("/look", "POST", b'{"unit":"a"}', X_Board_Token=token), (200, '{"unit":"A","new":false}'))
+            self.assertEqual(at.request("/look", "POST", b'{"unit":"a"}'), (200, '{"unit":"A","new":false}'))
             for wrong in (b"", b"[]", b"{}", b'{"unit":1}', b'{"unit":""}', b'{"unit":"1A"}', b'{"unit":"A-B"}', b'{"unit":"%s"}' % (b"A" * 65), b"\xff"):
-                self.assertEqual(at.request("/look", "POST", wrong, X_Board_Token=token)[0], 400, wrong)
+                self.assertEqual(at.request("/look", "POST", wrong)[0], 400, wrong)
             self.assertEqual(viewer.units.keys(), {"A"})
-
-    def test_what_changes_something_needs_the_token(self) -> None:
-        at = self.shared("--unit", "A")
-        wrong: list[dict[str, str]] = [{}, {"X_Board_Token": ""}, {"X_Board_Token": "0" * 32}, {"X_Board_Token": "\xe9"}]
-        for token in wrong:
-            self.assertEqual(at.request("/look", "POST", b'{"unit":"B"}', **token), (403, "the token of the page is missing\n"))
-        self.assertEqual(at.request("/unit?name=B")[0], 404)
 
     def test_the_end_of_the_workbench(self) -> None:
         with serving(sessions=1) as port:
@@ -396,10 +397,10 @@ class SharedTest(BoardTest):
         with mock.patch("bench61499.board.watch.time.monotonic", lambda: clock[0]):
             watch = SharedWatch(board, self.engineer, None, [f"U{at}" for at in range(160)])
             watch.start()
-            self.assertEqual((watch.step(), board.news(0, None).calls), (HEARTBEAT, 0))
+            self.assertEqual((watch.step(), board.news(0, 0).calls), (HEARTBEAT, 0))
 
             def calls_in(seconds: float, edits: int) -> int:
-                before, end = board.news(0, None).calls, clock[0] + seconds
+                before, end = board.news(0, 0).calls, clock[0] + seconds
                 next_edit = clock[0]
                 while clock[0] < end:
                     clock[0] += max(watch.step(), 0.01)
@@ -407,28 +408,32 @@ class SharedTest(BoardTest):
                         self.engineer.commit([Put("U7", self.engineer.revision("U7"), WRONG)])
                         self.engineer.wait("faults", "U7")  # The clock of the workers is another one.
                         next_edit += seconds / edits
-                return board.news(0, None).calls - before
+                return board.news(0, 0).calls - before
 
             with board.viewer():
                 self.assertLessEqual(calls_in(10, 0), 10 + 20)  # All ten batches are looked at once, at the start.
                 self.assertLessEqual(calls_in(300, 100), 2 * 300 + 4)
                 self.assertLessEqual(calls_in(60, 0), 2 * 60 + 4)
                 self.assertLessEqual(calls_in(300, 0), 300 + 16)
+                for at in range(200):
+                    board.wish(("net", f"U{at}"))
+                self.assertLessEqual(calls_in(100, 0), 2 * 100 + 30)
+                self.assertEqual(board.open_wishes(), [])
                 self.assertEqual(board.row("U7").revision, self.engineer.revision("U7"))
         self.assertEqual(watch.step(), HEARTBEAT)
 
-    def test_a_host_that_ends_and_comes_again(self) -> None:
+    def test_a_server_that_ends_and_comes_again(self) -> None:
         port = free_port()
-        words = [workbench(), "host", "--port", str(port)]
+        words = [workbench(), "serve", "--sessions", "4", "--port", str(port)]
 
-        def host() -> subprocess.Popen[str]:
+        def serve() -> subprocess.Popen[str]:
             running = subprocess.Popen(words, stdout=subprocess.PIPE, stderr=subprocess.DEVNULL, text=True)
             running.stdout.readline()
             self.addCleanup(running.__exit__, None, None, None)
             self.addCleanup(running.kill)
             return running
 
-        first = host()
+        first = serve()
         with Session.connect("127.0.0.1", port) as engineer:
             engineer.commit([Put("A", 0, WRONG)])
         at = self.start("--connect", f":{port}", "--unit", "A")
@@ -438,11 +443,183 @@ class SharedTest(BoardTest):
             viewer.until(lambda it: it.ended)
             self.assertRegex(viewer.ended, "; trying again$")
             self.assertEqual(viewer.state("A"), "faulty")
-            host()
+            serve()
             viewer.until(lambda it: not it.ended and it.state("A") == "absent")
+        said = [at.process.stderr.readline() for _ in range(3)]
+        self.assertEqual(said[0], f"board: {NO_READS}\n")
+        self.assertRegex(said[1], "^board: the .*; trying again\n$")
+        self.assertEqual(said[2], "board: the workbench answers again\n")
+
+
+class ReadsTest(BoardTest):
+    """A host that gives its units and texts, and tells what happens."""
+
+    def setUp(self) -> None:
+        super().setUp()
+        self.texts = {file.stem: file.read_text() for file in CONVEYOR.glob("*.fb")}
+
+    def host(self, *words: str) -> int:
+        running = hosting(*words)
+        port = running.__enter__()
+        self.addCleanup(running.__exit__, None, None, None)
+        return port
+
+    def engineer(self, port: int) -> Session:
+        session = Session.connect("127.0.0.1", port)
+        self.addCleanup(session.close)
+        return session
+
+    def plant(self) -> tuple[int, Session]:
+        """A host that has the conveyor, by one commit, and the engineer who made it."""
+        port = self.host()
+        engineer = self.engineer(port)
+        engineer.commit([Put(unit, 0, text) for unit, text in self.texts.items()])
+        until(lambda: not engineer.status().pending)
+        return port, engineer
+
+    def change(self, engineer: Session, unit: str, old: str, new: str) -> int:
+        """Puts a unit with another text over the present one."""
+        self.assertIn(old, self.texts[unit])
+        self.texts[unit] = self.texts[unit].replace(old, new)
+        return engineer.commit([Put(unit, engineer.text(unit).revision, self.texts[unit])])
+
+    def test_all_units_with_their_texts(self) -> None:
+        port, _ = self.plant()
+        at = self.start("--connect", f":{port}")
+        with at.viewer() as viewer:
+            viewer.settled(len(STATES))
+        self.assertEqual(viewer.units["PLANT"], {"kind": "SYSTEM", "revision": 1, "state": "fine", "faults": 0, "file": ""})
+        for name, text in self.texts.items():
+            unit = at.json("/unit", name=name)
+            self.assertEqual((self.pieces(unit) + "\n", unit["note"], unit["faults"]), (text, "", []))
+
+    def test_who_brought_a_fault(self) -> None:
+        port, engineer = self.plant()
+        at = self.start("--connect", f":{port}")
+        with at.viewer() as viewer:
+            viewer.settled(len(STATES))
+            self.change(engineer, "FEEDER", "DONE TO IDLE", "DONE TO IDEL")
+            viewer.until(lambda it: it.state("FEEDER") == "faulty" and it.changes and it.changes[0]["came_count"] == 2)
+            unit = at.json("/unit", name="FEEDER")
+            self.assertEqual(unit["faults"], [{"code": "STATE_UNKNOWN", "line": 19, "column": 13, "explanation": "no state IDEL in this chart; did you mean IDLE?"}])
+            self.assertEqual([it for it in unit["lines"][18] if not isinstance(it, str) and it["faults"]], [{"words": "IDEL", "kind": "", "faults": [0]}])
+            (change,) = viewer.changes
+            caller = f"session {engineer.status().session}"
+            self.assertEqual((change["author"], change["commit"], change["steps"]), (caller, 2, [["FEEDER", 1, 2]]))
+            self.assertEqual(sorted(change["came"]), [["FEEDER", "STATE_UNKNOWN", "IDEL"], ["PLANT", "NO_PLAN", ""]])
+            other = self.engineer(port)
+            self.change(other, "FEEDER", "DONE TO IDEL", "DONE TO IDLE")
+            viewer.until(lambda it: it.state("FEEDER") == it.state("PLANT") == "fine" and it.changes[-1]["went_count"] == 2)
+            self.assertEqual([it["author"] for it in viewer.changes], [caller, f"session {other.status().session}"])
+            self.assertEqual(viewer.changes[-1]["went"], change["came"])
+
+    def test_a_fault_in_the_unit_of_somebody_else(self) -> None:
+        """It is told with the commit that brought it, although another one has come since."""
+        port, engineer = self.plant()
+        other = self.engineer(port)
+        at = self.start("--connect", f":{port}")
+        with at.viewer() as viewer:
+            viewer.settled(len(STATES))
+            self.change(engineer, "LIFTER", "LIFTED", "RAISED")
+            self.change(other, "LAMP", "FUNCTION_BLOCK LAMP", "(* a lamp *) FUNCTION_BLOCK LAMP")
+            viewer.until(lambda it: it.state("STATION") == "faulty" and len(it.changes) == 2 and it.changes[0]["came_count"])
+            came = {(it["author"], unit) for it in viewer.changes for unit, *_ in it["came"]}
+        # (the plan of PLANT rests on both units, so either commit can have taken it away)
+        self.assertEqual({author for author, unit in came if unit == "STATION"}, {f"session {engineer.status().session}"})
+
+    def test_units_that_come_and_go(self) -> None:
+        port, engineer = self.plant()
+        at = self.start("--connect", f":{port}")
+        with at.viewer() as viewer:
+            viewer.settled(len(STATES))
+            engineer.commit([Put("A", 0, WRONG), Remove("LAMP", 1)])
+            viewer.until(lambda it: it.state("A") == it.state("PLANT") == "faulty" and it.state("LAMP") == "absent")
+            self.assertEqual([it[:3] for it in viewer.steps()], [("A", 0, 2), ("LAMP", 1, 0)])
+            engineer.commit([Put("LAMP", 0, self.texts["LAMP"])])
+            viewer.until(lambda it: it.state("LAMP") == it.state("PLANT") == "fine")
+            self.assertEqual(at.json("/unit", name="LAMP")["state"], "fine")
+
+    def test_networks_and_plans_follow(self) -> None:
+        port, engineer = self.plant()
+        at = self.start("--connect", f":{port}")
+        with at.viewer() as viewer:
+            viewer.settled(len(STATES))
+            net, plan = self.known(at, viewer, "/net", "PLANT"), self.known(at, viewer, "/plan", "PLANT")
+            self.change(engineer, "STATION", "LIFT : LIFTER;", "LIFT : LIFTER; SPARE : LIFTER;")
+            viewer.until(lambda it: it.answers["net", "PLANT"][0] > net["serial"] and it.answers["deploy", "PLANT"][0] > plan["serial"])
+            self.assertIn("LINE.FIRST.SPARE", [box[0] for box in at.json("/net", name="PLANT", aspect="1")["boxes"]])
+            # A port that nothing leads to is in no network, but in its picture.
+            serial = at.json("/net", name="PLANT", aspect="1")["serial"]
+            self.change(engineer, "LIFTER", "EVENT_INPUT STOP;", "EVENT_INPUT STOP; PAUSE;")
+            viewer.until(lambda it: it.answers["net", "PLANT"][0] > serial)
+            self.assertIn(["event", "PAUSE", ""], [row for rows in at.json("/net", name="PLANT", aspect="1")["rows"] for row in rows])
+            self.change(engineer, "PLANT", "LINE.PANEL ON", "LINE.LAMP ON")
+            viewer.until(lambda it: it.state("PLANT") == "noplan")
+            self.assertEqual(self.known(at, viewer, "/plan", "PLANT")["misplaced"], [["UNMAPPED", "LINE.PANEL"], ["NO_SUCH_BLOCK", "LINE.LAMP"]])
+
+    def test_no_recorded_calls(self) -> None:
+        port, engineer = self.plant()
+        before = engineer.status().calls
+        at = self.start("--connect", f":{port}")
+        with at.viewer() as viewer:
+            viewer.settled(len(STATES))
+            self.known(at, viewer, "/net", "PLANT")
+            self.known(at, viewer, "/plan", "PLANT")
+            for unit in STATES:
+                at.json("/unit", name=unit)
+                at.json("/net", name=unit, aspect="1")
+            viewer.until(lambda it: it.answers.get(("net", "ITEM"), (0, False))[1])
+        self.assertEqual(engineer.status().calls, before)
+
+    def test_more_units_than_one_page_of_them_and_a_short_history(self) -> None:
+        port = self.host("--units", "2000", "--history", "60")
+        engineer = self.engineer(port)
+        names = [f"U{at:04}" for at in range(1_100)]
+        at = self.start("--connect", f":{port}")
+        with at.viewer() as viewer:
+            for batch in batches(Put(name, 0, f"FUNCTION_BLOCK {name} END_FUNCTION_BLOCK") for name in names):
+                engineer.commit(batch)
+            engineer.commit([Remove(names[7], engineer.revisions[names[7]]), Put(names[8], engineer.revisions[names[8]], WRONG.replace("BLOCK A", f"BLOCK {names[8]}"))])
+            viewer.until(lambda it: len(it.units) == len(names) and it.states() == {"fine", "faulty", "absent"})
+        revisions = dict(engineer.units().units)
+        self.assertEqual({unit: it["revision"] for unit, it in viewer.units.items()}, {**revisions, names[7]: 0})
+        self.assertEqual([unit for unit, it in viewer.units.items() if it["state"] == "faulty"], [names[8]])
+
+    def test_a_host_that_is_started_again(self) -> None:
+        port = free_port()
+        with hosting("--port", str(port)):
+            with Session.connect("127.0.0.1", port) as engineer:
+                if engineer.status().workbench == "unknown":
+                    self.skipTest("this host tells no identity")
+                engineer.commit([Put("A", 0, WRONG), Put("B", 0, WRONG.replace("BLOCK A", "BLOCK B"))])
+            at = self.start("--connect", f":{port}")
+            with at.viewer() as viewer:
+                viewer.until(lambda it: it.state("A") == it.state("B") == "faulty")
+        with at.viewer() as viewer:
+            viewer.until(lambda it: it.ended)
+            self.assertRegex(viewer.ended, "; trying again$")
+            self.assertEqual(viewer.state("A"), "faulty")
+            with hosting("--port", str(port)), Session.connect("127.0.0.1", port) as engineer:
+                engineer.commit([Put("B", 0, "FUNCTION_BLOCK B END_FUNCTION_BLOCK")])
+                viewer.until(lambda it: not it.ended and it.state("A") == "absent" and it.state("B") == "fine")
+                self.assertEqual(self.pieces(at.json("/unit", name="B")), "FUNCTION_BLOCK B END_FUNCTION_BLOCK")
         said = [at.process.stderr.readline() for _ in range(2)]
-        self.assertRegex(said[0], "^board: the .*; trying again\n$")
-        self.assertEqual(said[1], "board: the workbench answers again\n")
+        self.assertRegex(said[0], "^board: .*; trying again\n$")
+
+    def test_options_that_are_not_needed(self) -> None:
+        port, _ = self.plant()
+        at = self.start("--connect", f":{port}", "--files", CONVEYOR, "--unit", "A")
+        with at.viewer() as viewer:
+            viewer.settled(len(STATES))
+        self.assertEqual(at.process.stderr.readline(), f"board: {NOT_NEEDED}\n")
+
+    def test_an_older_server(self) -> None:
+        with serving(1) as port:
+            at = self.start("--connect", f":{port}", "--unit", "A")
+            self.assertEqual(at.process.stderr.readline(), f"board: {NO_READS}\n")
+            with at.viewer() as viewer:
+                viewer.until(lambda it: it.state("A") == "absent")
+            self.assertFalse(viewer.about["reads"])
 
 
 class PlansTest(BoardTest):
@@ -485,8 +662,8 @@ class ChangesTest(unittest.TestCase):
         board.add(["A", "B"])
         for revisions in ({"A": 1, "B": 2}, {"A": 3}, {"B": 4}, {"A": 5}, {"A": 6}, {"A": 0}, {"A": 7}):
             board.seen(revisions)
-        told = [(it.number, it.unit, it.old, it.new, it.count, it.replaces) for it in board.news(0, 0).changes]
-        self.assertEqual(told, [(2, "B", 2, 4, 1, 0), (4, "A", 1, 6, 3, 3), (5, "A", 6, 0, 1, 0), (6, "A", 0, 7, 1, 0)])
+        told = [(it.steps, it.count) for it in board.news(0, 0).changes]
+        self.assertEqual(told, [((("B", 2, 4),), 1), ((("A", 1, 6),), 3), ((("A", 6, 0),), 1), ((("A", 0, 7),), 1)])
 
 
 class RefusalsTest(BoardTest):
@@ -536,7 +713,7 @@ class RefusalsTest(BoardTest):
         for path in (
             "/unit", "/unit?", "/unit?name", "/unit?name=", "/unit?name=A&name=B", "/unit?name=A&more=B", "/unit?other=A", "/unit?name=%ff", "/net", "/net?name=PLANT",
             "/net?name=PLANT&aspect=x", "/net?name=PLANT&aspect=nan", "/net?name=PLANT&aspect=0", "/net?name=PLANT&aspect=-1",
-            "/plan?", "/instance?name=A", "/events?change=x", "/events?change=-2", "/events?change=9007199254740992", "/events?other=1", "/?a=b",
+            "/plan?", "/instance?name=A", "/events?change=x", "/events?change=-1", "/events?change=9007199254740992", "/events?change=", f"/events?change={'9' * 5000}", "/events?other=1", "/?a=b",
             "/unit?" + "&".join(f"a{at}=1" for at in range(9)),
         ):
             self.assertEqual(at.request(path)[0], 400, path)
@@ -546,9 +723,8 @@ class RefusalsTest(BoardTest):
         at = self.conveyor()
         for method in ("PUT", "DELETE", "OPTIONS", "TRACE", "PATCH"):
             self.assertEqual(at.request("/", method)[0], 501, method)
-        token = self.token(at)
-        self.assertEqual(at.request("/look", "POST", b'{"unit":"A"}', X_Board_Token=token), (400, "this board has the units of its folder, and no others\n"))
-        host = f"Host: 127.0.0.1:{at.port}\r\n".encode()
+        self.assertEqual(at.request("/look", "POST", b'{"unit":"A"}'), (400, "this board has the units of its folder, and no others\n"))
+        host = f"Host: 127.0.0.1:{at.port}\r\nCookie: {at.cookie}\r\n".encode()
         for length in (b"", b"Content-Length: 1025\r\n", b"Content-Length: -1\r\n", b"Content-Length: x\r\n", b"Transfer-Encoding: chunked\r\n"):
             answer = at.raw(b"POST /look HTTP/1.1\r\n" + host + length + b"\r\n")
             self.assertIn(b" 400 ", answer.splitlines()[0], length)
@@ -568,10 +744,122 @@ class RefusalsTest(BoardTest):
         listening = [it[1] for it in sockets if it[1].endswith(f":{at.port:04X}") and it[3] == "0A"]
         self.assertEqual(listening, [f"0100007F:{at.port:04X}"])
 
-    def token(self, at: Address) -> str:
+
+class StrangersTest(BoardTest):
+    """Programs of other users of this machine, who reach the port and have not seen the board's address."""
+
+    def test_nothing_without_the_token(self) -> None:
+        at = self.conveyor()
+        name, token = at.cookie.split("=")
+        for cookie in ("", token, f"{name}={token[:-1]}", f"{name}={token}0", f"{name}=", f"other={token}", f"{name}=\xe9", f"x={name}={token}"):
+            for path in RefusalsTest.PATHS:
+                self.assertEqual(at.request(path, Cookie=cookie), (403, f"{NO_TOKEN}\n"), (cookie, path))
+            self.assertEqual(at.request("/look", "POST", b'{"unit":"B"}', Cookie=cookie)[0], 403)
+        for path in (f"/unit?name=LAMP&token={token}", f"/?token={token[:-1]}", "/?token=", f"/?token={token}&a=b", f"/?a=b&token={token}"):
+            self.assertEqual(at.request(path, Cookie="")[0], 403, path)
+        for cookie in (f"{name}={token}", f'a=b; {name}={token}; c="d', f"{name}=old; {name}={token}"):
+            self.assertEqual(at.request("/unit?name=LAMP", Cookie=cookie)[0], 200, cookie)
+
+    def test_the_token_gives_the_cookie(self) -> None:
+        at = self.conveyor()
+        connection = HTTPConnection("127.0.0.1", at.port, timeout=60)
+        connection.request("GET", f"/?token={at.token}")
+        answer = connection.getresponse()
+        page = answer.read().decode()
+        connection.close()
+        self.assertEqual((answer.status, answer.headers["Set-Cookie"]), (200, f"{at.cookie}; HttpOnly; SameSite=Strict; Path=/"))
+        self.assertNotIn(at.token, page)
         with at.viewer() as viewer:
             viewer.take()
-            return viewer.about["token"]
+        self.assertNotIn(at.token, str(viewer.about))
+
+    def test_silent_connections_shut_nobody_out(self) -> None:
+        at = self.conveyor()
+        with at.viewer() as viewer, ExitStack() as stack:
+            for _ in range(2 * CONNECTIONS):
+                stack.enter_context(socket.create_connection(("127.0.0.1", at.port)))
+            viewer.settled(len(STATES))
+            self.assertEqual(at.request("/")[0], 200)
+            self.assertLess(len(os.listdir(f"/proc/{at.process.pid}/fd")), CONNECTIONS + 32)
+            self.edit("LAMP.fb", "VAR_INPUT VALUE", "VAR_INPUT VALU")
+            viewer.until(lambda it: it.state("LAMP") == "faulty")
+
+    def test_more_viewers_than_there_is_room_for(self) -> None:
+        at = self.conveyor()
+        with ExitStack() as stack:
+            for _ in range(CONNECTIONS):
+                stack.enter_context(at.viewer())
+            self.assertEqual(at.request("/")[0], 503)
+        self.until(lambda: at.request("/")[0] == 200)
+
+    def test_no_descriptor_is_left(self) -> None:
+        """The board pauses between tries to accept, and goes on once there are descriptors again."""
+        self.copy_conveyor()
+        at = self.start(".")
+        pid = at.process.pid
+        self.until(lambda: (at.request("/unit?name=LAMP")[0] == 200))
+        open_files = len(os.listdir(f"/proc/{pid}/fd"))
+        soft, hard = resource.prlimit(pid, resource.RLIMIT_NOFILE)
+        resource.prlimit(pid, resource.RLIMIT_NOFILE, (open_files, hard))
+        with socket.create_connection(("127.0.0.1", at.port)):
+            before, begun = self.processor(pid), time.monotonic()
+            time.sleep(1)
+            spent = (self.processor(pid) - before) / (time.monotonic() - begun)
+        self.assertLess(spent, 0.5)
+        resource.prlimit(pid, resource.RLIMIT_NOFILE, (soft, hard))
+        self.until(lambda: at.request("/")[0] == 200)
+
+    def test_names_that_no_unit_has(self) -> None:
+        at = self.conveyor()
+        with at.viewer() as viewer:
+            viewer.settled(len(STATES))
+            for name in ("1", "A-B", "%C3%A4", "A" * 65, "A.B", "%00"):
+                for path in (f"/unit?name={name}", f"/net?name={name}&aspect=1", f"/plan?name={name}", f"/instance?name={name}&path=A"):
+                    self.assertEqual(at.request(path), (400, f"{NO_NAME}\n"), path)
+            self.edit("LAMP.fb", "VAR_INPUT VALUE", "VAR_INPUT VALU")
+            viewer.until(lambda it: it.state("LAMP") == "faulty")
+        self.assertEqual(viewer.ended, "")
+
+    @staticmethod
+    def processor(pid: int) -> float:
+        """Seconds of processor time that a process has had."""
+        fields = Path(f"/proc/{pid}/stat").read_text(encoding="ascii").rpartition(")")[2].split()
+        return (int(fields[11]) + int(fields[12])) / os.sysconf("SC_CLK_TCK")
+
+    def until(self, condition: Callable[[], object]) -> None:
+        end = time.monotonic() + PATIENCE
+        while not condition():
+            self.assertLess(time.monotonic(), end)
+            time.sleep(0.05)
+
+
+class WishesTest(unittest.TestCase):
+    """What is asked of a workbench for those that look on."""
+
+    def test_the_last_ones_are_kept(self) -> None:
+        board = Board("some", shared=True)
+        wishes: list[Key] = [("net", f"U{at}") for at in range(100)]
+        with board.viewer():
+            for wish in wishes:
+                board.wish(wish)
+            board.wish(wishes[40])
+            board.wish(wishes[0])
+            self.assertEqual(board.open_wishes(), [*wishes[37:40], *wishes[41:], wishes[40], wishes[0]])
+            board.answered(wishes[1], NoEntry())
+            self.assertNotIn(wishes[1], board.wishes())
+        self.assertEqual((WISHES_KEPT, board.wishes()), (64, []))
+
+    def test_a_refusal_is_an_answer(self) -> None:
+        board = Board("some", shared=False)
+        with answering(GREETING, b'{"refused":"BadName"}\n', b'{"net":"too_large"}\n') as port, Session.connect("127.0.0.1", port) as session:
+            asking = Asking(board, session)
+            with board.viewer():
+                board.wish(("net", "A"))
+                board.wish(("net", "B"))
+                self.assertTrue(asking.ask_wishes())
+                views = [net_view(board, unit, board.wish(("net", unit)), board.wish(("deploy", unit)), 1.0) for unit in "AB"]
+        self.assertEqual((views[0]["state"], views[0]["why"][:33]), ("refused", "a name is a letter or _, then let"))
+        self.assertEqual(views[1]["state"], "too_large")
 
 
 class ViewersTest(BoardTest):
@@ -600,14 +888,16 @@ class ViewersTest(BoardTest):
         at = self.conveyor()
         with at.viewer() as viewer:
             viewer.settled(len(STATES))
-            last = viewer.about["last"]
+            self.edit("FEEDER.fb", "DONE TO IDLE", "DONE TO IDLE (* again *)")
+            viewer.until(lambda it: it.changes)
+            last = viewer.changes[0]["number"]
         self.edit("LAMP.fb", "VAR_INPUT VALUE", "VAR_INPUT VALU")
         with at.viewer() as other:
             other.until(lambda it: it.state("LAMP") == "faulty")
         with at.viewer(f"?change={last}") as back, at.viewer() as new:
             back.settled(len(STATES))
             new.settled(len(STATES))
-        self.assertEqual(([it["unit"] for it in back.changes], new.changes), (["LAMP"], []))
+        self.assertEqual([[it[0] for it in viewer.steps()] for viewer in (back, new)], [["LAMP"], ["FEEDER", "LAMP"]])
 
     def test_texts_are_no_markup(self) -> None:
         self.write("A.fb", MARKUP)
@@ -628,7 +918,7 @@ class ViewersTest(BoardTest):
 
     def header(self, at: Address, path: str, name: str) -> str:
         connection = HTTPConnection("127.0.0.1", at.port, timeout=60)
-        connection.request("GET", path)
+        connection.request("GET", path, headers={"Cookie": at.cookie})
         value = connection.getresponse().headers[name]
         connection.close()
         return value

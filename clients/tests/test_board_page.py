@@ -8,10 +8,11 @@ from pathlib import Path
 
 from boards import Address
 from browser import Browser
-from support import CONVEYOR, serving
+from support import CONVEYOR, hosting, serving
 from test_board import MARKUP, STATES, BoardTest
 
 from bench61499 import Put, Session
+from bench61499.board.server import NO_TOKEN
 
 SETTLED = "board.connected && count().pending === 0 && board.units.size === "
 PICTURE = os.environ.get("BENCH61499_BOARD_PICTURE")
@@ -82,14 +83,14 @@ class UnitsTest(PageTest):
         self.browser.until("!document.querySelector('mark') && document.querySelector('.text')")
         self.until_said("FEEDER: no faults")
         lines = self.browser.value("[...document.querySelectorAll('#changes li')].map((it) => it.innerText.replace(/\\n+\\S+, /, ' '))")
-        self.assertEqual(lines, ["FEEDER revision 1 → 3, 2 changes FEEDER.fb"])
+        self.assertRegex("".join(lines), r"^FEEDER revision 1 → \d, \d changes FEEDER.fb$")  # A file may be read while it is written.
 
     def test_a_system_without_a_plan(self) -> None:
         self.see_conveyor("#PLANT/text")
         self.edit("PLANT.fb", "LINE.PANEL ON", "LINE.LAMP ON")
         self.until_words("#counts", "1 system without a plan")
         self.assertEqual(self.words("#unit-state"), "no plan")
-        self.browser.value("document.querySelector('[data-filter=faulty]').click()")
+        self.browser.value("document.querySelector('[data-filter=noplan]').click()")
         self.assertEqual(self.words("#units .row").split(), ["PLANT", ",", "no", "plan,", "no", "plan"])
         self.browser.press("f")
         self.until_words(".said", "no mapping gives LINE.PANEL a resource")
@@ -117,9 +118,60 @@ class UnitsTest(PageTest):
         self.assertEqual(self.words("#units"), "No unit is like that.")
         self.browser.press("Escape")
         self.edit("FEEDER.fb", "DONE TO IDLE", "DONE TO IDEL")
-        self.browser.until("count().faulty === 2")
-        self.browser.value("document.querySelector('[data-filter=faulty]').click()")
-        self.assertEqual(self.browser.value(rows), ["FEEDER", "PLANT"])
+        self.browser.until("count().faulty === 1 && count().noplan === 1")
+        for name, words, listed in (("faulty", "Faults 1", ["FEEDER"]), ("noplan", "No plan 1", ["PLANT"])):
+            self.browser.value(f"document.querySelector('[data-filter={name}]').click()")
+            self.assertEqual((self.browser.value(rows), self.words(f"[data-filter={name}]")), (listed, words))
+
+    def test_enter_opens_the_first_match(self) -> None:
+        self.see_conveyor()
+        self.browser.press("/", *"lift", "Enter")
+        self.until_words(".text", "FUNCTION_BLOCK LIFTER")
+        self.assertEqual(self.words("#unit"), "LIFTER")
+
+    def test_it_opens_on_the_plant(self) -> None:
+        """The systems with their plans and the units with faults, kept up to date; each leads to what it is of."""
+        self.see_conveyor()
+        table = "[...document.querySelectorAll('.plant tbody tr')].map((it) => [...it.children].map((cell) => cell.innerText).join(' | '))"
+        self.browser.until(f"{table}.length")
+        self.assertEqual(self.browser.value(table), ["PLANT | none | 3 resources, 4 cut links"])
+        self.edit("FEEDER.fb", "DONE TO IDLE", "DONE TO IDEL")
+        self.browser.until(f"{table}.length === 2 && count().pending === 0")
+        self.assertEqual(self.browser.value(table), ["PLANT | none | no plan: 1 unit missing or with faults", "FEEDER | block | 1 fault"])
+        self.browser.value("[...document.querySelectorAll('.plant .link')].at(-1).click()")
+        self.until_words("mark", "IDEL")
+        self.browser.press("o")
+        self.browser.until(f"{table}.length === 2")
+        self.browser.value("document.querySelector('.plant .link').click()")
+        self.until_words(".said", "With faults: FEEDER")
+
+    def test_units_that_can_have_no_plan(self) -> None:
+        self.copy_conveyor()
+        self.write("BROKEN.fb", "SYSTEM BROKEN (")
+        at = self.start(".")
+        self.see(at, len(STATES) + 1)
+        for place, words in [
+            ("FEEDER/plan", "A block has no plan."), ("STATION/plan", "A subapplication has no plan."), ("HANDOVER/network", "An adapter has no network."),
+            ("ITEM/plan", "A structure has no plan."), ("BROKEN/network", "The text of BROKEN has a SYNTAX fault, so it has no network."),
+        ]:
+            self.browser.value(f"location.hash = '#{place}'")
+            self.until_words(".said", words)
+
+    def test_a_narrow_window(self) -> None:
+        """Nothing is wider than it."""
+        self.copy_conveyor()
+        self.edit("FEEDER.fb", "DONE TO IDLE", "DONE TO IDEL")
+        at = self.start(".")
+        self.browser.devtools("Emulation.setDeviceMetricsOverride", width=390, height=844, deviceScaleFactor=1, mobile=False)
+        self.see(at, len(STATES))
+        for place, there in (("", ".plant tbody"), ("FEEDER/text", ".faults"), ("PLANT/plan", ".said"), ("STATION/text", ".text")):
+            self.browser.value(f"location.hash = '#{place}'")
+            self.browser.until(f"document.querySelector('{there}')")
+            self.assertEqual(self.browser.value("document.documentElement.scrollWidth"), 390, place)
+        self.edit("FEEDER.fb", "DONE TO IDEL", "DONE TO IDLE")
+        self.browser.value("location.hash = '#PLANT/network'")
+        self.browser.until("network?.canvas.isConnected && network.scale > 0")
+        self.assertEqual(self.browser.value("document.documentElement.scrollWidth"), 390)
 
     def test_texts_are_no_markup(self) -> None:
         self.write("A.fb", MARKUP)
@@ -158,6 +210,24 @@ class UnitsTest(PageTest):
         self.assertIn("FUNCTION_BLOCK LAMP", self.words(".text"))
         self.browser.log()  # The browser notes that nobody answers.
 
+    def test_the_token_lets_in(self) -> None:
+        at = self.see_conveyor("#LAMP/text")
+        self.assertEqual(self.browser.value("location.href"), f"http://127.0.0.1:{at.port}/#LAMP/text")
+        self.browser.value("location.reload()")
+        self.browser.until(f"{SETTLED}{len(STATES)}")
+        self.assertEqual(self.browser.value("document.cookie"), "")
+
+    def test_a_page_of_a_board_that_was_started_again(self) -> None:
+        at = self.see_conveyor()
+        at.process.terminate()
+        at.process.wait(30)
+        again = self.start(".", "--port", at.port)
+        self.until_words("#ended", f"The board says: {NO_TOKEN}.")
+        self.browser.log()  # The browser notes what was refused.
+        self.browser.open(again.url)
+        self.browser.until(f"{SETTLED}{len(STATES)}")
+        self.assertEqual(self.words("#ended"), "")
+
     def test_places_that_are_not_there(self) -> None:
         self.see_conveyor("#%ff/text")
         self.until_words(".said", "The board has no unit %ff.")
@@ -180,7 +250,29 @@ class UnitsTest(PageTest):
             self.assertEqual(self.words(".faults").split("\n"), ["39–40", "WITH_UNKNOWN", "bytes of a text that is not here"])
             self.assertIn("so its text can't be shown", self.words("#note"))
             self.assertRegex(self.words("#changes-note"), r"This board has made \d+ recorded calls\.$")
-            self.assertRegex(self.words("#changes"), r"^LAMP new, revision 1\n\d\d:\d\d:\d\d, another session$")
+            self.until_words("#changes", "LAMP WITH_UNKNOWN")
+            self.assertRegex(self.words("#changes"), r"^LAMP new, revision 1\n\d\d:\d\d:\d\d, another session\ncame\n")
+
+    def test_a_host_that_gives_its_texts(self) -> None:
+        """A colleague's commit: the fault at its place in the text, and in the feed who brought it, and who mended it."""
+        texts = {file.stem: file.read_text() for file in CONVEYOR.glob("*.fb")}
+        with hosting() as port, Session.connect("127.0.0.1", port) as engineer:
+            engineer.commit([Put(unit, 0, text) for unit, text in texts.items()])
+            at = self.start("--connect", f":{port}")
+            self.see(at, len(STATES), "#FEEDER/text")
+            self.browser.until("document.querySelector('.text')")
+            self.assertTrue(self.browser.value("$('look').hidden && $('note').hidden && $('ended').hidden"))
+            wrong = texts["FEEDER"].replace("DONE TO IDLE", "DONE TO IDEL")
+            engineer.commit([Put("FEEDER", 1, wrong)])
+            self.until_words("mark", "IDEL")
+            self.until_words("#changes", "PLANT no plan")
+            who = f"session {engineer.status().session}"
+            self.assertRegex(self.words("#changes"), rf"^FEEDER revision 1 → 2\n[\d:]*, {who}, commit 2\ncame\n\+ FEEDER STATE_UNKNOWN IDEL\ncame\n\+ PLANT no plan$")
+            engineer.commit([Put("FEEDER", 2, texts["FEEDER"]), Put("LAMP", 1, f"{texts['LAMP']} ")])
+            self.browser.until("document.querySelectorAll('#changes li')[1]?.querySelectorAll('.came').length === 2 && document.querySelectorAll('#changes .went').length === 2")
+            self.assertRegex(self.words("#changes li"), rf"^FEEDER revision 2 → 3\nLAMP revision 1 → 3\n[\d:]*, {who}, commit 3\nwent\n− ")
+            spoken = self.browser.value("[...board.changes.values()].map(spokenWords)")
+            self.assertEqual(spoken, [f"FEEDER revision 1 → 2, {who}, commit 2", f"2 units changed, {who}, commit 3"])
 
     def test_a_page_that_is_not_seen_rests(self) -> None:
         self.see_conveyor()
@@ -190,7 +282,8 @@ class UnitsTest(PageTest):
         self.edit("LAMP.fb", "SHOW WITH VALUE", "SHOW WITH VALUES")
         self.browser.value(hide % "false")
         self.browser.until("board.units.get('LAMP').state === 'faulty'")
-        self.assertRegex(self.words("#changes"), "^LAMP revision 1 → 2")
+        self.until_words("#changes", "LAMP WITH_UNKNOWN VALUES")
+        self.assertRegex(self.words("#changes"), "^LAMP revision 1 → ")
 
 
 class NetworkTest(PageTest):
@@ -222,6 +315,16 @@ class NetworkTest(PageTest):
         self.browser.value("document.querySelector('.block .link').click()")
         self.browser.until("document.querySelector('.text')")
         self.assertEqual(self.words("#unit"), "LIFTER")
+
+    def test_a_chosen_block_is_seen_in_the_list(self) -> None:
+        """Also where what is told of it takes the room in which it was."""
+        self.browser.devtools("Emulation.setDeviceMetricsOverride", width=1280, height=420, deviceScaleFactor=1, mobile=False)
+        self.see_network()
+        self.browser.value("network.choose(network.blocks.find((it) => it.path === 'LINE.PANEL'), false)")
+        row, room = (self.browser.value(f"[{it}.getBoundingClientRect().top, {it}.getBoundingClientRect().bottom]")
+                     for it in ("document.querySelector('#blocks .row[aria-selected=true]')", "document.getElementById('blocks')"))
+        self.assertLess(room[1] - room[0], 5 * 30)
+        self.assertTrue(room[0] <= row[0] and row[1] <= room[1] + 1, (row, room))
 
     def test_search_zoom_and_move(self) -> None:
         self.see_network()
@@ -284,7 +387,7 @@ class NetworkTest(PageTest):
           return [found.map(([words]) => words), Math.max(...found.map(([, right]) => right)) <= network.window.right];
         })()"""
         words, is_inside = self.browser.value(painted)
-        self.assertEqual(sorted(words), ["BELT", "BELT", "LIFT", "LIFT", "NORTH.MOTION", "PANEL", "SOUTH.MOTION", "SOUTH.SCREEN"])
+        self.assertEqual(sorted(words), ["FIRST.BELT", "FIRST.LIFT", "NORTH.MOTION", "PANEL", "SECOND.BELT", "SECOND.LIFT", "SOUTH.MOTION", "SOUTH.SCREEN"])
         self.assertTrue(is_inside)
 
     def test_it_follows_changes(self) -> None:
@@ -426,12 +529,12 @@ class PictureTest(PageTest):
         self.write("plant/PUSHER.fb", "FUNCTION_BLOCK PUSHER\n  EVENT_INPUT PUSH WITH FORCE; END_EVENT\nEND_FUNCTION_BLOCK\n")
         self.browser.until("board.units.get('PUSHER')?.state === 'faulty'")
         self.edit("plant/FEEDER.fb", "LOAD > 0 AND", "LOAD > 1 AND")
-        self.browser.until("board.changes.length === 2 && count().pending === 0 && network?.canvas.isConnected && network.scale > 0")
+        self.browser.until("board.changes.size === 2 && count().pending === 0 && network?.canvas.isConnected && network.scale > 0")
         self.browser.value("network.choose(network.blocks.find((it) => it.path === 'LINE.SECOND.LIFT'), false)")
         self.browser.until("document.querySelector('.block h3') && !network.planned && document.getElementById('note').hidden")
         self.assertEqual(self.words(".block h3"), "LINE.SECOND.LIFT")
         self.assertEqual(self.words("#counts").split(), "8 units 1 fault in 1 unit 0 pending".split())
-        self.assertEqual(self.browser.value("board.changes.map((it) => `${it.unit} ${it.old} ${it.new}`)"), ["PUSHER 0 2", "FEEDER 1 3"])
+        self.assertEqual(self.browser.value("[...board.changes.values()].map((it) => it.steps.join())"), ["PUSHER,0,2", "FEEDER,1,3"])
         if PICTURE:
             for scheme, file in (("light", Path(PICTURE)), ("dark", Path(PICTURE).with_stem(f"{Path(PICTURE).stem}-dark"))):
                 self.browser.colours(scheme)

@@ -45,6 +45,12 @@ class HooksTest(ServerTest):
         words = {it["id"]: [str(TOP / it["entry"]), *it.get("args", []), *(changed if it.get("pass_filenames", True) else [])] for it in hooks}
         return {name: self.run_words(*its) for name, its in words.items()}
 
+    def test_the_example_takes_hooks_that_are_there(self) -> None:
+        (example,) = yaml.safe_load((TOP / "examples" / "pre-commit-config.yaml").read_text())["repos"]
+        there = {it["id"] for it in yaml.safe_load((TOP / ".pre-commit-hooks.yaml").read_text())}
+        self.assertEqual({it["id"] for it in example["hooks"]}, there)
+        self.assertEqual(set(example), {"repo", "rev", "hooks"})
+
     def test_a_sound_plant(self) -> None:
         self.assertEqual(self.run_hooks(), {"bench61499-check": (0, "7 units, no faults\nnetworks of subapplications: 1 of 1, plans of systems: 1 of 1\n"), "bench61499-format": (0, "")})
 

@@ -92,7 +92,7 @@ class PictureTest(DrawTest):
 
     def test_a_workbench_that_others_use_is_only_asked(self):
         """The picture has the workbench's network, and the ports of the files."""
-        with hosting() as port, Session.connect("127.0.0.1", port) as other:
+        with serving(6) as port, Session.connect("127.0.0.1", port) as other:
 
             def draw(*words):
                 return run("draw", "STATION", "--files", ".", "--connect", f":{port}", *words, folder=self.folder)
@@ -108,6 +108,27 @@ class PictureTest(DrawTest):
             ran = draw()
             self.assertEqual((ran.returncode, ran.stdout, ran.stderr), (0, before, f"{ONLY_ASKED}\n"))
             self.assertIn('"HOIST"', draw("--replace").stdout)
+
+    def test_the_texts_of_a_host(self):
+        """The picture is the one of the files, without them too; other files are refused."""
+        with hosting() as port, Session.connect("127.0.0.1", port) as other:
+            before = run("draw", "STATION", "--files", ".", "--connect", f":{port}", "--replace", folder=self.folder).stdout
+            calls = other.status().calls
+            self.assertEqual(before, self.draw("STATION").stdout)
+            self.assertEqual(run("draw", "STATION", "--connect", f":{port}").stdout, before)
+            self.assertEqual(run("draw", "FEEDER", "--connect", f":{port}").stderr, "draw: FEEDER is a function block; only subapplications and systems have networks\n")
+            self.edit("STATION.fb", "SUBAPPLICATION", "(* mine *) SUBAPPLICATION")
+            ran = run("draw", "STATION", "--files", ".", "--connect", f":{port}", folder=self.folder)
+            self.assertEqual((ran.returncode, ran.stdout, ran.stderr), (2, "", "draw: the workbench has other texts than the files: differs: STATION\n"))
+            self.assertEqual(other.status().calls, calls)
+
+    def test_graphviz_has_limits_for_more_than_200_blocks(self):
+        self.write("T.fb", "FUNCTION_BLOCK T END_FUNCTION_BLOCK")
+        for count, limited in ((200, False), (201, True)):
+            blocks = " ".join(f"B{at} : T;" for at in range(count))
+            self.write("S.fb", f"SUBAPPLICATION S FBS {blocks} END_FBS END_SUBAPPLICATION")
+            drawn = self.draw("S").stdout
+            self.assertEqual((drawn.count("<TABLE"), "nslimit=" in drawn), (count, limited))
 
     @unittest.skipUnless(shutil.which("dot"), "there is no Graphviz here")
     def test_svg(self):

@@ -5,9 +5,9 @@ import subprocess
 import unittest
 
 from exchanging import ExchangeTest
-from support import hosting, run, workbench
+from support import hosting, run, serving, workbench
 
-from bench61499 import Session
+from bench61499 import Put, Session
 from bench61499.cli.looking import ONLY_ASKED
 
 MAKER = """\
@@ -130,7 +130,7 @@ class BootTest(ExchangeTest):
         way = "still to be joined: D1.R1 -> D1.R2:"
         self.assertEqual(ran.stdout.splitlines(), [
             "device D1: its parameter MGR_ID is not written",
-            f"{way} event M.Done -> T.Start with data M.Rest -> U.B, data M.Total -> T.A: PUBLISH_2 and SUBSCRIBE_2",
+            f"{way} event M.Done -> T.Start with data M.Rest -> U.B, M.Total -> T.A: PUBLISH_2 and SUBSCRIBE_2",
             f"{way} event M.Next.Over -> T.Before.Over with data M.Next.Piece -> T.Before.Piece: PUBLISH_1 and SUBSCRIBE_1",
             f"{way} event M.Quiet -> U.Start: PUBLISH_0 and SUBSCRIBE_0",
             "still to be joined: D1.R2 -> D1.R1: event T.Before.Back -> M.Next.Back: PUBLISH_0 and SUBSCRIBE_0",
@@ -183,7 +183,7 @@ class BootTest(ExchangeTest):
     def test_a_workbench_that_others_use_is_only_asked(self) -> None:
         given = system("APPLICATION App FBS X : Maker; END_FBS END_APPLICATION", "App ON D1.R1;")
         self.write("lib/Cell.fb", given)
-        with hosting() as port, Session.connect("127.0.0.1", port) as other:
+        with serving(9) as port, Session.connect("127.0.0.1", port) as other:
 
             def boot() -> tuple[int, str]:
                 ran = run("exchange", "boot", "cell", "--files", "lib", "--to", "boot", "--connect", f":{port}", folder=self.folder)
@@ -193,11 +193,28 @@ class BootTest(ExchangeTest):
             self.assertEqual(other.revision("CELL"), 0)
             self.assertEqual(run("check", "lib", "--connect", f":{port}", "--replace", folder=self.folder).returncode, 0)
             self.assertEqual(boot(), (0, f"{ONLY_ASKED}\n"))
-            for text in given.replace("X :", "Y :"), given.replace("Maker", "Taker"), given.replace("D2 : PC", "D2 : PC RESOURCE R : E END_RESOURCE"), "SYSTEM Cell":
+            for text in given.replace("X :", "Y :"), given.replace("X : Maker", "X : Maker(N := 5)"), given.replace("Maker", "Taker"), given.replace("D2 : PC", "D2 : PC RESOURCE R : E END_RESOURCE"), "SYSTEM Cell":
                 self.write("lib/Cell.fb", text)
                 status, told = boot()
                 self.assertEqual(status, 2)
                 self.assertRegex(told, f"\\A{ONLY_ASKED}\nexchange: the workbench has another text of (Cell|CELL) than these files, or of a subapplication there\n\\Z")
+
+    def test_files_are_compared_with_the_texts_of_a_host(self) -> None:
+        """Boot files with the constants of somebody else are never made."""
+        given = system("APPLICATION App FBS X : Maker; END_FBS END_APPLICATION", "App ON D1.R1;")
+        self.write("lib/Cell.fb", given)
+        with hosting() as port, Session.connect("127.0.0.1", port) as other:
+
+            def boot() -> tuple[int, str]:
+                ran = run("exchange", "boot", "cell", "--files", "lib", "--to", "boot", "--connect", f":{port}", folder=self.folder)
+                return ran.returncode, ran.stderr
+
+            self.assertEqual(run("check", "lib", "--connect", f":{port}", "--replace", folder=self.folder).returncode, 0)
+            other.commit([Put("CELL", other.text("CELL").revision, given.replace("X : Maker", "X : Maker(N := 5)"))])
+            self.assertEqual(boot(), (2, "exchange: the workbench has other texts than the files: differs: CELL\n"))
+            self.assertFalse((self.folder / "boot").exists())
+            other.commit([Put("CELL", other.text("CELL").revision, given)])
+            self.assertEqual(boot(), (0, ""))
 
     def test_names_of_files(self) -> None:
         text = MAKER.replace("Maker", "Gr__e_A8ACB5EB").replace("Go;", "Go_1_312D9A67;")

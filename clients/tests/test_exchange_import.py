@@ -85,8 +85,10 @@ class ImportTest(ExchangeTest):
             with at(self.folder):
                 ran = imported(["X.dev"], self.lib)
             self.assertEqual((ran.lines[0], ran.status, self.lib.exists()), (f"X.dev:1: left out: {words}", 1, False))
-        self.write("X.dtp", '<DataType Name="COLOR"><EnumeratedType/></DataType>')
-        self.assertIn("left out: the data type COLOR: it is no structure, and no other has a unit", imported([self.folder / "X.dtp"], self.lib).lines[0])
+        for kind in ("EnumeratedType", "SubrangeType", "ArrayType", "DirectlyDerivedType"):
+            self.write("X.dtp", f'<DataType Name="COLOR"><VersionInfo Version="1.0"/><{kind}/></DataType>')
+            told = imported([self.folder / "X.dtp"], self.lib).lines[0]
+            self.assertIn(f"left out: the data type COLOR: it is no structure, and no other has a unit ({kind})", told)
 
     def test_same_words_are_told_once_for_a_file(self) -> None:
         lines, _ = self.block("", "\n".join(f'<Plugs ID="{number}"/>' for number in range(3)))
@@ -135,6 +137,34 @@ class ImportTest(ExchangeTest):
         self.assertIn("S TO S := E [X]; (* own\nwhy\nso *)", text)
         self.assertEqual(lines, [f"1 file, 1 unit in {self.lib}: all whole"])
 
+    def test_ends_without_a_name(self) -> None:
+        ends = "".join(f'<Connection Source="{source}" Destination="{destination}"/>\n' for source, destination in (("A.", "A.I"), (".O", "A.I"), ("A.O", "B.")))
+        lines, text = self.block(f'<FBNetwork><FB Name="A" Type="T"/><EventConnections>\n{ends}</EventConnections></FBNetwork>')
+        self.assertEqual(lines[:-1], [
+            "X.fbt:4: replaced: a name that is not there, by A.NO_NAME",
+            "X.fbt:5: replaced: a name that is not there, by NO_NAME.O",
+            "X.fbt:6: replaced: a name that is not there, by B.NO_NAME",
+        ])
+        for end in ("A.NO_NAME TO A.I;", "NO_NAME.O TO A.I;", "A.O TO B.NO_NAME;"):
+            self.assertIn(end, text)
+
+    def test_a_guard_behind_an_event_of_an_adapter(self) -> None:
+        """Whether it is `P.RQ [B OR S.V]` or `[(P.RQ & B) OR S.V]` is as open as after an own event, be the adapter's type known or not."""
+        given = '<InputVars><VarDeclaration Name="B" Type="BOOL"/></InputVars><Plugs><AdapterDeclaration Name="P" Type="{0}"/><AdapterDeclaration Name="S" Type="{0}"/></Plugs>'
+        self.write("Known.adp", '<AdapterType Name="Known"><InterfaceList><EventInputs><Event Name="RQ"/></EventInputs>'
+                   '<InputVars><VarDeclaration Name="V" Type="BOOL"/></InputVars></InterfaceList></AdapterType>')
+        for words, expected in (
+            ("P.RQ &amp; B OR S.V", "NO_CONDITION"), ("P.RQ AND B XOR S.V", "NO_CONDITION"), ("P.RQ &amp; (B OR S.V)", "P.RQ & (B OR S.V)"), ("P.RQ &amp; B", "P.RQ & B"),
+        ):
+            for type_ in ("Known", "Nowhere"):
+                chart = f'<BasicFB><ECC><ECState Name="A"/><ECTransition Source="A" Destination="A" Condition="{words}"/></ECC></BasicFB>'
+                self.write("F.fbt", f'<FBType Name="F"><InterfaceList>{given.format(type_)}</InterfaceList>{chart}</FBType>')
+                with at(self.folder):
+                    ran = imported(["F.fbt", "Known.adp"], self.lib, replace=True)
+                self.assertIn(f"A TO A := {expected};", texts(self.lib)["F.fb"])
+                told = f"the condition {words.replace('&amp;', '&')} by NO_CONDITION: it is none of this language"
+                self.assertEqual(ran.lines[:-1], [f"F.fbt:1: replaced: {told}"] if expected == "NO_CONDITION" else [])
+
     def test_events_of_adapters_whose_type_is_known(self) -> None:
         self.write("P.adp", '<AdapterType Name="P"><InterfaceList><EventOutputs><Event Name="Q"/></EventOutputs>'
                    '<OutputVars><VarDeclaration Name="V" Type="BOOL"/></OutputVars></InterfaceList></AdapterType>')
@@ -182,7 +212,8 @@ class ImportTest(ExchangeTest):
             "7: left out: the connection B.O -> A.I of the resource D.R",
             "8: left out: the connection start.warm -> B.I of the resource D.R; boot takes it as --warm L.B.I",
             "9: left out: the connection START.COLD -> Pub.INIT of the resource D.R",
-            "9: replaced: a name that is not there, by NO_NAME, 2 times",
+            "9: replaced: a name that is not there, by NO_NAME",
+            "9: replaced: a name that is not there, by D.NO_NAME",
         ]
         self.assertEqual(_[:-1], [f"X.sys:{it}" for it in told])
 

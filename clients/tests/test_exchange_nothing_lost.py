@@ -7,6 +7,7 @@ import shutil
 import unittest
 from collections.abc import Iterator
 from pathlib import Path
+from tempfile import TemporaryDirectory
 
 from exchanging import ExchangeTest, Ran, Sample, at, faults, imported, samples, texts
 
@@ -17,6 +18,14 @@ from bench61499.exchange.xmlfile import ENDINGS, Element, read_xml
 ELEMENT = re.compile(r"<[A-Za-z][^>]*>")
 ATTRIBUTE = re.compile(r'(\s)([\w:]+)="([^"]*)"')
 WORDS = re.compile(r"<!\[CDATA\[(.*?)\]\]>|(?<=>)([^<>]*\S[^<>]*)(?=</)", re.DOTALL)
+TAG = re.compile(r'<([A-Za-z]\w*)((?:[^>"]|"[^"]*")*?)(/?)>')
+ODD = (
+    """<FBType Name="F"><CompilerInfo><Linker Name="L"/></CompilerInfo><InterfaceList/><BasicFB><Method Name="M"><InputVars><VarDeclaration Name="V" Type="INT"/>
+    </InputVars><ST>M := 1;</ST></Method></BasicFB><Service LeftInterface="A" RightInterface="B"><ServiceSequence Name="1"><ServiceTransaction>
+    <InputPrimitive Interface="A" Event="E"/></ServiceTransaction></ServiceSequence></Service></FBType>""",
+    '<DataType Name="F"><EnumeratedType><EnumeratedValue Name="RED"/></EnumeratedType></DataType>',
+    '<DataType Name="F"><StructuredType><VarDeclaration Name="V" Type="INT"/></StructuredType></DataType>',
+)
 PART = re.compile(r"left out: (element|attribute \S+ =|the (segment|link|block|subapplication|connection|service sequence|algorithm|data type|group) )")
 MARK = "Zq{}x"
 NASTY = (
@@ -99,6 +108,25 @@ class LostTest(ExchangeTest):
                 mark = MARK.format(each)
                 kept = self.is_kept(mark, ran) or self.is_in_a_part_that_is_left_out(file, ran, mark)
                 self.assertTrue(kept, (file.name, mark, marked))
+
+    def test_words_and_elements_in_any_element_are_told(self) -> None:
+        """Also where the element around them is left out as a whole."""
+        odd = TemporaryDirectory()
+        self.addCleanup(odd.cleanup)
+        files = [Path(odd.name, str(number), "F.fbt") for number in range(len(ODD))]
+        for file, text in zip(files, ODD):
+            file.parent.mkdir()
+            file.write_text(text)
+        for file, text in (*different(), *zip(files, ODD)):
+            for number, tag in enumerate(TAG.finditer(text)):
+                for words in (f"<{MARK.format(number)}/>", MARK.format(number)):
+                    self.check_in_element(file, text, tag, words)
+
+    def check_in_element(self, file: Path, text: str, tag: re.Match[str], words: str) -> None:
+        end = f"</{tag[1]}>" if tag[3] else ""
+        ran = self.changed(file, f"{text[: tag.start()]}<{tag[1]}{tag[2]}>{words}{end}{text[tag.end() :]}")
+        is_body = tag[1] in ("ST", "Other") and any("its body can't stand in a text" in it for it in ran.lines)
+        self.assertTrue(is_body or self.is_kept(words.strip("</>"), ran), (file.name, tag[0], words, ran.lines))
 
     def test_whatever_is_in_a_file_the_texts_are_whole(self) -> None:
         rng = random.Random(61499)

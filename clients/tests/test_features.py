@@ -1,14 +1,24 @@
 """lsp: what it answers about the conveyor, as an editor asks and reads it."""
 from __future__ import annotations
 
+import random
 import unittest
+from collections import Counter
 from pathlib import Path
 
 from editing import Editor, LspTest
+from generated import so_many, sound_libraries
+from hall import hall
+from support import TestCase, workbench
 
-from bench61499 import Places
+from bench61499 import Places, Put, Session, batches
 from bench61499.language.declarations import PARTS
+from bench61499.language.grammar import first_stop
+from bench61499.language.plant import Plant
 from bench61499.language.positions import edited, place, position
+from bench61499.language.tokens import Token, tokens
+from bench61499.lsp.fixes import fixes
+from bench61499.lsp.lenses import homes_of
 
 
 GAUGES = """\
@@ -75,9 +85,87 @@ class ConveyorTest(LspTest):
         return answer["error"]["message"]
 
 
+class SignatureTest(ConveyorTest):
+    """The parameters of an instance while they are written."""
+
+    def signature(self, written: str) -> tuple[str, str] | None:
+        """The signature behind these words, in place of the parameters of BELT, and the parameter that comes now."""
+        file = self.file("STATION")
+        text = file.read_text()
+        front = text[: text.index("(LIMIT := 80)")] + written
+        self.server.change(file, front + text[text.index("(LIMIT := 80)") + len("(LIMIT := 80)") :])
+        found = self.server.ask("signatureHelp", file, position=position(Places(front), len(front.encode())))
+        if found is None:
+            return None
+        (whole,) = found["signatures"]
+        return whole["label"], whole["parameters"][found["activeParameter"]]["label"]
+
+    def test_the_parameter_that_is_named_or_the_next_one(self) -> None:
+        whole = "FEEDER(LIMIT : INT := 50, LOAD : INT)"
+        limit, load = "LIMIT : INT := 50", "LOAD : INT"
+        cases = {"(": limit, "(LIMIT": limit, "(load := ": load, "(LIMIT := 8": limit, "(LIMIT := 80, ": load, "(LOAD := 1, ": limit, "(LOAD := 1, LIMIT := (* , *)": limit}
+        self.assertEqual({it: self.signature(it) for it in cases}, {it: (whole, parameter) for it, parameter in cases.items()})
+
+    def test_none_outside_of_parameters(self) -> None:
+        for written in ("", "(LIMIT := 80)", "; X : NOWHERE(", "; X : LAMP; (", "(LIMIT := 80); (* FEEDER("):
+            self.assertIsNone(self.signature(written), written)
+
+
+class LensTest(ConveyorTest):
+    """What stands above a unit, once the folder is read."""
+
+    def setUp(self) -> None:
+        super().setUp()
+        self.server.await_codes(PLANT=[])
+
+    def lenses(self, name: str) -> list[str]:
+        return [it["command"]["title"] for it in self.server.ask("codeLens", self.file(name))]
+
+    def test_uses_and_resources(self) -> None:
+        self.assertEqual(self.lenses("STATION"), ["used 2 times", "runs on NORTH.MOTION and SOUTH.MOTION"])
+        self.assertEqual((self.lenses("FEEDER")[1:], self.lenses("PLANT")), (["runs on NORTH.MOTION and SOUTH.MOTION"], []))
+        (used, runs) = self.server.ask("codeLens", self.file("FEEDER"))
+        self.assertEqual([self.show("FEEDER.fb", it["range"]) for it in (used, runs)], ["FEEDER.fb:2: FUNCTION_BLOCK |FEEDER|"] * 2)
+
+    def test_the_resources_are_those_of_the_plan(self) -> None:
+        """Of all blocks of two plants, with subapplications in each other."""
+        conveyor = {it.stem: it.read_text() for it in self.folder.glob("*.fb")}
+        for texts, system in (conveyor, "PLANT"), (hall(), "HALL"):
+            plant = Plant()
+            for name, text in texts.items():
+                plant.put(Path(f"/plant/{name}.fb"), text)
+            found = {name: set(homes_of(plant, name)) for name, text in texts.items() if text.lstrip().startswith("FUNCTION_BLOCK") or "\nFUNCTION_BLOCK" in text}
+            with Session.script(workbench()) as session:
+                for batch in batches(Put(name, 0, text) for name, text in texts.items()):
+                    session.commit(batch)
+                plan = session.wait("deploy", system)
+            expected: dict[str, set[str]] = {name: set() for name in found}
+            for resource in plan.resources:
+                for command in resource.commands:
+                    if command.startswith("CREATE FB "):
+                        expected[command.split()[3]].add(resource.name)
+            self.assertEqual(found, expected)
+            self.assertTrue(any(expected.values()))
+
+
 class NavigationTest(ConveyorTest):
     def definition(self, *place) -> list[str]:
         return self.shown(self.ask("definition", *place))
+
+    def test_definitions_of_types(self):
+        """Of instances, plugs, and variables and fields of a structure or an array of it; others have none."""
+        cases = [
+            ("STATION", "BELT.SEEN", 0, ["FEEDER.fb:2: FUNCTION_BLOCK |FEEDER|"]),
+            ("STATION", "LIFT : LIFTER", 0, ["LIFTER.fb:2: FUNCTION_BLOCK |LIFTER|"]),
+            ("FEEDER", "NEXT.TAKEN", 0, ["HANDOVER.fb:2: ADAPTER |HANDOVER|"]),
+            ("FEEDER", "LAST[COUNT", 0, ["ITEM.fb:2: TYPE |ITEM| : STRUCT"]),
+            ("PLANT", "FIRST.READY", 0, ["STATION.fb:2: SUBAPPLICATION |STATION|"]),
+            ("FEEDER", "LAST[COUNT", 5, []),
+            ("FEEDER", "MOVING TO", 0, []),
+            ("FEEDER", "50", 0, []),
+        ]
+        for unit, words, behind, expected in cases:
+            self.assertEqual(self.shown(self.ask("typeDefinition", unit, words, behind)), expected, words)
 
     def test_definitions(self):
         self.assertEqual(self.definition("STATION", "FEEDER("), ["FEEDER.fb:2: FUNCTION_BLOCK |FEEDER|"])
@@ -432,6 +520,41 @@ class RenameTest(ConveyorTest):
         self.assertEqual(self.refused("rename", "LONG", "LONG", newName="L" * 46), long)
 
 
+class SymbolFixTest(TestCase):
+    """A `:=` or a `;` of a unit without faults is lost: what is offered at the place of the fault brings back the same tokens."""
+
+    def test_at_random_places(self) -> None:
+        chance, count = random.Random(2), Counter[str]()
+        for texts in so_many(sound_libraries(3), 150):
+            for text in texts.values():
+                for words in (":=", ";"):
+                    at = chance.choice([it for it in tokens(text) if it.words == words] or [None])
+                    count[words] += at is not None and self.mended(text, at)
+        self.assertGreater(min(count[":="], count[";"]), 40)
+
+    def mended(self, text: str, at: Token) -> bool:
+        """Whether the fault is at the place; then a fix has to be offered."""
+        encoded, new = text.encode(), "=" if at.words == ":=" else " "
+        broken = (encoded[: at.start] + new.encode() + encoded[at.end :]).decode()
+        stop = first_stop(list(tokens(broken)))
+        if not stop or stop.at != [it.start for it in tokens(text)].index(at.start):
+            return False
+        plant = Plant()
+        read = plant.put(Path("/plant/A.fb"), broken)
+        assert read
+        fix = fixes(plant, read, "SYNTAX", 0, 0)[0]
+        mended = read.places.encoded[: fix.start] + fix.new.encode() + read.places.encoded[fix.end :]
+        self.assertEqual([it.words for it in tokens(mended.decode())], [it.words for it in tokens(text)], broken)
+        return True
+
+    def test_none_where_it_would_not_help(self) -> None:
+        for text in ("FUNCTION_BLOCK A EVENT_INPUT B = 1; END_EVENT END_FUNCTION_BLOCK", "FUNCTION_BLOCK", "", "(* not closed"):
+            plant = Plant()
+            read = plant.put(Path("/plant/A.fb"), text)
+            assert read
+            self.assertEqual(fixes(plant, read, "SYNTAX", 0, 0), [], text)
+
+
 class FixTest(ConveyorTest):
     def fixes(self, name, old, new, *more, code):
         """Breaks a unit, and gives the titles of what is offered, each with the lines that it changes."""
@@ -454,6 +577,12 @@ class FixTest(ConveyorTest):
     def test_did_you_mean(self):
         found = self.fixes("FEEDER", "IDLE TO MOVING", "IDLE TO MOVE", code="STATE_UNKNOWN")
         self.assertEqual(found, {"Change MOVE to MOVING": ["IDLE TO MOVING := START;"]})
+
+    def test_a_symbol(self):
+        found = self.fixes("FEEDER", "COUNT := COUNT + 1", "COUNT = COUNT + 1", code="SYNTAX")
+        self.assertEqual(found, {"Change = to :=": ["ALGORITHM TALLY IN ST: COUNT := COUNT + 1; END_ALGORITHM"]})
+        found = self.fixes("STATION", "LIFT : LIFTER;", "LIFT : LIFTER", code="SYNTAX")
+        self.assertEqual(found, {"Put ; behind LIFTER": ["LIFT : LIFTER;"]})
 
     def test_a_type(self):
         found = self.fixes("STATION", "LIFT : LIFTER", "LIFT : LIFTR", code="UNKNOWN_TYPE")

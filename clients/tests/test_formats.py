@@ -57,7 +57,8 @@ class LimitsTest(InFolder):
         for number, example in enumerate(examples):
             self.write(f"{number}.fb", f"FUNCTION_BLOCK B{number} {example} END_FUNCTION_BLOCK")
         ran = run("check", ".", "--program", workbench(), folder=self.folder)
-        self.assertEqual(ran.stdout, f"{len(examples)} units, no faults\n")
+        self.assertEqual(ran.stdout.splitlines()[-2:], [f"{len(examples)} units, no faults; 1 algorithm is not checked", "1 warning of this client"])
+        self.assertEqual(len([it for it in ran.stdout.splitlines() if ": NO_SUCH_TYPE: no type NOWHERE here" in it]), 1)
 
 
 class FormatsTest(InFolder):

@@ -5,6 +5,7 @@ import json
 import socket
 import struct
 import subprocess
+import tempfile
 import time
 import unittest
 
@@ -92,6 +93,24 @@ class IdleTest(OneConnection):
         passed = time.monotonic() - begun
         self.assertLess(59, passed)
         self.assertLess(passed, 90)
+
+
+class SecretTest(unittest.TestCase):
+    def test_a_secret_whose_line_ends_in_cr_lf_has_the_cr(self) -> None:
+        with tempfile.NamedTemporaryFile() as secret:
+            secret.write(b"a secret\r\n")
+            secret.flush()
+            words = [workbench(), "host", "--port", "0", "--connections", "2", "--sessions", "1", "--secret", secret.name]
+            with subprocess.Popen(words, stdin=subprocess.DEVNULL, stdout=subprocess.PIPE) as host:
+                assert host.stdout is not None
+                port = int(host.stdout.readline().rpartition(b":")[2])
+                for line, replies in ((b"a secret\n", b""), (b"a secret\r\n", NO_JOB)):
+                    with socket.create_connection(("127.0.0.1", port), timeout=SECONDS) as peer:
+                        peer.sendall(line + TAKE)
+                        peer.shutdown(socket.SHUT_WR)
+                        with peer.makefile("rb") as lines:
+                            self.assertEqual(replies, lines.read())
+                self.assertEqual((b"closed\n", 0), (host.communicate(timeout=2 * SECONDS)[0], host.returncode))
 
 
 if __name__ == "__main__":

@@ -38,11 +38,6 @@ class ScriptsTest(unittest.TestCase):
             self.assertEqual((done.stdout, done.stderr, done.returncode), ("", f"{name}: needs Python 3.11 or newer; this is 3.8.2\n", 2))
 
 
-def builds_packages(python: str) -> bool:
-    """Whether this Python has what an installation without a network needs."""
-    return subprocess.run([python, "-c", "import setuptools, wheel, pip"], stderr=subprocess.DEVNULL).returncode == 0
-
-
 def files_of(folder: Path) -> set[str]:
     return {str(it.relative_to(folder)) for it in folder.rglob("*") if it.is_file() and "__pycache__" not in it.parts}
 
@@ -60,15 +55,18 @@ class InstalledTest(InFolder):
         self.assertEqual(files_of(Path(file).parents[1]), files_of(CLIENTS / "python" / "bench61499"))
         self.assertEqual(page, read_page())
 
-    def installed(self) -> Path:
-        """An environment with the package, made by the first Python here that can build one."""
-        python = next(filter(builds_packages, (sys.executable, "/usr/bin/python3")), None)
-        if not python:
-            self.skipTest("no Python with pip, setuptools and wheel")
+    def test_an_editable_one_is_used_where_it_is(self) -> None:
+        home = self.installed("--editable")
+        file = self.run_in(home, "python", "-c", "import bench61499; print(bench61499.__file__)").stdout.strip()
+        self.assertEqual(Path(file), self.folder / "clients" / "python" / "bench61499" / "__init__.py")
+        self.assertIn("usage: ", self.run_in(home, "bench61499-plan", "--help").stdout)
+
+    def installed(self, *words: str) -> Path:
+        """A new environment with nothing but the package, and pip until then."""
         home, source = self.folder / "environment", self.folder / "clients"
-        subprocess.run([python, "-m", "venv", "--system-site-packages", "--without-pip", home], check=True)
-        shutil.copytree(CLIENTS, source, ignore=shutil.ignore_patterns("__pycache__", "build", "*.egg-info", "tests", "pictures"))
-        done = self.run_in(home, "python", "-m", "pip", "install", "-q", "--no-build-isolation", "--no-index", source)
+        subprocess.run([sys.executable, "-m", "venv", home], check=True)
+        shutil.copytree(CLIENTS, source, ignore=shutil.ignore_patterns("__pycache__", "tests", "pictures"))
+        done = self.run_in(home, "python", "-m", "pip", "install", "-q", "--no-index", *words, source)
         self.assertEqual(done.returncode, 0, done.stderr)
         return home
 

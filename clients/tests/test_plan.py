@@ -76,7 +76,7 @@ class PlanTest(InFolder):
             ran = run("plan", "PLANT", "--resource", "SOUTH.SCREEN", "--files", ".", "--connect", f":{port}", *words, folder=self.folder)
             return ran.returncode, ran.stdout, ran.stderr
 
-        with hosting() as port, Session.connect("127.0.0.1", port) as other:
+        with serving(5) as port, Session.connect("127.0.0.1", port) as other:
             self.assertEqual(screen(), (1, "", f"{ONLY_ASKED}\nplan: the workbench has no system PLANT\n"))
             self.assertEqual(other.revision("PLANT"), 0)
             self.assertEqual(screen("--replace"), (0, SCREEN, ""))
@@ -85,6 +85,29 @@ class PlanTest(InFolder):
             self.assertEqual(screen(), (0, SCREEN, f"{ONLY_ASKED}\n"))
             self.assertEqual(other.revision("PLANT"), there)
             self.assertEqual(screen("--replace"), (0, SCREEN.replace("T#250ms", "T#1s"), ""))
+
+    def test_files_are_compared_with_the_texts_of_a_host(self) -> None:
+        def screen(*words: str) -> tuple[int, str, str]:
+            ran = run("plan", "PLANT", "--resource", "SOUTH.SCREEN", "--connect", f":{port}", *words, folder=self.folder)
+            return ran.returncode, ran.stdout, ran.stderr
+
+        def refused(words: str) -> tuple[int, str, str]:
+            return 2, "", f"plan: the workbench has other texts than the files: {words}\n"
+
+        with hosting() as port, Session.connect("127.0.0.1", port) as other:
+            self.assertEqual(screen(), (1, "", "plan: the workbench has no system PLANT\n"))
+            self.assertEqual(screen("--files", "."), refused("only here: FEEDER, HANDOVER, ITEM, LAMP, LIFTER, PLANT, STATION"))
+            self.assertEqual(screen("--files", ".", "--replace"), (0, SCREEN, ""))
+            calls = other.status().calls
+            self.assertEqual(screen("--files", "."), (0, SCREEN, ""))
+            self.edit("PLANT.fb", "T#250ms", "T#1s")
+            (self.folder / "LAMP.fb").unlink()
+            self.write("OTHER.fb", "FUNCTION_BLOCK OTHER END_FUNCTION_BLOCK")
+            self.assertEqual(screen("--files", "."), refused("differs: PLANT; only there: LAMP"))
+            self.assertEqual(screen(), (0, SCREEN, ""))
+            self.assertEqual(run("plan", "STATION", "--connect", f":{port}").stderr, "plan: STATION is a subapplication; only systems have plans\n")
+            self.assertEqual(other.status().calls, calls)
+            self.assertEqual(screen("--files", ".", "--replace"), refused("only there: LAMP"))
 
     def test_what_replace_goes_with(self) -> None:
         for words in (["--files", "."], ["--connect", ":9"]):

@@ -19,7 +19,7 @@ class PlansTest(InFolder):
         ran = run("check", ".", *words, "--program", workbench(), folder=self.folder)
         self.assertEqual(ran.stderr, "")
         lines = [it for it in ran.stdout.splitlines() if not it.startswith(" ")]
-        self.assertEqual(ran.returncode, int(any(": " in it and ".fb:" in it for it in lines)))
+        self.assertEqual(ran.returncode, int(any(": " in it and ".fb:" in it and " SPELLING: " not in it for it in lines)))
         return lines
 
     def test_all_are_there(self) -> None:
@@ -30,14 +30,16 @@ class PlansTest(InFolder):
         self.edit("PLANT.fb", "    LINE.PANEL ON SOUTH.SCREEN;", "    line . (* so *) lamp ON SOUTH.SCREEN;")
         self.edit("PLANT.fb", "LINE.SECOND ON", "LINE.SECOND.BELT ON")
         expected = [
+            "PLANT.fb:23:5: SPELLING: line is declared as LINE; tools such as 4diac tell capitals apart",
             "PLANT.fb:4:30: UNMAPPED: no mapping gives LINE.SECOND.LIFT a resource",
             "PLANT.fb:5:9: UNMAPPED: no mapping gives LINE.PANEL a resource",
             "PLANT.fb:23:5: NO_SUCH_BLOCK: a mapping is of LINE.LAMP, which is not there",
             "7 units, no faults; 3 reasons why networks or plans are missing",
+            "1 name spelled in other capitals than declared",
             "networks of subapplications: 1 of 1, plans of systems: 0 of 1",
         ]
         self.assertEqual(self.check("--plans"), expected)
-        self.assertEqual(self.check(), ["7 units, no faults"])
+        self.assertEqual(self.check(), [expected[0], "7 units, no faults", expected[5]])
 
     def test_types_that_contain_themselves(self) -> None:
         self.write("A.fb", LOOP.format("A", "INNER", "B"))

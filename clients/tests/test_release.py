@@ -14,7 +14,7 @@ import unittest
 from functools import cache
 from pathlib import Path
 
-from support import CLIENTS, CONVEYOR, InFolder, workbench
+from support import CLIENTS, CONVEYOR, InFolder, run, workbench
 
 TOP = CLIENTS.parent
 PACKAGING = TOP / "packaging"
@@ -43,13 +43,15 @@ def help_of(*words: str) -> str:
     return ran.stdout + ran.stderr
 
 
-class ReleaseTest(InFolder):
+class ReleasedTest(InFolder):
     def unpacked(self) -> Path:
         with tarfile.open(made(self.folder / "out")) as tar:
             tar.extractall(self.folder / "unpacked")
         (root,) = (self.folder / "unpacked").iterdir()
         return root
 
+
+class ReleaseTest(ReleasedTest):
     def run_there(self, *words: object, given: str = "") -> subprocess.CompletedProcess[str]:
         return subprocess.run([*map(str, words)], cwd=self.folder, env=PLAIN, input=given, capture_output=True, text=True, timeout=60)
 
@@ -98,7 +100,7 @@ class BuiltTest(InFolder):
 
     def setUp(self) -> None:
         super().setUp()
-        for name in ("tools/release", "tools/crate_graph.py", "tools/kit_rt.py", "clients/pyproject.toml"):
+        for name in ("tools/release", "tools/client_pages.py", "tools/crate_graph.py", "tools/kit_rt.py", "clients/pyproject.toml"):
             self.copy(TOP / name, name)
         for file in PACKAGING.rglob("*"):
             if file.is_file():
@@ -143,6 +145,58 @@ class BuiltTest(InFolder):
         ran = self.release()
         self.assertEqual((ran.stdout, ran.returncode), ("", 1))
         self.assertIn(f"{self.built} is not proved of the present sources", ran.stderr)
+
+
+class ClientsTest(ReleasedTest):
+    """Man pages and completions of the clients, against what each prints by --help."""
+
+    def commands(self) -> dict[tuple[str, ...], set[str]]:
+        """The options of each client, and of each work of exchange."""
+        clients = [(it.name,) for it in CLIENTS.iterdir() if it.is_file() and os.access(it, os.X_OK)]
+        all_words = [*clients, *(("exchange", work) for work in ("import", "export", "boot"))]
+        return {words: set(re.findall(r"^  (?:-\w, )?(--[a-z-]+)", run(*words, "--help").stdout, re.M)) for words in all_words}
+
+    def completed(self, shell: str, place: str, script: str) -> None:
+        """Holds the options that a shell completes to those of the clients; `script` prints them for the words `$2`, by the file `$1`."""
+        if not shutil.which(shell):
+            self.skipTest(f"{shell} is not installed")
+        share = self.unpacked() / "share"
+        for words, expected in self.commands().items():
+            if shell == "zsh" and words == ("exchange",):
+                continue  # its first word is completed as a work
+            arguments = [share / place.format(words[0]), " ".join([f"bench61499-{words[0]}", *words[1:], "--"]), f"_bench61499_{words[0]}"]
+            found = subprocess.run([shell, "-c", script, *(["-"] if shell != "fish" else []), *map(str, arguments)], capture_output=True, text=True)
+            self.assertEqual((set(found.stdout.split()), found.stderr), (expected, ""), words)
+
+    def test_bash(self) -> None:
+        script = 'source "$1"; read -ra COMP_WORDS <<< "$2"; COMP_CWORD=$((${#COMP_WORDS[@]} - 1)); "$3"; echo "${COMPREPLY[@]}"'
+        self.completed("bash", "bash-completion/completions/bench61499-{}", script)
+
+    def test_zsh(self) -> None:
+        takes = '_arguments() { print -l -- ${${@%%\\[*}:#*:file:*} }; words=(${=2}); CURRENT=$#words; '
+        self.completed("zsh", "zsh/site-functions/_bench61499-{}", takes + 'source "$1"')
+
+    def test_fish(self) -> None:
+        self.completed("fish", "fish/vendor_completions.d/bench61499-{}.fish", 'source $argv[1]; complete -C $argv[2] | string replace -r "\\t.*" ""')
+
+    def test_bash_completes_works_choices_and_files(self) -> None:
+        share = self.unpacked() / "share" / "bash-completion" / "completions"
+        script = 'source "$1"; read -ra COMP_WORDS <<< "$2"; COMP_WORDS+=(""); COMP_CWORD=$((${#COMP_WORDS[@]} - 1)); "$3"; echo "${COMPREPLY[@]}"'
+        cases = {"exchange": "import export boot", "exchange export --for": "4diac 4diac1 fbdk", "check --format": "human json github sarif junit", "check --secret": ""}
+        for words, expected in cases.items():
+            client = words.split()[0]
+            ran = subprocess.run(["bash", "-c", script, "-", share / f"bench61499-{client}", f"bench61499-{words}", f"_bench61499_{client}"], capture_output=True, text=True)
+            self.assertEqual((ran.stdout.strip(), ran.stderr), (expected, ""), words)
+
+    def test_the_man_pages_have_all_options_and_can_be_set(self) -> None:
+        pages = self.unpacked() / "share" / "man" / "man1"
+        for words, expected in self.commands().items():
+            page = pages / f"bench61499-{words[0]}.1"
+            described = re.findall(r"^\.B (--[a-z-]+)", page.read_text().replace("\\-", "-"), re.M)
+            self.assertLessEqual(expected, set(described))
+            if shutil.which("groff"):
+                ran = subprocess.run(["groff", "-ww", "-man", "-Tutf8", page], capture_output=True, text=True)
+                self.assertEqual((ran.stderr, ran.returncode), ("", 0))
 
 
 def faults_of_unit(printed: str) -> list[str]:

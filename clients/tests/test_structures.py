@@ -16,7 +16,6 @@ from test_rename import file_of, some_name
 
 from bench61499 import Fault, Places, Session
 from bench61499.board.state import Row, Source
-from bench61499.board.views import row_view
 from bench61499.language.mentions import Mentions
 from bench61499.language.declarations import FIELD, INSTANCE, TYPE, VARIABLE, Key, is_elementary, type_of_data, type_with_fields
 from bench61499.language.explain import Explainer, Names
@@ -622,7 +621,7 @@ class BoardTest(unittest.TestCase):
         return Row(name, 1, source=Source(file_of(name), TEXTS[name]))
 
     def test_a_structure_in_the_list(self):
-        self.assertEqual(row_view(self.row("TANK"))[:2], ["TANK", "TYPE"])
+        self.assertEqual(self.row("TANK").told[:2], ["TANK", "TYPE"])
 
     def test_what_a_change_reaches(self):
         self.assertEqual(Mentions().reached(["BOUNDS"], TEXTS), {"BOUNDS", "TANK", "METER", "PUMP"})

@@ -14,7 +14,10 @@ from support import HISTORY, InFolder, free_port, hosting, serving, used, workbe
 
 from bench61499 import ConnectionEnded, HistoryFull, Put, Remove, Session
 from bench61499.lsp.checking import QUIET, Checking
-from bench61499.lsp.shared import SharedTexts, Unit, Wanted
+from bench61499.lsp.commits import Unit, Wanted
+from bench61499.lsp.shared import SharedTexts
+from bench61499.lsp.talk import NO_TEXTS
+from bench61499.lsp.teamtalk import STARTED_AGAIN
 
 GOOD = "FUNCTION_BLOCK A END_FUNCTION_BLOCK"
 BAD = "FUNCTION_BLOCK A EVENT_INPUT E WITH X; END_EVENT END_FUNCTION_BLOCK"
@@ -43,11 +46,24 @@ class TeamTest(LspTest):
 
 
 class OthersTest(TeamTest):
-    """Nobody's text is replaced unasked."""
+    """Nobody's text is replaced unasked, also where the server gives none back."""
+
+    def connected(self, port: int, *words: object) -> Editor:
+        editor = super().connected(port, *words)
+        editor.passed_over = {f"bench61499: {NO_TEXTS}"}
+        return editor
+
+    def test_the_user_is_told_that_texts_are_not_compared(self) -> None:
+        file = self.write("a.fb", GOOD)
+        with serving(1) as port:
+            editor = super().connected(port)
+            editor.open(file)
+            editor.await_codes(a=[])
+            self.assertEqual(editor.messages, [f"bench61499: {NO_TEXTS}"])
 
     def test_a_text_of_somebody_else_is_there_already(self) -> None:
         file = self.write("a.fb", GOOD)
-        with hosting() as port:
+        with serving(2) as port:
             other = self.session(port)
             other.commit([Put("A", 0, BAD)])
             editor = self.connected(port)
@@ -61,7 +77,7 @@ class OthersTest(TeamTest):
 
     def test_faults_that_fit_are_shown_as_those_of_the_workbench(self) -> None:
         file = self.write("a.fb", BAD)
-        with hosting() as port:
+        with serving(2) as port:
             self.session(port).commit([Put("A", 0, BAD)])
             editor = self.connected(port)
             editor.open(file)
@@ -73,7 +89,7 @@ class OthersTest(TeamTest):
     def test_the_same_text_from_somebody_else(self) -> None:
         """Nobody can tell that it is the same, so nothing says that the text is not checked, and nothing that it is."""
         file = self.write("a.fb", GOOD)
-        with hosting() as port:
+        with serving(2) as port:
             other = self.session(port)
             other.commit([Put("A", 0, GOOD)])
             editor = self.connected(port)
@@ -88,7 +104,7 @@ class OthersTest(TeamTest):
 
     def test_a_text_is_changed_by_somebody_else(self) -> None:
         file = self.write("a.fb", BAD)
-        with hosting() as port:
+        with serving(2) as port:
             editor, other = self.connected(port), self.session(port)
             editor.open(file)
             editor.await_codes(a=["WITH_UNKNOWN"])
@@ -107,7 +123,7 @@ class OthersTest(TeamTest):
         units = [f"U{at}" for at in range(5)]
         files = [self.write(f"{unit}.fb", f"FUNCTION_BLOCK {unit} END_FUNCTION_BLOCK") for unit in units]
         none: dict[str, list[str]] = {unit: [] for unit in units}
-        with hosting() as port:
+        with serving(2) as port:
             editor, other = self.connected(port), self.session(port)
             for file in files:
                 editor.open(file)
@@ -123,7 +139,7 @@ class OthersTest(TeamTest):
 
     def test_a_unit_is_removed_by_somebody_else(self) -> None:
         file = self.write("a.fb", GOOD)
-        with hosting() as port:
+        with serving(2) as port:
             editor, other = self.connected(port), self.session(port)
             editor.open(file)
             editor.await_codes(a=[])
@@ -137,7 +153,7 @@ class OthersTest(TeamTest):
 
     def test_a_file_changes_on_disk_under_the_text_of_somebody_else(self) -> None:
         file, mine = self.write("a.fb", GOOD), self.write("b.fb", GOOD.replace("A", "B", 1))
-        with hosting() as port:
+        with serving(2) as port:
             other = self.session(port)
             other.commit([Put("A", 0, BAD)])
             editor = self.connected(port)
@@ -177,20 +193,21 @@ class ConnectionTest(TeamTest):
         self.assertRegex(why, f"^not checked: the .*127.0.0.1:{port}.*; trying again$")
         with self.host(port):
             self.await_told(editor, "a.fb", [(1, words)])
-            lost, back = editor.messages
+            lost, *back = editor.messages
             self.assertRegex(lost, "^bench61499: the .*; trying again$")
-            self.assertEqual(back, "bench61499: The workbench answers again.")
+            self.assertEqual(back, [f"bench61499: {STARTED_AGAIN}", "bench61499: The workbench answers again."])
             self.assertEqual(self.session(port).revision("A"), 1)
 
     def test_all_sessions_are_in_use(self) -> None:
         file = self.write("a.fb", GOOD)
-        with hosting("--sessions", "1") as port:
-            other = Session.connect("127.0.0.1", port)
+        with hosting("--sessions", "2") as port:
+            others = [Session.connect("127.0.0.1", port) for _ in range(2)]
             editor = self.connected(port)
             editor.open(file)
             self.assertEqual(editor.await_message(), "bench61499: all sessions of the workbench are in use; trying again")
             self.await_told(editor, "a.fb", [(3, "not checked: all sessions of the workbench are in use; trying again")])
-            other.close()
+            for other in others:
+                other.close()
             editor.await_codes(a=[])
 
     def test_a_secret(self) -> None:
@@ -208,6 +225,7 @@ class ConnectionTest(TeamTest):
         file = self.write("a.fb", BAD)
         with serving(2, "--history", "20") as port:
             editor = self.connected(port)
+            editor.passed_over = {f"bench61499: {NO_TEXTS}"}
             editor.open(file)
             editor.await_codes(a=["WITH_UNKNOWN"])
             other = self.session(port)
@@ -295,7 +313,7 @@ class TextsTest(unittest.TestCase):
         return session
 
     def wanted(self, insists: bool = False, **texts: str) -> Wanted:
-        return Wanted(texts, frozenset(texts if insists else ()), frozenset(texts))
+        return Wanted(texts, frozenset(texts if insists else ()), texts)
 
     def settle(self, wanted: Wanted) -> None:
         """Turns until all is known."""
@@ -307,7 +325,7 @@ class TextsTest(unittest.TestCase):
     def test_nobody_types(self) -> None:
         """One recorded call in six seconds, also where units are many."""
         texts = hall() | {f"U{at}": f"FUNCTION_BLOCK U{at} END_FUNCTION_BLOCK" for at in range(200)}
-        self.settle(Wanted(texts, open=frozenset(list(hall())[:18])))
+        self.settle(Wanted(texts, open=dict(list(hall().items())[:18])))
         clock = [time.monotonic() + 1]
         with patch("bench61499.lsp.shared.time.monotonic", lambda: clock[0]):
             self.texts.turn(None)

@@ -41,15 +41,15 @@ class WordsTest(unittest.TestCase):
         self.assertEqual((status, out), (2, ""), errors)
         self.assertRegex(errors, rf"^bench61499 {re.escape(version)} \({KIT.pattern}\)\n$")
 
-    def test_a_server_says_why_it_cannot_listen(self) -> None:
+    def test_a_host_says_why_it_cannot_listen_and_serve_has_status_1_alone(self) -> None:
         reason = OSError(errno.EADDRINUSE, os.strerror(errno.EADDRINUSE))
         with socket.socket() as taken:
             taken.bind(("127.0.0.1", 0))
             taken.listen()
             port = taken.getsockname()[1]
             told = f"bench61499: cannot listen on 127.0.0.1:{port}: {in_std(reason)}\n"
-            for command in ("serve", "host"):
-                self.assertEqual(ran(command, "--port", str(port)), (1, "", told))
+            self.assertEqual(ran("host", "--port", str(port)), (1, "", told))
+            self.assertEqual(ran("serve", "--port", str(port)), (1, "", ""))
 
     def test_a_secret_that_cannot_be_read_admits_nobody(self) -> None:
         with tempfile.TemporaryDirectory() as folder:

@@ -8,7 +8,7 @@ import time
 from collections.abc import Callable, Container, Iterable, Iterator, Mapping
 from dataclasses import dataclass
 from os import PathLike, fspath
-from typing import Any, BinaryIO, Literal, Self, TypeVar, cast
+from typing import Any, BinaryIO, Literal, NamedTuple, Self, TypeVar, cast
 
 CHANGES_LIMIT = 16
 """Changes in one commit."""
@@ -23,7 +23,12 @@ UNITS_LIMIT = 16_384
 HISTORY_LIMIT = 10_000_000
 """Recorded calls that a workbench can be started for, or that a checkpoint makes room for."""
 
+LONGEST_WATCH = 30.0
+"""Seconds that a watch waits, at most."""
+
 Kind = Literal["faults", "net", "deploy"]
+Key = tuple[Kind, str]
+"""What a value is of: its kind and the name of the unit, in upper case."""
 Sort = Literal["event", "data", "adapter"]
 Value = TypeVar("Value")
 
@@ -33,6 +38,10 @@ _TURNS = 100
 _GREETING_REQUEST = {"op": "deliver", "job": 1}
 _FIRST_PAUSE, _LONGEST_PAUSE = 0.01, 0.25
 _GREETING = 5.0
+# A host sends the second of two short replies only once the first is acknowledged, which a system delays by 40 ms unless it is told not to.
+_ACKNOWLEDGE: int = getattr(socket, "TCP_QUICKACK", 0)
+# Reads that are sent before the first of them is answered: far fewer bytes than a connection takes up.
+_AT_ONCE = 128 if _ACKNOWLEDGE else 1
 _FIRST_TRY, _LAST_TRY = 1.0, 15.0
 _USED_UP = "a `serve` ends once its sessions are used up"
 
@@ -106,16 +115,20 @@ class StaleBase(Refused):
         super().__init__(reply, f"{self.unit} {there}: the change was written against another revision")
 
 
+class NoReads(Refused):
+    """The server answers no reads, as a `serve`, a script and an older `host` do: it tells what it has by recorded calls only."""
+
+
 class NoSuchKey(Refused):
     """There is no such unit, or it has no answers of this kind."""
 
 
 class NoSuchUnit(Refused):
-    """A unit that is not there was to be removed. `unit` is its name."""
+    """A unit that is not there was to be removed or read. `unit` is its name."""
 
     def __init__(self, reply: dict[str, Any]):
         self.unit = str(reply["unit"])
-        super().__init__(reply, f"there is no unit {self.unit} to remove")
+        super().__init__(reply, f"there is no unit {self.unit}")
 
 
 _REFUSALS = {
@@ -128,6 +141,7 @@ _REFUSALS = {
     "BadName": f"a name is a letter or _, then letters, digits and _, at most {NAME_LIMIT} of them",
     "TextTooLong": f"the text of a unit has at most {TEXT_LIMIT:,} bytes",
     "NoSuchKey": "there is no such unit, or it has no answers of this kind",
+    "Behind": "the workbench is not the one that this session has seen before",
     "NoSuchJob": "no job of that number was taken in this session",
     "TooManyJobs": "this session holds as many jobs as it can",
 }
@@ -135,8 +149,11 @@ _REFUSAL_TYPES: dict[str, type[Refused]] = {it.__name__: it for it in (StaleBase
 
 
 def _refusal(reply: dict[str, Any], request: dict[str, Any] | None) -> Refused:
-    if reply["refused"] == "BadRequest" and request is not None and (wrong := _wrong_in(request)):
-        return Refused(reply, f"the workbench refused the request: {wrong}")
+    if reply["refused"] == "BadRequest" and request is not None:
+        if wrong := _wrong_in(request):
+            return Refused(reply, f"the workbench refused the request: {wrong}")
+        if request["op"] in _READS:
+            return NoReads(reply, "the workbench answers no reads: it is no host, or an older one")
     return _REFUSAL_TYPES.get(str(reply["refused"]), Refused)(reply)
 
 
@@ -289,6 +306,104 @@ class Job:
     unit: str
 
 
+@dataclass(frozen=True)
+class Status:
+    """A host at one moment.
+
+    `workbench` is its identity, made at its start: revisions and numbers begin again with each. `session` is the caller of this session; `calls` the number of the last
+    recorded call, `commits` that of the last commit; `units`, `keys` and `pending` are how many units, keys and pending keys there are.
+    """
+
+    workbench: str
+    session: int
+    calls: int
+    commits: int
+    units: int
+    keys: int
+    pending: int
+
+
+class Revision(NamedTuple):
+    """A unit that is there, by its name in upper case, and the number of the commit that last put it."""
+
+    unit: str
+    number: int
+
+
+@dataclass(frozen=True)
+class Revisions:
+    """Units in the byte order of their names, as they were after `at` recorded calls or later: whoever watches from `at` misses no change of them."""
+
+    at: int
+    units: tuple[Revision, ...]
+
+
+@dataclass(frozen=True)
+class Text:
+    """The text of a unit as it was after `at` recorded calls, and its revision then."""
+
+    unit: str
+    revision: int
+    text: str
+    at: int
+
+
+@dataclass(frozen=True)
+class Commit:
+    """A commit that was made: its number, the caller who made it, and the units that it put and removed."""
+
+    number: int
+    caller: int
+    put: tuple[str, ...]
+    removed: tuple[str, ...]
+
+
+@dataclass(frozen=True)
+class Result:
+    """A new value of a key has come."""
+
+    kind: Kind
+    unit: str
+
+
+Event = Commit | Result
+
+
+@dataclass(frozen=True)
+class Watched:
+    """What has happened up to the recorded call `at`, in order; a watch goes on from there.
+
+    If it is `missed`, the host no longer has all that was asked for, or never had as many calls: what is there has to be listed again.
+    """
+
+    at: int
+    events: tuple[Event, ...] = ()
+    missed: bool = False
+
+
+def _read_status(reply: dict[str, Any]) -> Status:
+    its = reply["status"]
+    return Status(str(its["workbench"]), **{it: int(its[it]) for it in ("session", "calls", "commits", "units", "keys", "pending")})
+
+
+def _read_revisions(reply: dict[str, Any]) -> Revisions:
+    return Revisions(int(reply["at"]), tuple(Revision(str(unit), int(number)) for unit, number in reply["units"]))
+
+
+def _read_watched(reply: dict[str, Any]) -> Watched:
+    missed = bool(reply.get("missed"))
+    return Watched(int(reply["at"]), () if missed else tuple(map(_read_event, reply["events"])), missed)
+
+
+def _read_event(event: list[Any]) -> Event:
+    match event:
+        case ["commit", number, caller, put, removed]:
+            return Commit(int(number), int(caller), tuple(put), tuple(removed))
+        case ["value", kind, unit] if kind in _READERS:
+            return Result(kind, str(unit))
+    raise ValueError(event)
+
+
 def _read_faults(reply: dict[str, Any]) -> tuple[Fault, ...]:
     return tuple(Fault(str(code), int(start), int(end)) for code, start, end in reply["faults"])
 
@@ -328,6 +443,21 @@ def _read_job(reply: dict[str, Any]) -> Job | None:
 _READERS: dict[str, Callable[[dict[str, Any]], Any]] = {"faults": _read_faults, "net": _read_net, "deploy": _read_deploy}
 
 
+def _value_reader(kind: Kind) -> Callable[[dict[str, Any]], Any]:
+    """How to read a value, None if it is pending."""
+    read = _READERS[kind]
+    return lambda reply: None if reply.get("answer") == "pending" else read(reply)
+
+
+def _present(read: Callable[[dict[str, Any]], Value]) -> Callable[[dict[str, Any]], tuple[Value]]:
+    """How to read what may be None where it is there."""
+    return lambda reply: (read(reply),)
+
+
+def _text_reader(unit: str) -> Callable[[dict[str, Any]], Text]:
+    return lambda reply: Text(unit.upper(), int(reply["base"]), str(reply["text"]), int(reply["at"]))
+
+
 @dataclass(frozen=True)
 class _Form:
     """What a member of a request has to be, in words, and whether a value is."""
@@ -353,12 +483,19 @@ _MEMBERS: dict[str, dict[str, _Form]] = {
     "give_back": _KEY,
     "checkpoint": {"units": _whole(1, UNITS_LIMIT), "history": _whole(1, HISTORY_LIMIT)},
 }
+_READS: dict[str, dict[str, _Form]] = {
+    "status": {},
+    "units": {},
+    "text": {"unit": _TEXT},
+    "peek": _KEY,
+    "watch": {"after": _whole(0, 2**64 - 1), "wait": _whole(0, round(1_000 * LONGEST_WATCH))},
+}
 _CHANGES = {"put": {"put": _TEXT, **_BASE, "text": _TEXT}, "remove": {"remove": _TEXT, **_BASE}}
 
 
 def _wrong_in(request: dict[str, Any]) -> str:
     """What is wrong with a request that is no request of the protocol; empty if nothing is found."""
-    forms = _MEMBERS.get(request["op"]) if isinstance(request.get("op"), str) else None
+    forms = (_MEMBERS | _READS).get(request["op"]) if isinstance(request.get("op"), str) else None
     if forms is None:
         return f"`op` has to be one of {', '.join(_MEMBERS)}"
     if wrong := _wrong_member(request, forms):
@@ -429,7 +566,7 @@ class _Pipes:
         except (OSError, ValueError) as error:  # A `ValueError` where the session was ended before.
             raise self._ended() from error
 
-    def receive(self) -> bytes:
+    def receive(self, _longer: float = 0) -> bytes:
         line = self._output.readline()
         if not line.endswith(b"\n"):
             raise self._ended()
@@ -457,7 +594,7 @@ class _Connection:
 
     def __init__(self, host: str, port: int, timeout: float):
         self._address = f"{host}:{port}"
-        self._timeout = timeout
+        self._timeout = self._patience = timeout
         try:
             self._socket = socket.create_connection((host, port), timeout)
         except ConnectionRefusedError as error:
@@ -471,24 +608,32 @@ class _Connection:
 
     def wait_at_most(self, timeout: float) -> None:
         self._timeout = timeout
-        self._socket.settimeout(timeout)
 
     def send(self, line: bytes) -> None:
         self._try(lambda: self._socket.sendall(line))
 
-    def receive(self) -> bytes:
-        line = self._try(self._reader.readline)
+    def receive(self, longer: float = 0) -> bytes:
+        """The next line, for which it may wait so much longer than for others."""
+        line = self._try(lambda: self._read_line(self._timeout + longer))
         if not line.endswith(b"\n"):
             raise ConnectionEnded(f"the workbench at {self._address} closed the connection before it answered")
         return line
+
+    def _read_line(self, patience: float) -> bytes:
+        if self._patience != patience:
+            self._patience = patience
+            self._socket.settimeout(patience)
+        if _ACKNOWLEDGE:
+            self._socket.setsockopt(socket.IPPROTO_TCP, _ACKNOWLEDGE, 1)
+        return self._reader.readline()
 
     def _try(self, act: Callable[[], Value]) -> Value:
         try:
             return act()
         except TimeoutError as error:
-            raise NoAnswer(f"no answer from {self._address} within {self._timeout:g} seconds: it is busy, or all sessions of a `serve` are used up") from error
-        except OSError as error:
-            raise ConnectionEnded(f"the connection to {self._address} ended: {error.strerror or error}") from error
+            raise NoAnswer(f"no answer from {self._address} within {self._patience:g} seconds: it is busy, or all sessions of a `serve` are used up") from error
+        except (OSError, ValueError) as error:  # A `ValueError` where another thread has ended the session.
+            raise ConnectionEnded(f"the connection to {self._address} ended: {getattr(error, 'strerror', None) or error}") from error
 
     def close(self) -> None:
         try:
@@ -577,14 +722,17 @@ class Session:
         return self._exchange(request, lambda reply: reply)
 
     def _exchange(self, request: dict[str, Any], read: Callable[[dict[str, Any]], Value]) -> Value:
+        self._send(request)
+        return self._reply(read, request)
+
+    def _send(self, request: dict[str, Any]) -> None:
         line = _line(request)
         if len(line) > LINE_LIMIT:
             raise RequestTooLong(len(line))
         self._channel.send(line + b"\n")
-        return self._reply(read, request)
 
-    def _reply(self, read: Callable[[dict[str, Any]], Value], request: dict[str, Any] | None = None) -> Value:
-        answer = self._channel.receive()
+    def _reply(self, read: Callable[[dict[str, Any]], Value], request: dict[str, Any] | None = None, longer: float = 0) -> Value:
+        answer = self._channel.receive(longer)
         try:
             reply = json.loads(answer)
             if "refused" not in reply:
@@ -665,10 +813,7 @@ class Session:
 
     def ask(self, kind: Kind, unit: str) -> Any:
         """What `faults`, `net` or `deploy` give. Raises `NoSuchKey`."""
-        read = _READERS[kind]
-        return self._exchange(
-            {"op": "ask", "kind": kind, "unit": unit}, lambda reply: None if reply.get("answer") == "pending" else read(reply)
-        )
+        return self._exchange({"op": "ask", "kind": kind, "unit": unit}, _value_reader(kind))
 
     def faults(self, unit: str) -> tuple[Fault, ...] | None:
         """The faults of a unit, in the order of their places; None while they are pending. Raises `NoSuchKey`."""
@@ -681,6 +826,78 @@ class Session:
     def deploy(self, unit: str) -> Deploy | None:
         """The commands for the resources of a system; None while they are pending. Raises `NoSuchKey`."""
         return self.ask("deploy", unit)
+
+    # Reads: they are no recorded calls and change nothing. All raise `NoReads` where the server answers none.
+
+    def answers_reads(self) -> bool:
+        """Whether the server answers reads. It is no recorded call at any server."""
+        try:
+            self.status()
+        except NoReads:
+            return False
+        return True
+
+    def status(self) -> Status:
+        """What the workbench is, and how much is there."""
+        return self._exchange({"op": "status"}, _read_status)
+
+    def units_after(self, unit: str = "") -> Revisions:
+        """A page of units that are there: up to 1,000 behind a name, or from the first one."""
+        return self._exchange({"op": "units", **({"after": unit} if unit else {})}, _read_revisions)
+
+    def units(self) -> Revisions:
+        """All units that are there. Others may commit meanwhile: a watch from its `at` tells what they did."""
+        found: list[Revision] = []
+        page = first = self.units_after()
+        while page.units:
+            found += page.units
+            page = self.units_after(page.units[-1].unit)
+        return Revisions(first.at, tuple(found))
+
+    def text(self, unit: str) -> Text:
+        """The text of a unit. Raises `NoSuchUnit`."""
+        return self._exchange({"op": "text", "unit": unit}, _text_reader(unit))
+
+    def texts(self, units: Iterable[str]) -> dict[str, Text]:
+        """The texts of those of these units that are there, by their names in upper case: one after the other, but faster than by `text`."""
+        found = self._exchange_all([({"op": "text", "unit": unit}, _text_reader(unit)) for unit in units], NoSuchUnit)
+        return {it.unit: it for it in found if it}
+
+    def peek(self, kind: Kind, unit: str) -> Any:
+        """What `ask` gives, without a recorded call; None while it is pending. Raises `NoSuchKey`."""
+        return self._exchange({"op": "peek", "kind": kind, "unit": unit}, _value_reader(kind))
+
+    def peek_all(self, keys: Iterable[Key]) -> dict[Key, Any]:
+        """The values of those of these keys that are there, None for one that is pending: one after the other, but faster than by `peek`."""
+        its = list(dict.fromkeys(keys))
+        requests = [({"op": "peek", "kind": kind, "unit": unit}, _present(_value_reader(kind))) for kind, unit in its]
+        found = self._exchange_all(requests, NoSuchKey)
+        return {key: it[0] for key, it in zip(its, found, strict=True) if it}
+
+    def watch(self, after: int, wait: float = 0) -> Watched:
+        """What has happened after the recorded call of this number, some 200 calls at most; without an event it waits for one up to so many seconds, at most `LONGEST_WATCH`."""
+        request = {"op": "watch", "after": after, "wait": round(1_000 * wait)}
+        self._send(request)
+        return self._reply(_read_watched, request, longer=wait)
+
+    def _exchange_all(self, requests: list[tuple[dict[str, Any], Callable[[dict[str, Any]], Value]]], absent: type[Refused]) -> list[Value | None]:
+        """Sends short requests, many before the first of them is answered; gives None for those refused as `absent`."""
+        found: list[Value | None] = []
+        for at in range(0, len(requests), _AT_ONCE):
+            some = requests[at : at + _AT_ONCE]
+            self._channel.send(b"".join(_line(request) + b"\n" for request, _ in some))
+            replies = [self._refused_or(request, read) for request, read in some]  # All are taken before one of them raises.
+            for it in replies:
+                if isinstance(it, Refused) and not isinstance(it, absent):
+                    raise it
+                found.append(None if isinstance(it, Refused) else it)
+        return found
+
+    def _refused_or(self, request: dict[str, Any], read: Callable[[dict[str, Any]], Value]) -> Value | Refused:
+        try:
+            return self._reply(read, request)
+        except Refused as refusal:
+            return refusal
 
     def work(self, turns: int) -> int:
         """Does up to `turns` jobs, 1 to 1,000, and gives how many results were accepted: fewer where there are no more to take."""

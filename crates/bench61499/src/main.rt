@@ -1,19 +1,23 @@
 //! The program `bench61499`: a workbench for IEC 61499 units that answers requests, one on each line.
 #![tactic(auto)]
 
-use fb_host::{FIRST_LINE_TIMEOUT, HostConfig, host_on};
+use fb_host::{FIRST_LINE_TIMEOUT, HostConfig, Identity, host_on};
 use fb_program::wire::{FromRead, IntoWrite};
 use fb_program::{
     HostSettings, Outcome, ServerSettings, refuse_file, refuse_port, refuse_secret, refuse_words,
     run, secret_in,
 };
-use fb_serve::{ServerConfig, TURNS, serve_on};
+use fb_serve::{ServerConfig, TURNS, serve};
 use std::alloc::{AllocError, Global};
-use std::io::Write;
+use std::fs::File;
+use std::io::{Read, Write};
 use std::net::TcpListener;
 use std::process::ExitCode;
 use std::sync::Mutex;
 use std::{env, fs, io};
+
+/// The system's randomness.
+const RANDOMNESS: &str = "/dev/urandom";
 
 /// How many milliseconds a minute has.
 const MINUTE: u64 = 60_000;
@@ -52,6 +56,19 @@ fn secret_at<E: Write>(
     Ok(bytes)
 }
 
+/// An identity for a workbench.
+fn drawn_identity(rt: &HostRuntime) -> io::Result<Identity> {
+    let mut high = [0; 8];
+    let mut low = [0; 8];
+    let mut source = File::open(rt, RANDOMNESS)?;
+    source.read_exact(&mut high)?;
+    source.read_exact(&mut low)?;
+    Ok(Identity {
+        high: u64::from_le_bytes(high),
+        low: u64::from_le_bytes(low),
+    })
+}
+
 fn main(rt: HostRuntime) -> ExitCode {
     let words = match words(&rt) {
         Ok(words) => words,
@@ -80,17 +97,13 @@ fn main(rt: HostRuntime) -> ExitCode {
                 sessions,
                 limits,
             } = settings;
-            let listener = match TcpListener::bind(&rt, ("127.0.0.1", port)) {
-                Ok(listener) => listener,
-                Err(error) => return ExitCode::from(refuse_port(port, &error, &mut errors)),
-            };
             let config = ServerConfig {
                 workers,
                 sessions,
                 limits,
             };
             let mut writer = IntoWrite::new(rt.stdout());
-            let ended = serve_on(&rt, rt.alloc(), &listener, config, &mut writer, &mut errors);
+            let ended = serve(&rt, rt.alloc(), port, config, &mut writer, &mut errors);
             ExitCode::from(ended.status)
         }
         Outcome::Hosts(settings) => {
@@ -111,6 +124,10 @@ fn main(rt: HostRuntime) -> ExitCode {
                 Ok(listener) => listener,
                 Err(error) => return ExitCode::from(refuse_port(port, &error, &mut errors)),
             };
+            let workbench = match drawn_identity(&rt) {
+                Ok(identity) => identity,
+                Err(error) => return ExitCode::from(refuse_file(RANDOMNESS, &error, &mut errors)),
+            };
             let config = HostConfig {
                 workers,
                 sessions,
@@ -118,6 +135,7 @@ fn main(rt: HostRuntime) -> ExitCode {
                 first_line_timeout: FIRST_LINE_TIMEOUT,
                 idle_timeout: idle.saturating_mul(MINUTE),
                 connections,
+                workbench,
             };
             let mut writer = IntoWrite::new(rt.stdout());
             let errors = Mutex::new(rt.stderr());

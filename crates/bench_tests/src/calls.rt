@@ -122,16 +122,20 @@ const CONVERSATIONS: &str = r#"
 
 == A key that is given back is taken again / 4 / 100
 @1 {"op":"commit","changes":[{"put":"A","base":0,"text":"FUNCTION_BLOCK A END_FUNCTION_BLOCK"}]} => {"commit":1}
-{"op":"take"} => {"job":1,"kind":"faults","unit":"A"}
+@keys => 1 pending, Faults A pending
+@1 {"op":"take"} => {"job":1,"kind":"faults","unit":"A"}
 @2 {"op":"take"} => {"job":0}
 @keys => 1 pending, Faults A pending out
 @2 {"op":"ask","kind":"faults","unit":"A"} => {"answer":"pending"}
 @keys => 1 pending, Faults A pending out
 @2 {"op":"give_back","kind":"faults","unit":"A"} => {"returned":true}
+@keys => 1 pending, Faults A pending
 @1 {"op":"take"} => {"job":1,"kind":"faults","unit":"A"}
 {"op":"deliver","job":1} => {"delivered":"accepted"}
 {"op":"deliver","job":1} => {"refused":"NotPending"}
+@keys => 0 pending, Faults A value
 @2 {"op":"give_back","kind":"faults","unit":"A"} => {"returned":false}
+@keys => 0 pending, Faults A value
 
 == A type is added, changed and removed while jobs run for it and for a unit that uses it / 4 / 100
 @1 {"op":"commit","changes":[{"put":"A","base":0,"text":"FUNCTION_BLOCK A FBS X:B; END_FBS END_FUNCTION_BLOCK"}]} => {"commit":1}

@@ -1,6 +1,6 @@
 pub mod Keeping
 pub mod Empty
-pub mod Showing
+pub mod Entries
 pub mod Marks
 pub mod Founds
 pub mod Headline
@@ -9,3 +9,5 @@ pub mod Renewals
 pub mod KeysKept
 pub mod Checkpointing
 pub mod Committing
+pub mod Behind
+pub mod Telling

@@ -1,9 +1,11 @@
--- How a call or a checkpoint relates a desk before it and after it.
-use Rattle.std.specs.Prelude.{◌≡◌, ◌⊎◌, ℕ, None, Option, Some, Result, Ok, Err}
+-- How a call, a checkpoint or a read relates a desk before it and after it.
+use Rattle.std.specs.{Prelude.{◌≡◌, ◌⊎◌, ℕ, None, Option, Some, Result, Ok, Err, option_map}, declared.alloc.AllocError.{AllocError}}
 use Rattle.fb_entries.specs.Jobs.Reads.{PlainJob}
 use Rattle.fb_history.specs.{Checkpoints.{Checking, KeptUpTo, OverUnits, OverNumbers}, Limits.{Bounds}}
 use Rattle.fb_history.specs.Machine.{Call, ToCommit, ToTake, ToDeliver, ToGiveBack, ToAsk, Reply, OfCommit, OfTake, OfDeliver, OfGiveBack, OfAsk}
 use Rattle.fb_history.specs.{declared.answers.Asked.{Asked}, declared.answers.Delivered.{Delivered}}
+use Rattle.fb_history.specs.{Reads.{Showing, showing_in}, declared.reading.Reading.{Reading}}
+use Rattle.fb_history.specs.declared.reading.Showing as made
 use Rattle.fb_bench.specs.{Records.{job_in, shown_in}, declared.answers.Taken.{Taken}, declared.desk.DeskError.{DeskError}}
 use Rattle.fb_bench.specs.{declared.desk.DeskError.TheVariants.{HistoryFull, Behind, Memory}, declared.desk.DeskCheckpointError.{DeskCheckpointError}}
 use Rattle.fb_bench.specs.declared.desk.DeskCheckpointError.TheVariants as refused
@@ -19,15 +21,17 @@ pub data CheckpointAnswer : Type 0 where
   Checked : (checking : Checking) → CheckpointAnswer
   SharedHistory : CheckpointAnswer
 
--- a call or a checkpoint, with its answer
+-- a call or a checkpoint, with its answer; or a read, with what it shows, or nothing if the desk answers `Behind`
 pub data Exchange : Type 0 where
   AskedCall : (call : Call) (answer : Answer) → Exchange
   AskedCheckpoint : (limits : Bounds) (answer : CheckpointAnswer) → Exchange
+  AskedRead : (reading : Reading) (shown : Option Showing) → Exchange
 
--- a step of a desk that makes calls by the first relation and checkpoints by the second
-abbrev pub Exchanges : {D : Type 0} → (D → Call → Answer → D → Type 0) → (D → Bounds → CheckpointAnswer → D → Type 0) → D → Exchange → D → Type 0
-Exchanges Step CheckpointStep old (AskedCall call answer) new = Step old call answer new
-Exchanges Step CheckpointStep old (AskedCheckpoint limits answer) new = CheckpointStep old limits answer new
+-- a step of a desk that makes calls by the first relation, checkpoints by the second and reads by the third
+abbrev pub Exchanges : {D : Type 0} → (D → Call → Answer → D → Type 0) → (D → Bounds → CheckpointAnswer → D → Type 0) → (D → Reading → Option Showing → D → Type 0) → D → Exchange → D → Type 0
+Exchanges Step CheckpointStep ReadStep old (AskedCall call answer) new = Step old call answer new
+Exchanges Step CheckpointStep ReadStep old (AskedCheckpoint limits answer) new = CheckpointStep old limits answer new
+Exchanges Step CheckpointStep ReadStep old (AskedRead reading shown) new = ReadStep old reading shown new
 
 -- a reply of the call's kind
 abbrev pub Fits : Call → Reply → Type 0
@@ -70,3 +74,12 @@ ServesCheckpoint Step old limits (Err (refused.UnitsOver count)) new = Step old 
 ServesCheckpoint Step old limits (Err refused.NumbersOver) new = Step old limits (Checked OverNumbers) new
 ServesCheckpoint Step old limits (Err refused.NotAlone) new = Step old limits SharedHistory new
 ServesCheckpoint Step old limits (Err refused.Memory) new = new ≡ old
+
+-- The read was shown, or nothing since the desk answers `Behind`. For lack of memory nothing changed.
+abbrev pub ServesRead : {D : Type 0} → (D → Reading → Option Showing → D → Type 0) → D → Reading → Result (Option made.Showing) AllocError → D → Type 0
+ServesRead Step old reading (Ok shown) new = Step old reading (option_map showing_in shown) new
+ServesRead Step old reading (Err e) new = new ≡ old
+
+-- a desk that answers no reads
+abbrev pub NoRead : {D : Type 0} → D → Reading → Option Showing → D → Type 0
+NoRead old reading shown new = ⊥

@@ -5,6 +5,7 @@ pub mod Headline
 pub mod Outcomes
 pub mod Peeks
 pub mod Requests
+pub mod Snapshots
 pub mod Calls
 pub mod Solo
 pub mod Refusals

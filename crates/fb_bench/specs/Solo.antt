@@ -1,7 +1,7 @@
 -- A workbench as one caller's desk.
 use Rattle.std.specs.Prelude.{◌≡◌, ℕ, ◌≤◌, ◌<◌, length, Result, Err}
 use Rattle.fb_history.specs.{Checkpoints.{KeptUpTo, checking, bench_checked}, Limits.{Bounds}, Machine.{Call, reply}, BenchView.{BenchView, state_of, recorded}}
-use Rattle.fb_bench.specs.Calls.{Answer, Replied, FullHistory, BehindHistory, CheckpointAnswer, Checked, SharedHistory, Exchange, Exchanges}
+use Rattle.fb_bench.specs.Calls.{Answer, Replied, FullHistory, BehindHistory, CheckpointAnswer, Checked, SharedHistory, Exchange, Exchanges, NoRead}
 use Rattle.fb_bench.specs.{declared.desk.DeskError.{DeskError}, declared.desk.DeskCheckpointError.{DeskCheckpointError}, declared.desk.Solo.{Solo}}
 use Rattle.fb_bench.specs.declared.desk.DeskError.TheVariants as refused
 use Rattle.fb_bench.specs.declared.desk.DeskCheckpointError.TheVariants as unmade
@@ -18,7 +18,7 @@ IsCheckpointStep old limits (Checked it) new = (it ≡ checking limits old) × (
 IsCheckpointStep old limits SharedHistory new = ⊥
 
 abbrev pub IsStep : ℕ → BenchView → Exchange → BenchView → Type 0
-IsStep caller = Exchanges (IsCallStep caller) IsCheckpointStep
+IsStep caller = Exchanges (IsCallStep caller) IsCheckpointStep NoRead
 
 -- memory can run out for a call only if the history has room for it
 abbrev pub IsOpenCall : {R : Type 0} → BenchView → Result R DeskError → Type 0
@@ -38,4 +38,4 @@ abbrev pub SoloCheckpoint : Solo → Bounds → CheckpointAnswer → Solo → Ty
 SoloCheckpoint old limits answer new = IsCheckpointStep old.bench.now limits answer new.bench.now × (new.caller ≡ old.caller) × (new.bench.ghost_name ≡ old.bench.ghost_name)
 
 abbrev pub SoloStep : Solo → Exchange → Solo → Type 0
-SoloStep = Exchanges SoloCall SoloCheckpoint
+SoloStep = Exchanges SoloCall SoloCheckpoint NoRead

@@ -13,7 +13,7 @@ use fb_entries::jobs::{Finished, Job, Key, Read, current_nets, current_reads, lo
 use fb_entries::library::{Change, Library, Spot};
 use fb_entries::{Entries, Marks};
 use fb_history::{
-    Asked, Call, CheckpointError, Committed, Delivered, GivenBack, History, Limits, Record,
+    Asked, Call, CheckpointRefused, Committed, Delivered, GivenBack, History, Limits, Record,
     Refused, Reply, Start, TextChange,
 };
 use fb_text::Name;
@@ -65,7 +65,7 @@ impl Bench {
     ghost use Rattle.fb_history.specs.Machine.{ToTake, ToDeliver, ToGiveBack, ToAsk, OfCommit, OfTake, OfDeliver, OfGiveBack, OfAsk, shown, next, deliver_answer, keys_of};
     ghost use Rattle.fb_history.specs.declared.answers.Delivered.TheVariants.{Accepted};
     ghost use Rattle.fb_history.specs.BenchView.{IsOrigin, IsFull, new_bench, state_of, reply_at, recorded, record_of, record_numbered, all_turns, last_number, pages_after, calls_of, IsReplay, AreTurns};
-    ghost use Rattle.fb_history.specs.{Records.{records_in}, Checkpoints.{checking, checkpointed, ChecksAs}, Due.{is_due}, Laws.{entry_after}};
+    ghost use Rattle.fb_history.specs.{Events.{last_event_of}, Records.{records_in}, Checkpoints.{checking, checkpointed, ChecksAs}, Due.{is_due}, Laws.{entry_after}};
     ghost use Rattle.fb_bench.specs.{Records.{call_of, reply_of, shown_in, job_in, commit_of}, Refusals.{IsFullRefusal, round_as}};
     ghost use Rattle.fb_bench.specs.{Requests.{call_for, reply_in}, Calls.{Fits, ServesRound}, Solo.{IsCallStep}, Headline.{LeavesState, ShowsEntry}, Peeks.{shown_by, is_pending}};
 
@@ -136,6 +136,20 @@ impl Bench {
         self.history.record(number)
     }
 
+    /// The same, to be shared.
+    pub(crate) fn shared_record(&self, number: u64) -> Option<&Arc<Record>>
+        ensures { option_map (λ it. it.now.value) result ≡ record_numbered self.now number }
+    {
+        self.history.shared_record(number)
+    }
+
+    /// The number of the last call that is an event for those who watch, those before the start included, or 0.
+    pub fn last_event(&self) -> u64
+        ensures { result ≡ last_event_of self.now }
+    {
+        self.history.last_event()
+    }
+
     /// How many recorded calls the caller has made, those before the start included.
     pub fn turns_of(&self, caller: u32) -> u64
         ensures { result ≡ all_turns self.now caller }
@@ -165,7 +179,7 @@ impl Bench {
         self.entries.key_at(place)
     }
 
-    /// How many keys are pending. It looks at each entry.
+    /// How many keys are pending.
     pub fn pending_count(&self) -> usize
         ensures { result ≡ count_by (state_of self.now).pending
             (keys_of (state_of self.now).units) }
@@ -254,6 +268,37 @@ impl Bench {
                 Some(kept) => Shown::Value(kept.shared()),
             },
         }
+    }
+
+    /// The same, shared.
+    pub(crate) fn known(&self, key: &Key) -> Result<Asked, AllocError>
+        ensures { IfOk result (λ asked. shown_in asked ≡ shown (state_of self.now) key.now) }
+    {
+        match self.entries.get(key) {
+            None => Ok(Asked::NoSuchKey),
+            Some(entry) => match &entry.value {
+                None => Ok(Asked::Pending),
+                Some(kept) => Ok(Asked::Value(kept.shared().clone()?)),
+            },
+        }
+    }
+
+    pub(crate) fn alloc(&self) -> Global {
+        self.alloc
+    }
+
+    /// How many commits were good.
+    pub(crate) fn commits(&self) -> u64
+        ensures { result ≡ (state_of self.now).commits }
+    {
+        self.commits
+    }
+
+    /// The present texts.
+    pub(crate) fn library(&self) -> &Library
+        ensures { result.now ≡ (state_of self.now).units }
+    {
+        &self.library
     }
 
     /// The revision of a unit, or 0 if it is absent.
@@ -498,6 +543,7 @@ impl Bench {
     /// Takes a job, runs it and delivers its result, which is accepted, since all that it has read is unchanged. False if there is nothing to take.
     pub fn work_once(&mut self, caller: u32) -> Result<bool, Refused>
         ensures round { ServesRound (IsCallStep caller) self.old (round_as result) self.new }
+        ensures full { IsFull self.old.log → result ≡ Err Refused.HistoryFull }
     {
         let Taken::Job(job) = self.take(caller)? else {
             return Ok(false);
@@ -638,7 +684,7 @@ impl Bench {
     /// Makes the present state what the history begins from, with new limits, and gives the number of all calls so far. Texts, values, pending
     /// keys and handed-out marks stay unchanged; the records go, and their memory is given back to the allocator. It is no call itself,
     /// and is not recorded.
-    pub fn checkpoint(&mut self, limits: Limits) -> Result<u64, CheckpointError>
+    pub fn checkpoint(&mut self, limits: Limits) -> Result<u64, CheckpointRefused>
         ensures answer { ChecksAs (checking limits self.old) result }
         ensures kept { OnOk result (self.new ≡ checkpointed limits self.old) }
         ensures err { OnErr result (self.new ≡ self.old) }
@@ -653,7 +699,10 @@ impl Bench {
     }
 
     /// As `checkpoint`, with the records that were made since the last start, so that the holder of a lock can drop them later.
-    pub fn begin_anew(&mut self, limits: Limits) -> Result<(u64, Vec<Arc<Record>>), CheckpointError>
+    pub fn begin_anew(
+        &mut self,
+        limits: Limits,
+    ) -> Result<(u64, Vec<Arc<Record>>), CheckpointRefused>
         ensures before { IfOk result (λ made. ChecksAs (checking limits self.old) (Ok made.0)) }
         ensures refused { IfErr result
             (λ refused. ChecksAs (checking limits self.old) (Err refused)) }
@@ -664,10 +713,10 @@ impl Bench {
     {
         let count = self.library.len() as u64;
         if limits.units() < count {
-            return Err(CheckpointError::UnitsOver(count));
+            return Err(CheckpointRefused::UnitsOver(count));
         }
         if u64::MAX - limits.history() < self.history.last_number() {
-            return Err(CheckpointError::NumbersOver);
+            return Err(CheckpointRefused::NumbersOver);
         }
         let library = self.library.copy()?;
         let Marks { pending, out } = self.entries.marks(self.alloc)?;
@@ -755,7 +804,7 @@ fn first_stale(library: &Library, reads: &[Read]) -> Option<Name>
     let mut spot = Spot::first();
     for read in reads {
         if !is_current(library, read, &mut spot) {
-            return Some(read.name.name());
+            return Some(read.name());
         }
     }
     None
@@ -765,7 +814,7 @@ fn first_stale(library: &Library, reads: &[Read]) -> Option<Name>
 fn is_current(library: &Library, read: &Read, spot: &mut Spot) -> bool
     ensures { result ≡ is_current library.now (seen_of read.now) }
 {
-    match (library.filed_near(&read.name.name(), spot), &read.source) {
+    match (library.filed_near(&read.name(), spot), &read.source) {
         (None, None) => true,
         (Some(now), Some(then)) => now.revision() == read.revision
             && now.source().text() == then.text(),

@@ -7,8 +7,10 @@ use crate::bench::Bench;
 use crate::request::Request;
 use fb_entries::jobs::{Finished, Key};
 use fb_entries::library::Change;
-use fb_history::{Asked, CheckpointError, Committed, Delivered, GivenBack, Limits, Refused};
-use std::alloc::Global;
+use fb_history::{
+    Asked, CheckpointRefused, Committed, Delivered, GivenBack, Limits, Reading, Refused, Showing,
+};
+use std::alloc::{AllocError, Global};
 
 /// Why a desk does not record a call.
 #[derive(Clone, Copy, PartialEq, Eq, Debug)]
@@ -48,10 +50,10 @@ pub enum DeskCheckpointError {
 /// The recorded calls and the checkpoint, as one session makes them. A desk defines how it makes any call and a checkpoint; the calls by name follow from that.
 // Works around the borrow checker: both types that a `Request` can borrow must occur in a function that makes one.
 pub trait Desk {
-    ghost use Rattle.std.specs.Prelude.{IfOk};
-    ghost use Rattle.fb_history.specs.{Limits.{Bounds}, Machine.{Call, ToCommit, ToTake, ToDeliver, ToGiveBack, ToAsk, OfCommit, OfDeliver, OfGiveBack}};
+    ghost use Rattle.std.specs.Prelude.{Bool, IfOk, Option};
+    ghost use Rattle.fb_history.specs.{declared.reading.Reading.{Reading}, Reads.{Showing}, Limits.{Bounds}, Machine.{Call, ToCommit, ToTake, ToDeliver, ToGiveBack, ToAsk, OfCommit, OfDeliver, OfGiveBack}};
     ghost use Rattle.fb_bench.specs.{Records.{listed}, Requests.{call_for, reply_in}};
-    ghost use Rattle.fb_bench.specs.Calls.{Answer, CheckpointAnswer, Fits, Serves, ServesCheckpoint, ServesRound, take_reply, ask_reply};
+    ghost use Rattle.fb_bench.specs.Calls.{Answer, CheckpointAnswer, Fits, Serves, ServesCheckpoint, ServesRead, ServesRound, take_reply, ask_reply};
 
     /// In the first state of a desk the call may get this answer, and the second state is the one after it.
     ghost step: { Self → Call → Answer → Self → Type 0 };
@@ -59,10 +61,26 @@ pub trait Desk {
     /// In the first state of a desk the checkpoint may get this answer, and the second state is the one after it.
     ghost checkpoint_step: { Self → Bounds → CheckpointAnswer → Self → Type 0 };
 
+    /// In the first state of a desk a read may show this, or nothing if the history is not the one that the desk has seen, and the second state is the one after
+    /// it.
+    ghost read_step: { Self → Reading → Option Showing → Self → Type 0 };
+
+    /// Whether the desk answers reads.
+    ghost has_reads: { Bool };
+
     /// Makes any call. The answer is of the call's kind.
     fn perform(&mut self, request: &Request<'_>) -> Result<Answered, DeskError>
         ensures fits { IfOk result (λ answer. Fits (call_for request.now) (reply_in answer)) }
         ensures step { Serves step self.old (call_for request.now) reply_in result self.new };
+
+    /// Whether it answers reads.
+    fn answers_reads(&self) -> bool
+        ensures { result ≡ has_reads };
+
+    /// Reads, without a record. If there are no events yet, it waits for them for up to this number of milliseconds. None if the history is not the one that
+    /// this desk has seen.
+    fn read(&mut self, reading: &Reading, wait: u64) -> Result<Option<Showing>, AllocError>
+        ensures { ServesRead read_step self.old reading.now result self.new };
 
     /// Makes the present state what the history begins from, with new limits, and gives the number of all calls so far.
     fn checkpoint(&mut self, limits: Limits) -> Result<u64, DeskCheckpointError>
@@ -159,13 +177,27 @@ impl<'a> Solo<'a> {
 }
 
 impl Desk for Solo<'_> {
-    ghost use Rattle.std.specs.Prelude.{IfOk};
-    ghost use Rattle.fb_bench.specs.{Calls.{Fits, Serves, ServesCheckpoint, ServesRound}, Requests.{call_for, reply_in}};
+    ghost use Rattle.std.specs.Prelude.{◌≡◌, Err, IfOk, false};
+    ghost use Rattle.fb_history.specs.BenchView.{IsFull};
+    ghost use Rattle.fb_bench.specs.{Calls.{Fits, NoRead, Serves, ServesCheckpoint, ServesRound}, Requests.{call_for, reply_in}};
     ghost use Rattle.fb_bench.specs.Solo.{IsOpenCheckpoint, IsOpenCall, SoloCheckpoint, SoloCall};
 
     ghost step = { SoloCall };
 
     ghost checkpoint_step = { SoloCheckpoint };
+
+    ghost read_step = { NoRead };
+
+    ghost has_reads = { false };
+
+    fn answers_reads(&self) -> bool {
+        false
+    }
+
+    /// It answers no reads.
+    fn read(&mut self, _reading: &Reading, _wait: u64) -> Result<Option<Showing>, AllocError> {
+        Err(AllocError)
+    }
 
     fn perform(&mut self, request: &Request<'_>) -> Result<Answered, DeskError>
         ensures fits { IfOk result (λ answer. Fits (call_for request.now) (reply_in answer)) }
@@ -177,7 +209,8 @@ impl Desk for Solo<'_> {
     }
 
     fn work_once(&mut self, _alloc: Global) -> Result<Option<Delivered>, DeskError>
-        ensures { ServesRound SoloCall self.old result self.new }
+        ensures round { ServesRound SoloCall self.old result self.new }
+        ensures full { IsFull self.old.bench.now.log → result ≡ Err DeskError.HistoryFull }
     {
         let has_worked = self.bench.work_once(self.caller)?;
         Ok(has_worked.then_some(Delivered::Accepted))
@@ -189,9 +222,11 @@ impl Desk for Solo<'_> {
     {
         match self.bench.checkpoint(limits) {
             Ok(before) => Ok(before),
-            Err(CheckpointError::UnitsOver(count)) => { Err(DeskCheckpointError::UnitsOver(count)) }
-            Err(CheckpointError::NumbersOver) => Err(DeskCheckpointError::NumbersOver),
-            Err(CheckpointError::Memory) => Err(DeskCheckpointError::Memory),
+            Err(CheckpointRefused::UnitsOver(count)) => {
+                Err(DeskCheckpointError::UnitsOver(count))
+            }
+            Err(CheckpointRefused::NumbersOver) => Err(DeskCheckpointError::NumbersOver),
+            Err(CheckpointRefused::Memory) => Err(DeskCheckpointError::Memory),
         }
     }
 }

@@ -7,18 +7,21 @@ mod commit;
 mod desk;
 mod found;
 mod peek;
+mod read;
 mod request;
+mod snapshot;
 
 pub use answers::{Answered, Taken};
 pub use bench::Bench;
 pub use desk::{Desk, DeskCheckpointError, DeskError, Solo};
 pub use fb_history::{
-    Asked, Call, CheckpointError, Committed, Delivered, GivenBack, Limits, Record, Refused, Reply,
-    Start, TextChange, Wanted, checkpoints_are_unseen, entries_follow_the_texts,
-    reach_before_and_after,
+    Asked, Call, CheckpointRefused, Committed, Delivered, GivenBack, Identity, Limits, Reader,
+    Reading, Record, Refused, Reply, Showing, Start, TextChange, Wanted, checkpoints_are_unseen,
+    entries_follow_the_texts, reach_before_and_after,
 };
 pub use peek::Shown;
 pub use request::Request;
+pub use snapshot::Snapshot;
 
 /// Of `fb_parse`, for the crates above.
 pub mod parse {

@@ -4,6 +4,7 @@ pub mod Again
 pub mod Indexing
 pub mod Reached
 pub mod Findings
+mod Counts
 mod Firsts
 mod Present
 -- Of the crates below, for the crates above.

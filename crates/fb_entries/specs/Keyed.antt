@@ -8,9 +8,13 @@ pub record Keyed : Type 0 where
   pub entries : List (Key × Entry)
   pub ready : List Key
 
+-- the entry of a key among these
+abbrev pub entry_in : List (Key × Entry) → Key → Option Entry
+entry_in entries key = lookup (is_at (key_cmp key)) entries
+
 -- the entry of a key
 abbrev pub entry_at : Keyed → Key → Option Entry
-entry_at it key = lookup (is_at (key_cmp key)) it.entries
+entry_at it key = entry_in it.entries key
 
 -- whether the key can be taken
 abbrev pub can_take : Keyed → Key → Bool

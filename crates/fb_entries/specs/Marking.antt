@@ -61,6 +61,14 @@ Entries = Key → Option Entry
 abbrev pub Keys : Type 0
 Keys = Key → Bool
 
+-- the key has this entry, and no other is changed
+abbrev pub PutsEntry : Key → Entry → Entries → Entries → Type 0
+PutsEntry key entry old new = (other : Key) → new other ≡ (if same_key key other then Some entry else old other)
+
+-- the key no longer has an entry, and no other is changed
+abbrev pub LosesEntry : Key → Entries → Entries → Type 0
+LosesEntry key old new = (other : Key) → new other ≡ (if same_key key other then None else old other)
+
 -- the entry of the key, if there is one, is changed, and no other
 abbrev pub ChangesEntry : Key → (Entry → Entry) → Entries → Entries → Type 0
 ChangesEntry key change old new =

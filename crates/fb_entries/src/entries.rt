@@ -1,6 +1,6 @@
 //! What a workbench knows of its keys.
-//! Beside the entries there is only the set of keys that can be taken: `key_at` and `pending_count` walk, since they are called rarely, and each
-//! further list would cost every commit.
+//! Beside the entries there is only the set of keys that can be taken: `key_at` walks, since it is called rarely, and each further list would cost every
+//! commit.
 ghost use Rattle.std.specs.{Prelude.{◌≡◌, [], None, true, false, IfOk, OnOk, OnErr, count_by, length, slice_get}, Option.{option_copied}};
 ghost use Rattle.std.specs.{List.Sorted.{IsStrictlySortedBy}, Map.{keys_of, values_of}};
 ghost use Rattle.fb_jobs.specs.{KeyOrder.{key_cmp}, Reach.{AgreeApartFrom, first_repeated}};
@@ -8,7 +8,8 @@ ghost use Rattle.fb_entries.specs.Indexed.{IsIndexOf};
 ghost use Rattle.fb_entries.specs.Marking.{is_handed_out, is_unkept, keys_with, with_found, with_out, with_value, ChangesEntry, LosesEntries, LosesKeys, MarksKey, SameKeys};
 ghost use Rattle.fb_entries.specs.{Found.{units_of}, Keyed.{can_take, entry_at, IsFirstReady}, Renew.{HasRoom, IsCarriedOut, IsRenewal, IsTakenBack}};
 
-use crate::entry::{Entry, join, keep, leave, mark_out, store_precomputed};
+use crate::entry::{Entry, join, leave};
+use crate::entry_map::EntryMap;
 use crate::keys::{parted, present_keys};
 use crate::reach::reindexed;
 use crate::renewal::{
@@ -26,7 +27,7 @@ use std::sync::Arc;
 
 /// The keys of a library, what is kept of each, and which of them can be taken.
 pub struct Entries {
-    by_key: BTreeMap<Key, Entry>,
+    by_key: EntryMap,
     /// The keys that are pending and not handed out.
     ready: BTreeSet<Key>,
 }
@@ -60,7 +61,7 @@ impl Model for Entries {
 
     ghost Value = { Keyed };
 
-    ghost view = { λ it. record { entries = it.by_key.entries; ready = it.ready.keys } };
+    ghost view = { λ it. record { entries = it.by_key; ready = it.ready.keys } };
 }
 
 impl Entries {
@@ -70,7 +71,7 @@ impl Entries {
         ensures ready { result.ready ≡ [] }
     {
         Entries {
-            by_key: BTreeMap::new(alloc),
+            by_key: EntryMap::new(alloc),
             ready: BTreeSet::new(alloc),
         }
     }
@@ -80,7 +81,7 @@ impl Entries {
         ensures len { result ≡ length self.now.entries }
         ensures ordered { IsStrictlySortedBy key_cmp (keys_of self.now.entries) }
     {
-        self.by_key.len()
+        self.by_key.entries().len()
     }
 
     /// What is kept of a key.
@@ -105,18 +106,17 @@ impl Entries {
         ensures key { result ≡ slice_get (keys_of self.now.entries) place }
         ensures ordered { IsStrictlySortedBy key_cmp (keys_of self.now.entries) }
     {
-        self.by_key.keys().nth(place).copied()
+        self.by_key.entries().keys().nth(place).copied()
     }
 
-    /// How many keys are pending. It looks at each entry.
+    /// How many keys are pending.
     pub fn pending_count(&self) -> usize
         ensures count { result ≡ count_by is_unkept (values_of self.now.entries) }
         ensures ordered { IsStrictlySortedBy key_cmp (keys_of self.now.entries) }
     {
-        self.by_key
-            .values()
-            .filter(|entry| entry.value.is_none())
-            .count()
+        // For the proof: the keys are in order.
+        let _len = self.by_key.entries().len();
+        self.by_key.pending_count()
     }
 
     /// Which keys are pending, and which are handed out. It looks at each entry.
@@ -127,8 +127,8 @@ impl Entries {
             (λ marks. marks.out.items ≡ keys_with is_handed_out self.now.entries) }
         ensures ordered { IsStrictlySortedBy key_cmp (keys_of self.now.entries) }
     {
-        let pending = pending_keys(alloc, &self.by_key)?;
-        let out = keys_out(alloc, &self.by_key)?;
+        let pending = pending_keys(alloc, self.by_key.entries())?;
+        let out = keys_out(alloc, self.by_key.entries())?;
         Ok(Marks { pending, out })
     }
 
@@ -168,7 +168,7 @@ impl Entries {
     {
         let own = keys_by_name(alloc, units)?;
         let (present, gone) = parted(alloc, library, &own)?;
-        let fresh = without_entry(alloc, &self.by_key, &present)?;
+        let fresh = without_entry(alloc, self.by_key.entries(), &present)?;
         let near = index.near_of(alloc, units)?;
         let far = index.far_of(alloc, units)?;
         let renewed = present_keys(alloc, library, &near, &far)?;
@@ -220,7 +220,7 @@ impl Entries {
         ensures entries { ChangesEntry key.now (with_out true) (entry_at self.old) (entry_at self.new) }
         ensures ready { MarksKey key.now false (can_take self.old) (can_take self.new) }
     {
-        mark_out(&mut self.by_key, key, true);
+        self.by_key.mark_out(key, true);
         leave(&mut self.ready, key);
     }
 
@@ -229,7 +229,7 @@ impl Entries {
         ensures entries { ChangesEntry key.now (with_out false) (entry_at self.old) (entry_at self.new) }
         ensures ready { self.new.ready ≡ self.old.ready }
     {
-        mark_out(&mut self.by_key, key, false);
+        self.by_key.mark_out(key, false);
     }
 
     /// Lets a key be taken, or leaves all unchanged.
@@ -254,7 +254,7 @@ impl Entries {
         ensures entries { ChangesEntry key.now (with_value value derivation) (entry_at self.old) (entry_at self.new) }
         ensures ready { MarksKey key.now false (can_take self.old) (can_take self.new) }
     {
-        keep(&mut self.by_key, key, value, derivation);
+        self.by_key.keep(key, value, derivation);
         leave(&mut self.ready, key);
     }
 
@@ -263,7 +263,7 @@ impl Entries {
         ensures entries { ChangesEntry key.now (with_found found) (entry_at self.old) (entry_at self.new) }
         ensures ready { self.new.ready ≡ self.old.ready }
     {
-        store_precomputed(&mut self.by_key, key, found);
+        self.by_key.store_precomputed(key, found);
     }
 }
 

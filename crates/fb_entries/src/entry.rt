@@ -1,14 +1,13 @@
 //! What is kept of a key.
 //! That an entry has the key that it is found under is no invariant: `share_of` compares the two keys, which costs less.
 ghost use Rattle.std.specs.Prelude.{◌≡◌, true, false, IfOk, OnOk, OnErr};
-ghost use Rattle.std.specs.BTreeMap as tree;
 ghost use Rattle.std.specs.BTreeSet as set;
 ghost use Rattle.fb_jobs.specs.KeyOrder.{key_cmp};
-ghost use Rattle.fb_entries.specs.Marking.{blank, unless_kept, with_found, with_out, with_value, ChangesEntry, RenewsEntry, MarksKey, SameKeys};
+ghost use Rattle.fb_entries.specs.Marking.{blank, MarksKey, SameKeys};
 
 use fb_jobs::{Derivation, KeptValue, Key, Value};
 use std::alloc::{AllocError, Global};
-use std::collections::{BTreeMap, BTreeSet};
+use std::collections::BTreeSet;
 use std::sync::Arc;
 
 /// What is kept of a key.
@@ -60,62 +59,6 @@ impl Entry {
             return Ok(shared);
         }
         Ok(Arc::new(alloc, key)?)
-    }
-}
-
-/// Marks a key that has an entry as handed out or not.
-pub(crate) fn mark_out(entries: &mut BTreeMap<Key, Entry>, key: &Key, out: bool)
-    ensures { ChangesEntry key.now (with_out out) (tree.get key_cmp entries.old) (tree.get key_cmp entries.new) }
-{
-    if let Some(entry) = entries.get_mut(key) {
-        entry.out = out;
-    }
-}
-
-/// Gives a key that has an entry its value, with what made it; the key is not handed out then.
-pub(crate) fn keep(
-    entries: &mut BTreeMap<Key, Entry>,
-    key: &Key,
-    value: Arc<Value>,
-    derivation: Derivation,
-)
-    ensures { ChangesEntry key.now (with_value value derivation) (tree.get key_cmp entries.old) (tree.get key_cmp entries.new) }
-{
-    if let Some(entry) = entries.get_mut(key) {
-        entry.value = Some(KeptValue::new(value));
-        entry.out = false;
-        entry.found = None;
-        entry.previous = Some(derivation);
-    }
-}
-
-/// What was found for an entry that has this value: nothing, if it has one.
-fn unless_kept(value: &Option<KeptValue>, found: Arc<Value>) -> Option<Arc<Value>>
-    ensures { result ≡ unless_kept value.now found }
-{
-    match value {
-        Some(_) => None,
-        None => Some(found),
-    }
-}
-
-/// Keeps for a pending key that has an entry the value that a job for another key computed on its way. The key stays pending.
-pub(crate) fn store_precomputed(entries: &mut BTreeMap<Key, Entry>, key: &Key, found: Arc<Value>)
-    ensures { ChangesEntry key.now (with_found found) (tree.get key_cmp entries.old) (tree.get key_cmp entries.new) }
-{
-    if let Some(entry) = entries.get_mut(key) {
-        entry.found = unless_kept(&entry.value, found);
-    }
-}
-
-/// Lets a key that has an entry wait for a result; the key is not handed out then, and what was found for it is dropped.
-pub(crate) fn renew(entries: &mut BTreeMap<Key, Entry>, key: &Key)
-    ensures { RenewsEntry key.now (tree.get key_cmp entries.old) (tree.get key_cmp entries.new) }
-{
-    if let Some(entry) = entries.get_mut(key) {
-        entry.value = None;
-        let _ = entry.found.take();
-        entry.out = false;
     }
 }
 

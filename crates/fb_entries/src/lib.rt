@@ -3,6 +3,7 @@
 
 mod entries;
 mod entry;
+mod entry_map;
 mod keys;
 mod laws;
 mod reach;

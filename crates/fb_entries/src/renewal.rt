@@ -4,9 +4,11 @@ ghost use Rattle.std.specs.BTreeMap as tree;
 ghost use Rattle.std.specs.BTreeSet as set;
 ghost use Rattle.fb_index.specs.{Library.Texts.{unit_of}, Library.Changes.{edits_of}};
 ghost use Rattle.fb_jobs.specs.KeyOrder.{key_cmp};
+ghost use Rattle.fb_entries.specs.Keyed.{entry_in};
 ghost use Rattle.fb_entries.specs.Marking.{KeepsOtherEntries, HasEntries, LosesEntries, RenewsEntries, KeepsOtherKeys, HasKeys, LosesKeys};
 
-use crate::entry::{Entry, join, leave, renew};
+use crate::entry::{Entry, join, leave};
+use crate::entry_map::EntryMap;
 use fb_index::library::Change;
 use fb_jobs::Key;
 use fb_text::Name;
@@ -88,27 +90,25 @@ pub(crate) fn not_in(
 /// Makes an entry that waits for a result for each of these keys.
 pub(crate) fn put_blank(
     alloc: Global,
-    entries: &mut BTreeMap<Key, Entry>,
+    entries: &mut EntryMap,
     keys: &[Key],
 ) -> Result<(), AllocError>
-    ensures others { KeepsOtherEntries keys.now (tree.get key_cmp entries.old) (tree.get key_cmp entries.new) }
-    ensures there { OnOk result (HasEntries keys.now (tree.get key_cmp entries.new)) }
+    ensures others { KeepsOtherEntries keys.now (entry_in entries.old) (entry_in entries.new) }
+    ensures there { OnOk result (HasEntries keys.now (entry_in entries.new)) }
 {
     for key in keys {
         let shared = Arc::new(alloc, *key)?;
-        if entries.insert(*key, Entry::blank(shared)).is_err() {
-            return Err(AllocError);
-        }
+        entries.insert(*key, Entry::blank(shared))?;
     }
     Ok(())
 }
 
 /// Takes the entries of these keys out.
-pub(crate) fn take_out(entries: &mut BTreeMap<Key, Entry>, keys: &[Key])
-    ensures { LosesEntries keys.now (tree.get key_cmp entries.old) (tree.get key_cmp entries.new) }
+pub(crate) fn take_out(entries: &mut EntryMap, keys: &[Key])
+    ensures { LosesEntries keys.now (entry_in entries.old) (entry_in entries.new) }
 {
     for key in keys {
-        let _ = entries.remove(key);
+        entries.remove(key);
     }
 }
 
@@ -131,10 +131,10 @@ pub(crate) fn leave_all(members: &mut BTreeSet<Key>, keys: &[Key])
 }
 
 /// Lets all of these keys wait for a result.
-pub(crate) fn renew_all(entries: &mut BTreeMap<Key, Entry>, keys: &[Key])
-    ensures { RenewsEntries keys.now (tree.get key_cmp entries.old) (tree.get key_cmp entries.new) }
+pub(crate) fn renew_all(entries: &mut EntryMap, keys: &[Key])
+    ensures { RenewsEntries keys.now (entry_in entries.old) (entry_in entries.new) }
 {
     for key in keys {
-        renew(entries, key);
+        entries.renew(key);
     }
 }

@@ -6,3 +6,4 @@ pub mod Dues
 pub mod AfterCalls
 pub mod Pages
 pub mod Restarts
+pub mod EventLemmas

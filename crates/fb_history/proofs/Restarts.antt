@@ -7,7 +7,7 @@ use Rattle.fb_jobs.proofs.{Members.{of_filtered}, Order.{keys_equal}}
 use Rattle.fb_history.specs.declared.answers.Committed.{Committed}
 use Rattle.fb_history.specs.declared.answers.Committed.TheVariants.{Done, NoChange, TooManyChanges, SameUnitTwice, StaleBase, NoSuchUnit, TooManyUnits}
 use Rattle.fb_history.specs.Machine.{State, Call, ToCommit, ToTake, ToDeliver, ToGiveBack, ToAsk, commit_answer, after_commit, next, after_take, deliver_answer, after_deliver, give_back_answer, after_give_back, after, keys_of, reaches}
-use Rattle.fb_history.specs.Checkpoints.{checkpointed, IsUnseen, AreOne, NumbersGoOn}
+use Rattle.fb_history.specs.{Checkpoints.{checkpointed, IsUnseen, AreOne, NumbersGoOn}, Events.{last_event_of}}
 use Rattle.fb_history.specs.{declared.answers.Delivered.{Delivered}, declared.answers.Delivered.TheVariants.{Accepted, NoSuchKey, NotPending, Stale}}
 use Rattle.fb_history.specs.{declared.answers.GivenBack.{GivenBack}, declared.answers.GivenBack.TheVariants.{Returned, NothingOut}}
 use Rattle.fb_history.specs.{Limits.{Bounds}, BenchView.{BenchView, IsOrigin, opened, replay, calls_of, state_of, last_number, pages_after, record_at}}
@@ -131,6 +131,7 @@ are_one first second bench begins =
         out = filter (same i).out (keys_of (same i).units);
         before = last i;
         pages = pages_after bench.origin.pages bench.log.records;
+        last_event = last_event_of bench;
       };
       log = record { limit = second.history; records = [] };
     }

@@ -35,7 +35,7 @@ pages_after pages (it ∷ records) = pages_after (page_more pages it.caller) rec
 -- ---- where a history begins
 
 -- What a history begins from: a state, with its keys that are pending and those that are handed out as lists; how many calls came
--- before it, and how many of each caller
+-- before it, and how many of each caller; and the number of the last one of them that is an event for those who watch, or 0
 pub record Origin : Type 0 where
   pub most_units : ℕ
   pub units : Texts
@@ -44,6 +44,7 @@ pub record Origin : Type 0 where
   pub out : List Key
   pub before : ℕ
   pub pages : List (ℕ × ℕ)
+  pub last_event : ℕ
 
 abbrev pub opened : Origin → State
 opened origin =
@@ -63,7 +64,7 @@ pub record IsOrigin (origin : Origin) : Type 0 where
 
 -- no texts, and no calls before
 abbrev pub empty_origin : ℕ → Origin
-empty_origin most_units = record { most_units = most_units; units = []; commits = 0; pending = []; out = []; before = 0; pages = [] }
+empty_origin most_units = record { most_units = most_units; units = []; commits = 0; pending = []; out = []; before = 0; pages = []; last_event = 0 }
 
 -- a workbench: all else follows from its origin and its history
 pub record BenchView : Type 0 where

@@ -1,8 +1,8 @@
 -- A history that begins again from the state to which it has led.
 use Rattle.std.specs.Prelude.{◌≡◌, ℕ, ◌+◌, ◌^◌, List, [], filter, length, None, Result, Ok, Err, if◌then◌else◌, nat_lt}
 use Rattle.fb_jobs.specs.{Library.Texts.{Texts}, declared.key.Key.{Key}}
-use Rattle.fb_history.specs.{Limits.{Bounds}, Machine.{keys_of}, BenchView.{BenchView, all_turns, last_number, pages_after, record_numbered, state_of}}
-use Rattle.fb_history.specs.{declared.answers.CheckpointError.{CheckpointError}, declared.answers.CheckpointError.TheVariants.{UnitsOver, NumbersOver, Memory}}
+use Rattle.fb_history.specs.{Events.{last_event_of}, Limits.{Bounds}, Machine.{keys_of}, BenchView.{BenchView, all_turns, last_number, pages_after, record_numbered, state_of}}
+use Rattle.fb_history.specs.{declared.answers.CheckpointRefused.{CheckpointRefused}, declared.answers.CheckpointRefused.TheVariants.{UnitsOver, NumbersOver, Memory}}
 
 -- the workbench that begins from these texts, commits and marks, after the calls of another
 abbrev pub restarted : Bounds → Texts → ℕ → List Key → List Key → BenchView → BenchView
@@ -17,6 +17,7 @@ restarted limits units commits pending out bench =
             out = out;
             before = last_number bench;
             pages = pages_after bench.origin.pages bench.log.records;
+            last_event = last_event_of bench;
           };
       log = record { limit = limits.history; records = [] };
     }
@@ -46,7 +47,7 @@ bench_checked (OverUnits count) limits bench = bench
 bench_checked OverNumbers limits bench = bench
 
 -- The answer is the result of the checkpoint. Memory can run out only if nothing else is against it
-abbrev pub ChecksAs : Checking → Result ℕ CheckpointError → Type 0
+abbrev pub ChecksAs : Checking → Result ℕ CheckpointRefused → Type 0
 ChecksAs (KeptUpTo before) (Ok answer) = answer ≡ before
 ChecksAs (KeptUpTo before) (Err refused) = refused ≡ Memory
 ChecksAs (OverUnits count) result = result ≡ Err (UnitsOver count)

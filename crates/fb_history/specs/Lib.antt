@@ -6,3 +6,5 @@ pub mod Limits
 pub mod Checkpoints
 pub mod Due
 pub mod Laws
+pub mod Events
+pub mod Reads

@@ -1,7 +1,7 @@
 //! The results of the five recorded calls.
 ghost use Rattle.std.specs.Prelude.{◌≡◌};
 ghost use Rattle.fb_history.specs.declared.answers.Refused.TheVariants.{Memory};
-ghost use Rattle.fb_history.specs.declared.answers.CheckpointError.TheVariants as checkpoint;
+ghost use Rattle.fb_history.specs.declared.answers.CheckpointRefused.TheVariants as checkpoint;
 
 use fb_jobs::Value;
 use fb_text::Name;
@@ -67,7 +67,7 @@ impl From<AllocError> for Refused {
 
 /// Why the present state is not made the start of a history. Nothing is changed then.
 #[derive(Clone, Copy, PartialEq, Eq, Debug)]
-pub enum CheckpointError {
+pub enum CheckpointRefused {
     /// This number of units is present, more than the new limit.
     UnitsOver(u64),
     /// The last number and the new limit of the history together are no `u64`.
@@ -75,10 +75,10 @@ pub enum CheckpointError {
     Memory,
 }
 
-impl From<AllocError> for CheckpointError {
+impl From<AllocError> for CheckpointRefused {
     ghost from_gives = { λ _ refused. refused ≡ checkpoint.Memory };
 
-    fn from(_error: AllocError) -> CheckpointError {
-        CheckpointError::Memory
+    fn from(_error: AllocError) -> CheckpointRefused {
+        CheckpointRefused::Memory
     }
 }

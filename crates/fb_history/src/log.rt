@@ -11,14 +11,15 @@ use std::marker::Model;
 use std::mem;
 use std::sync::Arc;
 
-/// What it begins from, and the calls that were recorded since, at most `limit` of them; `turns` counts the calls of each caller, those
-/// before the start included.
+/// What it begins from, and the calls that were recorded since, at most `limit` of them; `turns` counts the calls of each caller, and `last_event` is the
+/// number of the last call that is an event for those who watch, those before the start included.
 pub struct History {
     alloc: Global,
     start: Start,
     limit: u64,
     records: Vec<Arc<Record>>,
     turns: BTreeMap<u32, u64>,
+    last_event: u64,
 }
 
 impl Drop for History {
@@ -29,6 +30,7 @@ impl Drop for History {
             limit: _,
             records: _,
             turns: _,
+            last_event: _,
         } = self;
     }
 }
@@ -42,12 +44,12 @@ impl Model for History {
 
     ghost view = { λ it. record { origin = it.start; log = record { limit = it.limit; records = records_in it.records.items } } };
 
-    ghost invariant = { λ it. IsCounted it.turns (record { origin = it.start; log = record { limit = it.limit; records = records_in it.records.items } }) };
+    ghost invariant = { λ it. IsCounted it.turns it.last_event (record { origin = it.start; log = record { limit = it.limit; records = records_in it.records.items } }) };
 }
 
 impl History {
     ghost use Rattle.std.specs.{Prelude.{◌≡◌, ◌+◌, ◌^◌, ◌<◌, ◌≤◌, ◌↔◌, IsTrue, OnOk, OnErr, IfOk, length}, Option.{option_map}};
-    ghost use Rattle.fb_history.specs.Checkpoints.{restarted};
+    ghost use Rattle.fb_history.specs.{Checkpoints.{restarted}, Events.{last_event_of}};
     ghost use Rattle.fb_history.specs.BenchView.{all_turns, last_number, logged, new_bench, pages_after, record_after, record_numbered, AreTurns, IsFull};
     ghost use Rattle.fb_history.specs.Records.{call_of, records_in, reply_of};
 
@@ -61,6 +63,7 @@ impl History {
             limit: limits.history(),
             records: Vec::new(alloc),
             turns: BTreeMap::new(alloc),
+            last_event: 0,
         }
     }
 
@@ -110,9 +113,26 @@ impl History {
         self.limit <= self.records.len() as u64
     }
 
+    /// The number of the last call that is an event for those who watch, those before the start included, or 0.
+    pub fn last_event(&self) -> u64
+        ensures { result ≡ last_event_of self.now }
+    {
+        self.last_event
+    }
+
     /// The record of this number, counted over all calls from 1: None for a call before the start.
     pub fn record(&self, number: u64) -> Option<&Record>
         ensures { option_map (λ it. it.now) result ≡ record_numbered self.now number }
+    {
+        match self.shared_record(number) {
+            Some(record) => Some(record),
+            None => None,
+        }
+    }
+
+    /// The same, to be shared.
+    pub fn shared_record(&self, number: u64) -> Option<&Arc<Record>>
+        ensures { option_map (λ it. it.now.value) result ≡ record_numbered self.now number }
     {
         let earlier = self.before();
         if number <= earlier {
@@ -149,11 +169,17 @@ impl History {
     {
         let turns = self.turns_of(caller);
         let turn = turns + 1;
+        let number = self.last_number() + 1;
         let record = Record {
             caller,
             turn,
             call,
             reply,
+        };
+        let last_event = if record.is_event() {
+            number
+        } else {
+            self.last_event
         };
         let record = Arc::new(self.alloc, record)?;
         let share = record.clone()?;
@@ -161,6 +187,7 @@ impl History {
         match self.turns.insert(caller, turn) {
             Ok(_) => {
                 self.records.push_reserved(record);
+                self.last_event = last_event;
                 Ok(share)
             }
             Err(_) => Err(AllocError),
@@ -189,6 +216,7 @@ impl History {
         let most_units = limits.units();
         let limit = limits.history();
         let calls = self.turns.clone()?;
+        let last_event = self.last_event;
         self.start = Start {
             most_units,
             library,
@@ -197,6 +225,7 @@ impl History {
             out,
             before,
             calls,
+            last_event,
         };
         self.limit = limit;
         let none = Vec::new(self.alloc);

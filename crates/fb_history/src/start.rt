@@ -8,8 +8,8 @@ use std::alloc::Global;
 use std::collections::BTreeMap;
 use std::marker::Model;
 
-/// What a history begins from: a state, and how many calls of each caller came before. It holds the texts that it began with until it is
-/// replaced, those that were changed since too.
+/// What a history begins from: a state, how many calls of each caller came before, and the number of the last one of them that is an event for those
+/// who watch. It holds the texts that it began with until it is replaced, those that were changed since too.
 pub struct Start {
     pub(crate) most_units: u64,
     pub(crate) library: Library,
@@ -18,6 +18,7 @@ pub struct Start {
     pub(crate) out: Vec<Key>,
     pub(crate) before: u64,
     pub(crate) calls: BTreeMap<u32, u64>,
+    pub(crate) last_event: u64,
 }
 
 impl Drop for Start {
@@ -30,6 +31,7 @@ impl Drop for Start {
             out: _,
             before: _,
             calls: _,
+            last_event: _,
         } = self;
     }
 }
@@ -39,7 +41,7 @@ impl Model for Start {
 
     ghost Value = { Origin };
 
-    ghost view = { λ it. record { most_units = it.most_units; units = it.library; commits = it.commits; pending = it.pending.items; out = it.out.items; before = it.before; pages = it.calls.entries } };
+    ghost view = { λ it. record { most_units = it.most_units; units = it.library; commits = it.commits; pending = it.pending.items; out = it.out.items; before = it.before; pages = it.calls.entries; last_event = it.last_event } };
 }
 
 impl Start {
@@ -58,6 +60,7 @@ impl Start {
             out: Vec::new(alloc),
             before: 0,
             calls: BTreeMap::new(alloc),
+            last_event: 0,
         }
     }
 
@@ -87,6 +90,13 @@ impl Start {
         ensures { result ≡ (opened self.now).out key.now }
     {
         is_among(&self.out, key)
+    }
+
+    /// The number of the last call before it that is an event for those who watch, or 0.
+    pub fn last_event(&self) -> u64
+        ensures { result ≡ self.now.last_event }
+    {
+        self.last_event
     }
 
     /// How many calls the caller had made.

@@ -1,4 +1,6 @@
 //! The connections for which threads wait.
+ghost use Rattle.std.specs.Prelude.{◌≡◌, ◌+◌, IfSome, None, length};
+
 use crate::connection::Connection;
 use std::alloc::Global;
 use std::sync::{Condvar, Mutex, Wait};
@@ -27,7 +29,15 @@ struct QueueState {
 }
 
 impl QueueState {
-    fn put(&mut self, connection: Connection) -> Option<Connection> {
+    /// Takes a connection in for a thread that is free, or gives it back, and then nothing changes.
+    fn put(&mut self, connection: Connection) -> Option<Connection>
+        ensures taken { result ≡ None
+            → (self.new.idle + 1 ≡ self.old.idle)
+            × (length self.new.connections.items ≡ length self.old.connections.items + 1) }
+        ensures back { IfSome result (λ _.
+            (self.new.idle ≡ self.old.idle)
+            × (length self.new.connections.items ≡ length self.old.connections.items)) }
+    {
         if self.closed || self.idle == 0 || self.connections.reserve(1).is_err() {
             return Some(connection);
         }

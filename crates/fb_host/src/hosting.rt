@@ -9,6 +9,7 @@ use crate::receipt_store::ReceiptStore;
 use crate::threads::{ADMISSION_THREADS, HostState, run_threads};
 use fb_serve::{Ended, NotServed, Served, greet};
 use fb_shared::Shared;
+use fb_shared::bench::Identity;
 use fb_wire::bench::Limits;
 use fb_wire::{Sink, write_all};
 use std::alloc::Global;
@@ -33,6 +34,8 @@ pub struct HostConfig {
     pub idle_timeout: u64,
     /// After how many connections it closes.
     pub connections: u64,
+    /// The identity of the workbench, by which a client notices that the host was started again.
+    pub workbench: Identity,
 }
 
 /// Gives each connection a free seat, if its first line is the secret or no secret is set, with workers beside the sessions. After `config.connections`
@@ -53,7 +56,7 @@ fn host_sessions<R: Threads + Wait + Clock + Sync, E: Write + Send>(
         served.closed.bench) }
 {
     let callers = u32::from(config.sessions) + u32::from(config.workers);
-    let (shared, mut seats) = Shared::rolling(alloc, config.limits, callers)?;
+    let (shared, mut seats) = Shared::rolling(alloc, config.limits, callers, config.workbench)?;
     let workers = seats.split_off(usize::from(config.sessions))?;
     let host = HostState {
         shared,

@@ -1,9 +1,8 @@
 //! One session of a seat.
-ghost use Rattle.std.specs.Prelude.{◌≡◌, [], map, false};
+ghost use Rattle.std.specs.Prelude.{◌≡◌, [], map, false, true};
 ghost use Rattle.fb_wire.specs.{Ends.{IsConversation, streams}, Conversations.{Runs}};
-ghost use Rattle.fb_locked.specs.Runs.{IsRun};
 ghost use Rattle.fb_serve.specs.Sessions.{answered_in, call_shown};
-ghost use Rattle.fb_host.specs.HostSessions.{LeadsTo, HostStep};
+ghost use Rattle.fb_host.specs.HostSessions.{IsHostRun, LeadsTo, HostStep, session_of};
 
 use crate::receipt_store::ReceiptStore;
 use crate::session_desk::SessionDesk;
@@ -13,6 +12,7 @@ use fb_shared::{Seated, Shared};
 use fb_wire::{Feed, RunEnd, Sink, run_lines};
 use std::alloc::Global;
 use std::sync::Wait;
+use std::time::Clock;
 
 /// How a session ended, the state of its caller, and the receipts of all its answered calls.
 #[derive(Drop)]
@@ -23,7 +23,7 @@ pub struct SessionResult {
 }
 
 /// Answers the lines of the reader, in order, by a shared workbench with this caller's seat. A turn is one read.
-pub fn run_host_session<R: Wait, F: Feed, S: Sink>(
+pub fn run_host_session<R: Wait + Clock, F: Feed, S: Sink>(
     rt: &R,
     alloc: Global,
     shared: &Shared,
@@ -38,21 +38,22 @@ pub fn run_host_session<R: Wait, F: Feed, S: Sink>(
     requires writer { S.has_failed writer.old ≡ false }
     // The calls and their answers are those of the seat's desk, from no receipts on. The calls that were answered, with their replies, are those of
     // the receipts.
-    ensures conversation { (conversation : IsConversation result.end turns
+    ensures conversation { (conversation : IsConversation true result.end turns
         (streams F.given F.left F.reads F.has_failed S.held S.is_flushed S.has_failed reader.old
         writer.old)
         (streams F.given F.left F.reads F.has_failed S.held S.is_flushed S.has_failed reader.new
         writer.new))
         × (answered_in conversation.pairs ≡ map call_shown result.session_receipts.all)
-        × Runs HostStep (record { seat = state.seat; receipts = [] }) conversation.pairs
-        (record { seat = result.state.seat; receipts = result.session_receipts.all }) }
-    // The receipts are of calls with this seat, one after another.
-    ensures run { IsRun state.seat result.session_receipts.all result.state.seat }
+        × Runs HostStep (session_of shared.now.workbench state.seat []) conversation.pairs
+        (session_of shared.now.workbench result.state.seat result.session_receipts.all) }
+    // The receipts are of calls with this seat, one after another, with reads between them.
+    ensures run { IsHostRun state.seat result.session_receipts.all result.state.seat }
 {
     let mut desk = SessionDesk::new(rt, shared, store, state);
     let end = run_lines(alloc, reader, writer, &mut desk, turns);
     let SessionDesk {
         seated,
+        shared: _,
         session_receipts,
         held,
         store: _,
@@ -76,7 +77,6 @@ pub fn run_host_session<R: Wait, F: Feed, S: Sink>(
 }
 
 /// Gives back the keys that are still out since they were taken, as far as there is memory; the others stay held. The receipts go to the store.
-#[tactic(auto, using(crate::proofs::SessionLemmas::leads))]
 pub fn give_back_all<R: Wait>(
     rt: &R,
     shared: &Shared,

@@ -1,34 +1,39 @@
 //! The desk of a session.
 ghost use Rattle.std.specs.Prelude.{◌≡◌, []};
+ghost use Rattle.fb_host.specs.HostSessions.{session_of};
 
 use crate::receipt_store::ReceiptStore;
 use crate::session_receipts::SessionReceipts;
 use fb_locked::bench::{
-    Answered, Delivered, Desk, DeskCheckpointError, DeskError, GivenBack, Limits, Request, Taken,
+    Answered, Delivered, Desk, DeskCheckpointError, DeskError, GivenBack, Limits, Reading, Request,
+    Showing, Taken,
 };
 use fb_locked::jobs::{Finished, Key};
 use fb_locked::library::Change;
 use fb_serve::{CallerState, Held, forget, hold};
 use fb_shared::{Seated, Shared};
+use std::alloc::AllocError;
 use std::marker::Model;
 use std::sync::Wait;
+use std::time::{Clock, Duration};
 
 /// A shared workbench as the desk of one seat, whose receipts go to the store. It never answers that the history is full: only lack of memory keeps
 /// a full one from beginning again.
 #[derive(Drop)]
 pub struct SessionDesk<'a, R: Wait> {
     pub(crate) seated: Seated<'a, R>,
+    pub(crate) shared: &'a Shared,
     pub(crate) session_receipts: SessionReceipts,
     pub(crate) held: Vec<Held>,
     pub(crate) store: &'a ReceiptStore,
 }
 
 impl<'a, R: Wait> Model for SessionDesk<'a, R> {
-    ghost use Rattle.fb_shared.specs.Seated.{SeatedView};
+    ghost use Rattle.fb_host.specs.HostSessions.{SessionView, session_of};
 
-    ghost Value = { SeatedView };
+    ghost Value = { SessionView };
 
-    ghost view = { λ it. record { seat = it.seated.seat; receipts = it.session_receipts.all } };
+    ghost view = { λ it. session_of it.shared.now.workbench it.seated.seat it.session_receipts.all };
 }
 
 impl<'a, R: Wait> SessionDesk<'a, R> {
@@ -39,7 +44,7 @@ impl<'a, R: Wait> SessionDesk<'a, R> {
         store: &'a ReceiptStore,
         state: CallerState,
     ) -> SessionDesk<'a, R>
-        ensures { result ≡ record { seat = state.seat; receipts = [] } }
+        ensures { result ≡ session_of shared.now.workbench state.seat [] }
     {
         let CallerState {
             seat,
@@ -53,6 +58,7 @@ impl<'a, R: Wait> SessionDesk<'a, R> {
                 seat,
                 receipts,
             },
+            shared,
             session_receipts: SessionReceipts::new(),
             held,
             store,
@@ -60,17 +66,31 @@ impl<'a, R: Wait> SessionDesk<'a, R> {
     }
 }
 
-impl<R: Wait> Desk for SessionDesk<'_, R> {
-    ghost use Rattle.fb_shared.specs.Seated.{IsCheckpointSeated};
-    ghost use Rattle.fb_host.specs.HostSessions.{IsHostCall};
+impl<R: Wait + Clock> Desk for SessionDesk<'_, R> {
+    ghost use Rattle.std.specs.Prelude.{◌≡◌, Err, true};
+    ghost use Rattle.fb_locked.specs.Bench.Calls.{ServesCheckpoint};
+    ghost use Rattle.fb_host.specs.HostSessions.{IsHostCall, IsHostCheckpoint, IsHostRead};
 
     ghost step = { IsHostCall };
 
-    ghost checkpoint_step = { IsCheckpointSeated };
+    ghost checkpoint_step = { IsHostCheckpoint };
+
+    ghost read_step = { IsHostRead };
+
+    ghost has_reads = { true };
+
+    fn answers_reads(&self) -> bool {
+        true
+    }
 
     fn perform(&mut self, request: &Request<'_>) -> Result<Answered, DeskError> {
         if self.held.reserve(1).is_err() {
-            return Err(DeskError::Memory);
+            let is_behind = self.shared.is_behind(self.seated.rt, &self.seated.seat);
+            return Err(if is_behind {
+                DeskError::Behind
+            } else {
+                DeskError::Memory
+            });
         }
         match self.seated.perform(request) {
             Ok(answer) => {
@@ -89,8 +109,22 @@ impl<R: Wait> Desk for SessionDesk<'_, R> {
         }
     }
 
-    fn checkpoint(&mut self, limits: Limits) -> Result<u64, DeskCheckpointError> {
+    fn checkpoint(&mut self, limits: Limits) -> Result<u64, DeskCheckpointError>
+        ensures step { ServesCheckpoint IsHostCheckpoint self.old limits result self.new }
+        ensures alone { result ≡ Err DeskCheckpointError.NotAlone }
+    {
         self.seated.checkpoint(limits)
+    }
+
+    #[tactic(auto, using(crate::proofs::SessionLemmas::reads_as))]
+    fn read(&mut self, reading: &Reading, wait: u64) -> Result<Option<Showing>, AllocError> {
+        let rt = self.seated.rt;
+        let shared = self.shared;
+        let seat = &mut self.seated.seat;
+        match reading {
+            Reading::Events(after) => shared.watch(rt, seat, *after, Duration::from_millis(wait)),
+            _ => shared.read(rt, seat, reading),
+        }
     }
 }
 

@@ -1,5 +1,5 @@
 //! The threads of a host: admission, sessions and workers.
-ghost use Rattle.std.specs.Prelude.{◌≡◌};
+ghost use Rattle.std.specs.Prelude.{◌≡◌, IsTrue};
 ghost use Rattle.fb_host.specs.HostSessions.{LeadsTo};
 
 use crate::admission::admit_connections;
@@ -46,7 +46,9 @@ pub(crate) struct Results {
 }
 
 impl Results {
-    fn add<R: Wait>(&mut self, rt: &R, store: &ReceiptStore, state: CallerState) {
+    fn add<R: Wait>(&mut self, rt: &R, store: &ReceiptStore, state: CallerState)
+        ensures { IsTrue self.new.is_whole → IsTrue self.old.is_whole }
+    {
         let CallerState {
             seat,
             held: _,
@@ -61,8 +63,12 @@ impl Results {
         rt: &R,
         store: &ReceiptStore,
         started: Started<CallerState>,
-    ) {
+    )
+        ensures { IsTrue self.new.is_whole
+            → IsTrue self.old.is_whole × IsTrue started.is_whole }
+    {
         let Started { threads, is_whole } = started;
+        let is_whole = self.is_whole && is_whole;
         for thread in threads {
             self.add(rt, store, thread.join(rt));
         }
@@ -97,6 +103,7 @@ pub(crate) fn run_threads<R: Threads + Wait + Clock + Sync, E: Write + Send>(
             is_whole = accept_connections(rt, alloc, listener, host);
         }
         host.admission.close(rt);
+        host.shared.end_watches(rt);
         for thread in admission.threads {
             thread.join(rt);
         }
@@ -245,7 +252,7 @@ fn run_worker<R: Wait + Clock>(
 }
 
 /// A seat's thread: session after session.
-fn run_sessions<R: Wait, E: Write>(
+fn run_sessions<R: Wait + Clock, E: Write>(
     rt: &R,
     alloc: Global,
     host: &HostState,
@@ -269,7 +276,7 @@ fn run_sessions<R: Wait, E: Write>(
 
 /// A session. It reports a fault before it ends.
 #[tactic(auto, using(crate::proofs::SessionLemmas::leads))]
-fn serve_connection<R: Wait, E: Write>(
+fn serve_connection<R: Wait + Clock, E: Write>(
     rt: &R,
     alloc: Global,
     host: &HostState,

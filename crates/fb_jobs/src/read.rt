@@ -29,6 +29,15 @@ impl Drop for Read {
     }
 }
 
+impl Read {
+    /// The name that was read.
+    pub fn name(&self) -> Name
+        ensures { result ≡ self.now.name }
+    {
+        self.name.name()
+    }
+}
+
 /// Whether the library has the key: each unit has its faults, a subapplication and a system have a net, a system has a plan.
 #[tactic(auto, unfolding(crate::specs::Keys::has_key))]
 pub fn has_key(library: &Library, key: Key) -> bool

@@ -7,6 +7,7 @@ pub mod Runs
 pub mod Closing
 pub mod Resuming
 pub mod Rolling
+pub mod Reads
 -- Of the crates below, for the crates above.
 pub use Rattle.fb_bench.specs.Parse as Parse
 pub use Rattle.fb_bench.specs.Library as Library

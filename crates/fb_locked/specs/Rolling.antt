@@ -3,7 +3,7 @@ use Rattle.std.specs.Prelude.{◌≡◌, ◌<◌, ◌⊎◌, ◌++◌, ◌∷◌
 use Rattle.fb_bench.specs.{Jobs.declared.key.Key.{Key}, Jobs.KeyOrder.{same_key}, Jobs.Reads.{PlainJob}, History.Checkpoints.{checking, checkpointed, ChecksAs}}
 use Rattle.fb_bench.specs.{History.Limits.{Bounds}, History.Machine.{ToGiveBack}}
 use Rattle.fb_bench.specs.History.BenchView.{Record, BenchView, IsFull, all_turns, last_number, record_numbered, state_of}
-use Rattle.fb_bench.specs.{History.declared.answers.CheckpointError.{CheckpointError}, Requests.{job_of}}
+use Rattle.fb_bench.specs.{History.declared.answers.CheckpointRefused.{CheckpointRefused}, Requests.{job_of}}
 use Rattle.fb_locked.specs.{Calls.{Keeps, Stays}, Refusals.{refusal_of, RefusedAs, IsRefusalOf}}
 use Rattle.fb_locked.specs.{Seats.{LockedView, SeatView, ReceiptView, IsReceiptOf, seat_after}, declared.locked.SharedRefused.{SharedRefused}}
 use Rattle.fb_locked.specs.declared.locked.SharedRefused.TheVariants.{HistoryFull}
@@ -13,7 +13,7 @@ abbrev pub locked_rolled : Bounds → LockedView → LockedView
 locked_rolled limits locked = record locked { bench = checkpointed limits locked.bench }
 
 -- A full history begins again from the state to which it has led, and any other one stays unchanged. A full one stays if the checkpoint is refused.
-abbrev pub MakesRoom : {T : Type 0} → Bounds → LockedView → Result T CheckpointError → LockedView → Type 0
+abbrev pub MakesRoom : {T : Type 0} → Bounds → LockedView → Result T CheckpointRefused → LockedView → Type 0
 MakesRoom limits old (Ok done) new = (IsFull old.bench.log × (new ≡ locked_rolled limits old)) ⊎ ((IsFull old.bench.log → ⊥) × (new ≡ old))
 MakesRoom limits old (Err refused) new = IsFull old.bench.log × ChecksAs (checking limits old.bench) (Err refused) × (new ≡ old)
 

@@ -5,6 +5,7 @@ mod callers;
 mod close;
 mod locked;
 mod look;
+mod read;
 mod receipts;
 mod resume;
 mod roll;
@@ -14,6 +15,7 @@ pub use callers::lesser;
 pub use close::{CloseError, Closed, NotClosed, close_for};
 pub use locked::{Locked, SharedRefused};
 pub use look::{Look, WorkEnd};
+pub use read::SeatSnapshot;
 pub use resume::{NotResumed, ResumeError};
 pub use roll::rolls_are_unseen;
 pub use seat::{Receipt, Seat};
@@ -36,8 +38,8 @@ pub mod jobs {
 /// Of `fb_bench`, for the crates above.
 pub mod bench {
     pub use fb_bench::{
-        Answered, Asked, Bench, Call, CheckpointError, Committed, Delivered, Desk,
-        DeskCheckpointError, DeskError, GivenBack, Limits, Reply, Request, Start, Taken,
-        TextChange, Wanted,
+        Answered, Asked, Bench, Call, CheckpointRefused, Committed, Delivered, Desk,
+        DeskCheckpointError, DeskError, GivenBack, Identity, Limits, Reading, Reply, Request,
+        Showing, Start, Taken, TextChange, Wanted,
     };
 }

@@ -1,5 +1,5 @@
 //! A workbench under a lock whose history begins again once it is full, and keys that are out since a take.
-ghost use Rattle.std.specs.Prelude.{◌≡◌, ◌↔◌, ◌≤◌, IsTrue, OnOk, OnErr};
+ghost use Rattle.std.specs.Prelude.{◌≡◌, ◌↔◌, ◌≤◌, ◌-◌, IsTrue, OnOk, OnErr, length, take};
 ghost use Rattle.fb_bench.specs.{History.Checkpoints.{checking, ChecksAs}, History.Limits.{Bounds}, History.BenchView.{IsOrigin}};
 ghost use Rattle.fb_locked.specs.Rolling.{locked_rolled, takes, takes_at, IsOutSince, IsRollUnseen, IsTakenAfter, MakesRoom, MayReturn, Returns};
 ghost use Rattle.fb_locked.specs.Seats.{LockedView};
@@ -8,12 +8,13 @@ use crate::locked::{Locked, SharedRefused};
 use crate::seat::{Receipt, Seat};
 use fb_bench::jobs::{Finished, Key};
 use fb_bench::library::Change;
-use fb_bench::{CheckpointError, Limits, Record, Reply, Request};
+use fb_bench::{CheckpointRefused, Limits, Record, Reply, Request};
+use std::sync::Arc;
 
 impl Locked {
     /// Makes the present state what the history begins from, with these limits, and gives the number of all calls so far. It is no call
     /// itself, and each seat fits as it did. The records so far are kept aside, so that no caller waits until all of them are dropped.
-    pub fn roll(&mut self, limits: Limits) -> Result<u64, CheckpointError>
+    pub fn roll(&mut self, limits: Limits) -> Result<u64, CheckpointRefused>
         ensures answer { ChecksAs (checking limits self.old.bench) result }
         ensures kept { OnOk result (self.new ≡ locked_rolled limits self.old) }
         ensures err { OnErr result (self.new ≡ self.old) }
@@ -28,15 +29,14 @@ impl Locked {
     fn drop_past(&mut self)
         ensures { self.new ≡ self.old }
     {
-        drop(self.past.pop());
-        drop(self.past.pop());
+        drop_two(&mut self.past);
         if self.past.is_empty() {
             self.past = Vec::new(self.alloc);
         }
     }
 
     /// Rolls if the history is full, and only then.
-    pub fn make_room(&mut self, limits: Limits) -> Result<(), CheckpointError>
+    pub fn make_room(&mut self, limits: Limits) -> Result<(), CheckpointRefused>
         ensures { MakesRoom limits self.old result self.new }
     {
         self.drop_past();
@@ -103,6 +103,14 @@ impl Locked {
             Err(refused) => Err(refused),
         }
     }
+}
+
+/// Drops the last two records, or all if there are fewer.
+fn drop_two(past: &mut Vec<Arc<Record>>)
+    ensures { past.new.items ≡ take (length past.old.items - 2) past.old.items }
+{
+    drop(past.pop());
+    drop(past.pop());
 }
 
 /// Whether the record hands the key out.

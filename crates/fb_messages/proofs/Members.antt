@@ -4,12 +4,12 @@ use Rattle.json.specs.{Token.{Token, begin_object, end_object}, Written.{Writes,
 use Rattle.fb_messages.specs.Tokens.{Adds}
 
 -- one writing after another
-after : {E : Type 0} (r : Result (Unit {0}) E) (old mid new : Written) (ts us : List Token)
+pub after : {E : Type 0} (r : Result (Unit {0}) E) (old mid new : Written) (ts us : List Token)
     → (mid.before ≡ old.before) × (mid.tokens ≡ old.tokens ++ ts) → Adds r mid new us → Adds r old new (ts ++ us)
 after (Ok done) old mid new ts us prefix rest = (rest.0 ∙ prefix.0, rest.1 ∙ ap (λ xs. xs ++ us) prefix.1 ∙ append_assoc old.tokens ts us)
 after (Err e) old mid new ts us prefix rest = tt
 
-one_token : {E : Type 0} (r : Result (Unit {0}) E) (old new : Written) (t : Token) → Writes r old new t → Adds r old new (t ∷ [])
+pub one_token : {E : Type 0} (r : Result (Unit {0}) E) (old new : Written) (t : Token) → Writes r old new t → Adds r old new (t ∷ [])
 one_token (Ok done) old new t wrote = (wrote.room.0, wrote.ok)
 one_token (Err e) old new t wrote = tt
 

@@ -5,6 +5,7 @@ pub mod InRange
 pub mod Replies
 pub mod NetReplies
 pub mod DeployReplies
+pub mod ReadReplies
 pub mod ReplyView
 pub mod Tokens
 -- Of the crates below, for the crates above.

@@ -2,9 +2,11 @@
 use Rattle.std.specs.Prelude.{ℕ, List, codes}
 use Rattle.serde_json.specs.Data.{Data}
 use Rattle.fb_jobs.specs.Values.{finding_of}
+use Rattle.fb_history.specs.Reads.{showing_in}
+use Rattle.fb_messages.specs.ReadReplies.{showing_said}
 use Rattle.fb_messages.specs.Replies.{checkpointed, committed, delivered, job_given, no_job, pending_said, refused, refused_base, refused_unit, returned, value_said, work_done, work_refused}
 use Rattle.fb_messages.specs.declared.reply.Reply.{Reply}
-use Rattle.fb_messages.specs.declared.reply.Reply.TheVariants.{Checkpointed, Committed, Delivered, Found, GivenBack, Job, NoJob, Pending, Refused, RefusedUnit, StaleBase, WorkRefused, Worked}
+use Rattle.fb_messages.specs.declared.reply.Reply.TheVariants.{Checkpointed, Committed, Delivered, Found, GivenBack, Job, NoJob, Pending, Refused, RefusedUnit, Shown, StaleBase, WorkRefused, Worked}
 use Rattle.fb_messages.specs.declared.reply.Refusal.{Refusal}
 use Rattle.fb_messages.specs.declared.reply.Refusal.TheVariants as because
 
@@ -40,5 +42,6 @@ data_of NoJob = no_job
 data_of Delivered = delivered
 data_of (GivenBack was_out) = returned was_out
 data_of (Checkpointed before) = checkpointed before
+data_of (Shown shown) = showing_said (showing_in shown)
 data_of (Refused refusal) = refused (refusal_text refusal)
 data_of (RefusedUnit refusal unit) = refused_unit (refusal_text refusal) unit

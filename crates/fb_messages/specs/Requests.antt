@@ -1,5 +1,5 @@
 -- The request that a line is.
-use Rattle.std.specs.{Prelude.{ℕ, [], ◌∷◌, ◌&&◌, if◌then◌else◌, List, None, Option, Some, bytes_eq, codes, nat_le, option_and_then, option_map}, Str.{is_utf8}}
+use Rattle.std.specs.{Prelude.{ℕ, [], ◌∷◌, ◌&&◌, Bool, if◌then◌else◌, List, None, Option, Some, bytes_eq, codes, nat_le, option_and_then, option_map}, Str.{is_utf8}}
 use Rattle.fb_history.specs.Limits.{Bounds}
 use Rattle.fb_jobs.specs.{declared.key.Kind.{Kind}, declared.key.Kind.TheVariants.{Deploy, Faults, Net}}
 use Rattle.serde_json.specs.{Data.{Data, Items, item, no_items}, Read.{read}, Find.{as_array, as_number, as_str, as_u64, get}}
@@ -8,6 +8,14 @@ use Rattle.serde_json.specs.{Data.{Data, Items, item, no_items}, Read.{read}, Fi
 pub data Change : Type 0 where
   puts : (unit : List ℕ) → (base : ℕ) → (text : List ℕ) → Change
   removes : (unit : List ℕ) → (base : ℕ) → Change
+
+-- what is read, before its name is read
+pub data Reading : Type 0 where
+  status_read : Reading
+  units_read : (after : Option (List ℕ)) → Reading
+  text_read : (unit : List ℕ) → Reading
+  entry_read : Kind → (unit : List ℕ) → Reading
+  events_read : (after wait : ℕ) → Reading
 
 -- a request, before its names are read
 pub data Request : Type 0 where
@@ -18,6 +26,7 @@ pub data Request : Type 0 where
   deliver : ℕ → Request
   give_back : Kind → List ℕ → Request
   checkpoint : (limits : Bounds) → Request
+  read_request : (reading : Reading) → Request
 
 -- ---- members
 
@@ -85,19 +94,52 @@ abbrev pub checkpoint_in : Data → Option Request
 checkpoint_in d =
     option_and_then (λ units. option_and_then (λ history. option_map checkpoint (limits_of units history)) (number_at (codes "history") d)) (number_at (codes "units") d)
 
-abbrev pub request_by : List ℕ → Data → Option Request
-request_by op d =
+-- ---- reads
+
+abbrev pub units_after : Option Data → Option Reading
+units_after None = Some (units_read None)
+units_after (Some after) = option_map (λ name. units_read (Some name)) (as_str after)
+
+abbrev pub units_in : Data → Option Reading
+units_in d = units_after (get (codes "after") d)
+
+abbrev pub text_in : Data → Option Reading
+text_in d = option_map text_read (member_text (codes "unit") d)
+
+abbrev pub peek_in : Data → Option Reading
+peek_in d = option_and_then (λ kind. option_map (entry_read kind) (member_text (codes "unit") d)) (kind_at (codes "kind") d)
+
+-- a wait of at most 30,000 milliseconds
+abbrev pub watch_of : ℕ → ℕ → Option Reading
+watch_of after wait = if nat_le wait 30000 then Some (events_read after wait) else None
+
+abbrev pub watch_in : Data → Option Reading
+watch_in d = option_and_then (λ after. option_and_then (watch_of after) (number_at (codes "wait") d)) (number_at (codes "after") d)
+
+abbrev pub reading_by : List ℕ → Data → Option Reading
+reading_by op d =
+    if bytes_eq op (codes "status") then Some status_read
+    else (if bytes_eq op (codes "units") then units_in d
+    else (if bytes_eq op (codes "text") then text_in d
+    else (if bytes_eq op (codes "peek") then peek_in d
+    else (if bytes_eq op (codes "watch") then watch_in d else None))))
+
+-- ---- all requests; reads only if the desk answers them
+
+abbrev pub request_by : (has_reads : Bool) → List ℕ → Data → Option Request
+request_by has_reads op d =
     if bytes_eq op (codes "commit") then commit_in d
     else (if bytes_eq op (codes "ask") then ask_in d
     else (if bytes_eq op (codes "work") then option_and_then work_of (number_at (codes "turns") d)
     else (if bytes_eq op (codes "take") then Some take
     else (if bytes_eq op (codes "deliver") then option_map deliver (number_at (codes "job") d)
     else (if bytes_eq op (codes "give_back") then give_back_in d
-    else (if bytes_eq op (codes "checkpoint") then checkpoint_in d else None))))))
+    else (if bytes_eq op (codes "checkpoint") then checkpoint_in d
+    else (if has_reads then option_map read_request (reading_by op d) else None)))))))
 
-unfoldable pub request_in : Data → Option Request
-request_in d = option_and_then (λ op. request_by op d) (member_text (codes "op") d)
+unfoldable pub request_in : (has_reads : Bool) → Data → Option Request
+request_in has_reads d = option_and_then (λ op. request_by has_reads op d) (member_text (codes "op") d)
 
 -- a line that is not UTF-8, no JSON or no request has none
-unfoldable pub request_of : List ℕ → Option Request
-request_of line = if is_utf8 line then option_and_then request_in (read line) else None
+unfoldable pub request_of : (has_reads : Bool) → List ℕ → Option Request
+request_of has_reads line = if is_utf8 line then option_and_then (request_in has_reads) (read line) else None

@@ -6,6 +6,7 @@ mod in_range;
 mod laws;
 mod net_reply;
 mod number;
+mod read_reply;
 mod reply;
 mod request;
 mod to_json;
@@ -13,7 +14,7 @@ mod to_json;
 pub use json::Scratch;
 pub use laws::limits_are_read;
 pub use reply::{Refusal, Reply};
-pub use request::{AskedChange, Request, request_in};
+pub use request::{AskedChange, AskedReading, Request, request_in};
 
 /// Of `fb_jobs`, for the crates above.
 pub mod jobs {

@@ -7,6 +7,7 @@ ghost use Rattle.fb_messages.specs.{ReplyView.{data_of, refusal_text}, Tokens.{I
 use crate::to_json::{
     ToJson, write_member, write_one, write_one_list, write_one_text, write_text_member,
 };
+use fb_history::Showing;
 use fb_jobs::iface::Fault;
 use fb_jobs::{Key, Kind, Value};
 use fb_text::Name;
@@ -50,6 +51,7 @@ pub enum Reply {
     Delivered,
     GivenBack(bool),
     Checkpointed(u64),
+    Shown(Showing),
     Refused(Refusal),
     RefusedUnit(Refusal, Name),
 }
@@ -71,6 +73,7 @@ impl Drop for Reply {
             | Self::Delivered
             | Self::GivenBack(_)
             | Self::Checkpointed(_)
+            | Self::Shown(_)
             | Self::Refused(_)
             | Self::RefusedUnit(_, _) => {}
         }
@@ -78,7 +81,7 @@ impl Drop for Reply {
 }
 
 impl Refusal {
-    fn as_str(self) -> &'static str
+    pub(crate) fn as_str(self) -> &'static str
         ensures { result.now ≡ refusal_text self }
     {
         match self {
@@ -104,7 +107,7 @@ impl Refusal {
     }
 }
 
-fn kind_text(kind: Kind) -> &'static str
+pub(crate) fn kind_text(kind: Kind) -> &'static str
     ensures { result.now ≡ kind_text kind }
 {
     match kind {
@@ -167,7 +170,11 @@ fn write_job(out: &mut Writer, number: u64, key: &Key) -> Result<(), AllocError>
     out.end_object()
 }
 
-fn write_refused_unit(out: &mut Writer, refusal: Refusal, unit: &Name) -> Result<(), AllocError>
+pub(crate) fn write_refused_unit(
+    out: &mut Writer,
+    refusal: Refusal,
+    unit: &Name,
+) -> Result<(), AllocError>
     ensures { IsSaid result out.old out.new (refused_unit (refusal_text refusal) unit.now) }
 {
     out.begin_object()?;
@@ -192,6 +199,7 @@ impl ToJson for Reply {
             Reply::Delivered => write_one_text(out, "delivered", "accepted"),
             Reply::GivenBack(was_out) => write_one(out, "returned", was_out),
             Reply::Checkpointed(before) => write_one(out, "checkpoint", before),
+            Reply::Shown(shown) => shown.write(out),
             Reply::Refused(refusal) => write_one_text(out, "refused", refusal.as_str()),
             Reply::RefusedUnit(refusal, unit) => write_refused_unit(out, *refusal, unit),
         }

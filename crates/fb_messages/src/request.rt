@@ -1,7 +1,7 @@
 //! From a line to the request that it is.
 ghost use Rattle.std.specs.Prelude.{◌≡◌, IfOk, codes, drop, map, option_and_then, option_map};
-ghost use Rattle.fb_messages.specs.Requests.{ask_in, change_in, changes_of, checkpoint_in, commit_in, deliver, give_back_in, kind_at, kind_called, member_text, number_at, put_in, remove_in, request_by, request_in, request_of, work_of};
-ghost use Rattle.fb_messages.specs.{InRange.{data_in, items_in}, RequestView.{change_view, request_view}};
+ghost use Rattle.fb_messages.specs.Requests.{ask_in, change_in, changes_of, checkpoint_in, commit_in, deliver, give_back_in, kind_at, kind_called, member_text, number_at, peek_in, put_in, read_request, reading_by, remove_in, request_by, request_in, request_of, text_in, units_in, watch_in, work_of};
+ghost use Rattle.fb_messages.specs.{InRange.{data_in, items_in}, RequestView.{change_view, reading_view, request_view}};
 
 use crate::in_range::{InRange, ItemsInRange, value_in};
 use fb_history::Limits;
@@ -24,6 +24,16 @@ pub enum AskedChange<'a> {
     },
 }
 
+/// What is read, before its name is read. It lends its texts from the line.
+#[derive(Clone, Copy)]
+pub enum AskedReading<'a> {
+    Status,
+    Units(Option<&'a str>),
+    Text(&'a str),
+    Peek { kind: Kind, unit: &'a str },
+    Watch { after: u64, wait: u64 },
+}
+
 /// A request, before its names are read. It lends its texts from the line.
 pub enum Request<'a> {
     Commit(Vec<AskedChange<'a>>),
@@ -33,6 +43,7 @@ pub enum Request<'a> {
     Deliver(u64),
     GiveBack { kind: Kind, unit: &'a str },
     Checkpoint(Limits),
+    Read(AskedReading<'a>),
 }
 
 impl Drop for Request<'_> {
@@ -44,7 +55,8 @@ impl Drop for Request<'_> {
             | Self::Take
             | Self::Deliver(_)
             | Self::GiveBack { kind: _, unit: _ }
-            | Self::Checkpoint(_) => {}
+            | Self::Checkpoint(_)
+            | Self::Read(_) => {}
         }
     }
 }
@@ -190,13 +202,80 @@ fn checkpoint_in<'a>(value: &InRange<'_, 'a>) -> Option<Request<'a>>
     Some(Request::Checkpoint(limits))
 }
 
+/// The units are all, or those after one.
+fn units_in<'a>(value: &InRange<'_, 'a>) -> Option<AskedReading<'a>>
+    ensures { option_map reading_view result ≡ units_in (data_in value.now.value.now) }
+{
+    match value.get("after") {
+        None => Some(AskedReading::Units(None)),
+        Some(after) => Some(AskedReading::Units(Some(after.as_str()?))),
+    }
+}
+
+fn text_in<'a>(value: &InRange<'_, 'a>) -> Option<AskedReading<'a>>
+    ensures { option_map reading_view result ≡ text_in (data_in value.now.value.now) }
+{
+    Some(AskedReading::Text(member_text(value, "unit")?))
+}
+
+fn peek_in<'a>(value: &InRange<'_, 'a>) -> Option<AskedReading<'a>>
+    ensures { option_map reading_view result ≡ peek_in (data_in value.now.value.now) }
+{
+    let kind = kind_at(value, "kind")?;
+    let unit = member_text(value, "unit")?;
+    Some(AskedReading::Peek { kind, unit })
+}
+
+/// How many milliseconds a watch waits at most.
+const MOST_WAIT: u64 = 30_000;
+
+fn watch_in<'a>(value: &InRange<'_, 'a>) -> Option<AskedReading<'a>>
+    ensures { option_map reading_view result ≡ watch_in (data_in value.now.value.now) }
+{
+    let after = number_at(value, "after")?;
+    let wait = number_at(value, "wait")?;
+    if wait <= MOST_WAIT {
+        Some(AskedReading::Watch { after, wait })
+    } else {
+        None
+    }
+}
+
+fn reading_by<'a>(op: &str, value: &InRange<'_, 'a>) -> Option<AskedReading<'a>>
+    ensures { option_map reading_view result
+        ≡ reading_by op.now (data_in value.now.value.now) }
+{
+    if op == "status" {
+        Some(AskedReading::Status)
+    } else if op == "units" {
+        units_in(value)
+    } else if op == "text" {
+        text_in(value)
+    } else if op == "peek" {
+        peek_in(value)
+    } else if op == "watch" {
+        watch_in(value)
+    } else {
+        None
+    }
+}
+
+fn read_in<'a>(op: &str, value: &InRange<'_, 'a>) -> Option<Request<'a>>
+    ensures { option_map request_view result
+        ≡ option_map read_request (reading_by op.now (data_in value.now.value.now)) }
+{
+    Some(Request::Read(reading_by(op, value)?))
+}
+
 fn request_by<'a>(
     alloc: Global,
+    has_reads: bool,
     op: &str,
     value: &InRange<'_, 'a>,
 ) -> Result<Option<Request<'a>>, AllocError>
     ensures { IfOk result
-        (λ found. option_map request_view found ≡ request_by op.now (data_in value.now.value.now)) }
+        (λ found. option_map request_view found
+        ≡ request_by has_reads op.now (data_in value.now.value.now)) }
 {
     if op == "commit" {
         commit_in(alloc, value)
@@ -212,6 +291,8 @@ fn request_by<'a>(
         Ok(give_back_in(value))
     } else if op == "checkpoint" {
         Ok(checkpoint_in(value))
+    } else if has_reads {
+        Ok(read_in(op, value))
     } else {
         Ok(None)
     }
@@ -222,24 +303,28 @@ fn request_by<'a>(
 #[tactic(auto, unfolding(crate::specs::Requests::request_in))]
 fn request_of_value<'a>(
     alloc: Global,
+    has_reads: bool,
     value: &InRange<'_, 'a>,
 ) -> Result<Option<Request<'a>>, AllocError>
-    ensures { IfOk result (λ found. option_map request_view found ≡ request_in (data_in value.now.value.now)) }
+    ensures { IfOk result
+        (λ found. option_map request_view found ≡ request_in has_reads (data_in value.now.value.now)) }
 {
     match member_text(value, "op") {
         None => Ok(None),
-        Some(op) => request_by(alloc, op, value),
+        Some(op) => request_by(alloc, has_reads, op, value),
     }
 }
 
-/// The request that a line is, or None. It lends its texts from the line, or from `scratch` if they have escapes. Fails if there is no
-/// memory for the values in it.
+/// The request that a line is, or None; a read only if there are reads. It lends its texts from the line, or from `scratch` if they have escapes. Fails if
+/// there is no memory for the values in it.
 pub fn request_in<'a>(
     alloc: Global,
+    has_reads: bool,
     line: &'a [u8],
     scratch: &'a mut Scratch,
 ) -> Result<Option<Request<'a>>, AllocError>
-    ensures { IfOk result (λ found. option_map request_view found ≡ request_of line.now) }
+    ensures { IfOk result
+        (λ found. option_map request_view found ≡ request_of has_reads line.now) }
 {
     let Ok(text) = from_utf8(line) else {
         return Ok(None);
@@ -249,6 +334,6 @@ pub fn request_in<'a>(
     };
     match InRange::of(&value) {
         None => Ok(None),
-        Some(in_range) => request_of_value(alloc, &in_range),
+        Some(in_range) => request_of_value(alloc, has_reads, &in_range),
     }
 }

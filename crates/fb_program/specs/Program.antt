@@ -14,7 +14,7 @@ BenchSays limits status bytes out = (status ≡ 0 → out ≡ said_to limits byt
 
 -- by the limits that the words ask for
 abbrev pub ScriptSays : List (List ℕ) → ℕ → List ℕ → List ℕ → Type 0
-ScriptSays words status bytes out = (limits : Bounds) × Asks words (Script limits) × BenchSays limits status bytes out
+ScriptSays words status bytes out = (limits : Bounds) × Asks words (Script limits.units limits.history) × BenchSays limits status bytes out
 
 -- nothing was read, and nothing was written
 abbrev pub DoesNothing : List ℕ → List ℕ → Type 0
@@ -28,5 +28,5 @@ HasSaid words status bytes out =
 -- a script was run, or the words were refused; or they ask for this server, and nothing was done
 abbrev pub HasDone : List (List ℕ) → Outcome → List ℕ → List ℕ → Type 0
 HasDone words (Ended status) bytes out = (status ≤ 2) × HasSaid words status bytes out
-HasDone words (Serves it) bytes out = Asks words (Serve it) × DoesNothing bytes out
+HasDone words (Serves it) bytes out = Asks words (Serve it.port it.workers it.sessions it.limits.units it.limits.history) × DoesNothing bytes out
 HasDone words (Hosts it) bytes out = Asks words (Host it) × DoesNothing bytes out

@@ -2,7 +2,6 @@
 use Rattle.std.specs.{Prelude.{◌≡◌, ◌≤◌, ℕ, [], ◌∷◌, List, Option, Some, codes, option_map, true}, Str.Parse.{digits_value, without_leading_plus}}
 use Rattle.clap.specs.Words.{App, Row, Rule, Text, new_app, new_rule, one_of, subcommand_of, with_rule, with_subcommand}
 use Rattle.clap.specs.declared.builder.value_parser.ValueParser.TheVariants as reads
-use Rattle.fb_wire.specs.History.Limits.{Bounds}
 use Rattle.fb_program.specs.{declared.asked.Settings.{Settings}, declared.asked.Settings.TheVariants.{Host, Script, Serve}}
 
 -- an option `--name N` with N from 1 to a most, and its default
@@ -45,7 +44,7 @@ host_app =
     with_rule (with_rule (
     with_rule (with_rule (with_rule (
     with_rule (with_rule (with_rule (new_app (codes "host")) port_option) workers_option)
-    (number_option (codes "sessions") 64 (codes "16"))
+    (number_option (codes "sessions") 255 (codes "32"))
     ) units_option) history_option) secret_option) idle_option)
     (number_option (codes "connections") 1000000000 (codes "1000000000"))
 
@@ -64,39 +63,40 @@ abbrev pub IsNumberIn : ℕ → ℕ → Text → List Row → ℕ → Type 0
 IsNumberIn least most name rows number = (number_of name rows ≡ Some number) × (least ≤ number) × (number ≤ most)
 
 -- the limits are those of these matches
-abbrev pub AreLimitsIn : List Row → Bounds → Type 0
-AreLimitsIn rows limits = IsNumberIn 1 16384 (codes "units") rows limits.units × IsNumberIn 1 10000000 (codes "history") rows limits.history
+abbrev pub AreLimitsIn : List Row → (units history : ℕ) → Type 0
+AreLimitsIn rows units history = IsNumberIn 1 16384 (codes "units") rows units × IsNumberIn 1 10000000 (codes "history") rows history
 
 -- the settings of a script are those of these matches
 abbrev pub IsScript : List Row → Settings → Type 0
-IsScript rows (Script limits) = AreLimitsIn rows limits
-IsScript rows (Serve it) = ⊥
+IsScript rows (Script units history) = AreLimitsIn rows units history
+IsScript rows (Serve port workers sessions units history) = ⊥
 IsScript rows (Host it) = ⊥
 
 -- the port, the workers, the sessions and the limits are those of these matches
-abbrev pub AreServerNumbersIn : List Row → (port workers sessions : ℕ) → Bounds → Type 0
-AreServerNumbersIn rows port workers sessions limits =
-    IsNumberIn 0 65535 (codes "port") rows port × IsNumberIn 1 16 (codes "workers") rows workers × IsNumberIn 1 64 (codes "sessions") rows sessions
-    × AreLimitsIn rows limits
+abbrev pub AreServerNumbersIn : (most_sessions : ℕ) → List Row → (port workers sessions units history : ℕ) → Type 0
+AreServerNumbersIn most_sessions rows port workers sessions units history =
+    IsNumberIn 0 65535 (codes "port") rows port × IsNumberIn 1 16 (codes "workers") rows workers × IsNumberIn 1 most_sessions (codes "sessions") rows sessions
+    × AreLimitsIn rows units history
 
 -- the settings of a server are those of these matches
 abbrev pub IsServe : List Row → Settings → Type 0
-IsServe rows (Script limits) = ⊥
-IsServe rows (Serve it) = AreServerNumbersIn rows it.port it.workers it.sessions it.limits
+IsServe rows (Script units history) = ⊥
+IsServe rows (Serve port workers sessions units history) = AreServerNumbersIn 64 rows port workers sessions units history
 IsServe rows (Host it) = ⊥
 
 -- the settings of a server that stays are those of these matches, except for the name of the file, which is left open
 abbrev pub IsHost : List Row → Settings → Type 0
-IsHost rows (Script limits) = ⊥
-IsHost rows (Serve it) = ⊥
+IsHost rows (Script units history) = ⊥
+IsHost rows (Serve port workers sessions units history) = ⊥
 IsHost rows (Host it) =
-    AreServerNumbersIn rows it.port it.workers it.sessions it.limits
+    AreServerNumbersIn 255 rows it.port it.workers it.sessions it.limits.units it.limits.history
     × IsNumberIn 0 10080 (codes "idle") rows it.idle × IsNumberIn 1 1000000000 (codes "connections") rows it.connections
 
 -- the settings are those of this subcommand and its matches
 abbrev pub IsAsked : Option (Text × List Row) → Settings → Type 0
-IsAsked found (Script limits) = (rows : List Row) × (found ≡ Some (codes "script", rows)) × IsScript rows (Script limits)
-IsAsked found (Serve it) = (rows : List Row) × (found ≡ Some (codes "serve", rows)) × IsServe rows (Serve it)
+IsAsked found (Script units history) = (rows : List Row) × (found ≡ Some (codes "script", rows)) × IsScript rows (Script units history)
+IsAsked found (Serve port workers sessions units history) =
+    (rows : List Row) × (found ≡ Some (codes "serve", rows)) × IsServe rows (Serve port workers sessions units history)
 IsAsked found (Host it) = (rows : List Row) × (found ≡ Some (codes "host", rows)) × IsHost rows (Host it)
 
 -- The words, of which the first is the program's name, ask for these settings: by the subcommand that they name

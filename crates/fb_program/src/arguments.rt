@@ -3,7 +3,7 @@ ghost use Rattle.std.specs.Prelude.{◌≡◌, ◌≤◌, IfOk, IfSome, List, co
 ghost use Rattle.clap.specs.Words.{app_of, found_of, rows_of, rule_of, subcommand_rows_of};
 ghost use Rattle.fb_program.specs.Words.{AreLimitsIn, Asks, IsAsked, IsHost, IsNumberIn, IsScript, IsServe, bench_app, history_option, idle_option, number_option, port_option, secret_option, units_option, workers_option};
 
-use crate::asked::{HostSettings, ServerSettings, Settings};
+use crate::asked::{HostSettings, Settings};
 use clap::builder::ValueParser;
 use clap::error::ErrorKind;
 use clap::{Arg, ArgMatches, Command, Error};
@@ -15,6 +15,8 @@ const MOST_PORT: u64 = 65_535;
 const MOST_WORKERS: u64 = 16;
 
 const MOST_SESSIONS: u64 = 64;
+
+const MOST_SEATS: u64 = 255;
 
 const MOST_UNITS: u64 = 16_384;
 
@@ -35,7 +37,7 @@ const NEW_START: &str = "After how many calls the history begins anew, 1 to 1000
 
 const CONNECTIONS: &str = "How many connections it lets in over its life, 1 to 64";
 
-const SEATS: &str = "How many sessions there are at once, 1 to 64";
+const SEATS: &str = "How many sessions there are at once, 1 to 255";
 
 const LAST_CONNECTION: &str = "After how many connections it closes, 1 to 1000000000";
 
@@ -126,7 +128,7 @@ fn command<'a>(alloc: Global) -> Result<Command<'a>, AllocError>
     let host = Command::new(alloc, "host")
         .arg(port_option(alloc))?
         .arg(workers_option(alloc))?
-        .arg(number_option(alloc, "sessions", MOST_SESSIONS, "16", SEATS))?
+        .arg(number_option(alloc, "sessions", MOST_SEATS, "32", SEATS))?
         .arg(units_option(alloc))?
         .arg(history_option(alloc, NEW_START))?
         .arg(secret_option(alloc))?
@@ -160,7 +162,8 @@ fn number_at(matches: &ArgMatches<'_>, name: &str, least: u64, most: u64) -> Opt
 }
 
 fn limits_in(matches: &ArgMatches<'_>) -> Option<Limits>
-    ensures { IfSome result (AreLimitsIn (rows_of (found_of matches.now))) }
+    ensures { IfSome result (λ limits.
+        AreLimitsIn (rows_of (found_of matches.now)) limits.units limits.history) }
 {
     let units = number_at(matches, "units", 1, MOST_UNITS)?;
     let history = number_at(matches, "history", 1, MOST_HISTORY)?;
@@ -171,8 +174,9 @@ fn limits_in(matches: &ArgMatches<'_>) -> Option<Limits>
 fn script_in<'a>(matches: &ArgMatches<'a>) -> Option<Settings<'a>>
     ensures { IfSome result (IsScript (rows_of (found_of matches.now))) }
 {
-    let limits = limits_in(matches)?;
-    Some(Settings::Script(limits))
+    let units = number_at(matches, "units", 1, MOST_UNITS)?;
+    let history = number_at(matches, "history", 1, MOST_HISTORY)?;
+    Some(Settings::Script { units, history })
 }
 
 fn serve_in<'a>(matches: &ArgMatches<'a>) -> Option<Settings<'a>>
@@ -181,13 +185,15 @@ fn serve_in<'a>(matches: &ArgMatches<'a>) -> Option<Settings<'a>>
     let port = number_at(matches, "port", 0, MOST_PORT)?;
     let workers = number_at(matches, "workers", 1, MOST_WORKERS)?;
     let sessions = number_at(matches, "sessions", 1, MOST_SESSIONS)?;
-    let limits = limits_in(matches)?;
-    Some(Settings::Serve(ServerSettings {
+    let units = number_at(matches, "units", 1, MOST_UNITS)?;
+    let history = number_at(matches, "history", 1, MOST_HISTORY)?;
+    Some(Settings::Serve {
         port: port as u16,
         workers: workers as u8,
         sessions: sessions as u8,
-        limits,
-    }))
+        units,
+        history,
+    })
 }
 
 fn host_in<'a>(matches: &ArgMatches<'a>) -> Option<Settings<'a>>
@@ -195,7 +201,7 @@ fn host_in<'a>(matches: &ArgMatches<'a>) -> Option<Settings<'a>>
 {
     let port = number_at(matches, "port", 0, MOST_PORT)?;
     let workers = number_at(matches, "workers", 1, MOST_WORKERS)?;
-    let seats = number_at(matches, "sessions", 1, MOST_SESSIONS)?;
+    let seats = number_at(matches, "sessions", 1, MOST_SEATS)?;
     let limits = limits_in(matches)?;
     let idle = number_at(matches, "idle", 0, MOST_IDLE)?;
     let connections = number_at(matches, "connections", 1, MOST_CONNECTIONS)?;

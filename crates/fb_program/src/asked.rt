@@ -2,19 +2,6 @@
 
 use fb_wire::bench::Limits;
 
-/// What a server is asked to be.
-#[derive(Clone, Copy)]
-pub struct ServerSettings {
-    /// The port that it listens on, or 0 for any free one.
-    pub port: u16,
-    /// How many workers there are.
-    pub workers: u8,
-    /// The number of connections after which it closes.
-    pub sessions: u8,
-    /// How many units there may be, and how many calls may be recorded.
-    pub limits: Limits,
-}
-
 /// What a server that stays is asked to be.
 #[derive(Clone, Copy)]
 pub struct HostSettings<'a> {
@@ -37,10 +24,20 @@ pub struct HostSettings<'a> {
 /// What the program is asked to do.
 #[derive(Clone, Copy)]
 pub enum Settings<'a> {
-    /// To answer the requests of one input, with these limits of the number of units and of recorded calls.
-    Script(Limits),
-    /// To answer the requests of connections.
-    Serve(ServerSettings),
+    /// To answer the requests of one input: how many units there may be, and how many calls may be recorded.
+    Script {
+        units: u64,
+        history: u64,
+    },
+    /// To answer the requests of connections: the port that it listens on, or 0 for any free one, how many workers there are, the number of connections after
+    /// which it closes, and the limits of its workbench, as above.
+    Serve {
+        port: u16,
+        workers: u8,
+        sessions: u8,
+        units: u64,
+        history: u64,
+    },
     /// To answer the requests of connections that come and go.
     Host(HostSettings<'a>),
 }

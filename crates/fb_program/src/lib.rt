@@ -8,8 +8,8 @@ mod secret;
 mod unopened;
 
 pub use arguments::settings;
-pub use asked::{HostSettings, ServerSettings, Settings};
-pub use program::{Outcome, refuse_words, run};
+pub use asked::{HostSettings, Settings};
+pub use program::{Outcome, ServerSettings, refuse_words, run};
 pub use secret::{NoSecret, refuse_secret, secret_in};
 pub use unopened::{refuse_file, refuse_port};
 

@@ -1,10 +1,11 @@
 //! The program, over the streams that it gets.
 ghost use Rattle.std.specs.{Prelude.{◌≡◌, ◌≢◌, ◌<◌, ◌≤◌, ◌++◌, ℕ, List, false, map}, Io.KnownBytes.{IsAtEnd}, declared.io.ErrorKind.TheVariants.{InvalidData}};
 ghost use Rattle.fb_streams.specs.Streams.{StaysFlushed};
+ghost use Rattle.fb_wire.specs.History.Limits.{AreLimits};
 ghost use Rattle.fb_program.specs.Program.{BenchSays, HasDone};
 
 use crate::arguments::settings;
-use crate::asked::{HostSettings, ServerSettings, Settings};
+use crate::asked::{HostSettings, Settings};
 use clap::Error;
 use clap::error::ErrorKind;
 use fb_wire::bench::{Bench, Limits};
@@ -25,6 +26,19 @@ const FAILED: u8 = 1;
 /// The words ask for nothing that the program does, or for help.
 const MISUSED: u8 = 2;
 
+/// The server that the words ask for.
+#[derive(Clone, Copy)]
+pub struct ServerSettings {
+    /// The port that it listens on, or 0 for any free one.
+    pub port: u16,
+    /// How many workers there are.
+    pub workers: u8,
+    /// The number of connections after which it closes.
+    pub sessions: u8,
+    /// How many units there may be, and how many calls may be recorded.
+    pub limits: Limits,
+}
+
 /// The result of a run.
 #[derive(Clone, Copy)]
 pub enum Outcome<'a> {
@@ -34,6 +48,17 @@ pub enum Outcome<'a> {
     Serves(ServerSettings),
     /// The words ask for a server that stays, which is still to be run.
     Hosts(HostSettings<'a>),
+}
+
+/// The limits with these numbers, which are in their ranges.
+fn limits_of(units: u64, history: u64) -> Limits
+    requires { AreLimits units history }
+    ensures { result ≡ record { units = units; history = history } }
+{
+    match Limits::new(units, history) {
+        Some(limits) => limits,
+        None => unreachable!(),
+    }
 }
 
 /// Runs the script on a new workbench, and gives the status. The memory of the workbench is not given back.
@@ -127,10 +152,22 @@ pub fn run<'a, F: Feed, S: Sink, E: Write>(
 {
     match settings(alloc, words) {
         Ok(asked) => match asked {
-            Settings::Script(limits) => {
+            Settings::Script { units, history } => {
+                let limits = limits_of(units, history);
                 Outcome::Ended(script(alloc, limits, reader, writer, errors, turns))
             }
-            Settings::Serve(server) => Outcome::Serves(server),
+            Settings::Serve {
+                port,
+                workers,
+                sessions,
+                units,
+                history,
+            } => Outcome::Serves(ServerSettings {
+                port,
+                workers,
+                sessions,
+                limits: limits_of(units, history),
+            }),
             Settings::Host(host) => Outcome::Hosts(host),
         },
         Err(error) => Outcome::Ended(refuse(&error, errors)),

@@ -1,7 +1,7 @@
 -- What the steps of a desk with a seat leave in its receipts.
 use Rattle.std.proofs.Common.{◌≡◌, [], ◌∷◌, ◌++◌, ◌∙◌, List, ap, append-nil, append_assoc, map, refl, subst, sym}
 use Rattle.fb_wire.specs.History.Machine.{Call, Reply}
-use Rattle.fb_wire.specs.{Bench.Calls.{AskedCall, AskedCheckpoint, BehindHistory, Checked, Exchange, FullHistory, Replied, SharedHistory}, Conversations.{Runs}}
+use Rattle.fb_wire.specs.{Bench.Calls.{AskedCall, AskedCheckpoint, AskedRead, BehindHistory, Checked, Exchange, FullHistory, Replied, SharedHistory}, Conversations.{Runs}}
 use Rattle.fb_shared.specs.{Locked.Runs.{IsRun}, Locked.Seats.{IsReceiptOf, ReceiptView, SeatView, seat_after}, Seated.{SeatedView, SeatedStep}}
 use Rattle.fb_serve.specs.Sessions.{answered_before, answered_in, call_shown}
 
@@ -25,6 +25,7 @@ shows_more (AskedCall call FullHistory) old mid new answered step rest = subst (
 shows_more (AskedCall call BehindHistory) old mid new answered step rest = subst (λ (s : SeatedView). Shows s answered new) step rest
 shows_more (AskedCheckpoint limits SharedHistory) old mid new answered step rest = subst (λ (s : SeatedView). Shows s answered new) step rest
 shows_more (AskedCheckpoint limits (Checked checking)) old mid new answered step rest = absurd step
+shows_more (AskedRead reading shown) old mid new answered step rest = absurd step
 
 runs_show : (pairs : List Exchange) (old new : SeatedView) → Runs SeatedStep old pairs new → Shows old (answered_in pairs) new
 runs_show [] old new runs = ([], ap (λ (s : SeatedView). s.receipts) runs ∙ sym (append-nil old.receipts), refl, ap (λ (s : SeatedView). s.seat) runs)

@@ -31,7 +31,7 @@ pub fn run_session<R: Wait, F: Feed, S: Sink>(
     requires open { F.has_ended reader.old ≡ false }
     requires writer { S.has_failed writer.old ≡ false }
     // The calls and their answers are those of the seat's desk, from no receipts on. The calls that were answered, with their replies, are those of the receipts.
-    ensures conversation { (conversation : IsConversation result.end turns
+    ensures conversation { (conversation : IsConversation false result.end turns
         (streams F.given F.left F.reads F.has_failed S.held S.is_flushed S.has_failed reader.old
         writer.old)
         (streams F.given F.left F.reads F.has_failed S.held S.is_flushed S.has_failed reader.new

@@ -1,12 +1,19 @@
 -- A shared workbench as the desk of one seat. Nothing is known of the workbench except what the seat and its receipts show.
-use Rattle.std.specs.Prelude.{◌≡◌, ◌++◌, ◌∷◌, [], List, ℕ}
-use Rattle.fb_locked.specs.{History.Machine.{Call}, History.Limits.{Bounds}}
-use Rattle.fb_locked.specs.Bench.Calls.{Answer, Replied, FullHistory, BehindHistory, CheckpointAnswer, Checked, SharedHistory, Exchange, Exchanges}
+use Rattle.std.specs.Prelude.{◌≡◌, ◌++◌, ◌∷◌, [], Bool, List, ℕ}
+use Rattle.fb_locked.specs.{History.Machine.{Call}, History.Limits.{Bounds}, History.declared.reading.Identity.{Identity}}
+use Rattle.fb_locked.specs.Bench.Calls.{Answer, Replied, FullHistory, BehindHistory, CheckpointAnswer, Checked, SharedHistory, Exchange, Exchanges, NoRead}
 use Rattle.fb_locked.specs.Seats.{SeatView, ReceiptView, IsReceiptOf, seat_after}
 
--- a workbench under its lock: for how many callers seats were made. Nobody knows anything else of it without the lock
+-- a workbench under its lock: for how many callers seats were made, whether a full history begins again, and its identity. Nobody knows anything else of it
+-- without the lock
 pub record SharedView : Type 0 where
   pub callers : ℕ
+  pub rolls : Bool
+  pub workbench : Identity
+
+-- no identity
+abbrev pub unnamed : Identity
+unnamed = record { high = 0; low = 0 }
 
 -- a seat with the receipts of its calls
 pub record SeatedView : Type 0 where
@@ -26,4 +33,4 @@ IsCheckpointSeated old limits SharedHistory new = new ≡ old
 IsCheckpointSeated old limits (Checked checking) new = ⊥
 
 abbrev pub SeatedStep : SeatedView → Exchange → SeatedView → Type 0
-SeatedStep = Exchanges IsCallSeated IsCheckpointSeated
+SeatedStep = Exchanges IsCallSeated IsCheckpointSeated NoRead

@@ -1,7 +1,10 @@
 //! A shared workbench as the desk of one seat.
 use crate::shared::Shared;
-use fb_locked::bench::{Answered, Desk, DeskCheckpointError, DeskError, Limits, Request};
+use fb_locked::bench::{
+    Answered, Desk, DeskCheckpointError, DeskError, Limits, Reading, Request, Showing,
+};
 use fb_locked::{Receipt, Seat, SharedRefused};
+use std::alloc::AllocError;
 use std::marker::Model;
 use std::sync::Wait;
 
@@ -23,13 +26,26 @@ impl<'a, R: Wait> Model for Seated<'a, R> {
 }
 
 impl<R: Wait> Desk for Seated<'_, R> {
-    ghost use Rattle.std.specs.Prelude.{◌≡◌, Err};
-    ghost use Rattle.fb_locked.specs.Bench.Calls.{ServesCheckpoint};
+    ghost use Rattle.std.specs.Prelude.{◌≡◌, Err, false};
+    ghost use Rattle.fb_locked.specs.Bench.Calls.{NoRead, ServesCheckpoint};
     ghost use Rattle.fb_shared.specs.Seated.{IsCallSeated, IsCheckpointSeated};
 
     ghost step = { IsCallSeated };
 
     ghost checkpoint_step = { IsCheckpointSeated };
+
+    ghost read_step = { NoRead };
+
+    ghost has_reads = { false };
+
+    fn answers_reads(&self) -> bool {
+        false
+    }
+
+    /// It answers no reads.
+    fn read(&mut self, _reading: &Reading, _wait: u64) -> Result<Option<Showing>, AllocError> {
+        Err(AllocError)
+    }
 
     fn perform(&mut self, request: &Request<'_>) -> Result<Answered, DeskError> {
         let shared = self.shared;

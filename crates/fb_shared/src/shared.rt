@@ -1,24 +1,40 @@
 //! The workbench that threads share, under its lock.
-ghost use Rattle.std.specs.Prelude.{◌≡◌, None, IfErr, IfOk, OnOk};
+ghost use Rattle.std.specs.Prelude.{◌≡◌, ◌≤◌, None, IfErr, IfOk, IsTrue, OnOk, false, true};
+ghost use Rattle.fb_locked.specs.History.BenchView.{BenchView, IsOrigin, IsReplay, all_turns, last_number};
 ghost use Rattle.fb_locked.specs.{History.Machine.{ToCommit, ToTake, ToDeliver, ToGiveBack, ToAsk}, Bench.Records.{listed}, Bench.Requests.{call_for, job_of}};
 ghost use Rattle.fb_locked.specs.{Calls.{Answers, AnswersInto}, Closing.{IsCloseOf, IsFaultOf, IsLeast}, Resuming.{is_left_out, IsResumeFault}};
-ghost use Rattle.fb_locked.specs.{Rolling.{MayReturn}, Seats.{AreFirstSeats, AreSeatsAt}};
+ghost use Rattle.fb_locked.specs.{Reads.{ReadsAt}, Rolling.{MayReturn}, Seats.{AreFirstSeats, AreSeatsAt}};
+ghost use Rattle.fb_locked.specs.History.declared.reading.Reading.TheVariants.{Events};
+ghost use Rattle.fb_shared.specs.Seated.{unnamed};
 
-use fb_locked::bench::{Answered, Bench, Limits, Request};
+use fb_locked::bench::{Answered, Bench, Identity, Limits, Reading, Request, Showing};
 use fb_locked::jobs::{Finished, Job, Key};
 use fb_locked::library::Change;
 use fb_locked::{Closed, Locked, NotClosed, NotResumed, Receipt, Seat, SharedRefused, close_for};
 use std::alloc::{AllocError, Global};
 use std::marker::Model;
-use std::sync::{Condvar, Mutex, MutexGuard, Wait};
+use std::sync::{Condvar, CondvarTimeouts, Mutex, MutexGuard, Wait};
+use std::thread;
+use std::time::{Clock, Duration};
 
-/// A workbench that threads share. Each call holds the lock once. Beside the lock are the number of callers for whom seats were made, and the limits with
-/// which a full history begins again, if it does.
+/// How many milliseconds a watch gathers further events once there is one, so that not each of many commits wakes all who watch.
+const GATHERING: u64 = 5;
+
+/// With this number of calls after its own a watch gathers no further ones.
+const MANY_CALLS: u64 = 200;
+
+/// How many milliseconds a watch waits at most if the workbench is about to be closed.
+const CLOSING: u64 = 100;
+
+/// A workbench that threads share. Each call holds the lock once. Beside the lock are the number of callers for whom seats were made, the limits with which a
+/// full history begins again, if it does, and the identity of the workbench, 0 if it has none. `changed` wakes workers, and `events` those who watch.
 pub struct Shared {
     pub(crate) state: Mutex<Locked>,
     pub(crate) callers: u32,
     pub(crate) changed: Condvar,
+    pub(crate) events: Condvar,
     pub(crate) rolls: Option<Limits>,
+    pub(crate) workbench: Identity,
 }
 
 impl Drop for Shared {
@@ -27,7 +43,9 @@ impl Drop for Shared {
             state: _,
             callers: _,
             changed: _,
+            events: _,
             rolls: _,
+            workbench: _,
         } = self;
     }
 }
@@ -36,20 +54,38 @@ impl Drop for Shared {
 pub(crate) struct Hold<'a> {
     pub(crate) state: MutexGuard<'a, Locked>,
     changed: &'a Condvar,
+    events: &'a Condvar,
+    // the number of the last event when it began
+    last_event: u64,
 }
 
 impl Hold<'_> {
-    /// Lets the lock go, and wakes the workers that wait, if there is something for them.
+    /// Lets the lock go, and wakes the workers that wait, if there is something for them, and those who watch, if its call is an event.
     pub(crate) fn end(self) {
-        let Self { state, changed } = self;
+        let Self {
+            state,
+            changed,
+            events,
+            last_event,
+        } = self;
         if state.calls_workers() {
             changed.notify_all();
+        }
+        let has_news = last_event < state.bench().last_event();
+        drop(state);
+        if has_news {
+            events.notify_all();
         }
     }
 
     /// Lets the lock go, and waits for a change.
     pub(crate) fn wait<R: Wait>(self, rt: &R) {
-        let Self { state, changed } = self;
+        let Self {
+            state,
+            changed,
+            events: _,
+            last_event: _,
+        } = self;
         drop(changed.wait(rt, state));
     }
 }
@@ -59,7 +95,9 @@ impl Model for Shared {
 
     ghost Value = { SharedView };
 
-    ghost view = { λ it. record { callers = it.callers } };
+    ghost use Rattle.std.specs.Prelude.{is_some};
+
+    ghost view = { λ it. record { callers = it.callers; rolls = is_some it.rolls; workbench = it.workbench } };
 }
 
 impl Shared {
@@ -69,30 +107,43 @@ impl Shared {
         limits: Limits,
         callers: u32,
     ) -> Result<(Shared, Vec<Seat>), AllocError>
-        ensures callers { IfOk result (λ made. made.0 ≡ record { callers = callers }) }
+        ensures shared { IfOk result
+            (λ made. made.0 ≡ record { callers = callers; rolls = false; workbench = unnamed }) }
         ensures seats { IfOk result (λ made. AreFirstSeats callers made.1.items) }
     {
         let (locked, seats) = Locked::new(alloc, limits, callers)?;
-        let shared = Shared {
+        Ok((Shared::of(locked, callers), seats))
+    }
+
+    /// With this under the lock, a history that does not begin again, and no identity.
+    fn of(locked: Locked, callers: u32) -> Shared
+        ensures { result ≡ record { callers = callers; rolls = false; workbench = unnamed } }
+    {
+        Shared {
             state: Mutex::new(locked),
             callers,
             changed: Condvar::new(),
+            events: Condvar::new(),
             rolls: None,
-        };
-        Ok((shared, seats))
+            workbench: Identity { high: 0, low: 0 },
+        }
     }
 
-    /// As `new`, but before each call a full history begins again: its present state becomes its start, with the same limits.
+    /// As `new`, but before each call a full history begins again: its present state becomes its start, with the same limits. Reads show the identity.
     pub fn rolling(
         alloc: Global,
         limits: Limits,
         callers: u32,
+        workbench: Identity,
     ) -> Result<(Shared, Vec<Seat>), AllocError>
-        ensures callers { IfOk result (λ made. made.0 ≡ record { callers = callers }) }
+        ensures shared { IfOk result
+            (λ made. made.0
+            ≡ record { callers = callers; rolls = true; workbench = workbench }) }
         ensures seats { IfOk result (λ made. AreFirstSeats callers made.1.items) }
     {
         let (mut shared, seats) = Shared::new(alloc, limits, callers)?;
         shared.rolls = Some(limits);
+        shared.workbench = workbench;
         Ok((shared, seats))
     }
 
@@ -103,7 +154,8 @@ impl Shared {
         bench: Bench,
         callers: u32,
     ) -> Result<(Shared, Vec<Seat>), NotResumed>
-        ensures callers { IfOk result (λ made. made.0 ≡ record { callers = callers }) }
+        ensures shared { IfOk result
+            (λ made. made.0 ≡ record { callers = callers; rolls = false; workbench = unnamed }) }
         ensures seats { IfOk result (λ made. AreSeatsAt bench callers made.1.items) }
         ensures all_seated { OnOk result (IsLeast (is_left_out bench callers) None) }
 
@@ -111,34 +163,57 @@ impl Shared {
         ensures back { IfErr result (λ refused. refused.bench ≡ bench) }
     {
         match Locked::resume(alloc, bench, callers) {
-            Ok((locked, seats)) => {
-                let shared = Shared {
-                    state: Mutex::new(locked),
-                    callers,
-                    changed: Condvar::new(),
-                    rolls: None,
-                };
-                Ok((shared, seats))
-            }
+            Ok((locked, seats)) => Ok((Shared::of(locked, callers), seats)),
             Err(refused) => Err(refused),
         }
     }
 
     /// Takes the lock for one call. If the history is full and may begin again, it does so first; without memory for that it stays full.
     pub(crate) fn hold<R: Wait>(&self, rt: &R) -> Hold<'_> {
-        let mut state = self.state.lock(rt);
+        let mut hold = self.enter(rt);
         if let Some(limits) = self.rolls {
-            let _made = state.make_room(limits);
+            let _made = hold.state.make_room(limits);
         }
+        hold
+    }
+
+    /// Takes the lock.
+    fn enter<R: Wait>(&self, rt: &R) -> Hold<'_> {
+        let state = self.state.lock(rt);
+        let last_event = state.bench().last_event();
         Hold {
             state,
             changed: &self.changed,
+            events: &self.events,
+            last_event,
         }
     }
 
     /// How many calls came before the start of the history.
-    pub fn before<R: Wait>(&self, rt: &R) -> u64 {
-        self.state.lock(rt).bench().before()
+    pub fn before<R: Wait>(&self, rt: &R) -> u64
+        ensures { (bench : BenchView) × IsOrigin bench.origin × IsReplay bench
+            × (result ≡ bench.origin.before) }
+    {
+        let state = self.state.lock(rt);
+        let bench = state.bench();
+        // For the proof: each recorded answer is the machine's, from a start that a workbench may have.
+        bench.start();
+        bench.len();
+        bench.before()
+    }
+
+    /// Whether the history is not one that the seat has seen.
+    pub fn is_behind<R: Wait>(&self, rt: &R, seat: &Seat) -> bool
+        ensures { IsTrue result → (bench : BenchView) × IsOrigin bench.origin × IsReplay bench
+            × ((all_turns bench seat.now.caller ≡ seat.now.turns)
+            × (seat.now.seen ≤ last_number bench) → ⊥) }
+    {
+        let state = self.state.lock(rt);
+        let bench = state.bench();
+        // As above.
+        bench.start();
+        bench.len();
+        !state.fits(seat)
     }
 
     /// Changes the texts, or gives the first reason against that.
@@ -246,10 +321,68 @@ impl Shared {
         answer
     }
 
+    /// Reads, without a record. None if the history is not one that the seat has seen. The lock is held only while what is shown is shared.
+    pub fn read<R: Wait>(
+        &self,
+        rt: &R,
+        seat: &mut Seat,
+        reading: &Reading,
+    ) -> Result<Option<Showing>, AllocError>
+        ensures { ReadsAt self.now.workbench seat.old reading.now result seat.new }
+    {
+        let state = self.state.lock(rt);
+        let made = state.snapshot(seat, self.workbench, reading);
+        drop(state);
+        match made? {
+            None => Ok(None),
+            Some(snapshot) => Ok(Some(snapshot.showing(seat)?)),
+        }
+    }
+
+    /// Reads the events after a call. If there are none yet, it waits for them, but not for longer than this.
+    pub fn watch<R: Wait + Clock>(
+        &self,
+        rt: &R,
+        seat: &mut Seat,
+        after: u64,
+        wait: Duration,
+    ) -> Result<Option<Showing>, AllocError>
+        ensures { ReadsAt self.now.workbench seat.old (Events after) result seat.new }
+    {
+        self.await_news(rt, after, wait);
+        self.read(rt, seat, &Reading::Events(after))
+    }
+
+    fn await_news<R: Wait + Clock>(&self, rt: &R, after: u64, wait: Duration) {
+        let state = self.state.lock(rt);
+        let closing = state.is_closing();
+        let most = if closing {
+            wait.min(Duration::from_millis(CLOSING))
+        } else {
+            wait
+        };
+        let (state, _timeout) = self.events.wait_timeout_while(rt, state, most, |locked| {
+            !locked.bench().has_news(after) && locked.is_closing() == closing
+        });
+        let behind = state.bench().last_number().saturating_sub(after);
+        let gathers = state.bench().has_news(after) && behind < MANY_CALLS && !wait.is_zero();
+        drop(state);
+        if gathers {
+            thread::sleep(rt, Duration::from_millis(GATHERING));
+        }
+    }
+
+    /// From now on no watch waits long, so that the sessions of peers that have gone end.
+    pub fn end_watches<R: Wait>(&self, rt: &R) {
+        self.state.lock(rt).end_waiting();
+        self.events.notify_all();
+    }
+
     /// Makes the workers stop.
     pub fn stop<R: Wait>(&self, rt: &R) {
-        self.state.lock(rt).stop();
-        self.changed.notify_all();
+        let mut hold = self.enter(rt);
+        hold.state.stop();
+        hold.end();
     }
 
     /// Ends the calls. If a seat or a receipt does not fit, it is refused and hands all back.
@@ -271,7 +404,9 @@ impl Shared {
             state,
             callers,
             changed,
+            events,
             rolls,
+            workbench,
         } = self;
         match close_for(state.into_inner(), alloc, callers, seats, receipts) {
             Ok(closed) => Ok(closed),
@@ -287,7 +422,9 @@ impl Shared {
                     state: Mutex::new(owner),
                     callers,
                     changed,
+                    events,
                     rolls,
+                    workbench,
                 },
                 seats,
             }),

@@ -1,18 +1,20 @@
 -- Plans, runs and talks, one after another.
-use Rattle.std.proofs.Common.{◌-◌, ◌+◌, ◌<◌, ◌≡◌, ℕ, [], ◌∷◌, ◌++◌, ◌∙◌, Err, List, None, Ok, Option, Result, Some, ap, append-nil, ap₂, arith, false, length, nat_le, option_map, refl, subst, suc, sym, true}
+use Rattle.std.proofs.Common.{◌-◌, ◌+◌, ◌<◌, ◌≡◌, ℕ, [], ◌∷◌, ◌++◌, ◌∙◌, Err, List, None, Ok, Option, Result, Some, ap, append-nil, ap₂, arith, Bool, false, length, nat_le, option_map, refl, subst, suc, sym, true}
 use Rattle.std.specs.{declared.alloc.AllocError.{AllocError}, Result.{result_ok}}
 use mathlib.Core.Logic.{inl, inr}
+use Rattle.fb_bench.specs.{History.Reads.{Showing, showing_in}, History.declared.reading.Reading.{Reading}}
+use Rattle.fb_bench.specs.History.declared.reading.Showing as made
 use Rattle.fb_bench.specs.{History.Checkpoints.{KeptUpTo, OverNumbers, OverUnits}, History.Limits.{Bounds}}
 use Rattle.fb_bench.specs.{History.Machine.{Call, OfDeliver, OfTake, Reply as MachineReply, ToDeliver, ToTake}, Solo.{IsStep, SoloStep}}
 use Rattle.fb_bench.specs.declared.desk.Solo.{Solo}
-use Rattle.fb_bench.specs.Calls.{Answer, AskedCall, AskedCheckpoint, BehindHistory, Checked, CheckpointAnswer, DeliversTaken, Exchange, Exchanges, FullHistory, Replied, Serves, ServesCheckpoint, ServesRound, SharedHistory, take_reply}
+use Rattle.fb_bench.specs.Calls.{Answer, AskedCall, AskedCheckpoint, AskedRead, BehindHistory, Checked, CheckpointAnswer, DeliversTaken, Exchange, Exchanges, FullHistory, Replied, Serves, ServesCheckpoint, ServesRead, ServesRound, SharedHistory, take_reply}
 use Rattle.fb_bench.specs.{declared.answers.Taken.{Taken}, History.declared.answers.Delivered.{Delivered}, History.declared.answers.Delivered.TheVariants.{Accepted, NoSuchKey, NotPending, Stale}, declared.desk.DeskError.{DeskError}}
 use Rattle.fb_bench.specs.{declared.desk.DeskError.TheVariants.{Behind, HistoryFull, Memory}, declared.desk.DeskCheckpointError.{DeskCheckpointError}}
 use Rattle.fb_messages.specs.{Replies.{refused, work_done, work_refused}, ReplyView.{data_of, refusal_text}}
 use Rattle.fb_messages.specs.{declared.reply.Refusal.{Refusal}, declared.reply.Reply.{Reply}}
-use Rattle.fb_wire.specs.{Lines.{is_blank}, Said.{checkpoint_said, said_to}}
-use Rattle.fb_wire.specs.Progress.{KeepsTaken, LineSaid, Progress, ProgressTo, answer_in, checked_in, data_in, refusal_for, unrecorded}
-use Rattle.fb_wire.specs.Conversations.{Jobs, BeginsWith, Plan, Runs, after_deliver, after_take, asks, call_once, checkpoint_once, checks, held_after, says, take_plan, work_plan}
+use Rattle.fb_wire.specs.{Lines.{is_blank}, Said.{checkpoint_said, read_said, said_to}}
+use Rattle.fb_wire.specs.Progress.{KeepsTaken, LineSaid, Progress, ProgressTo, answer_in, checked_in, data_in, read_in, refusal_for, unrecorded}
+use Rattle.fb_wire.specs.Conversations.{Jobs, BeginsWith, Plan, Runs, after_deliver, after_take, asks, call_once, checkpoint_once, checks, held_after, read_once, reads, says, take_plan, work_plan}
 use Rattle.fb_bench.specs.declared.desk.DeskCheckpointError.TheVariants as checkpoint
 use Rattle.serde_json.specs.Data.{Data}
 
@@ -21,8 +23,13 @@ BeginsWith-append plan mid rest [] qs first more = let P : Plan → Type 0 = λ 
 BeginsWith-append (says reply jobs) mid rest (p ∷ ps) qs first more = absurd first
 BeginsWith-append (asks call next) mid rest (AskedCall made answer ∷ ps) qs first more = (first.0, BeginsWith-append (next answer) mid rest ps qs first.1 more)
 BeginsWith-append (asks call next) mid rest (AskedCheckpoint made answer ∷ ps) qs first more = absurd first
+BeginsWith-append (asks call next) mid rest (AskedRead made shown ∷ ps) qs first more = absurd first
 BeginsWith-append (checks limits next) mid rest (AskedCall made answer ∷ ps) qs first more = absurd first
 BeginsWith-append (checks limits next) mid rest (AskedCheckpoint made answer ∷ ps) qs first more = (first.0, BeginsWith-append (next answer) mid rest ps qs first.1 more)
+BeginsWith-append (checks limits next) mid rest (AskedRead made shown ∷ ps) qs first more = absurd first
+BeginsWith-append (reads reading next) mid rest (AskedCall made answer ∷ ps) qs first more = absurd first
+BeginsWith-append (reads reading next) mid rest (AskedCheckpoint made answer ∷ ps) qs first more = absurd first
+BeginsWith-append (reads reading next) mid rest (AskedRead made shown ∷ ps) qs first more = (first.0, BeginsWith-append (next shown) mid rest ps qs first.1 more)
 
 -- ---- calls that are not recorded
 
@@ -90,14 +97,14 @@ module _ {S : Type 0} (Step : S → Exchange → S → Type 0) where
 
   -- ---- lines
 
-  pub blank_said : (line : List ℕ) (old_jobs jobs : Jobs) (old new : S) (held : List ℕ) → is_blank line ≡ true → jobs ≡ old_jobs → new ≡ old → LineSaid Step line old_jobs old held (Ok tt) jobs new held
-  blank_said line old_jobs jobs old new held blank same is = ([], [], rw blank (refl, refl, same), is, sym (append-nil held))
+  pub blank_said : (has_reads : Bool) (line : List ℕ) (old_jobs jobs : Jobs) (old new : S) (held : List ℕ) → is_blank line ≡ true → jobs ≡ old_jobs → new ≡ old → LineSaid has_reads Step line old_jobs old held (Ok tt) jobs new held
+  blank_said has_reads line old_jobs jobs old new held blank same is = ([], [], rw blank (refl, refl, same), is, sym (append-nil held))
 
--- ---- calls and a checkpoint of a desk
+-- ---- calls, a checkpoint and a read of a desk
 
-module _ {S : Type 0} (CallStep : S → Call → Answer → S → Type 0) (CheckpointStep : S → Bounds → CheckpointAnswer → S → Type 0) where
+module _ {S : Type 0} (CallStep : S → Call → Answer → S → Type 0) (CheckpointStep : S → Bounds → CheckpointAnswer → S → Type 0) (ReadStep : S → Reading → Option Showing → S → Type 0) where
   abbrev Step : S → Exchange → S → Type 0
-  Step = Exchanges CallStep CheckpointStep
+  Step = Exchanges CallStep CheckpointStep ReadStep
 
   -- one call, and its answer
   reaches_by : (old new : S) (call : Call) (next : Answer → Plan) (answer : Answer) → CallStep old call answer new → ProgressTo Step (asks call next) old (next answer) new
@@ -140,6 +147,20 @@ module _ {S : Type 0} (CallStep : S → Call → Answer → S → Type 0) (Check
   checkpoint_served old new limits (Err checkpoint.NumbersOver) (Err e) held step is = absurd cc
   checkpoint_served old new limits (Err checkpoint.NotAlone) (Err e) held step is = absurd cc
   checkpoint_served old new limits (Err checkpoint.Memory) (Err e) held same is = (checkpoint_once held limits, ([], refl, same))
+
+  read_replied : (old new : S) (reading : Reading) (shown : Option Showing) (reply : Reply) (held : Jobs) → ReadStep old reading shown new → Some (read_said shown) ≡ Some (data_of reply)
+      → ProgressTo Step (read_once held reading) old (says (data_of reply) held) new
+  read_replied old new reading shown reply held step is =
+      let same : read_said shown ≡ data_of reply = cc in
+      (AskedRead reading shown ∷ [], (refl, ap (λ d. says d held) (sym same)), (new, step, refl))
+
+  -- a read, of which what it shows is the reply
+  pub read_served : (old new : S) (reading : Reading) (r : Result (Option made.Showing) AllocError) (reply : Result Reply AllocError) (held : Jobs)
+      → ServesRead ReadStep old reading r new → option_map read_said (read_in r) ≡ data_in reply → Progress Step (read_once held reading) old reply held new
+  read_served old new reading (Ok shown) (Ok reply) held step is = read_replied old new reading (option_map showing_in shown) reply held step is
+  read_served old new reading (Err e) (Ok reply) held same is = absurd cc
+  read_served old new reading (Ok shown) (Err e) held step is = absurd cc
+  read_served old new reading (Err e) (Err f) held same is = (read_once held reading, ([], refl, same))
 
   by_plan : (old new : S) (call : Call) (next : Answer → Plan) (answer : Answer) (rest : Plan) → CallStep old call answer new → Some (next answer) ≡ Some rest → ProgressTo Step (asks call next) old rest new
   by_plan old new call next answer rest step is =
@@ -229,3 +250,4 @@ Runs-solo old new (AskedCheckpoint limits answer ∷ ps) h =
     let rest = Runs-solo h.0 new ps h.2 in
     let P : ℕ → Type 0 = λ caller. Runs (IsStep caller) h.0.bench.now ps new.bench.now in
     ((h.0.bench.now, h.1.0, subst P h.1.1 rest.0), rest.1 ∙ h.1.2)
+Runs-solo old new (AskedRead reading shown ∷ ps) h = absurd h.1

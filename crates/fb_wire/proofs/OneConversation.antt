@@ -1,18 +1,19 @@
 -- A conversation is decided by its bytes and by what decides its answers.
-use Rattle.std.proofs.Common.{◌≡◌, ℕ, [], ◌∷◌, ◌++◌, ◌∙◌, Bool, List, MatchBool, ap, ap₂, arith, false, inl, inr, refl, subst, sym, true}
+use Rattle.std.proofs.Common.{◌≡◌, ℕ, [], ◌∷◌, ◌++◌, ◌∙◌, Bool, List, MatchBool, ap, ap₂, arith, false, inl, inr, Option, refl, subst, sym, true}
 use Rattle.serde_json.specs.Data.{Data}
-use Rattle.fb_bench.specs.{History.Limits.{Bounds}, History.Machine.{Call}, Calls.{Answer, AskedCall, AskedCheckpoint, CheckpointAnswer, Exchange}}
+use Rattle.fb_bench.specs.{History.Limits.{Bounds}, History.Machine.{Call}, Calls.{Answer, AskedCall, AskedCheckpoint, AskedRead, CheckpointAnswer, Exchange}, History.Reads.{Showing}, History.declared.reading.Reading.{Reading}}
 use Rattle.fb_bench.specs.{Solo.{IsCallStep, IsCheckpointStep, IsStep}, History.BenchView.{BenchView}}
 use Rattle.fb_wire.specs.{Lines.{Fits, IsTooLong, is_blank, lines_of}, Ends.{AnsweredAll, AnsweredEnded, IsBetweenLines, OutputAt}}
-use Rattle.fb_wire.specs.{Conversations.{AnswersLines, Jobs, BeginsWith, Plan, Runs, answers_of, asks, checks, plan_of, says}, declared.end.RunEnd.{RunEnd}}
+use Rattle.fb_wire.specs.{Conversations.{AnswersLines, Jobs, BeginsWith, Plan, Runs, answers_of, asks, checks, plan_of, reads, says}, declared.end.RunEnd.{RunEnd}}
 use Rattle.fb_messages.specs.{Requests.{request_of}, Replies.{reply_line}}
 use Rattle.fb_wire.specs.declared.end.RunEnd.TheVariants as end
 use Rattle.fb_wire.proofs.Scripts.{call_is, checkpoint_is}
 
--- pairs that agree agree on the answer to one call or checkpoint, and behind it
-module _ (Agrees : List Exchange → List Exchange → Type 0)
+-- pairs that agree agree on the answer to one call, checkpoint or read, and behind it
+module _ (has_reads : Bool) (Agrees : List Exchange → List Exchange → Type 0)
     (first_call : (call : Call) (a b : Answer) (ps qs : List Exchange) → Agrees (AskedCall call a ∷ ps) (AskedCall call b ∷ qs) → (a ≡ b) × Agrees ps qs)
-    (first_checkpoint : (limits : Bounds) (a b : CheckpointAnswer) (ps qs : List Exchange) → Agrees (AskedCheckpoint limits a ∷ ps) (AskedCheckpoint limits b ∷ qs) → (a ≡ b) × Agrees ps qs) where
+    (first_checkpoint : (limits : Bounds) (a b : CheckpointAnswer) (ps qs : List Exchange) → Agrees (AskedCheckpoint limits a ∷ ps) (AskedCheckpoint limits b ∷ qs) → (a ≡ b) × Agrees ps qs)
+    (first_read : (reading : Reading) (a b : Option Showing) (ps qs : List Exchange) → Agrees (AskedRead reading a ∷ ps) (AskedRead reading b ∷ qs) → (a ≡ b) × Agrees ps qs) where
   same_plan : (plan : Plan) (ps qs more others : List Exchange) (r s : Data) (a b : Jobs) → BeginsWith plan ps (says r a) → BeginsWith plan qs (says s b)
       → Agrees (ps ++ more) (qs ++ others) → (ps ≡ qs) × (r ≡ s) × (a ≡ b) × Agrees more others
   same_plan (says d jobs) [] [] more others r s a b l k e = let both : says r a ≡ says s b = l ∙ sym k in (refl, cc, cc, e)
@@ -28,7 +29,9 @@ module _ (Agrees : List Exchange → List Exchange → Type 0)
       let rest = same_plan (next x) ps qs more others r s a b l.1 (subst Q (sym step.0) k.1) step.1 in
       (λ i. AskedCall (calls i) (step.0 i) ∷ rest.0 i, rest.1, rest.2, rest.3)
   same_plan (asks call next) (AskedCall c x ∷ ps) (AskedCheckpoint d y ∷ qs) more others r s a b l k e = absurd k
+  same_plan (asks call next) (AskedCall c x ∷ ps) (AskedRead d y ∷ qs) more others r s a b l k e = absurd k
   same_plan (asks call next) (AskedCheckpoint c x ∷ ps) (q ∷ qs) more others r s a b l k e = absurd l
+  same_plan (asks call next) (AskedRead c x ∷ ps) (q ∷ qs) more others r s a b l k e = absurd l
   same_plan (checks limits next) [] qs more others r s a b l k e = absurd cc
   same_plan (checks limits next) (p ∷ ps) [] more others r s a b l k e = absurd cc
   same_plan (checks limits next) (AskedCheckpoint c x ∷ ps) (AskedCheckpoint d y ∷ qs) more others r s a b l k e =
@@ -39,7 +42,22 @@ module _ (Agrees : List Exchange → List Exchange → Type 0)
       let rest = same_plan (next x) ps qs more others r s a b l.1 (subst Q (sym step.0) k.1) step.1 in
       (λ i. AskedCheckpoint (same i) (step.0 i) ∷ rest.0 i, rest.1, rest.2, rest.3)
   same_plan (checks limits next) (AskedCheckpoint c x ∷ ps) (AskedCall d y ∷ qs) more others r s a b l k e = absurd k
+  same_plan (checks limits next) (AskedCheckpoint c x ∷ ps) (AskedRead d y ∷ qs) more others r s a b l k e = absurd k
   same_plan (checks limits next) (AskedCall c x ∷ ps) (q ∷ qs) more others r s a b l k e = absurd l
+  same_plan (checks limits next) (AskedRead c x ∷ ps) (q ∷ qs) more others r s a b l k e = absurd l
+  same_plan (reads reading next) [] qs more others r s a b l k e = absurd cc
+  same_plan (reads reading next) (p ∷ ps) [] more others r s a b l k e = absurd cc
+  same_plan (reads reading next) (AskedRead c x ∷ ps) (AskedRead d y ∷ qs) more others r s a b l k e =
+      let P : Reading → Type 0 = λ z. Agrees (AskedRead z x ∷ (ps ++ more)) (AskedRead d y ∷ (qs ++ others)) in
+      let same : c ≡ d = l.0 ∙ sym k.0 in
+      let step = first_read d x y (ps ++ more) (qs ++ others) (subst P same e) in
+      let Q : Option Showing → Type 0 = λ z. BeginsWith (next z) qs (says s b) in
+      let rest = same_plan (next x) ps qs more others r s a b l.1 (subst Q (sym step.0) k.1) step.1 in
+      (λ i. AskedRead (same i) (step.0 i) ∷ rest.0 i, rest.1, rest.2, rest.3)
+  same_plan (reads reading next) (AskedRead c x ∷ ps) (AskedCall d y ∷ qs) more others r s a b l k e = absurd k
+  same_plan (reads reading next) (AskedRead c x ∷ ps) (AskedCheckpoint d y ∷ qs) more others r s a b l k e = absurd k
+  same_plan (reads reading next) (AskedCall c x ∷ ps) (q ∷ qs) more others r s a b l k e = absurd l
+  same_plan (reads reading next) (AskedCheckpoint c x ∷ ps) (q ∷ qs) more others r s a b l k e = absurd l
 
   same_line_by : (blank : Bool) (plan : Plan) (held : Jobs) (ps qs more others : List Exchange) (out written : List ℕ) (after last : Jobs)
       → MatchBool blank ((ps ≡ []) × (out ≡ []) × (after ≡ held)) ((reply : Data) × BeginsWith plan ps (says reply after) × (out ≡ reply_line reply))
@@ -54,13 +72,13 @@ module _ (Agrees : List Exchange → List Exchange → Type 0)
       (same.0, t.2 ∙ ap reply_line same.1 ∙ sym u.2, same.2, same.3)
 
   same_conversation : (lines : List (List ℕ)) (held : Jobs) (ps qs : List Exchange) (out written : List ℕ) (after last : Jobs)
-      → AnswersLines lines held ps out after → AnswersLines lines held qs written last → Agrees ps qs → (ps ≡ qs) × (out ≡ written) × (after ≡ last)
+      → AnswersLines has_reads lines held ps out after → AnswersLines has_reads lines held qs written last → Agrees ps qs → (ps ≡ qs) × (out ≡ written) × (after ≡ last)
   same_conversation [] held ps qs out written after last t u e = (t.0 ∙ sym u.0, t.1 ∙ sym u.1, t.2 ∙ sym u.2)
   same_conversation (line ∷ lines) held ps qs out written after last t u e =
       let P : List Exchange → Type 0 = λ xs. Agrees xs qs in
       let Q : List Exchange → Type 0 = λ xs. Agrees (t.0 ++ t.1) xs in
-      let line_same = same_line_by (is_blank line) (plan_of held (request_of line)) held t.0 u.0 t.1 u.1 t.2 u.2 t.4 u.4 t.8 u.8 (subst Q u.5 (subst P t.5 e)) in
-      let R : Jobs → Type 0 = λ jobs. AnswersLines lines jobs u.1 u.3 last in
+      let line_same = same_line_by (is_blank line) (plan_of held (request_of has_reads line)) held t.0 u.0 t.1 u.1 t.2 u.2 t.4 u.4 t.8 u.8 (subst Q u.5 (subst P t.5 e)) in
+      let R : Jobs → Type 0 = λ jobs. AnswersLines has_reads lines jobs u.1 u.3 last in
       let rest = same_conversation lines t.4 t.1 u.1 t.3 u.3 after last t.9 (subst R (sym line_same.2) u.9) line_same.3 in
       (t.5 ∙ ap₂ (λ xs ys. xs ++ ys) line_same.0 rest.0 ∙ sym u.5, t.6 ∙ ap₂ (λ xs ys. xs ++ ys) line_same.1 rest.1 ∙ sym u.6, rest.2)
 
@@ -75,13 +93,17 @@ first_call_answers call a b ps qs e = let both : inl a ∷ answers_of ps ≡ inl
 
 first_checkpoint_answers : (limits : Bounds) (a b : CheckpointAnswer) (ps qs : List Exchange) → AnswersAgree (AskedCheckpoint limits a ∷ ps) (AskedCheckpoint limits b ∷ qs) → (a ≡ b) × AnswersAgree ps qs
 unfolding AnswersAgree
-first_checkpoint_answers limits a b ps qs e = let both : inr a ∷ answers_of ps ≡ inr b ∷ answers_of qs = e in (cc, cc)
+first_checkpoint_answers limits a b ps qs e = let both : inr (inl a) ∷ answers_of ps ≡ inr (inl b) ∷ answers_of qs = e in (cc, cc)
 
-one_by_lines : (lines : List (List ℕ)) (pairs others : List Exchange) (out written : List ℕ) (after last : Jobs) → AnswersLines lines [] pairs out after → AnswersLines lines [] others written last
+first_read_answers : (reading : Reading) (a b : Option Showing) (ps qs : List Exchange) → AnswersAgree (AskedRead reading a ∷ ps) (AskedRead reading b ∷ qs) → (a ≡ b) × AnswersAgree ps qs
+unfolding AnswersAgree
+first_read_answers reading a b ps qs e = let both : inr (inr a) ∷ answers_of ps ≡ inr (inr b) ∷ answers_of qs = e in (cc, cc)
+
+one_by_lines : (has_reads : Bool) (lines : List (List ℕ)) (pairs others : List Exchange) (out written : List ℕ) (after last : Jobs) → AnswersLines has_reads lines [] pairs out after → AnswersLines has_reads lines [] others written last
     → answers_of pairs ≡ answers_of others → (pairs ≡ others) × (out ≡ written)
 unfolding AnswersAgree
-one_by_lines lines pairs others out written after last t u e =
-    let same = same_conversation AnswersAgree first_call_answers first_checkpoint_answers lines [] pairs others out written after last t u e in
+one_by_lines has_reads lines pairs others out written after last t u e =
+    let same = same_conversation has_reads AnswersAgree first_call_answers first_checkpoint_answers first_read_answers lines [] pairs others out written after last t u e in
     (same.0, same.1)
 
 none_behind : (ys : List (List ℕ)) (b : List ℕ) → [] ≡ ys ++ b ∷ [] → ⊥
@@ -102,10 +124,10 @@ AllFit : List (List ℕ) → Type 0
 AllFit [] = Unit {0}
 AllFit (line ∷ lines) = Fits line × AllFit lines
 
-all_fit : (lines : List (List ℕ)) (held after : Jobs) (pairs : List Exchange) (out : List ℕ) → AnswersLines lines held pairs out after → AllFit lines
+all_fit : (has_reads : Bool) (lines : List (List ℕ)) (held after : Jobs) (pairs : List Exchange) (out : List ℕ) → AnswersLines has_reads lines held pairs out after → AllFit lines
 unfolding AllFit
-all_fit [] held after pairs out t = tt
-all_fit (line ∷ lines) held after pairs out t = (t.7, all_fit lines t.4 after t.1 t.3 t.9)
+all_fit has_reads [] held after pairs out t = tt
+all_fit has_reads (line ∷ lines) held after pairs out t = (t.7, all_fit has_reads lines t.4 after t.1 t.3 t.9)
 
 -- the lines before the first one that is too long
 lines_before_long : (xs ys ps qs : List (List ℕ)) (a b : List ℕ) → AllFit xs → AllFit ys → IsTooLong a → IsTooLong b → xs ++ a ∷ ps ≡ ys ++ b ∷ qs → xs ≡ ys
@@ -124,24 +146,24 @@ lines_before_long (x ∷ xs) (y ∷ ys) ps qs a b f g h k e =
     let tail : xs ++ a ∷ ps ≡ ys ++ b ∷ qs = cc in
     ap₂ (λ h t. h ∷ t) head (lines_before_long xs ys ps qs a b f.1 g.1 h k tail)
 
-ended_is_one : (bytes : List ℕ) (pairs others : List Exchange) (out written : List ℕ) → AnsweredEnded bytes pairs out → AnsweredEnded bytes others written
+ended_is_one : (has_reads : Bool) (bytes : List ℕ) (pairs others : List Exchange) (out written : List ℕ) → AnsweredEnded has_reads bytes pairs out → AnsweredEnded has_reads bytes others written
     → answers_of pairs ≡ answers_of others → (pairs ≡ others) × (out ≡ written)
-ended_is_one bytes pairs others out written t u e =
-    let P : List (List ℕ) → Type 0 = λ ls. AnswersLines ls [] pairs out t.2 in
+ended_is_one has_reads bytes pairs others out written t u e =
+    let P : List (List ℕ) → Type 0 = λ ls. AnswersLines has_reads ls [] pairs out t.2 in
     let same = lines_before t.0 u.0 t.1 u.1 (sym t.3 ∙ u.3) in
-    one_by_lines u.0 pairs others out written t.2 u.2 (subst P same t.5) u.5 e
+    one_by_lines has_reads u.0 pairs others out written t.2 u.2 (subst P same t.5) u.5 e
 
-pub one_by_answers : (stop : RunEnd) (bytes : List ℕ) (pairs others : List Exchange) (out written : List ℕ) → IsBetweenLines stop → OutputAt stop bytes pairs out → OutputAt stop bytes others written
+pub one_by_answers : (has_reads : Bool) (stop : RunEnd) (bytes : List ℕ) (pairs others : List Exchange) (out written : List ℕ) → IsBetweenLines stop → OutputAt has_reads stop bytes pairs out → OutputAt has_reads stop bytes others written
     → answers_of pairs ≡ answers_of others → (pairs ≡ others) × (out ≡ written)
-one_by_answers end.End bytes pairs others out written between t u e = one_by_lines (lines_of bytes) pairs others out written t.0 u.0 t.1 u.1 e
-one_by_answers end.ReadFailed bytes pairs others out written between t u e = ended_is_one bytes pairs others out written t u e
-one_by_answers end.TurnsOver bytes pairs others out written between t u e = ended_is_one bytes pairs others out written t u e
-one_by_answers end.LineTooLong bytes pairs others out written between t u e =
-    let P : List (List ℕ) → Type 0 = λ ls. AnswersLines ls [] pairs out t.3 in
-    let same = lines_before_long t.0 u.0 t.1 u.1 t.2 u.2 (all_fit t.0 [] t.3 pairs out t.6) (all_fit u.0 [] u.3 others written u.6) t.5 u.5 (sym t.4 ∙ u.4) in
-    one_by_lines u.0 pairs others out written t.3 u.3 (subst P same t.6) u.6 e
-one_by_answers end.WriteFailed bytes pairs others out written between t u e = absurd between
-one_by_answers end.Memory bytes pairs others out written between t u e = absurd between
+one_by_answers has_reads end.End bytes pairs others out written between t u e = one_by_lines has_reads (lines_of bytes) pairs others out written t.0 u.0 t.1 u.1 e
+one_by_answers has_reads end.ReadFailed bytes pairs others out written between t u e = ended_is_one has_reads bytes pairs others out written t u e
+one_by_answers has_reads end.TurnsOver bytes pairs others out written between t u e = ended_is_one has_reads bytes pairs others out written t u e
+one_by_answers has_reads end.LineTooLong bytes pairs others out written between t u e =
+    let P : List (List ℕ) → Type 0 = λ ls. AnswersLines has_reads ls [] pairs out t.3 in
+    let same = lines_before_long t.0 u.0 t.1 u.1 t.2 u.2 (all_fit has_reads t.0 [] t.3 pairs out t.6) (all_fit has_reads u.0 [] u.3 others written u.6) t.5 u.5 (sym t.4 ∙ u.4) in
+    one_by_lines has_reads u.0 pairs others out written t.3 u.3 (subst P same t.6) u.6 e
+one_by_answers has_reads end.WriteFailed bytes pairs others out written between t u e = absurd between
+one_by_answers has_reads end.Memory bytes pairs others out written between t u e = absurd between
 
 -- ---- by a workbench
 
@@ -161,6 +183,7 @@ one_checkpoint old limits a b left right s t =
 one_state : (caller : ℕ) (old : BenchView) (exchange : Exchange) (left right : BenchView) → IsStep caller old exchange left → IsStep caller old exchange right → left ≡ right
 one_state caller old (AskedCall call answer) left right s t = (one_call caller old call answer answer left right s t).1
 one_state caller old (AskedCheckpoint limits answer) left right s t = (one_checkpoint old limits answer answer left right s t).1
+one_state caller old (AskedRead reading shown) left right s t = absurd s
 
 one_run : (caller : ℕ) (start left right : BenchView) (pairs : List Exchange) → Runs (IsStep caller) start pairs left → Runs (IsStep caller) start pairs right → left ≡ right
 one_run caller start left right [] r s = r ∙ sym s
@@ -188,11 +211,15 @@ module _ (caller : ℕ) (left right : BenchView) where
       let Q : BenchView → Type 0 = λ mid. Runs (IsStep caller) mid qs right in
       (step.0, (e.1.0, e.1.2, subst Q (sym step.1) e.2.2))
 
+  first_read_runs : (reading : Reading) (a b : Option Showing) (ps qs : List Exchange) → RunsAgree (AskedRead reading a ∷ ps) (AskedRead reading b ∷ qs) → (a ≡ b) × RunsAgree ps qs
+  unfolding RunsAgree
+  first_read_runs reading a b ps qs e = absurd e.1.1
+
 pub one_by_steps : (caller : ℕ) (bytes : List ℕ) (pairs others : List Exchange) (out written : List ℕ) (start left right : BenchView)
-    → AnsweredAll bytes pairs out → Runs (IsStep caller) start pairs left → AnsweredAll bytes others written → Runs (IsStep caller) start others right
+    → AnsweredAll false bytes pairs out → Runs (IsStep caller) start pairs left → AnsweredAll false bytes others written → Runs (IsStep caller) start others right
     → (pairs ≡ others) × (out ≡ written) × (left ≡ right)
 unfolding RunsAgree
 one_by_steps caller bytes pairs others out written start left right t r u s =
-    let same = same_conversation (RunsAgree caller left right) (first_call_runs caller left right) (first_checkpoint_runs caller left right) (lines_of bytes) [] pairs others out written t.0 u.0 t.1 u.1 (start, r, s) in
+    let same = same_conversation false (RunsAgree caller left right) (first_call_runs caller left right) (first_checkpoint_runs caller left right) (first_read_runs caller left right) (lines_of bytes) [] pairs others out written t.0 u.0 t.1 u.1 (start, r, s) in
     let P : List Exchange → Type 0 = λ ps. Runs (IsStep caller) start ps right in
     (same.0, same.1, one_run caller start left right pairs r (subst P (sym same.0) s))

@@ -3,11 +3,11 @@ use Rattle.std.proofs.Common.{◌≡◌, ◌<◌, ◌≤◌, ℕ, [], ◌∷◌,
 use Rattle.std.proofs.{lemmas.Bool.Decides.{nat_tests}, lemmas.List.{take-append-drop}}
 use Rattle.serde_json.specs.Data.{Data}
 use Rattle.fb_bench.specs.{History.Checkpoints.{bench_checked}, History.Machine.{Call, reply}, History.Limits.{Bounds}}
-use Rattle.fb_bench.specs.Calls.{Answer, AskedCall, AskedCheckpoint, BehindHistory, Checked, CheckpointAnswer, Exchange, FullHistory, Replied, SharedHistory}
+use Rattle.fb_bench.specs.Calls.{Answer, AskedCall, AskedCheckpoint, AskedRead, BehindHistory, Checked, CheckpointAnswer, Exchange, FullHistory, Replied, SharedHistory}
 use Rattle.fb_bench.specs.{Solo.{IsCallStep, IsCheckpointStep, IsStep}, History.BenchView.{BenchView}}
 use Rattle.fb_wire.specs.{Ends.{IsNothing, IsPrefixOfReply, OutputAt}, Lines.{is_blank, lines_of}}
 use Rattle.fb_wire.specs.Script.{IsPrefixOf, SaysBy, Script, answer_from, bench_after, bench_anew, checkpoint_from, line_result, reply_before, script, script_from}
-use Rattle.fb_wire.specs.{Conversations.{AnswersLines, Jobs, BeginsWith, Plan, Runs, asks, checks, plan_of, says}, declared.end.RunEnd.{RunEnd}}
+use Rattle.fb_wire.specs.{Conversations.{AnswersLines, Jobs, BeginsWith, Plan, Runs, asks, checks, plan_of, reads, says}, declared.end.RunEnd.{RunEnd}}
 use Rattle.fb_messages.specs.{Replies.{reply_line}, Requests.{request_of}}
 use Rattle.fb_wire.specs.declared.end.RunEnd.TheVariants as end
 
@@ -49,8 +49,14 @@ told_is caller (asks call next) (AskedCall made answer ∷ ps) reply held bench 
     let P : Call → Type 0 = λ c. line_result caller (next (answer_from bench c)) (bench_after caller bench c) ≡ record { reply = reply; held = held; bench = new } in
     subst P l.0 (rw (← step.0, ← step.1) rest)
 told_is caller (asks call next) (AskedCheckpoint made answer ∷ ps) reply held bench new l r = absurd l
+told_is caller (asks call next) (AskedRead made shown ∷ ps) reply held bench new l r = absurd l
 told_is caller (checks limits next) [] reply held bench new l r = absurd cc
 told_is caller (checks limits next) (AskedCall made answer ∷ ps) reply held bench new l r = absurd l
+told_is caller (checks limits next) (AskedRead made shown ∷ ps) reply held bench new l r = absurd l
+told_is caller (reads reading next) [] reply held bench new l r = absurd cc
+told_is caller (reads reading next) (AskedCall made answer ∷ ps) reply held bench new l r = absurd l
+told_is caller (reads reading next) (AskedCheckpoint made answer ∷ ps) reply held bench new l r = absurd l
+told_is caller (reads reading next) (AskedRead made shown ∷ ps) reply held bench new l r = absurd r.1
 told_is caller (checks limits next) (AskedCheckpoint made answer ∷ ps) reply held bench new l r =
     let step = checkpoint_is bench made answer r.0 r.1 in
     let rest = told_is caller (next answer) ps reply held r.0 new l.1 r.2 in
@@ -82,7 +88,7 @@ said-said : (a b : List ℕ) (s : Script) → said_before a (said_before b s) �
 said-said a b s = λ i. record { out = (sym (append_assoc a b s.out)) i; bench = s.bench }
 
 -- some lines, and those behind them
-pub lines_said : (caller : ℕ) (lines more : List (List ℕ)) (held after : Jobs) (ps : List Exchange) (out : List ℕ) (bench new : BenchView) → AnswersLines lines held ps out after → Runs (IsStep caller) bench ps new
+pub lines_said : (caller : ℕ) (lines more : List (List ℕ)) (held after : Jobs) (ps : List Exchange) (out : List ℕ) (bench new : BenchView) → AnswersLines false lines held ps out after → Runs (IsStep caller) bench ps new
     → script_from caller (lines ++ more) held bench ≡ said_before out (script_from caller more after new)
 lines_said caller [] more held after ps out bench new t r =
     let P : List Exchange → Type 0 = λ xs. Runs (IsStep caller) bench xs new in
@@ -91,7 +97,7 @@ lines_said caller [] more held after ps out bench new t r =
 lines_said caller (line ∷ lines) more held after ps out bench new t r =
     let P : List Exchange → Type 0 = λ xs. Runs (IsStep caller) bench xs new in
     let split = Runs-split caller bench new t.0 t.1 (subst P t.5 r) in
-    let here = one_line caller (is_blank line) (plan_of held (request_of line)) held t.4 t.0 t.2 bench split.0 (script_from caller (lines ++ more)) t.8 split.1 in
+    let here = one_line caller (is_blank line) (plan_of held (request_of false line)) held t.4 t.0 t.2 bench split.0 (script_from caller (lines ++ more)) t.8 split.1 in
     let rest = lines_said caller lines more t.4 after t.1 t.3 split.0 new t.9 split.2 in
     here ∙ ap (said_before t.2) rest ∙ said-said t.2 t.3 (script_from caller more after new) ∙ ap (λ xs. said_before xs (script_from caller more after new)) (sym t.6)
 
@@ -115,13 +121,13 @@ nothing_more false plan begun part t = t.2
 
 -- the lines that were answered, of all lines
 prefix_said : (caller : ℕ) (bench new : BenchView) (bytes : List ℕ) (lines more : List (List ℕ)) (after : Jobs) (pairs : List Exchange) (out : List ℕ) → lines_of bytes ≡ lines ++ more
-    → AnswersLines lines [] pairs out after → Runs (IsStep caller) bench pairs new → script caller bench bytes ≡ said_before out (script_from caller more after new)
+    → AnswersLines false lines [] pairs out after → Runs (IsStep caller) bench pairs new → script caller bench bytes ≡ said_before out (script_from caller more after new)
 unfolding script
 prefix_said caller bench new bytes lines more after pairs out is t r =
     ap (λ ls. script_from caller ls [] bench) is ∙ lines_said caller lines more [] after pairs out bench new t r
 
 -- what stands at each end is a prefix of what the script says
-says_prefix : (stop : RunEnd) (caller : ℕ) (bench new : BenchView) (bytes : List ℕ) (pairs : List Exchange) (out : List ℕ) → OutputAt stop bytes pairs out → Runs (IsStep caller) bench pairs new
+says_prefix : (stop : RunEnd) (caller : ℕ) (bench new : BenchView) (bytes : List ℕ) (pairs : List Exchange) (out : List ℕ) → OutputAt false stop bytes pairs out → Runs (IsStep caller) bench pairs new
     → IsPrefixOf out (script caller bench bytes).out
 says_prefix end.End caller bench new bytes pairs out t r =
     let is = prefix_said caller bench new bytes (lines_of bytes) [] t.0 pairs out (sym (append-nil (lines_of bytes))) t.1 r in
@@ -139,29 +145,29 @@ says_prefix end.WriteFailed caller bench new bytes pairs out t r =
     let P : List Exchange → Type 0 = λ xs. Runs (IsStep caller) bench xs new in
     let split = Runs-split caller bench new t.3 t.4 (subst P t.10 r) in
     let is = prefix_said caller bench split.0 bytes t.0 (t.2 ∷ t.1) t.7 t.3 t.5 t.8 t.12 split.1 in
-    let line = line_prefix caller (is_blank t.2) (plan_of t.7 (request_of t.2)) t.7 t.4 t.6 split.0 new (script_from caller t.1) t.13 split.2 in
+    let line = line_prefix caller (is_blank t.2) (plan_of t.7 (request_of false t.2)) t.7 t.4 t.6 split.0 new (script_from caller t.1) t.13 split.2 in
     (line.0, ap (λ s. s.out) is ∙ ap (λ xs. t.5 ++ xs) line.1 ∙ sym (append_assoc t.5 t.6 line.0) ∙ ap (λ xs. xs ++ line.0) (sym t.11))
 says_prefix end.Memory caller bench new bytes pairs out t r =
     let P : List Exchange → Type 0 = λ xs. Runs (IsStep caller) bench xs new in
     let split = Runs-split caller bench new t.3 t.4 (subst P t.10 r) in
     let is = prefix_said caller bench split.0 bytes t.0 (t.2 ∷ t.1) t.7 t.3 t.5 t.8 t.12 split.1 in
-    let none = nothing_more (is_blank t.2) (plan_of t.7 (request_of t.2)) t.4 t.6 t.13 in
+    let none = nothing_more (is_blank t.2) (plan_of t.7 (request_of false t.2)) t.4 t.6 t.13 in
     let same : out ≡ t.5 = t.11 ∙ ap (λ xs. t.5 ++ xs) none ∙ append-nil t.5 in
     let rest = (script_from caller (t.2 ∷ t.1) t.7 split.0).out in
     (rest, ap (λ s. s.out) is ∙ ap (λ xs. xs ++ rest) (sym same))
 
 -- at the end of the input it is all of it
-says_all : (caller : ℕ) (bench new : BenchView) (bytes : List ℕ) (pairs : List Exchange) (out : List ℕ) → OutputAt end.End bytes pairs out → Runs (IsStep caller) bench pairs new
+says_all : (caller : ℕ) (bench new : BenchView) (bytes : List ℕ) (pairs : List Exchange) (out : List ℕ) → OutputAt false end.End bytes pairs out → Runs (IsStep caller) bench pairs new
     → (out ≡ (script caller bench bytes).out) × (new ≡ (script caller bench bytes).bench)
 says_all caller bench new bytes pairs out t r =
     let is = prefix_said caller bench new bytes (lines_of bytes) [] t.0 pairs out (sym (append-nil (lines_of bytes))) t.1 r in
     (sym (ap (λ s. s.out) is ∙ append-nil out), sym (ap (λ s. s.bench) is))
 
-pub says_by : (stop : RunEnd) (caller : ℕ) (bench new : BenchView) (bytes : List ℕ) (pairs : List Exchange) (out : List ℕ) → OutputAt stop bytes pairs out → Runs (IsStep caller) bench pairs new
+pub says_by : (stop : RunEnd) (caller : ℕ) (bench new : BenchView) (bytes : List ℕ) (pairs : List Exchange) (out : List ℕ) → OutputAt false stop bytes pairs out → Runs (IsStep caller) bench pairs new
     → SaysBy stop caller bench bytes out new
 says_by stop caller bench new bytes pairs out t r = (
   says_prefix stop caller bench new bytes pairs out t r,
   λ is.
-      let P : RunEnd → Type 0 = λ e. OutputAt e bytes pairs out in
+      let P : RunEnd → Type 0 = λ e. OutputAt false e bytes pairs out in
       says_all caller bench new bytes pairs out (subst P is t) r,
 )

@@ -1,5 +1,5 @@
 -- The reply to each line, and what the line asks of a desk.
-use Rattle.std.specs.Prelude.{◌≡◌, ◌⊎◌, ℕ, ◌+◌, [], ◌∷◌, ◌++◌, if◌then◌else◌, Err, List, MatchBool, None, Ok, Option, Result, Some, length, map, nat_le, slice_get, suc, take, zero}
+use Rattle.std.specs.Prelude.{◌≡◌, ◌⊎◌, ℕ, ◌+◌, Bool, [], ◌∷◌, ◌++◌, if◌then◌else◌, Err, List, MatchBool, None, Ok, Option, Result, Some, length, map, nat_le, slice_get, suc, take, zero}
 use mathlib.Core.Logic.{inl, inr}
 use Rattle.serde_json.specs.Data.{Data}
 use Rattle.fb_text.specs.{Name.{name_of}, declared.name.NameFault.{NameFault}}
@@ -7,9 +7,10 @@ use Rattle.fb_library.specs.{Parse.Source.{longest_text}, Texts.{Edit, Puts, Rem
 use Rattle.fb_messages.specs.{Jobs.Reads.{PlainJob}, Replies.{refused, reply_line, work_done, work_refused}, ReplyView.{refusal_text}}
 use Rattle.fb_messages.specs.Requests.{Change, Request, puts, removes, request_of}
 use Rattle.fb_bench.specs.{History.Machine.{Call, OfDeliver, OfTake, ToAsk, ToCommit, ToDeliver, ToGiveBack, ToTake, most_changes}, History.Limits.{Bounds}}
-use Rattle.fb_bench.specs.Calls.{Answer, AskedCall, AskedCheckpoint, BehindHistory, CheckpointAnswer, Exchange, FullHistory, Replied}
+use Rattle.fb_bench.specs.{History.Reads.{Showing}, History.declared.reading.Reading.{Reading}, History.declared.reading.Reading.TheVariants.{Entry, Events, Status, Text, Units}}
+use Rattle.fb_bench.specs.Calls.{Answer, AskedCall, AskedCheckpoint, AskedRead, BehindHistory, CheckpointAnswer, Exchange, FullHistory, Replied}
 use Rattle.fb_bench.specs.History.declared.answers.Delivered.TheVariants.{Accepted}
-use Rattle.fb_wire.specs.{Lines.{Fits, is_blank}, Said.{checkpoint_said, said_to}}
+use Rattle.fb_wire.specs.{Lines.{Fits, is_blank}, Said.{checkpoint_said, read_said, said_to}}
 use Rattle.fb_messages.specs.declared.reply.Refusal.TheVariants as because
 use Rattle.fb_messages.specs.Requests as asked
 
@@ -17,24 +18,27 @@ use Rattle.fb_messages.specs.Requests as asked
 abbrev pub Jobs : Type 0
 Jobs = List PlainJob
 
-abbrev pub answer_of : Exchange → Answer ⊎ CheckpointAnswer
+abbrev pub answer_of : Exchange → Answer ⊎ (CheckpointAnswer ⊎ Option Showing)
 answer_of (AskedCall call answer) = inl answer
-answer_of (AskedCheckpoint limits answer) = inr answer
+answer_of (AskedCheckpoint limits answer) = inr (inl answer)
+answer_of (AskedRead reading shown) = inr (inr shown)
 
-abbrev pub answers_of : List Exchange → List (Answer ⊎ CheckpointAnswer)
+abbrev pub answers_of : List Exchange → List (Answer ⊎ (CheckpointAnswer ⊎ Option Showing))
 answers_of exchanges = map answer_of exchanges
 
--- Calls and checkpoints, each after the answer to the one before, and at the end a reply and the jobs that are held then.
+-- Calls, checkpoints and reads, each after the answer to the one before, and at the end a reply and the jobs that are held then.
 pub data Plan : Type 0 where
   says : Data → Jobs → Plan
   asks : Call → (Answer → Plan) → Plan
   checks : Bounds → (CheckpointAnswer → Plan) → Plan
+  reads : Reading → (Option Showing → Plan) → Plan
 
--- These calls and checkpoints with these answers are the plan's first ones, and this is what is left of it.
+-- These calls, checkpoints and reads with these answers are the plan's first ones, and this is what is left of it.
 abbrev pub BeginsWith : Plan → List Exchange → Plan → Type 0
 BeginsWith plan [] rest = rest ≡ plan
 BeginsWith (asks call next) (AskedCall made answer ∷ more) rest = (made ≡ call) × BeginsWith (next answer) more rest
 BeginsWith (checks limits next) (AskedCheckpoint made answer ∷ more) rest = (made ≡ limits) × BeginsWith (next answer) more rest
+BeginsWith (reads reading next) (AskedRead made shown ∷ more) rest = (made ≡ reading) × BeginsWith (next shown) more rest
 BeginsWith plan (exchange ∷ more) rest = ⊥
 
 -- ---- the plan of each request
@@ -46,6 +50,10 @@ call_once held call = asks call (λ answer. says (said_to 0 answer) held)
 -- one checkpoint, whose answer is the reply
 abbrev pub checkpoint_once : Jobs → Bounds → Plan
 checkpoint_once held limits = checks limits (λ answer. says (checkpoint_said answer) held)
+
+-- one read, of which what it shows is the reply
+abbrev pub read_once : Jobs → Reading → Plan
+read_once held reading = reads reading (λ shown. says (read_said shown) held)
 
 abbrev pub with_name : Jobs → Result (List ℕ) NameFault → (List ℕ → Plan) → Plan
 with_name held (Err fault) next = says (refused (refusal_text because.BadName)) held
@@ -127,6 +135,14 @@ unfoldable pub work_plan : Jobs → ℕ → ℕ → Plan
 work_plan held zero count = says (work_done count) held
 work_plan held (suc turns) count = asks ToTake (after_take held count (work_plan held turns))
 
+abbrev pub read_plan : Jobs → asked.Reading → Plan
+read_plan held asked.status_read = read_once held Status
+read_plan held (asked.units_read None) = read_once held (Units None)
+read_plan held (asked.units_read (Some after)) = with_name held (name_of after) (λ name. read_once held (Units (Some name)))
+read_plan held (asked.text_read unit) = with_name held (name_of unit) (λ name. read_once held (Text name))
+read_plan held (asked.entry_read kind unit) = with_name held (name_of unit) (λ name. read_once held (Entry (record { kind = kind; unit = name })))
+read_plan held (asked.events_read after wait) = read_once held (Events after)
+
 abbrev pub plan_of : Jobs → Option Request → Plan
 plan_of held None = says (refused (refusal_text because.BadRequest)) held
 plan_of held (Some (asked.commit changes)) = commit_plan held (edits_in changes)
@@ -136,29 +152,30 @@ plan_of held (Some asked.take) = take_plan held
 plan_of held (Some (asked.deliver number)) = deliver_plan held number
 plan_of held (Some (asked.give_back kind unit)) = with_name held (name_of unit) (λ name. call_once held (ToGiveBack (record { kind = kind; unit = name })))
 plan_of held (Some (asked.checkpoint limits)) = checkpoint_once held limits
+plan_of held (Some (asked.read_request reading)) = read_plan held reading
 
 -- ---- lines
 
--- what one line asks and gets, with the jobs that are held before it and after it
-abbrev pub AnswersLine : List ℕ → Jobs → List Exchange → List ℕ → Jobs → Type 0
-AnswersLine line held pairs out after =
+-- what one line asks and gets, with the jobs that are held before it and after it; it may be a read only if the desk answers reads
+abbrev pub AnswersLine : (has_reads : Bool) → List ℕ → Jobs → List Exchange → List ℕ → Jobs → Type 0
+AnswersLine has_reads line held pairs out after =
     MatchBool (is_blank line) ((pairs ≡ []) × (out ≡ []) × (after ≡ held))
-    ((reply : Data) × BeginsWith (plan_of held (request_of line)) pairs (says reply after) × (out ≡ reply_line reply))
+    ((reply : Data) × BeginsWith (plan_of held (request_of has_reads line)) pairs (says reply after) × (out ≡ reply_line reply))
 
 -- some of what one line asks, and the part of its reply that was written; a blank line asks and gets nothing
-abbrev pub LinePart : (Plan → List ℕ → Type 0) → List ℕ → Jobs → List Exchange → List ℕ → Type 0
-LinePart IsPart line held begun part =
+abbrev pub LinePart : (has_reads : Bool) → (Plan → List ℕ → Type 0) → List ℕ → Jobs → List Exchange → List ℕ → Type 0
+LinePart has_reads IsPart line held begun part =
     MatchBool (is_blank line) ((begun ≡ []) × (part ≡ []))
-    ((rest : Plan) × BeginsWith (plan_of held (request_of line)) begun rest × IsPart rest part)
+    ((rest : Plan) × BeginsWith (plan_of held (request_of has_reads line)) begun rest × IsPart rest part)
 
 -- the lines, one after another; none of them is too long
-abbrev pub AnswersLines : List (List ℕ) → Jobs → List Exchange → List ℕ → Jobs → Type 0
-AnswersLines [] held pairs out after = (pairs ≡ []) × (out ≡ []) × (after ≡ held)
-AnswersLines (line ∷ lines) held pairs out after =
+abbrev pub AnswersLines : (has_reads : Bool) → List (List ℕ) → Jobs → List Exchange → List ℕ → Jobs → Type 0
+AnswersLines has_reads [] held pairs out after = (pairs ≡ []) × (out ≡ []) × (after ≡ held)
+AnswersLines has_reads (line ∷ lines) held pairs out after =
     (first rest : List Exchange) × (said more : List ℕ) × (mid : Jobs) × (pairs ≡ first ++ rest) × (out ≡ said ++ more)
-    × Fits line × AnswersLine line held first said mid × AnswersLines lines mid rest more after
+    × Fits line × AnswersLine has_reads line held first said mid × AnswersLines has_reads lines mid rest more after
 
--- from the first state to the second by these calls and checkpoints with these answers
+-- from the first state to the second by these calls, checkpoints and reads with these answers
 abbrev pub Runs : {S : Type 0} → (S → Exchange → S → Type 0) → S → List Exchange → S → Type 0
 Runs Step old [] new = new ≡ old
 Runs {S} Step old (p ∷ ps) new = (mid : S) × Step old p mid × Runs Step mid ps new

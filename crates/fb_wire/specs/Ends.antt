@@ -8,26 +8,26 @@ use Rattle.fb_wire.specs.declared.end.RunEnd.TheVariants.{End, LineTooLong, Memo
 use Rattle.fb_messages.specs.Replies.{reply_line}
 
 -- every line was answered, the last one too; so none is too long
-abbrev pub AnsweredAll : List ℕ → List Exchange → List ℕ → Type 0
-AnsweredAll bytes pairs out = (after : Jobs) × AnswersLines (lines_of bytes) [] pairs out after
+abbrev pub AnsweredAll : (has_reads : Bool) → List ℕ → List Exchange → List ℕ → Type 0
+AnsweredAll has_reads bytes pairs out = (after : Jobs) × AnswersLines has_reads (lines_of bytes) [] pairs out after
 
 -- every line that has its line feed was answered, and what was read of the next one is not too long
-abbrev pub AnsweredEnded : List ℕ → List Exchange → List ℕ → Type 0
-AnsweredEnded bytes pairs out =
-    (lines : List (List ℕ)) × (rest : List ℕ) × (after : Jobs) × (lines_of bytes ≡ lines ++ rest ∷ []) × Fits rest × AnswersLines lines [] pairs out after
+abbrev pub AnsweredEnded : (has_reads : Bool) → List ℕ → List Exchange → List ℕ → Type 0
+AnsweredEnded has_reads bytes pairs out =
+    (lines : List (List ℕ)) × (rest : List ℕ) × (after : Jobs) × (lines_of bytes ≡ lines ++ rest ∷ []) × Fits rest × AnswersLines has_reads lines [] pairs out after
 
 -- every line before the first one that is too long was answered
-abbrev pub AnsweredBefore : List ℕ → List Exchange → List ℕ → Type 0
-AnsweredBefore bytes pairs out =
+abbrev pub AnsweredBefore : (has_reads : Bool) → List ℕ → List Exchange → List ℕ → Type 0
+AnsweredBefore has_reads bytes pairs out =
     (lines more : List (List ℕ)) × (long : List ℕ) × (after : Jobs)
-    × (lines_of bytes ≡ lines ++ long ∷ more) × IsTooLong long × AnswersLines lines [] pairs out after
+    × (lines_of bytes ≡ lines ++ long ∷ more) × IsTooLong long × AnswersLines has_reads lines [] pairs out after
 
 -- Some lines were answered whole. Of the next one, which is not too long, some calls or its checkpoint were made, and `part` was written.
-abbrev pub AnsweredPart : (Plan → List ℕ → Type 0) → List ℕ → List Exchange → List ℕ → Type 0
-AnsweredPart IsPart bytes pairs out =
+abbrev pub AnsweredPart : (has_reads : Bool) → (Plan → List ℕ → Type 0) → List ℕ → List Exchange → List ℕ → Type 0
+AnsweredPart has_reads IsPart bytes pairs out =
     (lines more : List (List ℕ)) × (line : List ℕ) × (first begun : List Exchange) × (said part : List ℕ) × (held : Jobs)
     × (lines_of bytes ≡ lines ++ line ∷ more) × Fits line × (pairs ≡ first ++ begun) × (out ≡ said ++ part)
-    × AnswersLines lines [] first said held × LinePart IsPart line held begun part
+    × AnswersLines has_reads lines [] first said held × LinePart has_reads IsPart line held begun part
 
 -- a prefix of the reply's line
 abbrev pub IsPrefixOfReply : Plan → List ℕ → Type 0
@@ -37,13 +37,13 @@ abbrev pub IsNothing : Plan → List ℕ → Type 0
 IsNothing rest part = part ≡ []
 
 -- what holds at each end, by the bytes that were read, the calls and checkpoints with their answers, and what was written
-abbrev pub OutputAt : RunEnd → List ℕ → List Exchange → List ℕ → Type 0
-OutputAt End bytes pairs out = AnsweredAll bytes pairs out
-OutputAt ReadFailed bytes pairs out = AnsweredEnded bytes pairs out
-OutputAt TurnsOver bytes pairs out = AnsweredEnded bytes pairs out
-OutputAt LineTooLong bytes pairs out = AnsweredBefore bytes pairs out
-OutputAt WriteFailed bytes pairs out = AnsweredPart IsPrefixOfReply bytes pairs out
-OutputAt Memory bytes pairs out = AnsweredPart IsNothing bytes pairs out
+abbrev pub OutputAt : (has_reads : Bool) → RunEnd → List ℕ → List Exchange → List ℕ → Type 0
+OutputAt has_reads End bytes pairs out = AnsweredAll has_reads bytes pairs out
+OutputAt has_reads ReadFailed bytes pairs out = AnsweredEnded has_reads bytes pairs out
+OutputAt has_reads TurnsOver bytes pairs out = AnsweredEnded has_reads bytes pairs out
+OutputAt has_reads LineTooLong bytes pairs out = AnsweredBefore has_reads bytes pairs out
+OutputAt has_reads WriteFailed bytes pairs out = AnsweredPart has_reads IsPrefixOfReply bytes pairs out
+OutputAt has_reads Memory bytes pairs out = AnsweredPart has_reads IsNothing bytes pairs out
 
 -- the ends that come between two lines: each line that was begun was answered whole
 abbrev pub IsBetweenLines : RunEnd → Type 0
@@ -89,12 +89,12 @@ pub record ShowsEnd (end : RunEnd) (turns : ℕ) (old new : Streams) : Type 0 wh
   pub write_failed : IsTrue new.write_has_failed ↔ (end ≡ WriteFailed)
 
 -- what was read, asked and written is what holds at this end, as the reader and the writer show it
-pub record IsConversation (end : RunEnd) (turns : ℕ) (old new : Streams) : Type 0 where
+pub record IsConversation (has_reads : Bool) (end : RunEnd) (turns : ℕ) (old new : Streams) : Type 0 where
   pub bytes : List ℕ
   pub pairs : List Exchange
   pub out : List ℕ
   pub given : new.given ≡ old.given ++ bytes
   pub consumed : Consumes old.left new.left bytes
   pub written : new.held ≡ old.held ++ out
-  pub stands : OutputAt end bytes pairs out
+  pub stands : OutputAt has_reads end bytes pairs out
   pub shown : ShowsEnd end turns old new

@@ -1,10 +1,11 @@
 -- For private clauses: how far a plan has come on a desk.
-use Rattle.std.specs.Prelude.{[], ◌∷◌, ◌++◌, ⊤, ◌≡◌, ℕ, ◌+◌, Err, List, MatchResult, None, Ok, Option, Result, Some, Vec, false, length}
+use Rattle.std.specs.Prelude.{[], ◌∷◌, ◌++◌, ⊤, ◌≡◌, ℕ, ◌+◌, Bool, Err, List, MatchResult, None, Ok, Option, Result, Some, Vec, false, length, option_map}
 use Rattle.std.specs.{declared.alloc.AllocError.{AllocError}, declared.alloc.Global.{Global}}
 use Rattle.serde_json.specs.Data.{Data}
 use Rattle.fb_bench.specs.{History.Checkpoints.{KeptUpTo, OverNumbers, OverUnits}, History.Machine.{Reply as MachineReply}}
 use Rattle.fb_bench.specs.Calls.{Answer, BehindHistory, Checked, CheckpointAnswer, Exchange, FullHistory, Replied, SharedHistory}
-use Rattle.fb_bench.specs.declared.desk.DeskCheckpointError.{DeskCheckpointError}
+use Rattle.fb_bench.specs.{History.Reads.{Showing, showing_in}, declared.desk.DeskCheckpointError.{DeskCheckpointError}}
+use Rattle.fb_bench.specs.History.declared.reading.Showing as made
 use Rattle.fb_bench.specs.{declared.desk.DeskError.{DeskError}, declared.desk.DeskError.TheVariants.{Behind, HistoryFull, Memory}}
 use Rattle.fb_bench.specs.declared.desk.DeskCheckpointError.TheVariants as checkpoint
 use Rattle.fb_library.specs.{Texts.{Edit}, Changes.{edit_of, edits_of}, declared.change.Change.{Change}}
@@ -51,6 +52,11 @@ checked_in (Err checkpoint.NumbersOver) = Some (Checked OverNumbers)
 checked_in (Err checkpoint.NotAlone) = Some SharedHistory
 checked_in (Err checkpoint.Memory) = None
 
+-- what a read's result shows, or none for lack of memory
+abbrev pub read_in : Result (Option made.Showing) AllocError → Option (Option Showing)
+read_in (Ok shown) = Some (option_map showing_in shown)
+read_in (Err e) = None
+
 -- the reply that was made, as JSON
 abbrev pub data_in : Result Reply AllocError → Option Data
 data_in (Ok reply) = Some (data_of reply)
@@ -70,27 +76,27 @@ IsPartAt end.WriteFailed rest part = IsPrefixOfReply rest part
 IsPartAt end.Memory rest part = IsNothing rest part
 IsPartAt _ rest part = ⊥
 
-abbrev pub LineSaid : {S : Type 0} → (S → Exchange → S → Type 0) → List ℕ → Jobs → S → List ℕ → Result ⊤ RunEnd → Jobs → S → List ℕ → Type 0
-LineSaid Step line old_jobs old old_held (Ok u) jobs new held =
-    (pairs : List Exchange) × (out : List ℕ) × AnswersLine line old_jobs pairs out jobs × Runs Step old pairs new × (held ≡ old_held ++ out)
-LineSaid Step line old_jobs old old_held (Err stop) jobs new held =
-    (pairs : List Exchange) × (part : List ℕ) × (rest : Plan) × (is_blank line ≡ false) × BeginsWith (plan_of old_jobs (request_of line)) pairs rest
+abbrev pub LineSaid : (has_reads : Bool) → {S : Type 0} → (S → Exchange → S → Type 0) → List ℕ → Jobs → S → List ℕ → Result ⊤ RunEnd → Jobs → S → List ℕ → Type 0
+LineSaid has_reads Step line old_jobs old old_held (Ok u) jobs new held =
+    (pairs : List Exchange) × (out : List ℕ) × AnswersLine has_reads line old_jobs pairs out jobs × Runs Step old pairs new × (held ≡ old_held ++ out)
+LineSaid has_reads Step line old_jobs old old_held (Err stop) jobs new held =
+    (pairs : List Exchange) × (part : List ℕ) × (rest : Plan) × (is_blank line ≡ false) × BeginsWith (plan_of old_jobs (request_of has_reads line)) pairs rest
     × Runs Step old pairs new × (held ≡ old_held ++ part) × IsPartAt stop rest part
 
 -- ---- bytes
 
 -- all lines that have their line feed were answered, and this was read of the next one
-abbrev pub ConversationAt : {S : Type 0} → (S → Exchange → S → Type 0) → S → List ℕ → List ℕ → Jobs → List ℕ → S → Type 0
-ConversationAt Step start given partial jobs out new =
-    (lines : List (List ℕ)) × (pairs : List Exchange) × (lines_of given ≡ lines ++ partial ∷ []) × Fits partial × AnswersLines lines [] pairs out jobs × Runs Step start pairs new
+abbrev pub ConversationAt : (has_reads : Bool) → {S : Type 0} → (S → Exchange → S → Type 0) → S → List ℕ → List ℕ → Jobs → List ℕ → S → Type 0
+ConversationAt has_reads Step start given partial jobs out new =
+    (lines : List (List ℕ)) × (pairs : List Exchange) × (lines_of given ≡ lines ++ partial ∷ []) × Fits partial × AnswersLines has_reads lines [] pairs out jobs × Runs Step start pairs new
 
 -- A piece of the bytes was taken, whatever came before it; or the run stops in it, with these bytes after it.
-abbrev pub PieceTaken : {S : Type 0} → (S → Exchange → S → Type 0) → S → List ℕ → Jobs → List ℕ → List ℕ → List ℕ → Result ⊤ RunEnd → S → List ℕ → Jobs → List ℕ → Type 0
-PieceTaken {S} Step old old_line old_jobs old_held piece behind result new line jobs held =
-    (start : S) (given out : List ℕ) → ConversationAt Step start given old_line old_jobs out old →
+abbrev pub PieceTaken : (has_reads : Bool) → {S : Type 0} → (S → Exchange → S → Type 0) → S → List ℕ → Jobs → List ℕ → List ℕ → List ℕ → Result ⊤ RunEnd → S → List ℕ → Jobs → List ℕ → Type 0
+PieceTaken has_reads {S} Step old old_line old_jobs old_held piece behind result new line jobs held =
+    (start : S) (given out : List ℕ) → ConversationAt has_reads Step start given old_line old_jobs out old →
     MatchResult result
-    (λ _. (more : List ℕ) × (held ≡ old_held ++ more) × ConversationAt Step start (given ++ piece) line jobs (out ++ more) new)
-    (λ stop. (more : List ℕ) × (pairs : List Exchange) × (held ≡ old_held ++ more) × Runs Step start pairs new × OutputAt stop (given ++ (piece ++ behind)) pairs (out ++ more))
+    (λ _. (more : List ℕ) × (held ≡ old_held ++ more) × ConversationAt has_reads Step start (given ++ piece) line jobs (out ++ more) new)
+    (λ stop. (more : List ℕ) × (pairs : List Exchange) × (held ≡ old_held ++ more) × Runs Step start pairs new × OutputAt has_reads stop (given ++ (piece ++ behind)) pairs (out ++ more))
 
 -- the line has the bytes at its end, unless it would be too long or memory ran out
 abbrev pub Extends : List ℕ → List ℕ → Result ⊤ RunEnd → List ℕ → Type 0

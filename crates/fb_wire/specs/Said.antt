@@ -3,7 +3,8 @@ use Rattle.std.specs.Prelude.{ℕ, None, Option, Some, false, true}
 use Rattle.serde_json.specs.Data.{Data}
 use Rattle.fb_messages.specs.Jobs.Reads.{PlainJob}
 use Rattle.fb_messages.specs.Replies.{checkpointed, committed, delivered, job_given, no_job, pending_said, refused, refused_base, refused_unit, returned, value_said}
-use Rattle.fb_messages.specs.ReplyView.{refusal_text}
+use Rattle.fb_messages.specs.{ReadReplies.{showing_said}, ReplyView.{refusal_text}}
+use Rattle.fb_bench.specs.History.Reads.{Showing}
 use Rattle.fb_bench.specs.History.Checkpoints.{Checking, KeptUpTo, OverNumbers, OverUnits}
 use Rattle.fb_bench.specs.History.Machine.{Finds, OfAsk, OfCommit, OfDeliver, OfGiveBack, OfTake, Reply, Shown, Unknown, Waits}
 use Rattle.fb_bench.specs.Calls.{Answer, BehindHistory, Checked, CheckpointAnswer, FullHistory, Replied, SharedHistory}
@@ -65,3 +66,8 @@ said_to n BehindHistory = refused (refusal_text because.Behind)
 abbrev pub checkpoint_said : CheckpointAnswer → Data
 checkpoint_said (Checked checking) = checking_said checking
 checkpoint_said SharedHistory = refused (refusal_text because.NotAlone)
+
+-- the reply to a read
+abbrev pub read_said : Option Showing → Data
+read_said (Some shown) = showing_said shown
+read_said None = refused (refusal_text because.Behind)

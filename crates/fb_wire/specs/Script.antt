@@ -1,9 +1,9 @@
 -- What a workbench answers to the bytes of a script: a function of the two.
-use Rattle.std.specs.Prelude.{◌≡◌, ℕ, [], ◌∷◌, ◌++◌, if◌then◌else◌, List, length, nat_lt}
+use Rattle.std.specs.Prelude.{◌≡◌, ℕ, [], ◌∷◌, ◌++◌, false, if◌then◌else◌, List, length, nat_lt, None}
 use Rattle.serde_json.specs.Data.{Data}
 use Rattle.fb_bench.specs.{History.Checkpoints.{checking, bench_checked}, History.Limits.{Bounds}, History.Machine.{Call, reply}}
 use Rattle.fb_bench.specs.{History.BenchView.{BenchView, recorded, state_of}, Calls.{Answer, Checked, CheckpointAnswer, FullHistory, Replied}}
-use Rattle.fb_wire.specs.{Lines.{is_blank, lines_of}, Conversations.{Jobs, Plan, asks, checks, plan_of, says}, declared.end.RunEnd.{RunEnd}}
+use Rattle.fb_wire.specs.{Lines.{is_blank, lines_of}, Conversations.{Jobs, Plan, asks, checks, plan_of, reads, says}, declared.end.RunEnd.{RunEnd}}
 use Rattle.fb_wire.specs.declared.end.RunEnd.TheVariants.{End}
 use Rattle.fb_messages.specs.{Replies.{reply_line}, Requests.{request_of}}
 
@@ -34,6 +34,8 @@ unfoldable pub line_result : ℕ → Plan → BenchView → LineResult
 line_result caller (says reply held) bench = record { reply = reply; held = held; bench = bench }
 line_result caller (asks call next) bench = line_result caller (next (answer_from bench call)) (bench_after caller bench call)
 line_result caller (checks limits next) bench = line_result caller (next (checkpoint_from bench limits)) (bench_anew bench limits)
+-- no line of a script is a read
+line_result caller (reads reading next) bench = line_result caller (next None) bench
 
 -- what is written, and the workbench then
 pub record Script : Type 0 where
@@ -49,7 +51,7 @@ abbrev pub script_from : ℕ → List (List ℕ) → Jobs → BenchView → Scri
 script_from caller [] held bench = record { out = []; bench = bench }
 script_from caller (line ∷ lines) held bench =
     if is_blank line then script_from caller lines held bench
-    else reply_before (line_result caller (plan_of held (request_of line)) bench) (script_from caller lines)
+    else reply_before (line_result caller (plan_of held (request_of false line)) bench) (script_from caller lines)
 
 -- all replies to the bytes, and the workbench then
 unfoldable pub script : ℕ → BenchView → List ℕ → Script

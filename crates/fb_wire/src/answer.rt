@@ -3,19 +3,20 @@ ghost use Rattle.std.specs.{Prelude.{◌≡◌, ℕ, Some, length, map, option_m
 ghost use Rattle.fb_text.specs.Name.{name_of};
 ghost use Rattle.fb_bench.specs.{Calls.{Exchanges, take_reply}, History.Machine.{ToAsk, ToCommit, ToDeliver, ToGiveBack}};
 ghost use Rattle.fb_bench.specs.{Requests.{call_for, reply_in}, Records.{listed}};
-ghost use Rattle.fb_messages.specs.{ReplyView.{data_of}, RequestView.{change_view, request_view}};
-ghost use Rattle.fb_wire.specs.Said.{checkpoint_said, commit_said, deliver_said, reply_said, said_to};
-ghost use Rattle.fb_wire.specs.Progress.{KeepsTaken, Progress, answer_in, checked_in, data_in, refusal_for, unrecorded};
-ghost use Rattle.fb_wire.specs.Conversations.{Jobs, call_once, checkpoint_once, commit_plan, deliver_plan, edits_in, job_at, plan_of, take_plan, with_name, work_plan};
+ghost use Rattle.fb_bench.specs.History.declared.reading.Reading.TheVariants.{Entry, Text, Units};
+ghost use Rattle.fb_messages.specs.{ReplyView.{data_of}, RequestView.{change_view, reading_view, request_view}};
+ghost use Rattle.fb_wire.specs.Said.{checkpoint_said, commit_said, deliver_said, read_said, reply_said, said_to};
+ghost use Rattle.fb_wire.specs.Progress.{KeepsTaken, Progress, answer_in, checked_in, data_in, read_in, refusal_for, unrecorded};
+ghost use Rattle.fb_wire.specs.Conversations.{Jobs, call_once, checkpoint_once, commit_plan, deliver_plan, edits_in, job_at, plan_of, read_once, read_plan, take_plan, with_name, work_plan};
 
 use crate::change::{ChangeError, changes_of};
 use fb_bench::{
     Answered, Asked, Committed, Delivered, Desk, DeskCheckpointError, DeskError, GivenBack, Limits,
-    Taken,
+    Reading, Showing, Taken,
 };
 use fb_library::Change;
 use fb_messages::jobs::{Finished, Job, Key, Kind};
-use fb_messages::{AskedChange, Refusal, Reply, Request};
+use fb_messages::{AskedChange, AskedReading, Refusal, Reply, Request};
 use fb_text::Name;
 use std::alloc::{AllocError, Global};
 
@@ -110,7 +111,7 @@ fn checkpoint_reply(checked: Result<u64, DeskCheckpointError>) -> Result<Reply, 
 /// Makes one call, whose answer is the reply.
 fn answer_call<D: Desk>(desk: &mut D, call: &fb_bench::Request<'_>) -> Result<Reply, AllocError>
     ensures { (held : Jobs)
-        → Progress (Exchanges D.step D.checkpoint_step)
+        → Progress (Exchanges D.step D.checkpoint_step D.read_step)
         (call_once held (call_for call.now)) desk.old result held desk.new }
 {
     let performed = desk.perform(call);
@@ -123,7 +124,7 @@ fn answer_commit<D: Desk>(
     asked: &[AskedChange<'_>],
 ) -> Result<Reply, AllocError>
     ensures { (held : Jobs)
-        → Progress (Exchanges D.step D.checkpoint_step)
+        → Progress (Exchanges D.step D.checkpoint_step D.read_step)
         (commit_plan held (edits_in (map change_view asked.now))) desk.old result held desk.new }
 {
     // Works around the borrow checker: both types that a `fb_bench::Request` can borrow must occur in a function that makes one.
@@ -137,7 +138,7 @@ fn answer_commit<D: Desk>(
 
 fn answer_checkpoint<D: Desk>(desk: &mut D, limits: Limits) -> Result<Reply, AllocError>
     ensures { (held : Jobs)
-        → Progress (Exchanges D.step D.checkpoint_step) (checkpoint_once held limits) desk.old result held desk.new }
+        → Progress (Exchanges D.step D.checkpoint_step D.read_step) (checkpoint_once held limits) desk.old result held desk.new }
 {
     let checked = desk.checkpoint(limits);
     checkpoint_reply(checked)
@@ -163,7 +164,7 @@ fn keep_taken(held: &mut Vec<Job>, taken: Result<Taken, DeskError>) -> Result<Re
 }
 
 fn answer_take<D: Desk>(desk: &mut D, held: &mut Vec<Job>) -> Result<Reply, AllocError>
-    ensures { Progress (Exchanges D.step D.checkpoint_step) (take_plan held.old.items) desk.old result held.new.items desk.new }
+    ensures { Progress (Exchanges D.step D.checkpoint_step D.read_step) (take_plan held.old.items) desk.old result held.new.items desk.new }
 {
     if held.len() >= MOST_HELD {
         return Ok(Reply::Refused(Refusal::TooManyJobs));
@@ -186,7 +187,7 @@ fn held_job(held: &[Job], number: u64) -> Option<&Job>
 /// Runs a job, and delivers its result.
 fn answer_job<D: Desk>(alloc: Global, desk: &mut D, job: &Job) -> Result<Reply, AllocError>
     ensures { (held : Jobs)
-        → Progress (Exchanges D.step D.checkpoint_step) (call_once held (ToDeliver job.now)) desk.old result held desk.new }
+        → Progress (Exchanges D.step D.checkpoint_step D.read_step) (call_once held (ToDeliver job.now)) desk.old result held desk.new }
 {
     // As above.
     let _changes: &[Change] = &[];
@@ -200,7 +201,7 @@ fn answer_number<D: Desk>(
     held: &[Job],
     number: u64,
 ) -> Result<Reply, AllocError>
-    ensures { Progress (Exchanges D.step D.checkpoint_step) (deliver_plan held.now number) desk.old result held.now desk.new }
+    ensures { Progress (Exchanges D.step D.checkpoint_step D.read_step) (deliver_plan held.now number) desk.old result held.now desk.new }
 {
     match held_job(held, number) {
         None => Ok(Reply::Refused(Refusal::NoSuchJob)),
@@ -209,7 +210,7 @@ fn answer_number<D: Desk>(
 }
 
 fn answer_work<D: Desk>(alloc: Global, desk: &mut D, turns: u64) -> Result<Reply, AllocError>
-    ensures { (held : Jobs) → Progress (Exchanges D.step D.checkpoint_step) (work_plan held turns 0) desk.old result held desk.new }
+    ensures { (held : Jobs) → Progress (Exchanges D.step D.checkpoint_step D.read_step) (work_plan held turns 0) desk.old result held desk.new }
 {
     let mut accepted = 0;
     for _round in 0..turns {
@@ -228,7 +229,7 @@ fn answer_work<D: Desk>(alloc: Global, desk: &mut D, turns: u64) -> Result<Reply
 /// Asks for the key of a kind and a name.
 fn answer_ask_named<D: Desk>(desk: &mut D, kind: Kind, unit: &str) -> Result<Reply, AllocError>
     ensures { (held : Jobs)
-        → Progress (Exchanges D.step D.checkpoint_step)
+        → Progress (Exchanges D.step D.checkpoint_step D.read_step)
         (with_name held (name_of unit.now)
         (λ name. call_once held
         (ToAsk (record { kind = kind; unit = name })))) desk.old result held desk.new }
@@ -245,7 +246,7 @@ fn answer_ask_named<D: Desk>(desk: &mut D, kind: Kind, unit: &str) -> Result<Rep
 /// Gives back the key of a kind and a name.
 fn answer_back_named<D: Desk>(desk: &mut D, kind: Kind, unit: &str) -> Result<Reply, AllocError>
     ensures { (held : Jobs)
-        → Progress (Exchanges D.step D.checkpoint_step)
+        → Progress (Exchanges D.step D.checkpoint_step D.read_step)
         (with_name held (name_of unit.now)
         (λ name. call_once held
         (ToGiveBack (record { kind = kind; unit = name })))) desk.old result held desk.new }
@@ -259,14 +260,91 @@ fn answer_back_named<D: Desk>(desk: &mut D, kind: Kind, unit: &str) -> Result<Re
     }
 }
 
-/// Makes the calls of a request, or its checkpoint, and gives the reply.
+/// Reads, and what is shown is the reply.
+fn answer_reading<D: Desk>(desk: &mut D, reading: &Reading, wait: u64) -> Result<Reply, AllocError>
+    ensures { (held : Jobs)
+        → Progress (Exchanges D.step D.checkpoint_step D.read_step)
+        (read_once held reading.now) desk.old result held desk.new }
+{
+    let shown = desk.read(reading, wait);
+    read_reply(shown)
+}
+
+fn read_reply(shown: Result<Option<Showing>, AllocError>) -> Result<Reply, AllocError>
+    ensures { option_map read_said (read_in shown) ≡ data_in result }
+{
+    match shown {
+        Ok(Some(shown)) => Ok(Reply::Shown(shown)),
+        Ok(None) => Ok(Reply::Refused(Refusal::Behind)),
+        Err(error) => Err(error),
+    }
+}
+
+/// Reads the units after a name.
+fn answer_units_behind<D: Desk>(desk: &mut D, after: &str) -> Result<Reply, AllocError>
+    ensures { (held : Jobs)
+        → Progress (Exchanges D.step D.checkpoint_step D.read_step)
+        (with_name held (name_of after.now)
+        (λ name. read_once held (Units (Some name)))) desk.old result held desk.new }
+{
+    match Name::read(after) {
+        Err(_) => Ok(Reply::Refused(Refusal::BadName)),
+        Ok(after) => answer_reading(desk, &Reading::Units(Some(after)), 0),
+    }
+}
+
+/// Reads the text of a unit of this name.
+fn answer_text<D: Desk>(desk: &mut D, unit: &str) -> Result<Reply, AllocError>
+    ensures { (held : Jobs)
+        → Progress (Exchanges D.step D.checkpoint_step D.read_step)
+        (with_name held (name_of unit.now)
+        (λ name. read_once held (Text name))) desk.old result held desk.new }
+{
+    match Name::read(unit) {
+        Err(_) => Ok(Reply::Refused(Refusal::BadName)),
+        Ok(unit) => answer_reading(desk, &Reading::Text(unit), 0),
+    }
+}
+
+/// Reads what is known of the key of a kind and a name.
+fn answer_peek<D: Desk>(desk: &mut D, kind: Kind, unit: &str) -> Result<Reply, AllocError>
+    ensures { (held : Jobs)
+        → Progress (Exchanges D.step D.checkpoint_step D.read_step)
+        (with_name held (name_of unit.now)
+        (λ name. read_once held
+        (Entry (record { kind = kind; unit = name })))) desk.old result held desk.new }
+{
+    match Name::read(unit) {
+        Err(_) => Ok(Reply::Refused(Refusal::BadName)),
+        Ok(unit) => answer_reading(desk, &Reading::Entry(Key { kind, unit }), 0),
+    }
+}
+
+fn answer_read<D: Desk>(desk: &mut D, asked: &AskedReading<'_>) -> Result<Reply, AllocError>
+    ensures { (held : Jobs)
+        → Progress (Exchanges D.step D.checkpoint_step D.read_step)
+        (read_plan held (reading_view asked.now)) desk.old result held desk.new }
+{
+    match asked {
+        AskedReading::Status => answer_reading(desk, &Reading::Status, 0),
+        AskedReading::Units(None) => answer_reading(desk, &Reading::Units(None), 0),
+        AskedReading::Units(Some(after)) => answer_units_behind(desk, after),
+        AskedReading::Text(unit) => answer_text(desk, unit),
+        AskedReading::Peek { kind, unit } => answer_peek(desk, *kind, unit),
+        AskedReading::Watch { after, wait } => {
+            answer_reading(desk, &Reading::Events(*after), *wait)
+        }
+    }
+}
+
+/// Makes the calls of a request, its checkpoint or its read, and gives the reply.
 pub(crate) fn answer<D: Desk>(
     alloc: Global,
     desk: &mut D,
     held: &mut Vec<Job>,
     request: &Option<Request<'_>>,
 ) -> Result<Reply, AllocError>
-    ensures { Progress (Exchanges D.step D.checkpoint_step)
+    ensures { Progress (Exchanges D.step D.checkpoint_step D.read_step)
         (plan_of held.old.items
         (option_map request_view request.now)) desk.old result held.new.items desk.new }
 {
@@ -279,5 +357,6 @@ pub(crate) fn answer<D: Desk>(
         Some(Request::Deliver(number)) => answer_number(alloc, desk, held, *number),
         Some(Request::GiveBack { kind, unit }) => answer_back_named(desk, *kind, unit),
         Some(Request::Checkpoint(limits)) => answer_checkpoint(desk, *limits),
+        Some(Request::Read(reading)) => answer_read(desk, reading),
     }
 }

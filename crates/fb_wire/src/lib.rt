@@ -25,7 +25,7 @@ pub mod jobs {
 /// Of `fb_bench`, for the crates above.
 pub mod bench {
     pub use fb_bench::{
-        Answered, Asked, Bench, Call, CheckpointError, Delivered, Limits, Reply, Request, Shown,
+        Answered, Asked, Bench, Call, CheckpointRefused, Delivered, Limits, Reply, Request, Shown,
         Start, Taken, TextChange,
     };
 }

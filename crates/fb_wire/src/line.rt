@@ -29,10 +29,11 @@ fn answer_line<D: Desk>(
     scratch: &mut Scratch,
     line: &[u8],
 ) -> Result<Reply, AllocError>
-    ensures { Progress (Exchanges D.step D.checkpoint_step)
-        (plan_of held.old.items (request_of line.now)) desk.old result held.new.items desk.new }
+    ensures { Progress (Exchanges D.step D.checkpoint_step D.read_step)
+        (plan_of held.old.items (request_of D.has_reads line.now)) desk.old result held.new.items desk.new }
 {
-    let request = request_in(alloc, line, scratch)?;
+    let has_reads = desk.answers_reads();
+    let request = request_in(alloc, has_reads, line, scratch)?;
     answer(alloc, desk, held, &request)
 }
 
@@ -88,7 +89,7 @@ pub(crate) fn say_line<D: Desk, S: Sink>(
     writer: &mut S,
 ) -> Result<(), RunEnd>
     requires { S.has_failed writer.old ≡ false }
-    ensures said { LineSaid (Exchanges D.step D.checkpoint_step) conversation.old.line.items conversation.old.held.items desk.old
+    ensures said { LineSaid D.has_reads (Exchanges D.step D.checkpoint_step D.read_step) conversation.old.line.items conversation.old.held.items desk.old
         (S.held writer.old) result conversation.new.held.items desk.new (S.held writer.new) }
     ensures flushed { StaysFlushed (S.is_flushed writer.old) (S.has_failed writer.new)
         (S.is_flushed writer.new) }

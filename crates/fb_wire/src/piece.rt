@@ -53,7 +53,7 @@ fn end_line<D: Desk, S: Sink>(
     requires line { IsLine prefix.now }
     // whatever comes after them
     ensures taken { (behind : List ℕ)
-        → TakesPiece (Exchanges D.step D.checkpoint_step) desk.old conversation.old (S.held writer.old)
+        → TakesPiece D.has_reads (Exchanges D.step D.checkpoint_step D.read_step) desk.old conversation.old (S.held writer.old)
         (prefix.now ++ 10 ∷ []) behind result desk.new conversation.new (S.held writer.new) }
     ensures flushed { StaysFlushed (S.is_flushed writer.old) (S.has_failed writer.new)
         (S.is_flushed writer.new) }
@@ -82,7 +82,7 @@ pub(crate) fn take_piece<D: Desk, S: Sink>(
     piece: &[u8],
 ) -> Result<(), RunEnd>
     requires { S.has_failed writer.old ≡ false }
-    ensures taken { TakesPiece (Exchanges D.step D.checkpoint_step) desk.old conversation.old
+    ensures taken { TakesPiece D.has_reads (Exchanges D.step D.checkpoint_step D.read_step) desk.old conversation.old
         (S.held writer.old) piece.now [] result desk.new conversation.new (S.held writer.new) }
     ensures flushed { StaysFlushed (S.is_flushed writer.old) (S.has_failed writer.new)
         (S.is_flushed writer.new) }

@@ -23,7 +23,7 @@ fn end_conversation<D: Desk, S: Sink>(
     writer: &mut S,
 ) -> RunEnd
     requires { S.has_failed writer.old ≡ false }
-    ensures taken { TakesPiece (Exchanges D.step D.checkpoint_step) desk.old conversation.old (S.held writer.old) [] []
+    ensures taken { TakesPiece D.has_reads (Exchanges D.step D.checkpoint_step D.read_step) desk.old conversation.old (S.held writer.old) [] []
         (Err result) desk.new conversation.new (S.held writer.new) }
     ensures flushed { StaysFlushed (S.is_flushed writer.old) (S.has_failed writer.new)
         (S.is_flushed writer.new) }
@@ -52,7 +52,7 @@ fn take_turn<F: Feed, S: Sink, D: Desk>(
     ensures taken { (bytes : List ℕ)
         × (F.given reader.new ≡ F.given reader.old ++ bytes)
         × Consumes (F.left reader.old) (F.left reader.new) bytes
-        × TakesPiece (Exchanges D.step D.checkpoint_step) desk.old conversation.old (S.held writer.old) bytes [] result desk.new conversation.new
+        × TakesPiece D.has_reads (Exchanges D.step D.checkpoint_step D.read_step) desk.old conversation.old (S.held writer.old) bytes [] result desk.new conversation.new
         (S.held writer.new) }
     ensures whole { result ≡ Err RunEnd.End → IsAtEnd (F.left reader.new) }
     ensures turn { F.reads reader.new ≡ F.reads reader.old + 1 }
@@ -88,12 +88,12 @@ pub fn run_lines<F: Feed, S: Sink, D: Desk>(
     requires reader { F.has_failed reader.old ≡ false }
     requires open { F.has_ended reader.old ≡ false }
     requires writer { S.has_failed writer.old ≡ false }
-    ensures conversation { (conversation : IsConversation result turns
+    ensures conversation { (conversation : IsConversation D.has_reads result turns
         (streams F.given F.left F.reads F.has_failed S.held S.is_flushed S.has_failed reader.old
         writer.old)
         (streams F.given F.left F.reads F.has_failed S.held S.is_flushed S.has_failed reader.new
         writer.new))
-        × Runs (Exchanges D.step D.checkpoint_step) desk.old conversation.pairs desk.new }
+        × Runs (Exchanges D.step D.checkpoint_step D.read_step) desk.old conversation.pairs desk.new }
     ensures open { result ≡ RunEnd.TurnsOver → F.has_ended reader.new ≡ false }
 {
     let mut conversation = Conversation::new(alloc);
@@ -120,7 +120,7 @@ pub fn run_script<F: Feed, S: Sink>(
     requires open { F.has_ended reader.old ≡ false }
     requires writer { S.has_failed writer.old ≡ false }
     // Each answer is the machine's, from the state before on: what is written is the script's output, or a prefix of it.
-    ensures { (conversation : IsConversation result turns
+    ensures { (conversation : IsConversation false result turns
         (streams F.given F.left F.reads F.has_failed S.held S.is_flushed S.has_failed reader.old
         writer.old)
         (streams F.given F.left F.reads F.has_failed S.held S.is_flushed S.has_failed reader.new

@@ -4,9 +4,13 @@
 #[cfg(test)]
 mod admission;
 #[cfg(test)]
+mod epochs;
+#[cfg(test)]
 mod peers;
 #[cfg(test)]
 mod play;
+#[cfg(test)]
+mod reads;
 #[cfg(test)]
 mod refused;
 #[cfg(test)]

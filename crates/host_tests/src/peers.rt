@@ -16,6 +16,9 @@ const BYTES: u32 = 500;
 /// How many microseconds pass from one line to the next where a peer reads no reply: it must still send when the host has given up.
 const BETWEEN_LINES: u64 = 200;
 
+/// How many bytes a peer reads of a line or to the end.
+const MOST_BYTES: u32 = 100_000;
+
 /// How often a peer asks at most, until a worker has checked a unit or its stream ends.
 const LOOKS: u32 = 200_000;
 
@@ -45,7 +48,7 @@ fn read(alloc: Global, stream: &TcpStream, is_line: bool) -> io::Result<String> 
     let mut stream = stream;
     let mut told = String::new(alloc);
     let mut byte = [0u8; 1];
-    for _ in 0..1_000u32 {
+    for _ in 0..MOST_BYTES {
         match stream.read(&mut byte) {
             Ok(0) => break,
             Ok(_) => told.push(char::from(byte[0]))?,
@@ -69,6 +72,23 @@ fn ask(alloc: Global, stream: &TcpStream, line: &str) -> io::Result<String> {
     read(alloc, stream, true)
 }
 
+/// Gets a line.
+pub(crate) fn get(alloc: Global, stream: &TcpStream) -> io::Result<String> {
+    read(alloc, stream, true)
+}
+
+/// Sends a line, and counts how often the text is in the one that it gets.
+pub(crate) fn count(
+    alloc: Global,
+    stream: &TcpStream,
+    text: &str,
+    line: &str,
+) -> io::Result<String> {
+    let told = ask(alloc, stream, line)?;
+    let times = told.as_str().split(text).count().saturating_sub(1);
+    Ok(format!(in alloc; "{times}\n")?)
+}
+
 /// Sends the line this number of times. It gives the last reply, or the first that is not the wanted one.
 pub(crate) fn repeat(
     alloc: Global,
@@ -87,8 +107,8 @@ pub(crate) fn repeat(
     Ok(told)
 }
 
-// Commits so many units, U0, U1 and so on, one after another.
-fn commit_units(alloc: Global, stream: &TcpStream, count: usize) -> io::Result<()> {
+/// Commits this number of units, U0, U1 and so on, one after another.
+pub(crate) fn commit_units(alloc: Global, stream: &TcpStream, count: usize) -> io::Result<()> {
     for number in 0..count {
         let line = format!(in alloc;
             r#"{{"op":"commit","changes":[{{"put":"U{number}","base":0,"text":"FUNCTION_BLOCK U{number} END_FUNCTION_BLOCK"}}]}}"#

@@ -2,11 +2,12 @@
 //!
 //! A text has conversations, each a heading and steps. A heading is `== TITLE / SETTING VALUE / SETTING VALUE`, and so on. The settings are `connections`,
 //! after which the host closes, and `calls`: how many are made, and how many of them since the start of the history, or `any`. Unless others are there, a host has
-//! `sessions 1`, `workers 0`, `history 20`, `first-line 600000`, which are milliseconds, and `idle 0`, no `secret`, and prints no `errors`.
+//! `sessions 1`, `workers 0`, `units 100`, `history 20`, `first-line 600000`, which are milliseconds, `idle 0`, and as its identity the numbers `high 0` and
+//! `low 0`; no `secret`, and it prints no `errors`.
 ghost use Rattle.std.specs.Thread.{IsSync};
 
 use crate::steps::{first_wrong, lines_in};
-use fb_host::{HostConfig, host_on};
+use fb_host::{HostConfig, Identity, host_on};
 use fb_serve::Ended;
 use fb_wire::MemorySink;
 use fb_wire::bench::Limits;
@@ -45,10 +46,14 @@ fn config_of(heading: &str) -> Result<HostConfig, Fail> {
     Ok(HostConfig {
         workers: setting(heading, "workers", "0").parse()?,
         sessions: setting(heading, "sessions", "1").parse()?,
-        limits: Limits::new(100, history).ok_or("limits")?,
+        limits: Limits::new(setting(heading, "units", "100").parse()?, history).ok_or("limits")?,
         first_line_timeout: setting(heading, "first-line", "600000").parse()?,
         idle_timeout: setting(heading, "idle", "0").parse()?,
         connections: setting(heading, "connections", "").parse()?,
+        workbench: Identity {
+            high: setting(heading, "high", "0").parse()?,
+            low: setting(heading, "low", "0").parse()?,
+        },
     })
 }
 

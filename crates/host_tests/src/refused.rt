@@ -1,6 +1,6 @@
 //! A session of a host of which each allocation is refused in turn, also those of a history that begins again. Another session then continues with its seat,
 //! and is given each key that the first has taken; and the workbench closes with the receipts of all calls since the start.
-use fb_host::{ReceiptStore, SessionResult, give_back_all, run_host_session};
+use fb_host::{Identity, ReceiptStore, SessionResult, give_back_all, run_host_session};
 use fb_serve::CallerState;
 use fb_shared::Shared;
 use fb_wire::bench::Limits;
@@ -10,6 +10,7 @@ use std::alloc::Global;
 use std::io::Print;
 use std::sync::Wait;
 use std::test::Fail;
+use std::time::Clock;
 
 /// What is tried, what a session says before, what two sessions then say one after another, the replies of the first to it, and the end of those of the
 /// second.
@@ -52,6 +53,29 @@ const TAKES: Talk = Talk {
     last: JOBS,
 };
 
+// Each read, and nothing else.
+const READS: Talk = Talk {
+    about: " that reads",
+    before: r#"{"op":"commit","changes":[{"put":"A","base":0,"text":"FUNCTION_BLOCK A END_FUNCTION_BLOCK"}]}
+"#,
+    requests: r#"{"op":"status"}
+{"op":"units"}
+{"op":"text","unit":"A"}
+{"op":"peek","kind":"faults","unit":"A"}
+{"op":"watch","after":0,"wait":0}
+"#,
+    replies: SHOWN,
+    last: SHOWN,
+};
+
+const SHOWN: &str =
+    r#"{"status":{"calls":1,"commits":1,"keys":1,"pending":1,"session":1,"units":1,"workbench":"00000000000000070000000000000008"}}
+{"at":1,"units":[["A",1]]}
+{"at":1,"base":1,"text":"FUNCTION_BLOCK A END_FUNCTION_BLOCK"}
+{"answer":"pending"}
+{"at":1,"events":[["commit",1,1,["A"],[]]]}
+"#;
+
 /// How a session ended, what it replied, and whether an allocation was refused.
 #[derive(Drop)]
 struct Session {
@@ -61,7 +85,7 @@ struct Session {
 }
 
 // A session says the lines, of which the allocation of this number is refused; what it leaves in hand goes back. What it writes has room.
-fn say_lines<R: Wait>(
+fn say_lines<R: Wait + Clock>(
     rt: &R,
     alloc: Global,
     shared: &Shared,
@@ -121,9 +145,9 @@ fn is_closed<R: Wait>(
 }
 
 // Sessions with one seat, the first of the two without the allocation of this number.
-fn tried<R: Wait>(rt: &R, alloc: Global, talk: Talk, number: u32) -> Result<Session, Fail> {
+fn tried<R: Wait + Clock>(rt: &R, alloc: Global, talk: Talk, number: u32) -> Result<Session, Fail> {
     let limits = Limits::new(8, 2).ok_or("limits")?;
-    let (shared, mut seats) = Shared::rolling(alloc, limits, 1)?;
+    let (shared, mut seats) = Shared::rolling(alloc, limits, 1, Identity { high: 7, low: 8 })?;
     let store = ReceiptStore::new(alloc, limits.history());
     let state = CallerState::new(alloc, seats.pop().ok_or("no seat")?);
     let (state, _) = say_lines(rt, alloc, &shared, &store, state, talk.before, 0)?;
@@ -138,7 +162,7 @@ fn tried<R: Wait>(rt: &R, alloc: Global, talk: Talk, number: u32) -> Result<Sess
 }
 
 // Whether an allocation of a session was refused, and whether the session ended for lack of memory.
-fn session_without<R: Wait>(
+fn session_without<R: Wait + Clock>(
     rt: &R,
     alloc: Global,
     talk: Talk,
@@ -149,7 +173,7 @@ fn session_without<R: Wait>(
 }
 
 // Refuses each allocation of a session in turn, and prints what was found.
-fn try_session<R: Wait + Print>(rt: &R, alloc: Global, talk: Talk) -> Result<(), Fail> {
+fn try_session<R: Wait + Clock + Print>(rt: &R, alloc: Global, talk: Talk) -> Result<(), Fail> {
     let found = each_refused(|number| session_without(rt, alloc, talk, number))?;
     Ok(report(rt, "run_host_session", talk.about, found)?)
 }
@@ -162,4 +186,9 @@ fn each_allocation_of_a_session(rt: HostRuntime) -> Result<(), Fail> {
 #[test]
 fn each_allocation_of_a_session_that_takes_keys(rt: HostRuntime) -> Result<(), Fail> {
     try_session(&rt, rt.alloc(), TAKES)
+}
+
+#[test]
+fn each_allocation_of_a_session_that_reads(rt: HostRuntime) -> Result<(), Fail> {
+    try_session(&rt, rt.alloc(), READS)
 }

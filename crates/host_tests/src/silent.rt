@@ -28,6 +28,20 @@ passed 190
 1 drips
 passed 380
 
+== A byte that comes late does not give a peer more time for its first line / connections 1 / first-line 6000 / calls 0, 0
+connect 1
+wait 5000
+0 says x
+0 is closed
+passed 5900
+within 10000
+
+== The time of the first line is over once it has come, and a session may be silent for longer / connections 1 / first-line 200 / calls 2, 2
+0 asks {"op":"take"} => {"job":0}
+wait 400
+0 asks {"op":"take"} => {"job":0}
+0 leaves
+
 == There are 32 threads of admission / connections 34 / sessions 3 / calls 4, 4
 // While all of them wait the next connection is closed at once, and one of those that wait can begin a session. When the others have gone there is entrance.
 // A seat is always free: one peer talks, and one leaves.

@@ -6,21 +6,29 @@
 //! | `0 says TEXT` | the peer sends this, where `\n` and `\r` are ends of lines |
 //! | `0 asks LINE => REPLY` | it sends a line, and gets one |
 //! | `0 repeats 30 LINE => REPLY` | the same, this number of times |
+//! | `0 gets => REPLY` | it gets a line |
+//! | `0 counts TEXT in LINE => 3` | it sends a line, and gets one with this text this number of times |
+//! | `0 puts 80` | it commits this number of units, one after another |
 //! | `0 commits 80 => REPLY` | it commits this number of units, from 10 to 99, and gets this of the last one once workers have checked all of them |
 //! | `0 drips` | it sends a byte now and then, until it is closed |
 //! | `0 floods LINE` | it sends a line again and again and reads no reply, until it is closed |
 //! | `0 leaves => REPLY` | it ends its sending, and gets this to the end, or nothing |
-//! | `leave 1 to 31` | the same of all these peers, which get nothing |
+//! | `each 0 to 63 STEP => REPLY` | each of these peers makes this step |
+//! | `leave 1 to 31 => REPLY` | each of these peers ends its sending, and gets this to the end, or nothing |
 //! | `0 is closed => REPLY` | it gets this to the end, or nothing |
 //! | `errors => TEXT` | this is what the host has printed on its errors |
 //! | `passed 90` | at least this number of milliseconds have passed since the first step |
-use crate::peers::{commit_all, connect, drip, flood, leave, repeat, rest, say};
+//! | `within 9000` | at most this number |
+//! | `wait 400` | this number of milliseconds pass |
+use crate::peers::{
+    commit_all, commit_units, connect, count, drip, flood, get, leave, repeat, rest, say,
+};
 use std::alloc::{AllocError, Global};
-use std::io;
 use std::io::ErrorKind;
 use std::net::{Net, TcpListener, TcpStream};
 use std::sync::{Mutex, Wait};
 use std::time::{Clock, Duration, Instant};
+use std::{io, thread};
 
 /// Where a host listens, what it prints on its errors, and when the first step was made.
 #[derive(Drop)]
@@ -67,13 +75,41 @@ fn peer(streams: &[TcpStream], number: usize) -> io::Result<&TcpStream> {
     Ok(streams.get(number).ok_or(ErrorKind::NotFound)?)
 }
 
-// Peers leave one after another. It gives what the last of them gets, or the first that gets anything.
-fn leave_all(alloc: Global, streams: &[TcpStream], range: &str) -> io::Result<String> {
+// Peers leave one after another. It gives what the last of them gets, or the first that gets something else than this.
+fn leave_all(
+    alloc: Global,
+    streams: &[TcpStream],
+    range: &str,
+    wanted: &str,
+) -> io::Result<String> {
     let (first, last) = range.split_once(" to ").ok_or(ErrorKind::InvalidInput)?;
     let mut told = String::new(alloc);
     for number in number_in(first)?..=number_in(last)? {
         told = leave(alloc, peer(streams, number)?)?;
-        if !told.is_empty() {
+        if told.as_str() != wanted {
+            break;
+        }
+    }
+    Ok(told)
+}
+
+// Each of these peers connects if it is the next one, and makes this step. It gives what the last of them gets, or the first that gets something else than this.
+fn each<R: Net<Listener = TcpListener, Stream = TcpStream> + Clock>(
+    rt: &R,
+    alloc: Global,
+    port: u16,
+    streams: &mut Vec<TcpStream>,
+    words: &str,
+    wanted: &str,
+) -> io::Result<String> {
+    let (first, words) = words.split_once(" to ").ok_or(ErrorKind::InvalidInput)?;
+    let (last, step) = words.split_once(' ').ok_or(ErrorKind::InvalidInput)?;
+    let mut told = String::new(alloc);
+    for number in number_in(first)?..=number_in(last)? {
+        let missing = usize::from(number == streams.len());
+        connect_all(rt, alloc, port, streams, missing)?;
+        told = got(rt, alloc, peer(streams, number)?, step, wanted)?;
+        if told.as_str() != wanted {
             break;
         }
     }
@@ -88,6 +124,16 @@ fn printed<R: Wait>(rt: &R, alloc: Global, errors: &Mutex<Vec<u8>>) -> io::Resul
 fn passed<R: Clock>(rt: &R, alloc: Global, begun: Instant, least: usize) -> io::Result<String> {
     let is_soon = begun.elapsed(rt)? < Duration::from_millis(least as u64);
     Ok(String::from_str(alloc, if is_soon { "too soon" } else { "" })?)
+}
+
+fn within<R: Clock>(rt: &R, alloc: Global, begun: Instant, most: usize) -> io::Result<String> {
+    let is_late = Duration::from_millis(most as u64) < begun.elapsed(rt)?;
+    Ok(String::from_str(alloc, if is_late { "too late" } else { "" })?)
+}
+
+fn wait<R: Clock>(rt: &R, alloc: Global, length: usize) -> String {
+    thread::sleep(rt, Duration::from_millis(length as u64));
+    String::new(alloc)
 }
 
 // Makes the step of a peer. It gives what the peer gets, which should be this.
@@ -107,6 +153,15 @@ fn got<R: Clock>(
         ("repeats", words) => {
             let (times, line) = words.split_once(' ').ok_or(ErrorKind::InvalidInput)?;
             repeat(alloc, stream, number_in(times)?, line, wanted)
+        }
+        ("gets", "") => get(alloc, stream),
+        ("counts", words) => {
+            let (text, line) = words.split_once(" in ").ok_or(ErrorKind::InvalidInput)?;
+            count(alloc, stream, text, line)
+        }
+        ("puts", count) => {
+            commit_units(alloc, stream, number_in(count)?)?;
+            Ok(String::new(alloc))
         }
         ("commits", count) => commit_all(rt, alloc, stream, number_in(count)?),
         ("drips", "") => drip(alloc, stream),
@@ -129,9 +184,12 @@ fn told<R: Net<Listener = TcpListener, Stream = TcpStream> + Wait + Clock>(
     match step.split_once(' ').unwrap_or((step, "")) {
         ("", _) | ("//", _) => Ok(String::new(alloc)),
         ("connect", count) => connect_all(rt, alloc, scene.port, streams, number_in(count)?),
-        ("leave", range) => leave_all(alloc, streams, range),
+        ("each", words) => each(rt, alloc, scene.port, streams, words, wanted),
+        ("leave", range) => leave_all(alloc, streams, range, wanted),
         ("errors", "") => printed(rt, alloc, scene.errors),
         ("passed", least) => passed(rt, alloc, scene.begun, number_in(least)?),
+        ("within", most) => within(rt, alloc, scene.begun, number_in(most)?),
+        ("wait", length) => Ok(wait(rt, alloc, number_in(length)?)),
         (number, step) => {
             let number = number_in(number)?;
             let missing = usize::from(number == streams.len());

@@ -46,14 +46,14 @@ fn ended(
 /// The settings, as a line.
 pub(crate) fn line_of(alloc: Global, settings: &Settings<'_>) -> Result<String, AllocError> {
     match settings {
-        Settings::Script(limits) => {
-            format!(in alloc; "script {} {}", limits.units(), limits.history())
-        }
-        Settings::Serve(it) => {
-            let (port, workers, sessions) = (it.port, it.workers, it.sessions);
-            let (units, history) = (it.limits.units(), it.limits.history());
-            format!(in alloc; "serve {port} {workers} {sessions} {units} {history}")
-        }
+        Settings::Script { units, history } => format!(in alloc; "script {units} {history}"),
+        Settings::Serve {
+            port,
+            workers,
+            sessions,
+            units,
+            history,
+        } => format!(in alloc; "serve {port} {workers} {sessions} {units} {history}"),
         Settings::Host(it) => {
             let (port, workers, sessions) = (it.port, it.workers, it.sessions);
             let (units, history) = (it.limits.units(), it.limits.history());
@@ -118,9 +118,9 @@ fn words_give_servers(rt: HostRuntime) -> Result<(), Fail> {
 }
 
 // Words that ask for a server that stays: the same, the secret, the minutes, and the connections.
-const HOSTED: &str = r#"host --port 7 => host 7 2 16 1024 100000 None 0 1000000000
+const HOSTED: &str = r#"host --port 7 => host 7 2 32 1024 100000 None 0 1000000000
 host --port 0 --sessions 1 --workers 1 --units 1 --history 1 --secret s --idle 0 --connections 1 => host 0 1 1 1 1 Some("s") 0 1
-host --connections=1000000000 --idle=10080 --secret=a/b --history=10000000 --units=16384 --workers=16 --sessions=64 --port=65535 => host 65535 16 64 16384 10000000 Some("a/b") 10080 1000000000
+host --connections=1000000000 --idle=10080 --secret=a/b --history=10000000 --units=16384 --workers=16 --sessions=255 --port=65535 => host 65535 16 255 16384 10000000 Some("a/b") 10080 1000000000
 host --port 6149 --sessions 3 --workers 5 --units 17 --history 19 --idle 23 --connections 29 => host 6149 5 3 17 19 None 23 29"#;
 
 #[test]
@@ -161,7 +161,7 @@ const REFUSED: &[&str; 44] = &[
     "host --port 0 --workers 0",
     "host --port 0 --workers 17",
     "host --port 0 --sessions 0",
-    "host --port 0 --sessions 65",
+    "host --port 0 --sessions 256",
     "host --port 0 --units 0",
     "host --port 0 --units 16385",
     "host --port 0 --history 0",

@@ -3,6 +3,7 @@ use crate::nest::{BEFORE, Given, Which, bench_for};
 use crate::told::{bench_told, reply_word};
 use fb_bench::{Bench, Limits};
 use fb_jobs::Key;
+use fb_shared::bench::Identity;
 use fb_shared::{Closed, Locked, NotClosed, NotResumed, Receipt, Seat, Shared, SharedRefused};
 use std::alloc::{AllocError, Global};
 use std::sync::Wait;
@@ -95,7 +96,7 @@ impl Owner for Locked {
 impl Owner for Shared {
     fn empty(alloc: Global, limits: Limits, rolls: bool) -> Result<Hall<Shared>, AllocError> {
         if rolls {
-            Shared::rolling(alloc, limits, 2)
+            Shared::rolling(alloc, limits, 2, Identity { high: 1, low: 2 })
         } else {
             Shared::new(alloc, limits, 2)
         }

@@ -2,7 +2,7 @@
 use crate::nest::{CALLS, Given, Which, bench_for, given_for};
 use crate::told::bench_told;
 use crate::ways::{Answer, Way, made};
-use fb_bench::{Bench, CheckpointError, Limits, Refused};
+use fb_bench::{Bench, CheckpointRefused, Limits, Refused};
 use refusing::{Trial, try_call};
 use std::alloc::Global;
 use std::io::Print;
@@ -98,7 +98,7 @@ impl Trial for Checked {
                 self.before = Some(before);
                 true
             }
-            Err(refused) => refused != CheckpointError::Memory,
+            Err(refused) => refused != CheckpointRefused::Memory,
         }
     }
 

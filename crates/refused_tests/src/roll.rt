@@ -2,7 +2,8 @@
 use crate::nest::{BEFORE, Given, Which, begun, given_for};
 use crate::owners::{Owner, Session, owner_for, taken_over};
 use crate::told::bench_told;
-use fb_bench::{CheckpointError, Limits};
+use fb_bench::{CheckpointRefused, Limits};
+use fb_shared::bench::Identity;
 use fb_shared::{Locked, Seat, Shared};
 use refusing::{Trial, try_call};
 use std::alloc::Global;
@@ -26,7 +27,7 @@ impl Trial for Rolled {
     }
 
     fn call(&mut self, _alloc: Global) -> bool {
-        self.locked.make_room(self.limits) != Err(CheckpointError::Memory)
+        self.locked.make_room(self.limits) != Err(CheckpointRefused::Memory)
     }
 
     fn told(&self, alloc: Global) -> Result<String, Fail> {
@@ -104,7 +105,7 @@ impl<'a, R: Wait> Trial for Anew<'a, R> {
     fn new(alloc: Global, setting: (&'a R, &'a Given)) -> Result<Anew<'a, R>, Fail> {
         let (rt, given) = setting;
         let limits = Limits::new(4, 1).ok_or("limits")?;
-        let (shared, mut seats) = Shared::rolling(alloc, limits, 1)?;
+        let (shared, mut seats) = Shared::rolling(alloc, limits, 1, Identity { high: 1, low: 2 })?;
         let mut seat = seats.pop().ok_or("no seat")?;
         shared.ask(rt, &mut seat, given.key)?;
         Ok(Anew {

@@ -1,6 +1,7 @@
 //! Seats and receipts with which a workbench does not close.
 use crate::play::{counts_in, played_locked, played_shared};
 use crate::setup::{ask_often, committed, faults_of, limits, new_locked, new_shared, pair, work};
+use fb_shared::bench::Identity;
 use fb_shared::{CloseError, Plain, Shared, WorkEnd};
 use std::alloc::Global;
 use std::test::Fail;
@@ -43,7 +44,7 @@ fn a_silent_seat_that_is_missing(rt: HostRuntime) -> Result<(), Fail> {
 #[test]
 fn a_refused_close_of_a_history_that_begins_again(rt: HostRuntime) -> Result<(), Fail> {
     let alloc: Global = rt.alloc();
-    let (shared, mut seats) = Shared::rolling(alloc, limits(2)?, 1)?;
+    let (shared, mut seats) = Shared::rolling(alloc, limits(2)?, 1, Identity { high: 1, low: 2 })?;
     let seat = seats.pop().ok_or("a seat")?;
     let missing = shared.close(alloc, seats, &[]).err().ok_or("closed")?;
     let (seat, _receipts) = ask_often(&rt, alloc, &missing.owner, seat, 5).ok_or("refused")?;

@@ -14,6 +14,8 @@ mod long_jobs;
 #[cfg(test)]
 mod play;
 #[cfg(test)]
+mod reads;
+#[cfg(test)]
 mod resumed;
 #[cfg(test)]
 mod setup;

@@ -2,9 +2,13 @@
 // All texts of users are shown through textContent alone; the page's policy forbids every other way.
 
 const $ = (id) => document.getElementById(id);
-const SHOWN_CHANGES = 300, NOTES = 4;
+const SHOWN_CHANGES = 300, NOTES = 4, STEPS = 6, FEW = 40, PLANT_ROWS = 200;
 const KINDS = { FUNCTION_BLOCK: "block", ADAPTER: "adapter", SUBAPPLICATION: "subapplication", SYSTEM: "system", TYPE: "structure" };
+/** The kinds of units that have a network, and a plan. */
+const HAS = { network: ["SUBAPPLICATION", "SYSTEM"], plan: ["SYSTEM"] };
 const STATES = { fine: "fine", faulty: "faults", noplan: "no plan", pending: "pending", absent: "not there", unknown: "not known yet" };
+/** Whether the workbench is a shared one that lists no units and gives no texts, so that it has to be asked about each. */
+const isAsked = () => Boolean(board.about?.shared && !board.about.reads);
 /** What is to be mended. */
 const isWrong = (unit) => unit.state === "faulty" || unit.state === "noplan";
 
@@ -104,16 +108,17 @@ class LongList {
 
 /** What is known of the workbench: told by the server's events. */
 const board = {
-  units: new Map(), names: [], changes: [], answers: new Map(), about: null, last: -1, problems: [], ended: "", connected: false,
-  token: document.querySelector("meta[name=token]").content,
+  units: new Map(), names: [], changes: new Map(), answers: new Map(), about: null, last: 0, problems: [], ended: "", connected: false, refusal: "",
 
   /** Listens for as long as the page is seen. A page that is not seen would cost a shared workbench recorded calls. */
   connect() {
     if (document.hidden || this.events) return;
     this.events = new EventSource(`/events?change=${this.last}`);
     this.events.onmessage = (message) => this.take(JSON.parse(message.data));
-    this.events.onerror = () => {
+    this.events.onerror = async () => {
+      const isRefused = this.events?.readyState === EventSource.CLOSED;
       this.leave();
+      this.refusal = isRefused ? await refusalOf("/") : "";
       showState();
       setTimeout(() => this.connect(), 1000);
     };
@@ -125,23 +130,43 @@ const board = {
   },
   take(news) {
     if (news.about) {
-      if (news.about.token !== this.token) return location.reload();
+      if (this.about && news.about.run !== this.about.run) return location.reload();
       this.about = news.about;
-      if (this.last < 0) this.last = news.about.last;
       this.connected = true;
       this.units.clear();
+      this.names = [];
       this.answers.clear();
     }
-    for (const [unit, kind, revision, state, faults, file] of news.units) this.units.set(unit, { unit, kind, revision, state, faults, file });
-    if (this.names.length !== this.units.size || news.about) this.names = [...this.units.keys()].sort(inOrder);
+    const added = news.units.map(([unit]) => unit).filter((unit) => !this.units.has(unit));
+    for (const [unit, kind, revision, state, faults, file, plan] of news.units) this.units.set(unit, { unit, kind, revision, state, faults, file, plan });
+    this.addNames(added);
     for (const [kind, unit, serial, current] of news.answers) this.answers.set(`${kind} ${unit}`, { serial, current });
-    const replaced = new Set(news.changes.map((it) => it.replaces));
-    this.changes = [...this.changes.filter((it) => !replaced.has(it.number)), ...news.changes];
-    if (news.changes.length) this.last = news.changes.at(-1).number;
-    Object.assign(this, { problems: news.problems, ended: news.ended, calls: news.calls });
+    for (const it of news.changes) this.changes.set(it.serial, it);
+    Object.assign(this, { problems: news.problems, ended: news.ended, calls: news.calls, last: news.last });
     showNews(news);
   },
+  /** Keeps the names in order. To sort all of a large plant takes long. */
+  addNames(added) {
+    if (added.length > FEW) this.names = [...this.names, ...added].sort(inOrder);
+    else for (const name of added) {
+      let low = 0, high = this.names.length;
+      while (low < high) {
+        const middle = (low + high) >> 1;
+        if (inOrder(this.names[middle], name) < 0) low = middle + 1;
+        else high = middle;
+      }
+      this.names.splice(low, 0, name);
+    }
+  },
 };
+
+/** What the server says where it does not let this page in. */
+async function refusalOf(path) {
+  try {
+    const reply = await fetch(path);
+    return reply.ok ? "" : (await reply.text()).trim();
+  } catch { return ""; }
+}
 
 async function ask(path, query) {
   const reply = await fetch(`${path}?${new URLSearchParams(query)}`);
@@ -152,8 +177,9 @@ async function ask(path, query) {
 // The bar and the list of units
 
 const filters = {
-  all: ["All", (unit) => unit.state !== "absent" || board.about?.shared],
-  faulty: ["Faults", isWrong],
+  all: ["All", (unit) => unit.state !== "absent" || isAsked()],
+  faulty: ["Faults", (unit) => unit.state === "faulty"],
+  noplan: ["No plan", (unit) => unit.state === "noplan"],
   pending: ["Pending", (unit) => unit.state === "pending"],
   fine: ["Fine", (unit) => unit.state === "fine"],
   absent: ["Not there", (unit) => unit.state === "absent"],
@@ -183,12 +209,10 @@ function listUnits() {
 }
 
 function count() {
-  const counts = { units: 0, noplan: 0, faults: 0, withFaults: 0, ...Object.fromEntries(Object.keys(filters).map((it) => [it, 0])) };
+  const counts = { units: 0, faults: 0, ...Object.fromEntries(Object.keys(filters).map((it) => [it, 0])) };
   for (const it of board.units.values()) {
     for (const [name, [, isMeant]] of Object.entries(filters)) counts[name] += isMeant(it) ? 1 : 0;
     counts.units += it.state === "absent" ? 0 : 1;
-    counts.noplan += it.state === "noplan" ? 1 : 0;
-    counts.withFaults += it.state === "faulty" ? 1 : 0;
     counts.faults += it.faults;
   }
   return counts;
@@ -199,14 +223,15 @@ function showCounts() {
   const part = (kind, number, words) => make("span", { class: number ? kind : "" }, make("b", {}, number.toLocaleString("en")), ` ${words}`);
   $("counts").replaceChildren(
     part("all", counts.units, counts.units === 1 ? "unit" : "units"),
-    part("faulty", counts.faults, `${counts.faults === 1 ? "fault" : "faults"}${counts.faults ? ` in ${counted(counts.withFaults, "unit")}` : ""}`),
+    part("faulty", counts.faults, `${counts.faults === 1 ? "fault" : "faults"}${counts.faults ? ` in ${counted(counts.faulty, "unit")}` : ""}`),
     ...(counts.noplan ? [part("faulty", counts.noplan, `${counts.noplan === 1 ? "system" : "systems"} without a plan`)] : []),
     part("pending", counts.pending, "pending"),
   );
   for (const button of $("filters").children) {
     const name = button.dataset.filter;
-    if (name !== "all") button.lastChild.textContent = ` ${counts[name].toLocaleString("en")}`;
-    button.hidden = name === "absent" && !counts.absent && filter !== name;
+    const number = name === "faulty" ? counts.faults : counts[name];
+    if (name !== "all") button.lastChild.textContent = ` ${number.toLocaleString("en")}`;
+    button.hidden = ["absent", "noplan"].includes(name) && !number && filter !== name;
   }
   document.title = `${counts.faults ? `${counted(counts.faults, "fault")} – ` : ""}${board.about?.title ?? "bench61499"}`;
 }
@@ -222,16 +247,17 @@ function showState() {
   $("live").textContent = !connected ? "not connected" : ended ? (about?.shared ? "waiting" : "ended") : "live";
   $("live").classList.toggle("off", !connected || Boolean(ended));
   $("title").textContent = about?.title ?? "";
-  const words = !connected ? (about ? "The board does not answer. This is what it last knew; it is asked again each second." : "")
+  const unanswered = board.refusal ? `The board says: ${board.refusal}.` : "The board does not answer.";
+  const words = !connected ? (about || board.refusal ? `${unanswered} This is what it last knew; it is asked again each second.` : "")
     : ended ? `Not checked now: ${ended}. This is what was last known.` : "";
   if ($("ended").textContent !== words) $("ended").textContent = words;
   $("ended").hidden = !words;
   $("problems").textContent = board.problems.slice(0, 3).join(" · ") + (board.problems.length > 3 ? ` · and ${board.problems.length - 3} more` : "");
   $("problems").hidden = !board.problems.length;
-  $("look").hidden = !about?.shared;
-  const who = about?.shared ? `The workbench tells no session who made a commit, only the revisions. This board has made ${counted(board.calls, "recorded call")}.`
-    : "Each is a change of a file on disk.";
-  $("changes-note").textContent = `Since this page was opened. ${who}`;
+  $("look").hidden = !isAsked();
+  const who = isAsked() ? `The workbench tells no session who made a commit, only the revisions. This board has made ${counted(board.calls, "recorded call")}.`
+    : about?.shared ? "Commits of the workbench, by the numbers of its sessions." : "Each is a change of files on disk.";
+  $("changes-note").textContent = `Since the board was started. ${who}`;
 }
 
 function showNews(news) {
@@ -239,8 +265,8 @@ function showNews(news) {
   showCounts();
   listUnits();
   if (news.about) unitList.reveal();
-  if (news.changes.length) showChanges(news.changes);
-  const touched = news.about || news.units.some(([unit]) => unit === shown.unit) || news.answers.some(([, unit]) => unit === shown.unit);
+  if (news.changes.length) showChanges(news.changes, news.about);
+  const touched = news.about || !shown.unit || news.units.some(([unit]) => unit === shown.unit) || news.answers.some(([, unit]) => unit === shown.unit);
   if (touched) refresh();
   if (!news.about) tellFaults(news.units);
 }
@@ -253,23 +279,46 @@ function tellFaults(units) {
 
 // Changes
 
-function showChanges(changes) {
-  for (const { replaces } of changes) $("changes").querySelector(`li[data-number="${replaces}"]`)?.remove();
-  const items = changes.slice(-SHOWN_CHANGES).reverse().map(changeItem);
-  $("changes").prepend(...items);
+function showChanges(changes, isFirst) {
+  for (const it of [...changes].sort((one, other) => one.time - other.time)) {
+    const former = $("changes").querySelector(`li[data-serial="${it.serial}"]`), item = changeItem(it);
+    if (former?.dataset.time === String(it.time)) former.replaceWith(item);
+    else {
+      former?.remove();
+      $("changes").prepend(item);
+      if (!isFirst) speaker.say(spokenWords(it));
+    }
+  }
   while ($("changes").children.length > SHOWN_CHANGES) $("changes").lastChild.remove();
-  $("changes-title").textContent = `Changes (${board.changes.length.toLocaleString("en")})`;
-  if (changes.length > 3) speaker.say(`${counted(changes.length, "unit")} changed`);
-  else for (const it of changes) speaker.say(`${it.unit} ${revisions(it)}`);
+  $("changes-title").textContent = `Changes (${board.changes.size.toLocaleString("en")})`;
 }
 
-const revisions = ({ old, new: now }) => !now ? `removed, was at revision ${old}` : !old ? `new, revision ${now}` : `revision ${old} → ${now}`;
+const stepWords = ([, old, now]) => !now ? `removed, was at revision ${old}` : !old ? `new, revision ${now}` : `revision ${old} → ${now}`;
+const authorOf = ({ author, commit }) => `${author || "another session"}${commit && board.about?.shared ? `, commit ${commit.toLocaleString("en")}` : ""}`;
 
+const spokenWords = (change) => {
+  const { steps } = change, who = authorOf(change);
+  return !steps.length ? who : steps.length === 1 ? `${steps[0][0]} ${stepWords(steps[0])}, ${who}` : `${counted(steps.length, "unit")} changed, ${who}`;
+};
+
+/** A change: its units, when and by whom, and the faults that came and went with it. */
 function changeItem(change) {
-  const who = change.author || "another session";
-  const count = change.count > 1 ? `, ${change.count.toLocaleString("en")} changes` : "";
-  return make("li", { "data-number": change.number }, link(change.unit, () => go(change.unit, "text")), ` ${revisions(change)}${count}`,
-    make("p", { class: "number" }, `${clock(change.time)}, ${who}`));
+  const { steps, serial, time, count } = change;
+  const units = steps.slice(0, STEPS).map((step) => make("p", { class: "step" }, link(step[0], () => go(step[0], "text")), ` ${stepWords(step)}`));
+  if (steps.length > STEPS) units.push(make("p", { class: "step" }, `and ${counted(steps.length - STEPS, "unit")} more`));
+  if (count > 1) units.at(-1).append(`, ${count.toLocaleString("en")} changes`);
+  return make("li", { "data-serial": serial, "data-time": time }, ...units, make("p", { class: "number" }, `${clock(time)}, ${authorOf(change)}`),
+    ...faultLines("came", change.came, change.came_count), ...faultLines("went", change.went, change.went_count));
+}
+
+/** The faults that came or went, a line each. */
+function faultLines(sort, faults, count) {
+  const sign = sort === "came" ? "+" : "−";
+  const line = (...words) => make("p", { class: `fault ${sort}` }, make("span", { class: "unseen" }, sort), make("span", { "aria-hidden": "true" }, sign), " ", ...words);
+  const lines = faults.slice(0, NOTES).map(([unit, code, words]) =>
+    line(link(unit, () => go(unit, code === "NO_PLAN" ? "plan" : "text")), " ", code === "NO_PLAN" ? "no plan" : make("span", { class: "mono" }, code), words ? ` ${words}` : ""));
+  if (count > lines.length) lines.push(line(`${counted(count - lines.length, "fault")} more`));
+  return lines;
 }
 
 // What is shown of a unit: its place is in the address, so that the browser's own keys go back and forth
@@ -302,14 +351,14 @@ function follow() {
 
 function showHead() {
   const row = board.units.get(shown.unit);
-  $("unit").textContent = shown.unit || "No unit is chosen";
+  $("unit").textContent = shown.unit || "The plant";
   $("facts").textContent = row ? [KINDS[row.kind], row.revision ? `revision ${row.revision}` : "", row.file].filter(Boolean).join(" · ") : "";
   $("unit-state").hidden = !row;
   if (row) {
     $("unit-state").className = `state ${row.state}`;
     $("unit-state").textContent = row.state === "faulty" ? counted(row.faults, "fault") : STATES[row.state];
   }
-  const may = { text: true, network: !row?.kind || row.kind in { SUBAPPLICATION: 1, SYSTEM: 1 }, plan: !row?.kind || row.kind === "SYSTEM" };
+  const may = { text: true, network: !row?.kind || HAS.network.includes(row.kind), plan: !row?.kind || HAS.plan.includes(row.kind) };
   $("tabs").hidden = !row || !may.network;
   for (const tab of $("tabs").children) {
     tab.hidden = !may[tab.dataset.tab];
@@ -321,7 +370,8 @@ function showHead() {
 async function refresh() {
   showHead();
   const row = board.units.get(shown.unit);
-  if (!row) return say(shown.unit ? `The board has no unit ${shown.unit}.` : "Choose a unit on the left.");
+  if (!shown.unit) return showPlant();
+  if (!row) return say(`The board has no unit ${shown.unit}.`);
   const asked = ++shown.asked;
   const still = () => asked === shown.asked;
   try {
@@ -331,6 +381,35 @@ async function refresh() {
   } catch (error) {
     if (still() && board.connected) say(`It can't be shown: ${error.message}`);
   }
+}
+
+/** The systems with their plans, and the units with faults. */
+function showPlant() {
+  const units = board.names.map((name) => board.units.get(name)).filter((it) => it.revision);
+  const systems = units.filter((it) => it.kind === "SYSTEM"), faulty = units.filter((it) => it.state === "faulty");
+  const { scrollTop } = $("panel"), focused = [...$("panel").querySelectorAll("button")].indexOf(document.activeElement);
+  note("");
+  $("panel").className = "panel";
+  $("panel").replaceChildren(make("div", { class: "plant" },
+    make("h3", {}, "Systems"), systems.length ? systemTable(systems) : make("p", { class: "dim" }, units.length ? "No unit is a system." : "No units are known here yet."),
+    make("h3", {}, "Units with faults"), faulty.length ? faultyTable(faulty) : make("p", { class: "dim" }, "None.")));
+  $("panel").scrollTop = scrollTop;
+  if (focused >= 0) ($("panel").querySelectorAll("button")[focused] ?? $("panel")).focus({ preventScroll: true });
+}
+
+const table = (heads, rows) => make("table", {}, make("thead", {}, make("tr", {}, ...heads.map((it) => make("th", { scope: "col" }, it)))),
+  make("tbody", {}, ...rows.map((cells) => make("tr", {}, ...cells.map((it) => make("td", {}, it))))));
+
+function systemTable(systems) {
+  const plan = (it) => it.plan ? link(it.plan, () => go(it.unit, "plan")) : "pending";
+  const faults = (it) => it.state === "pending" ? "pending" : it.faults ? link(counted(it.faults, "fault"), () => go(it.unit, "text")) : "none";
+  const rows = systems.slice(0, PLANT_ROWS).map((it) => [link(it.unit, () => go(it.unit, "network")), faults(it), plan(it)]);
+  return table([`System (${systems.length.toLocaleString("en")})`, "Faults of its text", "Plan"], rows);
+}
+
+function faultyTable(faulty) {
+  const rows = faulty.slice(0, PLANT_ROWS).map((it) => [link(it.unit, () => go(it.unit, "text")), KINDS[it.kind] ?? "", counted(it.faults, "fault")]);
+  return table([`Unit (${faulty.length.toLocaleString("en")})`, "Kind", "Faults"], rows);
 }
 
 /** Whether there is a newer answer than the one that is shown. */
@@ -415,7 +494,8 @@ function whyNot(view) {
   const names = (units) => units.flatMap((it, at) => [at ? ", " : "", link(it, () => go(it, "text"))]);
   switch (view.state) {
     case "pending": return ["It is being computed…"];
-    case "none": return [`${shown.unit} is no unit that has one, or its text has a SYNTAX fault.`];
+    case "none": return [whyNone()];
+    case "refused": return [`The workbench does not answer: ${view.why}.`];
     case "too_large": return [`No ${shown.tab}: it would have more than 4,096 instances.`];
     case "recursive": return [`No ${shown.tab}: these units contain themselves:`, make("p", {}, ...names(view.units))];
     case "blocked": return [
@@ -425,6 +505,15 @@ function whyNot(view) {
     ];
   }
   return ["It is not known."];
+}
+
+/** Why a unit is none that has a network or a plan. */
+function whyNone() {
+  const row = board.units.get(shown.unit), what = shown.tab === "plan" ? "plan" : "network";
+  if (!row?.revision) return `There is no unit ${shown.unit}.`;
+  if (!Object.hasOwn(KINDS, row.kind)) return `The text of ${shown.unit} is not known, or declares nothing that has a ${what}.`;
+  if (!HAS[what].includes(row.kind)) return `${/^[aeiou]/.test(KINDS[row.kind]) ? "An" : "A"} ${KINDS[row.kind]} has no ${what}.`;
+  return `The text of ${shown.unit} has a SYNTAX fault, so it has no ${what}.`;
 }
 
 const misplacedWords = ([reason, path]) => reason === "UNMAPPED" ? `no mapping gives ${path} a resource` : `a mapping is of ${path}, which is not there`;
@@ -458,6 +547,21 @@ function fillBlock(row, block) {
   const cut = block.path.lastIndexOf(".") + 1;
   row.title = `${block.path} : ${block.type}`;
   row.append(make("span", { class: "before" }, make("bdi", {}, block.path.slice(0, cut))), make("span", { class: "name" }, block.path.slice(cut)));
+}
+
+/** Gives each block the last part of its path as its short name, with as many owners before it as tell it from the others. */
+function nameShortly(blocks) {
+  const parts = new Map(blocks.map((it) => [it, it.path.split(".")]));
+  let unnamed = blocks;
+  for (let count = 1; unnamed.length; count++) {
+    const named = new Map();
+    for (const it of unnamed) {
+      it.short = parts.get(it).slice(-count).join(".");
+      if (!named.has(it.short)) named.set(it.short, []);
+      named.get(it.short).push(it);
+    }
+    unnamed = [...named.values()].filter((its) => its.length > 1).flat().filter((it) => parts.get(it).length > count);
+  }
 }
 
 /** The picture of a network: it can be moved, zoomed and searched, and a block of it chosen. */
@@ -495,6 +599,7 @@ class NetworkView {
     this.view = view;
     this.boxes = view.boxes.map(([path, type, home, tag, x, y, w, h, rows], at) => ({ at, path, type, home, tag, x, y, w, h, rows: view.rows[rows], ends: [] }));
     this.blocks = this.boxes.filter((it) => it.tag === null);
+    nameShortly(this.blocks);
     this.wires = view.wires.map(([sort, a, aLeft, aRow, b, bLeft, bRow, label, cut, way]) => {
       const from = this.end(this.boxes[a], aLeft, aRow), to = this.end(this.boxes[b], bLeft, bRow);
       const reach = Math.max(40, Math.min(CURVE, Math.abs(to.x - from.x) / 2));
@@ -655,10 +760,10 @@ class NetworkView {
   choose(block, reveal) {
     this.chosen = block;
     if (block && reveal && (!this.isSeen(block) || this.scale < 0.4)) this.reveal(block);
+    this.tell();  // It takes room of the list.
     this.list.show(this.list.items, block);
     if (this.list.at >= 0) this.list.reveal();
     this.list.draw();
-    this.tell();
     this.draw();
     if (block) speaker.say(`${block.path}, ${block.type}${block.home ? `, on ${block.home}` : ""}, ${counted(block.ends.length, "link")}`);
   }
@@ -848,14 +953,14 @@ class NetworkView {
     context.globalAlpha = 1;
   }
 
-  /** The last part of a block's path over its whole box, as large as it can be read and squeezed as far as it has to be. */
+  /** The short name of a block over its whole box, as large as it can be read and squeezed as far as it has to be. */
   paintShortName(box) {
     const { context } = this, size = Math.min(11 / this.scale, box.h * 0.6);
     context.textAlign = "center";
     context.textBaseline = "middle";
     context.fillStyle = this.colour("ink");
     context.font = `600 ${size}px ${this.colour("sans")}`;
-    context.fillText(box.path.slice(box.path.lastIndexOf(".") + 1), box.x + box.w / 2, box.y + box.h / 2, box.w - 4);
+    context.fillText(box.short, box.x + box.w / 2, box.y + box.h / 2, box.w - 4);
   }
 
   paintBlock(box) {
@@ -1004,6 +1109,7 @@ const KEYS = {
   t: ["the text of the unit", () => go(shown.unit, "text")],
   n: ["the network of the unit", () => showTab("network")],
   p: ["the plan of the unit", () => showTab("plan")],
+  o: ["the plant: its systems, and the units with faults", () => { location.hash = ""; }],
   v: ["to what is shown of the unit", () => (network?.canvas.isConnected ? network.canvas : $("panel")).focus()],
   b: ["search blocks of the network", () => $("block-search")?.focus()],
   f: ["the next unit with faults", () => nextFaulty()],
@@ -1011,7 +1117,7 @@ const KEYS = {
   c: ["to the changes", () => $("changes").focus()],
   "?": ["these keys", () => $("help").showModal()],
 };
-const LIST_KEYS = [["↑ ↓ Page Home End", "move in a list"], ["arrows", "in the picture: the next block that way; with Shift, move the picture"], ["+ − 0", "in the picture: larger, smaller, the whole"],
+const LIST_KEYS = [["Enter", "in the search of units: the first match"], ["↑ ↓ Page Home End", "move in a list"], ["arrows", "in the picture: the next block that way; with Shift, move the picture"], ["+ − 0", "in the picture: larger, smaller, the whole"],
   ["Enter", "in the picture: the text of the chosen block's type; in its search: the next match"], ["i", "in the picture: where the chosen block is declared"], ["Esc", "in the picture: choose none; in a search: empty it"]];
 
 function showTab(tab) {
@@ -1038,6 +1144,7 @@ function onKey(event) {
   const inField = event.target.matches("input:not([type=checkbox])") || $("help").open;
   if (inField) {
     if (event.key === "ArrowDown" && event.target === $("search")) { event.preventDefault(); $("units").focus(); unitList.move(Math.max(0, unitList.at)); }
+    if (event.key === "Enter" && event.target === $("search")) unitList.move(0);
     return;
   }
   if (!$("single").checked || event.ctrlKey || event.altKey || event.metaKey || !Object.hasOwn(KEYS, event.key)) return;
@@ -1057,7 +1164,7 @@ function tabKey(event) {
 async function look(event) {
   event.preventDefault();
   const name = $("look-name").value.trim();
-  const reply = await fetch("/look", { method: "POST", headers: { "X-Board-Token": board.token }, body: JSON.stringify({ unit: name }) });
+  const reply = await fetch("/look", { method: "POST", body: JSON.stringify({ unit: name }) });
   if (!reply.ok) return note((await reply.text()).trim());
   $("look-name").value = "";
   go((await reply.json()).unit, "text");
@@ -1080,6 +1187,7 @@ function begin() {
   addEventListener("hashchange", follow);
   addEventListener("pagehide", leavePlan);
   document.addEventListener("visibilitychange", () => document.hidden ? board.leave() : board.connect());
+  if (location.search) history.replaceState(null, "", location.pathname + location.hash);  // The token is in a cookie now.
   follow();
   board.connect();
 }

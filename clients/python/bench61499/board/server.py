@@ -1,7 +1,8 @@
 """The board over HTTP, for browsers on this machine: one page, what it shows as JSON, and events as things change.
 
-It answers requests that name this machine as their host and come from the page itself, or from nobody's page, and refuses all others: a page
-of another site can't read the board, not even where a name of that site leads to this machine. What changes something needs the page's token.
+Who opens the page shows the token that stands in the board's address, and gets it as a cookie, which every other request needs: other users of this
+machine can't read the board. It answers requests that name this machine as their host and come from the page itself, or from nobody's page, and
+refuses all others: a page of another site can't read the board, not even where a name of that site leads to this machine.
 """
 from __future__ import annotations
 
@@ -9,7 +10,9 @@ import hmac
 import json
 import re
 import secrets
-from dataclasses import asdict
+import socket
+import threading
+import time
 from http import HTTPStatus
 from http.server import BaseHTTPRequestHandler, ThreadingHTTPServer
 from math import inf, nan
@@ -19,7 +22,7 @@ from urllib.parse import parse_qsl, urlsplit
 
 from bench61499 import NAME_LIMIT
 from bench61499.board.state import Board, News
-from bench61499.board.views import instance_view, net_view, plan_view, row_view, unit_view
+from bench61499.board.views import instance_view, net_view, plan_view, unit_view
 
 HERE = Path(__file__).parent
 BODY_LIMIT = 1_024
@@ -29,6 +32,13 @@ GATHER = 0.03
 """Seconds in which news are gathered into one event."""
 SIGN_OF_LIFE = 5.0
 """Seconds without news after which a browser is told that there are none."""
+CHANGES_TOLD = 300
+"""Changes that are told at once, at most: the last ones."""
+CONNECTIONS = 64
+"""Connections at once."""
+ACCEPT_PAUSE = 0.1
+"""Seconds before the next try where the system gives no connection."""
+NO_TOKEN = "open the board by the address that it has printed: its token lets you in"
 
 
 class BadRequest(Exception):
@@ -43,16 +53,95 @@ class BoardServer(ThreadingHTTPServer):
     def __init__(self, board: Board, port: int):
         super().__init__(("127.0.0.1", port), _Handler)
         self.board = board
-        self.token = secrets.token_hex(16)
+        self.run = secrets.token_hex(16)
+        self._token = secrets.token_hex(16)
+        self._cookie = f"bench61499_{self.server_port}"
         self.hosts = frozenset(f"{name}:{self.server_port}".removesuffix(":80") for name in ("127.0.0.1", "localhost"))
         self.page = read_page()
+        self.connections = Connections(CONNECTIONS)
 
     @property
     def address(self) -> str:
-        return f"http://127.0.0.1:{self.server_port}/"
+        return f"http://127.0.0.1:{self.server_port}/?token={self._token}"
+
+    @property
+    def cookie(self) -> str:
+        """What a browser that has shown the token is told to keep. Its name has the port, as browsers send cookies to all ports of a host."""
+        return f"{self._cookie}={self._token}; HttpOnly; SameSite=Strict; Path=/"
+
+    def is_token(self, words: str) -> bool:
+        return hmac.compare_digest(words.encode(errors="replace"), self._token.encode())
+
+    def has_cookie(self, headers: list[str]) -> bool:
+        """Whether headers `Cookie` have the token. Other servers of this machine may have set cookies of any form."""
+        pairs = (pair.strip().partition("=") for header in headers for pair in header.split(";"))
+        return any(name == self._cookie and self.is_token(value) for name, _, value in pairs)
+
+    # Connections
+
+    def get_request(self) -> tuple[socket.socket, Any]:
+        try:
+            return super().get_request()
+        except OSError:
+            time.sleep(ACCEPT_PAUSE)  # No descriptor is free: the server asks again and again.
+            raise
+
+    def process_request(self, request: Any, client_address: Any) -> None:
+        if self.connections.enter(request):
+            super().process_request(request, client_address)
+        else:
+            request.sendall(b"HTTP/1.1 503 Service Unavailable\r\nContent-Length: 0\r\nConnection: close\r\n\r\n")
+            self.shutdown_request(request)
+
+    def shutdown_request(self, request: Any) -> None:
+        self.connections.leave(request)
+        super().shutdown_request(request)
 
     def handle_error(self, request: Any, client_address: Any) -> None:
         """A browser that goes away is no error."""
+
+
+class Connections:
+    """The connections that are open, at most so many. Where there is no room, the oldest one that has not shown the token is closed for a new one."""
+
+    def __init__(self, most: int):
+        self._most = most
+        self._lock = threading.Lock()
+        self._waiting: dict[socket.socket, None] = {}
+        self._let_in: set[socket.socket] = set()
+
+    def enter(self, connection: socket.socket) -> bool:
+        """Tells whether there is room for a connection."""
+        with self._lock:
+            is_full = len(self._waiting) + len(self._let_in) >= self._most
+            if is_full and not self._waiting:
+                return False
+            if is_full:
+                oldest = next(iter(self._waiting))
+                del self._waiting[oldest]
+                hang_up(oldest)
+            self._waiting[connection] = None
+            return True
+
+    def let_in(self, connection: socket.socket) -> None:
+        """Keeps a connection that has shown the token for as long as it stays."""
+        with self._lock:
+            if connection in self._waiting:
+                del self._waiting[connection]
+                self._let_in.add(connection)
+
+    def leave(self, connection: socket.socket) -> None:
+        with self._lock:
+            self._waiting.pop(connection, None)
+            self._let_in.discard(connection)
+
+
+def hang_up(connection: socket.socket) -> None:
+    """Ends a connection, and wakes the thread that reads from it."""
+    try:
+        connection.shutdown(socket.SHUT_RDWR)
+    except OSError:
+        pass  # The other side has hung up.
 
 
 def read_page() -> str:
@@ -78,7 +167,7 @@ class _Handler(BaseHTTPRequestHandler):
     def _answer(self, paths: dict[str, Any]) -> None:
         """Answers by the path, after the request is found to be of the page or of nobody's page."""
         parts = urlsplit(self.path)
-        if refusal := self._refusal(parts.path):
+        if refusal := self._refusal(parts.path) or self._stranger(parts.path, parts.query):
             self.send_error(HTTPStatus.FORBIDDEN, refusal)
         elif len(self.path) > PATH_LIMIT:
             self.send_error(HTTPStatus.REQUEST_URI_TOO_LONG)
@@ -103,6 +192,14 @@ class _Handler(BaseHTTPRequestHandler):
             return "this board answers its own page alone"
         return ""
 
+    def _stranger(self, path: str, query: str) -> str:
+        """Why this is nobody who was let in: the page needs the token or the cookie, all else the cookie."""
+        shown = path == "/" and query.startswith("token=") and self.server.is_token(query.removeprefix("token="))
+        if not shown and not self.server.has_cookie(self.headers.get_all("Cookie", [])):
+            return NO_TOKEN
+        self.server.connections.let_in(self.connection)
+        return ""
+
     @staticmethod
     def _query(query: str) -> dict[str, str]:
         try:
@@ -116,19 +213,19 @@ class _Handler(BaseHTTPRequestHandler):
     # What is asked for
 
     def _page(self, query: dict[str, str]) -> None:
-        """The page with its token, allowed to run its own script and to speak with this server, and nothing else."""
-        words(query)
+        """The page, allowed to run its own script and to speak with this server, and nothing else."""
+        words({name: value for name, value in query.items() if name != "token"})
         nonce = secrets.token_hex(16)
-        page = self.server.page.replace("{{nonce}}", nonce).replace("{{token}}", self.server.token)
+        page = self.server.page.replace("{{nonce}}", nonce)
         policy = (
             f"default-src 'none'; script-src 'nonce-{nonce}'; style-src 'nonce-{nonce}'; connect-src 'self'; img-src data:; "
             "base-uri 'none'; form-action 'none'; frame-ancestors 'none'; require-trusted-types-for 'script'; trusted-types 'none'"
         )
-        self._send(page.encode(), "text/html; charset=utf-8", {"Content-Security-Policy": policy})
+        self._send(page.encode(), "text/html; charset=utf-8", {"Content-Security-Policy": policy, "Set-Cookie": self.server.cookie})
 
     def _unit(self, query: dict[str, str]) -> None:
         (name,) = words(query, "name")
-        row = self.server.board.row(name.upper())
+        row = self.server.board.row(unit_named(name))
         if not row:
             self.send_error(HTTPStatus.NOT_FOUND, "the board has no such unit")
         else:
@@ -136,28 +233,25 @@ class _Handler(BaseHTTPRequestHandler):
 
     def _net(self, query: dict[str, str]) -> None:
         (name, aspect), board = words(query, "name", "aspect"), self.server.board
-        unit, wanted = name.upper(), aspect_in(aspect)
+        unit, wanted = unit_named(name), aspect_in(aspect)
         self._send_json(net_view(board, unit, board.wish(("net", unit)), board.wish(("deploy", unit)), wanted))
 
     def _plan(self, query: dict[str, str]) -> None:
-        unit, board = words(query, "name")[0].upper(), self.server.board
+        unit, board = unit_named(words(query, "name")[0]), self.server.board
         self._send_json(plan_view(board, unit, board.wish(("deploy", unit))))
 
     def _instance(self, query: dict[str, str]) -> None:
         name, path = words(query, "name", "path")
-        self._send_json(instance_view(self.server.board.texts(), name.upper(), path.upper()))
+        self._send_json(instance_view(self.server.board.texts(), unit_named(name), path.upper()))
 
     def _look(self, query: dict[str, str]) -> None:
         """Adds a unit that is to be looked at, in a workbench whose units nobody can list."""
         words(query)
         body = self._body()
-        if not hmac.compare_digest(self.headers.get("X-Board-Token", "").encode(), self.server.token.encode()):
-            self.send_error(HTTPStatus.FORBIDDEN, "the token of the page is missing")
-        elif not self.server.board.shared:
+        if not self.server.board.shared:
             raise BadRequest("this board has the units of its folder, and no others")
-        else:
-            unit = name_in(body)
-            self._send_json({"unit": unit, "new": self.server.board.look_at(unit)})
+        unit = name_in(body)
+        self._send_json({"unit": unit, "new": self.server.board.look_at(unit)})
 
     def _body(self) -> bytes:
         length = self.headers.get("Content-Length", "")
@@ -168,34 +262,35 @@ class _Handler(BaseHTTPRequestHandler):
 
     def _events(self, query: dict[str, str]) -> None:
         """All that is known, and then what is new, as it comes, for as long as the browser stays."""
-        change = number_in(query.get("change", "-1"), -1)
+        change = number_in(query.get("change", "0"))
         words({name: value for name, value in query.items() if name != "change"})
         self.close_connection = True
         self._send_head("text/event-stream", {})
         board = self.server.board
-        version, last = -1, board.last_change() if change < 0 else change
+        version, last = -1, change
         try:
             with board.viewer():
                 while True:
                     news = board.news(version, last)
-                    self._send_event(self._told(news, version < 0, last))
-                    version, last = news.version, news.changes[-1].number if news.changes else last
+                    self._send_event(self._told(news, version < 0))
+                    version, last = news.version, news.last
                     if board.wait_for_news(version, SIGN_OF_LIFE):
                         board.gather(GATHER)
         except OSError:
             return  # The browser went away.
 
-    def _told(self, news: News, first: bool, last: int) -> dict[str, Any]:
+    def _told(self, news: News, first: bool) -> dict[str, Any]:
         board = self.server.board
         told = {
-            "units": [row_view(row) for row in news.rows],
-            "changes": [asdict(it) for it in news.changes],
+            "units": [row.told for row in news.rows],
+            "changes": [it.told() for it in news.changes[-CHANGES_TOLD:]],
+            "last": news.last,
             "answers": [[*key, it.serial, it.current] for key, it in news.answers],
             "problems": news.problems,
             "calls": news.calls,
             "ended": news.ended,
         }
-        about = {"title": board.title, "shared": board.shared, "token": self.server.token, "last": last}
+        about = {"title": board.title, "shared": board.shared, "reads": board.reads, "run": self.server.run}
         return {**told, "about": about} if first else told
 
     # How it is sent
@@ -251,14 +346,10 @@ def words(query: dict[str, str], *names: str) -> list[str]:
     return [query[name] for name in names]
 
 
-def number_in(word: str, least: int) -> int:
-    try:
-        number = int(word)
-    except ValueError:
-        number = least - 1
-    if number < least or number >= 2**53:
+def number_in(word: str) -> int:
+    if not (word.isascii() and word.isdecimal()) or len(word) > 16 or int(word) >= 2**53:
         raise BadRequest(f"{word!r} is no number of a change")
-    return number
+    return int(word)
 
 
 def aspect_in(word: str) -> float:
@@ -278,7 +369,12 @@ def name_in(body: bytes) -> str:
         name = json.loads(body)["unit"]
     except (ValueError, KeyError, TypeError):
         raise BadRequest('the body has to be {"unit": NAME}') from None
-    if not isinstance(name, str) or not is_name(name):
+    return unit_named(name) if isinstance(name, str) else unit_named("")
+
+
+def unit_named(name: str) -> str:
+    """The name as the workbench spells it. Raises `BadRequest` where it can have no unit of this name."""
+    if not is_name(name):
         raise BadRequest(NO_NAME)
     return name.upper()
 

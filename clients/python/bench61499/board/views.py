@@ -3,15 +3,19 @@ from __future__ import annotations
 
 from collections.abc import Iterator, Mapping
 from dataclasses import dataclass
+from functools import cache
 from typing import Any
 
 from bench61499 import (
-    Blocked, Deploy, Fault, Faulty, Flat, Link, Misplaced, Net, Places, Plan, Recursive, Stopped, TooLarge,
+    Blocked, Fault, Faulty, Flat, Link, Misplaced, Places, Plan, Recursive, Stopped, TooLarge,
 )
-from bench61499.board.state import Answer, Board, NoEntry, Row
+from bench61499.board.state import Answer, Board, NoEntry, NotAnswered, Row, Value
+from bench61499.language.declarations import Unit
 from bench61499.language.explain import Explainer, Names
 from bench61499.language.fitting import fits as fits_in
 from bench61499.language.picture import Picture
+from bench61499.language.reader import read
+from bench61499.language.skipped import skipped
 from bench61499.language.texts import Texts
 from bench61499.language.tokens import RESERVED, Token, declared_kind, tokens
 
@@ -19,13 +23,6 @@ FAULTS_SHOWN = 500
 """Faults of one unit that are shown with their explanations."""
 
 View = dict[str, Any]
-
-
-def row_view(row: Row) -> list[Any]:
-    """A unit in the list: its name, kind, revision, state, number of faults and file."""
-    kind = declared_kind(row.source.text) if row.source else None
-    file = str(row.source.file) if row.source else ""
-    return [row.unit, kind or "", row.revision, row.state, len(row.faults or ()), file]
 
 
 # A unit
@@ -40,14 +37,34 @@ def unit_view(board: Board, row: Row) -> View:
     if text is None:
         return {**view, "lines": None, "faults": bare, "note": _note(board, row, False)}
     fits = not board.shared or fits_in(text, faults)
-    shown = _Shown(text, faults if fits else (), Names(it.unit for it in board.rows().values() if it.revision), Texts.of(board.texts()))
-    return {**view, "lines": shown.lines(), "faults": shown.faults() if fits else bare, "note": _note(board, row, fits)}
+    rows = board.rows()
+    shown = _Shown(text, faults if fits else (), Names(it.unit for it in rows.values() if it.revision), _texts(rows))
+    return {**view, "lines": shown.lines(), "faults": shown.faults() if fits else bare, "note": " ".join(filter(None, [_note(board, row, fits), _unread(text)]))}
+
+
+def _unread(text: str) -> str:
+    """Which algorithms of a text are not checked."""
+    its = [it.name for it in skipped(text)]
+    return f"Not checked, as the workbench does not read their language: {', '.join(its)}." if its else ""
+
+
+def _texts(rows: Mapping[str, Row]) -> Texts:
+    """The units of the board with texts, read as far as they are needed; their kinds are known."""
+
+    @cache
+    def unit(name: str) -> Unit | None:
+        row = rows.get(name)
+        return read(row.source.text) if row and row.source else None
+
+    return Texts(unit, lambda kind: (it.unit for it in rows.values() if it.source and it.source.kind == kind))
 
 
 def _note(board: Board, row: Row, fits: bool) -> str:
     """What is to be known of the text that is shown, in one sentence."""
     if not board.shared:
         return ""
+    if board.reads:
+        return "" if row.source or not row.revision else "Its text is being read."
     if not row.source:
         return "The workbench gives no texts back, and no file of this unit was named with --files, so its text can't be shown."
     if not fits:
@@ -163,7 +180,7 @@ def net_view(board: Board, unit: str, net: Answer, deploy: Answer, aspect: float
     return {"unit": unit, "current": net.current, "serial": max(net.serial, deploy.serial), **_no_net(board, net.value)}
 
 
-def _no_net(board: Board, net: Net | Deploy | NoEntry | None) -> View:
+def _no_net(board: Board, net: Value | None) -> View:
     match net:
         case Blocked(units):
             rows = board.rows()
@@ -175,6 +192,8 @@ def _no_net(board: Board, net: Net | Deploy | NoEntry | None) -> View:
             return {"state": "too_large"}
         case NoEntry():
             return {"state": "none"}
+        case NotAnswered(why):
+            return {"state": "refused", "why": why}
     return {"state": "pending"}
 
 

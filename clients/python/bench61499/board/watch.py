@@ -3,13 +3,14 @@ from __future__ import annotations
 
 import time
 from collections.abc import Callable, Iterable, Mapping
+from dataclasses import replace
 from typing import Protocol
 
 from bench61499 import (
     CHANGES_LIMIT, Blocked, Change, Fault, Flat, HistoryFull, NoSuchKey, Put, Recursive, Refused, Remove, Session, Stopped, WorkbenchError, batches,
     pauses,
 )
-from bench61499.board.state import Board, Key, NoEntry, Row, Source, Value
+from bench61499.board.state import Board, Key, NoEntry, NotAnswered, Revised, Row, Source, Value
 from bench61499.language.folder import Folder
 from bench61499.language.mentions import Mentions
 from bench61499.language.units import Misuse, Unit
@@ -111,13 +112,19 @@ class Asking:
         except Refused:
             return
 
-    def ask_wishes(self, again: bool = False) -> bool:
-        """Asks for the nets and plans that browsers look at, where they are not known or `again`, and tells whether all are there."""
-        wishes = self.board.wishes() if again else self.board.open_wishes()
-        values = {key: self._value(key) for key in wishes}
-        for key, value in values.items():
-            self._answered(key, value)
-        return None not in values.values()
+    def ask_wishes(self) -> bool:
+        """Asks for the nets and plans that browsers look at, where they are not known, and tells whether all are there."""
+        values = [self._ask_wish(key) if self._may_ask() else None for key in self.board.open_wishes()]
+        return None not in values
+
+    def _ask_wish(self, key: Key) -> Value | None:
+        value = self._value(key)
+        self._answered(key, value)
+        return value
+
+    def _may_ask(self) -> bool:
+        """Whether a net or a plan may be asked for now."""
+        return True
 
     def reach_plans(self, changed: Iterable[str], rows: Mapping[str, Row]) -> None:
         """Has the plans asked for that a change can have changed."""
@@ -145,6 +152,10 @@ class Asking:
             return self.session.ask(*key)
         except NoSuchKey:
             return NoEntry()
+        except HistoryFull:
+            raise
+        except Refused as refusal:
+            return NotAnswered(str(refusal))
 
     def _count(self, calls: int) -> None:
         self.board.count_calls(calls)
@@ -198,8 +209,8 @@ class FolderWatch(Asking):
         for batch in batches(changes):
             number = self.session.commit(batch)
             self._count(1)
-            sources = {it.unit: source_of(changed[it.unit]) if isinstance(it, Put) else None for it in batch}
-            self.board.committed(sources, number, told)
+            self.board.changed({it.unit: self._revised(it, number) for it in batch}, self._author(batch), number, told)
+        self.board.forget_answers()
         self._held = dict(units)
         rows = self.board.rows()
         reached = self.mentions.reached([*changed, *gone], texts_of(rows)) & rows.keys()
@@ -207,6 +218,16 @@ class FolderWatch(Asking):
         self.reach_plans([*changed, *gone], rows)
         self._waiting = sorted({*self._waiting, *reached} & set(units))
         self._jobs_left = True
+
+    def _revised(self, change: Change, number: int) -> Revised:
+        if isinstance(change, Remove):
+            return Revised(0)
+        return Revised(number, replace(source_of(self._folder.units[change.unit]), revision=number))
+
+    def _author(self, batch: list[Change]) -> str:
+        """The files that a commit is of."""
+        units = {**self._held, **self._folder.units}
+        return str(units[batch[0].unit].file) if len(batch) == 1 else f"{len(batch)} files"
 
     def _ask_faults(self) -> None:
         """Asks for the faults that are found by now. The workbench finds them in the order of the names, and this session alone has it work."""
@@ -255,11 +276,12 @@ class SharedWatch(Asking):
         self._found: dict[str, tuple[Fault, ...] | None] = {}
         self._ring: list[str] = []
         self._round: list[str] = []
+        self._wishes_again: list[Key] = []
         self._pause, self._next_question = SHORT_PAUSE, 0.0
         self._turn = 0
         self._all_there = True
         self._last_change = time.monotonic()
-        self._rate, self._allowance = rate, Allowance(rate)
+        self._rate, self._allowance, self._wish_allowance = rate, Allowance(rate), Allowance(rate)
         self._error: WorkbenchError | None = None
 
     def start(self) -> None:
@@ -312,6 +334,13 @@ class SharedWatch(Asking):
         super()._count(calls)
         self._allowance.spend(calls)
 
+    def _may_ask(self) -> bool:
+        """Nets and plans have an allowance of their own, so that who opens one needs not wait for the looks at all units."""
+        is_there = self._wish_allowance.is_there()
+        if is_there:
+            self._wish_allowance.spend(1)
+        return is_there
+
     def _answered(self, key: Key, value: Value | None) -> None:
         """Takes a net or a plan, and looks at the units that it names from now on."""
         super()._answered(key, value)
@@ -361,6 +390,7 @@ class SharedWatch(Asking):
         self._pause, self._next_question = SHORT_PAUSE, time.monotonic() + (SHORT_PAUSE if changed else 0)
         self._last_change, self._all_there = time.monotonic(), False
         self.board.seen(changed)
+        self.board.forget_answers()
         rows = self.board.rows()
         present = {unit for unit, revision in self._known.items() if revision}
         self._waiting = (self._waiting | self.mentions.reached(roots, texts_of(rows))) & present
@@ -401,11 +431,14 @@ class SharedWatch(Asking):
 
     def _ask_again(self) -> None:
         """Asks for the faults of a unit in turn, and after all of them for what browsers look at."""
-        if not self._round:
+        if not self._round and not self._wishes_again:
             self._round = sorted(unit for unit, revision in self._known.items() if revision)
+            self._wishes_again = self.board.wishes()
             self._plans |= {unit for unit, row in self.board.rows().items() if row.is_system and row.revision}
-            self._all_there = self.ask_wishes(again=True) and not self._plans
-        if self._round:
+            self._all_there = not self._plans
+        if self._wishes_again:
+            self._all_there = self._ask_wish(self._wishes_again.pop()) is not None and self._all_there
+        elif self._round:
             self._ask(self._round.pop(0))
             self._tell_found()
 

@@ -2,11 +2,13 @@
 from __future__ import annotations
 
 import argparse
+import gc
 import sys
 import threading
 from pathlib import Path
 
 from bench61499 import WorkbenchError
+from bench61499.board.mirrored import MirroredWatch
 from bench61499.board.server import NO_NAME, BoardServer, is_name
 from bench61499.board.state import Board
 from bench61499.board.watch import CALLS_A_SECOND, FolderWatch, SharedWatch, keep, keep_connected
@@ -15,19 +17,34 @@ from bench61499.cli.version import add_version
 from bench61499.language.folder import Folder
 from bench61499.language.units import Misuse
 
-UNITS = "with --connect: show these units too; the page can name more, and adds the block types of a network that it shows"
+NO_READS = "this server gives neither units nor texts, as a host does: the board shows those of --files and --unit, and asks for changes by recorded calls"
+NOT_NEEDED = "this host gives all its units and texts, without recorded calls: --files, --unit and --calls have no effect"
+FILES = "with --connect to a `serve`: show the units of these files, with their texts"
+UNITS = "with --connect to a `serve`: show these units too; the page can name more, and adds the block types of a network that it shows"
+CALLS = f"with --connect to a `serve`: recorded calls in a second, at most, on average (default {CALLS_A_SECOND:g}); more show changes in large plants sooner"
 PORT = "the port of the page (default: any free one). A browser remembers the plans that you saw by this address, and a tunnel needs the same port at both ends"
+
+GARBAGE = 50_000
+"""Objects between two looks for garbage: those of a large plant stay, and looks at all of them take a fifth of the time in which it is read."""
 
 
 @program
 def main() -> int:
     options = read_options()
+    gc.set_threshold(GARBAGE)
     try:
         folder = open_folder(options.files if options.connect else options.path)
         with open_session(options) as session:
-            board = Board(title(options), bool(options.connect))
+            reads = bool(options.connect) and session.answers_reads()
+            board = Board(title(options), bool(options.connect), reads)
             serve(board, options.port)
-            if options.connect:
+            if reads:
+                if options.files or options.unit or options.calls:
+                    say(NOT_NEEDED)
+                opened = [session]
+                MirroredWatch(board, lambda: opened.pop() if opened else open_once(options), say).run()
+            elif options.connect:
+                say(NO_READS)
                 watch = SharedWatch(board, session, folder, options.unit, options.calls or CALLS_A_SECOND)
                 keep_connected(board, watch, lambda: open_once(options), say)
             elif folder:
@@ -51,10 +68,9 @@ def read_options() -> argparse.Namespace:
     )
     add_version(reader)
     reader.add_argument("path", nargs="*", type=read_path, metavar="FOLDER|FILE", help="*.fb files, or folders of them")
-    reader.add_argument("--files", nargs="+", type=read_path, metavar="FOLDER|FILE", help="with --connect: show the units of these files, with their texts")
+    reader.add_argument("--files", nargs="+", type=read_path, metavar="FOLDER|FILE", help=FILES)
     reader.add_argument("--unit", nargs="+", type=read_name, default=[], metavar="NAME", help=UNITS)
-    reader.add_argument("--calls", type=read_rate, metavar="N",
-                        help=f"with --connect: recorded calls in a second, at most, on average (default {CALLS_A_SECOND:g}); more show changes in large plants sooner")
+    reader.add_argument("--calls", type=read_rate, metavar="N", help=CALLS)
     reader.add_argument("--port", type=int, default=0, help=PORT)
     add_workbench(reader)
     options = reader.parse_args()

@@ -6,7 +6,8 @@ import codecs
 import os
 import sys
 import time
-from collections.abc import Callable
+from collections.abc import Callable, Iterator
+from contextlib import contextmanager
 from functools import wraps
 from io import TextIOWrapper
 from itertools import islice
@@ -14,6 +15,7 @@ from pathlib import Path
 from typing import TextIO, TypeVar
 
 from bench61499 import ConnectionEnded, NoAnswer, NoSeat, NotLetIn, NoWorkbench, Session, find_program, pauses
+from bench61499.language.units import Misuse
 
 SEAT_PATIENCE = 60.0
 """Seconds in which a program that runs once waits for a session that ends."""
@@ -29,14 +31,28 @@ def add_workbench(reader: argparse.ArgumentParser) -> None:
     which = reader.add_mutually_exclusive_group()
     program = "start this workbench (default: BENCH61499_PROGRAM, else the one built here or part of this release, else bench61499 on the path)"
     which.add_argument("--program", help=program)
-    which.add_argument("--connect", type=read_address, metavar="HOST:PORT", help="use this server; :PORT is one on this machine")
+    _add_connect(which)
+    _add_secret(reader)
+
+
+def add_server(reader: argparse.ArgumentParser) -> None:
+    """Adds the words that say which server is meant."""
+    _add_connect(reader, required=True)
+    _add_secret(reader)
+
+
+def _add_connect(reader: argparse._ActionsContainer, required: bool = False) -> None:
+    reader.add_argument("--connect", type=read_address, required=required, metavar="HOST:PORT", help="use this server; :PORT is one on this machine")
+
+
+def _add_secret(reader: argparse.ArgumentParser) -> None:
     secret = os.environ.get("BENCH61499_SECRET_FILE")
     reader.add_argument("--secret", default=secret, metavar="FILE", help="with --connect: the file whose first line a host requires (default: BENCH61499_SECRET_FILE)")
 
 
 def read_with_units(reader: argparse.ArgumentParser) -> argparse.Namespace:
     """Adds the words that say which units there are, and reads all words."""
-    reader.add_argument("--files", nargs="+", type=read_path, metavar="FOLDER|FILE", help="the units; without --connect a workbench of its own gets them")
+    reader.add_argument("--files", nargs="+", type=read_path, metavar="FOLDER|FILE", help="the units; without --connect a workbench of its own gets them, with it they are compared with the texts of the server")
     add_workbench(reader)
     reader.add_argument("--replace", action="store_true", help="with --connect and --files: put the files first; they replace the server's texts")
     options = reader.parse_args()
@@ -87,6 +103,15 @@ def open_session(options: argparse.Namespace) -> Session:
         refused += 1
         time.sleep(pause)
     raise AssertionError("the pauses ended")
+
+
+@contextmanager
+def open_reading(options: argparse.Namespace) -> Iterator[Session]:
+    """As `open_session`, of a server that answers reads. Raises `Misuse` if it does not."""
+    with open_session(options) as session:
+        if not session.answers_reads():
+            raise Misuse("the server gives no texts back: it is a `serve`, or an older host")
+        yield session
 
 
 def persistently(options: argparse.Namespace, act: Callable[[], Result]) -> Result:

@@ -9,19 +9,22 @@ from itertools import zip_longest
 from pathlib import Path
 
 from bench61499 import (
-    Blocked, Border, Deploy, Faulty, Flat, Net, NoSuchKey, Plan, Recursive, Session, TooLarge, WorkbenchError,
+    Blocked, Border, Deploy, Faulty, Flat, Key, Net, Plan, Recursive, TooLarge, WorkbenchError,
 )
-from bench61499.cli.asking import Texts, asking
+from bench61499.cli.asking import Asked, Texts, asking
 from bench61499.cli.command import fail, program, read_with_units
 from bench61499.cli.version import add_version
 from bench61499.language.explain import KIND_NAMES
 from bench61499.language.network import Box, End, Network, Port, Tag, Wire, homes
 from bench61499.language.plans import why_blocked
 from bench61499.language.tokens import declared_kind
-from bench61499.language.units import Misuse, is_broken
+from bench61499.language.units import Misuse
 
 RED, BLUE, GREY = "#c62828", "#1565c0", "#616161"
 COLOURS = {"event": RED, "data": BLUE, "adapter": GREY}
+LARGE = 200
+"""Blocks of a network that Graphviz lays out in limited time; else 512 blocks take it most of a minute."""
+LIMITS = ", nslimit=0.5, mclimit=0.3, splines=line"
 WITHOUT_NETWORK = ("FUNCTION_BLOCK", "ADAPTER", "TYPE")
 
 
@@ -52,7 +55,8 @@ def read_options() -> argparse.Namespace:
         prog="draw",
         description="Draws the flat network of a subapplication or a system: event links red, data links blue; the blocks of a system "
         "by their resources, and links from one resource to another dashed.",
-        epilog="The status is 0 if it has drawn, 1 if the unit has no network, 2 if it could not ask or draw.",
+        epilog="The status is 0 if it has drawn, 1 if the unit has no network, 2 if it could not ask or draw, or with --connect and --files the network rests on another text "
+        "than that of a file.",
     )
     add_version(reader)
     reader.add_argument("unit", type=str.upper, metavar="UNIT", help="a subapplication or a system")
@@ -62,36 +66,31 @@ def read_options() -> argparse.Namespace:
 
 def ask(options: argparse.Namespace) -> tuple[Texts, Flat, Deploy | None]:
     """The texts that are known, the network, and of a system the plan. Raises `NoPicture`."""
-    with asking(options, options.replace) as (session, texts, show):
-        try:
-            net = session.wait("net", options.unit, show)
-        except NoSuchKey:
-            raise NoPicture(why_no_key(session, options.unit, texts)) from None
+    net_key: Key = "net", options.unit
+    deploy_key: Key = "deploy", options.unit
+    with asking(options, options.replace) as asked:
+        values = asked.values([net_key, deploy_key])
+        net = values.get(net_key)
+        if not net:
+            raise NoPicture(why_no_key(asked, options.unit))
         if not isinstance(net, Flat):
-            raise NoPicture(why_no_net(session, options.unit, net))
-        return texts, net, ask_deploy(session, options.unit)
+            raise NoPicture(why_no_net(asked, options.unit, net))
+        return asked.texts, net, values.get(deploy_key)
 
 
-def ask_deploy(session: Session, unit: str) -> Deploy | None:
-    try:
-        return session.wait("deploy", unit)
-    except NoSuchKey:
-        return None
-
-
-def why_no_key(session: Session, unit: str, texts: Texts) -> str:
-    kind = declared_kind(texts[unit]) if unit in texts else None
+def why_no_key(asked: Asked, unit: str) -> str:
+    kind = declared_kind(asked.texts.get(unit, ""))
     if kind in WITHOUT_NETWORK:
         return f"{unit} is {KIND_NAMES[kind]}; only subapplications and systems have networks"
-    if is_broken(session, unit):
+    if asked.is_broken(unit):
         return f"{unit} has no network, as its text has a SYNTAX fault; check shows it"
     return f"the workbench has no subapplication or system {unit}"
 
 
-def why_no_net(session: Session, unit: str, net: Net) -> str:
+def why_no_net(asked: Asked, unit: str, net: Net) -> str:
     match net:
         case Blocked(units):
-            absent = [it for it in units if not session.revision(it)]
+            absent = [it for it in units if not asked.is_there(it)]
             return f"{unit} has no network: {why_blocked(absent, [it for it in units if it not in absent])}"
         case Recursive(units):
             return f"{unit} has no network: these types contain themselves: {', '.join(units)}"
@@ -121,7 +120,8 @@ class Picture:
 
     def lines(self) -> Iterator[str]:
         yield f'digraph "{self._unit}" {{'
-        yield f"  graph [rankdir=LR, nodesep=0.35, ranksep=1.1, fontname=Helvetica, fontsize=12, label={self._title()}, labelloc=t];"
+        limits = LIMITS if len(self._network.boxes) > LARGE else ""
+        yield f"  graph [rankdir=LR, nodesep=0.35, ranksep=1.1, fontname=Helvetica, fontsize=12, label={self._title()}, labelloc=t{limits}];"
         yield "  node [shape=plain, fontname=Helvetica, fontsize=11];"
         yield "  edge [fontname=Helvetica, fontsize=9, arrowsize=0.7];"
         yield from self._places()

@@ -6,11 +6,12 @@ import sys
 from collections.abc import Callable
 from functools import partial
 
-from bench61499 import Net, Session, WorkbenchError
+from bench61499 import Deploy, WorkbenchError
+from bench61499.cli.asking import asking
 from bench61499.cli.command import add_workbench, program, read_path
-from bench61499.cli.plan import NoPlan, ask, plan_in
+from bench61499.cli.plan import NoPlan, deploy_of, plan_in
 from bench61499.cli.version import add_version
-from bench61499.exchange.boot import KINDS_OF_START, Boot, Refused, Start, another_text, find_start
+from bench61499.exchange.boot import KINDS_OF_START, Boot, Refused, another_text, find_start
 from bench61499.exchange.exports import Export
 from bench61499.exchange.folders import Target, Unwritable
 from bench61499.exchange.from_text import read_or_none
@@ -69,11 +70,11 @@ def _add_boot(works: argparse._SubParsersAction[argparse.ArgumentParser]) -> Non
         "boot",
         help="make boot files of FORTE of a system",
         description="Makes a boot file of FORTE for each device of a system, from its plan.",
-        epilog="The status is 0 if no link is cut, 1 if links are left to be joined or the system has no plan, 2 if it could not ask or write, or two blocks would "
-        "have one name.",
+        epilog="The status is 0 if no link is cut, 1 if links are left to be joined or the system has no plan, 2 if it could not ask or write, the plan rests on another text "
+        "than that of a file, or two blocks would have one name.",
     )
     reader.add_argument("unit", type=str.upper, metavar="SYSTEM", help="a system")
-    reader.add_argument("--files", required=True, nargs="+", type=read_path, metavar="FOLDER|FILE", help="the units; without --connect a workbench of its own gets them, a server is only asked")
+    reader.add_argument("--files", required=True, nargs="+", type=read_path, metavar="FOLDER|FILE", help="the units; without --connect a workbench of its own gets them, with it they are compared with the texts of the server")
     _add_target(reader)
     for kind in KINDS_OF_START:
         words = f"connect START.{kind} of the resource with this event input, such as LINE.FIRST.START; may be repeated"
@@ -137,18 +138,21 @@ def boot_of(options: argparse.Namespace) -> Boot:
     types = {it.name.upper(): it for unit in read_units(options.files) if (it := read_or_none(unit.text))}
     system = types.get(options.unit)
     spellings = Spellings(system, types, options.plain_types) if system and system.kind == "SYSTEM" else None
-    starts, nets = list[Start](), dict[str, Net]()
-
-    def ask_nets(session: Session) -> None:
-        """Asks where the starts lead that are event inputs of subapplications."""
-        starts.extend(find_start(kind, end, spellings) for kind, end in dict.fromkeys(options.starts) if spellings)
-        for name in {it.type for it in starts if types[it.type].kind == "SUBAPPLICATION"}:
-            nets[name] = session.wait("net", name)
-
-    plan = plan_in(options.unit, ask(options, False, ask_nets))
-    if not spellings:  # The file's text has a SYNTAX fault.
+    with asking(options, False) as asked:
+        starts = [find_start(kind, end, spellings) for kind, end in dict.fromkeys(options.starts) if spellings]
+        subapplications = {it.type for it in starts if types[it.type].kind == "SUBAPPLICATION"}  # Where these starts lead, their networks tell.
+        nets = {unit: net for (_, unit), net in asked.values([("net", unit) for unit in subapplications]).items()}
+        deploy = deploy_of(asked, options.unit)
+        is_trusted = asked.is_trusted
+    if not spellings or not is_trusted and deploy != plan_of_files(options):  # The file's text has a SYNTAX fault, or is another one.
         raise another_text(options.unit)
-    return Boot(plan, spellings, starts, nets, options.applications)
+    return Boot(plan_in(options.unit, deploy), spellings, starts, nets, options.applications)
+
+
+def plan_of_files(options: argparse.Namespace) -> Deploy:
+    """What a workbench of its own knows of the plan."""
+    with asking(argparse.Namespace(unit=options.unit, files=options.files, connect=None, program=None), False) as asked:
+        return deploy_of(asked, options.unit)
 
 
 def complain(words: str) -> None:

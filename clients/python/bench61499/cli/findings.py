@@ -2,18 +2,25 @@
 from __future__ import annotations
 
 from collections.abc import Callable, Iterable, Iterator, Mapping, Sequence
-from dataclasses import dataclass, field
+from dataclasses import dataclass, field, replace
 from typing import Any, Literal
 
-from bench61499 import Deploy, Fault, Net, NoSuchKey, Places, Session
+from bench61499 import Deploy, Fault, Key, Kind, Net, NoSuchKey, Places, Session
+from bench61499.cli.comparing import Difference, Judged
+from bench61499.language.copies import Originals
 from bench61499.language.explain import Explainer, Names
+from bench61499.language.missing_types import CODE as NO_SUCH_TYPE
+from bench61499.language.missing_types import missing_types, near_type
 from bench61499.language.plans import Reason, Reasons
+from bench61499.language.skipped import CODE, Head, skipped
+from bench61499.language.spelling import CODE as SPELLING
+from bench61499.language.spelling import differing
 from bench61499.language.texts import Texts
 from bench61499.language.tokens import declared_kind
 from bench61499.language.unchecked import notes
 from bench61499.language.units import Unit
 
-Level = Literal["error", "note"]
+Level = Literal["error", "warning", "note"]
 KEYS: dict[str, Literal["net", "deploy"]] = {"SUBAPPLICATION": "net", "SYSTEM": "deploy"}
 """What is asked for of units by their first word."""
 
@@ -35,6 +42,11 @@ class Finding:
     def begin(self) -> tuple[int, int]:
         """The line and the column."""
         return self.places.line_column(self.shown[0])
+
+    @property
+    def words(self) -> str:
+        """What is underlined."""
+        return self.places.words(*self.shown)
 
     @property
     def behind(self) -> tuple[int, int]:
@@ -60,9 +72,18 @@ class Found:
     faults: list[Finding] = field(default_factory=list)
     notes: list[Finding] = field(default_factory=list)
     reasons: list[Finding] = field(default_factory=list)
+    warnings: list[Finding] = field(default_factory=list)
+    """Types of values that are nowhere, which are no faults by the language."""
+    skipped: list[Finding] = field(default_factory=list)
+    """The algorithms that the workbench does not read."""
     answers: Answers | None = None
-    unchecked: Sequence[str] = ()
-    """The units of which the workbench has no text, or another one."""
+    judged: Judged = Judged.FILES
+    differences: Sequence[Difference] = ()
+
+    @property
+    def unchecked(self) -> list[str]:
+        """The units of which the workbench has no text, or another one than the file."""
+        return sorted(it.unit for it in self.differences if it.file)
 
     @property
     def is_faulty(self) -> bool:
@@ -70,15 +91,23 @@ class Found:
         return bool(self.faults or self.reasons)
 
     def all(self) -> list[Finding]:
-        """By file: faults, then notes, then reasons."""
+        """By file: faults, then notes, warnings and reasons."""
+        return self._by_file([*self.faults, *self.notes, *self.warnings, *self.reasons])
+
+    def all_and_skipped(self) -> list[Finding]:
+        """The same, and then what the workbench does not read."""
+        return self._by_file([*self.faults, *self.notes, *self.warnings, *self.reasons, *self.skipped])
+
+    def _by_file(self, its: list[Finding]) -> list[Finding]:
         order = {unit.name: at for at, unit in enumerate(self.units)}
-        return sorted([*self.faults, *self.notes, *self.reasons], key=lambda it: order[it.unit.name])
+        return sorted(its, key=lambda it: order[it.unit.name])
 
 
-def find(units: Sequence[Unit], faults: Mapping[str, tuple[Fault, ...]], answers: Answers | None) -> Found:
-    """Puts faults, and reasons where plans were asked for, into words."""
-    texts = Texts.of({unit.name: unit.text for unit in units})
-    names, reasons = Names(unit.name for unit in units), Reasons(texts)
+def find(units: Sequence[Unit], faults: Mapping[str, tuple[Fault, ...]], answers: Answers | None, around: Mapping[str, str] | None = None) -> Found:
+    """Puts faults, and reasons where plans were asked for, into words. `around` are the texts of all units that were there, if there were others than these."""
+    of = {unit.name: unit.text for unit in units} if around is None else around
+    texts = Texts.of(of)
+    names, reasons = Names(of), Reasons(texts)
     found = Found(units, answers=answers)
     by_name = {unit.name: unit for unit in units}
     broken = {name for name, its in faults.items() if any(it.code == "SYNTAX" for it in its)}
@@ -89,8 +118,47 @@ def find(units: Sequence[Unit], faults: Mapping[str, tuple[Fault, ...]], answers
             if unit.name in broken:
                 found.notes += _explained(unit, notes(unit.text, texts, broken.__contains__), explainer, "note")
         if answers and (answer := answers.of(unit.name)):
-            found.reasons += (_reason(by_name[it.unit], it) for it in sorted(reasons.of(unit.name, unit.text, answer), key=lambda it: it.start))
+            told = sorted(reasons.of(unit.name, unit.text, answer), key=lambda it: it.start)
+            found.reasons += (_reason(by_name[it.unit], it) for it in told if it.unit in by_name)
+    found.warnings = list(_warnings(units, names, texts))
+    found.notes += _spellings(units, texts)
+    found.skipped = [_skipped(unit, it) for unit in units for it in skipped(unit.text)]
+    return _of_originals(found)
+
+
+def _warnings(units: Sequence[Unit], names: Names, texts: Texts) -> Iterator[Finding]:
+    near = near_type(texts.units("TYPE"))
+    for unit in units:
+        for it in missing_types(unit.text, names, near):
+            yield Finding(unit, NO_SUCH_TYPE, it.start, it.end, it.explanation, Places(unit.text), (it.start, it.end), "warning")
+
+
+def _spellings(units: Sequence[Unit], texts: Texts) -> Iterator[Finding]:
+    found = differing({unit.name: unit.text for unit in units}, texts)
+    for unit, it in ((unit, it) for unit in units for it in found.get(unit.name, ())):
+        yield Finding(unit, SPELLING, it.start, it.end, it.explanation, Places(unit.text), (it.start, it.end), "note")
+
+
+def _skipped(unit: Unit, it: Head) -> Finding:
+    span = it.words[0].start, it.words[-1].end
+    return Finding(unit, CODE, *span, it.explanation, Places(unit.text), span, "note")
+
+
+def _of_originals(found: Found) -> Found:
+    """Tells what was found in copies of types once, in the original, unless it is in the copy alone."""
+    originals = Originals({unit.name: unit.text for unit in found.units})
+    if not originals:
+        return found
+    kinds = (found.faults, found.notes, found.warnings, found.reasons)
+    told = {(it.unit.name, it.code, it.words) for its in kinds for it in its if not originals.of(it.unit.name)}
+    for its in kinds:
+        its[:] = (_renamed(it, originals) for it in its if (originals.of(it.unit.name), it.code, it.words) not in told)
     return found
+
+
+def _renamed(it: Finding, originals: Originals) -> Finding:
+    where = f" (in {originals.described(it.unit.name)})" if originals.of(it.unit.name) else ""
+    return replace(it, explanation=originals.words(it.explanation) + where)
 
 
 def _explained(unit: Unit, faults: Iterable[Fault], explainer: Explainer, level: Level = "error") -> Iterator[Finding]:
@@ -103,20 +171,33 @@ def _reason(unit: Unit, it: Reason) -> Finding:
     return Finding(unit, it.code, it.start, it.end, it.explanation, Places(unit.text), (it.start, it.end))
 
 
-def ask_plans(session: Session, units: Iterable[Unit], progress: Callable[[int], object]) -> Answers:
-    """The networks of all subapplications and the plans of all systems; None for a text that spells no unit."""
+def keys_of(units: Iterable[Unit]) -> list[Key]:
+    """The keys of the networks of subapplications and of the plans of systems."""
+    return [(kind, unit.name) for unit in units if (kind := KEYS.get(declared_kind(unit.text) or ""))]
+
+
+def answers_of(values: Mapping[Key, Any], keys: Iterable[Key]) -> Answers:
+    """Networks and plans by their keys; None for one that is not there, as the text spells no unit."""
     answers = Answers()
-    for unit in units:
-        progress(len(answers.nets) + len(answers.deploys))
-        match KEYS.get(declared_kind(unit.text) or ""):
-            case "net":
-                answers.nets[unit.name] = _answer(session, "net", unit.name)
-            case "deploy":
-                answers.deploys[unit.name] = _answer(session, "deploy", unit.name)
+    for kind, unit in keys:
+        if kind == "net":
+            answers.nets[unit] = values.get((kind, unit))
+        else:
+            answers.deploys[unit] = values.get((kind, unit))
     return answers
 
 
-def _answer(session: Session, kind: Literal["net", "deploy"], unit: str) -> Any:
+def ask_plans(session: Session, units: Iterable[Unit], progress: Callable[[int], object]) -> Answers:
+    """The networks of all subapplications and the plans of all systems; None for a text that spells no unit."""
+    values: dict[Key, Any] = {}
+    keys = keys_of(units)
+    for key in keys:
+        progress(len(values))
+        values[key] = _answer(session, *key)
+    return answers_of(values, keys)
+
+
+def _answer(session: Session, kind: Kind, unit: str) -> Any:
     try:
         return session.ask(kind, unit) or session.wait(kind, unit)
     except NoSuchKey:

@@ -11,23 +11,35 @@ from urllib.parse import quote
 from xml.etree import ElementTree
 
 from bench61499 import Flat, Plan
+from bench61499.cli.comparing import Difference, How, Judged
 from bench61499.cli.findings import Answers, Finding, Found
 from bench61499.cli.show import excerpt
 from bench61499.cli.version import VERSION
 from bench61499.language import codes, plans
+from bench61499.language.missing_types import CODE as NO_SUCH_TYPE
+from bench61499.language.missing_types import OF_CLIENT
+from bench61499.language.skipped import CODE
+from bench61499.language.spelling import CODE as SPELLING
 from bench61499.language.units import Unit
 from bench61499.language.wording import counted
 
 NOT_CHECKED = "(not checked by the workbench: correct the SYNTAX fault first)"
 _NOT_IN_XML = re.compile("[^\t\n\r\x20-\ud7ff\ue000-\ufffd\U00010000-\U0010ffff]")
 _SCHEMA = "https://docs.oasis-open.org/sarif/sarif/v2.1.0/errata01/os/schemas/sarif-schema-2.1.0.json"
-_GITHUB_LEVELS = {"error": "error", "note": "notice"}
+_GITHUB_LEVELS = {"error": "error", "warning": "warning", "note": "notice"}
+_THERE = {How.ONLY_HERE: "is only here", How.DIFFERS: "has another text in the workbench"}
 Json = dict[str, object]
 
 
 def told(it: Finding) -> str:
     """The words for a finding; a note says that it is one."""
-    return it.explanation if it.level == "error" else f"{it.explanation} {NOT_CHECKED}"
+    if it.level == "warning":
+        return f"{it.explanation} {OF_CLIENT}"
+    return it.explanation if it.level == "error" or it.code in (CODE, SPELLING) else f"{it.explanation} {NOT_CHECKED}"
+
+
+def _not_checked(it: Difference) -> str:
+    return f"not checked: {it.unit} {_THERE.get(it.how, it.how)}"
 
 
 # Lines
@@ -41,9 +53,9 @@ class Style:
         self.bold, self.red, self.green, self.end = ("\033[1m", "\033[1;31m", "\033[32m", "\033[0m") if coloured else ("",) * 4
 
 
-def lines(found: Found, quiet: bool) -> Iterator[str]:
+def lines(found: Found, quiet: bool, with_skipped: bool = False) -> Iterator[str]:
     style = Style()
-    for it in found.all():
+    for it in found.all_and_skipped() if with_skipped else found.all():
         line, column = it.begin
         yield f"{style.bold}{it.unit.file}:{line}:{column}:{style.end} {style.red}{it.code}{style.end}: {told(it)}"
         if not quiet:
@@ -56,11 +68,17 @@ def summary(found: Found) -> Iterator[str]:
     units = counted(len(found.units) - len(found.unchecked), "unit")
     faulty = len({it.unit.name for it in found.faults})
     missing = f"; {counted(len(found.reasons), 'reason')} why networks or plans are missing" if found.reasons else ""
-    yield (f"{counted(len(found.faults), 'fault')} in {faulty:,} of {units}" if found.faults else f"{units}, no faults") + missing
+    unread = f"; {counted(len(found.skipped), 'algorithm')} {'is' if len(found.skipped) == 1 else 'are'} not checked" if found.skipped else ""
+    yield (f"{counted(len(found.faults), 'fault')} in {faulty:,} of {units}" if found.faults else f"{units}, no faults") + unread + missing
     if found.unchecked:
         yield f"{counted(len(found.unchecked), 'unit')} not checked"
-    if found.notes:
-        yield f"{counted(len(found.notes), 'note')} on texts with a SYNTAX fault, not checked by the workbench"
+    spellings = sum(it.code == SPELLING for it in found.notes)
+    if found.notes[spellings:]:
+        yield f"{counted(len(found.notes) - spellings, 'note')} on texts with a SYNTAX fault, not checked by the workbench"
+    if spellings:
+        yield f"{counted(spellings, 'name')} spelled in other capitals than declared"
+    if found.warnings:
+        yield f"{counted(len(found.warnings), 'warning')} of this client"
     if found.answers:
         yield f"networks of subapplications: {_there(found.answers, 'networks')}, plans of systems: {_there(found.answers, 'plans')}"
 
@@ -84,11 +102,17 @@ def _counts(answers: Answers) -> dict[str, dict[str, int]]:
 def as_json(found: Found) -> str:
     """In ASCII: a name of a file that is no UTF-8 can be told in no other way."""
     value: Json = {"units": len(found.units), "faults": [_entry(it) for it in found.faults], "notes": [_entry(it) for it in found.notes]}
-    value["unchecked"] = list(found.unchecked)
+    value |= {"judged": found.judged, "unchecked": found.unchecked, "differences": [_difference(it) for it in found.differences]}
+    value["warnings"] = [_entry(it) for it in found.warnings]
+    value["algorithms"] = [_entry(it) for it in found.skipped]
     if found.answers:
         value["reasons"] = [_entry(it) for it in found.reasons]
         value.update(_counts(found.answers))
     return json.dumps(value, indent=2)
+
+
+def _difference(it: Difference) -> Json:
+    return {"unit": it.unit, "file": str(it.file) if it.file else None, "difference": it.how}
 
 
 def _entry(it: Finding) -> Json:
@@ -113,7 +137,10 @@ def _entry(it: Finding) -> Json:
 
 def as_github(found: Found) -> str:
     """One command a line, which GitHub shows beside the line of the file."""
-    return "\n".join(map(_command, found.all()))
+    remarks = [f"::warning file={_escaped(str(it.file), ':,')},title=NOT_CHECKED::{_not_checked(it)}" for it in found.differences if it.file]
+    if found.judged != Judged.FILES:
+        remarks.append(f"::notice title=JUDGED::the texts of the {found.judged}")
+    return "\n".join([*map(_command, found.all_and_skipped()), *remarks])
 
 
 def _command(it: Finding) -> str:
@@ -133,17 +160,21 @@ def _escaped(words: str, more: str = "") -> str:
 
 
 def as_sarif(found: Found) -> str:
-    rules = {**codes.CODES, **plans.CODES}
+    own = {CODE: "an algorithm in a language that the workbench does not read"} if found.skipped else {}
+    own |= {SPELLING: "a name is spelled in other capitals than its declaration"} if any(it.code == SPELLING for it in found.notes) else {}
+    own |= {NO_SUCH_TYPE: "the type of a value is nowhere"} if found.warnings else {}
+    rules = {**codes.CODES, **plans.CODES, **own}
     places = {code: at for at, code in enumerate(rules)}
     driver = {
         "name": "bench61499",
         "semanticVersion": VERSION,
-        "rules": [{"id": code, "shortDescription": {"text": words}, "defaultConfiguration": {"level": "error"}} for code, words in rules.items()],
+        "rules": [{"id": code, "shortDescription": {"text": words}, "defaultConfiguration": {"level": {CODE: "note", SPELLING: "note", NO_SUCH_TYPE: "warning"}.get(code, "error")}} for code, words in rules.items()],
     }
     run = {
         "tool": {"driver": driver},
         "columnKind": "unicodeCodePoints",
-        "results": [_result(it, places) for it in found.all()],
+        "results": [_result(it, places) for it in found.all_and_skipped()],
+        **({} if found.judged == Judged.FILES else {"invocations": [_invocation(found)], "properties": {"judged": found.judged}}),
     }
     return json.dumps({"$schema": _SCHEMA, "version": "2.1.0", "runs": [run]}, indent=2)
 
@@ -156,6 +187,16 @@ def _result(it: Finding, rules: dict[str, int]) -> Json:
     return {"ruleId": it.code, **rule, "level": it.level, "message": {"text": told(it)}, "locations": [{"physicalLocation": where}]}
 
 
+def _invocation(found: Found) -> Json:
+    """Whether all was checked, and what was not."""
+    notifications = [
+        {"level": "error", "message": {"text": _not_checked(it)}, "locations": [{"physicalLocation": {"artifactLocation": {"uri": _uri(it.file)}}}]}
+        for it in found.differences
+        if it.file
+    ]
+    return {"executionSuccessful": not notifications, "toolExecutionNotifications": notifications}
+
+
 def _uri(file: Path) -> str:
     return file.as_uri() if file.is_absolute() else quote(os.fsencode(file.as_posix()))
 
@@ -166,17 +207,21 @@ def _uri(file: Path) -> str:
 def as_junit(found: Found) -> str:
     """One test case a unit, which fails with all that was found in it."""
     findings: dict[str, list[Finding]] = {unit.name: [] for unit in found.units}
-    for it in found.all():
+    for it in (each for each in found.all() if each.level != "warning" and each.code != SPELLING):
         findings[it.unit.name].append(it)
-    skipped = [name for name in found.unchecked if not findings[name]]
+    skipped = {it.unit: it for it in found.differences if it.file and not findings[it.unit]}
     counts = {"tests": len(findings), "failures": sum(map(bool, findings.values())), "errors": 0, "skipped": len(skipped)}
     attributes = {name: str(count) for name, count in counts.items()}
     top = ElementTree.Element("testsuites", {"name": "bench61499", **attributes})
     suite = ElementTree.SubElement(top, "testsuite", {"name": "units", **attributes})
+    if found.judged != Judged.FILES:
+        ElementTree.SubElement(ElementTree.SubElement(suite, "properties"), "property", name="judged", value=found.judged)
     for unit in found.units:
         case = _test_case(suite, unit, findings[unit.name])
         if unit.name in skipped:
-            ElementTree.SubElement(case, "skipped", message="not checked")
+            ElementTree.SubElement(case, "skipped", message=_not_checked(skipped[unit.name]))
+    for it, case in ((it, case) for case in suite for it in (*found.warnings, *(note for note in found.notes if note.code == SPELLING), *found.skipped) if it.unit.name == case.get("name")):
+        _remark(case, it)
     ElementTree.indent(top)
     return f'<?xml version="1.0" encoding="UTF-8"?>\n{ElementTree.tostring(top, encoding="unicode")}'
 
@@ -190,6 +235,13 @@ def _test_case(suite: ElementTree.Element, unit: Unit, findings: list[Finding]) 
         failure = ElementTree.SubElement(case, "failure", message=message, type=errors[0].code)
         failure.text = _in_xml("\n".join(f"{unit.file}:{it.begin[0]}:{it.begin[1]}: {it.code}: {told(it)}" for it in findings))
     return case
+
+
+def _remark(case: ElementTree.Element, it: Finding) -> None:
+    """Notes something in a test case, which does not fail by it."""
+    out = case.find("system-out")
+    out = ElementTree.SubElement(case, "system-out") if out is None else out
+    out.text = f"{out.text or ''}{_in_xml(f'{it.unit.file}:{it.begin[0]}:{it.begin[1]}: {it.code}: {told(it)}')}\n"
 
 
 def _in_xml(words: str) -> str:

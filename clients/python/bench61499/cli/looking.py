@@ -1,38 +1,27 @@
-"""Units as a workbench that others use has them: their faults, and which of them are other ones than the files. Nothing is changed."""
+"""Units as a workbench has them that others use and that gives no texts back: their faults, and which of them can't be those of the files. Nothing is changed."""
 from __future__ import annotations
 
 import time
 from collections import deque
-from collections.abc import Callable, Iterable, Iterator
+from collections.abc import Callable, Iterable
 from dataclasses import dataclass, field
 
 from bench61499 import Fault, NoSuchKey, Session
+from bench61499.cli.comparing import Difference, How
 from bench61499.language.fitting import fits
 from bench61499.language.units import Unit
 
-ONLY_ASKED = "The workbench was only asked. It gives no text back, so its texts may be others than these files."
+ONLY_ASKED = "The workbench was only asked. It gives no text back, as it is no host or an older one, so its texts may be others than these files."
 FIRST_PAUSE, LONGEST_PAUSE = 0.02, 1.0
 """Seconds between two questions for faults that are being computed; each further pause is twice as long."""
 
 
 @dataclass
 class Looked:
-    """The faults by unit, as far as they can be those of the files; the units that the workbench lacks, and those of which it has another text."""
+    """The faults by unit, as far as they can be those of the files, and the units that the workbench lacks or of which it has another text."""
 
     faults: dict[str, tuple[Fault, ...]] = field(default_factory=dict)
-    missing: list[str] = field(default_factory=list)
-    others: list[str] = field(default_factory=list)
-
-    @property
-    def unchecked(self) -> list[str]:
-        return sorted([*self.missing, *self.others])
-
-    def remarks(self) -> Iterator[str]:
-        """What was not checked, a sentence each."""
-        if self.missing:
-            yield f"not checked, as the workbench has no such unit: {', '.join(self.missing)}; --replace puts them"
-        if self.others:
-            yield f"not checked, as the workbench has another text: {', '.join(self.others)}; --replace puts those of the files over it"
+    differences: list[Difference] = field(default_factory=list)
 
 
 def look(session: Session, units: Iterable[Unit], progress: Callable[[int], object]) -> Looked:
@@ -58,12 +47,12 @@ def _ask(session: Session, unit: Unit, looked: Looked) -> bool:
     try:
         faults = session.faults(unit.name)
     except NoSuchKey:
-        looked.missing.append(unit.name)
-        faults = ()
+        looked.differences.append(Difference(unit.name, unit.file, How.ONLY_HERE))
+        return True
     if faults is None:
         return False
-    is_its = fits(unit.text, faults)
-    if not is_its:
-        looked.others.append(unit.name)
-    looked.faults[unit.name] = faults if is_its else ()
+    if fits(unit.text, faults):
+        looked.faults[unit.name] = faults
+    else:
+        looked.differences.append(Difference(unit.name, unit.file, How.DIFFERS))
     return True

@@ -4,17 +4,17 @@ from __future__ import annotations
 import argparse
 import json
 import sys
-from collections.abc import Callable, Iterator, Sequence
+from collections.abc import Iterator, Sequence
 from dataclasses import asdict
 
-from bench61499 import Blocked, Deploy, Faulty, NoSuchKey, Plan, Recursive, Session, Stopped, TooLarge, WorkbenchError
-from bench61499.cli.asking import asking
+from bench61499 import Blocked, Deploy, Faulty, Key, Plan, Recursive, Stopped, TooLarge, WorkbenchError
+from bench61499.cli.asking import Asked, asking
 from bench61499.cli.command import fail, program, read_with_units
 from bench61499.cli.version import add_version
 from bench61499.language.explain import KIND_NAMES
 from bench61499.language.plans import why_misplaced
 from bench61499.language.tokens import declared_kind
-from bench61499.language.units import Misuse, is_broken
+from bench61499.language.units import Misuse
 
 
 class NoPlan(Exception):
@@ -29,7 +29,7 @@ class NoPlan(Exception):
 def main() -> int:
     options = read_options()
     try:
-        plan = of_resource(options.resource, options.unit, plan_in(options.unit, ask(options, options.replace)))
+        plan = of_resource(options.resource, options.unit, plan_in(options.unit, ask(options)))
         if not plan.resources and not options.json:
             print(f"plan: {options.unit} has no resources, and so there is nothing to tell them", file=sys.stderr)
         for line in [as_json(options.unit, plan)] if options.json else lines(plan):
@@ -50,7 +50,8 @@ def read_options() -> argparse.Namespace:
         prog="plan",
         description="Prints the commands of each resource of a system (CREATE, WRITE and START), and the links that lead from one resource to another.",
         epilog="The status is 0 if it has printed the plan, even an empty one; 1 if there is no plan, with the reason on standard error: the unit is no system, units are "
-        "absent or have faults, types contain themselves, there are more than 4,096 instances, blocks have no resource, mappings map nothing; 2 if it could not ask.",
+        "absent or have faults, types contain themselves, there are more than 4,096 instances, blocks have no resource, mappings map nothing; 2 if it could not ask, or with "
+        "--connect and --files the plan rests on another text than that of a file.",
     )
     add_version(reader)
     reader.add_argument("unit", type=str.upper, metavar="SYSTEM", help="a system")
@@ -59,32 +60,33 @@ def read_options() -> argparse.Namespace:
     return read_with_units(reader)
 
 
-def ask(options: argparse.Namespace, puts: bool, ask_more: Callable[[Session], object] = lambda _: None) -> Deploy:
-    """What is known of the system's plan; `puts` as for `asking`, and `ask_more` is called before with the session. Raises `NoPlan` where the unit is no system."""
-    with asking(options, puts) as (session, texts, show):
-        ask_more(session)
-        try:
-            return session.wait("deploy", options.unit, show)
-        except NoSuchKey:
-            raise NoPlan(why_no_key(session, options.unit, declared_kind(texts.get(options.unit, "")))) from None
+def ask(options: argparse.Namespace) -> Deploy:
+    """What is known of the system's plan. Raises `NoPlan` where the unit is no system."""
+    with asking(options, options.replace) as asked:
+        return deploy_of(asked, options.unit)
 
 
-def why_no_key(session: Session, unit: str, kind: str | None) -> str:
-    if is_broken(session, unit):
+def deploy_of(asked: Asked, unit: str) -> Deploy:
+    key: Key = "deploy", unit
+    deploy: Deploy | None = asked.values([key]).get(key)
+    if not deploy:
+        raise NoPlan(why_no_key(asked, unit))
+    return deploy
+
+
+def why_no_key(asked: Asked, unit: str) -> str:
+    if asked.is_broken(unit):
         return f"{unit} has no plan, as its text has a SYNTAX fault; check shows it"
-    what = KIND_NAMES[kind] if kind and kind != "SYSTEM" else what_is(session, unit)
+    kind = declared_kind(asked.texts.get(unit, ""))
+    what = KIND_NAMES[kind] if kind and kind != "SYSTEM" else what_is(asked, unit)
     return f"{unit} is {what}; only systems have plans" if what else f"the workbench has no system {unit}"
 
 
-def what_is(session: Session, unit: str) -> str:
+def what_is(asked: Asked, unit: str) -> str:
     """What a unit is whose text is not known; empty where there is none."""
-    if not session.revision(unit):
+    if not asked.is_there(unit):
         return ""
-    try:
-        session.net(unit)
-    except NoSuchKey:
-        return "a block, an adapter or a structure"
-    return KIND_NAMES["SUBAPPLICATION"]
+    return KIND_NAMES["SUBAPPLICATION"] if asked.values([("net", unit)]) else "a block, an adapter or a structure"
 
 
 def plan_in(unit: str, deploy: Deploy) -> Plan:

@@ -2,6 +2,7 @@
 from __future__ import annotations
 
 import re
+from textwrap import dedent
 
 from bench61499 import TEXT_LIMIT
 from bench61499.exchange import names
@@ -18,13 +19,13 @@ _END = re.compile(r"\b(END_ALGORITHM)\s*(;?)\s*\Z", re.IGNORECASE)
 _UNKNOWN = "ALGORITHM_UNKNOWN will be reported where it is used"
 
 
-def algorithm(context: Context, at: Element) -> Algorithm | None:
-    """An algorithm; None, which is told, if there is no form in which it can be kept."""
+def algorithm(context: Context, block: Element, at: Element) -> Algorithm | None:
+    """An algorithm of a block; None, which is told, if there is no form for it."""
     context.known(at, "Name Comment", "ST Other LD FBD VarDeclaration")
     name, own = context.own_name(at), cut(at.get("Name"))
     bodies = at.named("ST", "Other", "LD", "FBD")
     for more in bodies[1:]:
-        context.left_out(more, f"a second body of the algorithm {own}")
+        context.part_left_out(more, f"a second body of the algorithm {own}", at)
     if bodies:
         found = _kept(context, at, bodies[0], name)
     else:
@@ -32,9 +33,15 @@ def algorithm(context: Context, at: Element) -> Algorithm | None:
         found = Algorithm(name, "ST", "")
     if found.language and can_stand(found.body):
         found.comment, found.line = context.comment(at), at.line
+        if bodies and bodies[0].text.strip():
+            body = dedent(found.body)
+            found.body_line = bodies[0].line + len(body) - len(body.lstrip("\n"))
+        elif bodies:
+            found.body_line = -bodies[0].line
         return found
     if found.language:
-        context.left_out(bodies[0], f"the algorithm {own}: its body can't stand in a text. {_UNKNOWN}")
+        context.left_to_comments(bodies[0], f"the algorithm {own}: its body can't stand in a text. {_UNKNOWN}")
+    context.keep(block, at)
     return None
 
 
@@ -42,7 +49,7 @@ def _kept(context: Context, at: Element, body: Element, name: str) -> Algorithm:
     """An algorithm in the form that fits its body; without a language if there is none."""
     own = cut(at.get("Name"))
     if body.name == "FBD":
-        context.left_out(body, f"the algorithm {own}: it is a diagram. {_UNKNOWN}")
+        context.tell_part(body, f"the algorithm {own}: it is a diagram. {_UNKNOWN}")
         return Algorithm(name, "", "")
     if body.name == "LD":
         return Algorithm(name, "LD", _rungs(context, body))
@@ -50,11 +57,12 @@ def _kept(context: Context, at: Element, body: Element, name: str) -> Algorithm:
     words = _words(context, body)
     language = context.name(body, body.get("Language") or "OTHER") if body.name == "Other" else "ST"
     if body.get("Prototype"):
-        context.left_out(body, f"the prototype {cut(body.get('Prototype'))} of {own}")
+        context.left_to_comments(body, f"the prototype {cut(body.get('Prototype'))} of {own}")
+        context.keep_attribute(body, "Prototype")
     if language.upper() == "ST":
         return _structured(context, at, body, Algorithm(name, "ST", words))
     for variable in at.named("VarDeclaration"):
-        context.left_out(variable, f"the variable {cut(variable.get('Name'))} of the algorithm {own}")
+        context.part_left_out(variable, f"the variable {cut(variable.get('Name'))} of the algorithm {own}", at)
     return Algorithm(name, language, words)
 
 
@@ -85,6 +93,8 @@ def _structured(context: Context, at: Element, body: Element, found: Algorithm) 
     broken = "VAR_TEMP" if variables else "its length" if len(statements) > TEXT_LIMIT else broken_statement(statements)
     if not broken and can_stand(statements):
         names.replace_words(words, names.STATEMENT_WORDS, lambda it: context.name(body, it))
+        if names.with_points(words) != words:
+            context.report.tell_once(NOTE, body.line, f"numbers of the algorithm {cut(at.get('Name'))} with an exponent and no point get one: 1.0e5 for 1e5")
         return Algorithm(found.name, "ST", statements)
     whole = "\n".join(["VAR_TEMP", *variables, "END_VAR", words.strip("\n")]) if variables else words
     if can_stand(whole):
@@ -95,7 +105,7 @@ def _structured(context: Context, at: Element, body: Element, found: Algorithm) 
 
 def as_statements(body: str) -> str:
     """A body with names and comments as a text has them."""
-    return _ASIDE.sub(_as_comment, names.replace_words(body, names.STATEMENT_WORDS, names.spelled))
+    return _ASIDE.sub(_as_comment, names.with_points(names.replace_words(body, names.STATEMENT_WORDS, names.spelled)))
 
 
 def _as_comment(found: re.Match[str]) -> str:

@@ -7,7 +7,7 @@ from textwrap import dedent
 
 from bench61499.exchange import names
 from bench61499.exchange.algorithms import unwrapped
-from bench61499.exchange.conditions import Chart, condition
+from bench61499.exchange.conditions import NO_CONDITION, Chart, condition
 from bench61499.exchange.exchanged import FULL, Algorithm, Transition, Unit, comment
 from bench61499.exchange.outgoing import MODERN, Outgoing
 from bench61499.exchange.report import REPLACED, cut
@@ -31,10 +31,26 @@ def chart_of(unit: Unit, types: dict[str, Unit]) -> Chart:
     )
 
 
-def condition_words(out: Outgoing, unit: Unit, way: Transition) -> str:
-    """A condition as a file has it: in its own form if that is read as the same one, and with its guard in brackets if not."""
-    its = list(tokens(way.condition))
+def condition_words(out: Outgoing, unit: Unit, way: Transition) -> tuple[str, str]:
+    """A condition as a file has it, and its comment: the words that it is in the place of, its own form if that is read as the same one, and with its guard
+    in brackets if not."""
     chart = chart_of(unit, out.types)
+    return _replaced(way, chart) or (_own_words(out, way, chart), way.comment)
+
+
+def _replaced(way: Transition, chart: Chart) -> tuple[str, str] | None:
+    """The words of a file that a condition is in the place of, which are the last lines of its comment, and the lines before them."""
+    lines = way.comment.split("\n") if way.comment else []
+    for at in reversed(range(len(lines))):
+        found = condition("\n".join(lines[at:]), chart)
+        if found.why and found.text == way.condition:
+            return "\n".join(lines[at:]), "\n".join(lines[:at])
+    is_absent = way.condition == NO_CONDITION and NO_CONDITION not in chart.events
+    return ("", way.comment) if is_absent else None
+
+
+def _own_words(out: Outgoing, way: Transition, chart: Chart) -> str:
+    its = list(tokens(way.condition))
     tries = [(it, _restored(out, it)) for it in (_close(its), _bracketed(its)) if it]
     fitting = (it for it in tries if not _differs(condition(it[1], chart).text, its))
     words, found = next(fitting, tries[-1])

@@ -206,11 +206,14 @@ class Boot:
         way = f"still to be joined: {self._home(first.source)} -> {self._home(first.destination)}: {self._link(first)}"
         if first.sort == "data":
             return f"{way}, with which no event goes"
-        data = f" with {', '.join(map(self._link, more))}" if more else ""
+        data = f" with data {', '.join(map(self._ends, more))}" if more else ""
         return f"{way}{data}: PUBLISH_{len(more)} and SUBSCRIBE_{len(more)}"
 
     def _link(self, it: Link) -> str:
-        return f"{it.sort} {self._place(self.place(it.source))} -> {self._place(self.place(it.destination))}"
+        return f"{it.sort} {self._ends(it)}"
+
+    def _ends(self, it: Link) -> str:
+        return f"{self._place(self.place(it.source))} -> {self._place(self.place(it.destination))}"
 
 
 def _blocks(plan: Resource) -> Iterator[tuple[str, str]]:

@@ -46,7 +46,7 @@ def condition(words: str, chart: Chart, change: Callable[[str], str] = names.spe
     """The condition of a text for the one of a file."""
     if len(words) > TEXT_LIMIT:
         return Condition(NO_CONDITION, _NO_CONDITION)
-    new = names.replace_words(words, names.OPERATOR_WORDS, change)
+    new = names.with_points(names.replace_words(words, names.OPERATOR_WORDS, change))
     found = list(pieces(new))
     if any(it.kind == "unclosed" for it in found):
         return Condition(NO_CONDITION, _NO_CONDITION)
@@ -138,14 +138,15 @@ class _Reading:
         operators = [(at, it.upper) for at, (it, depth) in enumerate(zip(self._tokens, self._depths())) if not depth]
         has_or = any(word in ("OR", "XOR") for _, word in operators)
         joins = [at for at, word in operators if word in ("&", "AND")]
-        if self._size and joins[:1] == [self._size] and not has_or and self._is_event(self._front, True):
+        begins_with_event = self._size and joins[:1] == [self._size] and self._is_event(self._front, True)
+        if begins_with_event and not has_or:
             if spell(self._tokens[self._size + 1 :], Cursor.expression):
                 return Condition(self._words(0))
             return Condition(f"{self._words(0, self._size)} [{self._chart.not_read}]", _NO_GUARD)
         if not spell(self._tokens, Cursor.expression):
             return Condition(NO_CONDITION, _NO_CONDITION)
         events = self._events()
-        if not events:
+        if not events and not begins_with_event:
             return Condition(f"[{self._words(0)}]")
         return (not has_or and self._event_first(joins, events)) or Condition(NO_CONDITION, _NO_CONDITION)
 

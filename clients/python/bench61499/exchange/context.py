@@ -2,14 +2,23 @@
 from __future__ import annotations
 
 import re
-from collections.abc import Container, Iterable
+from collections.abc import Container, Iterable, Iterator, Sequence
 from dataclasses import dataclass, field
 
 from bench61499.exchange import names
+from bench61499.exchange.kept import POSITIONS, Kept, paths
 from bench61499.exchange.report import CLASH, LEFT_OUT, NOTE, RENAMED, REPLACED, Report, cut
 from bench61499.exchange.xmlfile import Element
 
-POSITIONS = frozenset("x y dx dx1 dx2 dy width height locked".split())
+ELEMENTS = frozenset(
+    """ASN1Tag AdapterConnections AdapterDeclaration AdapterType Algorithm Application ArrayType ArrayVarDeclaration Attribute BasicFB Compiler CompilerInfo
+    Connection DataConnections DataType Device DirectlyDerivedType ECAction ECC ECState ECTransition EnumeratedType EnumeratedValue Event EventConnections
+    EventInputs EventOutputs FB FBD FBNetwork FBType Group Identification Import InOutVars InputPrimitive InputVars InterfaceList InternalConstVars InternalFBs
+    InternalVars LD Link Mapping Method Other OutputPrimitive OutputVars Parameter Plugs Resource Rung ST Segment Service ServiceSequence ServiceTransaction
+    SimpleFB Sockets StructuredType SubApp SubAppEvent SubAppEventInputs SubAppEventOutputs SubAppInterfaceList SubAppNetwork Subrange SubrangeType
+    SubrangeVarDeclaration System VarDeclaration VersionInfo With""".split()
+)
+"""The elements of IEC 61499-2 and of 4diac."""
 _LINE_END = re.compile(r"\r\n|\r|\n")
 
 
@@ -28,14 +37,34 @@ class Library:
 
 
 class Context:
-    """A file that is imported. `records` are the names of the present unit that can't be told from their names in its text."""
+    """A file that is imported. `records` are the names of the present unit that can't be told from their names in its text, `generics` the types that are
+    made for structures."""
 
     def __init__(self, report: Report, library: Library):
         self.report, self.library = report, library
         self.records: dict[str, str] = {}
+        self.kept, self.packages, self._paths = Kept(), dict[str, str](), dict[int, str]()
+        self.generics: dict[str, tuple[str, str, Element, Element]] = {}
+
+    def begin(self, root: Element) -> None:
+        """Begins the unit of an element."""
+        self.kept, self.packages, self._paths = Kept(), {}, paths(root)
 
     def left_out(self, at: Element, words: str) -> None:
+        """Tells what is lost."""
         self.report.tell(LEFT_OUT, at.line, words)
+        self.report.missing += 1
+
+    def left_to_comments(self, at: Element, words: str) -> None:
+        """Tells what the language has no place for, and a comment has."""
+        self.report.tell(LEFT_OUT, at.line, words)
+
+    def keep_attribute(self, at: Element, name: str) -> None:
+        self.kept.part(self._paths[id(at)], at.name).attributes[name] = at.attributes[name]
+
+    def keep(self, parent: Element, *children: Element) -> None:
+        """Keeps inner elements of one of the unit."""
+        self.kept.part(self._paths[id(parent)], parent.name).children.extend(children)
 
     def replaced(self, at: Element, words: str) -> None:
         self.report.tell(REPLACED, at.line, words)
@@ -62,7 +91,8 @@ class Context:
         package, last = names.without_package(name)
         new = self.name(at, last)
         if package and self.library.packages.get(new.upper()) != package:
-            self.left_out(at, f"the package {cut(package)} of {cut(last)}")
+            self.left_to_comments(at, f"the package {cut(package)} of {cut(last)}")
+            self.packages[new] = package
         return new
 
     def instance_type(self, at: Element) -> str:
@@ -72,12 +102,21 @@ class Context:
         self.replaced(at, f"the type of {cut(at.get('Name'))} that is not there, by {names.NO_TYPE}")
         return names.NO_TYPE
 
+    def path(self, at: Element, parts: Sequence[str]) -> str:
+        """Names of the file with points between them, as a path of the text. One that is not there is told with its path."""
+        path = ".".join(self.name(at, it) if it else names.NO_NAME for it in parts)
+        if not all(parts):
+            self.replaced(at, f"a name that is not there, by {path}")
+        return path
+
     def end(self, at: Element, words: str, *known: Container[str]) -> str:
         """An end of a connection: one name or two. `known` are names that it may begin with, as a text has them; in a file some may be no words."""
         if not words:
             self.replaced(at, f"an end that is not there, by {names.NO_END}")
             return names.NO_END
         parts = [it.strip() for it in words.split(".")]
+        if len(parts) == 2 and not all(parts):
+            return self.path(at, parts)
         is_path = all(map(names.is_word_of_any_alphabet, parts)) or any(names.spelled(parts[0]) in its for its in known) and all(parts)
         if is_path and len(parts) < 3:
             return ".".join(self.name(at, it) for it in parts)
@@ -99,20 +138,56 @@ class Context:
 
     # what is left
 
-    def known(self, at: Element, attributes: str, children: str = "", text: bool = False) -> None:
-        """Tells what an element has beside these attributes and inner elements."""
+    def known(self, at: Element, attributes: str, children: str = "", text: bool = False, keeps: bool = True) -> None:
+        """Tells, and keeps if it is to, what an element has beside these attributes and inner elements."""
+        path = self._paths.get(id(at)) if keeps else None
         for name, value in at.attributes.items():
             if name in POSITIONS:
-                self.report.has_positions = True
+                if keeps:
+                    self._position(path, name, value)
             elif name not in attributes.split() and value.strip() and not name.startswith(("xmlns", "xsi:")):
-                self.left_out(at, f"attribute {name} of {at.name}")
+                self.left_to_comments(at, f"attribute {name} of {at.name}")
+                self._part(path, at).attributes[name] = value
         for child in at.children:
             if child.name not in children.split():
-                self.left_out(child, _described(child, at))
+                self.tell_part(child, _described(child, at))
+                self._part(path, at).children.append(child)
+        self._asides(at)
+        if at.asides:
+            self._part(path, at).asides += at.asides
+        if not text and at.text.strip():
+            self.left_to_comments(at, f"the words {cut(at.text)} in {at.name}")
+            self._part(path, at).text += at.text
+
+    def _position(self, path: str | None, name: str, value: str) -> None:
+        self.report.has_positions |= path is None
+        if path is not None:
+            self.kept.positions.setdefault(path, {})[name] = value
+
+    def _part(self, path: str | None, at: Element) -> Element:
+        return self.kept.part(path, at.name) if path is not None else Element(at.name, 0, {})
+
+    def _asides(self, at: Element) -> None:
         for line, kind, words in at.asides:
             self.report.tell(LEFT_OUT, line, f"the {kind} {cut(words)}".rstrip())
-        if not text and at.text.strip():
-            self.left_out(at, f"the words {cut(at.text)} in {at.name}")
+
+    def part_left_out(self, at: Element, words: str, parent: Element | None = None) -> None:
+        """Tells an element that is left out with all that is in it, and keeps it if the unit has the element around it."""
+        self.tell_part(at, words)
+        if parent is None or id(parent) not in self._paths:
+            self.report.missing += 1
+        else:
+            self.keep(parent, at)
+
+    def tell_part(self, at: Element, words: str) -> None:
+        """Words, comments and elements that IEC 61499 does not have are told each."""
+        self.left_to_comments(at, words)
+        for around, it in _within(at):
+            if around and it.name not in ELEMENTS:
+                self.left_to_comments(it, _described(it, around))
+            self._asides(it)
+            if it.text.strip() and cut(it.text) not in words:
+                self.left_to_comments(it, f"the words {cut(it.text)} in {it.name}")
 
     def clashes(self, kind: str, of: Iterable[tuple[str, Element]]) -> None:
         """Tells names of one name space that differ in case alone."""
@@ -121,6 +196,13 @@ class Context:
             first, line = found.setdefault(name.upper(), (name, at.line))
             if name != first:
                 self.report.tell(CLASH, at.line, f"the {kind} {cut(first)} (line {line}) and {cut(name)} have one name here")
+
+
+def _within(at: Element, parent: Element | None = None) -> Iterator[tuple[Element | None, Element]]:
+    """An element and all that are in it, each with the one around it but the first."""
+    yield parent, at
+    for it in at.children:
+        yield from _within(it, at)
 
 
 def _described(it: Element, parent: Element) -> str:

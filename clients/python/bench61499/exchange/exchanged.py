@@ -14,6 +14,8 @@ DATA_SECTIONS = ("VAR_INPUT", "VAR_OUTPUT", "VAR")
 ADAPTER_SECTIONS = ("PLUGS", "SOCKETS")
 CONNECTION_SECTIONS = ("EVENT_CONNECTIONS", "DATA_CONNECTIONS", "ADAPTER_CONNECTIONS")
 
+SUBAPPS = "SUBAPPS"
+"""The section of instances of subapplications."""
 FULL = "ST_FULL"
 """The language of an algorithm in Structured Text that this language does not have: its body is kept and skipped."""
 
@@ -101,6 +103,8 @@ class Algorithm:
     body: str
     comment: str = ""
     line: int = 0
+    body_line: int = 0
+    """The line of the file at which the body begins; a negative one if all of it is in that line, in an attribute."""
 
 
 @dataclass
@@ -186,8 +190,10 @@ class Unit:
 
 
 _BLANKS = " \t"
-RECORDS = ("Identification", "VersionInfo", "CompilerInfo", "Compiler", "Import", "ASN1Tag", "Name")
-"""The elements that are kept in comments behind a unit, and the spelling of a renamed name."""
+ELEMENT_RECORDS = ("Identification", "VersionInfo", "CompilerInfo", "Compiler", "Import", "ASN1Tag")
+RECORDS = (*ELEMENT_RECORDS, "Name", "MadeFrom", "Given", "Generic", "InOut", "Internal", "Constant", "Simple", "Package", "Elsewhere", "File", "Missing")
+"""What comments behind a unit keep: these elements, the spelling of a renamed name, what a copy of a type was made from, the structure of a generic one, in-out variables, internal blocks and constants, that a block was
+a simple one, the package of a type that no file has, a data type of the project that has no unit, the file in its project, and how many things of it are not kept."""
 _ESCAPES = {"&": "&amp;", '"': "&quot;", "<": "&lt;", "\n": "&#10;", "\r": "&#13;", "\t": "&#9;"}
 _RECORD = re.compile(rf"""({'|'.join(RECORDS)}):((?: [^\s=]+="[^"]*")+)""")
 _ATTRIBUTE = re.compile(r''' ([^\s=]+)="([^"]*)"''')
@@ -207,6 +213,11 @@ def _escaped(value: str) -> str:
 
 def is_record(words: str) -> bool:
     return bool(_RECORD.fullmatch(words))
+
+
+def recorded(unit: Unit, kind: str) -> list[dict[str, str]]:
+    """The attributes of all records of a kind."""
+    return [its for of, its in map(record_attributes, unit.records) if of == kind]
 
 
 def record_attributes(words: str) -> tuple[str, dict[str, str]]:

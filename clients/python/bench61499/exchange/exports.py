@@ -1,21 +1,26 @@
 """The work of `exchange export`: texts of units become files of XML in a folder."""
 from __future__ import annotations
 
-import re
-from collections.abc import Callable
+from collections.abc import Callable, Iterator
 from pathlib import Path
 
+from bench61499.exchange.exchanged import Unit, recorded
 from bench61499.exchange.folders import Target, Unwritable
 from bench61499.exchange.from_text import NoUnit, Read, read_unit
+from bench61499.exchange.generic import generic_type
+from bench61499.exchange.lowering import Raising, made_from
 from bench61499.exchange.outgoing import FBDK, Outgoing, recorded_names
 from bench61499.exchange.names import restored
-from bench61499.exchange.report import LEFT_OUT, Report, Run, counted, cut
-from bench61499.exchange.to_xml import ROOTS, NotWritten, tree
-from bench61499.exchange.xmltext import document
+from bench61499.exchange.report import LEFT_OUT, RENAMED, Report, Run, counted, cut
+from bench61499.exchange.to_xml import NotWritten, file_name, tree
+from bench61499.exchange.xmlfile import ENDINGS, Unreadable, find_xml, read_xml
+from bench61499.exchange.xmltext import Tag, document
+from bench61499.language.spelling import Differing, differing, respelled
+from bench61499.language.texts import Texts as Around
+from bench61499.language.tokens import declared_name
 from bench61499.language.units import Misuse, find_files, read_text
 
 Tell = Callable[[str], object]
-_LONGEST_NAME = 200
 _DOCTYPE = '<!DOCTYPE {} SYSTEM "../LibraryElement.dtd" >'
 
 
@@ -25,15 +30,28 @@ class Texts:
     def __init__(self, paths: list[Path], failed: Tell):
         self.read: dict[Path, Read] = {}
         self._failed = failed
-        for file in self._files(paths):
+        self.spelled: dict[Path, list[Differing]] = {}
+        for file, text in self._texts(paths):
             try:
-                self.read[file] = read_unit(read_text(file))
-            except Misuse as error:
-                failed(str(error))
+                self.read[file] = read_unit(text)
             except NoUnit as error:
                 failed(f"{file}:{error.line}: is no unit: {error}")
         self._drop_doubles()
         self.types = {it.unit.name.upper(): it.unit for it in self.read.values()}
+
+    def _texts(self, paths: list[Path]) -> Iterator[tuple[Path, str]]:
+        """The texts of files, with names spelled as they are declared."""
+        files = self._files(paths)
+        read = {file: _text(file) for file in files}
+        texts = {file: text for file, text in read.items() if isinstance(text, str)}
+        owners = {name: file for file, text in reversed(texts.items()) if (name := declared_name(text))}
+        own = {name: texts[file] for name, file in owners.items()}
+        self.spelled = {owners[name]: its for name, its in differing(own, Around.of(own)).items()}
+        for file, text in read.items():
+            if isinstance(text, Misuse):
+                self._failed(str(text))
+            else:
+                yield file, respelled(text, self.spelled.get(file, []))
 
     def _files(self, paths: list[Path]) -> list[Path]:
         try:
@@ -51,6 +69,13 @@ class Texts:
                 del self.read[file]
 
 
+def _text(file: Path) -> str | Misuse:
+    try:
+        return read_text(file)
+    except Misuse as error:
+        return error
+
+
 class Export(Run):
     """A run of `export`."""
 
@@ -58,42 +83,82 @@ class Export(Run):
         super().__init__(tell)
         self._target, self._tool = target, tool
         self._written: dict[str, Path] = {}
+        self._missing = 0
+        self._there = types_in(target.folder)
         texts = Texts(paths, self.fail)
         if not texts.read and not self.has_failed:
             self.fail(f"{', '.join(map(str, paths))}: has no *.fb file")
-        self.reports = [self._put(file, it, texts) for file, it in texts.read.items()]
+        self._raising = Raising(texts.types)
+        self._types = self._raising.units
+        self._spelled = texts.spelled
+        self.reports = [self._put(file, it) for file, it in texts.read.items() if self._is_written(it.unit)]
 
-    def _put(self, file: Path, read: Read, texts: Texts) -> Report:
-        unit, report = read.unit, Report(str(file))
+    def _is_written(self, unit: Unit) -> bool:
+        """Whether a unit has a file; types that import made have none."""
+        return unit.name.upper() in self._types and not generic_type(unit)
+
+    def _put(self, file: Path, read: Read) -> Report:
+        unit, report = self._types[read.unit.name.upper()], Report(str(file))
+        if unit.name in self._raising.changed:
+            report.tell(LEFT_OUT, unit.line, f"that {unit.name} was {made_from(unit)} with parameters: it is no longer, and is a type of its own")
         try:
-            root = tree(unit, Outgoing(unit, texts.types, self._tool, report))
+            root = tree(unit, Outgoing(unit, self._types, self._tool, report))
         except NotWritten as error:
             self.fail(f"{file}:{unit.line}: {unit.name} {error}; it is not written")
             return report
+        for it in self._spelled.get(file, ()):
+            report.tell(RENAMED, unit.line, f"{it.used} to {it.declared}, as it is declared")
         for line, words in read.left_out:
             report.tell(LEFT_OUT, line, cut(words))
         doctype = _DOCTYPE.format(root.name) if self._tool == FBDK else ""
         text, is_changed = document(root, unit.comments[:-1], doctype)
         if is_changed:
             report.tell(LEFT_OUT, unit.line, "characters that XML can't have; U+FFFD is in their place")
-        self._write(file, f"{_file_name(restored(unit.name, recorded_names(unit)), unit.name)}.{ROOTS[unit.kind][1]}", text)
+        self._write(file, self._place(unit, root), text)
+        self._missing += sum(int(it["things"]) for it in recorded(unit, "Missing") if it.get("things", "").isdecimal())
         return report
 
-    def _write(self, file: Path, name: str, text: str) -> None:
-        first = self._written.setdefault(name.upper(), file)
+    def _place(self, unit: Unit, root: Tag) -> str:
+        """Where the file of a unit is written: over the one that has the type, else where it was in the project."""
+        its = self._there.get((root.name, root.attributes["Name"].upper()))
+        own = file_name(unit, restored(unit.name, recorded_names(unit)))
+        return its or next(filter(is_place, (unit.record("File", "path"), own)))
+
+    def _write(self, file: Path, place: str, text: str) -> None:
+        first = self._written.setdefault(place.upper(), file)
         if first != file:
-            self.fail(f"{first} and {file} would both be {name}; the first one is written")
+            self.fail(f"{first} and {file} would both be {place}; the first one is written")
             return
         try:
-            self._target.write(name, text)
+            self._target.write(place, text)
         except Unwritable as error:
             self.fail(str(error))
-            del self._written[name.upper()]
+            del self._written[place.upper()]
+
+    @property
+    def status(self) -> int:
+        return max(super().status, int(self._missing > 0))
 
     def outcome(self) -> str:
         return f"{counted(len(self.reports), 'unit')}, {counted(len(self._written), 'file')} in {self._target.folder}"
 
+    def remark(self) -> str:
+        return f"{counted(self._missing, 'thing')} of the imported project {'is' if self._missing == 1 else 'are'} not in them" if self._missing else ""
 
-def _file_name(name: str, otherwise: str) -> str:
-    """The name of a unit as the beginning of that of its file, if it has nothing that could lead elsewhere."""
-    return name if re.fullmatch(r"\w+", name) and len(name.encode()) <= _LONGEST_NAME else otherwise
+
+def types_in(folder: Path) -> dict[tuple[str, str], str]:
+    """The files of a folder that have types or systems, by the roots and the names in upper case."""
+    found: dict[tuple[str, str], str] = {}
+    for file in find_xml([folder], lambda _: None) if folder.is_dir() else ():
+        try:
+            root = read_xml(file).root
+        except Unreadable:
+            continue
+        found.setdefault((root.name, root.get("Name").upper()), file.relative_to(folder).as_posix())
+    return found
+
+
+def is_place(path: str) -> bool:
+    """Whether a path leads to a file of XML within a folder."""
+    parts = path.split("/")
+    return all(it not in ("", ".", "..") and it.isprintable() and "\\" not in it for it in parts) and Path(path).suffix.lower() in ENDINGS

@@ -16,12 +16,14 @@ class Target:
     def __init__(self, folder: Path, replace: bool):
         self.folder, self._replace = folder, replace
 
-    def write(self, name: str, text: str, is_same: Callable[[str], bool] = lambda _: False) -> None:
-        """Writes a file. One that is there is left as it is if it has this text, or one that is the same. Raises `Unwritable`."""
-        assert name == os.path.basename(name) and name not in ("", ".", "..")
-        file = self.folder / name
+    def write(self, place: str, text: str, is_same: Callable[[str], bool] = lambda _: False) -> None:
+        """Writes a file of the folder or of one in it. One that is there is left as it is if it has this text, or one that is the same. Raises `Unwritable`."""
+        assert not {"", ".", ".."} & set(place.split("/"))
+        file = self.folder / place
         try:
-            self.folder.mkdir(parents=True, exist_ok=True)
+            file.parent.mkdir(parents=True, exist_ok=True)
+            if not file.parent.resolve().is_relative_to(self.folder.resolve()):
+                raise Unwritable(f"{file}: would not be in {self.folder}")
             if not os.path.lexists(file):
                 _create(file, text)
             elif not self._is_there(file, text, is_same):

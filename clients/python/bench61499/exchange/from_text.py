@@ -9,6 +9,7 @@ from bench61499.exchange.exchanged import (
     Service, State, Transition, Unit, Variable, is_record,
 )
 from bench61499.exchange.forms import Broken
+from bench61499.exchange.kept import is_kept
 from bench61499.language.tokens import spelled
 
 _KINDS = ("FUNCTION_BLOCK", "ADAPTER", "SUBAPPLICATION", "SYSTEM", "TYPE")
@@ -64,7 +65,7 @@ class _Reader(CommentedCursor):
         self.need(f"END_{kind}")
         if self.at < len(self.tokens):
             raise self.fail()
-        unit.records = self.comments_at_end(is_record)
+        unit.records = self.comments_at_end(lambda words: is_record(words) or is_kept(words))
         return unit
 
     def _block(self, unit: Unit) -> None:

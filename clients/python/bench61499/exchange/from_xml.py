@@ -5,7 +5,9 @@ from collections.abc import Iterator
 
 from bench61499.exchange import names
 from bench61499.exchange.context import Context
-from bench61499.exchange.exchanged import Network, Unit, record
+from bench61499.exchange.exchanged import SUBAPPS, Network, Unit, record
+from bench61499.exchange.generic import Generic, unit_of
+from bench61499.exchange.inouts import inouts_of
 from bench61499.exchange.interfaces import RECORD_ELEMENTS, basic, interface, interface_clashes, records, service, variables
 from bench61499.exchange.networks import INTERFACES, NETWORKS, Networks, Systems
 from bench61499.exchange.report import NOTE, cut
@@ -57,15 +59,17 @@ class _Making:
         root, context = document.root, self._context
         kind = _KINDS.get(root.name)
         if not kind:
-            context.left_out(root, f"the {_WITHOUT_UNIT[root.name]} {cut(root.get('Name'))}: the workbench looks none up")
+            context.part_left_out(root, f"the {_WITHOUT_UNIT[root.name]} {cut(root.get('Name'))}: the workbench looks none up")
             return []
         if kind == "TYPE" and not root.named("StructuredType"):
-            context.left_out(root, f"the data type {cut(root.get('Name'))}: it is no structure, and no other has a unit")
+            context.part_left_out(root, _data_type_without_unit(root))
             return []
-        return [self._own_unit(kind, document), *self._other_units()]
+        made = [self._own_unit(kind, document), *self._other_units()]
+        return [*made, *(unit_of(context.library, Generic(*it)) for it in context.generics.values())]
 
     def _own_unit(self, kind: str, document: Document) -> Unit:
         root, context = document.root, self._context
+        context.begin(root)
         lines = [(line, "\n".join(it.strip() for it in words.splitlines())) for line, words in document.comments]
         structures = [context.comment(it) for it in root.named("StructuredType")]
         own = "\n".join(filter(None, [context.comment(root), *structures]))
@@ -74,16 +78,25 @@ class _Making:
         context.known(root, "Name Comment", f"{RECORD_ELEMENTS} {_CHILDREN[kind]}")
         unit.services = [service(context, it) for it in root.named("Service")] if kind not in ("SYSTEM", "TYPE") else []
         unit.records = [*records(context, root), *unit.records]
+        self._keep(unit)
         return unit
+
+    def _keep(self, unit: Unit) -> None:
+        """Adds what comments keep of a unit that was read."""
+        unit.records += [record("Package", {"type": name, "package": package}) for name, package in self._context.packages.items()]
+        unit.records += self._context.kept.records()
 
     def _other_units(self) -> Iterator[Unit]:
         """Those of subapplications without types; what is made may have further ones in it."""
         context = self._context
         for at, name, recorded in self._untyped:
             own, context.records = at.get("Name"), recorded
+            context.begin(at)
             context.report.tell(NOTE, at.line, f"the subapplication {cut(own)} has no type and became the unit {name}")
             unit = Unit("SUBAPPLICATION", name, at.line, [context.comment_of(at.line, f"The subapplication {own} without a type.")])
             self._read(unit, at)
+            self._keep(unit)
+            unit.records.append(record("Missing", {"things": "1"}))  # That it has no type.
             yield unit
 
     def _read(self, unit: Unit, root: Element) -> None:
@@ -108,8 +121,8 @@ class _Making:
         interface_clashes(context, root, root.named(*INTERFACES), networks)
 
     def _networks(self, unit: Unit, root: Element, networks: list[Element]) -> None:
-        section = "FBS" if unit.kind == "FUNCTION_BLOCK" else "SUBAPPS"
-        reading = Networks(self._context, unit.name, section, self._make)
+        section = "FBS" if unit.kind == "FUNCTION_BLOCK" else SUBAPPS
+        reading = Networks(self._context, unit.name, section, self._make, inouts_of(root))
         ports = {names.spelled(it) for it in _ports(root) if it}
         for it in networks:
             unit.network = unit.network or Network()
@@ -119,6 +132,12 @@ class _Making:
         """Has a unit made of a subapplication without a type."""
         recorded = self._context.records
         self._untyped.append((at, name, {name: recorded[name]} if name in recorded else {}))
+
+
+def _data_type_without_unit(root: Element) -> str:
+    """What is told of a data type that is no structure, with what it is."""
+    kinds = ", ".join(dict.fromkeys(it.name for it in root.children if it.name not in RECORD_ELEMENTS.split()))
+    return f"the data type {cut(root.get('Name'))}: it is no structure, and no other has a unit" + (f" ({cut(kinds)})" if kinds else "")
 
 
 def _ports(root: Element) -> Iterator[str]:

@@ -2,15 +2,17 @@
 from __future__ import annotations
 
 import re
-from collections.abc import Iterable, Iterator
+from collections.abc import Callable, Iterable, Iterator, Mapping
 from itertools import accumulate
 
 from bench61499.exchange import names
 from bench61499.exchange.algorithms import algorithm
 from bench61499.exchange.conditions import Chart, condition
-from bench61499.exchange.context import POSITIONS, Context
+from bench61499.exchange.context import Context
 from bench61499.exchange.exchanged import Event, Instance, Parameter, Sequence, Service, State, Transition, Unit, Variable, record
 from bench61499.exchange.forms import bare_tokens
+from bench61499.exchange.inouts import GROUP, RECORD, output_of
+from bench61499.exchange.kept import POSITIONS
 from bench61499.exchange.report import NOTE, cut
 from bench61499.exchange.values import Typed, constant, variable
 from bench61499.exchange.xmlfile import Element
@@ -37,11 +39,13 @@ def records(context: Context, root: Element) -> Iterator[str]:
 
 def interface(context: Context, unit: Unit, at: Element) -> None:
     groups = [*EVENT_GROUPS, *DATA_GROUPS, *(() if unit.kind == "ADAPTER" else ADAPTER_GROUPS)]
-    context.known(at, "", " ".join(groups))
+    context.known(at, "", " ".join([*groups, GROUP]))
+    inouts = {it.name: output_of(it.name) for group in at.named(GROUP) for it in _inouts(context, unit, group)}
     for group in at.named(*groups):
         if group.name in EVENT_GROUPS:
             context.known(group, "", "Event SubAppEvent")
-            unit.events[EVENT_GROUPS[group.name]] += [_event(context, it) for it in group.named("Event", "SubAppEvent")]
+            section = EVENT_GROUPS[group.name]
+            unit.events[section] += [_event(context, it, inouts if section == "EVENT_OUTPUT" else {}) for it in group.named("Event", "SubAppEvent")]
         elif group.name in DATA_GROUPS:
             unit.variables[DATA_GROUPS[group.name]] += variables(context, group)
         else:
@@ -49,6 +53,17 @@ def interface(context: Context, unit: Unit, at: Element) -> None:
             section = ADAPTER_GROUPS[group.name]
             unit.adapters[section] += [_adapter(context, section, it) for it in group.named("AdapterDeclaration")]
     context.clashes("events", _inner(at, EVENT_GROUPS))
+
+
+def _inouts(context: Context, unit: Unit, group: Element) -> list[Variable]:
+    """The in-out variables of a group, each of which becomes an input and an output."""
+    its = variables(context, group)
+    unit.variables["VAR_INPUT"] += its
+    unit.variables["VAR_OUTPUT"] += [Variable(output_of(it.name), it.type, line=it.line) for it in its]
+    unit.records += [record(RECORD, {"name": it.name}) for it in its]
+    for it in its:
+        context.report.tell(NOTE, group.line, f"the in-out variable {it.name} is the input {it.name} and the output {output_of(it.name)} here")
+    return its
 
 
 def interface_clashes(context: Context, root: Element, lists: list[Element], networks: Iterable[Element]) -> None:
@@ -70,15 +85,16 @@ def network_instances(network: Element) -> Iterator[tuple[str, Element]]:
         yield from network_instances(it) if it.name == "Group" else [(it.get("Name"), it)]
 
 
-def _event(context: Context, at: Element) -> Event:
+def _event(context: Context, at: Element, inouts: Mapping[str, str]) -> Event:
     context.known(at, "Name Type Comment", "With")
     name, type_ = context.own_name(at), at.get("Type")
     withs = []
     for it in at.named("With"):
         context.known(it, "Var")
-        withs.append(context.name(it, it.get("Var")))
+        name_of_data = context.name(it, it.get("Var"))
+        withs.append(inouts.get(name_of_data, name_of_data))
     kind = context.last_name(at, type_) if type_ and type_.upper() != "EVENT" else ""
-    return Event(name, kind, withs, context.comment(at))
+    return Event(name, kind, withs, context.comment(at), at.line)
 
 
 def variables(context: Context, group: Element) -> list[Variable]:
@@ -98,7 +114,7 @@ def _variable(context: Context, at: Element) -> Variable:
         context.left_out(at, f"attribute InitialValues of {at.name}")
     name = context.own_name(at)
     typed = Typed(at.get("Type"), ranges, at.get("InitialValue") or at.get("InitialValues"))
-    return Variable(name, *variable(context, at, typed), context.comment(at))
+    return Variable(name, *variable(context, at, typed), context.comment(at), at.line)
 
 
 def _limits(context: Context, at: Element) -> str:
@@ -109,19 +125,26 @@ def _limits(context: Context, at: Element) -> str:
 def _adapter(context: Context, section: str, at: Element) -> Instance:
     context.known(at, "Name Type Comment", "Parameter")
     name = context.own_name(at)
-    return Instance(section, name, context.instance_type(at), parameters(context, at), context.comment(at))
+    return Instance(section, name, context.instance_type(at), parameters(context, at), context.comment(at), at.line)
 
 
-def parameters(context: Context, at: Element) -> list[Parameter]:
-    """The parameters of an instance that have values."""
-    found = []
-    for it in at.named("Parameter"):
+def parameters(context: Context, at: Element, is_wanted: Callable[[Element], bool] = lambda _: True) -> list[Parameter]:
+    """The wanted parameters of an instance that have values."""
+    found, types = [], input_types(context, at)
+    for it in filter(is_wanted, at.named("Parameter")):
         context.known(it, "Name Value Comment")
         if it.get("Value"):
             name = context.own_name(it)
-            found.append(Parameter(name, constant(context, it, it.get("Value"), cut(it.get("Name"))), context.comment(it)))
+            found.append(Parameter(name, constant(context, it, it.get("Value"), cut(it.get("Name")), types.get(it.get("Name"), "")), context.comment(it)))
     context.clashes("parameters", [(it.get("Name"), it) for it in at.named("Parameter") if it.get("Value")])
     return found
+
+
+def input_types(context: Context, at: Element) -> dict[str, str]:
+    """The types of the data inputs of an instance that are no arrays, by their names; of a subapplication without a type its own ones."""
+    root = context.library.roots.get(names.spelled(names.without_package(at.get("Type"))[1]).upper()) if at.get("Type") else at
+    groups = (group for each in (root.named("InterfaceList", "SubAppInterfaceList") if root else ()) for group in each.named("InputVars"))
+    return {it.get("Name"): it.get("Type") for group in groups for it in group.named("VarDeclaration") if not it.get("ArraySize")}
 
 
 def basic(context: Context, unit: Unit, at: Element) -> None:
@@ -132,18 +155,29 @@ def basic(context: Context, unit: Unit, at: Element) -> None:
         unit.variables["VAR"] += variables(context, group)
         constants = ", ".join(cut(it.get("Name")) for it in group.named(*VARIABLES.split()))
         if group.name == "InternalConstVars" and constants:
-            context.left_out(group, f"that these are constant: {constants}")
+            context.left_to_comments(group, f"that these are constant: {constants}")
+            unit.records += (record("Constant", {"name": names.spelled(it.get("Name"))}) for it in group.named(*VARIABLES.split()))
+    _internal_blocks(context, unit, at)
     known, charts = chart_of(context, unit), at.named("ECC")
     unit.states = [_state(context, it) for chart in charts for it in chart.named("ECState")] if charts else None
     for chart in charts:
         context.known(chart, "", "ECState ECTransition")
         unit.transitions += [_transition(context, it, known) for it in chart.named("ECTransition")]
-    unit.algorithms = [it for each in at.named("Algorithm") if (it := algorithm(context, each))]
+    unit.algorithms = [it for each in at.named("Algorithm") if (it := algorithm(context, at, each))]
     if is_simple:
         _simple_chart(context, unit, at)
     states = [it for each in (at, *at.named("ECC")) for it in each.named("ECState")]
     context.clashes("states", [(it.get("Name"), it) for it in states])
     context.clashes("algorithms", [(it.get("Name"), it) for it in at.named("Algorithm")])
+
+
+def _internal_blocks(context: Context, unit: Unit, at: Element) -> None:
+    """The internal blocks of a basic block are variables that nothing is checked of, so that guards and statements can name them."""
+    for it in (each for group in at.named("InternalFBs") for each in group.named("FB") if each.get("Name")):
+        name = context.own_name(it)
+        unit.variables["VAR"].append(Variable(name, "ANY", line=it.line))
+        unit.records.append(record("Internal", {"name": name}))
+        context.report.tell(NOTE, it.line, f"the internal block {name} is a variable of type ANY here")
 
 
 def chart_of(context: Context, unit: Unit) -> Chart:
@@ -163,7 +197,7 @@ def chart_of(context: Context, unit: Unit) -> Chart:
 def _state(context: Context, at: Element) -> State:
     context.known(at, "Name Comment", "ECAction")
     name = context.own_name(at)
-    return State(name, list(_actions(context, at)), context.comment(at))
+    return State(name, list(_actions(context, at)), context.comment(at), at.line)
 
 
 def _actions(context: Context, at: Element) -> Iterator[tuple[str, str]]:
@@ -183,10 +217,10 @@ def _transition(context: Context, at: Element, chart: Chart) -> Transition:
     found = condition(words, chart)
     if not found.why:
         found = condition(words, chart, lambda it: context.name(at, it))
-        return Transition(source, destination, found.text, context.comment(at, *(it.strip("/(* )") for it in found.remarks)))
+        return Transition(source, destination, found.text, context.comment(at, *(it.strip("/(* )") for it in found.remarks)), at.line)
     what = f"the condition {cut(words)} by" if words else "a condition that is not there, by"
     context.replaced(at, f"{what} {cut(found.text)}" + (f": {found.why}" if words else ""))
-    return Transition(source, destination, found.text, context.comment(at, words))
+    return Transition(source, destination, found.text, context.comment(at, words), at.line)
 
 
 def _simple_chart(context: Context, unit: Unit, at: Element) -> None:
@@ -200,19 +234,20 @@ def _simple_chart(context: Context, unit: Unit, at: Element) -> None:
         return
     taken = {it.name.upper() for it in states}
     first = next(it for it in ("START", *(f"START_{number}" for number in range(1, len(states) + 2))) if it not in taken)
-    unit.states = [State(first), *states]
-    ways = ((Transition(first, it.name, it.name), Transition(it.name, first, "1")) for it in states)
+    unit.states = [State(first, line=at.line), *states]
+    ways = ((Transition(first, it.name, it.name, line=it.line), Transition(it.name, first, "1", line=it.line)) for it in states)
     unit.transitions = [each for way in ways for each in way]
     order = min((it.line for it in at.named("ECState")), default=at.line)
     words = f"a simple block: its chart goes from {first} to a state for each event, and back"
     context.report.tell(NOTE, at.line, words, order)
+    unit.records.append(record("Simple", {"first": first}))
 
 
 def service(context: Context, at: Element) -> Service:
     context.known(at, "LeftInterface RightInterface Comment", "ServiceSequence")
     sides = [_side(context, at, it) for it in ("LeftInterface", "RightInterface")]
     left, right = (it or names.NO_NAME for it in sides) if any(sides) else ("", "")
-    kept = [it for each in at.named("ServiceSequence") if (it := _sequence(context, each))]
+    kept = [it for each in at.named("ServiceSequence") if (it := _sequence(context, at, each))]
     return Service(left, right, kept, context.comment(at))
 
 
@@ -224,12 +259,12 @@ def _side(context: Context, at: Element, side: str) -> str:
     return ""
 
 
-def _sequence(context: Context, at: Element) -> Sequence | None:
+def _sequence(context: Context, service_: Element, at: Element) -> Sequence | None:
     """A sequence of a service; None, which is told, if it can't be spelled."""
     transactions = at.named("ServiceTransaction")
     lines = [_transaction(it) for it in transactions]
     if not names.is_word(at.get("Name")) or at.get("Name").upper() in _ENDS or None in lines:
-        context.left_out(at, f"the service sequence {cut(at.get('Name'))}: it can't be spelled here")
+        context.part_left_out(at, f"the service sequence {cut(at.get('Name'))}: it can't be spelled here", service_)
         return None
     context.known(at, "Name Comment", "ServiceTransaction")
     for it in transactions:

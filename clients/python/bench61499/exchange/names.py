@@ -27,6 +27,10 @@ _PIECES = re.compile(
     rf"""(?P<kept> {ASIDES} | [A-Za-z_]\w*\#[+-]?[\w\#]*(?:\.\d\w*)* | \d[\w\#.]*) | (?P<word>[^\W\d]\w*)""",
     re.VERBOSE | re.DOTALL,
 )
+_NUMBERS = re.compile(
+    rf"""{ASIDES} | [^\W\d]\w*(?:\#[+-]?[\w\#.]*)? | \d\w*\#\w* | \d[\d_]*\.\w+(?:(?<=[eE])[+-]\d+)? | (?P<digits>\d[\d_]*)(?P<exponent>[eE][+-]?\d+)(?!\w)""",
+    re.VERBOSE | re.DOTALL | re.ASCII,
+)
 _UPPER = str.maketrans("abcdefghijklmnopqrstuvwxyz", "ABCDEFGHIJKLMNOPQRSTUVWXYZ")
 
 
@@ -78,6 +82,11 @@ def replace_words(body: str, kept: frozenset[str], change: Callable[[str], str])
         return found[0] if word is None or word.upper() in kept else change(word)
 
     return _PIECES.sub(changed, body)
+
+
+def with_points(body: str) -> str:
+    """A body or an expression with `1.0e5` for `1e5`."""
+    return _NUMBERS.sub(lambda it: f"{it['digits']}.0{it['exponent']}" if it["digits"] else it[0], body)
 
 
 def without_package(name: str) -> tuple[str, str]:

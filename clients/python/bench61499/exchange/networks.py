@@ -6,9 +6,11 @@ from functools import lru_cache
 
 from bench61499.exchange import names
 from bench61499.exchange.context import Context
-from bench61499.exchange.exchanged import Application, Connection, Device, Instance, Mapping, Network, Unit
+from bench61499.exchange.exchanged import SUBAPPS, Application, Connection, Device, Instance, Mapping, Network, Unit
+from bench61499.exchange.generic import find_generic
+from bench61499.exchange.inouts import inouts_of, output_of
 from bench61499.exchange.interfaces import network_instances, parameters
-from bench61499.exchange.report import cut
+from bench61499.exchange.report import NOTE, cut
 from bench61499.exchange.xmlfile import Element
 
 NETWORKS = ("FBNetwork", "SubAppNetwork")
@@ -23,10 +25,10 @@ Make = Callable[[Element, str], object]
 
 
 class Networks:
-    """The networks of one unit. `path` is the name that those of inner units begin with."""
+    """The networks of one unit. `path` is the name that those of inner units begin with, `inouts` are its own in-out variables."""
 
-    def __init__(self, context: Context, path: str, subapplications: str, make: Make):
-        self._context, self._path, self._section, self._make = context, path, subapplications, make
+    def __init__(self, context: Context, path: str, subapplications: str, make: Make, inouts: frozenset[str] = frozenset()):
+        self._context, self._path, self._section, self._make, self._own_inouts = context, path, subapplications, make, inouts
 
     def read(self, network: Network, at: Element, ports: Container[str]) -> None:
         """Adds the parts of an element to a network. `ports` are the names in texts that its ends may begin with, beside its instances."""
@@ -36,28 +38,51 @@ class Networks:
         known = {names.spelled(name) for name, _ in network_instances(at) if name}
         for group in at.named(*_CONNECTIONS):
             context.known(group, "", "Connection")
-            network.connections[_CONNECTIONS[group.name]] += [self._connection(it, known, ports) for it in group.named("Connection")]
+            inouts = self._inouts(at) if group.name == "DataConnections" else {}
+            network.connections[_CONNECTIONS[group.name]] += [self._connection(it, inouts, known, ports) for it in group.named("Connection")]
 
-    def _connection(self, at: Element, *known: Container[str]) -> Connection:
+    def _inouts(self, network: Element) -> dict[str, frozenset[str]]:
+        """The in-out variables of the instances of a network by their names; the own ones have the name that is empty."""
+        roots = self._context.library.roots
+        its = {names.spelled(name): roots.get(_type_name(it)) if it.get("Type") else it for name, it in network_instances(network) if name}
+        return {"": self._own_inouts, **{name: inouts_of(root) for name, root in its.items()}}
+
+    def _connection(self, at: Element, inouts: dict[str, frozenset[str]], *known: Container[str]) -> Connection:
         self._context.known(at, "Source Destination Comment")
         source, destination = (self._context.end(at, at.get(it), *known) for it in ("Source", "Destination"))
-        return Connection(source, destination, self._context.comment(at))
+        head, point, port = source.partition(".")
+        if point and port in inouts.get(head, ()):
+            source = f"{head}.{output_of(port)}"
+        if destination in inouts.get("", ()):
+            destination = output_of(destination)
+        return Connection(source, destination, self._context.comment(at), at.line)
 
     def _instances(self, network: Network, at: Element) -> Iterator[Instance]:
         for it in at.named("FB", "SubApp", "Group"):
             if it.name == "Group":
-                self._context.known(it, "Name Comment", "FB SubApp Group")
+                self._context.known(it, "Name Comment", "FB SubApp Group", keeps=False)
                 remark = f" ({cut(it.get('Comment'))})" if it.get("Comment") else ""
-                self._context.left_out(it, f"the group {cut(it.get('Name'))}{remark}; what it holds is kept")
+                self._context.left_to_comments(it, f"the group {cut(it.get('Name'))}{remark}; what it holds is kept")
+                if at.name != "Group":
+                    self._context.keep(at, _outline(it))
                 yield from self._instances(network, it)
             else:
                 yield self._block(it) if it.name == "FB" else self._subapplication(network, it)
 
     def _block(self, at: Element) -> Instance:
-        context = self._context
-        context.known(at, "Name Type Comment", "Parameter")
+        context, generic = self._context, find_generic(self._context, at)
+        context.known(at, "Name Type Comment", "Parameter" if not generic else "Parameter Attribute")
         name = context.own_name(at)
-        return Instance("FBS", name, context.instance_type(at), parameters(context, at), context.comment(at))
+        type_ = context.instance_type(at)
+        if generic:
+            for it in at.named("Attribute"):
+                if it is not generic.attribute:
+                    context.left_to_comments(it, f"attribute {cut(it.get('Name'))} = {cut(it.get('Value') or it.text)} of FB {name}")
+                    context.keep(at, it)
+            context.report.tell(NOTE, at.line, f"{name} has the type {generic.name}, a {generic.type} for its structure")
+            type_ = generic.name
+            context.generics[type_] = generic
+        return Instance("FBS", name, type_, parameters(context, at), context.comment(at), at.line)
 
     def _subapplication(self, network: Network, at: Element) -> Instance:
         context = self._context
@@ -69,11 +94,23 @@ class Networks:
             self._make(at, type_)
         else:
             type_ = context.instance_type(at)
+        found = Instance(self._section, name, type_, comment=context.comment(at), line=at.line)
+        interface = at if is_untyped else context.library.roots.get(type_.upper())
+        found.parameters = parameters(context, at, lambda it: self._is_lowered(interface, it))
         for it in at.named("Parameter"):
+            if self._is_lowered(interface, it):
+                continue
             context.known(it, "Name Value Comment")
             if it.get("Value"):
                 network.connections["DATA_CONNECTIONS"].append(self._parameter(at, name, it))
-        return Instance(self._section, name, type_, [], context.comment(at))
+        return found
+
+    def _is_lowered(self, interface: Element | None, parameter: Element) -> bool:
+        """Whether a parameter of a subapplication can be one of blocks in it: it is a data input of a type that is among the files."""
+        if self._section != SUBAPPS or interface is None or interface.name not in ("SubApp", "SubAppType"):
+            return False
+        groups = (group for each in interface.named(*INTERFACES) for group in each.named("InputVars", "InOutVars"))
+        return names.spelled(parameter.get("Name")).upper() in {names.spelled(it.get("Name")).upper() for group in groups for it in group.children}
 
     def _parameter(self, at: Element, instance: str, parameter: Element) -> Connection:
         """A connection in the place of a parameter of a subapplication."""
@@ -81,7 +118,7 @@ class Networks:
         words = f"{cut(at.get('Name'))}.{cut(given)} by a connection from {names.NO_SOURCE}: instances of subapplications have no parameters"
         self._context.replaced(at, words)
         port = self._context.own_name(parameter)
-        return Connection(names.NO_SOURCE, f"{instance}.{port}", self._context.comment(parameter, given))
+        return Connection(names.NO_SOURCE, f"{instance}.{port}", self._context.comment(parameter, given), parameter.line)
 
 
 class Systems:
@@ -100,15 +137,15 @@ class Systems:
         unit.mappings = [self._mapping(it) for it in root.named("Mapping")]
         for it in root.named("Segment", "Link"):
             name = f"the segment {cut(it.get('Name'))}" if it.name == "Segment" else _link(it)
-            context.left_out(it, name)
+            context.part_left_out(it, name, root)
         for kind in ("Application", "Device"):
             context.clashes(f"{kind.lower()}s", [(it.get("Name"), it) for it in root.named(kind)])
 
     def _application(self, unit: Unit, at: Element) -> Application:
         context = self._context
         context.known(at, "Name Comment", " ".join(NETWORKS))
-        found = Application(context.own_name(at), comment=context.comment(at))
-        networks = Networks(context, f"{unit.name}__{found.name}", "SUBAPPS", self._make)
+        found = Application(context.own_name(at), comment=context.comment(at), line=at.line)
+        networks = Networks(context, f"{unit.name}__{found.name}", SUBAPPS, self._make)
         for it in at.named(*NETWORKS):
             networks.read(found.network, it, ())
         context.clashes("instances", [its for it in at.named(*NETWORKS) for its in network_instances(it)])
@@ -126,7 +163,7 @@ class Systems:
     def _part(self, section: str, at: Element) -> Instance:
         context = self._context
         name = context.own_name(at)
-        return Instance(section, name, context.instance_type(at), parameters(context, at), context.comment(at))
+        return Instance(section, name, context.instance_type(at), parameters(context, at), context.comment(at), at.line)
 
     def _resource(self, device: Element, at: Element) -> Instance:
         self._context.known(at, "Name Type Comment", "Parameter FBNetwork SubAppNetwork")
@@ -143,22 +180,22 @@ class Systems:
         for it in network.named("FB", "SubApp"):
             path = self._mapped.get(f"{home}.{it.get('Name')}") if home else None
             if path is None:
-                context.left_out(it, f"the {'block' if it.name == 'FB' else 'subapplication'} {cut(it.get('Name'))} of {where}")
+                context.part_left_out(it, f"the {'block' if it.name == 'FB' else 'subapplication'} {cut(it.get('Name'))} of {where}", network)
             else:
-                self._compared(it, path, where)
+                self._compared(network, it, path, where)
         for group in network.named(*_CONNECTIONS):
             context.known(group, "", "Connection")
             for it in group.named("Connection"):
-                self._connection(group.name, it, where, home)
+                self._connection(group, it, where, home)
 
-    def _compared(self, at: Element, path: str, where: str) -> None:
+    def _compared(self, network: Element, at: Element, path: str, where: str) -> None:
         """Tells where a block of a resource differs from the one that is mapped to it."""
         context, own = self._context, self._instance(path)
         is_untyped = not at.get("Type")
         context.known(at, "Name Type Comment", " ".join(["Parameter", *(INTERFACES + NETWORKS if is_untyped else ())]))
         name = cut(at.get("Name"))
         if own is None:
-            context.left_out(at, f"{name} of {where}, which is mapped from {cut(path)}")
+            context.part_left_out(at, f"{name} of {where}, which is mapped from {cut(path)}", network)
             return
         for attribute, words in (("Type", "has the type"), ("Comment", "has the comment")):
             if at.get(attribute) and at.get(attribute) != own.get(attribute):
@@ -169,7 +206,7 @@ class Systems:
             if it.get("Value") and given.get(it.get("Name")) != it.get("Value"):
                 context.left_out(it, f"that {name}.{cut(it.get('Name'))} is {cut(it.get('Value'))} in {where}")
 
-    def _connection(self, group: str, at: Element, where: str, home: str) -> None:
+    def _connection(self, group: Element, at: Element, where: str, home: str) -> None:
         """Tells a connection of a resource, unless the application has it."""
         context = self._context
         (source, out), (destination, into) = (it.get(end).rpartition(".")[::2] for end in ("Source", "Destination") for it in (at,))
@@ -179,9 +216,10 @@ class Systems:
         start = {"START.COLD": "--cold", "START.WARM": "--warm"}.get(at.get("Source").upper())
         if start and paths[1]:
             words += f"; boot takes it as {start} {cut(paths[1], 200)}.{cut(into)}"
-        elif paths[0] and paths[1] and self._has(group, (paths[0], out), (paths[1], into)):
+        elif paths[0] and paths[1] and self._has(group.name, (paths[0], out), (paths[1], into)):
             return
-        context.left_out(at, words)
+        context.left_to_comments(at, words)
+        context.keep(group, at)
 
     def _has(self, group: str, source: tuple[str, str], destination: tuple[str, str]) -> bool:
         """Whether the application has a connection of two blocks in one of its networks."""
@@ -216,13 +254,28 @@ class Systems:
     def _mapping(self, at: Element) -> Mapping:
         context = self._context
         context.known(at, "From To Comment")
-        path = ".".join(context.name(at, it) for it in at.get("From").split("."))
+        path = context.path(at, at.get("From").split("."))
         home = at.get("To").split(".")
-        device, resource = (context.name(at, it) for it in (*home, "")[:2])
+        device, resource = context.path(at, (*home, "")[:2]).split(".")
         own, there = at.get("From").partition(".")[2], ".".join(home[2:])
         if there and there not in (own, at.get("From").rpartition(".")[2]):
             context.left_out(at, f"that {cut(at.get('From'))} is called {cut(there)} in its resource")
-        return Mapping(path, device, resource, context.comment(at))
+        return Mapping(path, device, resource, context.comment(at), at.line)
+
+
+def _type_name(at: Element) -> str:
+    """The type of an instance, as the files of a run are found by."""
+    return names.spelled(names.without_package(at.get("Type"))[1]).upper()
+
+
+def _outline(group: Element) -> Element:
+    """A group with the names alone of the instances that it holds."""
+    children = [_outline(it) if it.name == "Group" else _named(it) if it.name in ("FB", "SubApp") else it for it in group.children]
+    return Element("Group", group.line, group.attributes, children, group.text, group.asides)
+
+
+def _named(at: Element) -> Element:
+    return Element(at.name, at.line, {"Name": at.get("Name")})
 
 
 def _link(at: Element) -> str:

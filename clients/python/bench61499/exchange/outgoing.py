@@ -5,9 +5,10 @@ import re
 from collections.abc import Mapping
 
 from bench61499.exchange import names
-from bench61499.exchange.exchanged import Unit, Variable, record_attributes
+from bench61499.exchange.exchanged import Unit, Variable, recorded
+from bench61499.exchange.generic import generic_type
 from bench61499.exchange.report import LEFT_OUT, REPLACED, Report, cut
-from bench61499.exchange.values import Typed, original, spelled, spelled_value, unquoted
+from bench61499.exchange.values import Typed, original, spelled, spelled_value, unquoted, with_point
 from bench61499.language.tokens import tokens
 
 TOOLS = ("4diac", "4diac1", "fbdk")
@@ -19,16 +20,16 @@ _SIGNED = re.compile(r"([+-]?)\s*(\d{1,18})", re.ASCII)
 
 def recorded_names(unit: Unit) -> dict[str, str]:
     """The names that the records of a unit give back, by those in its text."""
-    its = (found for it in unit.records for kind, found in (record_attributes(it),) if kind == "Name")
-    return {it["text"]: it["file"] for it in its if names.spelled(it.get("file", "")) == it.get("text")}
+    return {it["text"]: it["file"] for it in recorded(unit, "Name") if names.spelled(it.get("file", "")) == it.get("text")}
 
 
 class Outgoing:
     """A unit that is written as XML. `types` are all units by their names in upper case."""
 
     def __init__(self, unit: Unit, types: Mapping[str, Unit], tool: str, report: Report):
-        self.types, self.tool, self._report = dict(types), tool, report
+        self.unit, self.types, self.tool, self._report = unit, dict(types), tool, report
         self._recorded = recorded_names(unit)
+        self._packages = {it.get("type", ""): it.get("package", "") for it in recorded(unit, "Package")}
 
     def tell(self, kind: str, line: int, words: str) -> None:
         self._report.tell(kind, line, words)
@@ -49,7 +50,10 @@ class Outgoing:
     def type(self, type_: str) -> str:
         """A type with its package, if it is among the texts and the tool knows packages."""
         unit = self.types.get(type_.upper())
-        package = unit.record("CompilerInfo", "packageName").strip() if unit and self.tool == MODERN else ""
+        if generic := generic_type(unit):
+            return self.type(generic)
+        package = self._packages.get(type_) or (unit.record("CompilerInfo", "packageName").strip() if unit else "")
+        package = package if self.tool == MODERN else ""
         name = self.name(type_)
         fits = bool(package) and names.without_package(f"{package}::{name}") == (package, name)
         return f"{package}::{name}" if fits else name
@@ -57,8 +61,12 @@ class Outgoing:
     def value(self, value: str, in_array: bool, line: int) -> str:
         """A constant as a file has it; words in the place of which it is become these words again."""
         words = unquoted(value if in_array else value[1:-1]) if in_array or value[:1] == "[" else None
-        if words is not None and words.strip() == words and spelled_value(words, in_array) == (value, True):
+        if words is not None and words.strip() == words and (spelled_value(words, in_array) == (value, True) or with_point(words) != words):
             return words
+        if value in self._packages:
+            return self.type(value)
+        if value in self._recorded and not names.is_word_of_any_alphabet(self._recorded[value]):
+            return self._recorded[value]
         new = names.replace_words(value, names.OPERATOR_WORDS, self.word)
         if not _same(spelled_value(new, in_array)[0], value):
             self.tell(REPLACED, line, f"the value {cut(value)} by {cut(new)}, which is read as another one")

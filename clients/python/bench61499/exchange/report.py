@@ -34,6 +34,7 @@ class Report:
         self._file = file
         self._found: dict[tuple[str, str], _Message] = {}
         self.has_positions = False
+        self.missing = 0
 
     def tell(self, kind: str, line: int, words: str, order: int = 0) -> None:
         """Notes a message; the same words of one file are one line. `order` is the line that it is sorted by, if that is another one."""
@@ -101,8 +102,13 @@ class Run:
         """The first words of the last line."""
         raise NotImplementedError
 
+    def remark(self) -> str:
+        """What is behind the counts in the last line."""
+        return ""
+
     def lines(self, quiet: bool) -> Iterator[str]:
         for report in self.reports:
             yield from report.lines(quiet)
         if not quiet:
-            yield summary(self.outcome(), self.reports, self._has_failed)
+            last, remark = summary(self.outcome(), self.reports, self._has_failed), self.remark()
+            yield last if not remark else f"{last.removesuffix(': all whole')}; {remark}"

@@ -9,6 +9,8 @@ from typing import Protocol, TypeVar
 
 from bench61499.exchange import names
 from bench61499.exchange.exchanged import Instance, Network, Unit
+from bench61499.exchange.generic import generic_type, runtime_type
+from bench61499.exchange.inouts import inputs_of
 from bench61499.exchange.outgoing import recorded_names
 from bench61499.exchange.values import spelled_value, unquoted
 
@@ -61,11 +63,15 @@ class Spellings:
         unit = self.types.get(name.upper())
         if not unit:
             return self.name(self.system, name)
+        if generic_type(unit):
+            return runtime_type(unit)
         package = "" if self._plain_types else unit.record("CompilerInfo", "packageName").strip()
         return "::".join(filter(None, [package, self.name(unit, unit.name)]))
 
     def value(self, owner: Unit, value: str) -> str:
         """A constant of a unit as the file had it."""
+        if value in (recorded := self._recorded(owner.name.upper())):
+            return recorded[value]
         words = unquoted(value[1:-1]) if value.startswith("[") else None
         if words is not None and spelled_value(words) == (value, True):
             return words
@@ -108,6 +114,7 @@ class Spellings:
         if not unit:
             return list(ports)
         if len(ports) == 1:
+            ports = (inputs_of(unit).get(ports[0], ports[0]).upper(),)
             return [self.name(unit, next((it for it in unit.ports() if it.upper() == ports[0]), ports[0]))]
         adapter = find((it for group in unit.adapters.values() for it in group), ports[0])
         inner = self.types.get(adapter.type.upper()) if adapter else None

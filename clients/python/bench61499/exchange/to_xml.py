@@ -7,8 +7,11 @@ from collections.abc import Iterable, Iterator
 from bench61499.exchange import names, places
 from bench61499.exchange.bodies import algorithm, condition_words, primitives
 from bench61499.exchange.exchanged import (
-    RECORDS, Application, Connection, Device, Event, Instance, Mapping, Network, Parameter, Service, Unit, Variable, record_attributes,
+    ELEMENT_RECORDS, SUBAPPS, Application, Connection, Device, Event, Instance, Mapping, Network, Parameter, Service, State, Unit, Variable, record_attributes, recorded,
 )
+from bench61499.exchange.generic import generic_type, structure_attribute
+from bench61499.exchange.inouts import end_of_file, inputs_of
+from bench61499.exchange.kept import put_back
 from bench61499.exchange.outgoing import FBDK, Outgoing
 from bench61499.exchange.report import CLASH, LEFT_OUT, NOTE, cut
 from bench61499.exchange.xmltext import Tag
@@ -25,6 +28,15 @@ _CONNECTIONS = {"EVENT_CONNECTIONS": "EventConnections", "DATA_CONNECTIONS": "Da
 _PARAMETER = re.compile(r"(?:(.*)\n)?(\S+) := (.+)", re.DOTALL)
 
 
+_LONGEST_NAME = 200
+
+
+def file_name(unit: Unit, name: str) -> str:
+    """The name of the file of a unit, by its name in files if that has nothing that could lead elsewhere."""
+    is_fit = re.fullmatch(r"\w+", name) and len(name.encode()) <= _LONGEST_NAME
+    return f"{name if is_fit else unit.name}.{ROOTS[unit.kind][1]}"
+
+
 class NotWritten(Exception):
     """A unit has no form in XML; the text tells why."""
 
@@ -34,12 +46,20 @@ def tree(unit: Unit, out: Outgoing) -> Tag:
     if unit.is_composite and (unit.states is not None or unit.transitions):
         raise NotWritten("has states and a network, and XML has one of the two")
     root = Tag(ROOTS[unit.kind][0], {"Name": out.name(unit.name), "Comment": unit.comments[-1] if unit.comments else ""})
-    root.add(*_records(unit))
+    root.add(*_records(unit), *_parts(unit, out))
+    put_back(root, unit.records, lambda path: out.tell(LEFT_OUT, unit.line, f"what is kept of {cut(path)}: that is no longer there"))
+    return root
+
+
+def _parts(unit: Unit, out: Outgoing) -> Iterator[Tag]:
     if unit.kind == "SYSTEM":
-        return root.add(*_System(unit, out).parts())
-    if unit.kind == "TYPE":
-        return root.add(Tag("StructuredType", {}, [_variable(out, it) for it in unit.variables["STRUCT"]]))
-    return root.add(_interface(unit, out), *_body(unit, out), *(_service(it) for it in unit.services))
+        yield from _System(unit, out).parts()
+    elif unit.kind == "TYPE":
+        yield Tag("StructuredType", {}, [_variable(out, it) for it in unit.variables["STRUCT"]])
+    else:
+        yield _interface(unit, out)
+        yield from _body(unit, out)
+        yield from map(_service, unit.services)
 
 
 def _records(unit: Unit) -> Iterator[Tag]:
@@ -52,20 +72,23 @@ def _records(unit: Unit) -> Iterator[Tag]:
             infos[-1].add(Tag(kind, its, needed=()))
         elif kind == "CompilerInfo":
             infos.append(Tag(kind, its, needed=()))
-        elif kind != "Name":
+        elif kind in ELEMENT_RECORDS:
             tags.append(Tag(kind, its, needed=()))
     if not any(it.name == "VersionInfo" for it in tags):
         tags.append(Tag("VersionInfo", _DEFAULT_VERSION))
-    yield from sorted([*tags, *infos], key=lambda it: RECORDS.index(it.name))
+    yield from sorted([*tags, *infos], key=lambda it: ELEMENT_RECORDS.index(it.name))
 
 
 def _interface(unit: Unit, out: Outgoing) -> Tag:
     prefix = "SubApp" if unit.kind == "SUBAPPLICATION" else ""
     its = Tag(f"{prefix}InterfaceList")
     for section, name in (("EVENT_INPUT", "EventInputs"), ("EVENT_OUTPUT", "EventOutputs")):
-        its.add(_group(f"{prefix}{name}", (_event(out, f"{prefix}Event", it) for it in unit.events[section])))
-    for section, name in (("VAR_INPUT", "InputVars"), ("VAR_OUTPUT", "OutputVars")):
-        its.add(_group(name, (_variable(out, it) for it in unit.variables[section])))
+        its.add(_group(f"{prefix}{name}", (_event(out, unit, f"{prefix}Event", it) for it in unit.events[section])))
+    inouts = inputs_of(unit)
+    inner = {it.upper() for it in inouts.values()}
+    for section, name, taken in (("VAR_INPUT", "InputVars", inner), ("VAR_OUTPUT", "OutputVars", inouts)):
+        its.add(_group(name, (_variable(out, it) for it in unit.variables[section] if it.name.upper() not in taken)))
+    its.add(_group("InOutVars", (_variable(out, it) for it in unit.variables["VAR_INPUT"] if it.name.upper() in inner)))
     for section, name in (("PLUGS", "Plugs"), ("SOCKETS", "Sockets")):
         its.add(_group(name, (_typed(out, "AdapterDeclaration", it) for it in unit.adapters[section])))
     return its
@@ -76,9 +99,9 @@ def _group(name: str, children: Iterable[Tag]) -> Tag | None:
     return Tag(name, {}, its) if its else None
 
 
-def _event(out: Outgoing, name: str, it: Event) -> Tag:
+def _event(out: Outgoing, unit: Unit, name: str, it: Event) -> Tag:
     attributes = {"Name": out.name(it.name), "Type": out.type(it.type) if it.type else "Event", "Comment": it.comment}
-    return Tag(name, attributes, [Tag("With", {"Var": out.name(each)}) for each in it.withs])
+    return Tag(name, attributes, [Tag("With", {"Var": out.name(inputs_of(unit).get(each.upper(), each))}) for each in it.withs])
 
 
 def _variable(out: Outgoing, it: Variable) -> Tag:
@@ -90,7 +113,9 @@ def _variable(out: Outgoing, it: Variable) -> Tag:
 
 def _typed(out: Outgoing, name: str, it: Instance) -> Tag:
     attributes = {"Name": out.name(it.name), "Type": out.type(it.type), "Comment": it.comment}
-    return Tag(name, attributes, [_parameter(out, each, it.line) for each in it.parameters])
+    unit = out.types.get(it.type.upper())
+    structure = [structure_attribute(unit)] if unit and generic_type(unit) else []
+    return Tag(name, attributes, [*(_parameter(out, each, it.line) for each in it.parameters), *structure])
 
 
 def _parameter(out: Outgoing, it: Parameter, line: int) -> Tag:
@@ -106,8 +131,13 @@ def _body(unit: Unit, out: Outgoing) -> Iterator[Tag]:
         for its in unit.algorithms:
             out.tell(LEFT_OUT, its.line, f"the algorithm {its.name} of a composite block")
     elif unit.variables["VAR"] or unit.states is not None or unit.transitions or unit.algorithms:
-        internal = _group("InternalVars", (_variable(out, it) for it in unit.variables["VAR"]))
-        yield Tag("BasicFB").add(internal, _chart(unit, out), *(algorithm(out, it) for it in unit.algorithms))
+        constants, blocks = ({it.get("name", "") for it in recorded(unit, kind)} for kind in ("Constant", "Internal"))
+        internal = {False: "InternalVars", True: "InternalConstVars"}
+        own = [it for it in unit.variables["VAR"] if it.name not in blocks]
+        variables = [_group(name, (_variable(out, it) for it in own if (it.name in constants) == of)) for of, name in internal.items()]
+        is_simple = _is_simple(unit)
+        chart: list[Tag | None] = [_state(out, it) for it in (unit.states or [])[1:]] if is_simple else [_chart(unit, out)]
+        yield Tag("SimpleFB" if is_simple else "BasicFB").add(*variables, *chart, *(algorithm(out, it) for it in unit.algorithms))
 
 
 def _chart(unit: Unit, out: Outgoing) -> Tag | None:
@@ -116,12 +146,29 @@ def _chart(unit: Unit, out: Outgoing) -> Tag | None:
     chart, states = Tag("ECC"), unit.states or []
     corners = places.of_states(states, unit.transitions)
     for it, corner in zip(states, corners):
-        actions = [Tag("ECAction", {"Algorithm": out.name(its), "Output": out.path(to)}) for its, to in it.actions]
-        chart.add(Tag("ECState", {"Name": out.name(it.name), "Comment": it.comment, **_at(corner)}, actions))
+        state = _state(out, it)
+        state.attributes |= _at(corner)
+        chart.add(state)
     for way, corner in zip(unit.transitions, places.of_transitions(states, corners, unit.transitions)):
         ends = {"Source": out.name(way.source), "Destination": out.name(way.destination)}
-        chart.add(Tag("ECTransition", {**ends, "Condition": condition_words(out, unit, way), "Comment": way.comment, **_at(corner)}))
+        words, comment = condition_words(out, unit, way)
+        chart.add(Tag("ECTransition", {**ends, "Condition": words, "Comment": comment, **_at(corner)}))
     return chart
+
+
+def _state(out: Outgoing, it: State) -> Tag:
+    actions = [Tag("ECAction", {"Algorithm": out.name(its), "Output": out.path(to)}) for its, to in it.actions]
+    return Tag("ECState", {"Name": out.name(it.name), "Comment": it.comment}, actions)
+
+
+def _is_simple(unit: Unit) -> bool:
+    """Whether a block has the chart that import makes of a simple one."""
+    if not unit.states:
+        return False
+    first, *others = unit.states
+    ways = [(it.source, it.destination, it.condition) for it in unit.transitions]
+    expected = [way for it in others for way in ((first.name, it.name, it.name), (it.name, first.name, "1"))]
+    return unit.record("Simple", "first") == first.name and not first.actions and ways == expected
 
 
 def _at(place: places.Place) -> dict[str, str]:
@@ -133,7 +180,7 @@ def _network(out: Outgoing, name: str, network: Network) -> Tag:
     given = _parameters(network)
     tags = []
     for it, corner in zip(network.instances, places.of_instances(network, out.types)):
-        tag = _typed(out, "SubApp" if it.section == "SUBAPPS" else "FB", it)
+        tag = _typed(out, "SubApp" if it.section == SUBAPPS else "FB", it)
         tag.attributes |= _at(corner)
         tag.add(*(_parameter(out, each, it.line) for to, each in given if to == it.name))
         tags.append(tag)
@@ -146,18 +193,19 @@ def _network(out: Outgoing, name: str, network: Network) -> Tag:
 def _connections(out: Outgoing, network: Network, first: int) -> Iterator[Tag]:
     for section, name in _CONNECTIONS.items():
         its = network.connections[section][first if section == "DATA_CONNECTIONS" else 0 :]
-        group = _group(name, (_connection(out, it) for it in its))
+        group = _group(name, (_connection(out, network, it) for it in its))
         if group:
             yield group
 
 
-def _connection(out: Outgoing, it: Connection) -> Tag:
-    return Tag("Connection", {"Source": out.path(it.source), "Destination": out.path(it.destination), "Comment": it.comment})
+def _connection(out: Outgoing, network: Network, it: Connection) -> Tag:
+    source, destination = (out.path(end_of_file(end, out.unit, network.instances, out.types)) for end in (it.source, it.destination))
+    return Tag("Connection", {"Source": source, "Destination": destination, "Comment": it.comment})
 
 
 def _parameters(network: Network) -> list[tuple[str, Parameter]]:
     """The parameters of subapplications that the first data connections are in the place of, each with its instance."""
-    order = {it.name: at for at, it in enumerate(network.instances) if it.section == "SUBAPPS"}
+    order = {it.name: at for at, it in enumerate(network.instances) if it.section == SUBAPPS}
     found: list[tuple[str, Parameter]] = []
     for it in network.connections["DATA_CONNECTIONS"]:
         instance, _, port = it.destination.partition(".")

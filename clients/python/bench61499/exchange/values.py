@@ -10,7 +10,7 @@ from bench61499 import TEXT_LIMIT
 from bench61499.exchange import names
 from bench61499.exchange.context import Context
 from bench61499.exchange.forms import is_array, is_constant, is_type
-from bench61499.exchange.report import cut
+from bench61499.exchange.report import NOTE, UNCHECKED, cut
 from bench61499.exchange.xmlfile import Element
 
 _RANGE = re.compile(r"([+-]?\d{1,18})\s*\.\.\s*([+-]?\d{1,18})", re.ASCII)
@@ -20,6 +20,8 @@ _TYPE_WORDS = names.OPERATOR_WORDS | {"ARRAY", "OF"}
 _QUOTED = re.compile(r"'((?:[^'$\r\n]|\$[$'N])*)'")
 _OF, _IS = re.compile(r"\] OF "), re.compile(" := ")
 _TRIES = 20
+_EXPONENT = re.compile(r"([+-]?\s*\d[\d_]*)([eE][+-]?\d+)", re.ASCII)
+_STRUCTURE = re.compile(r"\(.*:=.*\)", re.DOTALL)
 NOT_A_TYPE = "no type"
 
 
@@ -78,10 +80,16 @@ def spelled_value(value: str, in_array: bool = False, change: Change = names.spe
     if len(value) > TEXT_LIMIT:
         return f"[{quoted(value)}]", True
     package, last = names.without_package(value)
-    new = names.replace_words(last if package and names.is_word(last) else value, names.OPERATOR_WORDS, change)
+    new = names.replace_words(last if package and names.is_word(last) else with_point(value), names.OPERATOR_WORDS, change)
     if not value or is_constant(new):
         return new, False
     return quoted(value) if in_array else f"[{quoted(value)}]", True
+
+
+def with_point(value: str) -> str:
+    """A number with an exponent and no point, such as `1e5`, as `1.0E5`."""
+    found = _EXPONENT.fullmatch(value)
+    return f"{found[1]}.0{found[2].upper()}" if found else value
 
 
 def _spelled_type(type_: str, change: Change) -> str:
@@ -137,8 +145,24 @@ def _typed_in(words: str) -> Iterator[Typed]:
         yield from (Typed(rest[: it.start()], ranges, rest[it.end() :]) for it in islice(_IS.finditer(rest), _TRIES))
 
 
+def is_structure(context: Context, type_: str) -> bool:
+    """Whether a type of a file is a structure that is among the files."""
+    root = context.library.roots.get(names.spelled(names.without_package(type_)[1]).upper())
+    return root is not None and bool(root.named("StructuredType"))
+
+
+def _of_structure(context: Context, at: Element, value: str, name: str) -> str:
+    """The name in the place of a value of a structure, which fits every type; a record has the value."""
+    new = names.spelled(value)
+    context.records[new] = value
+    context.report.tell(UNCHECKED, at.line, f"the value {cut(value)} of {name} is kept as the name {new}, which is not checked")
+    return new
+
+
 def variable(context: Context, at: Element, it: Typed) -> tuple[str, str]:
     """The type and the value of a variable of a file; tells what is replaced or left out."""
+    if it.ranges is None and _STRUCTURE.fullmatch(it.value) and is_structure(context, it.type):
+        return variable(context, at, it._replace(value=""))[0], _of_structure(context, at, it.value, cut(at.get("Name")))
     if it.ranges is not None and _COUNT.fullmatch(it.ranges) and not int(it.ranges):
         context.left_out(at, f"ArraySize {it.ranges} of {cut(at.get('Name'))}")
         it = it._replace(ranges=None)
@@ -156,8 +180,12 @@ def variable(context: Context, at: Element, it: Typed) -> tuple[str, str]:
     return spelled(it, lambda word: context.name(at, word))[:2]
 
 
-def constant(context: Context, at: Element, value: str, name: str) -> str:
-    """The value of a parameter, or a value that is known to be a constant."""
+def constant(context: Context, at: Element, value: str, name: str, type_: str = "") -> str:
+    """The value of a parameter whose type may be known, or a value that is known to be a constant."""
+    if type_ and _STRUCTURE.fullmatch(value) and is_structure(context, type_):
+        return _of_structure(context, at, value, name)
+    if with_point(value) != value:
+        context.report.tell(NOTE, at.line, f"the value {value} of {name} is written {with_point(value)}")
     new, is_replaced = spelled_value(value)
     if is_replaced:
         _tell_value(context, at, value, new, name)

@@ -81,8 +81,18 @@ def _files_in(folder: Path, failed: Callable[[str], object]) -> Iterator[Path]:
 
 def read_xml(file: Path) -> Document:
     """The elements of a file. Raises `Unreadable`."""
-    text = _decoded(file, _content(file))
-    return _Reading(file, _without_doctype(file, text.encode())).document()
+    return _Reading(file, _without_doctype(file, xml_text(file).encode())).document()
+
+
+def xml_text(file: Path) -> str:
+    """The text of a file. Raises `Unreadable`."""
+    return _decoded(file, _content(file))
+
+
+def read_fragment(words: str) -> Element:
+    """An element that stands in a text. Raises `Unreadable`."""
+    file = Path("a comment")
+    return _Reading(file, _without_doctype(file, words.encode("utf-8", "replace"))).document().root
 
 
 def _content(file: Path) -> bytes:

@@ -11,12 +11,15 @@ _ESCAPES = {"&": "&amp;", "<": "&lt;", ">": "&gt;", '"': "&quot;", "\n": "&#10;"
 
 @dataclass
 class Tag:
-    """An element. An attribute without a value is not written; `needed` ones are."""
+    """An element. An attribute without a value is not written; `needed` ones are. `words` are escaped, and a `body` is not; `asides` are comments and
+    instructions."""
 
     name: str
     attributes: dict[str, str] = field(default_factory=dict)
     children: list[Tag] = field(default_factory=list)
     body: str | None = None
+    words: str = ""
+    asides: list[tuple[str, str]] = field(default_factory=list)
     needed: tuple[str, ...] = ("Name",)
 
     def add(self, *children: Tag | None) -> Tag:
@@ -40,13 +43,22 @@ def _lines(tag: Tag, indent: str) -> Iterator[str]:
     attributes = "".join(f' {name}="{escaped(value)}"' for name, value in tag.attributes.items() if value or name in tag.needed)
     if tag.body is not None:
         yield f"{indent}<{tag.name}{attributes}><![CDATA[{tag.body.replace(']]>', ']]]]><![CDATA[>')}]]></{tag.name}>"
-    elif tag.children:
-        yield f"{indent}<{tag.name}{attributes}>"
+    elif tag.children or tag.asides:
+        yield f"{indent}<{tag.name}{attributes}>{escaped_words(tag.words)}"
+        for kind, words in tag.asides:
+            yield f"{indent}\t<!-- {_comment(words)} -->" if kind == "comment" else f"{indent}\t<?{words}?>"
         for child in tag.children:
             yield from _lines(child, indent + "\t")
         yield f"{indent}</{tag.name}>"
+    elif tag.words:
+        yield f"{indent}<{tag.name}{attributes}>{escaped_words(tag.words)}</{tag.name}>"
     else:
         yield f"{indent}<{tag.name}{attributes}/>"
+
+
+def escaped_words(words: str) -> str:
+    """Words between the begin and the end of an element."""
+    return words.replace("&", "&amp;").replace("<", "&lt;").replace(">", "&gt;").replace("\r", "&#13;")
 
 
 def escaped(value: str) -> str:

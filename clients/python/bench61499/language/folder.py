@@ -15,7 +15,9 @@ Stamp = tuple[int, int, int]
 
 
 @dataclass(frozen=True)
-class _File:
+class File:
+    """A file as it was read: its text, or why it can't be that of a unit, and the name that the text declares."""
+
     stamp: Stamp
     text: str | None
     declares: str | None
@@ -31,7 +33,7 @@ class Folder:
 
     def __init__(self, paths: list[Path]):
         self._paths = paths
-        self._files: dict[Path, _File] = {}
+        self._files: dict[Path, File] = {}
         self._names: dict[Path, str] = {}
         self._stamps: dict[str, Stamp | None] = {}
         self._looked = False
@@ -65,12 +67,12 @@ class Folder:
         """Whether the files are those that were there before: to list them takes longer."""
         return stamps.keys() == self._stamps.keys() and None not in (*stamps.values(), *self._stamps.values())
 
-    def _read_all(self, found: list[Path]) -> Iterator[tuple[Path, _File]]:
+    def _read_all(self, found: list[Path]) -> Iterator[tuple[Path, File]]:
         """The files, each read again only where it has changed."""
         for file in found:
             if stamp := stamp_of(file):
                 known = self._files.get(file)
-                yield file, known if known and known.stamp == stamp else _read(file, stamp)
+                yield file, known if known and known.stamp == stamp else read_file(file, stamp)
 
     def _name_all(self) -> None:
         owners: dict[str, Path] = {}
@@ -115,9 +117,10 @@ def stamp_of(file: Path | os.DirEntry[str]) -> Stamp | None:
     return (state.st_mtime_ns, state.st_ctime_ns, state.st_size) if stat.S_ISREG(state.st_mode) else None
 
 
-def _read(file: Path, stamp: Stamp) -> _File:
+def read_file(file: Path, stamp: Stamp) -> File:
+    """Reads a file whose state is known."""
     try:
         text = read_text(file)
     except Misuse as error:
-        return _File(stamp, None, None, str(error))
-    return _File(stamp, text, declared_name(text))
+        return File(stamp, None, None, str(error))
+    return File(stamp, text, declared_name(text))

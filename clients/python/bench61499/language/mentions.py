@@ -53,6 +53,16 @@ class Mentions:
             found |= more
         return found
 
+    def below(self, unit: str, texts: Mapping[str, str]) -> set[str]:
+        """The unit and all that it leads to, of those with texts: what its network and its plan rest on."""
+        found, waiting = set[str](), [unit]
+        while waiting:
+            its = waiting.pop()
+            if its in texts and its not in found:
+                found.add(its)
+                waiting += self._of(its, texts[its]).words
+        return found
+
     def near(self, units: Iterable[str], texts: Mapping[str, str]) -> set[str]:
         """These units and those whose change can change their faults, of those with texts."""
         mine = set(units) & texts.keys()

@@ -157,15 +157,31 @@ def _some(units: Sequence[str]) -> str:
     return listed([*units[: _MOST_NAMED - 1], f"{len(units) - _MOST_NAMED + 1:,} more"], "and")
 
 
+def resources(text: str) -> dict[str, str]:
+    """The resources of a system's mappings as they are spelled, `DEVICE.RESOURCE`, by the paths in upper case."""
+    its = Surroundings(text)
+    found: dict[str, str] = {}
+    for begin, end in _paths(its):
+        if its.words(end + 1).upper() == "ON" and its.words(end + 3) == ".":
+            found.setdefault(its.spelled(begin, end + 1).upper(), its.spelled(end + 2, end + 5))
+    return found
+
+
 def _mappings(text: str) -> dict[str, Place]:
     """Where the paths of mappings stand, by the paths in upper case."""
     its = Surroundings(text)
-    begins = [at for at in range(1, len(its.tokens)) if its.section(at) == "MAPPINGS" and its.before(at) in ("MAPPINGS", ";")]
     found: dict[str, Place] = {}
+    for begin, end in _paths(its):
+        found.setdefault(its.spelled(begin, end + 1).upper(), (its.tokens[begin].start, its.tokens[end].end))
+    return found
+
+
+def _paths(its: Surroundings) -> Iterator[tuple[int, int]]:
+    """The paths of mappings: the numbers of their first and last tokens."""
+    begins = [at for at in range(1, len(its.tokens)) if its.section(at) == "MAPPINGS" and its.before(at) in ("MAPPINGS", ";")]
     for begin in begins:
         end = begin
         while its.words(end + 1) == ".":
             end += 2
         if end < len(its.tokens):
-            found.setdefault(its.spelled(begin, end + 1).upper(), (its.tokens[begin].start, its.tokens[end].end))
-    return found
+            yield begin, end

@@ -8,7 +8,7 @@ from dataclasses import dataclass, replace
 from pathlib import Path
 from typing import NoReturn
 
-from bench61499 import NAME_LIMIT, TEXT_LIMIT, UNITS_LIMIT, NoSuchKey, Put, Session, StaleBase, batches
+from bench61499 import NAME_LIMIT, TEXT_LIMIT, UNITS_LIMIT, Put, Session, StaleBase, batches
 from bench61499.language.tokens import RESERVED, declared_name
 
 
@@ -157,11 +157,3 @@ def _put_over(session: Session, batch: list[Put]) -> int:
             units = list(bases)
             behind = units[units.index(refusal.unit) :]
             bases |= {refusal.unit: refusal.current, **dict.fromkeys(behind, refusal.current)}
-
-
-def is_broken(session: Session, unit: str) -> bool:
-    """Whether the workbench has the unit, and its text spells none."""
-    try:
-        return any(fault.code == "SYNTAX" for fault in session.wait("faults", unit))
-    except NoSuchKey:
-        return False

@@ -10,35 +10,45 @@ from bench61499 import TEXT_LIMIT
 from bench61499.language.layout import Edit, applied, formatted
 from bench61499.language.plant import Plant, Text
 from bench61499.language.positions import Position, place
-from bench61499.lsp.completion import candidates
+from bench61499.lsp.choices import TITLES, Choices
+from bench61499.lsp.completion import ItemKind, candidates
 from bench61499.lsp.documents import Diagnostic, path_of
 from bench61499.lsp.fixes import Fix, fixes
 from bench61499.lsp.folding import folding_ranges
 from bench61499.lsp.highlight import TOKEN_MODIFIERS, TOKEN_TYPES, semantic_tokens
-from bench61499.lsp.hover import described
+from bench61499.lsp.hover import described, type_of
+from bench61499.lsp.lenses import lenses
 from bench61499.lsp.navigation import Found, definitions, highlights, name_at, outline, references, units_named
 from bench61499.lsp.rename import CantRename, check_target, renamed
+from bench61499.lsp.signature import signature
+from bench61499.lsp.snippets import SNIPPETS, label
 
 PATIENCE = 0.01
 """Seconds that an answer may wait for files and texts to be read."""
+_IS_SNIPPET = 2
+"""The format of a text to insert that has places to fill in."""
 CAPABILITIES = {
     "positionEncoding": "utf-16",
     "textDocumentSync": {"openClose": True, "change": 2, "save": {"includeText": False}},
     "documentSymbolProvider": True,
     "workspaceSymbolProvider": True,
     "definitionProvider": True,
+    "typeDefinitionProvider": True,
     "referencesProvider": True,
     "documentHighlightProvider": True,
     "hoverProvider": True,
     "completionProvider": {"triggerCharacters": ["."]},
+    "signatureHelpProvider": {"triggerCharacters": ["(", ","]},
     "renameProvider": {"prepareProvider": True},
     "codeActionProvider": {"codeActionKinds": ["quickfix"]},
+    "executeCommandProvider": {"commands": list(TITLES)},
     "semanticTokensProvider": {
         "legend": {"tokenTypes": list(TOKEN_TYPES), "tokenModifiers": list(TOKEN_MODIFIERS)},
         "full": True,
         "range": True,
     },
     "foldingRangeProvider": True,
+    "codeLensProvider": {"resolveProvider": False},
     "documentFormattingProvider": True,
     "documentRangeFormattingProvider": True,
 }
@@ -52,7 +62,8 @@ class Answers:
     """Answers by the texts as they are now.
 
     `catch_up` takes in the files that have changed until a time, and tells whether that is all; `shown` gives what the editor shows of a file;
-    `lacks` is told what was answered though not all was read.
+    `lacks` is told what was answered though not all was read; `choices` are what the user can do with texts that others have changed.
+    It `has_snippets` if the editor can fill in their places.
     """
 
     def __init__(
@@ -61,8 +72,10 @@ class Answers:
         catch_up: Callable[[float], bool],
         shown: Callable[[Path], list[Diagnostic]],
         lacks: Callable[[str], None],
+        choices: Choices,
     ):
-        self._plant, self._catch_up, self._shown, self._lacks = plant, catch_up, shown, lacks
+        self._plant, self._catch_up, self._shown, self._lacks, self._choices = plant, catch_up, shown, lacks, choices
+        self.has_snippets = self.lacks_lenses = False
 
     def answer(self, method: str, params: Any) -> Any:
         """Raises `CantAnswer`, `CantRename`, and `KeyError`, `TypeError` and the like where the parameters make no sense.
@@ -88,6 +101,8 @@ class Answers:
     def _answer(self, method: str, params: Any) -> Any:
         if method == "workspace/symbol":
             return units_named(self._plant, params["query"])
+        if method == "workspace/executeCommand":
+            return self._do(params["command"], *params["arguments"])
         path = path_of(params["textDocument"]["uri"])
         text = self._plant.text(path)
         return self.METHODS[method](self, text, params) if text else None
@@ -107,6 +122,13 @@ class Answers:
     def _definition(self, text: Text, params: Any) -> Any:
         found = self._found(text, params)
         return definitions(self._plant, found.key) if found else []
+
+    def _type_definition(self, text: Text, params: Any) -> Any:
+        """Where the type of an instance, or the structure of a variable or a field, is declared."""
+        found = self._found(text, params)
+        declared = self._plant.declaration(found.key) if found else None
+        its = type_of(self._plant, declared) if declared else None
+        return definitions(self._plant, its.unit.declared[0].key) if its else []
 
     def _references(self, text: Text, params: Any) -> Any:
         found = self._found(text, params)
@@ -134,7 +156,15 @@ class Answers:
 
     def _completion(self, text: Text, params: Any) -> Any:
         found = candidates(self._plant, text, self._place(text, params["position"]))
-        return [{"label": it.words, "kind": it.kind, **({"detail": it.detail} if it.detail else {})} for it in found]
+        its = [{"label": it.words, "kind": it.kind, **({"detail": it.detail} if it.detail else {})} for it in found]
+        return [*its, *(self._snippet(it.words) for it in found if it.kind == ItemKind.KEYWORD and it.words in SNIPPETS and self.has_snippets)]
+
+    def _snippet(self, word: str) -> Any:
+        whole = {"insertTextFormat": _IS_SNIPPET, "insertText": SNIPPETS[word]}
+        return {"label": label(word), "kind": ItemKind.SNIPPET, "filterText": word, **whole}
+
+    def _signature(self, text: Text, params: Any) -> Any:
+        return signature(self._plant, text, self._place(text, params["position"]))
 
     def _prepare_rename(self, text: Text, params: Any) -> Any:
         found = check_target(self._plant, self._found(text, params))
@@ -147,7 +177,13 @@ class Answers:
         only = params["context"].get("only")
         if only and "quickfix" not in only:
             return []
-        return [self._action(fix, it) for it in params["context"]["diagnostics"] for fix in self._fixes(text, it)]
+        mended = [self._action(fix, it) for it in params["context"]["diagnostics"] for fix in self._fixes(text, it)]
+        return [*mended, *self._choices.actions(text.file, self._shown(text.file))]
+
+    def _do(self, command: str, uri: str) -> None:
+        """Does what a code action names."""
+        if why := self._choices.do(command, path_of(uri)):
+            raise CantAnswer(why)
 
     def _fixes(self, text: Text, shown: Diagnostic) -> Iterable[Fix]:
         return fixes(self._plant, text, str(shown.get("code")), *self._span(text, shown))
@@ -159,6 +195,17 @@ class Answers:
     def _tokens(self, text: Text, params: Any) -> Any:
         start, end = self._span(text, params) if "range" in params else (0, len(text.places.encoded))
         return {"data": semantic_tokens(text, start, end)}
+
+    def _lenses(self, text: Text, params: Any) -> Any:
+        """None as long as texts are to be read: then the editor is told to ask again."""
+        self.lacks_lenses |= not self._plant.is_read()
+        return lenses(self._plant, text) if self._plant.is_read() else []
+
+    def lenses_are_due(self) -> bool:
+        """Whether lenses were asked for too early, and can be given now."""
+        is_due = self.lacks_lenses and self._plant.is_read()
+        self.lacks_lenses &= not is_due
+        return is_due
 
     def _folding(self, text: Text, params: Any) -> Any:
         return folding_ranges(text)
@@ -174,19 +221,23 @@ class Answers:
         start, end, new = edit
         return {"range": text.range(start, end), "newText": new}
 
+    OF_THE_FOLDER = frozenset(["workspace/symbol", "workspace/executeCommand"])
     METHODS = {
         "textDocument/documentSymbol": _outline,
         "textDocument/definition": _definition,
+        "textDocument/typeDefinition": _type_definition,
         "textDocument/references": _references,
         "textDocument/documentHighlight": _highlights,
         "textDocument/hover": _hover,
         "textDocument/completion": _completion,
+        "textDocument/signatureHelp": _signature,
         "textDocument/prepareRename": _prepare_rename,
         "textDocument/rename": _rename,
         "textDocument/codeAction": _code_actions,
         "textDocument/semanticTokens/full": _tokens,
         "textDocument/semanticTokens/range": _tokens,
         "textDocument/foldingRange": _folding,
+        "textDocument/codeLens": _lenses,
         "textDocument/formatting": _format,
         "textDocument/rangeFormatting": _format,
     }
@@ -199,6 +250,7 @@ class Answers:
     _SEARCHES = {
         "workspace/symbol": "A search of units",
         "textDocument/definition": "A search of a definition",
+        "textDocument/typeDefinition": "A search of a type",
         "textDocument/references": "A search of uses",
     }
     """What users ask for, so that they are told where an answer may lack something."""

@@ -7,17 +7,19 @@ from dataclasses import replace
 from pathlib import Path
 from typing import Any
 
-from bench61499 import TEXT_LIMIT, Fault, Places, Session
-from bench61499.language.explain import Names
+from bench61499 import Session
 from bench61499.language.plant import Plant
-from bench61499.language.tokens import declaration
-from bench61499.lsp.diagnoses import diagnostic, explained, marked, of_others, remark, taken, whose
-from bench61499.lsp.documents import Diagnostic, Document, Source
-from bench61499.lsp.related import related
-from bench61499.lsp.rpc import INFO, WARNING, Message, tell
-from bench61499.lsp.shared import News, Unit, Wanted
+from bench61499.lsp.asking import Asking
+from bench61499.lsp.choices import Choices, Differing
+from bench61499.lsp.commits import News, Wanted
+from bench61499.lsp.diagnoses import taken, whose
+from bench61499.lsp.documents import Diagnostic, Document, path_of
+from bench61499.lsp.offers import Offers, Vanished
+from bench61499.lsp.pages import Pages
+from bench61499.lsp.rpc import INFO, WARNING, Message
 from bench61499.lsp.sources import Sources
 from bench61499.lsp.talk import Talk
+from bench61499.lsp.teamtalk import TeamTalk
 
 PIECE = 0.005
 """Seconds for which files and texts are read before the next message is looked for."""
@@ -25,31 +27,35 @@ QUIET = 0.3
 """Seconds after the last key for which a change waits for further ones."""
 LONGEST_HOLD = 2.0
 """Seconds that changes wait for others that belong to the same edit."""
-OLD = "as last known"
 
 
 class Checking:
-    """The texts of an editor and of its folders, and what the workbench finds in them. It `relates` faults to other places if the editor can show that.
+    """The texts of an editor and of its folders, and what the workbench finds in them. `asking` asks the editor; `choices` are what its user can do
+    with texts that others have changed.
 
     The editor changes documents at once. When no message is waiting, `step` begins to bring the workbench up to date in a thread of its own,
     so that no request waits for it; then `wake` is called, and the next `step` shows what was found.
     """
 
     def __init__(self, open_workbench: Callable[[], Session], shared: bool, send: Callable[[Message], None], wake: Callable[[], None]):
-        self._send = send
-        self._sources = Sources(lambda words: self._tell(WARNING, words))
-        self._talk = Talk(open_workbench, shared, self._tell, wake)
-        self._wanted, self._passed = Wanted(), frozenset[str]()
+        self._send, self._shared = send, shared
+        self.asking = Asking(send)
+        self._sources = Sources(lambda words: self.asking.tell(WARNING, words))
+        self._new_talk = lambda: Talk(open_workbench, shared, self.asking.tell, wake)
+        self._talk: Talk | TeamTalk = self._new_talk()
+        self._pages = Pages(self._sources)
+        self.choices = Choices(self, self.asking)
+        self._offers = Offers(self.asking, self._is_open, self.choices.expect)
+        self._vanished = Vanished(self.asking, self._release)
+        self._wanted = self._passed = Wanted()
         self._is_dirty = False
         self._insisted: set[Path] = set()
-        self._units: dict[str, Unit] = {}
-        self._faults: dict[str, tuple[Fault, ...]] = {}
-        self._found: dict[Path, list[Diagnostic]] = {}
-        self._others: dict[Path, list[Diagnostic]] = {}
+        self._shut: set[Path] = set()
+        self._forced: dict[Path, int] = {}
+        self._agreed: dict[Path, str | None] = {}
         self._shown: dict[Path, list[Diagnostic]] = {}
         self._uris: dict[Path, str] = {}
-        self._trouble = self._lacking = ""
-        self.relates = False
+        self._lacking = ""
         self._quiet_until = self._held_until = 0.0
 
     @property
@@ -63,18 +69,25 @@ class Checking:
             return 0
         if self._is_dirty and self._talk.can_begin(True):
             return 0
-        waits = self._talk.patience(), self._hold() if self._is_new() else None
+        due = self._pages.due()
+        aged = None if due is None else max(0.0, due - time.monotonic())
+        waits = self._talk.patience(), self._hold() if self._is_new() else None, self._offers.patience(), aged
         return min((it for it in waits if it is not None), default=None)
 
     # What the editor does
 
     def open(self, uri: str, version: int | None, raw: str) -> None:
         self._sources.open(uri, version, raw)
+        path = path_of(uri)
+        self._offers.opened(path)
+        self.choices.changed(path)
         self.refresh_files()
 
     def change(self, uri: str, version: int | None, changes: list[dict[str, Any]]) -> None:
         """Makes the changes one after the other, or none of them where one makes no sense."""
-        self._insisted.add(self._sources.change(uri, version, changes))
+        path = self._sources.change(uri, version, changes)
+        self._insisted.add(path)
+        self.choices.changed(path)
         self._quiet_until = time.monotonic() + (QUIET if not self._held_until or self._sources.is_expecting() else 0)
 
     def save(self, path: Path) -> None:
@@ -85,7 +98,11 @@ class Checking:
         self.refresh_files()
 
     def shut(self, uri: str) -> None:
-        self._insisted.discard(self._sources.shut(uri))
+        path = self._sources.shut(uri)
+        self._insisted.discard(path)
+        self._shut.add(path)
+        self._offers.decline(path)
+        self.choices.changed(path)
 
     def expect(self, texts: dict[Path, str]) -> None:
         """Tells that the editor is going to give files these texts by one edit: then the workbench gets them by one commit."""
@@ -95,6 +112,41 @@ class Checking:
     def shown(self, path: Path) -> list[Diagnostic]:
         """What the editor shows of a file."""
         return self._shown.get(path, [])
+
+    # What the user can do with texts that others have changed
+
+    def document(self, path: Path) -> Document | None:
+        return self._sources.documents.get(path)
+
+    def differing(self, path: Path) -> Differing | None:
+        """An open text over which somebody else has put another one."""
+        document, unit = self.document(path), self._unit_of(path)
+        it = self._pages.units.get(unit) if unit else None
+        return Differing(unit, it, document) if unit and it and document and it.is_changed and self._talk.gives_texts else None
+
+    def agree(self, path: Path, text: str | None) -> None:
+        """Tells which text of others was the last that went into this one, if any."""
+        self._agreed[path] = text
+
+    def force(self, path: Path, revision: int) -> None:
+        """Tells that this text is to be put over that of others, which has a revision."""
+        self._forced[path] = revision
+        self._quiet_until = 0.0
+
+    def relate(self) -> None:
+        """Has faults shown with places that they have to do with."""
+        self._pages.relates = True
+
+    def _is_open(self, path: Path) -> bool:
+        return path in self._sources.documents
+
+    def _unit_of(self, path: Path) -> str | None:
+        source = self._sources.source(path)
+        return source.unit if source else None
+
+    def _release(self) -> None:
+        """Has units removed that were kept."""
+        self._wanted, self._is_dirty = replace(self._wanted, kept=self._vanished.kept), True
 
     def close(self) -> None:
         """Ends the workbench, with what it is doing."""
@@ -123,7 +175,7 @@ class Checking:
     def _tell_lacking(self) -> None:
         if self._lacking and self._sources.is_read():
             read = self.plant.counts()[0]
-            self._tell(INFO, f"All {read:,} units are read now. {self._lacking} was answered before that and may lack some: ask again.")
+            self.asking.tell(INFO, f"All {read:,} units are read now. {self._lacking} was answered before that and may lack some: ask again.")
             self._lacking = ""
 
     # The workbench
@@ -133,18 +185,32 @@ class Checking:
         end = time.monotonic() + PIECE
         if news := self._talk.poll():
             self._take(news)
-        if self._talk.trouble != self._trouble:
-            self._trouble = self._talk.trouble
-            self._show_all()
-        if self._sources.catch_up(end) and not self._hold():
-            self._settle()
+        self._follow_talk()
+        if self._sources.catch_up(end):
+            if not self._hold():
+                self._settle()
             if self._talk.can_begin(self._is_dirty):
                 self._begin()
         self.plant.refresh(end)
         self._tell_lacking()
+        self._offers.step()
+        if aged := self._pages.aged():
+            self._show(aged)
+
+    def _follow_talk(self) -> None:
+        """Goes on with another talk where the server turns out to be of another kind, and shows it if nothing is known now."""
+        if self._talk.is_over:
+            self._talk.close()
+            self._talk = self._new_talk()
+            self._talk.open()
+        elif isinstance(self._talk, Talk) and self._talk.successor:
+            self._talk = self._talk.successor
+        if (self._talk.trouble, self._talk.gives_texts) != (self._pages.trouble, self._pages.gives_texts):
+            self._pages.trouble, self._pages.gives_texts = self._talk.trouble, self._talk.gives_texts
+            self._show([*self._shown, *self._sources.documents])
 
     def _is_new(self) -> bool:
-        return self._sources.has_changed() or bool(self._insisted)
+        return self._sources.has_changed() or any((self._insisted, self._shut, self._forced, self._agreed))
 
     def _hold(self) -> float:
         """How long changes wait yet for further keys, or for the rest of an edit."""
@@ -157,47 +223,74 @@ class Checking:
             return
         changed = self._sources.settle()
         self._held_until = 0.0
-        insisted = {source.unit for path in self._insisted if (source := self._sources.source(path)) and source.unit}
-        self._insisted.clear()
-        documents = (self._sources.source(path) for path in self._sources.documents)
-        is_open = frozenset(it.unit for it in documents if it and it.unit)
         texts = self._sources.units() if changed else self._wanted.texts
-        self._wanted, self._is_dirty = Wanted(texts, self._wanted.insisted | insisted, is_open), True
+        if self._shared:
+            self._vanished.look({unit for unit in self._wanted.texts if unit not in texts and self._is_from_here(unit)}, texts)
+        shut = self._units_of(self._shut)
+        self._wanted, self._is_dirty = Wanted(
+            texts,
+            self._wanted.insisted - shut | self._units_of(self._insisted),
+            {unit: it.saved for path, it in self._sources.documents.items() if (unit := self._unit_of(path))},
+            self._vanished.kept,
+            self._wanted.shut | shut,
+            {**self._wanted.forced, **{unit: it for path, it in self._forced.items() if (unit := self._unit_of(path))}},
+            {**self._wanted.agreed, **{unit: it for path, it in self._agreed.items() if (unit := self._unit_of(path))}},
+        ), True
+        self._insisted, self._shut, self._forced, self._agreed = set(), set(), {}, {}
         self._show(changed)
+
+    def _units_of(self, paths: Iterable[Path]) -> frozenset[str]:
+        return frozenset(unit for path in paths if (unit := self._unit_of(path)))
+
+    def _is_from_here(self, unit: str) -> bool:
+        it = self._pages.units.get(unit)
+        return it is not None and it.text is not None and it.is_ours
 
     def _begin(self) -> None:
         """Has these texts brought into the workbench."""
-        self._passed, self._is_dirty = self._wanted.insisted, False
-        self._talk.begin(self._wanted)
+        is_dirty, self._passed, self._is_dirty = self._is_dirty, self._wanted, False
+        self._talk.begin(self._wanted, is_dirty)
 
     def _take(self, news: News) -> None:
         """Takes what a turn has found. What its user has changed before it was told that somebody else had, is not put."""
-        for unit in news.units:
-            self._faults.pop(unit, None)
-        self._units |= news.units
-        self._faults |= news.faults
+        self._pages.take(news)
         lost = news.taken | news.refused
         self._insisted -= {self._sources.owners.get(unit) for unit in lost}
-        done = lost if self._talk.trouble else lost | self._passed
-        self._wanted = replace(self._wanted, insisted=self._wanted.insisted - done)
+        self._wanted = replace(self._wanted, insisted=self._wanted.insisted - lost)
+        if news.is_brought:
+            self._drop_passed()
         self._tell_taken(sorted(lost))
-        self._show(path for unit in news.units | news.faults if (path := self._sources.owners.get(unit)))
+        found = {unit: path for unit in news.units | news.faults if (path := self._sources.owners.get(unit))}
+        for unit, path in found.items():
+            self._offers.note(path, unit, self._pages.units[unit], self._wanted.texts.get(unit))
+        self._show(found.values())
+
+    def _drop_passed(self) -> None:
+        """What was asked for once and is done."""
+        wanted, passed = self._wanted, self._passed
+        self._wanted = replace(
+            wanted,
+            insisted=wanted.insisted - passed.insisted,
+            shut=wanted.shut - passed.shut,
+            forced=dict(wanted.forced.items() - passed.forced.items()),
+            agreed=dict(wanted.agreed.items() - passed.agreed.items()),
+        )
 
     def _tell_taken(self, units: list[str]) -> None:
-        """Tells the user, by one message, of the open texts over which somebody else has put another one, or which somebody else has removed."""
+        """Tells the user, by one message, of the open texts over which somebody else has put another one, or which somebody else has removed.
+
+        Where texts can be compared, the text shows it, and what can be done.
+        """
         reasons: dict[str, str] = {}
-        for unit in units:
-            it, path = self._units[unit], self._sources.owners.get(unit)
+        for unit in units if not self._talk.gives_texts else ():
+            it, path = self._pages.units[unit], self._sources.owners.get(unit)
             document = self._sources.documents.get(path) if path else None
             if document and it.text is None:
-                reasons[unit] = whose(unit, it, document.text, self._faults.get(unit, ()))
+                reasons[unit] = whose(unit, it, document.text, self._pages.faults.get(unit) or ())
         if reasons:
-            self._tell(WARNING, taken(reasons))
+            self.asking.tell(WARNING, taken(reasons))
 
     # What is shown
-
-    def _show_all(self) -> None:
-        self._show([*self._shown, *self._sources.documents])
 
     def _show(self, paths: Iterable[Path]) -> None:
         """Shows what is known of files, and of open texts of which that is not shown yet."""
@@ -211,7 +304,7 @@ class Checking:
 
     def _show_one(self, path: Path) -> None:
         document, source = self._sources.documents.get(path), self._sources.source(path)
-        page = self._page(path, document, source)
+        page = self._pages.page(path, document, source)
         if page is not None and (page != self._shown.get(path, []) or document and not document.is_published):
             self._publish(path, document.uri if document else self._uris.get(path) or path.as_uri(), page)
 
@@ -223,56 +316,3 @@ class Checking:
             params |= {"version": document.version} if document.version is not None else {}
         self._send({"method": "textDocument/publishDiagnostics", "params": params})
         self._shown[path], self._uris[path] = page, uri
-
-    def _page(self, path: Path, document: Document | None, source: Source | None) -> list[Diagnostic] | None:
-        """What to show of a file; None while that is not known, and what is shown stays."""
-        if document and document.is_too_long:
-            too_long = f"the text has {document.size:,} bytes, and that of a unit has at most {TEXT_LIMIT:,}"
-            return [diagnostic(Places(""), 0, 0, too_long)]
-        if document and (not source or source.text != document.text):
-            return None  # It is not settled yet.
-        if not source or source.text is None:
-            return []
-        if source.unit is None:
-            return [self._double(document.text)] if document else []
-        if self._talk.trouble:
-            return self._unknown(path, source.text, f"not checked: {self._talk.trouble}", bool(document))
-        it = self._units.get(source.unit)
-        return self._known(path, source.text, source.unit, it, bool(document)) if it else None
-
-    def _known(self, path: Path, text: str, unit: str, it: Unit, is_open: bool) -> list[Diagnostic] | None:
-        """Of a unit of which it is known what the workbench has."""
-        faults = self._faults.get(unit)
-        names, texts = Names(self._sources.owners if faults else ()), self.plant.known
-        if it.text is not None:
-            if it.text != text or faults is None:
-                return None
-            self._others.pop(path, None)
-            self._found[path] = self._related(path, text, faults, explained(text, faults, names, texts))
-            return self._found[path]
-        why = whose(unit, it, text, faults or ())
-        if not it.revision or path in self._found and is_open:
-            return self._unknown(path, text, why, True)
-        self._others[path] = of_others(text, faults or (), names, texts)
-        return [*([remark(text, why)] if is_open else []), *self._others[path]]
-
-    def _unknown(self, path: Path, text: str, why: str, is_told: bool) -> list[Diagnostic]:
-        """The last faults that were found of a text, marked as such, and why there are no newer ones."""
-        return [*([remark(text, why)] if is_told else []), *marked(self._found.get(path) or self._others.get(path) or [], OLD)]
-
-    def _related(self, path: Path, text: str, faults: tuple[Fault, ...], shown: list[Diagnostic]) -> list[Diagnostic]:
-        """Faults with the places where what they name is declared."""
-        its = self._sources.plant.text(path) if self.relates and faults else None
-        if not its or its.text != text:
-            return shown
-        places = (related(self._sources.plant, its, fault.start, fault.end) for fault in faults)
-        return [{**it, **({"relatedInformation": more} if more else {})} for it, more in zip(shown, places)]
-
-    def _double(self, text: str) -> Diagnostic:
-        name = declaration(text)
-        assert name, "only a name that is declared can be another's"
-        owner = self._sources.owners[name.upper].name
-        return diagnostic(Places(text), name.start, name.end, f"{owner} declares the unit {name.upper} too; a unit has one text")
-
-    def _tell(self, severity: int, words: str) -> None:
-        self._send(tell(severity, words))

@@ -25,6 +25,7 @@ class ItemKind(IntEnum):
     MODULE = 9
     PROPERTY = 10
     KEYWORD = 14
+    SNIPPET = 15
     ENUM_MEMBER = 20
     STRUCT = 22
     EVENT = 23

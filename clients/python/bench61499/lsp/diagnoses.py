@@ -1,18 +1,23 @@
 """What an editor shows of a unit: its faults, or why they are not known."""
 from __future__ import annotations
 
+from collections.abc import Iterable
+
 from bench61499 import Fault, Places
 from bench61499.language.explain import Explainer, Names
 from bench61499.language.fitting import fits
+from bench61499.language.merging import MARKS
 from bench61499.language.positions import range_of
+from bench61499.language.skipped import CODE, skipped
 from bench61499.language.texts import Texts
 from bench61499.language.wording import listed
 from bench61499.lsp.documents import Diagnostic
 from bench61499.lsp.rpc import ERROR, INFO, WARNING
-from bench61499.lsp.shared import Unit
+from bench61499.lsp.commits import Unit
 
 MOST_NAMED = 3
 """Units that one message names."""
+_SIZES = (86_400, "d"), (3_600, "h"), (60, "min")
 
 
 def diagnostic(places: Places, start: int, end: int, message: str, code: str | None = None, severity: int = ERROR) -> Diagnostic:
@@ -27,7 +32,17 @@ def remark(text: str, words: str) -> Diagnostic:
 
 
 def explained(text: str, faults: tuple[Fault, ...], names: Names, texts: Texts) -> list[Diagnostic]:
-    """The faults of a text in the words of an engineer."""
+    """The faults of a text in the words of an engineer, and the algorithms in it that are not checked."""
+    return [*_faults(text, faults, names, texts), *_skipped(text)]
+
+
+def _skipped(text: str) -> list[Diagnostic]:
+    its = skipped(text)
+    places = Places(text) if its else None
+    return [diagnostic(places, it.words[0].start, it.words[-1].end, it.explanation, CODE, INFO) for it in its if places]
+
+
+def _faults(text: str, faults: tuple[Fault, ...], names: Names, texts: Texts) -> list[Diagnostic]:
     if not faults:
         return []
     explainer, places = Explainer(text, names, texts), Places(text)
@@ -41,7 +56,7 @@ def marked(shown: list[Diagnostic], words: str) -> list[Diagnostic]:
 
 def of_others(text: str, faults: tuple[Fault, ...], names: Names, texts: Texts) -> list[Diagnostic]:
     """The faults of what somebody else has put, if they can be those of this text."""
-    return marked(explained(text, faults, names, texts), "in the workbench's text") if fits(text, faults) else []
+    return marked(_faults(text, faults, names, texts), "in the workbench's text") if fits(text, faults) else []
 
 
 def whose(unit: str, it: Unit, text: str, faults: tuple[Fault, ...]) -> str:
@@ -63,7 +78,39 @@ def taken(reasons: dict[str, str]) -> str:
     """The message that others have put or removed these units; `reasons` are the words of `whose`."""
     if len(reasons) == 1:
         return "".join(f"{unit} is {why}." for unit, why in reasons.items())
-    more = len(reasons) - MOST_NAMED
-    named = listed([*list(reasons)[:MOST_NAMED], *([f"{more:,} more"] if more > 0 else [])], "and")
     why = "not checked, or perhaps not, as another session has put or removed them"
-    return f"{len(reasons):,} open units are {why}: {named}; edit or save one to put its text."
+    return f"{len(reasons):,} open units are {why}: {named(reasons)}; edit or save one to put its text."
+
+
+def named(units: Iterable[str]) -> str:
+    """Some units by name, and how many more there are."""
+    its = sorted(units)
+    more = len(its) - MOST_NAMED
+    return listed([*its[:MOST_NAMED], *([f"{more:,} more"] if more > 0 else [])], "and")
+
+
+def changed(unit: str, it: Unit, now: float) -> str:
+    """Who has changed a unit, and when, as far as that is known."""
+    author = it.author
+    if not author:
+        return f"{unit} differs from the team's text (commit {it.revision})"
+    what, who = "changed" if it.revision else "removed", f"session {author.session}" if author.session else "others"
+    commit = f" (commit {author.commit})" if author.commit else ""
+    return f"{unit} was {what} by {who}{commit} {_age(now - author.heard)} ago"
+
+
+def _age(seconds: float) -> str:
+    """A time in the largest unit of which there is one."""
+    whole, name = next(((seconds // size, name) for size, name in _SIZES if seconds >= size), (seconds, "s"))
+    return f"{int(whole)} {name}"
+
+
+def conflicts(text: str) -> list[Diagnostic]:
+    """What is shown of a text with marked lines of a merge."""
+    places, at, found = Places(text), 0, []
+    for line in places.encoded.splitlines(keepends=True):
+        if line.startswith(MARKS[0].encode()):
+            words = "both you and others have changed these lines: the text is not put while it has marked ones"
+            found.append(diagnostic(places, at, at + len(line.rstrip()), words, severity=WARNING))
+        at += len(line)
+    return found

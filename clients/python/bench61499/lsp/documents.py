@@ -17,7 +17,8 @@ Diagnostic = dict[str, Any]
 class Document:
     """A text that is open in the editor.
 
-    `raw` is as the editor has it, `text` the same without halves of characters. `is_published` tells whether the editor shows what was found of
+    `raw` is as the editor has it, `text` the same without halves of characters, `saved` the text that the file had when it was
+    opened, or this one. `is_published` tells whether the editor shows what was found of
     this version.
     """
 
@@ -25,6 +26,7 @@ class Document:
     version: int | None
     raw: str
     text: str
+    saved: str
     is_published: bool = False
 
     @property

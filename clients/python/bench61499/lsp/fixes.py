@@ -1,4 +1,4 @@
-"""Changes that mend a fault: a name that is near to a wrong one, or the declaration that is missing."""
+"""Changes that mend a fault: a name that is near to a wrong one, the declaration that is missing, or a symbol."""
 from __future__ import annotations
 
 from collections.abc import Iterator
@@ -6,10 +6,12 @@ from dataclasses import dataclass
 
 from bench61499.language.declarations import CONNECTION_SECTIONS, ENDS, EVENT, INSTANCE, TYPE, TYPE_KINDS, VARIABLE, Key, Use, Wanted
 from bench61499.language.explain import Names
+from bench61499.language.grammar import first_stop
 from bench61499.language.nesting import Nesting
 from bench61499.language.plant import Plant, Text
 from bench61499.language.reader import read
-from bench61499.language.tokens import pieces
+from bench61499.language.skipped import FULL, heads
+from bench61499.language.tokens import Token, pieces, tokens
 from bench61499.lsp.completion import ACROSS, declared, port_sections
 from bench61499.lsp.hover import WHAT
 
@@ -58,10 +60,40 @@ class Wrong:
 
 def fixes(plant: Plant, text: Text, code: str, start: int, end: int) -> list[Fix]:
     """What would mend a fault at a span, the most probable first."""
+    if code == "SYNTAX":
+        return [*_symbols(text)] or [*_unread(text, start)]
     wrong = _wrong(plant, text, start, end) if code in _NAMES else None
     if not wrong:
         return []
     return [*_nearest(plant, wrong), *(_missing(plant, wrong) if code in ("PORT_UNKNOWN", "EVENT_UNKNOWN") else ())]
+
+
+def _symbols(text: Text) -> Iterator[Fix]:
+    """A `:=` where `=` is written, or a `;` that is missing, if the text can be read further then."""
+    of = list(tokens(text.text))
+    stop = first_stop(of)
+    if not stop or not 0 < stop.at < len(of):
+        return
+    at, before = of[stop.at], of[stop.at - 1]
+    if at.words == "=" and _goes_on([*of[: stop.at], at._replace(words=":="), *of[stop.at + 1 :]], stop.at):
+        yield Fix("Change = to :=", text, at.start, at.end, ":=")
+    if ";" in (*stop.needed, *stop.possible) and _goes_on([*of[: stop.at], at._replace(kind="symbol", words=";"), *of[stop.at :]], stop.at + 1):
+        yield Fix(f"Put ; behind {before.words}", text, before.end, before.end, ";")
+
+
+def _goes_on(of: list[Token], at: int) -> bool:
+    """Whether tokens can be read beyond one of them."""
+    stop = first_stop(of)
+    return not stop or stop.at > at
+
+
+def _unread(text: Text, place: int) -> Iterator[Fix]:
+    """An algorithm that can't be read is kept in another language, so that all else of its unit is checked."""
+    for it in heads(text.text):
+        if it.is_read and it.end and it.language.end <= place <= it.end.start:
+            colon = text.places.encoded[it.language.end : place].lstrip()[:1] == b":"
+            end = text.places.encoded.index(b":", it.language.end) + 1 if colon else it.language.end
+            yield Fix(f"Keep {it.name} as IN {FULL}, not checked by the workbench", text, it.language.start, end, FULL)
 
 
 def _wrong(plant: Plant, text: Text, start: int, end: int) -> Wrong | None:

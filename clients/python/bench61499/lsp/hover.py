@@ -39,12 +39,12 @@ def described(plant: Plant, key: Key) -> str | None:
     if key.space == TYPE:
         return "\n".join(_interface(text.unit, it, comments))
     lines = [_line(it), *comments.of(it)]
-    if of := _type(plant, it):
+    if of := type_of(plant, it):
         lines += ["", *_interface(of.unit, of.unit.declared[0], Comments(of))]
     return "\n".join(lines)
 
 
-def _type(plant: Plant, it: Declaration) -> Text | None:
+def type_of(plant: Plant, it: Declaration) -> Text | None:
     """The type of an instance, or the structure that a variable or a field is of."""
     name = it.type.upper() if it.key.space == INSTANCE else type_of_data(it.type)
     of = next(iter(plant.declaring(name)), None)
@@ -54,10 +54,10 @@ def _type(plant: Plant, it: Declaration) -> Text | None:
 
 def _line(it: Declaration) -> str:
     """A declaration in one line."""
-    return f"{WHAT[it.section]} of {it.key.owner}: {_spelled(it)}"
+    return f"{WHAT[it.section]} of {it.key.owner}: {spelled(it)}"
 
 
-def _spelled(it: Declaration) -> str:
+def spelled(it: Declaration) -> str:
     """A declaration as it would be written."""
     words = it.words
     if it.key.space == STATE:
@@ -83,9 +83,9 @@ def _interface(unit: Unit, head: Declaration, comments: Comments) -> Iterator[st
             yield f"  {section}"
         for port in ports:
             remark = " ".join(comments.of(port))
-            yield f"    {_spelled(port)}" + (f"  (* {remark} *)" if remark else "")
+            yield f"    {spelled(port)}" + (f"  (* {remark} *)" if remark else "")
     for section in ("APPLICATION", "DEVICE"):
-        yield from (f"  {section} {_spelled(it)}" for it in unit.of(section))
+        yield from (f"  {section} {spelled(it)}" for it in unit.of(section))
 
 
 class Comments:

@@ -30,7 +30,7 @@ class Server:
     def __init__(self, open_workbench: Callable[[], Session], shared: bool, send: Callable[[Message], None], wake: Callable[[], None]):
         self._send = send
         self._checking = Checking(open_workbench, shared, send, wake)
-        self._answers = Answers(self._checking.plant, self._checking.catch_up, self._checking.shown, self._checking.lacks)
+        self._answers = Answers(self._checking.plant, self._checking.catch_up, self._checking.shown, self._checking.lacks, self._checking.choices)
         self._initialized = self._shut_down = self._can_register = False
         self._waiting: set[Any] = set()
         self._cancelled: set[Any] = set()
@@ -43,6 +43,9 @@ class Server:
     def step(self) -> None:
         """What can be done without a message."""
         self._checking.step()
+        asking = self._checking.asking
+        if self._answers.lenses_are_due() and asking.can("workspace", "codeLens", "refreshSupport"):
+            asking.ask("workspace/codeLens/refresh", None, lambda *_: None)
 
     def close(self) -> None:
         self._checking.close()
@@ -52,12 +55,13 @@ class Server:
         if message.get("method") == "$/cancelRequest":
             self._cancelled |= self._waiting & _numbers(message.get("params"))
             return False
-        self._waiting |= _numbers(message)
+        self._waiting |= _numbers(message) if "method" in message else set()
         return True
 
     def handle(self, message: Message) -> None:
         method, params = message.get("method"), message.get("params") or {}
         if not isinstance(method, str):
+            self._checking.asking.answered(message)
             return
         if "id" in message:
             self._send({"id": message["id"], **self._answer_unless_cancelled(message["id"], method, params)})
@@ -87,7 +91,7 @@ class Server:
             self._shut_down = True
             self.close()
             return {"result": None}
-        if method not in Answers.METHODS and method != "workspace/symbol":
+        if method not in Answers.METHODS and method not in Answers.OF_THE_FOLDER:
             return failure(METHOD_NOT_FOUND, f"there is no method {method} here")
         try:
             result = self._answers.answer(method, params)
@@ -112,9 +116,12 @@ class Server:
             paths = [path_of(uri) for uri in folders or [params.get("rootUri")] if uri]
         except (KeyError, TypeError, AttributeError) as error:
             return failure(INVALID_PARAMS, f"initialize lacks something: {error}")
-        capabilities = params.get("capabilities")
-        self._can_register = _has(capabilities, "workspace", "didChangeWatchedFiles", "dynamicRegistration")
-        self._checking.relates = _has(capabilities, "textDocument", "publishDiagnostics", "relatedInformation")
+        asking = self._checking.asking
+        asking.capabilities = params.get("capabilities")
+        self._can_register = asking.can("workspace", "didChangeWatchedFiles", "dynamicRegistration")
+        if asking.can("textDocument", "publishDiagnostics", "relatedInformation"):
+            self._checking.relate()
+        self._answers.has_snippets = asking.can("textDocument", "completion", "completionItem", "snippetSupport")
         self._checking.watch([path for path in paths if os.path.isdir(path)])
         self._initialized = True
         return {"result": {"capabilities": CAPABILITIES, "serverInfo": {"name": "bench61499"}}}
@@ -148,13 +155,6 @@ class Server:
         "textDocument/didSave": _did_save,
         "textDocument/didClose": _did_close,
     }
-
-
-def _has(capabilities: Any, *words: str) -> bool:
-    """Whether an editor has said that it can do something."""
-    for word in words:
-        capabilities = capabilities.get(word) if isinstance(capabilities, dict) else None
-    return capabilities is True
 
 
 def _numbers(params: Any) -> set[int | str]:

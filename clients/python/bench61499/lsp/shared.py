@@ -1,13 +1,13 @@
-"""The units of a workbench as a language server knows them, and their faults. Others may change the units too."""
+"""The units of a workbench that answers no reads, and their faults: its own one, or one of a team that gives no text back and is asked again and again."""
 from __future__ import annotations
 
 import time
-from collections.abc import Iterable, Mapping
-from dataclasses import dataclass, field
+from collections.abc import Iterable
 from itertools import islice
 
-from bench61499 import CHANGES_LIMIT, Change, Fault, NoSuchKey, NoSuchUnit, Put, Remove, Session, StaleBase, batches
+from bench61499 import CHANGES_LIMIT, NoSuchKey, Put, Session
 from bench61499.language.mentions import Mentions
+from bench61499.lsp.commits import ABSENT, Committed, Faults, Unit, Wanted
 
 MOST_JOBS = 16
 """Jobs that an own workbench does at once. It begins with one, as faults come first, and networks are not wanted here."""
@@ -22,61 +22,19 @@ OUTER_EACH, AGAIN_EACH = 4, 7
 """Of so many looks one is at units that no open text depends on, and one asks for the faults of a unit again: a text of somebody else may lead
 to units of which the texts here know nothing."""
 
-Faults = tuple[Fault, ...]
 
-
-@dataclass(frozen=True)
-class Unit:
-    """A unit of the workbench: its revision, 0 if it is absent, and the text that it has if that was put from here.
-
-    `is_changed` is of a unit that others have put or removed since it was first seen from here.
-    """
-
-    revision: int
-    text: str | None = None
-    is_changed: bool = False
-
-
-ABSENT = Unit(0)
-
-
-@dataclass
-class Wanted:
-    """What the editor and its files have: the texts by unit, the units whose texts their user has edited or saved, and those that are open."""
-
-    texts: Mapping[str, str] = field(default_factory=dict)
-    insisted: frozenset[str] = frozenset()
-    open: frozenset[str] = frozenset()
-
-
-@dataclass
-class News:
-    """What a turn has found: units that are different now, faults by unit, and units that others have put or removed over what was put from here.
-
-    `refused` are the units whose texts were not put, as somebody else had put another one meanwhile.
-    """
-
-    units: dict[str, Unit] = field(default_factory=dict)
-    faults: dict[str, Faults] = field(default_factory=dict)
-    taken: set[str] = field(default_factory=set)
-    refused: set[str] = field(default_factory=set)
-
-
-class SharedTexts:
-    """The units of a workbench. It puts and removes them against the revisions that it has seen, and never what somebody else has put, unless the user insists.
+class SharedTexts(Committed):
+    """The units of such a workbench. It puts and removes them against the revisions that it has seen, and never what somebody else has put, unless the user insists.
 
     All its methods are for one thread at a time. After a connection has ended it goes on with `resume`.
     """
 
     def __init__(self, session: Session, shared: bool):
+        super().__init__()
         self.session, self._shared = session, shared
-        self.news = News()
-        self._wanted = Wanted()
-        self._units: dict[str, Unit] = {}
         self._faults: dict[str, Faults] = {}
         self._mentions = Mentions()
         self._waiting: set[str] = set()
-        self._under_way: list[Change] = []
         self._last = 0
         self._jobs, self._pause = 1, FIRST_PAUSE
         self._looks = 0
@@ -92,6 +50,7 @@ class SharedTexts:
         """
         if wanted:
             self._bring(wanted)
+            self.news.is_brought = True
         if self._waiting and not self._shared:
             self._work()
         if time.monotonic() >= self._next_question:
@@ -102,24 +61,14 @@ class SharedTexts:
             return None
         return max(0.0, (self._next_question if self._waiting else self._next_look) - time.monotonic())
 
-    def take_news(self) -> News:
-        news, self.news = self.news, News()
-        return news
-
     # Texts
 
     def _bring(self, wanted: Wanted) -> None:
-        """Commits what is new: what the user has changed in one commit, as far as it goes, and what files have in others."""
         self._wanted = wanted
         self._find_out(unit for unit in wanted.texts if unit not in self._units)
-        gone = [unit for unit, it in self._units.items() if it.text is not None and unit not in wanted.texts]
-        new = [unit for unit, text in wanted.texts.items() if self._is_to_put(unit, text)]
-        mine = [unit for unit in new if unit in wanted.insisted]
-        others = [unit for unit in new if unit not in wanted.insisted]
         changed: set[str] = set()
         try:
-            self._commit([*(Remove(unit, self._units[unit].revision) for unit in gone), *self._puts(mine)], changed)
-            self._commit(self._puts(others), changed)
+            self._bring_new(self.session, changed)
         finally:
             if changed:
                 self._reach(changed)
@@ -128,9 +77,6 @@ class SharedTexts:
         """Whether the workbench lacks a text: not where it has that of somebody else, unless the user insists."""
         it = self._units[unit]
         return it.text != text and (it.text is not None or unit in self._wanted.insisted or not it.revision and not it.is_changed)
-
-    def _puts(self, units: Iterable[str]) -> list[Change]:
-        return [Put(unit, self._units[unit].revision, self._wanted.texts[unit]) for unit in units]
 
     def _find_out(self, units: Iterable[str]) -> None:
         """Asks which of these units the workbench has already; an own one has none."""
@@ -142,33 +88,22 @@ class SharedTexts:
                 self._waiting.add(unit)
         self._last = max(self._last, *found.values(), 0)
 
-    def _commit(self, changes: list[Change], changed: set[str]) -> None:
-        """Commits changes, as many at once as a commit takes, and adds the units that are `changed`. One that somebody else has changed meanwhile is left to them."""
-        for batch in batches(changes):
-            while stale := self._try(batch):
-                batch = [it for it in batch if it.unit != stale]
-            changed.update(it.unit for it in batch)
+    def _put(self, unit: str, number: int, text: str) -> None:
+        self._number(number)
+        self._set(unit, Unit(number, text))
 
-    def _try(self, batch: list[Change]) -> str:
-        """Makes one commit; gives the unit for which it was refused, if any."""
-        self._under_way = batch  # It stays so if no reply comes.
-        try:
-            if batch:
-                self._made(batch, self.session.commit(batch))
-        except (StaleBase, NoSuchUnit) as refusal:
-            if isinstance(refusal, StaleBase):
-                self.news.refused.add(refusal.unit)
-            self._see(refusal.unit, refusal.current if isinstance(refusal, StaleBase) else 0)
-            return refusal.unit
-        return ""
+    def _removed(self, unit: str, number: int) -> None:
+        self._number(number)
+        self._set(unit, ABSENT)
 
-    def _made(self, batch: list[Change], number: int) -> None:
-        self._under_way = []
+    def _number(self, number: int) -> None:
+        """Takes note of the number of a commit from here."""
         if number > self._last + 1:
             self._busy()  # The commits between were those of others.
         self._last = max(self._last, number)
-        for it in batch:
-            self._set(it.unit, Unit(number, it.text) if isinstance(it, Put) else ABSENT)
+
+    def _overtaken(self, unit: str, revision: int) -> None:
+        self._see(unit, revision)
 
     def _see(self, unit: str, revision: int) -> None:
         """Takes the revision that somebody else has made of a unit."""
@@ -208,7 +143,7 @@ class SharedTexts:
 
     def _ask_some(self) -> None:
         """Asks for faults until one is pending. Workers find those of a unit whose name is less first, so the others are mostly there once the last one is."""
-        first = self._waiting & self._wanted.open
+        first = self._waiting & self._wanted.open.keys()
         order = [*sorted(first), *sorted(self._waiting - first, reverse=self._shared)]
         found: dict[str, Faults] = {}
         for unit in islice(order, MOST_ASKED):

@@ -37,8 +37,8 @@ class Sources:
     # What the editor does
 
     def open(self, uri: str, version: int | None, raw: str) -> None:
-        path = path_of(uri)
-        self.documents[path] = Document(uri, version, raw, sound(raw))
+        path, text = path_of(uri), sound(raw)
+        self.documents[path] = Document(uri, version, raw, text, _saved(path, text))
         self._take(path)
 
     def change(self, uri: str, version: int | None, changes: list[dict[str, Any]]) -> Path:
@@ -172,3 +172,11 @@ class Sources:
     def units(self) -> dict[str, str]:
         """The texts by unit."""
         return {unit: text for unit, path in self.owners.items() if (text := self._sources[path].text) is not None}
+
+
+def _saved(path: Path, text: str) -> str:
+    """The text of a file that is opened with a text; that one if it has none."""
+    try:
+        return read_text(path) if stamp_of(path) else text
+    except Misuse:
+        return text

@@ -1,4 +1,6 @@
-"""The talk of a language server with a workbench, in a thread of its own: it is opened, kept up to date, and opened again after it has ended."""
+"""The talk of a language server with a workbench, in a thread of its own: it is opened, kept up to date, and opened again after it has ended.
+
+With a host that answers reads another one goes on: `teamtalk`."""
 from __future__ import annotations
 
 import time
@@ -7,24 +9,30 @@ from concurrent.futures import Future, ThreadPoolExecutor
 
 from bench61499 import HistoryFull, NoSeat, NotLetIn, NoWorkbench, Refused, Session, WorkbenchError, pauses
 from bench61499.lsp.rpc import ERROR, INFO
-from bench61499.lsp.shared import News, SharedTexts, Wanted
+from bench61499.lsp.commits import News, Wanted
+from bench61499.lsp.shared import SharedTexts
+from bench61499.lsp.teamtalk import TeamTalk
 
 FULL_PAUSE = 60.0
 """Seconds between two questions whether a history is full yet."""
 NOT_LET_IN = 3
 """Failures in a row after which the user is told that the secret may be wrong."""
+NO_TEXTS = "This server gives no text back, as a `host` does, so texts of colleagues can't be compared with those here, and news of them comes late."
 
 
 class Talk:
     """One talk. `wake` is called, in its thread, when something is done; `tell` shows words to the user.
 
     A shared workbench is looked for again by itself, an own one when `open` is called. `trouble` tells why nothing is checked now; it is empty
-    if all is well.
+    if all is well. `successor` is the talk that goes on, if the workbench turns out to answer reads.
     """
+
+    gives_texts = is_over = False
 
     def __init__(self, open_workbench: Callable[[], Session], shared: bool, tell: Callable[[int, str], None], wake: Callable[[], None]):
         self._open_workbench, self._shared, self._tell, self._wake = open_workbench, shared, tell, wake
         self.trouble = ""
+        self.successor: TeamTalk | None = None
         self._texts: SharedTexts | None = None
         self._session: Session | None = None
         self._thread = ThreadPoolExecutor(1)
@@ -32,7 +40,7 @@ class Talk:
         self._due: float | None = None
         self._pauses: Iterator[float] = pauses()
         self._failures = 0
-        self._is_new = self._is_resumed = self._is_full = self._is_told = False
+        self._is_new = self._is_resumed = self._is_full = self._is_told = self._is_without_texts = self._has_reads = False
 
     def patience(self) -> float | None:
         """How long there is nothing to do if no text changes; None if that is until `wake` is called, or for ever."""
@@ -43,7 +51,7 @@ class Talk:
     def open(self) -> None:
         """Looks for a workbench if there is none, and none is looked for."""
         if not self._session and not self._task and (self._due is None or not self._shared):
-            self._submit(self._open_workbench)
+            self._submit(self._look_for_it)
 
     def can_begin(self, is_new: bool) -> bool:
         """Whether a turn can begin and is useful: as texts are new, or as it is time for one."""
@@ -51,7 +59,17 @@ class Talk:
             return False
         return is_new and not self._is_full or self._is_due()
 
-    def begin(self, wanted: Wanted) -> None:
+    def _look_for_it(self) -> Session:
+        """Opens a session, and finds out whether its workbench answers reads: that is no recorded call."""
+        session = self._open_workbench()
+        try:
+            self._has_reads = self._shared and session.answers_reads()
+        except WorkbenchError:
+            session.close()
+            raise
+        return session
+
+    def begin(self, wanted: Wanted, _is_new: bool) -> None:
         """Begins a turn: `poll` gives what it has found, once `wake` was called."""
         assert self._session
         if not self._texts:
@@ -71,7 +89,7 @@ class Talk:
         task = self._task
         if not task:
             if not self._session and self._is_due():
-                self._submit(self._open_workbench)
+                self._submit(self._look_for_it)
             return None
         if not task.done():
             return None
@@ -101,8 +119,14 @@ class Talk:
 
     def _take(self, result: Session | float | None) -> None:
         """Takes a workbench that was found, or how long there is nothing more to do after a turn."""
+        if isinstance(result, Session) and self._has_reads:
+            self.successor = TeamTalk(self._open_workbench, result, self._tell, self._wake)
+            return
         if isinstance(result, Session):
             self._session, self._is_resumed, self._due = result, False, time.monotonic()
+            if self._shared and not self._is_without_texts:
+                self._is_without_texts = True
+                self._tell(INFO, NO_TEXTS)
             return
         self._due = None if result is None else time.monotonic() + result
         if self._is_told:

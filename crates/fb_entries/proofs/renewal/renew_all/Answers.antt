@@ -1,7 +1,7 @@
 -- One more key that waits.
 use Rattle.std.proofs.{Common.{◌≡◌, ◌+◌, ◌++◌, ◌∷◌, [], take, ap, sym, ◌∙◌, arith}, lemmas.Grind.{common_steps}}
-use Rattle.std.specs.BTreeMap as tree
-use Rattle.fb_jobs.specs.KeyOrder.{key_cmp, same_key}
+use Rattle.fb_jobs.specs.KeyOrder.{same_key}
+use Rattle.fb_entries.specs.Keyed.{entry_in}
 use Rattle.fb_entries.specs.Marking.{is_of, waiting_if}
 use Rattle.fb_entries.proofs.KeySteps.{of_now, waiting_more}
 use Rattle.fb_entries.proofs.renewal.renew_all.Goals as goal
@@ -12,5 +12,5 @@ loop-key-preserved c =
     let key = c.key-item.result in
     let more : take (c.loop-key.key-index + 1) c.args.keys.now ≡ prefix ++ key ∷ [] = grind (arith, common_steps) in
     λ other.
-    waiting_more (tree.get key_cmp c.args.entries.now other) (tree.get key_cmp c.loop-key.entries other) (tree.get key_cmp c.renew.new.entries other) (is_of other prefix) (same_key key other) (c.renew.ensures other) (c.loop-key.invariant other)
-    ∙ ap (λ b. waiting_if b (tree.get key_cmp c.args.entries.now other)) (sym (of_now other key prefix _ more))
+    waiting_more (entry_in c.args.entries.now other) (entry_in c.loop-key.entries other) (entry_in c.renew.new.self other) (is_of other prefix) (same_key key other) (c.renew.ensures other) (c.loop-key.invariant other)
+    ∙ ap (λ b. waiting_if b (entry_in c.args.entries.now other)) (sym (of_now other key prefix _ more))

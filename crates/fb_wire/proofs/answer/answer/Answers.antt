@@ -20,3 +20,8 @@ pub returns-in-Some-Checkpoint : goal.returns-in-Some-Checkpoint
 returns-in-Some-Checkpoint g c =
     let request = rw c.in-Some-Checkpoint.is at c.in-Some-Checkpoint.field-0-is in
     rw (c.in-Some-Checkpoint.is, request) (c.answer_checkpoint.ensures c.args.held.now.items)
+
+pub returns-in-Some-Read : goal.returns-in-Some-Read
+returns-in-Some-Read g c =
+    let request = rw c.in-Some-Read.is at c.in-Some-Read.field-0-is in
+    rw (c.in-Some-Read.is, request) (c.answer_read.ensures c.args.held.now.items)

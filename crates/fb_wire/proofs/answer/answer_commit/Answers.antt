@@ -12,4 +12,4 @@ returns-in-Ok g c = λ held.
     rw (asked, first) said
 
 pub returns-in-Err-Memory : goal.returns-in-Err-Memory
-returns-in-Err-Memory g c = λ held. (_, reaches_itself (Exchanges g.D.Desk.step g.D.Desk.checkpoint_step) _ _)
+returns-in-Err-Memory g c = λ held. (_, reaches_itself (Exchanges g.D.Desk.step g.D.Desk.checkpoint_step g.D.Desk.read_step) _ _)

@@ -9,4 +9,4 @@ returns g c = λ held. rw c.in_ok-finished.ensures at (c.answer_call.ensures hel
 pub returns-in_err-finished : goal.returns-in_err-finished
 returns-in_err-finished g c =
     let p = err_from_is_err_and c.from_residual.result c.from_residual.ensures.1 in
-    rw p.1 (λ held. none_served (Exchanges g.D.Desk.step g.D.Desk.checkpoint_step) _ _ _ held)
+    rw p.1 (λ held. none_served (Exchanges g.D.Desk.step g.D.Desk.checkpoint_step g.D.Desk.read_step) _ _ _ held)

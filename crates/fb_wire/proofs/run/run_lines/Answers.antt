@@ -19,9 +19,9 @@ pub returns-in-Err-clause-conversation : goal.returns-in-Err-clause-conversation
 returns-in-Err-clause-conversation g c =
     let inv = c.loop-turn.invariant in
     let turn = rw c.in-Err.is at c.take_turn.ensures.taken in
-    let both = pieces_come (Exchanges g.D.Desk.step g.D.Desk.checkpoint_step) c.args.desk.now c.loop-turn.desk c.take_turn.new.desk [] c.loop-turn.conversation.line.items c.take_turn.new.conversation.line.items [] c.loop-turn.conversation.held.items c.take_turn.new.conversation.held.items
+    let both = pieces_come g.D.Desk.has_reads (Exchanges g.D.Desk.step g.D.Desk.checkpoint_step g.D.Desk.read_step) c.args.desk.now c.loop-turn.desk c.take_turn.new.desk [] c.loop-turn.conversation.line.items c.take_turn.new.conversation.line.items [] c.loop-turn.conversation.held.items c.take_turn.new.conversation.held.items
     (g.S.Sink.held c.args.writer.now) (g.S.Sink.held c.loop-turn.writer) (g.S.Sink.held c.take_turn.new.writer) inv.3 turn.0 [] (Err c.in-Err.end) inv.6 turn.3 in
-    let ran = run_stops (Exchanges g.D.Desk.step g.D.Desk.checkpoint_step) c.args.desk.now c.take_turn.new.desk c.take_turn.new.conversation.line.items c.take_turn.new.conversation.held.items (g.S.Sink.held c.args.writer.now) (g.S.Sink.held c.take_turn.new.writer) (inv.3 ++ turn.0) c.in-Err.end both in
+    let ran = run_stops g.D.Desk.has_reads (Exchanges g.D.Desk.step g.D.Desk.checkpoint_step g.D.Desk.read_step) c.args.desk.now c.take_turn.new.desk c.take_turn.new.conversation.line.items c.take_turn.new.conversation.held.items (g.S.Sink.held c.args.writer.now) (g.S.Sink.held c.take_turn.new.writer) (inv.3 ++ turn.0) c.in-Err.end both in
     let left = Consumes-trans (g.F.Feed.left c.args.reader.now) (g.F.Feed.left c.loop-turn.reader) (g.F.Feed.left c.take_turn.new.reader) inv.3 turn.0 inv.5 turn.2 in (
       record {
         bytes = inv.3 ++ turn.0;
@@ -50,7 +50,7 @@ returns-in-Err-clause-conversation g c =
 pub returns-clause-conversation : goal.returns-clause-conversation
 returns-clause-conversation g c =
     let inv = c.loop-turn.invariant in
-    let ran = run_breaks (Exchanges g.D.Desk.step g.D.Desk.checkpoint_step) c.args.desk.now c.loop-turn.desk c.loop-turn.conversation.line.items c.loop-turn.conversation.held.items (g.S.Sink.held c.args.writer.now) (g.S.Sink.held c.loop-turn.writer) inv.3 inv.6 in (
+    let ran = run_breaks g.D.Desk.has_reads (Exchanges g.D.Desk.step g.D.Desk.checkpoint_step g.D.Desk.read_step) c.args.desk.now c.loop-turn.desk c.loop-turn.conversation.line.items c.loop-turn.conversation.held.items (g.S.Sink.held c.args.writer.now) (g.S.Sink.held c.loop-turn.writer) inv.3 inv.6 in (
       record {
         bytes = inv.3;
         pairs = ran.0;
@@ -87,7 +87,7 @@ loop-turn-init g c = (
   [],
   sym (append-nil _),
   Consumes-nil _,
-  rw (c.new-conversation.ensures.line, c.new-conversation.ensures.held) (begins (Exchanges g.D.Desk.step g.D.Desk.checkpoint_step) _ _),
+  rw (c.new-conversation.ensures.line, c.new-conversation.ensures.held) (begins g.D.Desk.has_reads (Exchanges g.D.Desk.step g.D.Desk.checkpoint_step g.D.Desk.read_step) _ _),
   λ was. was,
   omega arith,
   c.requires.open,
@@ -97,7 +97,7 @@ pub loop-turn-preserved : goal.loop-turn-preserved
 loop-turn-preserved g c =
     let inv = c.loop-turn.invariant in
     let turn = rw c.in-Ok.is at c.take_turn.ensures.taken in
-    let both = pieces_come (Exchanges g.D.Desk.step g.D.Desk.checkpoint_step) c.args.desk.now c.loop-turn.desk c.take_turn.new.desk [] c.loop-turn.conversation.line.items c.take_turn.new.conversation.line.items [] c.loop-turn.conversation.held.items c.take_turn.new.conversation.held.items
+    let both = pieces_come g.D.Desk.has_reads (Exchanges g.D.Desk.step g.D.Desk.checkpoint_step g.D.Desk.read_step) c.args.desk.now c.loop-turn.desk c.take_turn.new.desk [] c.loop-turn.conversation.line.items c.take_turn.new.conversation.line.items [] c.loop-turn.conversation.held.items c.take_turn.new.conversation.held.items
     (g.S.Sink.held c.args.writer.now) (g.S.Sink.held c.loop-turn.writer) (g.S.Sink.held c.take_turn.new.writer) inv.3 turn.0 [] (Ok tt) inv.6 turn.3 in
     let left = Consumes-trans (g.F.Feed.left c.args.reader.now) (g.F.Feed.left c.loop-turn.reader) (g.F.Feed.left c.take_turn.new.reader) inv.3 turn.0 inv.5 turn.2 in
     let written = not_failed end.WriteFailed _ c.take_turn.result c.take_turn.ensures.write_failed c.in-Ok.is in (

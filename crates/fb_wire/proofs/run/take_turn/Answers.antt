@@ -5,7 +5,7 @@ use Rattle.fb_wire.proofs.run.take_turn.Goals as goal
 
 pub returns-in-Err-clause-taken : goal.returns-in-Err-clause-taken
 returns-in-Err-clause-taken g c =
-    ([], c.in-Err.ensures.given, c.in-Err.ensures.left, read_fails (Exchanges g.D.Desk.step g.D.Desk.checkpoint_step) _ _ _ _)
+    ([], c.in-Err.ensures.given, c.in-Err.ensures.left, read_fails g.D.Desk.has_reads (Exchanges g.D.Desk.step g.D.Desk.checkpoint_step g.D.Desk.read_step) _ _ _ _)
 
 pub returns-then-count-eq0-clause-taken : goal.returns-then-count-eq0-clause-taken
 returns-then-count-eq0-clause-taken g c =

@@ -1,7 +1,7 @@
 -- The machine's pending keys are those that are due.
 use Rattle.std.proofs.Common.{◌∙◌}
 use Rattle.fb_history.specs.BenchView.{calls_of}
-use Rattle.fb_bench.proofs.Showing.{due_shown}
+use Rattle.fb_bench.proofs.Entries.{due_shown}
 use Rattle.fb_history.proofs.AfterCalls.{entry_is}
 use Rattle.fb_bench.proofs.bench.Bench.peek.Goals as goal
 

@@ -12,16 +12,13 @@ take_in-requires-clause-accepted c =
     let handed : OfTake (Some job) ≡ reply_at c.args.self.now ToTake = ap (λ it. OfTake (Some it)) c.in_ok-finished.ensures ∙ (ap (λ taken. OfTake (job_in taken)) (sym c.in-Job.is) ∙ c.in_ok-job.ensures.answer) in
     taken_accepted c.args.self.now c.self.inside.history c.take.new.self c.args.caller job c.self.view_is c.in_ok-job.ensures.step c.self.invariant.agrees handed
 
-pub returns : goal.returns
-returns c =
+pub returns-clause-round : goal.returns-clause-round
+returns-clause-round c =
     let job = c.in_ok-finished.finished in
     let handed : OfTake (Some job) ≡ reply_at c.args.self.now ToTake = ap (λ it. OfTake (Some it)) c.in_ok-finished.ensures ∙ (ap (λ taken. OfTake (job_in taken)) (sym c.in-Job.is) ∙ c.in_ok-job.ensures.answer) in
-    let accepted = taken_accepted c.args.self.now c.self.inside.history c.take.new.self c.args.caller job c.self.view_is c.in_ok-job.ensures.step c.self.invariant.agrees handed in
-    record {
-      round = (
-        c.take.new.self,
-        job,
-        (grind (arith, c.take.ensures.full, c.in_ok-job.was), handed, c.in_ok-job.ensures.step),
-        (grind (arith, c.is_full.ensures.full, c.if-is_full.false, c.self.view_is), delivers_is (state_of c.take.new.self) job job Accepted refl accepted, c.in_ok-take_in.ensures.step),
-      );
-    }
+    let accepted = taken_accepted c.args.self.now c.self.inside.history c.take.new.self c.args.caller job c.self.view_is c.in_ok-job.ensures.step c.self.invariant.agrees handed in (
+      c.take.new.self,
+      job,
+      (grind (arith, c.take.ensures.full, c.in_ok-job.was), handed, c.in_ok-job.ensures.step),
+      (grind (arith, c.is_full.ensures.full, c.if-is_full.false, c.self.view_is), delivers_is (state_of c.take.new.self) job job Accepted refl accepted, c.in_ok-take_in.ensures.step),
+    )

@@ -22,10 +22,10 @@ round_lent desk new (Err Behind) (inr made) = absurd made.3
 round_lent desk new (Err Memory) (inl same) = inl (ap (lent desk) same)
 round_lent desk new (Err Memory) (inr made) = inr (lent desk made.0, made.1, (made.2, refl, refl), ap (lent desk) made.3)
 
-pub returns-in_err-has_worked : goal.returns-in_err-has_worked
-returns-in_err-has_worked c =
+pub returns-in_err-has_worked-clause-round : goal.returns-in_err-has_worked-clause-round
+returns-in_err-has_worked-clause-round c =
     let refused = err_from_is_err_and c.from_residual.result c.from_residual.ensures.1 in
     rw (refused.1, refused.2) (round_lent c.args.self.now c.work_once.new.self (Err (refused_as c.in_err-has_worked.field-0.0)) c.in_err-has_worked.ensures.round)
 
-pub returns : goal.returns
-returns c = rw c.then_some.ensures (round_lent c.args.self.now c.work_once.new.self (Ok (then_some c.in_ok-has_worked.has_worked Accepted)) c.in_ok-has_worked.ensures.round)
+pub returns-clause-round : goal.returns-clause-round
+returns-clause-round c = rw c.then_some.ensures (round_lent c.args.self.now c.work_once.new.self (Ok (then_some c.in_ok-has_worked.has_worked Accepted)) c.in_ok-has_worked.ensures.round)

@@ -1,0 +1,141 @@
+"""Which files have other texts than the workbench that a team uses, as `git status` tells it, and how it gets those of the files."""
+from __future__ import annotations
+
+import sqlite3
+from collections.abc import Callable, Iterable, Iterator, Mapping
+from contextlib import closing
+from dataclasses import dataclass
+from enum import StrEnum
+from itertools import groupby
+from operator import attrgetter
+from pathlib import Path
+
+from bench61499 import Change, NoSuchUnit, Put, Remove, Session, StaleBase, batches
+from bench61499.language.units import Misuse, Unit
+from bench61499.snapshot import Snapshot
+
+AGAIN = "{} was changed by somebody else while it was checked; check again"
+NAMED = 20
+"""Units that one line names, at most."""
+STATE = Path(".bench61499", "state.sqlite")
+"""What `sync` keeps in a folder: the texts that the folder and the workbench last had in common."""
+
+
+class How(StrEnum):
+    """How a file and the workbench differ. Without a text that both had once nobody can tell who has changed it."""
+
+    ONLY_HERE = "only here"
+    REMOVED_THERE = "removed there"
+    CHANGED_HERE = "changed here"
+    CHANGED_THERE = "changed there"
+    CHANGED_ON_BOTH_SIDES = "changed on both sides"
+    DIFFERS = "differs"
+    ONLY_THERE = "only there"
+    REMOVED_HERE = "removed here"
+
+
+class Judged(StrEnum):
+    """Whose texts the faults are of: those of the files, or those of a workbench, which were compared with the files if it gives texts back."""
+
+    FILES = "files"
+    WORKBENCH = "workbench"
+    NOT_COMPARED = "workbench, not compared"
+
+
+_REMARKS = {
+    How.ONLY_HERE: "not checked, as the workbench has no such unit: {}; --replace puts them",
+    How.REMOVED_THERE: "not checked, as somebody has removed them from the workbench: {}; --replace puts them",
+    How.CHANGED_HERE: "not checked, changed here: {}; --replace puts them",
+    How.CHANGED_THERE: "not checked, changed in the workbench: {}; --replace puts the texts of the files over it",
+    How.CHANGED_ON_BOTH_SIDES: "not checked, changed here and in the workbench: {}; --replace puts the texts of the files over it",
+    How.DIFFERS: "not checked, as the workbench has another text: {}; --replace puts those of the files over it",
+    How.ONLY_THERE: "the workbench has also units that no file has: {}",
+    How.REMOVED_HERE: "the workbench still has units that were removed here: {}",
+}
+
+
+@dataclass(frozen=True)
+class Difference:
+    """A unit of which a file and the workbench have not the same text, or that no file has."""
+
+    unit: str
+    file: Path | None
+    how: How
+
+
+def compare(units: Iterable[Unit], there: Mapping[str, str], common: Mapping[str, str]) -> list[Difference]:
+    """Of files and the texts of a workbench, those that differ; `common` are texts that both had once, as far as they are known."""
+    return [Difference(it.name, it.file, _how(it.text, there.get(it.name), common.get(it.name))) for it in units if there.get(it.name) != it.text]
+
+
+def only_there(units: Iterable[Unit], there: Iterable[str], common: Mapping[str, str]) -> list[Difference]:
+    """The units of a workbench that no file has."""
+    here = {it.name for it in units}
+    return [Difference(it, None, How.REMOVED_HERE if it in common else How.ONLY_THERE) for it in there if it not in here]
+
+
+def _how(here: str, there: str | None, common: str | None) -> How:
+    if there is None:
+        return How.ONLY_HERE if common is None else How.REMOVED_THERE
+    if common is None:
+        return How.DIFFERS
+    if here == common:
+        return How.CHANGED_THERE
+    return How.CHANGED_HERE if there == common else How.CHANGED_ON_BOTH_SIDES
+
+
+def remarks(differences: Iterable[Difference]) -> Iterator[str]:
+    """A sentence for each way to differ."""
+    for how, units in _by_how(differences):
+        yield _REMARKS[how].format(named(units))
+
+
+def in_words(differences: Iterable[Difference]) -> str:
+    """The units by the ways to differ."""
+    return "; ".join(f"{how}: {named(units)}" for how, units in _by_how(differences))
+
+
+def _by_how(differences: Iterable[Difference]) -> list[tuple[How, list[str]]]:
+    return [(how, sorted(it.unit for it in its)) for how, its in groupby(sorted(differences, key=attrgetter("how")), attrgetter("how"))]
+
+
+def named(units: list[str]) -> str:
+    more = len(units) - NAMED
+    return ", ".join(units[:NAMED]) + (f" and {more:,} more" if more > 0 else "")
+
+
+def replace(session: Session, snapshot: Snapshot, units: list[Unit], is_mirror: bool, show: Callable[[str], object]) -> int:
+    """Puts the units that differ, over what the workbench had a moment ago, and gives how many it had. Raises `Misuse` if somebody changes one meanwhile."""
+    there = snapshot.texts
+    puts: list[Change] = [Put(it.name, there[it.name].revision if it.name in there else 0, it.text) for it in units if it.name not in there or there[it.name].text != it.text]
+    gone: list[Change] = [Remove(it.unit, there[it.unit].revision) for it in only_there(units, there, {})] if is_mirror else []
+    done = 0
+    for batch in batches([*puts, *gone]):
+        try:
+            session.commit(batch)
+        except (StaleBase, NoSuchUnit) as refusal:
+            raise Misuse(AGAIN.format(refusal.unit)) from None
+        done += len(batch)
+        show(f"putting units: {done:,} of {len(puts) + len(gone):,}")
+    return sum(it.name in there for it in units)
+
+
+def last_common(paths: Iterable[Path], workbench: str) -> dict[str, str]:
+    """The texts that the folders of these paths last had in common with this workbench, as `sync` has recorded them; none if it never ran there, or is at work."""
+    states = {state for path in paths for state in _states_above(path.absolute())}
+    return {unit: text for state in sorted(states) for unit, text in _common_of(state, workbench)}
+
+
+def _states_above(path: Path) -> Iterator[Path]:
+    """The nearest state."""
+    yield from [state for folder in (path, *path.parents) if (state := folder / STATE).is_file()][:1]
+
+
+def _common_of(state: Path, workbench: str) -> list[tuple[str, str]]:
+    try:
+        with closing(sqlite3.connect(f"{state.as_uri()}?mode=ro", uri=True, timeout=0)) as tables:
+            if tables.execute("SELECT identity FROM workbench").fetchall() != [(workbench,)]:
+                return []
+            return tables.execute("SELECT unit, text FROM common").fetchall()
+    except sqlite3.Error:
+        return []

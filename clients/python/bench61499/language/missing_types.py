@@ -1,0 +1,55 @@
+"""Types of values that are nowhere: neither elementary, nor a unit, nor known from a project. By the language they are no faults; clients warn of them."""
+from __future__ import annotations
+
+import re
+from collections.abc import Callable, Iterator
+from typing import NamedTuple
+
+from bench61499.language.declarations import ELEMENTARY, FIELD, VARIABLE, is_elementary, type_of_data
+from bench61499.language.reader import read
+from bench61499.language.wording import Names, asked
+
+CODE = "NO_SUCH_TYPE"
+OF_CLIENT = "(a warning of this client: the workbench looks up no types of values)"
+_LATER = frozenset("LTIME LDATE LTOD LTIME_OF_DAY LDT LDATE_AND_TIME CHAR WCHAR".split())
+"""Elementary types of IEC 61131-3 from its third edition on."""
+_SECTION = re.compile(r"\b(?:VAR|VAR_INPUT|VAR_OUTPUT|STRUCT)\b(.*?)\bEND_(?:VAR|STRUCT)\b", re.IGNORECASE | re.DOTALL)
+_TYPE = re.compile(r":\s*(?:ARRAY\s*\[[^\]]*\]\s*OF\s+)?([A-Za-z_]\w*)", re.IGNORECASE)
+_ELSEWHERE = re.compile(r"""\(\* (?:Elsewhere|Package): type="(\w+)\"""")
+_STAND_IN = re.compile(r"""\[\s*'""")
+_ELEMENTARY = Names([*ELEMENTARY, *sorted(_LATER)], nearness=0.7)
+Near = Callable[[str], str | None]
+
+
+class Missing(NamedTuple):
+    """A type that is nowhere, its place, and what is told of it."""
+
+    name: str
+    start: int
+    end: int
+    explanation: str
+
+
+def missing_types(text: str, units: Names, near: Near) -> list[Missing]:
+    """The types of the variables and fields of a text that are nowhere. `units` are the names of all units, `near` gives the one that may be meant."""
+    used = {name.upper() for section in _SECTION.findall(text) for name in _TYPE.findall(section)}
+    unknown = {it for it in used if not is_elementary(it) and it not in _LATER and it not in units}
+    unknown -= {it.upper() for it in _ELSEWHERE.findall(text)} if unknown else set()
+    return list(dict.fromkeys(_found(text, unknown, near))) if unknown else []
+
+
+def _found(text: str, unknown: set[str], near: Near) -> Iterator[Missing]:
+    encoded = text.encode()
+    for it in read(text).declared:
+        name = type_of_data(it.type) if it.key.space in (VARIABLE, FIELD) else ""
+        if name not in unknown or _STAND_IN.match(it.value):
+            continue
+        words = re.compile(rb"\b" + name.encode() + rb"\b", re.IGNORECASE).search(encoded, it.end)
+        if words:
+            own = words[0].decode()
+            yield Missing(name, *words.span(), f"no type {own} here{asked(near(own))}")
+
+
+def near_type(structures: Names) -> Near:
+    """Gives the type that may be meant: an elementary one, or a structure."""
+    return lambda words: _ELEMENTARY.near(words) or structures.near(words)

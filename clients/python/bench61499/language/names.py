@@ -1,0 +1,21 @@
+"""Names that come from elsewhere: of units, and of files."""
+from __future__ import annotations
+
+import unicodedata
+
+from bench61499 import NAME_LIMIT
+
+
+def is_unit_name(words: str) -> bool:
+    """Whether a workbench can have a unit of this name: as that of a file it stays in its folder."""
+    return words.isascii() and words.isidentifier() and len(words) <= NAME_LIMIT
+
+
+def is_utf_8(words: str) -> bool:
+    """Whether words can be written as UTF-8: names of files may have other bytes, and texts that were sent halves of characters."""
+    return not any("\ud800" <= it <= "\udfff" for it in words)
+
+
+def printable(words: str) -> str:
+    """Words without what a terminal obeys: names of files may have anything."""
+    return "".join("\ufffd" if unicodedata.category(it) in ("Cc", "Cf", "Cs", "Zl", "Zp") else it for it in words)

@@ -1,0 +1,56 @@
+"""Algorithms that the workbench does not read: those in another language than ST."""
+from __future__ import annotations
+
+import re
+from collections.abc import Iterator
+from typing import NamedTuple
+
+from bench61499.language.tokens import Token, is_name, tokens
+
+CODE = "NOT_CHECKED"
+FULL = "ST_FULL"
+_READ = "ST"
+_HEADS, _READ_HEADS = (re.compile(it, re.IGNORECASE) for it in (r"\bALGORITHM\b", r"\bALGORITHM\s+\w+\s+IN\s+ST\b"))
+
+
+class Head(NamedTuple):
+    """The head of an algorithm, `ALGORITHM A IN ST`, and the token behind its body; None if that is missing."""
+
+    words: tuple[Token, ...]
+    end: Token | None
+
+    @property
+    def name(self) -> str:
+        return self.words[1].words
+
+    @property
+    def language(self) -> Token:
+        return self.words[3]
+
+    @property
+    def is_read(self) -> bool:
+        return self.language.upper == _READ
+
+    @property
+    def explanation(self) -> str:
+        return f"the algorithm {self.name} is IN {self.language.words}, which the workbench does not read"
+
+
+def heads(text: str) -> Iterator[Head]:
+    """The heads of all algorithms of a text, of a broken one too."""
+    its = list(tokens(text))
+    at = 0
+    while at < len(its):
+        words = tuple(its[at : at + 4])
+        if len(words) == 4 and words[0].upper == "ALGORITHM" and words[2].upper == "IN" and all(map(is_name, words[1:])):
+            end = next((index for index in range(at + 4, len(its)) if its[index].upper == "END_ALGORITHM"), len(its))
+            yield Head(words, its[end] if end < len(its) else None)
+            at = end
+        at += 1
+
+
+def skipped(text: str) -> list[Head]:
+    """The algorithms that the workbench does not read."""
+    if len(_HEADS.findall(text)) == len(_READ_HEADS.findall(text)):
+        return []
+    return [it for it in heads(text) if not it.is_read]

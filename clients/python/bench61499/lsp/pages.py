@@ -1,0 +1,115 @@
+"""What an editor shows of a file: its faults, why they are not known, or who has changed its unit."""
+from __future__ import annotations
+
+import time
+from pathlib import Path
+
+from bench61499 import TEXT_LIMIT, Places
+from bench61499.language.explain import Names
+from bench61499.language.merging import is_marked
+from bench61499.language.tokens import declaration
+from bench61499.lsp.commits import Faults, News, Unit
+from bench61499.lsp.diagnoses import changed, conflicts, diagnostic, explained, marked, of_others, remark, whose
+from bench61499.lsp.documents import Diagnostic, Document, Source
+from bench61499.lsp.related import related
+from bench61499.lsp.sources import Sources
+
+OLD = "as last known"
+LEAST_AGE = 5.0
+"""Seconds after which the age of a change is told anew, at the earliest; later once it is twice as old."""
+
+
+class Pages:
+    """What there is to show. `units` and `faults` are what is known of the workbench; there is `trouble` if nothing is known now.
+
+    A workbench that `gives_texts` is compared with the texts here. It `relates` faults to other places if the editor can show that.
+    """
+
+    def __init__(self, sources: Sources):
+        self._sources = sources
+        self.units: dict[str, Unit] = {}
+        self.faults: dict[str, Faults | None] = {}
+        self.trouble = ""
+        self.gives_texts = self.relates = False
+        self._found: dict[Path, list[Diagnostic]] = {}
+        self._others: dict[Path, list[Diagnostic]] = {}
+        self._ages: dict[Path, float] = {}
+
+    def take(self, news: News) -> None:
+        """Takes what is known of the workbench."""
+        if news.is_other:
+            self.units.clear()
+            self.faults.clear()
+        for unit in news.units:
+            self.faults.pop(unit, None)
+        self.units |= news.units
+        self.faults |= news.faults
+
+    def due(self) -> float | None:
+        """When the age of a change is to be told anew."""
+        return min(self._ages.values(), default=None)
+
+    def aged(self) -> list[Path]:
+        """The files of which the age of a change is to be told anew."""
+        now = time.monotonic()
+        return [path for path, due in self._ages.items() if due <= now]
+
+    def page(self, path: Path, document: Document | None, source: Source | None) -> list[Diagnostic] | None:
+        """What to show of a file; None while that is not known, and what is shown stays."""
+        if document and document.is_too_long:
+            too_long = f"the text has {document.size:,} bytes, and that of a unit has at most {TEXT_LIMIT:,}"
+            return [diagnostic(Places(""), 0, 0, too_long)]
+        if document and (not source or source.text != document.text):
+            return None  # It is not settled yet.
+        if not source or source.text is None:
+            return []
+        if source.unit is None:
+            return [self._double(document.text)] if document else []
+        self._ages.pop(path, None)
+        if self.gives_texts and is_marked(source.text):
+            return [*conflicts(source.text), *marked(self._found.get(path, []), OLD)]
+        if self.trouble:
+            return self._unknown(path, source.text, f"not checked: {self.trouble}", bool(document))
+        it = self.units.get(source.unit)
+        return self._known(path, source.text, source.unit, it, bool(document)) if it else None
+
+    def _known(self, path: Path, text: str, unit: str, it: Unit, is_open: bool) -> list[Diagnostic] | None:
+        """Of a unit of which it is known what the workbench has."""
+        faults = self.faults.get(unit)
+        names, texts = Names(self._sources.owners if faults else ()), self._sources.plant.known
+        if it.text is not None and not it.is_changed:
+            if it.text != text or faults is None:
+                return None
+            self._others.pop(path, None)
+            self._found[path] = self._related(path, text, faults, explained(text, faults, names, texts))
+            return self._found[path]
+        why = self._changed(path, unit, it) if self.gives_texts else whose(unit, it, text, faults or ())
+        if not it.revision or path in self._found and is_open:
+            return self._unknown(path, text, why, True)
+        self._others[path] = of_others(text, faults or (), names, texts)
+        return [*([remark(text, why)] if is_open or self.gives_texts else []), *self._others[path]]
+
+    def _changed(self, path: Path, unit: str, it: Unit) -> str:
+        """Who has changed a unit, and when; that is told anew as time goes by."""
+        now = time.monotonic()
+        if it.author:
+            self._ages[path] = now + max(LEAST_AGE, now - it.author.heard)
+        return changed(unit, it, now)
+
+    def _unknown(self, path: Path, text: str, why: str, is_told: bool) -> list[Diagnostic]:
+        """The last faults that were found of a text, marked as such, and why there are no newer ones."""
+        return [*([remark(text, why)] if is_told else []), *marked(self._found.get(path) or self._others.get(path) or [], OLD)]
+
+    def _related(self, path: Path, text: str, faults: Faults, shown: list[Diagnostic]) -> list[Diagnostic]:
+        """Faults with the places where what they name is declared."""
+        its = self._sources.plant.text(path) if self.relates and faults else None
+        if not its or its.text != text:
+            return shown
+        places = (related(self._sources.plant, its, fault.start, fault.end) for fault in faults)
+        return [{**it, **({"relatedInformation": more} if more else {})} for it, more in zip(shown, places)]
+
+    def _double(self, text: str) -> Diagnostic:
+        name = declaration(text)
+        assert name, "only a name that is declared can be another's"
+        owner = self._sources.owners[name.upper].name
+        return diagnostic(Places(text), name.start, name.end, f"{owner} declares the unit {name.upper} too; a unit has one text")

@@ -1,0 +1,205 @@
+"""The units of a host that a team shares, as a language server knows them by a mirror: what it asks is no recorded call."""
+from __future__ import annotations
+
+import time
+from collections.abc import Iterable
+from dataclasses import replace
+
+from bench61499 import Commit, Put
+from bench61499.language.merging import is_marked
+from bench61499.lsp.commits import ABSENT, Author, Committed, Faults, Unit, Wanted
+from bench61499.lsp.commits import News as TurnNews
+from bench61499.mirror import Came, Changed, Connected, Loaded, Mirror, News, NoKey, UnitChange, Version
+
+MOST_PUT = 512
+"""Units of files that one turn puts."""
+
+
+class TeamTexts(Committed):
+    """The units of a host, compared with the texts here. It commits what its user has changed in a text that is the workbench's otherwise.
+
+    A text that somebody else has changed is never put over unless the user has asked for it, and none is put that has marked lines of a merge.
+    It `has_more` if a turn has not put all texts of files. All its methods are for one thread at a time.
+    """
+
+    def __init__(self, mirror: Mirror):
+        super().__init__()
+        self._mirror = mirror
+        self._workbench = self._known = ""
+        self.has_more = False
+        self._faults: dict[str, Faults] = {}
+        self._common: dict[str, str] = {}
+        self._own: set[int] = set()
+        self._untold: dict[str, int] = {}
+        self._behind: set[str] = set()
+        self._touched: set[str] = set()
+        self._is_all = True
+        self._run: dict[str, set[int]] = {}
+
+    @property
+    def is_loaded(self) -> bool:
+        """Whether all units are known with their texts."""
+        return bool(self._workbench)
+
+    def turn(self, wanted: Wanted, told: Iterable[News], is_to_commit: bool) -> None:
+        """Takes what the mirror has told, compares it with the texts here, and commits what is to be put."""
+        is_same = wanted.texts is self._wanted.texts and wanted.kept == self._wanted.kept
+        self._wanted, self._is_all = wanted, self._is_all or not is_same
+        for news in told:
+            self._take(news)
+        if not self.is_loaded:
+            return
+        for unit, text in wanted.agreed.items():
+            self._set_common(unit, text)
+        for unit in wanted.shut & wanted.texts.keys():
+            self._take_back(unit, wanted.texts[unit])
+        self._compare()
+        self.has_more = False
+        if is_to_commit and self._has_new():
+            with self._mirror.session(self._workbench) as session:
+                self.has_more = self._bring_new(session, set(), MOST_PUT)
+        if is_to_commit and not self.has_more:
+            self._is_all, self.news.is_brought = False, True
+            self._touched.clear()
+
+    def _looked_at(self) -> Iterable[str]:
+        """All units with a text here if one of these is new, else those of which something is new: of 16,384 units that makes a difference."""
+        wanted = self._wanted
+        return wanted.texts if self._is_all else [it for it in {*self._touched, *wanted.insisted, *wanted.forced} if it in wanted.texts]
+
+    def _has_new(self) -> bool:
+        """Whether there is something to commit."""
+        return self._is_all and bool(self._gone()) or any(self._is_to_put(unit, self._wanted.texts[unit]) for unit in self._looked_at())
+
+    # What the mirror tells
+
+    def _take(self, news: News) -> None:
+        match news:
+            case Connected(status, True):
+                self._forget()
+                self._known = status.workbench
+            case Loaded() if self._known == self._mirror.workbench:
+                self._load()
+            case Changed(commit, changes) if self.is_loaded:
+                for change in changes:
+                    self._take_change(commit, change)
+                self._own.discard(commit.number if commit else 0)
+            case Came("faults", unit, value) if self.is_loaded and unit not in self._untold:
+                self._take_faults(unit, value)
+
+    def _forget(self) -> None:
+        """Nothing is known of the workbench any more, but the last texts that it and this editor both had."""
+        self._workbench = ""
+        self._units, self._faults, self._untold, self._run = {}, {}, {}, {}
+        self._own, self._behind, self._under_way = set(), set(), []
+        self.news, self._is_all = TurnNews(is_other=True), True
+
+    def _load(self) -> None:
+        """Takes all that is there."""
+        self._workbench = self._known
+        self._faults = {unit: faults for unit, faults in self._mirror.values("faults").items() if isinstance(faults, tuple)}
+        for unit, version in self._mirror.versions().items():
+            self._set_theirs(unit, version, None)
+
+    def _take_change(self, commit: Commit | None, change: UnitChange) -> None:
+        """Takes what somebody has made of a unit, unless it is what is known already."""
+        unit, before, after = change
+        known = self._units.get(unit, ABSENT)
+        self._behind.discard(unit)
+        self._touched.add(unit)
+        if commit is None or commit.number >= self._untold.get(unit, 0):
+            self._untold.pop(unit, None)
+        if after.revision < known.revision and (commit.number if commit else before.revision) < known.revision:
+            return  # It is older than what is known.
+        self._faults.pop(unit, None)
+        if after.revision == known.revision or commit and commit.number in self._own:
+            self._tell(unit)
+        else:
+            self._set_theirs(unit, after, commit)
+
+    def _set_theirs(self, unit: str, version: Version, commit: Commit | None) -> None:
+        """Takes a text of somebody else, or one that was put from here without a reply."""
+        is_ours = any(isinstance(it, Put) and (it.unit, it.text) == (unit, version.text) for it in self._under_way)
+        number = commit.number if commit else version.revision
+        author = Author(commit.caller if commit else 0, number, time.monotonic()) if commit or unit in self._units else None
+        self._run[unit] = {hash(version.text)}
+        self._set(unit, Unit(version.revision, version.text, not is_ours, is_ours, author, self._common.get(unit)))
+
+    def _take_faults(self, unit: str, value: Faults | NoKey | None) -> None:
+        if isinstance(value, tuple):
+            self._faults[unit] = value
+            self._tell(unit)
+
+    # What is the same, and what is not
+
+    def _set_common(self, unit: str, text: str | None) -> None:
+        """Takes a text of others for the last common one, as it went into the text here or was discarded here; None for none."""
+        self._common.pop(unit, None)
+        if text is not None:
+            self._common[unit] = text
+        it = self._units.get(unit, ABSENT)
+        if it.revision:
+            self._set(unit, replace(it, is_changed=it.text != text, common=text))
+
+    def _take_back(self, unit: str, text: str) -> None:
+        """An editor was closed, so the text of the file counts again: where that is older than what others have put, it is not put."""
+        it = self._units.get(unit, ABSENT)
+        if it.text == it.common != text and not (it.is_ours and hash(text) in self._run.get(unit, ())):
+            self._set_common(unit, text)
+
+    def _compare(self) -> None:
+        """Finds which texts here are the workbench's, and which differ and are not to be put."""
+        for unit in list(self._looked_at()):
+            text, it = self._wanted.texts[unit], self._units.get(unit)
+            if not it or not it.revision:
+                continue
+            if it.common is None and it.text == self._wanted.open.get(unit, text):
+                it = replace(it, common=it.text)  # The user has typed before it was known what the workbench has.
+                self._common[unit] = it.text or ""
+            if it.text == text:
+                if it.is_changed or it.common is not text:
+                    self._common[unit] = text
+                    self._set(unit, replace(it, text=text, is_changed=False, common=text))
+            elif it.is_changed == self._is_ahead(unit, it):
+                self._set(unit, replace(it, is_changed=not it.is_changed))
+
+    def _is_ahead(self, unit: str, it: Unit) -> bool:
+        """Whether a text that differs is that of the workbench but for what was changed here: by its user, or in a file that came from here."""
+        by_user = unit in self._wanted.insisted or self._wanted.open.get(unit) == it.text
+        return it.text is not None and it.text == it.common and (it.is_ours or by_user)
+
+    def _is_to_put(self, unit: str, text: str) -> bool:
+        it = self._units.get(unit, ABSENT)
+        if it.text == text or unit in self._behind or is_marked(text):
+            return False
+        return not it.is_changed or self._wanted.forced.get(unit) == it.revision
+
+    def _set(self, unit: str, it: Unit) -> None:
+        self._units[unit] = it
+        self._touched.add(unit)
+        self._tell(unit)
+
+    def _tell(self, unit: str) -> None:
+        self.news.units[unit] = self._units.get(unit, ABSENT)
+        self.news.faults[unit] = self._faults.get(unit)
+
+    # Commits
+
+    def _put(self, unit: str, number: int, text: str) -> None:
+        self._own.add(number)
+        self._untold[unit] = number
+        self._faults.pop(unit, None)
+        self._common[unit] = text
+        self._run.setdefault(unit, set()).add(hash(text))
+        self._set(unit, Unit(number, text, common=text))
+
+    def _removed(self, unit: str, number: int) -> None:
+        self._own.add(number)
+        self._untold[unit] = number
+        self._faults.pop(unit, None)
+        self._set(unit, ABSENT)
+        del self._units[unit]
+
+    def _overtaken(self, unit: str, revision: int) -> None:
+        """The mirror tells what it is, or has told it already."""
+        self._behind.add(unit)

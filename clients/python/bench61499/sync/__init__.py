@@ -1,0 +1,1 @@
+"""A folder and a workbench that are kept the same."""

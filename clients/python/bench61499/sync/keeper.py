@@ -1,0 +1,236 @@
+"""Keeps a folder and a workbench the same."""
+from __future__ import annotations
+
+import time
+from collections.abc import Iterable, Mapping
+from dataclasses import dataclass
+
+from bench61499 import Change, Put, Remove, WorkbenchError
+from bench61499.language.merging import is_marked
+from bench61499.mirror import Version
+from bench61499.sync.deciding import Decision, Step, decide
+from bench61499.sync.files import Changed
+from bench61499.sync.incoming import Incoming
+from bench61499.sync.outgoing import Outgoing
+from bench61499.sync.report import Report
+from bench61499.sync.saved import Saved, Units
+from bench61499.sync.store import FileRevision, Store
+from bench61499.sync.team import Team
+
+FEW = 3
+"""So many deleted files are removed from the workbench unasked; if there are more at once, the folder may be another one than it was."""
+AGAIN = 5.0
+"""Seconds after which what failed is tried again."""
+MARKED = "has the marked lines of a conflict, and is not committed until they are gone"
+SENT = Step.PUT, Step.REMOVE
+
+
+@dataclass(frozen=True)
+class Ways:
+    """What may be done: files be written, changes be committed, both only be told, many units be removed."""
+
+    pull: bool = True
+    push: bool = True
+    is_dry: bool = False
+    removes_many: bool = False
+
+    def may(self, step: Step) -> bool:
+        return not self.is_dry and (step == Step.AGREE or (self.push if step in SENT else self.pull))
+
+
+class Keeper:
+    """A folder and a workbench: `look` sees what was saved, and `step` does what can be done now. What was not done is done by a later step."""
+
+    def __init__(self, saved: Saved, store: Store, team: Team, ways: Ways, report: Report):
+        self._saved, self._store, self._team, self._ways, self._report = saved, store, team, ways, report
+        self._incoming = Incoming(saved, store, report)
+        self._outgoing = Outgoing(store, team, report, self._fail)
+        self._units = Units()
+        self._dirty: set[str] = set()
+        self._failed: set[str] = set()
+        self._next_try = 0.0
+
+    def look(self, at_once: bool = False) -> None:
+        """Sees what was saved, also what may still be being written if it is `at_once`. Raises `Misuse` if the folder can't be read."""
+        if self._saved.look(at_once):
+            self._incoming.find_written()
+            self._name_files()
+            self._dirty |= self._all()
+        if not self._ways.is_dry:
+            self._dirty |= set(self._incoming.settle(at_once))
+            self._incoming.record()
+
+    def _name_files(self) -> None:
+        self._units = self._saved.units(self._store.common)
+        self._report.tell_problems(self._units.problems)
+
+    def count(self) -> int:
+        """How many units have a file."""
+        return len(self._units.files)
+
+    def _all(self) -> set[str]:
+        return self._units.files.keys() | self._store.common.keys() | self._team.names()
+
+    def step(self) -> bool:
+        """Does what can be done, and tells whether nothing is left to be done now."""
+        self._team.take()
+        if not self._team.workbench:
+            return False
+        if self._team.workbench != self._store.identity:
+            self._meet(self._team.workbench)
+        units = self._taken()
+        versions = {unit: self._team.version(unit) for unit in sorted(units)}
+        if self._team.workbench != self._store.identity:  # It was lost meanwhile, and what was known of it.
+            self._dirty |= units
+            return False
+        known = {unit: version for unit, version in versions.items() if version is not None}
+        self._dirty |= versions.keys() - known.keys()
+        decisions = self._decide_all(known)
+        merged = self._bring(decisions, known)
+        decisions |= self._decide_all({unit: known[unit] for unit in merged})
+        self._send(decisions, known)
+        self._report.flush()
+        return not self._dirty
+
+    def _taken(self) -> set[str]:
+        """The units to look at now."""
+        if self._failed and time.monotonic() >= self._next_try:
+            self._dirty |= self._failed
+            self._failed = set()
+        units, self._dirty, self._team.units = self._dirty | self._team.units, set(), set()
+        return units - self._units.held.keys()
+
+    def _fail(self, unit: str, words: str) -> None:
+        """Tells what could not be done; it is tried again."""
+        self._report.trouble(unit, words)
+        self._failed.add(unit)
+        self._next_try = time.monotonic() + AGAIN
+
+    def _meet(self, identity: str) -> None:
+        """Begins with another workbench. Its revisions say nothing, and a unit that it lacks was not removed. A text that was replaced here is an older one."""
+        store = self._store
+        versions = {unit: self._team.version(unit) or Version(0) for unit in self._all()} if store.identity else {}
+        if self._team.workbench != identity:  # It was lost meanwhile.
+            return
+        if store.identity:
+            self._report.say("the host was started again: the texts of its workbench are compared with the files")
+        with store.together():
+            for unit, version in versions.items():
+                self._compare(unit, version)
+            store.take_back(list(store.sent))
+            store.meet(identity)
+        self._dirty |= self._all()
+
+    def _compare(self, unit: str, version: Version) -> None:
+        common = self._store.common.get(unit)
+        if version.text is None:
+            self._store.found(unit, None)
+        elif self._store.was_former(unit, version.text) and not (common and common.text == version.text):
+            self._store.found(unit, FileRevision(common.file if common else f"{unit}.fb", version.revision, version.text))
+
+    # Decisions
+
+    def _decide_all(self, versions: Mapping[str, Version]) -> dict[str, Decision]:
+        unanswered = self._store.sent.keys() & versions.keys()
+        if unanswered:
+            with self._store.together():
+                for unit in unanswered:
+                    self._find_out(unit, versions[unit])
+        return {unit: self._decide(unit, version) for unit, version in versions.items()}
+
+    def _find_out(self, unit: str, version: Version) -> None:
+        """Whether a commit was made to which no answer came."""
+        sent, common = self._store.sent[unit], self._store.common.get(unit)
+        is_made = sent == version.text
+        if is_made:
+            file = self._units.files.get(unit) or (common.file if common else f"{unit}.fb")
+            self._store.agree(unit, FileRevision(file, version.revision, sent) if sent is not None else None)
+        if is_made or version.revision > (common.revision if common else 0):
+            self._store.take_back([unit])
+
+    def _decide(self, unit: str, version: Version) -> Decision:
+        common = self._store.common.get(unit)
+        return decide(self._here(unit), version.text, common.text if common else None)
+
+    def _here(self, unit: str) -> str | None:
+        name = self._units.files.get(unit)
+        return self._saved.text(name) if name else None
+
+    # What comes
+
+    def _bring(self, decisions: Mapping[str, Decision], versions: Mapping[str, Version]) -> list[str]:
+        """Writes what comes from the workbench, and gives the units whose files have the changes of both then."""
+        merged: list[str] = []
+        disputed = self._store.conflicts.keys()
+        brought = {unit: it for unit, it in decisions.items() if (it.step not in SENT or unit in disputed) and self._may(unit, it.step)}
+        self._incoming.prepare(self._units.files, brought, versions)
+        for unit, it in brought.items():
+            try:
+                self._bring_one(unit, it, versions[unit])
+            except Changed:
+                self._dirty.add(unit)  # It was saved just now, which is seen soon.
+            except OSError as error:
+                self._fail(unit, f"{self._units.files.get(unit, unit)}: can't be written: {error.strerror}")
+            else:
+                merged += [unit] if it.step == Step.MERGE else []
+        self._incoming.record()
+        if merged:
+            self._name_files()
+        return merged
+
+    def _bring_one(self, unit: str, decision: Decision, version: Version) -> None:
+        name = self._incoming.bring(unit, self._units.files.get(unit), decision, version, self._team.caller(unit))
+        if name:
+            self._units.files[unit] = name
+        else:
+            self._units.files.pop(unit, None)
+        if decision.step != Step.CONFLICT:
+            self._report.is_over(unit)
+
+    def _may(self, unit: str, step: Step) -> bool:
+        """Whether a step may be done; if not, that is told."""
+        if not self._ways.may(step):
+            self._report.left(step, self._name(unit))
+            if step in (Step.MERGE, Step.CONFLICT) and not self._ways.is_dry:
+                self._report.trouble(unit, f"{self._name(unit)}: was changed in the workbench too, so it is not committed; --pull first")
+            return False
+        if step in (Step.MERGE, Step.CONFLICT, Step.PUT) and is_marked(self._here(unit) or ""):
+            self._report.trouble(unit, f"{self._name(unit)}: {MARKED}")
+            return False
+        return True
+
+    def _name(self, unit: str) -> str:
+        """The file of a unit, or the one that it had."""
+        common = self._store.common.get(unit)
+        return self._units.files.get(unit) or (common.file if common else f"{unit}.fb")
+
+    # What goes
+
+    def _send(self, decisions: Mapping[str, Decision], versions: Mapping[str, Version]) -> None:
+        """Commits what was saved; what belongs to one file comes together."""
+        sent = {unit: it for unit, it in decisions.items() if it.step in SENT and self._may(unit, it.step)}
+        for unit in self._too_many(unit for unit, it in sent.items() if it.step == Step.REMOVE):
+            del sent[unit]
+        files = {unit: self._name(unit) for unit in sent}
+        changes: list[Change] = [self._change(unit, sent[unit].text, versions[unit]) for unit in sorted(sent, key=files.__getitem__)]
+        if self._team.error:
+            self._dirty |= sent.keys()
+            return
+        try:
+            self._dirty |= set(self._outgoing.send(changes, files))
+        except WorkbenchError:
+            self._dirty |= sent.keys()  # What was answered is found out again.
+
+    def _change(self, unit: str, text: str | None, version: Version) -> Change:
+        return Remove(unit, version.revision) if text is None else Put(unit, version.revision, text)
+
+    def _too_many(self, removed: Iterable[str]) -> list[str]:
+        """Those of the units to be removed that are not: their files are gone, all at once."""
+        gone = [unit for unit in removed if not self._saved.has_file(self._name(unit))]
+        if len(gone) <= FEW or self._ways.removes_many:
+            self._report.is_over("")
+            return []
+        names = ", ".join(self._name(unit) for unit in gone[:FEW])
+        words = f"{len(gone)} files are gone at once ({names}, ..): their units stay in the workbench; bring the files back, or start sync with --remove"
+        self._report.trouble("", words)
+        return gone

@@ -1,0 +1,22 @@
+-- The entry that is written through is the one at the key, and it has a value or not as before.
+use Rattle.std.proofs.Common.{◌≡◌, sym, arith, rules}
+use Rattle.fb_entries.specs.{declared.entry.Entry.{Entry}, Marking.{with_found}}
+use Rattle.fb_entries.proofs.{Counts.{unkept-set}, Writes.{written, unwritten}}
+use Rattle.fb_entries.proofs.entry_map.EntryMap.store_precomputed.Goals as goal
+
+pub invariant_of-self-2 : goal.invariant_of-self-2
+invariant_of-self-2 c =
+    let old = c.in-Some.entry.now in
+    let w : Entry = record old { found = c.unless_kept.result } in
+    omega (arith, c.self.invariant, unkept-set c.args.key.now c.self.inside.entries.entries (c.get_mut.follows.lender w).entries old w c.in-Some.ensures.value (c.get_mut.follows.holds w).0)
+
+pub returns : goal.returns
+returns c =
+    let old = c.in-Some.entry.now in
+    let w : Entry = record old { found = c.unless_kept.result } in
+    let is : with_found c.args.found old ≡ w = λ i. record old { found = sym c.unless_kept.ensures i } in
+    written c.self.inside.entries (c.get_mut.follows.lender w) c.args.self.now c.args.key.now (with_found c.args.found) c.self.view_is old w c.in-Some.ensures.value is (c.get_mut.follows.holds w)
+
+pub returns-in_default : goal.returns-in_default
+returns-in_default c =
+    unwritten c.self.inside.entries c.get_mut.follows.lender-at-none c.args.self.now c.args.key.now (with_found c.args.found) c.self.view_is (search rules) c.get_mut.follows.holds-at-none
