@@ -20,6 +20,7 @@ pub use fb_history::{
     entries_follow_the_texts, reach_before_and_after,
 };
 pub use peek::Shown;
+pub use read::MOST_CALLS;
 pub use request::Request;
 pub use snapshot::Snapshot;
 

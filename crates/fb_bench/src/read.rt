@@ -12,8 +12,8 @@ use fb_text::Name;
 use std::alloc::AllocError;
 use std::sync::Arc;
 
-/// At how many calls a read looks for events.
-const MOST_CALLS: u64 = 200;
+/// At how many calls a read of events looks at most.
+pub const MOST_CALLS: u64 = 200;
 
 impl Bench {
     /// What a session reads.

@@ -1,5 +1,5 @@
 -- How a worker ends.
-use Rattle.std.specs.{Prelude.{◌≡◌, ◌≢◌, ◌<◌, ◌||◌, ◌⊎◌, List, Bool, true, length, nat_le, is_some, Option, Some, None, if◌then◌else◌}, Option.{option_map}}
+use Rattle.std.specs.{Prelude.{◌≡◌, ◌≢◌, ◌<◌, ◌||◌, ◌⊎◌, List, Bool, true, false, length, nat_le, is_some, Option, Some, None, if◌then◌else◌}, Option.{option_map}}
 use Rattle.fb_bench.specs.{Jobs.Reads.{PlainJob}, History.Machine.{ToTake, ToDeliver, ToGiveBack, next, reply}, Requests.{job_of}, History.BenchView.{state_of}}
 use Rattle.fb_locked.specs.{declared.locked.SharedRefused.{SharedRefused}, declared.look.WorkEnd.{WorkEnd}}
 use Rattle.fb_locked.specs.{declared.look.WorkEnd.TheVariants.{TurnsOver, Stopped, SeatDiffers, Behind, HistoryFull, Memory}, declared.look.Look.{Look}}
@@ -50,6 +50,12 @@ Looks locked seat (Taken job) old locked' seat' new =
 -- a worker that waits has to look again: it would end, or there is something to take
 abbrev pub calls_workers : LockedView → Bool
 calls_workers locked = locked.stopped || (is_some (next (state_of locked.bench)) || nat_le locked.bench.log.limit (length locked.bench.log.records))
+
+-- a worker waits only after a look that leaves nothing for which it would be called
+abbrev pub WaitsRightly : Look → LockedView → Type 0
+WaitsRightly Nothing locked = calls_workers locked ≡ false
+WaitsRightly (Ended end) locked = Unit {0}
+WaitsRightly (Taken job) locked = Unit {0}
 
 -- If memory ran out, the key of the job is given back, or nothing changes if this is refused too. At another end nothing changes.
 abbrev pub GivesUp : WorkEnd → LockedView → SeatView → PlainJob → List ReceiptView → LockedView → SeatView → List ReceiptView → Type 0

@@ -89,7 +89,6 @@ pub fn close_for(
                 callers: _,
                 stopped: _,
                 past: _,
-                is_closing: _,
             } = locked;
             Ok(Closed { bench, counts })
         }

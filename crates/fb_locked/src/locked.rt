@@ -27,7 +27,7 @@ pub enum SharedRefused {
 
 /// What is under the lock: a workbench, for how many callers seats were made, and the stop mark. The book of a caller is the
 /// number of its calls, those before the start of the history included. Records from before a roll stay in `past` until they are dropped, some at
-/// each later call. With `is_closing` nobody waits long for an event.
+/// each later call.
 #[derive(Drop)]
 pub struct Locked {
     pub(crate) alloc: Global,
@@ -35,7 +35,6 @@ pub struct Locked {
     pub(crate) callers: u32,
     pub(crate) stopped: bool,
     pub(crate) past: Vec<Arc<Record>>,
-    pub(crate) is_closing: bool,
 }
 
 impl Model for Locked {
@@ -79,7 +78,6 @@ impl Locked {
             callers,
             stopped: false,
             past: Vec::new(alloc),
-            is_closing: false,
         }
     }
 

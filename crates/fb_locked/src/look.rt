@@ -1,7 +1,7 @@
 //! Workers under the lock: what a look for a job finds, how a job is settled, and why a worker ends.
 ghost use Rattle.std.specs.Prelude.{◌≡◌, ◌+◌, IfSome, Some, None, is_some, vec_len, vec_capacity};
 ghost use Rattle.fb_bench.specs.Requests.{job_of};
-ghost use Rattle.fb_locked.specs.Ends.{end_of, end_before_take, calls_workers, GivesUp, LookNames, Looks, NamesSeat, SettlesJob};
+ghost use Rattle.fb_locked.specs.Ends.{end_of, end_before_take, calls_workers, GivesUp, LookNames, Looks, NamesSeat, SettlesJob, WaitsRightly};
 ghost use Rattle.fb_locked.specs.{Runs.{AddsLook, Holds, LeavesRoom, Works}, declared.look.WorkEnd.TheVariants.{Memory}};
 
 use crate::locked::{Locked, SharedRefused, job_from};
@@ -69,6 +69,7 @@ impl Locked {
         ensures adds { AddsLook result seat.old receipts.old.items receipts.new.items seat.new }
         ensures names { LookNames seat.new result }
         ensures room { LeavesRoom result (vec_len receipts.new) (vec_capacity receipts.new) }
+        ensures waits { WaitsRightly result self.new }
     {
         // Works around the borrow checker: both types that a `Request` can borrow must occur in a function that makes one.
         let _changes: &[Change] = &[];

@@ -83,16 +83,4 @@ impl Locked {
         }
         seat.seen() <= self.bench.last_number()
     }
-
-    /// From now on nobody waits long for an event.
-    pub fn end_waiting(&mut self)
-        ensures { self.new ≡ self.old }
-    {
-        self.is_closing = true;
-    }
-
-    /// Whether nobody waits long.
-    pub fn is_closing(&self) -> bool {
-        self.is_closing
-    }
 }

@@ -3,36 +3,31 @@ ghost use Rattle.std.specs.Prelude.{◌≡◌, ◌≤◌, None, IfErr, IfOk, IsT
 ghost use Rattle.fb_locked.specs.History.BenchView.{BenchView, IsOrigin, IsReplay, all_turns, last_number};
 ghost use Rattle.fb_locked.specs.{History.Machine.{ToCommit, ToTake, ToDeliver, ToGiveBack, ToAsk}, Bench.Records.{listed}, Bench.Requests.{call_for, job_of}};
 ghost use Rattle.fb_locked.specs.{Calls.{Answers, AnswersInto}, Closing.{IsCloseOf, IsFaultOf, IsLeast}, Resuming.{is_left_out, IsResumeFault}};
-ghost use Rattle.fb_locked.specs.{Reads.{ReadsAt}, Rolling.{MayReturn}, Seats.{AreFirstSeats, AreSeatsAt}};
+ghost use Rattle.fb_locked.specs.{Ends.{calls_workers}, Reads.{ReadsAt}, Rolling.{MayReturn}, Seats.{AreFirstSeats, AreSeatsAt}};
 ghost use Rattle.fb_locked.specs.History.declared.reading.Reading.TheVariants.{Events};
 ghost use Rattle.fb_shared.specs.Seated.{unnamed};
 
-use fb_locked::bench::{Answered, Bench, Identity, Limits, Reading, Request, Showing};
+use crate::news::News;
+use fb_locked::bench::{Answered, Bench, Identity, Limits, MOST_CALLS, Reading, Request, Showing};
 use fb_locked::jobs::{Finished, Job, Key};
 use fb_locked::library::Change;
 use fb_locked::{Closed, Locked, NotClosed, NotResumed, Receipt, Seat, SharedRefused, close_for};
 use std::alloc::{AllocError, Global};
 use std::marker::Model;
-use std::sync::{Condvar, CondvarTimeouts, Mutex, MutexGuard, Wait};
+use std::sync::{Condvar, Mutex, MutexGuard, Wait};
 use std::thread;
 use std::time::{Clock, Duration};
 
 /// How many milliseconds a watch gathers further events once there is one, so that not each of many commits wakes all who watch.
 const GATHERING: u64 = 5;
 
-/// With this number of calls after its own a watch gathers no further ones.
-const MANY_CALLS: u64 = 200;
-
-/// How many milliseconds a watch waits at most if the workbench is about to be closed.
-const CLOSING: u64 = 100;
-
 /// A workbench that threads share. Each call holds the lock once. Beside the lock are the number of callers for whom seats were made, the limits with which a
-/// full history begins again, if it does, and the identity of the workbench, 0 if it has none. `changed` wakes workers, and `events` those who watch.
+/// full history begins again, if it does, and the identity of the workbench, 0 if it has none. `changed` wakes workers; those who watch wait for `news`.
 pub struct Shared {
     pub(crate) state: Mutex<Locked>,
     pub(crate) callers: u32,
     pub(crate) changed: Condvar,
-    pub(crate) events: Condvar,
+    pub(crate) news: News,
     pub(crate) rolls: Option<Limits>,
     pub(crate) workbench: Identity,
 }
@@ -43,7 +38,7 @@ impl Drop for Shared {
             state: _,
             callers: _,
             changed: _,
-            events: _,
+            news: _,
             rolls: _,
             workbench: _,
         } = self;
@@ -54,36 +49,38 @@ impl Drop for Shared {
 pub(crate) struct Hold<'a> {
     pub(crate) state: MutexGuard<'a, Locked>,
     changed: &'a Condvar,
-    events: &'a Condvar,
+    news: &'a News,
     // the number of the last event when it began
     last_event: u64,
 }
 
 impl Hold<'_> {
     /// Lets the lock go, and wakes the workers that wait, if there is something for them, and those who watch, if its call is an event.
-    pub(crate) fn end(self) {
+    pub(crate) fn end<R: Wait>(self, rt: &R) {
         let Self {
             state,
             changed,
-            events,
+            news,
             last_event,
         } = self;
         if state.calls_workers() {
             changed.notify_all();
         }
-        let has_news = last_event < state.bench().last_event();
+        let event = state.bench().last_event();
         drop(state);
-        if has_news {
-            events.notify_all();
+        if last_event < event {
+            news.tell(rt, event);
         }
     }
 
-    /// Lets the lock go, and waits for a change.
-    pub(crate) fn wait<R: Wait>(self, rt: &R) {
+    /// Lets the lock go, and waits for a change. Under the lock there must be nothing for which workers are called: who makes something then wakes this one.
+    pub(crate) fn wait<R: Wait>(self, rt: &R)
+        requires { calls_workers self.state.now ≡ false }
+    {
         let Self {
             state,
             changed,
-            events: _,
+            news: _,
             last_event: _,
         } = self;
         drop(changed.wait(rt, state));
@@ -123,7 +120,7 @@ impl Shared {
             state: Mutex::new(locked),
             callers,
             changed: Condvar::new(),
-            events: Condvar::new(),
+            news: News::new(),
             rolls: None,
             workbench: Identity { high: 0, low: 0 },
         }
@@ -184,7 +181,7 @@ impl Shared {
         Hold {
             state,
             changed: &self.changed,
-            events: &self.events,
+            news: &self.news,
             last_event,
         }
     }
@@ -228,7 +225,7 @@ impl Shared {
     {
         let mut hold = self.hold(rt);
         let answer = hold.state.commit(seat, changes);
-        hold.end();
+        hold.end(rt);
         answer
     }
 
@@ -243,7 +240,7 @@ impl Shared {
     {
         let mut hold = self.hold(rt);
         let answer = hold.state.take(seat);
-        hold.end();
+        hold.end(rt);
         answer
     }
 
@@ -258,7 +255,7 @@ impl Shared {
     {
         let mut hold = self.hold(rt);
         let answer = hold.state.deliver(seat, finished);
-        hold.end();
+        hold.end(rt);
         answer
     }
 
@@ -273,7 +270,7 @@ impl Shared {
     {
         let mut hold = self.hold(rt);
         let answer = hold.state.give_back(seat, key);
-        hold.end();
+        hold.end(rt);
         answer
     }
 
@@ -283,7 +280,7 @@ impl Shared {
     {
         let mut hold = self.hold(rt);
         let answer = hold.state.ask(seat, key);
-        hold.end();
+        hold.end(rt);
         answer
     }
 
@@ -300,7 +297,7 @@ impl Shared {
     {
         let mut hold = self.hold(rt);
         let answer = hold.state.perform_into(seat, receipts, request);
-        hold.end();
+        hold.end(rt);
         answer
     }
 
@@ -317,7 +314,7 @@ impl Shared {
     {
         let mut hold = self.hold(rt);
         let answer = hold.state.return_held(seat, receipts, key, since);
-        hold.end();
+        hold.end(rt);
         answer
     }
 
@@ -353,36 +350,31 @@ impl Shared {
         self.read(rt, seat, &Reading::Events(after))
     }
 
+    /// Waits for an event after this call, but not for longer than this. If a read can show more than there are, it gathers further ones for a short time.
     fn await_news<R: Wait + Clock>(&self, rt: &R, after: u64, wait: Duration) {
         let state = self.state.lock(rt);
-        let closing = state.is_closing();
-        let most = if closing {
-            wait.min(Duration::from_millis(CLOSING))
-        } else {
-            wait
-        };
-        let (state, _timeout) = self.events.wait_timeout_while(rt, state, most, |locked| {
-            !locked.bench().has_news(after) && locked.is_closing() == closing
-        });
-        let behind = state.bench().last_number().saturating_sub(after);
-        let gathers = state.bench().has_news(after) && behind < MANY_CALLS && !wait.is_zero();
+        let has_news = state.bench().has_news(after);
+        let mut last_event = state.bench().last_event();
         drop(state);
-        if gathers {
+        if !has_news {
+            last_event = self.news.after(rt, after, wait);
+        }
+        let behind = last_event.saturating_sub(after);
+        if 0 < behind && behind < MOST_CALLS && !wait.is_zero() {
             thread::sleep(rt, Duration::from_millis(GATHERING));
         }
     }
 
     /// From now on no watch waits long, so that the sessions of peers that have gone end.
     pub fn end_watches<R: Wait>(&self, rt: &R) {
-        self.state.lock(rt).end_waiting();
-        self.events.notify_all();
+        self.news.end_waits(rt);
     }
 
     /// Makes the workers stop.
     pub fn stop<R: Wait>(&self, rt: &R) {
         let mut hold = self.enter(rt);
         hold.state.stop();
-        hold.end();
+        hold.end(rt);
     }
 
     /// Ends the calls. If a seat or a receipt does not fit, it is refused and hands all back.
@@ -404,7 +396,7 @@ impl Shared {
             state,
             callers,
             changed,
-            events,
+            news,
             rolls,
             workbench,
         } = self;
@@ -422,7 +414,7 @@ impl Shared {
                     state: Mutex::new(owner),
                     callers,
                     changed,
-                    events,
+                    news,
                     rolls,
                     workbench,
                 },
