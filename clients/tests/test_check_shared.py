@@ -209,8 +209,8 @@ class SnapshotTest(unittest.TestCase):
         class Disturbed(Session):
             changes: list[list[Change]] = [[Put("A", 2, BAD), Remove("C", 1)], [Put("A", 1, GOOD)]]
 
-            def peek_all(self, keys):
-                found = super().peek_all(keys)
+            def peek_all(self, keys, is_brief=False):
+                found = super().peek_all(keys, is_brief)
                 if self.changes:
                     other.commit(self.changes.pop())
                 return found

@@ -33,8 +33,9 @@ class Snapshot:
         self._at = 0
         self._list()
 
-    def values(self, keys: Iterable[Key], progress: Callable[[int], object] = lambda _: None) -> dict[Key, Any]:
+    def values(self, keys: Iterable[Key], progress: Callable[[int], object] = lambda _: None, is_brief: bool = False) -> dict[Key, Any]:
         """The values of those of these keys that are there, with the texts all of one moment. Waits for those that are being computed, and calls `progress` with how many are known.
+        If it `is_brief`, a network or a plan is `There`.
 
         Raises `NoResult` if it waits in vain.
         """
@@ -42,7 +43,7 @@ class Snapshot:
         known: dict[Key, Any] = {}
         unsure, most, end = wanted, -1, 0.0
         while True:
-            found = self._session.peek_all(unsure)
+            found = self._session.peek_all(unsure, is_brief)
             for key in unsure:
                 known.pop(key, None)
             known |= found
