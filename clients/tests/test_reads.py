@@ -7,7 +7,7 @@ from typing import Any
 from support import answering, hosting, serving, until, GREETING, HISTORY
 
 from bench61499 import (
-    BadReply, Blocked, Commit, Fault, Flat, NoReads, NoSuchKey, NoSuchUnit, Put, Refused, Remove, Result, Revision, Revisions, Session, Text, There, Watched,
+    BadReply, Blocked, Commit, Fault, Flat, Key, NoReads, NoSuchKey, NoSuchUnit, Put, Refused, Remove, Result, Revision, Revisions, Session, Text, There, Watched,
 )
 
 A = "FUNCTION_BLOCK A END_FUNCTION_BLOCK"
@@ -67,7 +67,7 @@ class ReadsTest(unittest.TestCase):
         empty, blocked = ("SUBAPPLICATION {0} {1} END_SUBAPPLICATION".format(*it) for it in (("S", ""), ("T", "FBS B : NO; END_FBS")))
         self.session.commit([Put("S", 0, empty), Put("T", 0, blocked), Put("Y", 0, system)])
         self.settled(3)
-        keys = [("net", "S"), ("net", "T"), ("deploy", "Y"), ("faults", "S"), ("net", "A")]
+        keys: list[Key] = [("net", "S"), ("net", "T"), ("deploy", "Y"), ("faults", "S"), ("net", "A")]
         expected = {("net", "S"): There(), ("net", "T"): Blocked(("NO", "T")), ("deploy", "Y"): There(), ("faults", "S"): ()}
         self.assertEqual(self.session.peek_all(keys, is_brief=True), expected)
         self.assertEqual(self.session.ask_all(keys, is_brief=True), expected)

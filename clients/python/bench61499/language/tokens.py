@@ -129,8 +129,8 @@ def spelled(of: Sequence[Token]) -> str:
 def head(text: str) -> tuple[str, Token | None]:
     """The first word of a text in upper case, and the name behind it; None where there is none that a unit can have."""
     if found := _HEAD.match(text):
-        name = Token("word", *found.span(2), found[2])
-        return found[1].upper(), name if is_name(name) else None
+        second = Token("word", *found.span(2), found[2])
+        return found[1].upper(), second if is_name(second) else None
     first = tokens(text)
     begin, name = next(first, None), next(first, None)
     if not begin:
