@@ -903,7 +903,8 @@ class Session:
     def _all(self, op: str, keys: Iterable[Key], is_brief: bool) -> dict[Key, Any]:
         its, reader = list(dict.fromkeys(keys)), _brief_reader if is_brief else _value_reader
         requests = [({"op": op, "kind": kind, "unit": unit}, _present(reader(kind))) for kind, unit in its]
-        found = self._exchange_all(requests, NoSuchKey, _decode_briefly if is_brief else json.loads)
+        decode: Callable[[bytes], Any] = _decode_briefly if is_brief else json.loads
+        found = self._exchange_all(requests, NoSuchKey, decode)
         return {key: it[0] for key, it in zip(its, found, strict=True) if it}
 
     def watch(self, after: int, wait: float = 0) -> Watched:

@@ -3,6 +3,7 @@ from __future__ import annotations
 
 import re
 from collections.abc import Generator, Iterator, Sequence
+from sys import intern
 from typing import NamedTuple
 
 from bench61499 import NAME_LIMIT
@@ -55,7 +56,8 @@ class Token(NamedTuple):
 
     @property
     def upper(self) -> str:
-        return self.words.upper()
+        """The words in upper case: one text for all that are the same, as a plant has many."""
+        return intern(self.words.upper())
 
 
 def _pattern_without(unclosed: set[bytes]) -> re.Pattern[bytes]:
