@@ -209,8 +209,8 @@ class SnapshotTest(unittest.TestCase):
         class Disturbed(Session):
             changes: list[list[Change]] = [[Put("A", 2, BAD), Remove("C", 1)], [Put("A", 1, GOOD)]]
 
-            def peek_all(self, keys):
-                found = super().peek_all(keys)
+            def peek_all(self, keys, is_brief=False):
+                found = super().peek_all(keys, is_brief)
                 if self.changes:
                     other.commit(self.changes.pop())
                 return found
@@ -222,6 +222,24 @@ class SnapshotTest(unittest.TestCase):
             self.assertEqual(values, {("faults", "A"): (Fault("WITH_UNKNOWN", 36, 37),), ("faults", "B"): (Fault("NAME_DIFFERS", 15, 16),)})
             self.assertEqual({unit: (it.revision, it.text) for unit, it in snapshot.texts.items()}, {"A": (3, BAD), "B": (1, GOOD)})
             self.assertEqual(Disturbed.changes, [])
+
+    def test_much_that_has_happened_is_read_at_once(self):
+        """However many replies tell of it, the values are read twice at most."""
+        rounds = []
+
+        class Counted(Session):
+            def peek_all(self, keys, is_brief=False):
+                rounds.append(1)
+                return super().peek_all(keys, is_brief)
+
+        with Counted.connect("127.0.0.1", self.port) as session:
+            snapshot = Snapshot(session)
+            for number in range(300):
+                self.other.commit([Put("A", number, GOOD)])
+            until(lambda: not self.other.status().pending)
+            self.assertEqual(snapshot.values([("faults", "A")]), {("faults", "A"): ()})
+        self.assertLessEqual(len(rounds), 2)
+        self.assertEqual(snapshot.texts["A"].revision, 300)
 
     def test_a_history_that_was_missed(self):
         """All is listed again."""

@@ -7,7 +7,7 @@ from typing import Any
 from support import answering, hosting, serving, until, GREETING, HISTORY
 
 from bench61499 import (
-    BadReply, Commit, Fault, Flat, NoReads, NoSuchKey, NoSuchUnit, Put, Refused, Remove, Result, Revision, Revisions, Session, Text, Watched,
+    BadReply, Blocked, Commit, Fault, Flat, Key, NoReads, NoSuchKey, NoSuchUnit, Put, Refused, Remove, Result, Revision, Revisions, Session, Text, There, Watched,
 )
 
 A = "FUNCTION_BLOCK A END_FUNCTION_BLOCK"
@@ -61,6 +61,17 @@ class ReadsTest(unittest.TestCase):
         self.assertEqual(self.session.peek("net", "S"), Flat((), (), ()))
         self.assertRaises(NoSuchKey, self.session.peek, "net", "A")
         self.assertEqual(self.session.peek_all([("faults", "A"), ("net", "A"), ("net", "S")]), {("faults", "A"): (FAULT,), ("net", "S"): Flat((), (), ())})
+
+    def test_of_a_network_or_a_plan_it_is_enough_that_it_is_there(self):
+        system = "SYSTEM Y DEVICE D : A RESOURCE R : A END_RESOURCE END_DEVICE END_SYSTEM"
+        empty, blocked = ("SUBAPPLICATION {0} {1} END_SUBAPPLICATION".format(*it) for it in (("S", ""), ("T", "FBS B : NO; END_FBS")))
+        self.session.commit([Put("S", 0, empty), Put("T", 0, blocked), Put("Y", 0, system)])
+        self.settled(3)
+        keys: list[Key] = [("net", "S"), ("net", "T"), ("deploy", "Y"), ("faults", "S"), ("net", "A")]
+        expected = {("net", "S"): There(), ("net", "T"): Blocked(("NO", "T")), ("deploy", "Y"): There(), ("faults", "S"): ()}
+        self.assertEqual(self.session.peek_all(keys, is_brief=True), expected)
+        self.assertEqual(self.session.ask_all(keys, is_brief=True), expected)
+        self.assertEqual(self.session.ask_all(keys)["net", "S"], Flat((), (), ()))
 
     def test_pending_values(self):
         with Session.connect("127.0.0.1", self.enterContext(hosting("--workers", "1"))) as session:

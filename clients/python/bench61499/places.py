@@ -2,6 +2,7 @@
 from __future__ import annotations
 
 import re
+from array import array
 from bisect import bisect_right
 
 
@@ -16,10 +17,8 @@ class Places:
 
     def __init__(self, text: str):
         self.encoded = text.encode()
-        ends = [(it.start(), it.end()) for it in self._LINE_END.finditer(self.encoded)]
-        self.starts = [0, *(end for _, end in ends)]
+        self.starts = array("L", [0, *(it.end() for it in self._LINE_END.finditer(self.encoded))])
         """Where each line begins."""
-        self._ends = [*(start for start, _ in ends), len(self.encoded)]
         self.is_plain = self.encoded.isascii()
         """Whether each character is one byte."""
 
@@ -31,7 +30,9 @@ class Places:
         """The text of a line, without its line end. Raises `ValueError` where there is no such line."""
         if not 1 <= number <= len(self.starts):
             raise ValueError(f"no line {number} in a text of {len(self.starts)}")
-        return self.encoded[self.starts[number - 1] : self._ends[number - 1]].decode()
+        start = self.starts[number - 1]
+        end = self._LINE_END.search(self.encoded, start)
+        return self.encoded[start : end.start() if end else None].decode()
 
     def line_column(self, place: int) -> tuple[int, int]:
         """The line and the column of a place. Raises `ValueError` where it is not in the text."""

@@ -35,6 +35,7 @@ Value = TypeVar("Value")
 # No revision is as high: a change written against it is always refused.
 _NO_REVISION = 2**64 - 1
 _TURNS = 100
+_THERE: dict[str, Any] = {}
 _GREETING_REQUEST = {"op": "deliver", "job": 1}
 _FIRST_PAUSE, _LONGEST_PAUSE = 0.01, 0.25
 _GREETING = 5.0
@@ -298,6 +299,11 @@ Deploy = Plan | Stopped | Faulty
 
 
 @dataclass(frozen=True)
+class There:
+    """A network or a plan that is there, of which nothing else was read."""
+
+
+@dataclass(frozen=True)
 class Job:
     """A job that was taken: its number in this session, and the key that it is for."""
 
@@ -449,6 +455,17 @@ def _value_reader(kind: Kind) -> Callable[[dict[str, Any]], Any]:
     return lambda reply: None if reply.get("answer") == "pending" else read(reply)
 
 
+def _brief_reader(kind: Kind) -> Callable[[dict[str, Any]], Any]:
+    read = _value_reader(kind)
+    return lambda reply: There() if reply is _THERE else read(reply)
+
+
+def _decode_briefly(answer: bytes) -> dict[str, Any]:
+    """A reply, decoded if it is no network or plan that is there. Replies are compact, and their members are in order."""
+    reply: dict[str, Any] = _THERE if answer.startswith((b'{"net":{"blocks":', b'{"deploy":{"cuts":')) else json.loads(answer)
+    return reply
+
+
 def _present(read: Callable[[dict[str, Any]], Value]) -> Callable[[dict[str, Any]], tuple[Value]]:
     """How to read what may be None where it is there."""
     return lambda reply: (read(reply),)
@@ -542,8 +559,11 @@ def pauses() -> Iterator[float]:
         pause = min(2 * pause, _LAST_TRY)
 
 
+_ENCODER = json.JSONEncoder(ensure_ascii=False, separators=(",", ":"))
+
+
 def _line(request: dict[str, Any]) -> bytes:
-    return json.dumps(request, ensure_ascii=False, separators=(",", ":")).encode()
+    return _ENCODER.encode(request).encode()
 
 
 # Sessions
@@ -731,10 +751,12 @@ class Session:
             raise RequestTooLong(len(line))
         self._channel.send(line + b"\n")
 
-    def _reply(self, read: Callable[[dict[str, Any]], Value], request: dict[str, Any] | None = None, longer: float = 0) -> Value:
+    def _reply(
+        self, read: Callable[[dict[str, Any]], Value], request: dict[str, Any] | None = None, longer: float = 0, decode: Callable[[bytes], Any] = json.loads
+    ) -> Value:
         answer = self._channel.receive(longer)
         try:
-            reply = json.loads(answer)
+            reply = decode(answer)
             if "refused" not in reply:
                 return read(reply)
             refusal = _refusal(reply, request)
@@ -815,6 +837,10 @@ class Session:
         """What `faults`, `net` or `deploy` give. Raises `NoSuchKey`."""
         return self._exchange({"op": "ask", "kind": kind, "unit": unit}, _value_reader(kind))
 
+    def ask_all(self, keys: Iterable[Key], is_brief: bool = False) -> dict[Key, Any]:
+        """As `peek_all` gives them, by one recorded call for each."""
+        return self._all("ask", keys, is_brief)
+
     def faults(self, unit: str) -> tuple[Fault, ...] | None:
         """The faults of a unit, in the order of their places; None while they are pending. Raises `NoSuchKey`."""
         return self.ask("faults", unit)
@@ -867,11 +893,18 @@ class Session:
         """What `ask` gives, without a recorded call; None while it is pending. Raises `NoSuchKey`."""
         return self._exchange({"op": "peek", "kind": kind, "unit": unit}, _value_reader(kind))
 
-    def peek_all(self, keys: Iterable[Key]) -> dict[Key, Any]:
-        """The values of those of these keys that are there, None for one that is pending: one after the other, but faster than by `peek`."""
-        its = list(dict.fromkeys(keys))
-        requests = [({"op": "peek", "kind": kind, "unit": unit}, _present(_value_reader(kind))) for kind, unit in its]
-        found = self._exchange_all(requests, NoSuchKey)
+    def peek_all(self, keys: Iterable[Key], is_brief: bool = False) -> dict[Key, Any]:
+        """The values of those of these keys that are there, None for one that is pending: one after the other, but faster than by `peek`.
+
+        If it `is_brief`, a network or a plan that is there is `There`, which takes less time and memory.
+        """
+        return self._all("peek", keys, is_brief)
+
+    def _all(self, op: str, keys: Iterable[Key], is_brief: bool) -> dict[Key, Any]:
+        its, reader = list(dict.fromkeys(keys)), _brief_reader if is_brief else _value_reader
+        requests = [({"op": op, "kind": kind, "unit": unit}, _present(reader(kind))) for kind, unit in its]
+        decode: Callable[[bytes], Any] = _decode_briefly if is_brief else json.loads
+        found = self._exchange_all(requests, NoSuchKey, decode)
         return {key: it[0] for key, it in zip(its, found, strict=True) if it}
 
     def watch(self, after: int, wait: float = 0) -> Watched:
@@ -880,22 +913,24 @@ class Session:
         self._send(request)
         return self._reply(_read_watched, request, longer=wait)
 
-    def _exchange_all(self, requests: list[tuple[dict[str, Any], Callable[[dict[str, Any]], Value]]], absent: type[Refused]) -> list[Value | None]:
+    def _exchange_all(
+        self, requests: list[tuple[dict[str, Any], Callable[[dict[str, Any]], Value]]], absent: type[Refused], decode: Callable[[bytes], Any] = json.loads
+    ) -> list[Value | None]:
         """Sends short requests, many before the first of them is answered; gives None for those refused as `absent`."""
         found: list[Value | None] = []
         for at in range(0, len(requests), _AT_ONCE):
             some = requests[at : at + _AT_ONCE]
             self._channel.send(b"".join(_line(request) + b"\n" for request, _ in some))
-            replies = [self._refused_or(request, read) for request, read in some]  # All are taken before one of them raises.
+            replies = [self._refused_or(request, read, decode) for request, read in some]  # All are taken before one of them raises.
             for it in replies:
                 if isinstance(it, Refused) and not isinstance(it, absent):
                     raise it
                 found.append(None if isinstance(it, Refused) else it)
         return found
 
-    def _refused_or(self, request: dict[str, Any], read: Callable[[dict[str, Any]], Value]) -> Value | Refused:
+    def _refused_or(self, request: dict[str, Any], read: Callable[[dict[str, Any]], Value], decode: Callable[[bytes], Any]) -> Value | Refused:
         try:
-            return self._reply(read, request)
+            return self._reply(read, request, decode=decode)
         except Refused as refusal:
             return refusal
 
@@ -939,15 +974,9 @@ class Session:
         waiting = set(self.revisions)
 
         def ask_all() -> bool | None:
-            for unit in sorted(waiting):
-                try:
-                    faults = self.faults(unit)
-                except NoSuchKey:
-                    waiting.discard(unit)
-                    continue
-                if faults is not None:
-                    settled[unit] = faults
-                    waiting.discard(unit)
+            found = self.ask_all(("faults", unit) for unit in sorted(waiting))
+            settled.update((unit, faults) for (_, unit), faults in found.items() if faults is not None)
+            waiting.intersection_update(unit for (_, unit), faults in found.items() if faults is None)
             return None if waiting else True
 
         self._work_until(ask_all, progress)

@@ -11,7 +11,7 @@ import time
 from collections.abc import Callable, Iterable
 from typing import Any
 
-from bench61499.session import Commit, Key, Result, Session, Text, Watched, WorkbenchError
+from bench61499.session import Commit, Event, Key, Result, Session, Text, Watched, WorkbenchError
 
 LOOK = 5.0
 """Seconds that it waits at once for a value that is being computed."""
@@ -33,8 +33,9 @@ class Snapshot:
         self._at = 0
         self._list()
 
-    def values(self, keys: Iterable[Key], progress: Callable[[int], object] = lambda _: None) -> dict[Key, Any]:
+    def values(self, keys: Iterable[Key], progress: Callable[[int], object] = lambda _: None, is_brief: bool = False) -> dict[Key, Any]:
         """The values of those of these keys that are there, with the texts all of one moment. Waits for those that are being computed, and calls `progress` with how many are known.
+        If it `is_brief`, a network or a plan is `There`.
 
         Raises `NoResult` if it waits in vain.
         """
@@ -42,7 +43,7 @@ class Snapshot:
         known: dict[Key, Any] = {}
         unsure, most, end = wanted, -1, 0.0
         while True:
-            found = self._session.peek_all(unsure)
+            found = self._session.peek_all(unsure, is_brief)
             for key in unsure:
                 known.pop(key, None)
             known |= found
@@ -50,7 +51,7 @@ class Snapshot:
             if len(known) - len(pending) > most:
                 most, end = len(known) - len(pending), time.monotonic() + PATIENCE
                 progress(most)
-            news = self._session.watch(self._at, LOOK if pending else 0)
+            news = self._news(LOOK if pending else 0)
             if not pending and not news.events and not news.missed:
                 self._at = news.at
                 return known
@@ -61,6 +62,15 @@ class Snapshot:
     def _list(self) -> None:
         listed = self._session.units()
         self._at, self.texts = listed.at, self._session.texts(it.unit for it in listed.units)
+
+    def _news(self, wait: float) -> Watched:
+        """All that has happened since the last news, however many replies tell it; waits so long for it if nothing has."""
+        events: list[Event] = []
+        at, news = self._at, self._session.watch(self._at, wait)
+        while news.at > at and not news.missed:
+            events += news.events
+            at, news = news.at, self._session.watch(news.at)
+        return Watched(news.at, tuple(events), news.missed)
 
     def _follow(self, news: Watched) -> bool:
         """Brings the texts up to date; gives whether there were commits, each of which can have changed any value."""

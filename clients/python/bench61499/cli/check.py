@@ -8,7 +8,6 @@ from dataclasses import dataclass, field
 from pathlib import Path
 
 from bench61499 import Fault, Key, Session, WorkbenchError
-from bench61499.cli.check_xml import check_project
 from bench61499.cli.command import Progress, add_workbench, fail, open_session, persistently, program, read_path
 from bench61499.cli.comparing import AGAIN, Difference, Judged, compare, last_common, only_there, remarks, replace
 from bench61499.cli.findings import Answers, Found, answers_of, ask_plans, find, keys_of
@@ -70,7 +69,9 @@ def main() -> int:
 
 
 def print_project(options: argparse.Namespace) -> int:
-    """Checks files of XML."""
+    """Checks files of XML. Only then what reads them is loaded, which takes as long as all else."""
+    from bench61499.cli.check_xml import check_project
+
     found, failed = check_project(options)
     for line in output(found, options, 0):
         print(line)
@@ -134,7 +135,7 @@ def check_shared(session: Session, options: argparse.Namespace, units: list[Unit
     units = units or [Unit(name, Path(f"{name}.fb"), it.text) for name, it in snapshot.texts.items()]
     faults: list[Key] = [("faults", unit.name) for unit in units]
     plans = keys_of(units) if options.plans else []
-    values = snapshot.values([*faults, *plans], lambda known: progress.show(f"checking {len(units):,} units: {known:,} results"))
+    values = snapshot.values([*faults, *plans], lambda known: progress.show(f"checking {len(units):,} units: {known:,} results"), is_brief=True)
     there = {name: it.text for name, it in snapshot.texts.items()}
     common = last_common(options.path, snapshot.workbench)
     differences = compare(units, there, common)

@@ -2,10 +2,11 @@
 from __future__ import annotations
 
 from collections.abc import Callable, Iterable, Iterator, Mapping, Sequence
+from contextlib import suppress
 from dataclasses import dataclass, field, replace
 from typing import Any, Literal
 
-from bench61499 import Deploy, Fault, Key, Kind, Net, NoSuchKey, Places, Session
+from bench61499 import Deploy, Fault, Key, Net, NoSuchKey, Places, Session, There
 from bench61499.cli.comparing import Difference, Judged
 from bench61499.language.copies import Originals
 from bench61499.language.explain import Explainer, Names
@@ -23,6 +24,8 @@ from bench61499.language.units import Unit
 Level = Literal["error", "warning", "note"]
 KEYS: dict[str, Literal["net", "deploy"]] = {"SUBAPPLICATION": "net", "SYSTEM": "deploy"}
 """What is asked for of units by their first word."""
+_AT_ONCE = 1_024
+"""Networks and plans that are asked for between two lines of progress."""
 
 
 @dataclass(frozen=True)
@@ -57,10 +60,10 @@ class Finding:
 class Answers:
     """The networks of subapplications and the plans of systems, as the workbench answered."""
 
-    nets: dict[str, Net | None] = field(default_factory=dict)
-    deploys: dict[str, Deploy | None] = field(default_factory=dict)
+    nets: dict[str, Net | There | None] = field(default_factory=dict)
+    deploys: dict[str, Deploy | There | None] = field(default_factory=dict)
 
-    def of(self, unit: str) -> Net | Deploy | None:
+    def of(self, unit: str) -> Net | Deploy | There | None:
         return self.nets.get(unit) or self.deploys.get(unit)
 
 
@@ -191,14 +194,10 @@ def ask_plans(session: Session, units: Iterable[Unit], progress: Callable[[int],
     """The networks of all subapplications and the plans of all systems; None for a text that spells no unit."""
     values: dict[Key, Any] = {}
     keys = keys_of(units)
-    for key in keys:
-        progress(len(values))
-        values[key] = _answer(session, *key)
+    for at in range(0, len(keys), _AT_ONCE):
+        progress(at)
+        values |= session.ask_all(keys[at : at + _AT_ONCE], is_brief=True)
+    for key in [key for key, value in values.items() if value is None]:
+        with suppress(NoSuchKey):
+            values[key] = session.wait(*key)
     return answers_of(values, keys)
-
-
-def _answer(session: Session, kind: Kind, unit: str) -> Any:
-    try:
-        return session.ask(kind, unit) or session.wait(kind, unit)
-    except NoSuchKey:
-        return None

@@ -10,7 +10,7 @@ from pathlib import Path
 from urllib.parse import quote
 from xml.etree import ElementTree
 
-from bench61499 import Flat, Plan
+from bench61499 import Flat, Plan, There
 from bench61499.cli.comparing import Difference, How, Judged
 from bench61499.cli.findings import Answers, Finding, Found
 from bench61499.cli.show import excerpt
@@ -91,8 +91,8 @@ def _counts(answers: Answers) -> dict[str, dict[str, int]]:
     """How many networks and plans there are, and how many there should be."""
     nets, deploys = answers.nets.values(), answers.deploys.values()
     return {
-        "networks": {"there": sum(isinstance(it, Flat) for it in nets), "wanted": len(nets)},
-        "plans": {"there": sum(isinstance(it, Plan) for it in deploys), "wanted": len(deploys)},
+        "networks": {"there": sum(isinstance(it, Flat | There) for it in nets), "wanted": len(nets)},
+        "plans": {"there": sum(isinstance(it, Plan | There) for it in deploys), "wanted": len(deploys)},
     }
 
 

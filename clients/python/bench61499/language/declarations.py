@@ -2,7 +2,6 @@
 from __future__ import annotations
 
 import re
-from collections import defaultdict
 from collections.abc import Iterator
 from dataclasses import dataclass, field
 from functools import cached_property
@@ -196,12 +195,8 @@ class Unit:
             found.setdefault(it.key, it)
         return found
 
-    @cached_property
-    def by_key(self) -> dict[Key, list[Use]]:
-        found: defaultdict[Key, list[Use]] = defaultdict(list)
-        for use in self.uses:
-            found[use.key].append(use)
-        return dict(found)
+    def uses_of(self, key: Key) -> list[Use]:
+        return [use for use in self.uses if use.key == key]
 
     def names(self) -> list[Declaration | Use]:
         """All places that have a name."""
@@ -214,7 +209,7 @@ class Unit:
 
     def prepare(self) -> None:
         """Has the tables made now, and not when somebody asks."""
-        self.first, self.by_key, self.walking
+        self.first, self.walking
 
     def of(self, *sections: str, scope: str = "") -> Iterator[Declaration]:
         """What is declared in these sections, first declarations alone."""

@@ -13,8 +13,9 @@ CODE = "NO_SUCH_TYPE"
 OF_CLIENT = "(a warning of this client: the workbench looks up no types of values)"
 _LATER = frozenset("LTIME LDATE LTOD LTIME_OF_DAY LDT LDATE_AND_TIME CHAR WCHAR".split())
 """Elementary types of IEC 61131-3 from its third edition on."""
-_SECTION = re.compile(r"\b(?:VAR|VAR_INPUT|VAR_OUTPUT|STRUCT)\b(.*?)\bEND_(?:VAR|STRUCT)\b", re.IGNORECASE | re.DOTALL)
-_TYPE = re.compile(r":\s*(?:ARRAY\s*\[[^\]]*\]\s*OF\s+)?([A-Za-z_]\w*)", re.IGNORECASE)
+_SECTION = re.compile(r"(?:VAR|STRUCT)(?:_INPUT|_OUTPUT)?\b(.*?)END_(?:VAR|STRUCT)\b", re.DOTALL)
+_TYPE = re.compile(r":\s*(?:ARRAY\s*\[[^\]]*\]\s*OF\s+)?([A-Z_]\w*)")
+"""Both are for texts in upper case."""
 _ELSEWHERE = re.compile(r"""\(\* (?:Elsewhere|Package): type="(\w+)\"""")
 _STAND_IN = re.compile(r"""\[\s*'""")
 _ELEMENTARY = Names([*ELEMENTARY, *sorted(_LATER)], nearness=0.7)
@@ -32,7 +33,7 @@ class Missing(NamedTuple):
 
 def missing_types(text: str, units: Names, near: Near) -> list[Missing]:
     """The types of the variables and fields of a text that are nowhere. `units` are the names of all units, `near` gives the one that may be meant."""
-    used = {name.upper() for section in _SECTION.findall(text) for name in _TYPE.findall(section)}
+    used = {name for section in _SECTION.findall(text.upper()) for name in _TYPE.findall(section)}
     unknown = {it for it in used if not is_elementary(it) and it not in _LATER and it not in units}
     unknown -= {it.upper() for it in _ELSEWHERE.findall(text)} if unknown else set()
     return list(dict.fromkeys(_found(text, unknown, near))) if unknown else []

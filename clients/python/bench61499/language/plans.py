@@ -5,7 +5,7 @@ from collections import deque
 from collections.abc import Iterator, Sequence
 from dataclasses import dataclass
 
-from bench61499 import Blocked, Deploy, Faulty, Flat, Misplaced, Net, Plan, Recursive, Stopped, TooLarge
+from bench61499 import Blocked, Deploy, Faulty, Flat, Misplaced, Net, Plan, Recursive, Stopped, There, TooLarge
 from bench61499.language.declarations import INSTANCE, TYPE, Declaration, Key, Unit, type_of_data
 from bench61499.language.surroundings import Surroundings
 from bench61499.language.texts import Texts
@@ -43,10 +43,10 @@ class Reasons:
         self._below: dict[str, frozenset[str]] = {}
         self._told: set[str] = set()
 
-    def of(self, unit: str, text: str, answer: Net | Deploy) -> Iterator[Reason]:
+    def of(self, unit: str, text: str, answer: Net | Deploy | There) -> Iterator[Reason]:
         """Why a unit has no network or no plan. Where its own faults are the only reason there is none to tell but these."""
         match answer:
-            case Flat() | Plan():
+            case Flat() | Plan() | There():
                 return
             case Faulty(misplaced):
                 places = _mappings(text)

@@ -112,7 +112,7 @@ class Plant:
         self.missed = False
         self._texts: dict[Path, Text] = {}
         self._unread: set[Path] = set()
-        self._names: dict[Path, set[str]] = {}
+        self._names: dict[Path, tuple[str, ...]] = {}
         self._declaring: defaultdict[str, set[Path]] = defaultdict(set)
         self._using: defaultdict[str, set[Path]] = defaultdict(set)
         self._walking: defaultdict[str, set[Path]] = defaultdict(set)
@@ -178,7 +178,7 @@ class Plant:
             self._using[name].add(file)
         for name in walking:
             self._walking[name].add(file)
-        self._names[file] = used | walking
+        self._names[file] = tuple(used | walking)
         self._freeze()
 
     def _freeze(self) -> None:
@@ -252,9 +252,9 @@ class Plant:
 
     def uses_in(self, text: Text, key: Key) -> list[Use]:
         """The uses of what a name stands for in one text."""
-        found = text.unit.by_key.get(key, [])
+        found = text.unit.uses_of(key)
         if key.name in text.unit.walking:
-            deep = text.unit.by_key.get(Key("", key.space, "", key.name), [])
+            deep = text.unit.uses_of(Key("", key.space, "", key.name))
             its = {walk for walk in {use.walk for use in deep} if walk and self.owner(walk) == key.unit}
             found = [use for use in found if not use.walk] + [use for use in deep if use.walk in its]
         return found

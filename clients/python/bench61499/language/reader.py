@@ -64,7 +64,8 @@ class Reader:
         if not self._is_inside:
             self._expect_parts()
         self._leave("")
-        uses = unit.uses = [self._use(wanted, token) for wanted, token in self._used]
+        keys = {it.key: it.key for it in unit.declared}
+        uses = unit.uses = [self._use(wanted, token, keys) for wanted, token in self._used]
         for space, scope, begin, middle, end in self._connected:
             unit.connections.append(Connection(space, scope, tuple(uses[begin:middle]), tuple(uses[middle:end])))
         return unit
@@ -452,9 +453,11 @@ class Reader:
 
     # Whose name it is
 
-    def _use(self, wanted: Wanted, token: Token) -> Use:
+    def _use(self, wanted: Wanted, token: Token, keys: dict[Key, Key]) -> Use:
+        """A use. Of equal `keys` it has the first one, as a plant has many."""
         walk = self._walk(wanted)
-        return Use(self._key(wanted, token.upper, walk), token.start, token.end, walk if walk and walk.steps else None)
+        key = self._key(wanted, token.upper, walk)
+        return Use(keys.setdefault(key, key), token.start, token.end, walk if walk and walk.steps else None)
 
     def _walk(self, wanted: Wanted) -> Walk | None:
         """The way to the owner of a name that stands behind others; None where nothing is known of these."""

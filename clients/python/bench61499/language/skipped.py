@@ -10,7 +10,8 @@ from bench61499.language.tokens import Token, is_name, tokens
 CODE = "NOT_CHECKED"
 FULL = "ST_FULL"
 _READ = "ST"
-_HEADS, _READ_HEADS = (re.compile(it, re.IGNORECASE) for it in (r"\bALGORITHM\b", r"\bALGORITHM\s+\w+\s+IN\s+ST\b"))
+_OTHER_HEAD = re.compile(r"ALGORITHM(?<!\wALGORITHM)\b(?!\s+\w+\s+IN\s+ST\b)")
+"""What may begin an algorithm in another language, in a text in upper case. It begins with letters, as a search for these is fast."""
 
 
 class Head(NamedTuple):
@@ -51,6 +52,4 @@ def heads(text: str) -> Iterator[Head]:
 
 def skipped(text: str) -> list[Head]:
     """The algorithms that the workbench does not read."""
-    if len(_HEADS.findall(text)) == len(_READ_HEADS.findall(text)):
-        return []
-    return [it for it in heads(text) if not it.is_read]
+    return [it for it in heads(text) if not it.is_read] if _OTHER_HEAD.search(text.upper()) else []

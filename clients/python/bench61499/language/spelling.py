@@ -15,6 +15,7 @@ CODE = "SPELLING"
 _ASIDE = re.compile(r"""\(\*.*?\*\)|//[^\n]*|'[^'\n]*'|"[^"\n]*\"""", re.DOTALL)
 """Comments and strings; one that holds a quote or is not closed is taken for words, and its unit is looked at."""
 _WORD = re.compile(r"[A-Za-z_]\w*", re.ASCII)
+_SMALL = re.compile(r"[a-z]")
 
 
 class Differing(NamedTuple):
@@ -32,6 +33,8 @@ class Differing(NamedTuple):
 
 def differing(texts: Mapping[str, str], around: Texts) -> dict[str, list[Differing]]:
     """By unit the uses whose declarations are spelled otherwise. `around` finds the units that declare them."""
+    if not any(_SMALL.search(_ASIDE.sub(" ", text)) for text in texts.values() if text != text.upper()):
+        return {}
     words = {unit: set(_WORD.findall(_ASIDE.sub(" ", text))) for unit, text in texts.items()}
     spellings: defaultdict[str, set[str]] = defaultdict(set)
     for word in set().union(*words.values()):

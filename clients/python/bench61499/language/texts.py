@@ -7,7 +7,7 @@ from functools import cache
 
 from bench61499.language.declarations import FIELD, INSTANCE, Declaration, Key, Unit, Walk, type_with_fields
 from bench61499.language.reader import read
-from bench61499.language.tokens import declaration, declared_kind
+from bench61499.language.tokens import head
 from bench61499.language.wording import Names
 
 NEAR = 0.6
@@ -66,8 +66,8 @@ def owner(walk: Walk, unit: Callable[[str], Unit | None]) -> str:
 def _by_kind(texts: Mapping[str, str]) -> Mapping[str, list[str]]:
     found: defaultdict[str, list[str]] = defaultdict(list)
     for name, text in texts.items():
-        declared = declaration(text)
-        found[declared_kind(text) or ""].append(declared.words if declared and declared.upper == name else name)
+        kind, declared = head(text)
+        found[kind].append(declared.words if declared and declared.upper == name else name)
     return found
 
 

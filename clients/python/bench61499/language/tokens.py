@@ -3,6 +3,7 @@ from __future__ import annotations
 
 import re
 from collections.abc import Generator, Iterator, Sequence
+from sys import intern
 from typing import NamedTuple
 
 from bench61499 import NAME_LIMIT
@@ -32,6 +33,8 @@ def _pattern(strings: bytes, before: bytes = b"", behind: bytes = b"") -> re.Pat
 _NEXT = _pattern(_SINGLE + b"|" + _DOUBLE, rb"[ \t\r\n]*+", rb"| \Z")
 _ONLY = {b"'": _pattern(_DOUBLE), b'"': _pattern(_SINGLE)}
 _NEITHER = _pattern(b"(?!)")
+_HEAD = re.compile(r"[ \t\r\n]*+([A-Za-z_]\w*+)[ \t\r\n]++([A-Za-z_]\w*+)(?!#)", re.ASCII)
+"""The first two words of a text that begins with them, as most do."""
 
 RESERVED = frozenset(
     """FUNCTION_BLOCK END_FUNCTION_BLOCK ADAPTER END_ADAPTER SUBAPPLICATION END_SUBAPPLICATION SYSTEM END_SYSTEM APPLICATION
@@ -53,7 +56,8 @@ class Token(NamedTuple):
 
     @property
     def upper(self) -> str:
-        return self.words.upper()
+        """The words in upper case: one text for all that are the same, as a plant has many."""
+        return intern(self.words.upper())
 
 
 def _pattern_without(unclosed: set[bytes]) -> re.Pattern[bytes]:
@@ -126,6 +130,9 @@ def spelled(of: Sequence[Token]) -> str:
 
 def head(text: str) -> tuple[str, Token | None]:
     """The first word of a text in upper case, and the name behind it; None where there is none that a unit can have."""
+    if found := _HEAD.match(text):
+        second = Token("word", *found.span(2), found[2])
+        return found[1].upper(), second if is_name(second) else None
     first = tokens(text)
     begin, name = next(first, None), next(first, None)
     if not begin:
@@ -146,5 +153,4 @@ def declared_name(text: str) -> str | None:
 
 def declared_kind(text: str) -> str | None:
     """The first word of a text in upper case: FUNCTION_BLOCK, ADAPTER, SUBAPPLICATION, SYSTEM, TYPE, or what stands there instead."""
-    first = next(tokens(text), None)
-    return first.upper if first else None
+    return head(text)[0] or None

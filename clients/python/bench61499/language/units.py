@@ -30,11 +30,12 @@ def find_files(paths: Iterable[Path], locked: Callable[[Misuse], object] | None 
 
     Raises `Misuse`; where `locked` is given it is told of the inner folders that can't be read, and the others are looked at.
     """
-    found: dict[Path, Path] = {}
+    found: dict[str, Path] = {}
     for path in paths:
-        for file in sorted(_files_in(path, locked or _refuse)) if _is_folder(path) else [path]:
-            found.setdefault(file.resolve(), file)
-    return sorted(found.values())
+        its = _files_in(path, locked or _refuse) if _is_folder(path) else [(os.path.realpath(path), path)]
+        for real, file in sorted(its, key=lambda it: it[1].parts):
+            found.setdefault(real, file)
+    return sorted(found.values(), key=lambda it: it.parts)
 
 
 def _is_folder(path: Path) -> bool:
@@ -50,16 +51,21 @@ def _is_folder(path: Path) -> bool:
     return stat.S_ISDIR(mode)
 
 
-def _files_in(folder: Path, locked: Callable[[Misuse], object]) -> Iterator[Path]:
-    """The `*.fb` files of a folder and of its inner ones, but for hidden ones. Links to folders are not followed."""
-
-    def tell(error: OSError) -> None:
+def _files_in(folder: Path, locked: Callable[[Misuse], object]) -> Iterator[tuple[str, Path]]:
+    """The `*.fb` files of a folder and of its inner ones, but for hidden ones, each behind the path to which its links lead. Links to folders are not followed."""
+    real = os.path.realpath(folder)
+    try:
+        with os.scandir(folder) as entries:
+            its = list(entries)
+    except OSError as error:
         if not isinstance(error, FileNotFoundError):  # It has gone since it was listed.
-            locked(_unreadable(error.filename, error))
-
-    for inner, folders, names in os.walk(folder, onerror=tell):
-        folders[:] = [it for it in folders if not is_hidden(it)]
-        yield from filter(_is_file, (Path(inner, name) for name in names if can_be_unit(name)))
+            locked(_unreadable(folder, error))
+        return
+    for it in its:
+        if it.is_dir(follow_symlinks=False):
+            yield from () if is_hidden(it.name) else _files_in(Path(it.path), locked)
+        elif can_be_unit(it.name) and _is_file(it):
+            yield os.path.realpath(it.path) if it.is_symlink() else f"{real}/{it.name}", Path(it.path)
 
 
 def is_hidden(name: str) -> bool:
@@ -72,10 +78,10 @@ def can_be_unit(name: str) -> bool:
     return name.lower().endswith(".fb") and not is_hidden(name)
 
 
-def _is_file(path: Path) -> bool:
+def _is_file(entry: os.DirEntry[str]) -> bool:
     """Whether it is a file, or what can't be looked at: that is told when it is read."""
     try:
-        return stat.S_ISREG(path.stat().st_mode)
+        return entry.is_file()
     except PermissionError:
         return True
     except OSError:

@@ -27,6 +27,8 @@ QUIET = 0.3
 """Seconds after the last key for which a change waits for further ones."""
 LONGEST_HOLD = 2.0
 """Seconds that changes wait for others that belong to the same edit."""
+FIRST_ANSWER = 5.0
+"""Seconds after the first text is opened in which texts are read only for questions, as long as its faults are not there: to read all others would delay them."""
 
 
 class Checking:
@@ -56,7 +58,7 @@ class Checking:
         self._shown: dict[Path, list[Diagnostic]] = {}
         self._uris: dict[Path, str] = {}
         self._lacking = ""
-        self._quiet_until = self._held_until = 0.0
+        self._quiet_until = self._held_until = self._ahead_from = 0.0
 
     @property
     def plant(self) -> Plant:
@@ -65,19 +67,21 @@ class Checking:
 
     def patience(self) -> float | None:
         """How long to wait for a message before the next step; None where there is nothing to do without one."""
-        if not self._sources.is_read():
+        ahead = self._reads_ahead()
+        if not self._sources.is_taken() or ahead <= 0 and not self.plant.is_read():
             return 0
         if self._is_dirty and self._talk.can_begin(True):
             return 0
         due = self._pages.due()
         aged = None if due is None else max(0.0, due - time.monotonic())
-        waits = self._talk.patience(), self._hold() if self._is_new() else None, self._offers.patience(), aged
+        waits = self._talk.patience(), self._hold() if self._is_new() else None, self._offers.patience(), aged, ahead or None
         return min((it for it in waits if it is not None), default=None)
 
     # What the editor does
 
     def open(self, uri: str, version: int | None, raw: str) -> None:
         self._sources.open(uri, version, raw)
+        self._ahead_from = self._ahead_from or time.monotonic() + FIRST_ANSWER
         path = path_of(uri)
         self._offers.opened(path)
         self.choices.changed(path)
@@ -191,11 +195,17 @@ class Checking:
                 self._settle()
             if self._talk.can_begin(self._is_dirty):
                 self._begin()
-        self.plant.refresh(end)
+        if self._reads_ahead() <= 0:
+            self.plant.refresh(end)
         self._tell_lacking()
         self._offers.step()
         if aged := self._pages.aged():
             self._show(aged)
+
+    def _reads_ahead(self) -> float:
+        """After how many seconds texts are read that no question needs; 0 if that is now."""
+        is_answered = any(it.is_published for it in self._sources.documents.values())
+        return 0.0 if is_answered else max(0.0, self._ahead_from - time.monotonic())
 
     def _follow_talk(self) -> None:
         """Goes on with another talk where the server turns out to be of another kind, and shows it if nothing is known now."""

@@ -2,7 +2,7 @@
 from __future__ import annotations
 
 from abc import ABC, abstractmethod
-from collections.abc import Iterable, Mapping
+from collections.abc import Container, Iterable, Mapping
 from dataclasses import dataclass, field
 
 from bench61499 import UNITS_LIMIT, Change, Fault, NoSuchUnit, Put, Remove, Session, StaleBase, batches
@@ -102,14 +102,14 @@ class Committed(ABC):
     def _overtaken(self, unit: str, revision: int) -> None:
         """Takes note of the revision that somebody else has made of a unit, 0 for none, for which a change of it was refused."""
 
-    def _bring_new(self, session: Session, changed: set[str], most: int = UNITS_LIMIT) -> bool:
+    def _bring_new(self, session: Session, changed: set[str], most: int = UNITS_LIMIT, first: Container[str] = ()) -> bool:
         """Commits what is new, and adds the units that are `changed`: what the user has changed goes in one commit, as far as it fits, and what files have in others.
 
-        Of files it takes so many at `most`, those first that are open, and tells whether there are more.
+        Of files it takes so many at `most`, those first that are open or to be `first`, and tells whether there are more.
         """
         new = [unit for unit in self._looked_at() if self._is_to_put(unit, self._wanted.texts[unit])]
         mine = [unit for unit in new if unit in self._wanted.insisted]
-        others = sorted((unit for unit in new if unit not in self._wanted.insisted), key=lambda it: it not in self._wanted.open)
+        others = sorted((unit for unit in new if unit not in self._wanted.insisted), key=lambda it: it not in self._wanted.open and it not in first)
         self._commit(session, [*self._gone(), *self._puts(mine)], changed)
         self._commit(session, self._puts(others[:most]), changed)
         return len(others) > most

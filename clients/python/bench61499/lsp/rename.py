@@ -84,7 +84,7 @@ def _check_members(plant: Plant, key: Key, name: str) -> None:
     its = plant.unit(key.unit)
     if its and its.kind == "FUNCTION_BLOCK" and key.space in (VARIABLE, INSTANCE):
         variable, port = Key(key.unit, VARIABLE, "", name), its.plug_or_socket(name)
-        if key.space == VARIABLE and port or its.plug_or_socket(key.name) and (variable in its.first or variable in its.by_key):
+        if key.space == VARIABLE and port or its.plug_or_socket(key.name) and (variable in its.first or its.uses_of(variable)):
             raise CantRename(f"{name} is a {VARIABLE if key.space == INSTANCE else 'plug or a socket'} of {key.unit} already")
 
 

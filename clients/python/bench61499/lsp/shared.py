@@ -5,12 +5,14 @@ import time
 from collections.abc import Iterable
 from itertools import islice
 
-from bench61499 import CHANGES_LIMIT, NoSuchKey, Put, Session
+from bench61499 import CHANGES_LIMIT, UNITS_LIMIT, NoSuchKey, Put, Session
 from bench61499.language.mentions import Mentions
 from bench61499.lsp.commits import ABSENT, Committed, Faults, Unit, Wanted
 
 MOST_JOBS = 16
 """Jobs that an own workbench does at once. It begins with one, as faults come first, and networks are not wanted here."""
+MANY_NEW = 1_024
+"""New units of which an own workbench gets at first only those that the open ones rest on, as these are wanted first."""
 MOST_ASKED = 64
 """Units whose faults are asked for at once, so that a change that comes meanwhile does not wait long."""
 FIRST_PAUSE, LONGEST_PAUSE = 0.05, 1.0
@@ -35,6 +37,7 @@ class SharedTexts(Committed):
         self._faults: dict[str, Faults] = {}
         self._mentions = Mentions()
         self._waiting: set[str] = set()
+        self._has_more = False
         self._last = 0
         self._jobs, self._pause = 1, FIRST_PAUSE
         self._looks = 0
@@ -48,15 +51,17 @@ class SharedTexts(Committed):
 
         Gives after how many seconds another turn is useful; None if none is without a change.
         """
-        if wanted:
+        if wanted and not (self._has_more and self._waiting):
             self._bring(wanted)
-            self.news.is_brought = True
+            self.news.is_brought = not self._has_more
         if self._waiting and not self._shared:
             self._work()
         if time.monotonic() >= self._next_question:
             self._ask_some()
         if self._shared and not self._waiting and time.monotonic() >= self._next_look:
             self._look()
+        if self._has_more:
+            return 0.0
         if not self._waiting and not self._shared:
             return None
         return max(0.0, (self._next_question if self._waiting else self._next_look) - time.monotonic())
@@ -66,12 +71,24 @@ class SharedTexts(Committed):
     def _bring(self, wanted: Wanted) -> None:
         self._wanted = wanted
         self._find_out(unit for unit in wanted.texts if unit not in self._units)
-        changed: set[str] = set()
+        changed, first = set[str](), self._first()
+        is_rest = self._has_more
         try:
-            self._bring_new(self.session, changed)
+            self._has_more = self._bring_new(self.session, changed, len(first) or UNITS_LIMIT, first)
         finally:
             if changed:
                 self._reach(changed)
+        if self._has_more:
+            self._waiting &= wanted.open.keys()
+        elif is_rest:
+            self._waiting |= {unit for unit, it in self._units.items() if it.revision}
+
+    def _first(self) -> set[str]:
+        """The new units that an own workbench gets before all others: the open ones and what they rest on, so that their faults are those that stay. None if all may go at once."""
+        texts, new = self._wanted.texts, [unit for unit, it in self._units.items() if not it.revision]
+        if self._shared or self._has_more or len(new) <= MANY_NEW:
+            return set()
+        return self._mentions.near(self._wanted.open, texts) & set(new)
 
     def _is_to_put(self, unit: str, text: str) -> bool:
         """Whether the workbench lacks a text: not where it has that of somebody else, unless the user insists."""

@@ -71,9 +71,13 @@ class Sources:
         """Has the files looked at again."""
         self._look = self._changed_files()
 
+    def is_taken(self) -> bool:
+        """Whether all files are taken in."""
+        return not self._look
+
     def is_read(self) -> bool:
         """Whether all files are taken in, and all texts read."""
-        return not self._look and self.plant.is_read()
+        return self.is_taken() and self.plant.is_read()
 
     def catch_up(self, end: float) -> bool:
         """Takes in the files that have changed, until a time and some in any case; tells whether that is all of them."""
