@@ -2,14 +2,13 @@
 from __future__ import annotations
 
 import argparse
-import sys
 from collections.abc import Iterator, Mapping
 from dataclasses import dataclass, field
 from pathlib import Path
 
 from bench61499 import Fault, Key, Session, WorkbenchError
 from bench61499.cli.check_xml import check_project
-from bench61499.cli.command import Progress, add_workbench, fail, open_session, persistently, program, read_path
+from bench61499.cli.command import Progress, add_workbench, fail, open_session, persistently, program, read_path, tell
 from bench61499.cli.comparing import AGAIN, Difference, Judged, compare, last_common, only_there, remarks, replace
 from bench61499.cli.findings import Answers, Found, answers_of, ask_plans, find, keys_of
 from bench61499.cli.formats import MACHINE_FORMATS, lines, summary
@@ -65,7 +64,7 @@ def main() -> int:
         print(line)
     is_told = options.format == "human" and not options.quiet
     for remark in [*remarks(found.differences), *([ONLY_ASKED] if found.judged == Judged.NOT_COMPARED and not is_told else [])]:
-        print(f"check: {remark}", file=sys.stderr)
+        tell(f"check: {remark}")
     return 2 if found.unchecked else int(found.is_faulty)
 
 

@@ -15,6 +15,7 @@ from pathlib import Path
 from typing import TextIO, TypeVar
 
 from bench61499 import ConnectionEnded, NoAnswer, NoSeat, NotLetIn, NoWorkbench, Session, find_program, pauses
+from bench61499.language.names import shown
 from bench61499.language.units import Misuse
 
 SEAT_PATIENCE = 60.0
@@ -96,7 +97,7 @@ def open_session(options: argparse.Namespace) -> Session:
             if time.monotonic() + pause > end:
                 raise
             if not refused:
-                print(f"{error}; trying again", file=sys.stderr)
+                tell(f"{error}; trying again")
         except NotLetIn:
             if refused >= NOT_LET_IN:
                 raise
@@ -122,7 +123,7 @@ def persistently(options: argparse.Namespace, act: Callable[[], Result]) -> Resu
         except NotLetIn:
             raise
         except (ConnectionEnded, NoAnswer) as error:
-            print(f"{error}; connecting again", file=sys.stderr)
+            tell(f"{error}; connecting again")
             time.sleep(pause)
     return act()
 
@@ -178,8 +179,13 @@ def drop_output() -> None:
 
 def fail(program: str, error: Exception) -> int:
     """Tells the user and gives the status for it."""
-    print(f"{program}: {error}", file=sys.stderr)
+    tell(f"{program}: {error}")
     return 2
+
+
+def tell(words: str) -> None:
+    """Tells the user something on standard error, in one line. Names of files, and what a server sends, may be in it."""
+    print(shown(words), file=sys.stderr, flush=True)
 
 
 class Progress:
