@@ -4,10 +4,12 @@ from __future__ import annotations
 import json
 import socket
 import subprocess
+import threading
 import time
 from collections.abc import Callable, Container, Iterable, Iterator, Mapping
 from dataclasses import dataclass
 from os import PathLike, fspath
+from random import uniform
 from typing import Any, BinaryIO, Literal, NamedTuple, Self, TypeVar, cast
 
 CHANGES_LIMIT = 16
@@ -22,6 +24,9 @@ UNITS_LIMIT = 16_384
 """Units that a workbench can be started for."""
 HISTORY_LIMIT = 10_000_000
 """Recorded calls that a workbench can be started for, or that a checkpoint makes room for."""
+
+REPLY_LIMIT = 268_435_456
+"""Bytes of one reply line: more than any plant of sense has, and what a server that is none can have a client keep."""
 
 LONGEST_WATCH = 30.0
 """Seconds that a watch waits, at most."""
@@ -43,6 +48,9 @@ _ACKNOWLEDGE: int = getattr(socket, "TCP_QUICKACK", 0)
 # Reads that are sent before the first of them is answered: far fewer bytes than a connection takes up.
 _AT_ONCE = 128 if _ACKNOWLEDGE else 1
 _FIRST_TRY, _LAST_TRY = 1.0, 15.0
+_PIECE = 65_536
+# Bytes a second at which a reply may come at least, behind those of the time in which the first of them is waited for.
+_SLOWEST = 65_536
 _USED_UP = "a `serve` ends once its sessions are used up"
 
 
@@ -535,11 +543,19 @@ def batches(changes: Iterable[SomeChange]) -> Iterator[list[SomeChange]]:
 
 
 def pauses() -> Iterator[float]:
-    """Seconds before each further try to connect: one at first, and then twice as long each time, up to 15."""
+    """Seconds before each further try to connect: one at first, and then twice as long each time, up to 15, or by chance down to half of that.
+
+    So many clients that have lost one server do not all come back at once.
+    """
     pause = _FIRST_TRY
     while True:
-        yield pause
+        yield pause * uniform(0.5, 1)
         pause = min(2 * pause, _LAST_TRY)
+
+
+def _of_this_machine(host: str) -> str:
+    """The host; 127.0.0.1 for none and for `localhost`, which leads to ::1 first on many machines, where any of their users may listen beside a workbench."""
+    return "127.0.0.1" if host.rstrip(".").lower() in ("", "localhost") else host
 
 
 def _line(request: dict[str, Any]) -> bytes:
@@ -596,7 +612,7 @@ class _Connection:
         self._address = f"{host}:{port}"
         self._timeout = self._patience = timeout
         try:
-            self._socket = socket.create_connection((host, port), timeout)
+            self._socket = socket.create_connection((_of_this_machine(host), port), timeout)
         except ConnectionRefusedError as error:
             raise NoWorkbench(f"no workbench at {self._address}: connection refused, no server runs there ({_USED_UP})") from error
         except OSError as error:
@@ -604,28 +620,49 @@ class _Connection:
         except ValueError as error:
             raise NoWorkbench(f"no workbench at {self._address}: there is no such host") from error
         self._socket.setsockopt(socket.IPPROTO_TCP, socket.TCP_NODELAY, 1)
-        self._reader: BinaryIO = self._socket.makefile("rb")
+        self._received = bytearray()
+        self._using = threading.Lock()
 
     def wait_at_most(self, timeout: float) -> None:
         self._timeout = timeout
 
     def send(self, line: bytes) -> None:
-        self._try(lambda: self._socket.sendall(line))
+        self._patience = self._timeout
+        self._try(lambda: self._send_all(line))
+
+    def _send_all(self, line: bytes) -> None:
+        with self._using:
+            self._socket.settimeout(self._patience)
+            self._socket.sendall(line)
 
     def receive(self, longer: float = 0) -> bytes:
         """The next line, for which it may wait so much longer than for others."""
-        line = self._try(lambda: self._read_line(self._timeout + longer))
-        if not line.endswith(b"\n"):
-            raise ConnectionEnded(f"the workbench at {self._address} closed the connection before it answered")
+        self._patience = self._timeout + longer
+        return self._try(self._read_line)
+
+    def _read_line(self) -> bytes:
+        begin, searched = time.monotonic(), 0
+        while (end := self._received.find(b"\n", searched)) < 0:
+            searched = len(self._received)
+            if searched > REPLY_LIMIT:
+                raise ConnectionEnded(f"the workbench at {self._address} sent a reply of more than {REPLY_LIMIT:,} bytes")
+            self._receive_some(begin + self._patience + searched / _SLOWEST)
+        line = bytes(self._received[: end + 1])
+        del self._received[: end + 1]
         return line
 
-    def _read_line(self, patience: float) -> bytes:
-        if self._patience != patience:
-            self._patience = patience
-            self._socket.settimeout(patience)
-        if _ACKNOWLEDGE:
-            self._socket.setsockopt(socket.IPPROTO_TCP, _ACKNOWLEDGE, 1)
-        return self._reader.readline()
+    def _receive_some(self, latest: float) -> None:
+        left = latest - time.monotonic()
+        if left <= 0:
+            raise TimeoutError
+        with self._using:
+            self._socket.settimeout(left)
+            if _ACKNOWLEDGE:
+                self._socket.setsockopt(socket.IPPROTO_TCP, _ACKNOWLEDGE, 1)
+            piece = self._socket.recv(_PIECE)
+        if not piece:
+            raise ConnectionEnded(f"the workbench at {self._address} closed the connection before it answered")
+        self._received += piece
 
     def _try(self, act: Callable[[], Value]) -> Value:
         try:
@@ -640,8 +677,8 @@ class _Connection:
             self._socket.shutdown(socket.SHUT_RDWR)  # It wakes a thread that waits for a reply.
         except OSError:
             pass  # The other side has hung up.
-        self._reader.close()
-        self._socket.close()
+        with self._using:  # Before that its number could be given to another connection, of which the other thread would read.
+            self._socket.close()
 
 
 class Session:
@@ -668,9 +705,9 @@ class Session:
 
     @classmethod
     def connect(cls, host: str, port: int, timeout: float = 60, secret: str | None = None) -> Self:
-        """Connects to a workbench that serves. No reply may take longer than `timeout` seconds. `secret` is the first line of the file that a `host` was given.
+        """Connects to a workbench that serves. No reply may take longer than `timeout` seconds, and one more for each 64 KiB of it. `secret` is the first line of the file that a `host` was given.
 
-        Raises `NoWorkbench` if nobody listens, `NoAnswer` if nobody answers within five seconds, `NoSeat` if all sessions are in use, `NotLetIn` if
+        `localhost` and an empty `host` are 127.0.0.1. Raises `NoWorkbench` if nobody listens, `NoAnswer` if nobody answers within five seconds, `NoSeat` if all sessions are in use, `NotLetIn` if
         the connection is closed before the first reply, and `BadReply` if it is no workbench that answers. A `serve` that has had all its
         sessions does one of the first two.
         """
@@ -738,7 +775,7 @@ class Session:
             if "refused" not in reply:
                 return read(reply)
             refusal = _refusal(reply, request)
-        except (ValueError, TypeError, KeyError, AttributeError) as error:
+        except (ValueError, TypeError, KeyError, AttributeError, OverflowError, RecursionError) as error:
             raise BadReply(answer) from error
         raise refusal
 
@@ -850,6 +887,8 @@ class Session:
         found: list[Revision] = []
         page = first = self.units_after()
         while page.units:
+            if len(found) > UNITS_LIMIT or found and page.units[0].unit <= found[-1].unit:
+                raise BadReply(f"units after {found[-1].unit}: {page.units[0].unit}".encode())  # Such a list might never end.
             found += page.units
             page = self.units_after(page.units[-1].unit)
         return Revisions(first.at, tuple(found))
