@@ -28,6 +28,8 @@ HISTORY_LIMIT = 10_000_000
 REPLY_LIMIT = 268_435_456
 """Bytes of one reply line: more than any plant of sense has, and what a server that is none can have a client keep."""
 
+PATIENCE = 60.0
+"""Seconds that whoever waits for values waits without a further one, if nothing else is said."""
 LONGEST_WATCH = 30.0
 """Seconds that a watch waits, at most."""
 
@@ -75,6 +77,10 @@ class NotLetIn(ConnectionEnded):
 
 class NoAnswer(WorkbenchError):
     """No reply came in time. The session can't be used any more."""
+
+
+class NoResult(WorkbenchError):
+    """A value that is being computed did not come, or others changed the workbench again and again."""
 
 
 class BadReply(WorkbenchError):
@@ -688,12 +694,14 @@ class Session:
     it goes on; `HistoryFull` is a refusal that each later call meets too.
 
     `revisions` has the revisions of the units that this session has put, by their names in upper case. Of what others put
-    it knows nothing: see `revision`.
+    it knows nothing: see `revision`. `patience` is how many seconds whoever waits for values waits without a further one: another session
+    may have taken the jobs for them, and keep them.
     """
 
     def __init__(self, channel: _Pipes | _Connection):
         self._channel = channel
         self.revisions: dict[str, int] = {}
+        self.patience = PATIENCE
 
     @classmethod
     def script(cls, program: str | PathLike[str], units: int = UNITS_LIMIT, history: int = HISTORY_LIMIT) -> Session:
@@ -965,14 +973,14 @@ class Session:
         return self._exchange({"op": "checkpoint", "units": units, "history": history}, lambda reply: int(reply["checkpoint"]))
 
     def wait(self, kind: Kind, unit: str, progress: Callable[[int], object] | None = None) -> Any:
-        """Works until one answer is there, and gives it. Raises `NoSuchKey`. `progress` as in `settle`."""
-        return self._work_until(lambda: self.ask(kind, unit), progress)
+        """Works until one answer is there, and gives it. Raises `NoSuchKey`, and `NoResult` if it waits in vain. `progress` as in `settle`."""
+        return self._work_until(lambda: self.ask(kind, unit), progress, lambda: [(kind, unit)])
 
     def settle(self, progress: Callable[[int], object] | None = None) -> dict[str, tuple[Fault, ...]]:
         """Works until nothing is pending, and gives the faults of each unit that this session has put, by its name in upper case.
 
         Calls `progress` now and then with the number of results so far. Units that others have removed since are left out. Where others
-        work too, it waits for the results that are in their hands.
+        work too, it waits for the results that are in their hands, and raises `NoResult` if it waits in vain.
         """
         settled: dict[str, tuple[Fault, ...]] = {}
         waiting = set(self.revisions)
@@ -989,11 +997,12 @@ class Session:
                     waiting.discard(unit)
             return None if waiting else True
 
-        self._work_until(ask_all, progress)
+        self._work_until(ask_all, progress, lambda: [("faults", unit) for unit in sorted(waiting)])
         return settled
 
-    def _work_until(self, answer: Callable[[], Value | None], progress: Callable[[int], object] | None) -> Value:
+    def _work_until(self, answer: Callable[[], Value | None], progress: Callable[[int], object] | None, waiting: Callable[[], list[Key]]) -> Value:
         accepted, pause = 0, _FIRST_PAUSE
+        waits = Waits(self.patience)
         while True:
             while done := self.work(_TURNS):
                 accepted += done
@@ -1004,5 +1013,30 @@ class Session:
             value = answer()
             if value is not None:
                 return value
+            keys = waiting()
+            waits.go_on(keys, accepted - len(keys))
             time.sleep(pause)
             pause = min(2 * pause, _LONGEST_PAUSE)
+
+
+class Waits:
+    """Waits for values as long as further ones come, and so many seconds more."""
+
+    def __init__(self, patience: float):
+        self._patience = patience
+        self._most: int | None = None
+        self._end = 0.0
+
+    def go_on(self, pending: list[Key], known: int) -> None:
+        """Takes note of how many values are known. Raises `NoResult` if no further one has come for too long, with the keys that are pending."""
+        if self._most is None or known > self._most:
+            self._most, self._end = known, time.monotonic() + self._patience
+        elif time.monotonic() > self._end:
+            raise NoResult(_why_none(pending, self._patience))
+
+
+def _why_none(pending: list[Key], seconds: float) -> str:
+    if not pending:
+        return f"others have changed the workbench again and again for {seconds:g} seconds"
+    keys = ", ".join(f"{kind} of {unit}" for kind, unit in pending[:5]) + (" and others" if len(pending) > 5 else "")
+    return f"no result for {seconds:g} seconds: {keys}; another session may have taken them and not delivered them"

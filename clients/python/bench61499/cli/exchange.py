@@ -7,7 +7,7 @@ from functools import partial
 
 from bench61499 import Deploy, WorkbenchError
 from bench61499.cli.asking import asking
-from bench61499.cli.command import add_workbench, program, read_path, tell
+from bench61499.cli.command import add_patience, add_workbench, program, read_path, tell
 from bench61499.cli.plan import NoPlan, deploy_of, plan_in
 from bench61499.cli.version import add_version
 from bench61499.exchange.boot import KINDS_OF_START, Boot, Refused, another_text, find_start
@@ -82,6 +82,7 @@ def _add_boot(works: argparse._SubParsersAction[argparse.ArgumentParser]) -> Non
     reader.add_argument("--applications", action="store_true", help="keep the application's name before that of a block; without it, as in 4diac, two blocks of a resource with one name are refused")
     reader.add_argument("--plain-types", action="store_true", help="write types without packages, for a FORTE before 3.0")
     add_workbench(reader)
+    add_patience(reader)
     reader.set_defaults(work=boot)
 
 
