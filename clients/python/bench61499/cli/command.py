@@ -204,9 +204,9 @@ def fail(program: str, error: Exception) -> int:
     return 2
 
 
-def tell(words: str) -> None:
-    """Tells the user something on standard error, in one line. Names of files, and what a server sends, may be in it."""
-    print(shown(words), file=sys.stderr, flush=True)
+def tell(*lines: str) -> None:
+    """Tells the user something on standard error. Names of files, and what a server sends, may be in it, and make no further lines."""
+    print("\n".join(map(shown, lines)), file=sys.stderr, flush=True)
 
 
 class Progress:

@@ -42,7 +42,7 @@ def main() -> int:
         else:
             print(picture, end="")
     except NoPicture as error:
-        tell(f"draw: {error}")
+        tell(*f"draw: {error}".split("\n"))
         return 1
     except (Misuse, WorkbenchError) as error:
         return fail("draw", error)

@@ -122,7 +122,7 @@ def boot(options: argparse.Namespace) -> int:
         for name, text in made.files.items():
             target.write(name, text)
     except NoPlan as error:
-        complain(str(error))
+        tell(*f"exchange: {error}".split("\n"))
         return 1
     except (Misuse, Refused, Unwritable, WorkbenchError) as error:
         complain(str(error))

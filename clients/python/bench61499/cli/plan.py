@@ -38,7 +38,7 @@ def main() -> int:
         if options.json:
             print(json.dumps({"unit": options.unit, "reasons": error.reasons}, indent=2))
         else:
-            tell(f"plan: {error}")
+            tell(*f"plan: {error}".split("\n"))
         return 1
     except (Misuse, WorkbenchError) as error:
         return fail("plan", error)
