@@ -16,12 +16,12 @@ from xml.etree import ElementTree
 
 from support import CLIENTS, HISTORY, InFolder, hosting, run, serving, until, used
 
-from bench61499 import Change, ConnectionEnded, Fault, NotLetIn, Put, Remove, Session, batches
+from bench61499 import Change, ConnectionEnded, Fault, NoResult, NotLetIn, Put, Remove, Session, batches
 from bench61499.cli.command import AGAIN, persistently
 from bench61499.cli.comparing import STATE, replace
 from bench61499.cli.looking import ONLY_ASKED
 from bench61499.language.units import Misuse, Unit
-from bench61499.snapshot import NoResult, Snapshot
+from bench61499.snapshot import Snapshot
 
 ASKED = f"{ONLY_ASKED}\n"
 SAME = "The workbench has the same texts.\n"
@@ -255,18 +255,53 @@ class SnapshotTest(unittest.TestCase):
 
     def test_a_key_that_another_session_keeps(self):
         """Nobody waits for it without an end."""
-        with Session.connect("127.0.0.1", self.enterContext(hosting("--workers", "1"))) as thief, patch("bench61499.snapshot.LOOK", 0.1), patch("bench61499.snapshot.PATIENCE", 1):
-            while not (job := self.stolen(thief)):
-                pass
+        with Session.connect("127.0.0.1", self.enterContext(hosting("--workers", "1"))) as thief, patch("bench61499.snapshot.LOOK", 0.1):
+            thief.patience = 1
+            job = stolen(thief)
             with self.assertRaisesRegex(NoResult, f"no result for 1 seconds: faults of {job}; another session may have taken"):
                 Snapshot(thief).values([("faults", it.unit) for it in thief.units().units])
 
-    def stolen(self, thief: Session) -> str:
-        """A unit whose faults the session has taken before the worker did, if it was fast enough."""
+
+def block(unit: str) -> str:
+    return GOOD.replace(" A ", f" {unit} ")
+
+
+def stolen(thief: Session) -> str:
+    """One of 16 units whose faults the session has taken before the worker did, and keeps."""
+    while True:
         revisions = thief.present(f"U{at}" for at in range(16))
-        thief.commit([Put(unit, revision, GOOD) for unit, revision in revisions.items()])
-        job = thief.take()
-        return job.unit if job else ""
+        thief.commit([Put(unit, revision, block(unit)) for unit, revision in revisions.items()])
+        if job := thief.take():
+            return job.unit
+
+
+class PatienceTest(Shared):
+    """Another session takes a job and keeps it."""
+
+    def test_check_gives_up_and_names_the_unit(self) -> None:
+        for at in range(16):
+            self.write(f"u{at}.fb", block(f"U{at}"))
+        for server in hosting("--workers", "1"), serving(9, "--workers", "1"):
+            with server as port, Session.connect("127.0.0.1", port) as thief:
+                job = stolen(thief)
+                for words in [], ["--plans"]:
+                    ran = self.check(port, "--patience", "1", *words)
+                    self.assertEqual((ran.returncode, ran.stdout), (2, ""))
+                    self.assertEqual(ran.stderr, f"check: no result for 1 seconds: faults of {job}; another session may have taken them and not delivered them\n")
+
+    def test_a_session_that_works_itself_gives_up_too(self) -> None:
+        with serving(2, "--workers", "1") as port, Session.connect("127.0.0.1", port) as thief, Session.connect("127.0.0.1", port) as session:
+            job = stolen(thief)
+            session.revisions |= thief.revisions
+            session.patience = 0.5
+            with self.assertRaisesRegex(NoResult, f"faults of {job};"):
+                session.settle()
+            with self.assertRaisesRegex(NoResult, f"faults of {job};"):
+                session.wait("faults", job)
+
+    def test_patience_is_a_number_of_seconds(self) -> None:
+        for words in "0", "-1", "x", "nan", "1e9":
+            self.assertIn("is no number of seconds", run("check", ".", "--patience", words).stderr)
 
 
 class ServeTest(Shared):

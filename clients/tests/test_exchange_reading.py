@@ -121,7 +121,7 @@ class ReadingTest(ExchangeTest):
         (self.folder / "empty").mkdir()
         with at(self.folder):
             self.assertEqual(imported(["nope.fbt", "Good.fbt"], self.lib).errors, ["nope.fbt: there is no such file or folder"])
-            self.assertEqual(imported(["/dev/null"], self.lib).errors, ["/dev/null: there is no such file or folder"])
+            self.assertEqual(imported(["/dev/null"], self.lib).errors, ["/dev/null: can't be read: it is no file, but a pipe or a device"])
             self.assertEqual(imported(["empty"], self.lib).errors, ["empty: has no file of IEC 61499-2"])
 
     def test_folders(self) -> None:

@@ -123,6 +123,10 @@ class ExtensionTest(InFolder):
         self.assertEqual([it for it in named if not (EXTENSION / it).is_file()], [])
         json.loads((EXTENSION / "language-configuration.json").read_text())
 
+    def test_the_settings_of_a_project_name_no_command(self) -> None:
+        properties = json.loads((EXTENSION / "package.json").read_text())["contributes"]["configuration"]["properties"]
+        self.assertEqual({name: it["scope"] for name, it in properties.items()}, {"bench61499.server": "machine"})
+
     @unittest.skipUnless(shutil.which("node"), "node is not installed")
     def test_it_starts_the_server_that_the_setting_names(self) -> None:
         properties = json.loads((EXTENSION / "package.json").read_text())["contributes"]["configuration"]["properties"]

@@ -4,10 +4,12 @@ from __future__ import annotations
 import json
 import socket
 import subprocess
+import threading
 import time
 from collections.abc import Callable, Container, Iterable, Iterator, Mapping
 from dataclasses import dataclass
 from os import PathLike, fspath
+from random import uniform
 from typing import Any, BinaryIO, Literal, NamedTuple, Self, TypeVar, cast
 
 CHANGES_LIMIT = 16
@@ -23,6 +25,11 @@ UNITS_LIMIT = 16_384
 HISTORY_LIMIT = 10_000_000
 """Recorded calls that a workbench can be started for, or that a checkpoint makes room for."""
 
+REPLY_LIMIT = 268_435_456
+"""Bytes of one reply line: more than any plant of sense has, and what a server that is none can have a client keep."""
+
+PATIENCE = 60.0
+"""Seconds that whoever waits for values waits without a further one, if nothing else is said."""
 LONGEST_WATCH = 30.0
 """Seconds that a watch waits, at most."""
 
@@ -44,6 +51,9 @@ _ACKNOWLEDGE: int = getattr(socket, "TCP_QUICKACK", 0)
 # Reads that are sent before the first of them is answered: far fewer bytes than a connection takes up.
 _AT_ONCE = 128 if _ACKNOWLEDGE else 1
 _FIRST_TRY, _LAST_TRY = 1.0, 15.0
+_PIECE = 65_536
+# Bytes a second at which a reply may come at least, behind those of the time in which the first of them is waited for.
+_SLOWEST = 65_536
 _USED_UP = "a `serve` ends once its sessions are used up"
 
 
@@ -68,6 +78,10 @@ class NotLetIn(ConnectionEnded):
 
 class NoAnswer(WorkbenchError):
     """No reply came in time. The session can't be used any more."""
+
+
+class NoResult(WorkbenchError):
+    """A value that is being computed did not come, or others changed the workbench again and again."""
 
 
 class BadReply(WorkbenchError):
@@ -552,11 +566,19 @@ def batches(changes: Iterable[SomeChange]) -> Iterator[list[SomeChange]]:
 
 
 def pauses() -> Iterator[float]:
-    """Seconds before each further try to connect: one at first, and then twice as long each time, up to 15."""
+    """Seconds before each further try to connect: one at first, and then twice as long each time, up to 15, or by chance down to half of that.
+
+    So many clients that have lost one server do not all come back at once.
+    """
     pause = _FIRST_TRY
     while True:
-        yield pause
+        yield pause * uniform(0.5, 1)
         pause = min(2 * pause, _LAST_TRY)
+
+
+def _of_this_machine(host: str) -> str:
+    """The host; 127.0.0.1 for none and for `localhost`, which leads to ::1 first on many machines, where any of their users may listen beside a workbench."""
+    return "127.0.0.1" if host.rstrip(".").lower() in ("", "localhost") else host
 
 
 _ENCODER = json.JSONEncoder(ensure_ascii=False, separators=(",", ":"))
@@ -616,7 +638,7 @@ class _Connection:
         self._address = f"{host}:{port}"
         self._timeout = self._patience = timeout
         try:
-            self._socket = socket.create_connection((host, port), timeout)
+            self._socket = socket.create_connection((_of_this_machine(host), port), timeout)
         except ConnectionRefusedError as error:
             raise NoWorkbench(f"no workbench at {self._address}: connection refused, no server runs there ({_USED_UP})") from error
         except OSError as error:
@@ -624,28 +646,49 @@ class _Connection:
         except ValueError as error:
             raise NoWorkbench(f"no workbench at {self._address}: there is no such host") from error
         self._socket.setsockopt(socket.IPPROTO_TCP, socket.TCP_NODELAY, 1)
-        self._reader: BinaryIO = self._socket.makefile("rb")
+        self._received = bytearray()
+        self._using = threading.Lock()
 
     def wait_at_most(self, timeout: float) -> None:
         self._timeout = timeout
 
     def send(self, line: bytes) -> None:
-        self._try(lambda: self._socket.sendall(line))
+        self._patience = self._timeout
+        self._try(lambda: self._send_all(line))
+
+    def _send_all(self, line: bytes) -> None:
+        with self._using:
+            self._socket.settimeout(self._patience)
+            self._socket.sendall(line)
 
     def receive(self, longer: float = 0) -> bytes:
         """The next line, for which it may wait so much longer than for others."""
-        line = self._try(lambda: self._read_line(self._timeout + longer))
-        if not line.endswith(b"\n"):
-            raise ConnectionEnded(f"the workbench at {self._address} closed the connection before it answered")
+        self._patience = self._timeout + longer
+        return self._try(self._read_line)
+
+    def _read_line(self) -> bytes:
+        begin, searched = time.monotonic(), 0
+        while (end := self._received.find(b"\n", searched)) < 0:
+            searched = len(self._received)
+            if searched > REPLY_LIMIT:
+                raise ConnectionEnded(f"the workbench at {self._address} sent a reply of more than {REPLY_LIMIT:,} bytes")
+            self._receive_some(begin + self._patience + searched / _SLOWEST)
+        line = bytes(self._received[: end + 1])
+        del self._received[: end + 1]
         return line
 
-    def _read_line(self, patience: float) -> bytes:
-        if self._patience != patience:
-            self._patience = patience
-            self._socket.settimeout(patience)
-        if _ACKNOWLEDGE:
-            self._socket.setsockopt(socket.IPPROTO_TCP, _ACKNOWLEDGE, 1)
-        return self._reader.readline()
+    def _receive_some(self, latest: float) -> None:
+        left = latest - time.monotonic()
+        if left <= 0:
+            raise TimeoutError
+        with self._using:
+            self._socket.settimeout(left)
+            if _ACKNOWLEDGE:
+                self._socket.setsockopt(socket.IPPROTO_TCP, _ACKNOWLEDGE, 1)
+            piece = self._socket.recv(_PIECE)
+        if not piece:
+            raise ConnectionEnded(f"the workbench at {self._address} closed the connection before it answered")
+        self._received += piece
 
     def _try(self, act: Callable[[], Value]) -> Value:
         try:
@@ -660,8 +703,8 @@ class _Connection:
             self._socket.shutdown(socket.SHUT_RDWR)  # It wakes a thread that waits for a reply.
         except OSError:
             pass  # The other side has hung up.
-        self._reader.close()
-        self._socket.close()
+        with self._using:  # Before that its number could be given to another connection, of which the other thread would read.
+            self._socket.close()
 
 
 class Session:
@@ -671,12 +714,14 @@ class Session:
     it goes on; `HistoryFull` is a refusal that each later call meets too.
 
     `revisions` has the revisions of the units that this session has put, by their names in upper case. Of what others put
-    it knows nothing: see `revision`.
+    it knows nothing: see `revision`. `patience` is how many seconds whoever waits for values waits without a further one: another session
+    may have taken the jobs for them, and keep them.
     """
 
     def __init__(self, channel: _Pipes | _Connection):
         self._channel = channel
         self.revisions: dict[str, int] = {}
+        self.patience = PATIENCE
 
     @classmethod
     def script(cls, program: str | PathLike[str], units: int = UNITS_LIMIT, history: int = HISTORY_LIMIT) -> Session:
@@ -688,9 +733,9 @@ class Session:
 
     @classmethod
     def connect(cls, host: str, port: int, timeout: float = 60, secret: str | None = None) -> Self:
-        """Connects to a workbench that serves. No reply may take longer than `timeout` seconds. `secret` is the first line of the file that a `host` was given.
+        """Connects to a workbench that serves. No reply may take longer than `timeout` seconds, and one more for each 64 KiB of it. `secret` is the first line of the file that a `host` was given.
 
-        Raises `NoWorkbench` if nobody listens, `NoAnswer` if nobody answers within five seconds, `NoSeat` if all sessions are in use, `NotLetIn` if
+        `localhost` and an empty `host` are 127.0.0.1. Raises `NoWorkbench` if nobody listens, `NoAnswer` if nobody answers within five seconds, `NoSeat` if all sessions are in use, `NotLetIn` if
         the connection is closed before the first reply, and `BadReply` if it is no workbench that answers. A `serve` that has had all its
         sessions does one of the first two.
         """
@@ -760,7 +805,7 @@ class Session:
             if "refused" not in reply:
                 return read(reply)
             refusal = _refusal(reply, request)
-        except (ValueError, TypeError, KeyError, AttributeError) as error:
+        except (ValueError, TypeError, KeyError, AttributeError, OverflowError, RecursionError) as error:
             raise BadReply(answer) from error
         raise refusal
 
@@ -876,6 +921,8 @@ class Session:
         found: list[Revision] = []
         page = first = self.units_after()
         while page.units:
+            if len(found) > UNITS_LIMIT or found and page.units[0].unit <= found[-1].unit:
+                raise BadReply(f"units after {found[-1].unit}: {page.units[0].unit}".encode())  # Such a list might never end.
             found += page.units
             page = self.units_after(page.units[-1].unit)
         return Revisions(first.at, tuple(found))
@@ -961,14 +1008,14 @@ class Session:
         return self._exchange({"op": "checkpoint", "units": units, "history": history}, lambda reply: int(reply["checkpoint"]))
 
     def wait(self, kind: Kind, unit: str, progress: Callable[[int], object] | None = None) -> Any:
-        """Works until one answer is there, and gives it. Raises `NoSuchKey`. `progress` as in `settle`."""
-        return self._work_until(lambda: self.ask(kind, unit), progress)
+        """Works until one answer is there, and gives it. Raises `NoSuchKey`, and `NoResult` if it waits in vain. `progress` as in `settle`."""
+        return self._work_until(lambda: self.ask(kind, unit), progress, lambda: [(kind, unit)])
 
     def settle(self, progress: Callable[[int], object] | None = None) -> dict[str, tuple[Fault, ...]]:
         """Works until nothing is pending, and gives the faults of each unit that this session has put, by its name in upper case.
 
         Calls `progress` now and then with the number of results so far. Units that others have removed since are left out. Where others
-        work too, it waits for the results that are in their hands.
+        work too, it waits for the results that are in their hands, and raises `NoResult` if it waits in vain.
         """
         settled: dict[str, tuple[Fault, ...]] = {}
         waiting = set(self.revisions)
@@ -979,11 +1026,12 @@ class Session:
             waiting.intersection_update(unit for (_, unit), faults in found.items() if faults is None)
             return None if waiting else True
 
-        self._work_until(ask_all, progress)
+        self._work_until(ask_all, progress, lambda: [("faults", unit) for unit in sorted(waiting)])
         return settled
 
-    def _work_until(self, answer: Callable[[], Value | None], progress: Callable[[int], object] | None) -> Value:
+    def _work_until(self, answer: Callable[[], Value | None], progress: Callable[[int], object] | None, waiting: Callable[[], list[Key]]) -> Value:
         accepted, pause = 0, _FIRST_PAUSE
+        waits = Waits(self.patience)
         while True:
             while done := self.work(_TURNS):
                 accepted += done
@@ -994,5 +1042,30 @@ class Session:
             value = answer()
             if value is not None:
                 return value
+            keys = waiting()
+            waits.go_on(keys, accepted - len(keys))
             time.sleep(pause)
             pause = min(2 * pause, _LONGEST_PAUSE)
+
+
+class Waits:
+    """Waits for values as long as further ones come, and so many seconds more."""
+
+    def __init__(self, patience: float):
+        self._patience = patience
+        self._most: int | None = None
+        self._end = 0.0
+
+    def go_on(self, pending: list[Key], known: int) -> None:
+        """Takes note of how many values are known. Raises `NoResult` if no further one has come for too long, with the keys that are pending."""
+        if self._most is None or known > self._most:
+            self._most, self._end = known, time.monotonic() + self._patience
+        elif time.monotonic() > self._end:
+            raise NoResult(_why_none(pending, self._patience))
+
+
+def _why_none(pending: list[Key], seconds: float) -> str:
+    if not pending:
+        return f"others have changed the workbench again and again for {seconds:g} seconds"
+    keys = ", ".join(f"{kind} of {unit}" for kind, unit in pending[:5]) + (" and others" if len(pending) > 5 else "")
+    return f"no result for {seconds:g} seconds: {keys}; another session may have taken them and not delivered them"

@@ -7,20 +7,13 @@
 """
 from __future__ import annotations
 
-import time
 from collections.abc import Callable, Iterable
 from typing import Any
 
-from bench61499.session import Commit, Event, Key, Result, Session, Text, Watched, WorkbenchError
+from bench61499.session import Commit, Event, Key, Result, Session, Text, Waits, Watched
 
 LOOK = 5.0
 """Seconds that it waits at once for a value that is being computed."""
-PATIENCE = 60.0
-"""Seconds after which it gives up if no further value comes, as one was taken and not delivered, or as others go on to commit."""
-
-
-class NoResult(WorkbenchError):
-    """A value that is being computed did not come, or others changed the workbench again and again."""
 
 
 class Snapshot:
@@ -37,26 +30,23 @@ class Snapshot:
         """The values of those of these keys that are there, with the texts all of one moment. Waits for those that are being computed, and calls `progress` with how many are known.
         If it `is_brief`, a network or a plan is `There`.
 
-        Raises `NoResult` if it waits in vain.
+        Raises `NoResult` if it waits in vain: for longer than the patience of the session.
         """
         wanted = list(dict.fromkeys(keys))
         known: dict[Key, Any] = {}
-        unsure, most, end = wanted, -1, 0.0
+        unsure, waits = wanted, Waits(self._session.patience)
         while True:
             found = self._session.peek_all(unsure, is_brief)
             for key in unsure:
                 known.pop(key, None)
             known |= found
             pending = [key for key, value in found.items() if value is None]
-            if len(known) - len(pending) > most:
-                most, end = len(known) - len(pending), time.monotonic() + PATIENCE
-                progress(most)
-            news = self._news(LOOK if pending else 0)
+            progress(len(known) - len(pending))
+            news = self._news(min(LOOK, self._session.patience) if pending else 0)
             if not pending and not news.events and not news.missed:
                 self._at = news.at
                 return known
-            if time.monotonic() > end:
-                raise NoResult(_why(pending))
+            waits.go_on(pending, len(known) - len(pending))
             unsure = wanted if self._follow(news) else _again(pending, wanted, news)
 
     def _list(self) -> None:
@@ -88,10 +78,3 @@ def _again(pending: list[Key], wanted: list[Key], news: Watched) -> list[Key]:
     """The keys whose values are not sure after results have come."""
     came = {(it.kind, it.unit) for it in news.events if isinstance(it, Result)}
     return list(dict.fromkeys([*pending, *(key for key in wanted if key in came)]))
-
-
-def _why(pending: list[Key]) -> str:
-    if not pending:
-        return f"others have changed the workbench again and again for {PATIENCE:g} seconds"
-    keys = ", ".join(f"{kind} of {unit}" for kind, unit in pending[:5]) + (" and others" if len(pending) > 5 else "")
-    return f"no result for {PATIENCE:g} seconds: {keys}; another session may have taken them and not delivered them"

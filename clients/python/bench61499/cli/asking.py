@@ -2,13 +2,12 @@
 from __future__ import annotations
 
 import argparse
-import sys
 from collections.abc import Callable, Iterable, Iterator
 from contextlib import contextmanager, suppress
 from typing import Any
 
 from bench61499 import Key, NoSuchKey, Session
-from bench61499.cli.command import Progress, open_session
+from bench61499.cli.command import Progress, open_session, tell
 from bench61499.cli.comparing import compare, in_words, last_common, only_there, replace
 from bench61499.cli.looking import ONLY_ASKED
 from bench61499.language.mentions import Mentions
@@ -90,5 +89,5 @@ def asking(options: argparse.Namespace, puts: bool) -> Iterator[Asked]:
         if puts or is_own:
             commit_units(session, units, lambda put: progress.show(f"putting units: {put:,} of {len(units):,}"))
         elif units:
-            print(ONLY_ASKED, file=sys.stderr)
+            tell(ONLY_ASKED)
         yield Asked(session, texts, show, is_trusted=puts or is_own)

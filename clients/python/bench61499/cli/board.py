@@ -3,7 +3,6 @@ from __future__ import annotations
 
 import argparse
 import gc
-import sys
 import threading
 from pathlib import Path
 
@@ -12,9 +11,10 @@ from bench61499.board.mirrored import MirroredWatch
 from bench61499.board.server import NO_NAME, BoardServer, is_name
 from bench61499.board.state import Board
 from bench61499.board.watch import CALLS_A_SECOND, FolderWatch, SharedWatch, keep, keep_connected
-from bench61499.cli.command import add_workbench, fail, open_once, open_session, program, read_path
+from bench61499.cli.command import add_workbench, fail, open_once, open_session, program, read_path, tell
 from bench61499.cli.version import add_version
 from bench61499.language.folder import Folder
+from bench61499.language.names import shown
 from bench61499.language.units import Misuse
 
 NO_READS = "this server gives neither units nor texts, as a host does: the board shows those of --files and --unit, and asks for changes by recorded calls"
@@ -57,7 +57,7 @@ def main() -> int:
 
 
 def say(words: str) -> None:
-    print(f"board: {words}", file=sys.stderr, flush=True)
+    tell(f"board: {words}")
 
 
 def read_options() -> argparse.Namespace:
@@ -122,5 +122,5 @@ def serve(board: Board, port: int) -> BoardServer:
     except OSError as error:
         raise Misuse(f"the page can't be served at port {port}: {error.strerror}") from error
     threading.Thread(target=server.serve_forever, daemon=True).start()
-    print(f"the board of {board.title} is at {server.address}", flush=True)
+    print(f"the board of {shown(board.title)} is at {server.address}", flush=True)
     return server

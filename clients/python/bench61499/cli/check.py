@@ -2,13 +2,12 @@
 from __future__ import annotations
 
 import argparse
-import sys
 from collections.abc import Iterator, Mapping
 from dataclasses import dataclass, field
 from pathlib import Path
 
 from bench61499 import Fault, Key, Session, WorkbenchError
-from bench61499.cli.command import Progress, add_workbench, fail, open_session, persistently, program, read_path
+from bench61499.cli.command import Progress, add_patience, add_workbench, fail, open_session, persistently, program, read_path, tell
 from bench61499.cli.comparing import AGAIN, Difference, Judged, compare, last_common, only_there, remarks, replace
 from bench61499.cli.findings import Answers, Found, answers_of, ask_plans, find, keys_of
 from bench61499.cli.formats import MACHINE_FORMATS, lines, summary
@@ -64,7 +63,7 @@ def main() -> int:
         print(line)
     is_told = options.format == "human" and not options.quiet
     for remark in [*remarks(found.differences), *([ONLY_ASKED] if found.judged == Judged.NOT_COMPARED and not is_told else [])]:
-        print(f"check: {remark}", file=sys.stderr)
+        tell(f"check: {remark}")
     return 2 if found.unchecked else int(found.is_faulty)
 
 
@@ -85,13 +84,14 @@ def read_options() -> argparse.Namespace:
         "checks those that are the same, names the others, and changes nothing; without PATH it checks all units of the server, as files NAME.fb.",
         epilog="The status is 0 if there are no faults; 1 if there are; 2 if a path is absent or unreadable, there is no *.fb file or more than 16,384, two files "
         "declare one unit, a file has more than 65,536 bytes or is not UTF-8, the server lacks a unit or has another text of it, somebody changed one meanwhile, "
-        "no workbench answers, a result does not come for a minute, or the output can't be written.",
+        "no workbench answers, a result does not come within the patience, or the output can't be written.",
     )
     add_version(reader)
     reader.add_argument("path", nargs="*", type=read_path, metavar="FOLDER|FILE", help="*.fb files, or folders of them; with --xml files of XML, or folders")
     reader.add_argument("--plans", action="store_true", help=PLANS)
     reader.add_argument("--xml", action="store_true", help=XML)
     add_workbench(reader)
+    add_patience(reader)
     reader.add_argument("--replace", action="store_true", help=REPLACE)
     reader.add_argument("--mirror", action="store_true", help="with --replace and folders: remove the server's units that no file has")
     reader.add_argument("--list-unchecked", action="store_true", help="print the algorithms that the workbench does not read, such as those IN ST_FULL, as notes; other forms than human always have them")

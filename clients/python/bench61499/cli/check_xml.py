@@ -2,14 +2,13 @@
 from __future__ import annotations
 
 import argparse
-import sys
 from collections.abc import Iterator
 from dataclasses import replace
 from functools import lru_cache
 from pathlib import Path
 
 from bench61499 import TEXT_LIMIT, Places
-from bench61499.cli.command import Progress, open_session
+from bench61499.cli.command import Progress, open_session, tell
 from bench61499.cli.findings import Finding, Found, ask_plans, find
 from bench61499.exchange.exchanged import Instance
 from bench61499.exchange.imports import Made, Project, are_same, written_in_room
@@ -24,7 +23,7 @@ def check_project(options: argparse.Namespace) -> tuple[Found, int]:
     failed: list[str] = []
     project = XmlUnits(Project(options.path, failed.append), failed.append)
     for words in failed:
-        print(f"check: {words}", file=sys.stderr)
+        tell(f"check: {words}")
     if not project.units:
         raise Misuse(f"no unit in {', '.join(map(str, options.path))}")
     with open_session(options) as session, Progress() as progress:

@@ -15,7 +15,9 @@ from pathlib import Path
 from typing import TextIO, TypeVar
 
 from bench61499 import ConnectionEnded, NoAnswer, NoSeat, NotLetIn, NoWorkbench, Session, find_program, pauses
+from bench61499.language.names import shown
 from bench61499.language.units import Misuse
+from bench61499.session import PATIENCE
 
 SEAT_PATIENCE = 60.0
 """Seconds in which a program that runs once waits for a session that ends."""
@@ -50,10 +52,17 @@ def _add_secret(reader: argparse.ArgumentParser) -> None:
     reader.add_argument("--secret", default=secret, metavar="FILE", help="with --connect: the file whose first line a host requires (default: BENCH61499_SECRET_FILE)")
 
 
+def add_patience(reader: argparse.ArgumentParser) -> None:
+    """Adds the words that say how long a program that runs once waits for results that another session may keep."""
+    words = f"with --connect: give up if no further result comes for so many seconds, as another session keeps it (default {PATIENCE:g})"
+    reader.add_argument("--patience", type=read_seconds, default=PATIENCE, metavar="SECONDS", help=words)
+
+
 def read_with_units(reader: argparse.ArgumentParser) -> argparse.Namespace:
     """Adds the words that say which units there are, and reads all words."""
     reader.add_argument("--files", nargs="+", type=read_path, metavar="FOLDER|FILE", help="the units; without --connect a workbench of its own gets them, with it they are compared with the texts of the server")
     add_workbench(reader)
+    add_patience(reader)
     reader.add_argument("--replace", action="store_true", help="with --connect and --files: put the files first; they replace the server's texts")
     options = reader.parse_args()
     if not options.files and not options.connect:
@@ -71,6 +80,17 @@ def read_address(words: str) -> tuple[str, int]:
     return host.strip("[]") or "127.0.0.1", int(port)
 
 
+def read_seconds(words: str) -> float:
+    """Some seconds, up to a day."""
+    try:
+        seconds = float(words)
+    except ValueError:
+        seconds = 0
+    if not 0 < seconds <= 86_400:
+        raise argparse.ArgumentTypeError(f"{words!r} is no number of seconds, more than 0 and at most 86,400")
+    return seconds
+
+
 def read_path(words: str) -> Path:
     """A file or a folder; an empty word, such as a shell makes of a variable that is not set, would be the present folder."""
     if not words:
@@ -83,7 +103,9 @@ def open_once(options: argparse.Namespace) -> Session:
     if not options.connect:
         return Session.script(options.program or find_program())
     host, port = options.connect
-    return Session.connect(host, port, secret=read_secret(options.secret))
+    session = Session.connect(host, port, secret=read_secret(options.secret))
+    session.patience = getattr(options, "patience", PATIENCE)
+    return session
 
 
 def open_session(options: argparse.Namespace) -> Session:
@@ -96,7 +118,7 @@ def open_session(options: argparse.Namespace) -> Session:
             if time.monotonic() + pause > end:
                 raise
             if not refused:
-                print(f"{error}; trying again", file=sys.stderr)
+                tell(f"{error}; trying again")
         except NotLetIn:
             if refused >= NOT_LET_IN:
                 raise
@@ -122,7 +144,7 @@ def persistently(options: argparse.Namespace, act: Callable[[], Result]) -> Resu
         except NotLetIn:
             raise
         except (ConnectionEnded, NoAnswer) as error:
-            print(f"{error}; connecting again", file=sys.stderr)
+            tell(f"{error}; connecting again")
             time.sleep(pause)
     return act()
 
@@ -178,8 +200,13 @@ def drop_output() -> None:
 
 def fail(program: str, error: Exception) -> int:
     """Tells the user and gives the status for it."""
-    print(f"{program}: {error}", file=sys.stderr)
+    tell(f"{program}: {error}")
     return 2
+
+
+def tell(*lines: str) -> None:
+    """Tells the user something on standard error. Names of files, and what a server sends, may be in it, and make no further lines."""
+    print("\n".join(map(shown, lines)), file=sys.stderr, flush=True)
 
 
 class Progress:

@@ -3,7 +3,6 @@ from __future__ import annotations
 
 import argparse
 import subprocess
-import sys
 from collections.abc import Iterator
 from itertools import zip_longest
 from pathlib import Path
@@ -12,7 +11,7 @@ from bench61499 import (
     Blocked, Border, Deploy, Faulty, Flat, Key, Net, Plan, Recursive, TooLarge, WorkbenchError,
 )
 from bench61499.cli.asking import Asked, Texts, asking
-from bench61499.cli.command import fail, program, read_with_units
+from bench61499.cli.command import fail, program, read_with_units, tell
 from bench61499.cli.version import add_version
 from bench61499.language.explain import KIND_NAMES
 from bench61499.language.network import Box, End, Network, Port, Tag, Wire, homes
@@ -43,7 +42,7 @@ def main() -> int:
         else:
             print(picture, end="")
     except NoPicture as error:
-        print(f"draw: {error}", file=sys.stderr)
+        tell(*f"draw: {error}".split("\n"))
         return 1
     except (Misuse, WorkbenchError) as error:
         return fail("draw", error)

@@ -2,13 +2,12 @@
 from __future__ import annotations
 
 import argparse
-import sys
 from collections.abc import Callable
 from functools import partial
 
 from bench61499 import Deploy, WorkbenchError
 from bench61499.cli.asking import asking
-from bench61499.cli.command import add_workbench, program, read_path
+from bench61499.cli.command import add_patience, add_workbench, program, read_path, tell
 from bench61499.cli.plan import NoPlan, deploy_of, plan_in
 from bench61499.cli.version import add_version
 from bench61499.exchange.boot import KINDS_OF_START, Boot, Refused, another_text, find_start
@@ -19,6 +18,7 @@ from bench61499.exchange.imports import Import
 from bench61499.exchange.outgoing import TOOLS
 from bench61499.exchange.report import Run, counted
 from bench61499.exchange.spellings import Spellings
+from bench61499.language.names import shown
 from bench61499.language.units import Misuse, read_units
 
 NOT_WRITTEN = "2 if a file could not be read or a unit not be written: standard error names it, and all others are written."
@@ -82,6 +82,7 @@ def _add_boot(works: argparse._SubParsersAction[argparse.ArgumentParser]) -> Non
     reader.add_argument("--applications", action="store_true", help="keep the application's name before that of a block; without it, as in 4diac, two blocks of a resource with one name are refused")
     reader.add_argument("--plain-types", action="store_true", help="write types without packages, for a FORTE before 3.0")
     add_workbench(reader)
+    add_patience(reader)
     reader.set_defaults(work=boot)
 
 
@@ -110,7 +111,7 @@ def export(options: argparse.Namespace) -> int:
 
 def told(work: Run, quiet: bool) -> int:
     for line in work.lines(quiet):
-        print(line)
+        print(shown(line))
     return work.status
 
 
@@ -121,15 +122,15 @@ def boot(options: argparse.Namespace) -> int:
         for name, text in made.files.items():
             target.write(name, text)
     except NoPlan as error:
-        complain(str(error))
+        tell(*f"exchange: {error}".split("\n"))
         return 1
     except (Misuse, Refused, Unwritable, WorkbenchError) as error:
         complain(str(error))
         return 2
     for line in made.lines():
-        print(line)
+        print(shown(line))
     if not options.quiet:
-        print(f"{counted(len(made.files), 'boot file')} in {options.to}: {made.outcome}")
+        print(shown(f"{counted(len(made.files), 'boot file')} in {options.to}: {made.outcome}"))
     return 0 if made.is_complete else 1
 
 
@@ -156,6 +157,6 @@ def plan_of_files(options: argparse.Namespace) -> Deploy:
 
 
 def complain(words: str) -> None:
-    print(f"exchange: {words}", file=sys.stderr)
+    tell(f"exchange: {words}")
 
 

@@ -3,20 +3,20 @@ from __future__ import annotations
 
 import argparse
 import os
-import shutil
 import sys
-import tempfile
-from collections.abc import Iterable, Iterator
+from collections.abc import Callable, Iterable, Iterator
 from pathlib import Path
 
 from bench61499 import TEXT_LIMIT, Places
-from bench61499.cli.command import program, read_path
+from bench61499.cli.command import program, read_path, tell
 from bench61499.cli.version import add_version
 from bench61499.language.grammar import first_stop
 from bench61499.language.layout import applied, formatted
+from bench61499.language.names import shown
 from bench61499.language.syntax import explained
 from bench61499.language.tokens import tokens
 from bench61499.language.units import Misuse, find_files, read_text
+from bench61499.language.writing import write_over
 
 INPUT = Path("-")
 
@@ -25,12 +25,17 @@ INPUT = Path("-")
 def main() -> int:
     options = read_options()
     status = 0
-    for file in files(options.path):
+
+    def fail(error: Misuse) -> None:
+        nonlocal status
+        status = 2
+        tell(str(error))
+
+    for file in files(options.path, fail):
         try:
             changes = format_input(options.check) if file == INPUT else format_file(file, options.check)
         except Misuse as error:
-            print(error, file=sys.stderr)
-            status = 2
+            fail(error)
             continue
         if changes and options.check:
             status = status or 1
@@ -51,16 +56,12 @@ def read_options() -> argparse.Namespace:
     return reader.parse_args()
 
 
-def files(paths: Iterable[Path]) -> Iterator[Path]:
-    """The files of the paths. One path after the other, so that what can't be looked at is no hindrance to the others."""
-    for path in dict.fromkeys(paths):
-        if path == INPUT:
-            yield path
-            continue
-        try:
-            yield from find_files([path])
-        except Misuse:
-            yield path  # It is told when it is read.
+def files(paths: Iterable[Path], failed: Callable[[Misuse], object]) -> Iterator[Path]:
+    """The files of the paths. What can't be looked at is no hindrance to the others: `failed` is told of it, or it is told when it is read."""
+    its = list(dict.fromkeys(paths))
+    there = [it for it in its if it != INPUT and (os.path.isfile(it) or os.path.isdir(it))]
+    yield from find_files(there, failed)
+    yield from (it for it in its if it not in there)
 
 
 def format_input(is_check: bool) -> bool:
@@ -87,12 +88,12 @@ def _decoded(content: bytes) -> str:
 def format_file(file: Path, is_check: bool) -> bool:
     """Lays out a file and prints its name where that changes it."""
     text = read_text(file)
-    new = laid_out(str(file), text)
+    new = laid_out(shown(file), text)
     if new == text:
         return False
     if not is_check:
         write(file, new)
-    print(file)
+    print(shown(file))
     return True
 
 
@@ -111,17 +112,9 @@ def laid_out(name: str, text: str) -> str:
 
 
 def write(file: Path, text: str) -> None:
-    """Gives a file another text, wholly or not at all. Raises `Misuse`."""
-    target = file.resolve()
+    """Gives a file another text, wholly or not at all; of a link the file that it leads to. Raises `Misuse`."""
     try:
-        number, name = tempfile.mkstemp(dir=target.parent, prefix=f".{target.name}.")
-        try:
-            with open(number, "wb") as new:
-                new.write(text.encode())
-            shutil.copymode(target, name)
-            os.replace(name, target)
-        except OSError:
-            os.unlink(name)
-            raise
+        target = file.resolve(strict=True)
+        write_over(target, text.encode(), target.stat().st_mode & 0o777)
     except OSError as error:
-        raise Misuse(f"{file}: can't be written: {error.strerror}") from error
+        raise Misuse(f"{shown(file)}: can't be written: {error.strerror}") from error

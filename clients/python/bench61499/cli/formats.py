@@ -18,6 +18,7 @@ from bench61499.cli.version import VERSION
 from bench61499.language import codes, plans
 from bench61499.language.missing_types import CODE as NO_SUCH_TYPE
 from bench61499.language.missing_types import OF_CLIENT
+from bench61499.language.names import shown
 from bench61499.language.skipped import CODE
 from bench61499.language.spelling import CODE as SPELLING
 from bench61499.language.units import Unit
@@ -57,7 +58,7 @@ def lines(found: Found, quiet: bool, with_skipped: bool = False) -> Iterator[str
     style = Style()
     for it in found.all_and_skipped() if with_skipped else found.all():
         line, column = it.begin
-        yield f"{style.bold}{it.unit.file}:{line}:{column}:{style.end} {style.red}{it.code}{style.end}: {told(it)}"
+        yield f"{style.bold}{shown(it.unit.file)}:{line}:{column}:{style.end} {style.red}{it.code}{style.end}: {shown(told(it))}"
         if not quiet:
             source, carets = excerpt(it.places, *it.shown)
             yield f"  {source}".rstrip()
@@ -153,7 +154,7 @@ def _command(it: Finding) -> str:
 
 
 def _escaped(words: str, more: str = "") -> str:
-    return "".join(f"%{ord(it):02X}" if it in "%\r\n" + more else it for it in words)
+    return "".join(f"%{ord(it):02X}" if it in "%\r\n" + more else shown(it) for it in words)
 
 
 # SARIF
@@ -233,7 +234,7 @@ def _test_case(suite: ElementTree.Element, unit: Unit, findings: list[Finding]) 
         errors = [it for it in findings if it.level == "error"]
         message = _in_xml(f"{errors[0].code}: {errors[0].explanation}" if len(errors) == 1 else f"{len(errors):,} faults")
         failure = ElementTree.SubElement(case, "failure", message=message, type=errors[0].code)
-        failure.text = _in_xml("\n".join(f"{unit.file}:{it.begin[0]}:{it.begin[1]}: {it.code}: {told(it)}" for it in findings))
+        failure.text = _in_xml("\n".join(f"{shown(unit.file)}:{it.begin[0]}:{it.begin[1]}: {it.code}: {told(it)}" for it in findings))
     return case
 
 
@@ -241,7 +242,7 @@ def _remark(case: ElementTree.Element, it: Finding) -> None:
     """Notes something in a test case, which does not fail by it."""
     out = case.find("system-out")
     out = ElementTree.SubElement(case, "system-out") if out is None else out
-    out.text = f"{out.text or ''}{_in_xml(f'{it.unit.file}:{it.begin[0]}:{it.begin[1]}: {it.code}: {told(it)}')}\n"
+    out.text = f"{out.text or ''}{_in_xml(f'{shown(it.unit.file)}:{it.begin[0]}:{it.begin[1]}: {it.code}: {told(it)}')}\n"
 
 
 def _in_xml(words: str) -> str:

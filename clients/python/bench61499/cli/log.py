@@ -6,7 +6,7 @@ import sys
 import time
 
 from bench61499 import NoSuchKey, Result, Session, WorkbenchError, pauses
-from bench61499.cli.command import add_server, fail, open_once, open_reading, program, read_path
+from bench61499.cli.command import add_server, fail, open_once, open_reading, program, read_path, tell
 from bench61499.cli.version import add_version
 from bench61499.language.names import printable
 from bench61499.language.units import Misuse
@@ -108,4 +108,4 @@ class Log:
 
 
 def say(words: str) -> None:
-    print(f"log: {words}", file=sys.stderr, flush=True)
+    tell(f"log: {words}")

@@ -10,6 +10,7 @@ from bench61499 import Fault, NoSuchKey, Session
 from bench61499.cli.comparing import Difference, How
 from bench61499.language.fitting import fits
 from bench61499.language.units import Unit
+from bench61499.session import Waits
 
 ONLY_ASKED = "The workbench was only asked. It gives no text back, as it is no host or an older one, so its texts may be others than these files."
 FIRST_PAUSE, LONGEST_PAUSE = 0.02, 1.0
@@ -25,9 +26,9 @@ class Looked:
 
 
 def look(session: Session, units: Iterable[Unit], progress: Callable[[int], object]) -> Looked:
-    """Asks for the faults of units, one recorded call each, and again for those that are being computed. Calls `progress` with how many are known."""
+    """Asks for the faults of units, one recorded call each, and again for those that are being computed. Calls `progress` with how many are known. Raises `NoResult` if it waits in vain."""
     looked, waiting, pause = Looked(), deque(units), FIRST_PAUSE
-    known, stopped = 0, 0
+    known, stopped, waits = 0, 0, Waits(session.patience)
     while waiting:
         unit = waiting.popleft()
         if _ask(session, unit, looked):
@@ -37,6 +38,7 @@ def look(session: Session, units: Iterable[Unit], progress: Callable[[int], obje
         waiting.append(unit)
         stopped += 1
         if stopped == len(waiting):  # All that is left was pending a moment ago.
+            waits.go_on([("faults", it.name) for it in waiting], known)
             time.sleep(pause)
             pause, stopped = min(2 * pause, LONGEST_PAUSE), 0
     return looked

@@ -6,6 +6,7 @@ import queue
 import sys
 import threading
 from collections.abc import Callable
+from typing import BinaryIO
 
 from bench61499.cli.command import add_workbench, open_once, program
 from bench61499.cli.version import add_version
@@ -28,16 +29,19 @@ def read_all(inbox: Inbox, receive: Callable[[Message], bool]) -> None:
     """Puts what the editor sends into the inbox, None at the end, but for what `receive` tells to be done."""
     # A reader of its own: the program may end while this thread waits in it.
     reader = open(sys.stdin.fileno(), "rb", closefd=False)
-    while True:
-        try:
-            message = read_message(reader)
-        except BadMessage as error:
-            inbox.put(error)
-            continue
-        if not message or receive(message):
-            inbox.put(message)
-        if message is None:
-            return
+    try:
+        while (message := _next_message(reader)) is not None:
+            if isinstance(message, BadMessage) or receive(message):
+                inbox.put(message)
+    finally:
+        inbox.put(None)  # Whatever ends this thread ends the server: nothing more can reach it.
+
+
+def _next_message(reader: BinaryIO) -> Message | BadMessage | None:
+    try:
+        return read_message(reader)
+    except BadMessage as error:
+        return error
 
 
 class Sender:

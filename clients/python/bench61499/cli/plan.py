@@ -3,15 +3,15 @@ from __future__ import annotations
 
 import argparse
 import json
-import sys
 from collections.abc import Iterator, Sequence
 from dataclasses import asdict
 
 from bench61499 import Blocked, Deploy, Faulty, Key, Plan, Recursive, Stopped, TooLarge, WorkbenchError
 from bench61499.cli.asking import Asked, asking
-from bench61499.cli.command import fail, program, read_with_units
+from bench61499.cli.command import fail, program, read_with_units, tell
 from bench61499.cli.version import add_version
 from bench61499.language.explain import KIND_NAMES
+from bench61499.language.names import shown
 from bench61499.language.plans import why_misplaced
 from bench61499.language.tokens import declared_kind
 from bench61499.language.units import Misuse
@@ -31,14 +31,14 @@ def main() -> int:
     try:
         plan = of_resource(options.resource, options.unit, plan_in(options.unit, ask(options)))
         if not plan.resources and not options.json:
-            print(f"plan: {options.unit} has no resources, and so there is nothing to tell them", file=sys.stderr)
+            tell(f"plan: {options.unit} has no resources, and so there is nothing to tell them")
         for line in [as_json(options.unit, plan)] if options.json else lines(plan):
-            print(line)
+            print(line if options.json else shown(line))
     except NoPlan as error:
         if options.json:
             print(json.dumps({"unit": options.unit, "reasons": error.reasons}, indent=2))
         else:
-            print(f"plan: {error}", file=sys.stderr)
+            tell(*f"plan: {error}".split("\n"))
         return 1
     except (Misuse, WorkbenchError) as error:
         return fail("plan", error)

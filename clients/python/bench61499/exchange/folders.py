@@ -5,6 +5,10 @@ import os
 from collections.abc import Callable
 from pathlib import Path
 
+from bench61499.exchange.xmlfile import SIZE_LIMIT
+from bench61499.language.bounded import read_at_most
+from bench61499.language.writing import create, write_over
+
 
 class Unwritable(Exception):
     """A file is not written; the text, which begins with the file, tells why."""
@@ -25,7 +29,7 @@ class Target:
             if not file.parent.resolve().is_relative_to(self.folder.resolve()):
                 raise Unwritable(f"{file}: would not be in {self.folder}")
             if not os.path.lexists(file):
-                _create(file, text)
+                create(file, text.encode())
             elif not self._is_there(file, text, is_same):
                 self._write_over(file, text)
         except OSError as error:
@@ -33,27 +37,16 @@ class Target:
 
     def _is_there(self, file: Path, text: str, is_same: Callable[[str], bool]) -> bool:
         """Whether a file has a text already, or one that is the same if it is not to be replaced."""
+        most = max(SIZE_LIMIT, len(text.encode()))
         try:
-            old = file.read_bytes().decode()
+            content, size = read_at_most(file, most)
+            old = content.decode()
         except UnicodeDecodeError:
             return False
-        return old == text or not self._replace and is_same(old)
+        return size <= most and (old == text or not self._replace and is_same(old))
 
     def _write_over(self, file: Path, text: str) -> None:
         """Puts a new file in the place of one that is there, a link too: what that leads to is not written to."""
         if not self._replace:
             raise Unwritable(f"{file}: is there already, with another text; give --replace to write over it")
-        new = file.with_name(f".{file.name}.{os.getpid()}")
-        _create(new, text)
-        os.replace(new, file)
-
-
-def _create(file: Path, text: str) -> None:
-    """Writes a file that is not there yet; where that fails, there is none."""
-    with open(file, "xb") as stream:
-        try:
-            stream.write(text.encode())
-            stream.flush()
-        except OSError:
-            os.unlink(file)
-            raise
+        write_over(file, text.encode())

@@ -17,7 +17,7 @@ from bench61499.exchange.lowering import Lowering, made_from
 from bench61499.exchange.report import LEFT_OUT, NOTE, Report, Run, counted
 from bench61499.exchange.to_xml import file_name
 from bench61499.exchange.widening import conversions
-from bench61499.exchange.xmlfile import Document, Unreadable, find_xml, read_xml
+from bench61499.exchange.xmlfile import TOGETHER_LIMIT, Document, Unreadable, find_xml, read_xml
 from bench61499.language.declarations import type_of_data
 from bench61499.language.tokens import tokens
 
@@ -62,13 +62,18 @@ class Project:
         self._tell(words)
 
     def _documents(self, files: list[Path]) -> Iterator[Document]:
+        left = TOGETHER_LIMIT
         for file in files:
             try:
                 document = read_xml(file)
                 check_root(document)
-                yield document
             except Unreadable as error:
                 self._fail(str(error))
+                continue
+            left -= document.elements
+            if left < 0:
+                return self._fail(f"{file}: is not read, nor are the files after it: together they have more than {TOGETHER_LIMIT:,} elements")
+            yield document
 
     def _units(self, documents: list[Document]) -> list[Made]:
         library = Library()

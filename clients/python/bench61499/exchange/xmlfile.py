@@ -4,14 +4,19 @@ from __future__ import annotations
 import codecs
 import os
 import re
-import stat
 from collections.abc import Callable, Iterable, Iterator
 from dataclasses import dataclass, field
 from pathlib import Path
 from xml.parsers import expat
 
+from bench61499.language.bounded import read_at_most, walk
+from bench61499.language.names import shown
+from bench61499.language.units import is_of_folders
+
 SIZE_LIMIT = 16 * 1024 * 1024
 ELEMENT_LIMIT = 500_000
+TOGETHER_LIMIT = 2_000_000
+"""Elements of all files of a run, which are held at once: some 400 bytes each."""
 DEPTH_LIMIT = 200
 ENDINGS = frozenset([".fbt", ".adp", ".sub", ".sys", ".dtp", ".dev", ".res", ".seg", ".fct", ".gcf", ".atp"])
 
@@ -52,31 +57,35 @@ class Element:
 
 @dataclass(slots=True)
 class Document:
-    """The root of a file and the comments before it."""
+    """The root of a file, the comments before it, and how many elements it has."""
 
     file: Path
     root: Element
     comments: list[tuple[int, str]]
+    elements: int
 
 
 def find_xml(paths: Iterable[Path], failed: Callable[[str], object]) -> list[Path]:
     """The files themselves, and the files of the folders with an ending of XML of IEC 61499, inner folders included. Each is there once, in the
-    order of the paths and then of the names. Tells `failed` what can't be looked at."""
-    found: dict[str, Path] = {}
-    for path in paths:
-        its = sorted(_files_in(path, failed)) if os.path.isdir(path) else [path]
-        for file in its:
-            found.setdefault(os.path.realpath(file), file)
+    order of the paths and then of the names. Tells `failed` what can't be looked at, and of links that lead out of the folders."""
+    its = list(paths)
+    folders = [Path(os.path.realpath(it)) for it in its if os.path.isdir(it)]
+    found: dict[Path, Path] = {}
+    for path in its:
+        is_folder = os.path.isdir(path)
+        for file in sorted(_files_in(path, failed)) if is_folder else [path]:
+            target = Path(os.path.realpath(file))
+            if is_folder and not is_of_folders(file, target, folders, ENDINGS):
+                failed(f"{shown(file)}: is a link that leads to no file of IEC 61499-2 in the folders that are named, so it is not read")
+            else:
+                found.setdefault(target, file)
     return list(found.values())
 
 
 def _files_in(folder: Path, failed: Callable[[str], object]) -> Iterator[Path]:
-    def tell(error: OSError) -> None:
-        failed(f"{error.filename}: can't be read: {error.strerror}")
-
-    for inner, _, names in os.walk(folder, onerror=tell):
-        files = (Path(inner, name) for name in names if Path(name).suffix.lower() in ENDINGS)
-        yield from (file for file in files if os.path.isfile(file))
+    for entry in walk(folder, lambda path, error: failed(f"{shown(path)}: can't be read: {error.strerror}")):
+        if Path(entry.name).suffix.lower() in ENDINGS and os.path.isfile(entry.path):
+            yield Path(entry.path)
 
 
 def read_xml(file: Path) -> Document:
@@ -97,11 +106,7 @@ def read_fragment(words: str) -> Element:
 
 def _content(file: Path) -> bytes:
     try:
-        if not stat.S_ISREG(file.stat().st_mode):
-            raise Unreadable(f"{file}: there is no such file or folder")
-        with file.open("rb") as stream:
-            content = stream.read(SIZE_LIMIT + 1)
-        size = max(len(content), file.stat().st_size)
+        content, size = read_at_most(file, SIZE_LIMIT)
     except (FileNotFoundError, NotADirectoryError):
         raise Unreadable(f"{file}: there is no such file or folder") from None
     except (OSError, ValueError) as error:
@@ -206,7 +211,7 @@ class _Reading:
             raise _no_xml(self._file, error) from None
         assert self._root
         self._root.asides += self._later
-        return Document(self._file, self._root, self._comments)
+        return Document(self._file, self._root, self._comments, self._count)
 
     @property
     def _line(self) -> int:

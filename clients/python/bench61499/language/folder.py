@@ -7,8 +7,10 @@ from collections.abc import Iterable, Iterator
 from dataclasses import dataclass
 from pathlib import Path
 
+from bench61499.language.bounded import walk
+from bench61499.language.names import shown
 from bench61499.language.tokens import declared_name
-from bench61499.language.units import Misuse, Unit, can_be_unit, find_files, is_hidden, read_text, stand_in_name
+from bench61499.language.units import Misuse, Unit, can_be_unit, find_files, is_hidden, is_of_folders, read_text, stand_in_name
 
 Stamp = tuple[int, int, int]
 """When a file was written, when it became what it is under its name, as by a move, and its size."""
@@ -49,9 +51,9 @@ class Folder:
         stamps = dict(stamps_of(self._paths))
         if self._looked and stamps == self._stamps:
             return False
-        locked: list[Misuse] = []
+        untaken: list[Misuse] = []
         try:
-            found = list(self._files) if self._are_there(stamps) else find_files(self._paths, locked.append)
+            found = list(self._files) if self._are_there(stamps) else find_files(self._paths, untaken.append)
         except Misuse as error:
             if not self._looked:
                 raise
@@ -60,7 +62,7 @@ class Folder:
         self._looked, self._stamps = True, stamps
         self._files = dict(self._read_all(found))
         self._name_all()
-        self.problems = (*map(str, locked), *self.problems)
+        self.problems = (*map(str, untaken), *self.problems)
         return True
 
     def _are_there(self, stamps: dict[str, Stamp | None]) -> bool:
@@ -79,7 +81,7 @@ class Folder:
         problems = [it.problem for it in self._files.values() if it.problem]
         for file, it in self._files.items():
             if it.declares in owners:
-                problems.append(f"{owners[it.declares]} and {file} both declare the unit {it.declares}; the first one counts")
+                problems.append(f"{shown(owners[it.declares])} and {shown(file)} both declare the unit {it.declares}; the first one counts")
             elif it.declares:
                 owners[it.declares] = file
         for file, it in self._files.items():
@@ -93,19 +95,24 @@ class Folder:
 
 
 def stamps_of(paths: Iterable[str | Path], with_inner: bool = True) -> Iterator[tuple[str, Stamp | None]]:
-    """The state of each file that can be a unit, as the folders, and perhaps inner ones, tell it; of a folder that can't be read, that it can't."""
-    for path in paths:
-        try:
-            with os.scandir(path) as entries:
-                for entry in entries:
-                    if entry.is_dir(follow_symlinks=False):
-                        yield from stamps_of([entry.path] if with_inner and not is_hidden(entry.name) else ())
-                    elif can_be_unit(entry.name):
-                        yield os.path.realpath(entry.path) if entry.is_symlink() else entry.path, stamp_of(entry)
-        except NotADirectoryError:
-            yield str(path), stamp_of(Path(path))
-        except OSError:
-            yield str(path), None
+    """The state of each file that can be a unit, as the folders, and perhaps inner ones, tell it, by the name that it has where a link to it leads.
+
+    There is none of a folder that can't be read, and of a link that leads out of the folders.
+    """
+    its = list(paths)
+    folders = [Path(os.path.realpath(it)) for it in its]
+    failed: list[tuple[str, OSError]] = []
+    for path in its:
+        for entry in walk(path, lambda *it: failed.append(it), is_hidden if with_inner else lambda _: True):
+            if can_be_unit(entry.name):
+                yield _state_of(entry, folders) if entry.is_symlink() else (entry.path, stamp_of(entry))
+    for name, error in failed:
+        yield name, stamp_of(Path(name)) if isinstance(error, NotADirectoryError) else None
+
+
+def _state_of(link: os.DirEntry[str], folders: list[Path]) -> tuple[str, Stamp | None]:
+    target = Path(os.path.realpath(link.path))
+    return (str(target), stamp_of(link)) if is_of_folders(Path(link.path), target, folders) else (link.path, None)
 
 
 def stamp_of(file: Path | os.DirEntry[str]) -> Stamp | None:

@@ -2,6 +2,7 @@
 from __future__ import annotations
 
 import unicodedata
+from pathlib import Path
 
 from bench61499 import NAME_LIMIT
 
@@ -19,3 +20,8 @@ def is_utf_8(words: str) -> bool:
 def printable(words: str) -> str:
     """Words without what a terminal obeys: names of files may have anything."""
     return "".join("\ufffd" if unicodedata.category(it) in ("Cc", "Cf", "Cs", "Zl", "Zp") else it for it in words)
+
+
+def shown(words: str | Path) -> str:
+    """Words with names of files in them, for a terminal: in one line, and without what it obeys. Bytes of a name that are no UTF-8 stay as they are."""
+    return "".join(it if "\ud800" <= it <= "\udfff" else printable(it) for it in str(words))

@@ -2,6 +2,7 @@
 from __future__ import annotations
 
 from collections.abc import Sequence
+from itertools import takewhile
 
 from bench61499 import NAME_LIMIT
 from bench61499.language.declarations import ENDS, KINDS, STATEMENTS
@@ -21,7 +22,7 @@ def explained(text: str, of: Sequence[Token], at: int) -> str:
         return XML
     if not of:
         return f"there is nothing here: a unit begins with {listed(KINDS)}"
-    its = next((stop for stop in stops(of) if stop.at == at), None)
+    its = next((stop for stop in takewhile(lambda stop: stop.at <= at, stops(of)) if stop.at == at), None)
     if at == len(of):
         return _early_end(text, of, its)
     return _of_token(of[at], at) or (_Sentences(text, of, its).sentence() if its else _cant_follow(of, at))

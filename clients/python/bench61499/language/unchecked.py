@@ -2,6 +2,7 @@
 from __future__ import annotations
 
 from collections.abc import Callable, Iterator, Sequence
+from itertools import islice
 
 from bench61499 import Fault
 from bench61499.language.declarations import (
@@ -23,20 +24,23 @@ MOST = 20
 def notes(text: str, texts: Texts, is_broken: Callable[[str], bool]) -> list[Fault]:
     """What is wrong in a broken text behind its first SYNTAX fault: other places where it leaves the grammar, and names.
 
-    What stands in an item that could not be read is passed over, and so is a name in a section that could not be read: it may be declared there.
+    What stands in an item that could not be read is passed over, and so is a name in a section that could not be read: it may be declared there. After too many
+    stops the text is not read further, and no name is judged.
     """
     its = Surroundings(text).tokens
-    found = list(stops(its))
+    found = list(islice(stops(its), MOST + 1))
     if not its or not found or its[-1].kind == "unclosed" or any(_is_unit_in_unit(its, it) for it in found):
         return []
     if found[0].at == len(its) and len(found[0].open) > 1:
         return []  # The text breaks off, and what it uses may have been declared behind that.
     end = next((its[it.at].start for it in found if not it.open), its[-1].end)
+    more = [Fault("SYNTAX", its[it.at].start, its[it.at].end) for it in found[1:] if it.at < len(its) and its[it.at].start < end]
+    if len(found) > MOST:
+        return more
     suspects = frozenset(name for stop in found for name in _around(its, stop))
     torn = [_item(its, stop.at) for stop in found if stop.at < len(its)]
     known = Judge(text.encode()[:end].decode(), texts, is_broken)
     names = [it for it in known.faults() if suspects.isdisjoint(known.names(it)) and not any(begin <= it.start < end for begin, end in torn)]
-    more = [Fault("SYNTAX", its[it.at].start, its[it.at].end) for it in found[1:] if it.at < len(its) and its[it.at].start < end]
     return sorted([*names, *more], key=lambda it: it.start)[:MOST]
 
 

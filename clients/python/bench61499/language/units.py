@@ -3,13 +3,18 @@ from __future__ import annotations
 
 import os
 import stat
-from collections.abc import Callable, Iterable, Iterator
+from collections.abc import Callable, Container, Iterable, Iterator
 from dataclasses import dataclass, replace
 from pathlib import Path
 from typing import NoReturn
 
 from bench61499 import NAME_LIMIT, TEXT_LIMIT, UNITS_LIMIT, Put, Session, StaleBase, batches
+from bench61499.language.bounded import read_at_most, walk
+from bench61499.language.names import shown
 from bench61499.language.tokens import RESERVED, declared_name
+
+ENDING = ".fb"
+"""What the name of a file ends with that is a unit, in small letters or capitals."""
 
 
 class Misuse(Exception):
@@ -25,17 +30,32 @@ class Unit:
     text: str
 
 
-def find_files(paths: Iterable[Path], locked: Callable[[Misuse], object] | None = None) -> list[Path]:
+def find_files(paths: Iterable[Path], failed: Callable[[Misuse], object] | None = None) -> list[Path]:
     """The files themselves and the `*.fb` files of the folders, inner folders included, each once and sorted.
 
-    Raises `Misuse`; where `locked` is given it is told of the inner folders that can't be read, and the others are looked at.
+    Raises `Misuse`; where `failed` is given it is told of the inner folders that can't be read, and of links that lead elsewhere, and the others are looked at.
     """
+    named = [(path, _is_folder(path)) for path in paths]
+    folders = [path.resolve() for path, is_folder in named if is_folder]
     found: dict[str, Path] = {}
-    for path in paths:
-        its = _files_in(path, locked or _refuse) if _is_folder(path) else [(os.path.realpath(path), path)]
+    for path, is_folder in named:
+        its = _files_in(path, failed or _refuse) if is_folder else [(os.path.realpath(path), path)]
         for real, file in sorted(its, key=lambda it: it[1].parts):
-            found.setdefault(real, file)
+            if is_folder and not is_of_folders(file, Path(real), folders):
+                (failed or _refuse)(leads_out(file))
+            else:
+                found.setdefault(real, file)
     return sorted(found.values(), key=lambda it: it.parts)
+
+
+def is_of_folders(file: Path, target: Path, folders: Iterable[Path], endings: Container[str] = (ENDING,)) -> bool:
+    """Whether a file is no link, or one that leads to a file with such an ending in the folders. A project from elsewhere could have another link read any file of its user."""
+    return not os.path.islink(file) or target.suffix.lower() in endings and any(map(target.is_relative_to, folders))
+
+
+def leads_out(file: str | Path) -> Misuse:
+    """What is told of a link that is not read."""
+    return Misuse(f"{shown(file)}: is a link that leads to no *{ENDING} file of the folders that are named, so it is not read")
 
 
 def _is_folder(path: Path) -> bool:
@@ -47,25 +67,21 @@ def _is_folder(path: Path) -> bool:
     except OSError as error:
         raise _unreadable(path, error) from error
     if not stat.S_ISDIR(mode) and not stat.S_ISREG(mode):
-        raise Misuse(f"{path}: there is no such file or folder")
+        raise Misuse(f"{shown(path)}: there is no such file or folder")
     return stat.S_ISDIR(mode)
 
 
-def _files_in(folder: Path, locked: Callable[[Misuse], object]) -> Iterator[tuple[str, Path]]:
+def _files_in(folder: Path, failed: Callable[[Misuse], object]) -> Iterator[tuple[str, Path]]:
     """The `*.fb` files of a folder and of its inner ones, but for hidden ones, each behind the path to which its links lead. Links to folders are not followed."""
-    real = os.path.realpath(folder)
-    try:
-        with os.scandir(folder) as entries:
-            its = list(entries)
-    except OSError as error:
+    root, real = os.fspath(folder), os.path.realpath(folder)
+
+    def tell(path: str, error: OSError) -> None:
         if not isinstance(error, FileNotFoundError):  # It has gone since it was listed.
-            locked(_unreadable(folder, error))
-        return
-    for it in its:
-        if it.is_dir(follow_symlinks=False):
-            yield from () if is_hidden(it.name) else _files_in(Path(it.path), locked)
-        elif can_be_unit(it.name) and _is_file(it):
-            yield os.path.realpath(it.path) if it.is_symlink() else f"{real}/{it.name}", Path(it.path)
+            failed(_unreadable(path, error))
+
+    for entry in walk(folder, tell, is_hidden):
+        if can_be_unit(entry.name) and _is_file(entry):
+            yield os.path.realpath(entry.path) if entry.is_symlink() else real + entry.path[len(root):], Path(entry.path)
 
 
 def is_hidden(name: str) -> bool:
@@ -75,7 +91,7 @@ def is_hidden(name: str) -> bool:
 
 def can_be_unit(name: str) -> bool:
     """Whether a file of this name is a unit: by its ending, in small letters or capitals."""
-    return name.lower().endswith(".fb") and not is_hidden(name)
+    return name.lower().endswith(ENDING) and not is_hidden(name)
 
 
 def _is_file(entry: os.DirEntry[str]) -> bool:
@@ -93,22 +109,22 @@ def _refuse(error: Misuse) -> NoReturn:
 
 
 def _unreadable(path: str | Path, error: OSError) -> Misuse:
-    return Misuse(f"{path}: can't be read: {error.strerror}")
+    return Misuse(f"{shown(path)}: can't be read: {error.strerror}")
 
 
 def read_text(file: Path) -> str:
     """The text of a file, with its line ends as they are. Raises `Misuse` for one that no unit can have."""
     try:
-        content = file.read_bytes()
+        content, size = read_at_most(file, TEXT_LIMIT)
     except OSError as error:
         raise _unreadable(file, error) from error
-    if len(content) > TEXT_LIMIT:
-        raise Misuse(f"{file}: has {len(content):,} bytes, and the text of a unit has at most {TEXT_LIMIT:,}")
+    if size > TEXT_LIMIT:
+        raise Misuse(f"{shown(file)}: has {size:,} bytes, and the text of a unit has at most {TEXT_LIMIT:,}")
     try:
         return content.decode()
     except UnicodeDecodeError as error:
         line = content.count(b"\n", 0, error.start) + 1
-        raise Misuse(f"{file}:{line}: is not UTF-8: byte {error.start} is 0x{content[error.start]:02x}") from error
+        raise Misuse(f"{shown(file)}:{line}: is not UTF-8: byte {error.start} is 0x{content[error.start]:02x}") from error
 
 
 def read_units(paths: Iterable[Path]) -> list[Unit]:
@@ -121,7 +137,7 @@ def read_units(paths: Iterable[Path]) -> list[Unit]:
     owners: dict[str, Path] = {}
     for file, name in names.items():
         if name in owners:
-            raise Misuse(f"{owners[name]} and {file} both declare the unit {name}; a unit has one text")
+            raise Misuse(f"{shown(owners[name])} and {shown(file)} both declare the unit {name}; a unit has one text")
         owners[name] = file
     for file in texts.keys() - names.keys():
         names[file] = stand_in_name(file, owners)

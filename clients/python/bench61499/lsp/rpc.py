@@ -16,6 +16,10 @@ NOT_INITIALIZED = -32002
 REQUEST_FAILED = -32803
 REQUEST_CANCELLED = -32800
 
+MOST = 64 * 1024 * 1024
+"""Bytes of a message; behind a longer one nothing is read."""
+_LONGEST_HEADER, _DIGITS = 4_096, 20
+
 ERROR, WARNING, INFO = 1, 2, 3
 """How bad it is what is told or shown."""
 
@@ -27,12 +31,14 @@ class BadMessage(Exception):
 def read_content(stream: IO[bytes]) -> bytes | None:
     """The bytes of the next message; None at the end of the stream, or where what comes has no length and nothing more can be read."""
     length = None
-    while (header := stream.readline().strip()) or length is None:
+    while (header := stream.readline(_LONGEST_HEADER).strip()) or length is None:
         name, colon, value = header.partition(b":")
         if not colon:
             return None
         if name.strip().lower() == b"content-length" and value.strip().isdigit():
-            length = int(value)
+            length = int(value.strip()[:_DIGITS])
+            if length > MOST:
+                return None
     content = stream.read(length)
     return content if len(content) == length else None
 
@@ -44,7 +50,7 @@ def read_message(stream: IO[bytes]) -> Message | None:
         return None
     try:
         message = json.loads(content)
-    except ValueError as error:
+    except (ValueError, RecursionError) as error:
         raise BadMessage(str(error)) from error
     if not isinstance(message, dict):
         raise BadMessage("a message has to be an object")

@@ -10,7 +10,7 @@ from typing import Any
 from bench61499.language.folder import Stamp, stamp_of, stamps_of
 from bench61499.language.plant import Plant
 from bench61499.language.positions import changed, sound
-from bench61499.language.units import Misuse, read_text, stand_in_name
+from bench61499.language.units import Misuse, can_be_unit, leads_out, read_text, stand_in_name
 from bench61499.lsp.documents import Document, Source, path_of
 
 LEAST_FILES = 32
@@ -32,6 +32,7 @@ class Sources:
         self._sources: dict[Path, Source] = {}
         self._changed: dict[Path, Source | None] = {}
         self._expected: dict[Path, str] = {}
+        self._links: set[Path] = set()
         self._look: Iterator[Path | None] | None = None
 
     # What the editor does
@@ -95,10 +96,18 @@ class Sources:
         found = set()
         for file, stamp in chain(stamps_of(self.folders), stamps_of(beside, with_inner=False)):
             path = Path(file)
-            found.add(path)
+            if stamp:
+                found.add(path)
+            elif can_be_unit(path.name) and path.is_symlink():
+                self._warn_of_link(path)
             yield path if stamp and self._is_new(path, stamp) else None
         for path in (self._sources.keys() | self._changed.keys()) - found:
             yield path if self._is_new(path, stamp_of(path)) else None
+
+    def _warn_of_link(self, path: Path) -> None:
+        if path not in self._links and path not in self.documents:
+            self._links.add(path)
+            self._warn(str(leads_out(path)))
 
     def _is_new(self, file: Path, stamp: Stamp | None) -> bool:
         return file not in self.documents and not self._is_known(file, stamp)
@@ -120,7 +129,7 @@ class Sources:
     def _read(self, path: Path) -> Source | None:
         if document := self.documents.get(path):
             return Source(path, None if document.is_too_long else document.text)
-        stamp = stamp_of(path)
+        stamp = None if path.is_symlink() else stamp_of(path)  # Where a link may lead, the file is known by its own name.
         if not stamp:
             return None
         try:

@@ -8,6 +8,8 @@ from collections.abc import Callable, Iterator, Mapping
 from contextlib import contextmanager
 from pathlib import Path
 
+from bench61499.language.writing import sync_folder, write_new
+
 _HERE, _EXCHANGE = -100, 2
 _NOT_HERE = errno.ENOSYS, errno.EINVAL, errno.ENOTSUP
 _libc = ctypes.CDLL(None, use_errno=True)
@@ -29,7 +31,7 @@ class Writer:
     def flush(self) -> None:
         """Has all names be on the disk that were given or taken."""
         for folder in self._touched:
-            _sync_folder(folder)
+            sync_folder(folder)
         for draft in self._prepared.values():
             draft.unlink()
         self._touched, self._prepared = set(), {}
@@ -91,20 +93,8 @@ class Writer:
         """A draft; one that `is_alone` is on the disk."""
         self._number += 1
         draft = self._drafts / f"{os.getpid()}-{self._number}"
-        with open(os.open(draft, os.O_CREAT | os.O_EXCL | os.O_WRONLY, mode), "wb") as stream:
-            stream.write(content)
-            stream.flush()
-            if is_alone:
-                os.fsync(stream.fileno())
+        write_new(draft, content, mode, is_synced=is_alone)
         return draft
-
-
-def _sync_folder(folder: Path) -> None:
-    number = os.open(folder, os.O_RDONLY | os.O_DIRECTORY)
-    try:
-        os.fsync(number)
-    finally:
-        os.close(number)
 
 
 def _exchanged(one: Path, other: Path) -> bool:

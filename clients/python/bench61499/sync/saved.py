@@ -69,7 +69,7 @@ class Saved:
                 continue
             if stamp and can_be_unit(name):
                 yield name, stamp
-            elif not stamp:
+            elif not stamp and not os.path.islink(path):
                 self._locked.add(name)
 
     def _is_new(self, name: str, stamp: Stamp) -> bool:

@@ -1,0 +1,107 @@
+"""Peers that are not what they seem: servers that answer for ever, or stand where a host was, and editors that send what is no message."""
+from __future__ import annotations
+
+import json
+import socket
+import subprocess
+import threading
+import unittest
+from collections.abc import Callable, Iterator
+from contextlib import contextmanager, suppress
+from itertools import repeat
+from unittest.mock import patch
+
+from support import CLIENTS, GREETING, answering, hosting, workbench
+
+from bench61499 import BadReply, ConnectionEnded, NoAnswer, Session
+from bench61499.session import REPLY_LIMIT
+
+WAIT = 20
+"""Seconds after which a program that has to end has not done so."""
+
+
+@contextmanager
+def sending(pieces: Callable[[], Iterator[bytes]], each: float = 0) -> Iterator[int]:
+    """A server that greets, and then sends these pieces for as long as its peer stays, one after so many seconds; gives its port."""
+    is_over = threading.Event()
+
+    def serve(listener: socket.socket) -> None:
+        connection, _ = listener.accept()
+        with connection, suppress(OSError):
+            connection.recv(1_000)
+            connection.sendall(GREETING)
+            for piece in pieces():
+                if is_over.wait(each):
+                    return
+                connection.sendall(piece)
+
+    with socket.create_server(("127.0.0.1", 0)) as listener:
+        thread = threading.Thread(target=serve, args=(listener,))
+        thread.start()
+        try:
+            yield listener.getsockname()[1]
+        finally:
+            is_over.set()
+            thread.join()
+
+
+class ServerTest(unittest.TestCase):
+    def test_a_reply_without_end_is_not_kept(self) -> None:
+        with patch("bench61499.session.REPLY_LIMIT", 1 << 20), sending(lambda: repeat(b" " * 65_536)) as port:
+            with Session.connect("127.0.0.1", port) as session, self.assertRaisesRegex(ConnectionEnded, "sent a reply of more than 1,048,576 bytes$"):
+                session.status()
+        self.assertGreater(REPLY_LIMIT, 100_000_000)
+
+    def test_a_reply_that_comes_byte_by_byte_is_not_waited_for(self) -> None:
+        with sending(lambda: repeat(b" "), each=0.1) as port, Session.connect("127.0.0.1", port, timeout=2) as session:
+            self.assertRaises(NoAnswer, session.status)
+
+    def test_replies_of_deep_or_huge_things_make_no_sense(self) -> None:
+        for reply in (b"[" * 100_000, b'{"commit":1e999}', b'{"refused":"StaleBase","current":1e999,"unit":"A"}', b'{"commit":%b}' % (b"9" * 5_000), b"7", b"null"):
+            with answering(GREETING, reply + b"\n") as port, Session.connect("127.0.0.1", port) as session:
+                self.assertRaises(BadReply, session.commit, [])
+
+    def test_a_list_of_units_that_goes_round_ends(self) -> None:
+        page = b'{"at":1,"units":[["A",1]]}\n'
+        with answering(GREETING, page, page, page) as port, Session.connect("127.0.0.1", port) as session:
+            self.assertRaises(BadReply, session.units)
+
+    def test_localhost_is_the_address_at_which_a_host_listens(self) -> None:
+        """Another one, to which the name leads first, may be taken by any user of the machine; it would get the secret."""
+        asked: list[object] = []
+        look_up = socket.getaddrinfo
+
+        def looking_up(host: object, *more: object) -> object:
+            asked.append(host)
+            return look_up(host, *more)
+
+        with hosting() as port, patch("socket.getaddrinfo", looking_up):
+            for host in ("localhost", "", "LOCALHOST", "localhost."):
+                Session.connect(host, port).close()
+        self.assertEqual(set(asked), {"127.0.0.1"})
+
+
+class EditorTest(unittest.TestCase):
+    def ended(self, sent: bytes) -> tuple[int, bytes]:
+        """The status of a language server to which this was sent, and what it has sent, once the editor has closed its pipe."""
+        words = [CLIENTS / "lsp", "--program", workbench()]
+        with subprocess.Popen(words, stdin=subprocess.PIPE, stdout=subprocess.PIPE) as server:
+            try:
+                out, _ = server.communicate(sent, timeout=WAIT)
+            finally:
+                server.kill()
+        return server.returncode, out
+
+    def test_what_is_no_message_does_not_keep_the_server_from_ending(self) -> None:
+        asked = json.dumps({"id": 1, "method": "initialize", "params": {}}).encode()
+        for body in (b"[" * 100_000, b"{", b"[]"):
+            status, out = self.ended(b"Content-Length: %d\r\n\r\n%bContent-Length: %d\r\n\r\n%b" % (len(body), body, len(asked), asked))
+            self.assertEqual((status, out.count(b'"code":-32700'), out.count(b'"capabilities"')), (1, 1, 1))
+
+    def test_lengths_that_no_message_has(self) -> None:
+        for length in (b"9" * 5_000, b"1000000000000", b"x" * 100_000):
+            self.assertEqual(self.ended(b"Content-Length: %b\r\n\r\n{}" % length), (1, b""))
+
+
+if __name__ == "__main__":
+    unittest.main()
