@@ -9,6 +9,7 @@ from hall import hall
 from support import CONVEYOR, InFolder, TestCase, hosting, run, serving, workbench
 
 from bench61499 import Flat, Link, Put, Session, batches
+from bench61499.language.texts import Texts
 from bench61499.tracing import NoSuchEnd, Tracing
 
 BLOCK = """FUNCTION_BLOCK {name}
@@ -58,7 +59,7 @@ def tracing_of(unit: str, texts: Mapping[str, str], known: Mapping[str, str] | N
         deploy = session.wait("deploy", unit) if "SYSTEM" in texts[unit] else None
     net = nets[unit]
     assert isinstance(net, Flat), net
-    return Tracing(unit, net, deploy, texts if known is None else known, nets.get)
+    return Tracing(unit, net, deploy, Texts.of(texts if known is None else known).unit, nets.get)
 
 
 class WayTest(TestCase):

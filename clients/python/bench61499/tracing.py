@@ -1,7 +1,7 @@
 """What feeds an input, and where an output leads: the ways through a flat network, as a workbench has proved it, block by block.
 
-    tracing = Tracing("PLANT", session.net("PLANT"), session.deploy("PLANT"), texts)    # the texts by unit, as far as they are known
-    end = tracing.end("LINE.PANEL.VALUE")                                               # raises NoSuchEnd
+    tracing = Tracing("PLANT", session.net("PLANT"), session.deploy("PLANT"), Texts.of(texts).unit)    # the texts that are known, by unit
+    end = tracing.end("LINE.PANEL.VALUE")                                                              # raises NoSuchEnd
     for step in tracing.back(end).steps:
         print(step.number, step.path, step.type, step.resource, [hop.link for hop in step.hops])
 
@@ -16,7 +16,6 @@ from functools import cached_property
 
 from bench61499.language.declarations import ADAPTER_SECTIONS, INSTANCE, INTERFACE, Key, Unit
 from bench61499.language.network import LEFT, SORTS, homes
-from bench61499.language.reader import read
 from bench61499.language.wording import Names, asked
 from bench61499.session import Border, Deploy, Flat, Link, Net, Plan, Sort
 
@@ -80,18 +79,17 @@ class Way:
 
 
 class Tracing:
-    """The network of a unit. `texts` are those that are known, by unit: they tell which ports a type has, and of what type an instance is.
+    """The network of a unit. `read` gives what is declared in the text of a unit, if that is known: the ports of a type, and the types of instances.
 
     `net_of` gives the net of a subapplication type as the workbench has it; its borders lead from a port of an instance to the ports of blocks.
     """
 
-    def __init__(self, unit: str, net: Flat, deploy: Deploy | None, texts: Mapping[str, str], net_of: Callable[[str], Net | None] = lambda _: None):
-        self._unit, self._net, self._texts, self._net_of = unit, net, texts, net_of
+    def __init__(self, unit: str, net: Flat, deploy: Deploy | None, read: Callable[[str], Unit | None], net_of: Callable[[str], Net | None] = lambda _: None):
+        self._unit, self._net, self._read, self._net_of = unit, net, read, net_of
         self._plan = deploy if isinstance(deploy, Plan) else None
         self._types = {it.path: it.type for it in net.blocks}
         self._homes = homes(deploy)
         self._cuts = frozenset(self._plan.cuts) if self._plan else frozenset[Link]()
-        self._units: dict[str, Unit | None] = {}
 
     # Ends
 
@@ -267,11 +265,6 @@ class Tracing:
 
     # Types
 
-    def _read(self, unit: str) -> Unit | None:
-        if unit not in self._units:
-            self._units[unit] = read(self._texts[unit]) if unit in self._texts else None
-        return self._units[unit]
-
     def _ports(self, unit: str) -> dict[str, list[tuple[Sort, str]]]:
         """The ports of a unit, each with its sort and its section; none if its text is not known."""
         found: defaultdict[str, list[tuple[Sort, str]]] = defaultdict(list)
@@ -297,7 +290,7 @@ class Tracing:
 
     def _why_no_port(self, path: str, block: str) -> str:
         of = self._types[block]
-        if of not in self._texts:
+        if not self._read(of):
             return f"no connection has {path} as an end, and the text of {of} is not known"
         names = Names(self._ports(of), 0.6)
         near = names.near(path[len(block) + 1 :].partition(".")[0])
@@ -310,7 +303,7 @@ class Tracing:
         if front and any(it.startswith(f"{front}.") for it in self._types):
             inner = self._type_of(front)
             near = Names(self._ports(inner), 0.6).near(port)
-            return f"{inner} has no port {port}{asked(near and f'{front}.{near}')}" if inner in self._texts else f"the type of {front} is not known here, so neither is its {port}"
+            return f"{inner} has no port {port}{asked(near and f'{front}.{near}')}" if self._read(inner) else f"the type of {front} is not known here, so neither is its {port}"
         return f"{self._unit} has no {path}{asked(self._near(path))}"
 
     def _near(self, path: str) -> str | None:

@@ -12,6 +12,7 @@ from bench61499.cli.asking import Asked, asking
 from bench61499.cli.command import fail, program, read_with_units
 from bench61499.cli.draw import NoPicture, why_no_key, why_no_net
 from bench61499.cli.version import add_version
+from bench61499.language.texts import Texts
 from bench61499.language.units import Misuse
 from bench61499.language.wording import counted
 from bench61499.tracing import End, Hop, NoSuchEnd, Step, Tracing, Way
@@ -77,7 +78,7 @@ def traced(asked: Asked, unit: str) -> Tracing:
         its: Net | None = asked.values([key]).get(key)
         return its
 
-    return Tracing(unit, net, deploy, asked.texts, net_of)
+    return Tracing(unit, net, deploy, Texts.of(asked.texts).unit, net_of)
 
 
 def ways_of(tracing: Tracing, end: End, steps: int) -> dict[str, Way]:
