@@ -862,6 +862,7 @@ class NetworkView {
     this.paintBoxes();
     this.paintWires((wire) => small && wire.cut);
     this.paintNames();
+    for (const [box, step] of this.way?.blocks ?? []) this.paintStep(box, step);
   }
 
   isOut(left, top, right, bottom) {
@@ -1015,7 +1016,6 @@ class NetworkView {
     context.stroke();
     if (this.isCramped() && box !== this.chosen) this.paintShortName(box);
     else if (!this.isSmall()) this.paintWords(box);
-    if (this.way?.blocks.has(box)) this.paintStep(box, this.way.blocks.get(box));
     context.globalAlpha = 1;
   }
 

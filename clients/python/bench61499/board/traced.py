@@ -3,7 +3,7 @@ from __future__ import annotations
 
 from typing import Any
 
-from bench61499 import Flat
+from bench61499 import Flat, Plan
 from bench61499.board.state import Answer, Board
 from bench61499.language.texts import Texts
 from bench61499.tracing import NoSuchEnd, Tracing
@@ -13,7 +13,8 @@ def trace_view(board: Board, unit: str, net: Answer, deploy: Answer, end: str, i
     """What feeds an end in the network of a unit, or what it feeds: the blocks, nearest first and each once, and the links. `why` tells why there is no way to show."""
     if not isinstance(net.value, Flat):
         return {"why": f"there is no network of {unit} now"}
-    tracing = Tracing(unit, net.value, deploy.value, Texts.of(board.texts()).unit)
+    plan = deploy.value if isinstance(deploy.value, Plan) else None
+    tracing = Tracing(unit, net.value, plan, Texts.of(board.texts()).unit)
     try:
         its = tracing.end(end)
     except NoSuchEnd as error:
