@@ -3,12 +3,24 @@
 ;; Another command for the language server, before that: (setq bench61499-server '("/path/to/clients/lsp" "--connect" ":6149"))
 (require 'eglot)
 
+(load (expand-file-name "fb61499-words.el" (file-name-directory load-file-name)) nil t)
+
 (defvar bench61499-server (list (expand-file-name "../clients/lsp" (file-name-directory load-file-name)))
   "The command of the language server, as a list of words.")
 
+(defvar fb61499-mode-syntax-table
+  (let ((table (make-syntax-table)))
+    (dolist (it '((?\( . "()1n") (?\) . ")(4n") (?* . ". 23") (?/ . ". 12c") (?\n . "> c") (?\' . "\"") (?$ . "\\") (?_ . "w") (?# . "_")))
+      (modify-syntax-entry (car it) (cdr it) table))
+    table)
+  "Comments are (* .. *) and // up to the end of the line; $ escapes in strings.")
+
 (define-derived-mode fb61499-mode prog-mode "IEC 61499"
   "Texts of IEC 61499 units."
-  (setq-local comment-start "// "))
+  (setq-local comment-start "// " comment-end "" comment-start-skip "\\(//+\\|(\\*+\\)[ \t]*"
+              indent-tabs-mode nil tab-width 2 standard-indent 2
+              font-lock-defaults
+              (list (mapcar (lambda (it) (cons (concat "\\_<" (regexp-opt (cdr it)) "\\_>") (car it))) fb61499-words) nil t)))
 
 (add-to-list 'auto-mode-alist '("\\.fb\\'" . fb61499-mode))
 (defclass bench61499-eglot-server (eglot-lsp-server) ()

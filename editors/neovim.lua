@@ -1,6 +1,7 @@
 -- bench61499 in Neovim 0.7.2 and newer. In init.lua: dofile('/path/to/editors/neovim.lua')
 -- Another command for the language server, before that: vim.g.bench61499_server = { '/path/to/clients/lsp', '--connect', ':6149' }
 local top = vim.fn.fnamemodify(debug.getinfo(1, 'S').source:sub(2), ':p:h:h')
+vim.opt.runtimepath:append(top .. '/editors/vim') -- colours, comments and indentation
 local server = { name = 'bench61499', cmd = vim.g.bench61499_server or { top .. '/clients/lsp' }, root_dir = vim.fn.getcwd() }
 
 if vim.lsp.config then -- Neovim 0.11

@@ -2,10 +2,11 @@
 " Another command for the language server, before that: let g:bench61499_server = ['/path/to/clients/lsp', '--connect', ':6149']
 let s:server = get(g:, 'bench61499_server', [expand('<sfile>:p:h:h') . '/clients/lsp'])
 
-augroup bench61499
-  autocmd!
-  autocmd BufRead,BufNewFile *.fb setlocal filetype=fb61499
-augroup END
+" Colours, comments and indentation.
+let &runtimepath .= ',' . expand('<sfile>:p:h') . '/vim'
+filetype plugin on
+syntax enable
+runtime ftdetect/fb61499.vim
 
 call ale#linter#Define('fb61499', {
 \   'name': 'bench61499',

@@ -51,7 +51,7 @@ def options(client, shared=False):
 
 
 SHARED = ("--program ", "--connect ", "--secret ")
-CLIENTS = ("check", "format", "plan", "draw", "board", "sync", "log", "exchange import", "exchange export", "exchange boot")
+CLIENTS = ("check", "format", "plan", "draw", "trace", "board", "sync", "log", "exchange import", "exchange export", "exchange boot")
 
 TABLES = {
     "options of all clients": functools.partial(options, "lsp", shared=True),

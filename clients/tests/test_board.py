@@ -244,6 +244,20 @@ class AnswersTest(BoardTest):
                 self.assertEqual((answer["state"], answer["missing"], answer["faulty"]), ("blocked", ["LAMP"], ["FEEDER", "PLANT"]))
                 self.assertEqual(self.known(at, viewer, path, "FEEDER")["state"], "none")
 
+    def test_a_way(self) -> None:
+        at = self.conveyor()
+        with at.viewer() as viewer:
+            at.json("/net", name="PLANT", aspect="2")
+            viewer.until(lambda it: all((kind, "PLANT") in it.answers for kind in ("net", "deploy")))
+            found = at.json("/trace", name="plant", end="line.second.belt.load", way="back")
+            self.assertEqual(found["blocks"], [[1, "LINE.FIRST.LIFT"], [2, "LINE.FIRST.BELT"]])
+            self.assertEqual((found["end"], found["block"], found["resources"], found["cuts"]), ("LINE.SECOND.BELT.LOAD", "LINE.SECOND.BELT", 1, 1))
+            self.assertIn(["data", "LINE.FIRST.LIFT.TOTAL", "LINE.SECOND.BELT.LOAD"], found["links"])
+            self.assertEqual(at.json("/trace", name="PLANT", end="LINE.PANEL.VALUE", way="forth")["links"], [])
+            self.assertEqual(at.json("/trace", name="PLANT", end="LINE.PANEL.VALU", way="back"), {"why": "LAMP has no port VALU; did you mean LINE.PANEL.VALUE?"})
+            self.assertEqual(at.json("/trace", name="LAMP", end="VALUE", way="back"), {"why": "there is no network of LAMP now"})
+            self.assertEqual(at.request("/trace?name=PLANT&end=A.B&way=up")[0], 400)
+
     def test_where_an_instance_is_declared(self) -> None:
         at = self.conveyor()
         with at.viewer() as viewer:

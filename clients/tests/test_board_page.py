@@ -326,6 +326,35 @@ class NetworkTest(PageTest):
         self.assertLess(room[1] - room[0], 5 * 30)
         self.assertTrue(room[0] <= row[0] and row[1] <= room[1] + 1, (row, room))
 
+    def test_what_feeds_a_block_and_where_it_leads(self) -> None:
+        """The way is drawn over the rest, each block with its step, and the list has its blocks; Esc ends it."""
+        self.see_network()
+        self.browser.click(*self.block("LINE.PANEL"))
+        self.browser.press("[")
+        self.until_words("#way", "LINE.PANEL is fed by 4 blocks, 2 resources, 4 cut links")
+        steps = "[...network.way.blocks].map(([it, step]) => `${step} ${it.path}`)"
+        self.assertEqual(self.browser.value(steps), ["1 LINE.SECOND.LIFT", "2 LINE.SECOND.BELT", "3 LINE.FIRST.LIFT", "4 LINE.FIRST.BELT"])
+        self.assertEqual(self.browser.value("[network.way.wires.size, network.wires.length, network.way.start.path]"), [10, 10, "LINE.PANEL"])
+        self.assertEqual(self.words(".row-tools .number"), "5 blocks")
+        self.assertEqual(self.browser.value("network.list.items.map((it) => it.path)")[0], "LINE.SECOND.LIFT")
+        self.until_said("LINE.PANEL is fed by 4 blocks")
+        self.browser.press("Escape")
+        self.assertEqual(self.browser.value("[network.way, network.list.items.length, document.getElementById('way').hidden, network.chosen.path]"), [None, 5, True, "LINE.PANEL"])
+        self.browser.value("document.querySelector('[title=\"What feeds it\"]').click()")
+        self.until_words("#way", "LINE.PANEL.SHOW is fed by")
+        self.browser.click(*self.block("LINE.FIRST.BELT"))
+        self.browser.press("]")
+        self.until_words("#way", "LINE.FIRST.BELT leads to 5 blocks, 3 resources, 4 cut links")
+
+    def test_a_way_in_a_subapplication_goes_to_its_own_ports_and_follows_changes(self) -> None:
+        self.see_network("STATION")
+        self.browser.click(*self.block("LIFT"))
+        self.browser.press("[")
+        self.until_words("#way", "LIFT is fed by 2 blocks")
+        self.assertEqual(self.browser.value("network.way.wires.size"), 7)
+        self.edit("STATION.fb", "SEEN TO BELT.SEEN;", "")
+        self.browser.until("network.wires.length === 8 && network.way?.wires.size === 6")
+
     def test_search_zoom_and_move(self) -> None:
         self.see_network()
         self.browser.press("b", *"lifter")

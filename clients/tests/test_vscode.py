@@ -11,6 +11,7 @@ import subprocess
 import tomllib
 import unittest
 from collections.abc import Iterator
+from pathlib import Path
 from types import ModuleType
 
 from support import CLIENTS, CONVEYOR, InFolder
@@ -34,7 +35,12 @@ PIECES = ["IF", "end_if", "ENDIF", "x", "INT", "int#5", "T#1h_2s.5ms", "D#2026-1
 
 def made() -> ModuleType:
     """The script that makes the grammar."""
-    spec = importlib.util.spec_from_file_location("grammar", EXTENSION / "grammar.py")
+    return module_of(EXTENSION / "grammar.py")
+
+
+def module_of(file: Path) -> ModuleType:
+    """A script as a module."""
+    spec = importlib.util.spec_from_file_location(file.stem, file)
     module = importlib.util.module_from_spec(spec)
     spec.loader.exec_module(module)
     return module

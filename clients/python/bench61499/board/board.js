@@ -573,6 +573,7 @@ class NetworkView {
     this.scale = 0;
     this.chosen = null;
     this.found = new Set();
+    this.way = null;
     this.list = new LongList(
       make("div", { class: "list", id: "blocks", role: "listbox", tabindex: 0, "aria-label": "Blocks" }),
       fillBlock, (block) => this.choose(block, true),
@@ -586,12 +587,13 @@ class NetworkView {
     this.field.addEventListener("input", () => this.search());
     this.field.addEventListener("keydown", (event) => { if (event.key === "Enter") this.next(event.shiftKey ? -1 : 1); });
     this.matches = make("span", { class: "dim number", role: "status" });
+    this.told = make("p", { class: "way", role: "status", id: "way", hidden: "" });
     const button = (words, label, act) => make("button", { "aria-label": label, title: label, onclick: act }, words);
     const legend = make("span", { class: "legend", "aria-hidden": "true" }, ...["event", "data", "adapter", "cut"].map((it) => make("span", { class: it }, it)));
     return [
       make("div", { class: "row-tools" }, this.field, this.matches, button("−", "Smaller", () => this.zoom(1 / 1.3)), button("+", "Larger", () => this.zoom(1.3)),
         button("Whole", "The whole network", () => this.fit()), legend),
-      make("div", { class: "network" }, make("div", { class: "picture" }, this.canvas), make("div", { class: "aside" }, this.list.box, this.about)),
+      make("div", { class: "network" }, make("div", { class: "picture" }, this.canvas, this.told), make("div", { class: "aside" }, this.list.box, this.about)),
     ];
   }
 
@@ -613,6 +615,7 @@ class NetworkView {
     if (!this.scale) requestAnimationFrame(() => this.fit());
     this.search();
     this.tell();
+    if (this.way) this.trace(this.way.end, this.way.back);
   }
 
   end(box, left, row) {
@@ -719,6 +722,7 @@ class NetworkView {
     else if (event.key === "-") this.zoom(1 / 1.3);
     else if (event.key === "0") this.fit();
     else if (event.key === "Escape") this.choose(null, false);
+    else if ((event.key === "[" || event.key === "]") && this.chosen) this.trace(this.chosen.path, event.key === "[");
     else if (event.key === "Enter" && this.chosen) go(this.chosen.type, "text");
     else if (event.key === "i" && this.chosen) this.declared();
     else return;
@@ -745,7 +749,8 @@ class NetworkView {
 
   search() {
     const wanted = this.field.value.trim().toUpperCase();
-    const items = wanted ? this.blocks.filter((it) => it.path.includes(wanted) || it.type.includes(wanted)) : this.blocks;
+    const all = this.way ? [...this.way.blocks.keys()] : this.blocks;
+    const items = wanted ? all.filter((it) => it.path.includes(wanted) || it.type.includes(wanted)) : all;
     this.found = wanted ? new Set(items) : new Set();
     this.list.show(items, this.chosen);
     this.matches.textContent = wanted ? `${items.length.toLocaleString("en")} of ${counted(this.blocks.length, "block")}` : counted(this.blocks.length, "block");
@@ -758,6 +763,7 @@ class NetworkView {
   }
 
   choose(block, reveal) {
+    if (!block && this.way) return this.untrace();
     this.chosen = block;
     if (block && reveal && (!this.isSeen(block) || this.scale < 0.4)) this.reveal(block);
     this.tell();  // It takes room of the list.
@@ -778,7 +784,38 @@ class NetworkView {
     this.about.replaceChildren(
       make("h3", { class: "mono" }, block.path), make("p", {}, "Type ", link(block.type, () => go(block.type, "text"))),
       ...(block.home ? [make("p", {}, `On ${block.home}`)] : []), make("p", {}, link("Where it is declared", () => this.declared())),
+      make("p", {}, link("What feeds it", () => this.trace(block.path, true)), " · ", link("Where it leads", () => this.trace(block.path, false))),
       make("ul", { "aria-label": "Links" }, ...links));
+  }
+
+  // Ways
+
+  /** Shows what feeds an end, step by step, or what it feeds. */
+  async trace(end, back) {
+    const found = await ask("/trace", { name: this.unit, end, way: back ? "back" : "forth" });
+    if (found.why) { this.untrace(); return note(`It can't be shown: ${found.why}.`); }
+    const boxes = new Map(this.boxes.map((it) => [it.path, it]));
+    const links = new Set(found.links.map((it) => it.join(" ")));
+    const blocks = new Map(found.blocks.map(([step, path]) => [boxes.get(path), step]).filter(([it]) => it));
+    this.way = { end: found.end, back, blocks, start: boxes.get(found.block), wires: new Set(this.wires.filter((it) => links.has(this.linkOf(it)))) };
+    const parts = [counted(found.blocks.length, "block"), ...(found.resources ? [counted(found.resources, "resource"), counted(found.cuts, "cut link")] : [])];
+    const words = `${found.end} ${back ? "is fed by" : "leads to"} ${found.blocks.length || found.links.length ? parts.join(", ") : "nothing"}`;
+    this.told.replaceChildren(make("span", {}, words), make("button", { "aria-label": "Show all blocks", title: "Show all blocks", onclick: () => this.untrace() }, "×"));
+    this.told.hidden = false;
+    this.search();
+    speaker.say(words);
+  }
+
+  untrace() {
+    this.way = null;
+    this.told.hidden = true;
+    this.search();
+  }
+
+  /** The link that a wire is of, in the words of the server. */
+  linkOf({ sort, from, to, label, way }) {
+    const [one, other] = (way === "back" ? [to, from] : [from, to]).map(({ box, port }) => box.tag === null ? `${box.path}.${port}${label ? `.${label}` : ""}` : box.path);
+    return `${sort} ${one} ${other}`;
   }
 
   linkItem(block, wire) {
@@ -787,8 +824,10 @@ class NetworkView {
     const arrow = wire.way === "none" ? "–" : source === here ? "→" : "←";
     const words = `${there.box.path}${there.box.tag === null ? `.${there.port}` : ""}`;
     const other = there.box.tag === null ? link(words, () => this.choose(there.box, true)) : words;
+    const port = `${here.port}${wire.label ? `.${wire.label}` : ""}`, back = arrow === "←";
+    const traced = make("button", { class: "link", title: back ? "What feeds it" : "Where it leads", onclick: () => this.trace(`${block.path}.${port}`, back) }, port);
     return make("li", {}, make("span", { class: `sort ${wire.sort}`, "aria-hidden": "true" }), make("span", { class: "unseen" }, `${wire.sort} `),
-      `${here.port}${wire.label ? `.${wire.label}` : ""} ${arrow} `, other, wire.cut ? " (cut)" : "");
+      traced, ` ${arrow} `, other, wire.cut ? " (cut)" : "");
   }
 
   async declared() {
@@ -823,6 +862,7 @@ class NetworkView {
     this.paintBoxes();
     this.paintWires((wire) => small && wire.cut);
     this.paintNames();
+    for (const [box, step] of this.way?.blocks ?? []) this.paintStep(box, step);
   }
 
   isOut(left, top, right, bottom) {
@@ -876,18 +916,19 @@ class NetworkView {
   }
 
   paintWires(isMeant) {
-    const { context } = this, chosen = this.chosen;
+    const { context } = this, chosen = this.way ? null : this.chosen, on = this.way?.wires;
     const groups = new Map();
     for (const wire of this.wires.filter(isMeant)) {
       const { from, to, reach } = wire;
       if (this.isOut(Math.min(from.x, to.x, ...reach), Math.min(from.y, to.y), Math.max(from.x, to.x, ...reach), Math.max(from.y, to.y))) continue;
-      const key = `${wire.sort} ${wire.cut ? "cut" : ""} ${chosen && (from.box === chosen || to.box === chosen) ? "chosen" : ""}`;
+      const isBold = on ? on.has(wire) : chosen && (from.box === chosen || to.box === chosen);
+      const key = `${wire.sort} ${wire.cut ? "cut" : ""} ${isBold ? "chosen" : ""}`;
       if (!groups.has(key)) groups.set(key, []);
       groups.get(key).push(wire);
     }
     for (const [key, wires] of [...groups].sort(([one], [other]) => one.endsWith("chosen") - other.endsWith("chosen"))) {
       const [sort, cut, bold] = key.split(" ");
-      context.globalAlpha = chosen && !bold ? 0.3 : 1;
+      context.globalAlpha = bold ? 1 : on ? 0.12 : chosen ? 0.3 : 1;
       context.strokeStyle = context.fillStyle = this.colour(sort);
       context.lineWidth = Math.max(bold ? 2.2 : 1.3, (bold ? 1.6 : 0.7) / this.scale);
       context.setLineDash(cut ? [7, 5].map((it) => it * Math.max(1, 0.6 / this.scale)) : []);
@@ -930,7 +971,7 @@ class NetworkView {
 
   paintBoxes() {
     const seen = this.boxes.filter((box) => !this.isOut(box.x - 4, box.y - 4, box.x + box.w + 4, box.y + box.h + 4));
-    const isPlain = (box) => this.isSmall() && box !== this.chosen && !this.found.has(box);
+    const isPlain = (box) => this.isSmall() && box !== this.chosen && !this.found.has(box) && !this.isOn(box);
     this.paintPlain(seen.filter(isPlain));
     for (const box of seen) {
       if (box.tag !== null) this.paintTag(box);
@@ -941,7 +982,7 @@ class NetworkView {
   /** Boxes that are too small for words, all at once. */
   paintPlain(boxes) {
     const { context } = this;
-    context.globalAlpha = this.found.size ? 0.45 : 1;
+    context.globalAlpha = this.way ? 0.3 : this.found.size ? 0.45 : 1;
     context.fillStyle = this.colour("panel");
     context.strokeStyle = this.colour("dim");
     context.lineWidth = Math.max(0.8, 0.5 / this.scale);
@@ -964,11 +1005,11 @@ class NetworkView {
   }
 
   paintBlock(box) {
-    const { context, scale } = this, chosen = box === this.chosen, found = this.found.has(box);
-    context.globalAlpha = this.found.size && !found && !chosen ? 0.45 : 1;
-    context.fillStyle = this.colour(chosen ? "tint" : "panel");
-    context.strokeStyle = this.colour(chosen ? "accent" : found ? "found" : "dim");
-    context.lineWidth = chosen || found ? Math.max(2, 2 / scale) : Math.max(0.8, 0.5 / scale);
+    const { context, scale } = this, chosen = box === this.chosen, found = this.found.has(box), on = this.isOn(box);
+    context.globalAlpha = this.way && !on && !chosen ? 0.3 : this.found.size && !found && !chosen ? 0.45 : 1;
+    context.fillStyle = this.colour(chosen || box === this.way?.start ? "tint" : "panel");
+    context.strokeStyle = this.colour(chosen || on ? "accent" : found ? "found" : "dim");
+    context.lineWidth = chosen || found || on ? Math.max(2, 2 / scale) : Math.max(0.8, 0.5 / scale);
     context.beginPath();
     context.roundRect(box.x, box.y, box.w, box.h, 5);
     context.fill();
@@ -976,6 +1017,26 @@ class NetworkView {
     if (this.isCramped() && box !== this.chosen) this.paintShortName(box);
     else if (!this.isSmall()) this.paintWords(box);
     context.globalAlpha = 1;
+  }
+
+  /** Whether a block is on the way that is shown. */
+  isOn(box) {
+    return this.way !== null && (this.way.blocks.has(box) || box === this.way.start);
+  }
+
+  /** The number of links between a block and the end whose way is shown, in its corner. */
+  paintStep(box, step) {
+    const { context } = this, size = Math.max(11, 10 / this.scale);
+    context.font = `700 ${size}px ${this.colour("sans")}`;
+    const width = context.measureText(step).width + size * 0.8;
+    context.fillStyle = this.colour("accent");
+    context.beginPath();
+    context.roundRect(box.x - size * 0.4, box.y - size * 0.7, width, size * 1.4, size * 0.7);
+    context.fill();
+    context.fillStyle = this.colour("panel");
+    context.textAlign = "center";
+    context.textBaseline = "middle";
+    context.fillText(step, box.x - size * 0.4 + width / 2, box.y);
   }
 
   paintWords(box) {
@@ -1118,7 +1179,7 @@ const KEYS = {
   "?": ["these keys", () => $("help").showModal()],
 };
 const LIST_KEYS = [["Enter", "in the search of units: the first match"], ["↑ ↓ Page Home End", "move in a list"], ["arrows", "in the picture: the next block that way; with Shift, move the picture"], ["+ − 0", "in the picture: larger, smaller, the whole"],
-  ["Enter", "in the picture: the text of the chosen block's type; in its search: the next match"], ["i", "in the picture: where the chosen block is declared"], ["Esc", "in the picture: choose none; in a search: empty it"]];
+  ["Enter", "in the picture: the text of the chosen block's type; in its search: the next match"], ["[ ]", "in the picture: what feeds the chosen block, where it leads; Esc ends that"], ["i", "in the picture: where the chosen block is declared"], ["Esc", "in the picture: choose none; in a search: empty it"]];
 
 function showTab(tab) {
   const button = [...$("tabs").children].find((it) => it.dataset.tab === tab);

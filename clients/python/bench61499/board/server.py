@@ -22,6 +22,7 @@ from urllib.parse import parse_qsl, urlsplit
 
 from bench61499 import NAME_LIMIT
 from bench61499.board.state import Board, News
+from bench61499.board.traced import trace_view
 from bench61499.board.views import instance_view, net_view, plan_view, unit_view
 
 HERE = Path(__file__).parent
@@ -159,7 +160,7 @@ class _Handler(BaseHTTPRequestHandler):
 
     def do_GET(self) -> None:
         self._answer({"/": self._page, "/events": self._events, "/unit": self._unit, "/net": self._net, "/plan": self._plan,
-                      "/instance": self._instance})
+                      "/instance": self._instance, "/trace": self._trace})
 
     def do_POST(self) -> None:
         self._answer({"/look": self._look})
@@ -243,6 +244,14 @@ class _Handler(BaseHTTPRequestHandler):
     def _instance(self, query: dict[str, str]) -> None:
         name, path = words(query, "name", "path")
         self._send_json(instance_view(self.server.board.texts(), unit_named(name), path.upper()))
+
+    def _trace(self, query: dict[str, str]) -> None:
+        """What feeds an end of a network, or what it feeds."""
+        (name, end, way), board = words(query, "name", "end", "way"), self.server.board
+        if way not in ("back", "forth"):
+            raise BadRequest("a way is back or forth")
+        unit = unit_named(name)
+        self._send_json(trace_view(board, unit, board.wish(("net", unit)), board.wish(("deploy", unit)), end, way == "back"))
 
     def _look(self, query: dict[str, str]) -> None:
         """Adds a unit that is to be looked at, in a workbench whose units nobody can list."""

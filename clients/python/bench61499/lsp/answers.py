@@ -48,6 +48,7 @@ CAPABILITIES = {
         "range": True,
     },
     "foldingRangeProvider": True,
+    "callHierarchyProvider": True,
     "codeLensProvider": {"resolveProvider": False},
     "documentFormattingProvider": True,
     "documentRangeFormattingProvider": True,

@@ -3,11 +3,12 @@ from __future__ import annotations
 
 import time
 from collections.abc import Callable, Iterable
+from concurrent.futures import Future
 from dataclasses import replace
 from pathlib import Path
 from typing import Any
 
-from bench61499 import Session
+from bench61499 import Key, Session
 from bench61499.language.plant import Plant
 from bench61499.lsp.asking import Asking
 from bench61499.lsp.choices import Choices, Differing
@@ -299,6 +300,15 @@ class Checking:
                 reasons[unit] = whose(unit, it, document.text, self._pages.faults.get(unit) or ())
         if reasons:
             self.asking.tell(WARNING, taken(reasons))
+
+    def values(self, keys: list[Key]) -> Future[dict[Key, Any]] | None:
+        """Has values of the workbench asked for, once it has the texts as they are now; None as long as it has not."""
+        return None if self._is_new() or self._is_dirty else self._talk.values(keys)
+
+    @property
+    def trouble(self) -> str:
+        """Why nothing is checked now; empty if all is well."""
+        return self._talk.trouble
 
     # What is shown
 

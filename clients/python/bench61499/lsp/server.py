@@ -7,6 +7,7 @@ from typing import Any
 
 from bench61499 import Session
 from bench61499.language.positions import edited
+from bench61499.lsp import calls
 from bench61499.lsp.answers import CAPABILITIES, Answers, CantAnswer
 from bench61499.lsp.checking import Checking
 from bench61499.lsp.documents import path_of
@@ -31,6 +32,7 @@ class Server:
         self._send = send
         self._checking = Checking(open_workbench, shared, send, wake)
         self._answers = Answers(self._checking.plant, self._checking.catch_up, self._checking.shown, self._checking.lacks, self._checking.choices)
+        self._calls = calls.Calls(lambda: self._checking.plant, self._checking.values, lambda: self._checking.trouble, send)
         self._initialized = self._shut_down = self._can_register = False
         self._waiting: set[Any] = set()
         self._cancelled: set[Any] = set()
@@ -43,6 +45,7 @@ class Server:
     def step(self) -> None:
         """What can be done without a message."""
         self._checking.step()
+        self._calls.step()
         asking = self._checking.asking
         if self._answers.lenses_are_due() and asking.can("workspace", "codeLens", "refreshSupport"):
             asking.ask("workspace/codeLens/refresh", None, lambda *_: None)
@@ -64,7 +67,8 @@ class Server:
             self._checking.asking.answered(message)
             return
         if "id" in message:
-            self._send({"id": message["id"], **self._answer_unless_cancelled(message["id"], method, params)})
+            if (answer := self._answer_unless_cancelled(message["id"], method, params)) is not None:
+                self._send({"id": message["id"], **answer})
         elif method == "exit":
             self.status = 0 if self._shut_down else 1
         elif self._initialized and not self._shut_down and method in self._NOTIFICATIONS:
@@ -73,14 +77,15 @@ class Server:
             except _NO_SENSE as error:
                 self._send(tell(ERROR, f"{method} makes no sense: {error!r}"))
 
-    def _answer_unless_cancelled(self, number: Any, method: str, params: Any) -> Message:
+    def _answer_unless_cancelled(self, number: Any, method: str, params: Any) -> Message | None:
+        """The answer; None if it comes later."""
         its = _numbers({"id": number})
         is_cancelled = bool(its & self._cancelled)
         self._waiting -= its
         self._cancelled -= its
-        return failure(REQUEST_CANCELLED, "the request was cancelled") if is_cancelled else self._answer(method, params)
+        return failure(REQUEST_CANCELLED, "the request was cancelled") if is_cancelled else self._answer(number, method, params)
 
-    def _answer(self, method: str, params: Any) -> Message:
+    def _answer(self, number: Any, method: str, params: Any) -> Message | None:
         if self._shut_down:
             return failure(INVALID_REQUEST, "the server was shut down")
         if method == "initialize":
@@ -91,9 +96,12 @@ class Server:
             self._shut_down = True
             self.close()
             return {"result": None}
-        if method not in Answers.METHODS and method not in Answers.OF_THE_FOLDER:
+        if method not in Answers.METHODS and method not in Answers.OF_THE_FOLDER and method not in calls.METHODS:
             return failure(METHOD_NOT_FOUND, f"there is no method {method} here")
         try:
+            if method in calls.METHODS:
+                self._calls.begin(number, method, params)
+                return None
             result = self._answers.answer(method, params)
             if method == "textDocument/rename" and result:
                 self._expect(result["changes"])

@@ -6,12 +6,14 @@ from __future__ import annotations
 import time
 from collections.abc import Callable, Iterator
 from concurrent.futures import Future, ThreadPoolExecutor
+from contextlib import suppress
+from typing import Any
 
-from bench61499 import HistoryFull, NoSeat, NotLetIn, NoWorkbench, Refused, Session, WorkbenchError, pauses
+from bench61499 import HistoryFull, Key, NoSeat, NoSuchKey, NotLetIn, NoWorkbench, Refused, Session, WorkbenchError, pauses
 from bench61499.lsp.rpc import ERROR, INFO
 from bench61499.lsp.commits import News, Wanted
 from bench61499.lsp.shared import SharedTexts
-from bench61499.lsp.teamtalk import TeamTalk
+from bench61499.lsp.teamtalk import TeamTalk, woken
 
 FULL_PAUSE = 60.0
 """Seconds between two questions whether a history is full yet."""
@@ -84,6 +86,12 @@ class Talk:
 
         self._submit(turn)
 
+    def values(self, keys: list[Key]) -> Future[dict[Key, Any]] | None:
+        """Asks for values, behind the turn that is under way; None if there is no workbench, or it has no texts yet. `wake` is called when they are there."""
+        if not self._session or not self._texts:
+            return None
+        return woken(self._thread.submit(_values, self._session, keys), self._wake)
+
     def poll(self) -> News | None:
         """Takes what was done, and looks for a workbench again when it is time to; gives what a turn has found, be it ended by an error."""
         task = self._task
@@ -111,8 +119,7 @@ class Talk:
 
     def _submit(self, act: Callable[[], Session | float | None]) -> None:
         self._due = None
-        task = self._task = self._thread.submit(act)
-        task.add_done_callback(lambda _: self._wake())
+        self._task = woken(self._thread.submit(act), self._wake)
 
     def _is_due(self) -> bool:
         return self._due is not None and time.monotonic() >= self._due
@@ -162,3 +169,12 @@ class Talk:
         if is_to_tell and not self._is_told:
             self._is_told = True
             self._tell(ERROR, trouble)
+
+
+def _values(session: Session, keys: list[Key]) -> dict[Key, Any]:
+    """The values of those of these keys that are there."""
+    found: dict[Key, Any] = {}
+    for kind, unit in keys:
+        with suppress(NoSuchKey):
+            found[kind, unit] = session.wait(kind, unit)
+    return found

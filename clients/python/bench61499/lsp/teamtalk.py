@@ -5,17 +5,28 @@ import queue
 import time
 from collections.abc import Callable
 from concurrent.futures import Future, ThreadPoolExecutor
+from typing import Any, TypeVar
 
-from bench61499 import NoReads, Refused, Session, WorkbenchError
+from bench61499 import Key, NoReads, Refused, Session, WorkbenchError
 from bench61499.lsp.commits import News, Wanted
 from bench61499.lsp.rpc import ERROR, INFO, WARNING
 from bench61499.lsp.team import TeamTexts
 from bench61499.mirror import Connected, Mirror
 from bench61499.mirror import News as Told
 
+PATIENCE, PAUSE = 20.0, 0.05
+"""Seconds that a value is waited for while it is being computed, and between two questions for it."""
 AGAIN = 1.0
 """Seconds after which a commit of which no reply came is looked at again."""
 STARTED_AGAIN = "The workbench was started again, and has lost what it had: the texts here are compared with those that it has now."
+
+Result = TypeVar("Result")
+
+
+def woken(task: Future[Result], wake: Callable[[], None]) -> Future[Result]:
+    """A task after which `wake` is called."""
+    task.add_done_callback(lambda _: wake())
+    return task
 
 
 class TeamTalk:
@@ -30,7 +41,7 @@ class TeamTalk:
         self._told: queue.SimpleQueue[Told] = queue.SimpleQueue()
         self._mirror = Mirror(self._open, self._hear, all_texts=True)
         self._texts = TeamTexts(self._mirror)
-        self._thread = ThreadPoolExecutor(1)
+        self._thread, self._asking = ThreadPoolExecutor(1), ThreadPoolExecutor(1)
         self._task: Future[None] | None = None
         self._lost: WorkbenchError | None = None
         self._failure: WorkbenchError | None = None
@@ -65,13 +76,28 @@ class TeamTalk:
         is_due = self._due is not None and time.monotonic() >= self._due
         return not self._told.empty() or self._texts.is_loaded and not self._mirror.error and (is_new or is_due)
 
+    def values(self, keys: list[Key]) -> Future[dict[Key, Any]] | None:
+        """Asks for values, which is no recorded call; None if there is no workbench yet. `wake` is called when they are there."""
+        if not self._texts.is_loaded or self._mirror.error:
+            return None
+        return woken(self._asking.submit(self._peek, keys), self._wake)
+
+    def _peek(self, keys: list[Key]) -> dict[Key, Any]:
+        """The values of those of these keys that are there and come in time."""
+        end = time.monotonic() + PATIENCE
+        while True:
+            with self._mirror.session(self._mirror.workbench) as session:
+                found = session.peek_all(keys)
+            if None not in found.values() or time.monotonic() > end:
+                return {key: it for key, it in found.items() if it is not None}
+            time.sleep(PAUSE)
+
     def begin(self, wanted: Wanted, is_new: bool) -> None:
         """Begins a turn: `poll` gives what it has found, once `wake` was called. A commit that was refused is tried again with new texts only."""
         told = [self._told.get() for _ in range(self._told.qsize())]
         is_to_commit = is_new or not isinstance(self._failure, Refused)
         self._due = None
-        task = self._task = self._thread.submit(self._texts.turn, wanted, told, is_to_commit)
-        task.add_done_callback(lambda _: self._wake())
+        self._task = woken(self._thread.submit(self._texts.turn, wanted, told, is_to_commit), self._wake)
         for it in told:
             if isinstance(it, Connected) and it.is_other:
                 self._tell_other()
@@ -95,7 +121,8 @@ class TeamTalk:
     def close(self) -> None:
         """Ends the talk, with what it is doing."""
         self._mirror.close()
-        self._thread.shutdown(wait=False)
+        for it in (self._thread, self._asking):
+            it.shutdown(wait=False)
 
     def _take(self, task: Future[None]) -> None:
         try:
