@@ -19,7 +19,7 @@ def section(word, rows):
 # ---------------------------------------------------------------- networks
 
 def row(names, sorts):
-    """The connections that join these instances one behind the other, and the first and the last of them with the own ports."""
+    """The connections that join these instances in their order, and the first and the last of them with the own ports."""
     found = []
     for sort, way_in, way_out in sorts:
         sources = [way_in, *(f"{name}.{way_out}" for name in names)]
@@ -45,7 +45,7 @@ def simple_subapplication(name, blocks, inner):
 
 
 def wide(name, type_name, instances):
-    """A subapplication of so many blocks, joined two by two: events and data in turn. The text is nearly as long as a text may be."""
+    """A subapplication of this number of blocks, joined two by two: events and data in turn. The text is nearly as long as a text may be."""
     names = [f"F{at:03X}" for at in range(instances)]
     pairs = list(zip(names[::2], names[1::2]))
     events = "\n".join(f"{one}.DONE TO {other}.START;" for one, other in pairs[::4])

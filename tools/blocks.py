@@ -61,9 +61,9 @@ TABLES = {
     "how much to read": headline.how_much,
     "promises": promises.all_promises,
     "crates": promises.all_crates,
-    "runs of the gate": gate_seconds.runs,
-    "parts of the last run": gate_seconds.parts_of_last,
-    "crates of the last run": gate_seconds.crates_of_last,
+    "last run of the gate": gate_seconds.run,
+    "parts of the last run": gate_seconds.parts,
+    "crates of the last run": gate_seconds.crates,
     "refused allocations": gate_seconds.refused,
 }
 

@@ -1,37 +1,77 @@
-"""Makes docs/HEADLINE.md: all definitions on which a promise rests, each after those that it uses.
+#!/usr/bin/env python3
+"""Makes the pages of all definitions on which a promise rests, each after those that it uses.
+
+tools/headline.py --page NAME     prints a page; without a word it prints the names of the pages, with how much each has
+
+docs/HEADLINE.md is the page `machine`, and has a table of the others with a checksum of the definitions and contracts that each prints. `tools/check-docs`
+compares it with what would be made now, and `tools/check-docs --mend` makes it.
 
 A definition is an item of a file of specs/, with the comment above it; a type or constant of the program that definitions name is listed with its Rust text,
-and a trait that a call is generic in with what its methods ensure. What the kit defines (numbers, lists, options) is not listed. `tools/check-docs` compares
-the page with what would be made now, and `tools/check-docs --mend` makes it."""
+and a trait that a call is generic in with what its methods ensure. If a law proves that a relation defines what a function computes, the page has the law and
+the relation in place of the function. What the kit defines (numbers, lists, options) is not listed."""
+import argparse
 import functools
+import hashlib
 import os
 import re
+import sys
 import textwrap
 from dataclasses import dataclass, field
+from typing import NamedTuple
 
 import code_parts as parts
 
 PAGE = "docs/HEADLINE.md"
 TITLE = """# What the promises rest on
 
-A contract says no more than the definitions that it cites. This page has the contracts, and then all definitions, each after those that it uses, with the comment above it, and the types of the program that they name. What the
-kit defines (numbers, lists, options, maps) is left out. To believe a promise, read its definitions, and trust what [TRUST.md](TRUST.md) lists. [PROVED.md](PROVED.md) follows one promise through them.
-`tools/check-docs --mend` makes this page from the crates (`tools/headline.py`).
+A contract says no more than the definitions that it cites. To believe a promise, read its definitions, and trust what [TRUST.md](TRUST.md) lists. [PROVED.md](PROVED.md) follows one promise through them.
+
+The definitions are in layers. This page has the first, the machine, with any `needs`, `has_key` and `scratch`: it uses of these only their types and the law `locality`. The other pages define them, and
+what is built on the machine. `tools/headline.py --page reading` prints one; the page in a repository is that of this table if its checksum is the same, and `tools/check-docs` fails if it is not. (`tools/check-docs
+--mend` makes this page and the table from the crates.)
 """
-SECTIONS = (
-    ("The headline", "After any list of calls every entry that is shown is the one from scratch.", (
-        ("fb_history", "entries_follow_the_texts"), ("fb_bench", "Bench::perform"), ("fb_bench", "Bench::start"), ("fb_bench", "Bench::len"), ("fb_bench", "Bench::peek"),
+HOW = """Each definition is after those that it uses and has the comment above it. What a page above has, and what the kit defines (numbers, lists, options, maps), is left out. If a law proves that a relation defines what
+a function computes, the function has the law in place of its equations.
+"""
+
+
+class Page(NamedTuple):
+    """A page, with the calls whose contracts it is about."""
+
+    name: str
+    title: str
+    sentence: str
+    calls: tuple
+
+
+PAGES = (
+    Page("machine", "The machine", "After any list of calls every entry that is shown is the one from scratch.", (
+        ("fb_history", "entries_follow_the_texts"), ("fb_bench", "Bench::perform"), ("fb_bench", "Bench::start"), ("fb_bench", "Bench::len"), ("fb_bench", "Bench::peek"), ("fb_jobs", "locality"),
     )),
-    ("Reading alone", "A text has one list of tokens, and spells one tree or is broken at a place.", (("fb_text", "tokens"), ("fb_parse", "Source::read"), ("fb_parse", "one_body"))),
-    ("Networks and plans", "The flat network of a unit, and the placement and the plan of a system.", (("fb_flatten", "net"), ("fb_mapping", "place"), ("fb_deploy", "plan"))),
-    ("The lines", "What a conversation writes is what its lines ask and the answers give.", (("fb_wire", "run_lines"), ("fb_wire", "run_script"))),
-    ("The lock", "Calls with seats, workers, and the close.", (
+    Page("reading", "Reading", "A text has one list of tokens, and spells one tree or is broken at a place.", (("fb_text", "tokens"), ("fb_parse", "Source::read"), ("fb_parse", "one_body"))),
+    Page("faults", "Faults", "The faults of a unit, in order, each at its place.", (("fb_faults", "faults"),)),
+    Page("networks", "Networks and plans", "The flat network of a unit, and the placement and the plan of a system.", (("fb_flatten", "net"), ("fb_mapping", "place"), ("fb_deploy", "plan"))),
+    Page("keys", "Keys", "Which keys texts have, what a key needs, and its value from scratch: what the machine leaves open.", (("fb_jobs", "locality"),)),
+    Page("lines", "The lines", "What a conversation writes is what its lines ask and the answers give.", (("fb_wire", "run_lines"), ("fb_wire", "run_script"))),
+    Page("lock", "The lock", "Calls with seats, workers, and the close.", (
         ("fb_locked", "Locked::perform_into"), ("fb_shared", "Shared::ask"), ("fb_shared", "Shared::close"), ("fb_shared", "Shared::resume"), ("fb_shared", "work_on"),
     )),
-    ("Reads", "What a host shows without a record.", (
+    Page("reads", "Reads", "What a host shows without a record.", (
         ("fb_bench", "Bench::snapshot"), ("fb_bench", "Snapshot::showing"), ("fb_locked", "Locked::read"), ("fb_shared", "Shared::read"), ("fb_shared", "Shared::watch"), ("fb_host", "reads_go_on"),
     )),
 )
+# What all pages but the one that defines it use by its type alone.
+OPEN = {f"fb_jobs: Keys.{it}": "keys" for it in ("needs", "has_key", "scratch")}
+# The functions whose values a relation defines, each with the law that proves it.
+LAWS = {
+    "fb_text: Tokens.tokens_of": ("fb_text", "one_reading"),
+    "fb_parse: Body.body_of": ("fb_parse", "one_body"),
+    "fb_library: Near.carried_of": ("fb_library", "carried_is_all"),
+    "fb_library: Near.near_of": ("fb_library", "near_is_all"),
+    "fb_flatten: Far.far_of": ("fb_flatten", "far_is_all"),
+    "fb_flatten: Nets.net_at": ("fb_flatten", "net_at_is_net"),
+    "fb_deploy: Plans.plan_at": ("fb_deploy", "plan_at_is_plan"),
+}
 ITEM = re.compile(r"(?:abbrev |unfoldable )?(?:pub )?(record |data )?([^\s:(){}]+)(?= ?[:({]| :)")
 WORD = re.compile(r"(?<![\w'.])((?:[A-Za-z_][\w'-]*\.)*[A-Za-z_][\w'-]*|◌[^\s◌]+◌)")
 MODULE = re.compile(r"(?:pub )?use ([\w.]+)(?: as (\w+))?$")
@@ -39,7 +79,7 @@ MUTUAL = re.compile(r"(?:abbrev |unfoldable )?mutual$")
 WORDS = {"abbrev", "pub", "record", "data", "where", "let", "in", "if", "then", "else", "Type", "use", "unfoldable", "module", "λ"}
 
 
-@dataclass
+@dataclass(eq=False)
 class Definition:
     path: str
     line: int
@@ -73,8 +113,8 @@ def imports(lines):
 
 
 def members_of(head, lines, indent):
-    """The constructors and fields of a type."""
-    if not head:
+    """The constructors of a type. (A field is named only where its type is.)"""
+    if head != "data ":
         return set()
     return {found[1] for line in lines if (found := re.match(rf"{indent}  (?:pub )?([\w'-]+) :", line))}
 
@@ -193,12 +233,26 @@ def rust_trait(name):
     return None
 
 
-def uses_of(it):
-    """The definitions that one uses."""
+def displayed(it, is_open=False):
+    """A definition as a page has it: its type if it is left open, and its type with the law if a relation defines it."""
+    if not is_open and it.title not in LAWS:
+        return it.text
+    lines = it.text.split("\n")
+    end = next((at for at, line in enumerate(lines) if line.startswith(f"{it.name} ") and not line.startswith(f"{it.name} :")), len(lines))
+    if is_open:
+        return "\n".join(lines[:end])
+    crate, name = LAWS[it.title]
+    return "\n".join([*lines[:end], f"-- by the law {name} of {crate}:", textwrap.dedent(parts.function(crate, name).contract)])
+
+
+@functools.cache
+def uses_of(it, is_open=False):
+    """The definitions that one uses as a page has it."""
     if it.path.endswith(".rt"):
         return it.cites
-    code = "\n".join(line for line in it.text.split("\n") if not line.strip().startswith("--"))
+    code = "\n".join(line for line in displayed(it, is_open).split("\n") if not line.strip().startswith("--"))
     found = [in_file(it.path, word) or in_file(it.path, word.split(".")[0]) for word in WORD.findall(code)]
+    found += cited(*LAWS[it.title]) if it.title in LAWS and not is_open else []
     return [its for its in found if its and its is not it]
 
 
@@ -213,19 +267,19 @@ def cited(crate, name):
     return [*traits, *(its for path, word in found if path and (its := defined(path, word)))]
 
 
-def ordered(roots):
+def ordered(roots, left_open=()):
     """All that these definitions rest on, each after those that it uses."""
     done, order = set(), []
     stack = [(it, False) for it in reversed(roots)]
     while stack:
-        it, is_behind = stack.pop()
+        it, is_after = stack.pop()
         key = (it.path, it.name)
-        if is_behind:
+        if is_after:
             order.append(it)
         elif key not in done:
             done.add(key)
             stack.append((it, True))
-            stack.extend((its, False) for its in reversed(uses_of(it)) if (its.path, its.name) not in done)
+            stack.extend((its, False) for its in reversed(uses_of(it, it.title in left_open)) if (its.path, its.name) not in done)
     return order
 
 
@@ -234,62 +288,113 @@ def is_ours(path):
 
 
 def missing():
-    """What a contract or a definition of the page takes from a crate and the page does not find."""
-    for _, _, calls in SECTIONS:
-        for crate, name in calls:
-            call = parts.function(crate, name)
-            lost = {word for word in WORD.findall(call.contract) if is_ours(call.uses.get(word, "")) and not defined(call.uses[word], word)}
-            yield from (f"{PAGE}: {crate}: {name} cites {word}, which is not found" for word in sorted(lost))
-    for it in {(it.path, it.name): it for _, _, _, whole, _ in sections() for it in whole if it.path.endswith(".antt")}.values():
+    """What a contract or a definition of the pages takes from a crate and the pages do not find, and what no page has."""
+    for crate, name in dict.fromkeys(call for page in PAGES for call in page.calls):
+        call = parts.function(crate, name)
+        lost = {word for word in WORD.findall(call.contract) if is_ours(call.uses.get(word, "")) and not defined(call.uses[word], word)}
+        yield from (f"{PAGE}: {crate}: {name} cites {word}, which is not found" for word in sorted(lost))
+    there = {it.title: it for part in layers() for it in part.whole}
+    for it in (it for it in there.values() if it.path.endswith(".antt")):
         names = read(it.path).names
         lost = {word for word in WORD.findall(it.text) if is_ours(names.get(word, ("",))[0]) and not in_file(it.path, word)}
         yield from (f"{PAGE}: {it.title} uses {word}, which is not found" for word in sorted(lost))
+    yield from (f"tools/headline.py: no page has {it}" for it in sorted({*OPEN, *LAWS} - {*there}))
 
 
 def lines_of(definitions):
-    return sum(it.text.count("\n") + 1 for it in definitions)
+    return sum(displayed(it).count("\n") + 1 for it in definitions)
 
 
-def shown(it):
-    kind = "rust" if it.path.endswith(".rt") else ""
-    return f"[`{it.title}`](../{it.path}#L{it.line})\n\n```{kind}\n{it.text}\n```\n"
+class Layer(NamedTuple):
+    """A page with all definitions on which its contracts rest, those of them that no page above has, and those that it leaves open."""
+
+    page: Page
+    whole: list
+    new: list
+    left_open: set
+
+    def text(self, it):
+        return displayed(it, it.title in self.left_open)
+
+    def lines(self, definitions):
+        return sum(self.text(it).count("\n") + 1 for it in definitions)
+
+    def sources(self):
+        """The contracts and definitions that the page prints."""
+        return "\n\n".join([*(contract_of(*call)[0] for call in self.page.calls), *map(self.text, self.new)])
+
+    def checksum(self):
+        return hashlib.sha256(self.sources().encode()).hexdigest()[:16]
 
 
-def sections():
-    """Of each section its title, its sentence, its calls, all definitions that they rest on, and those of these that no section above has."""
-    above = set()
-    for title, sentence, calls in SECTIONS:
-        whole = ordered([it for call in calls for it in cited(*call)])
-        new = [it for it in whole if (it.path, it.name) not in above]
-        above |= {(it.path, it.name) for it in new}
-        yield title, sentence, ", ".join(f"`{crate}`: `{name}`" for crate, name in calls), whole, new
+@functools.cache
+def layers():
+    """The pages in their order."""
+    above, found = set(), []
+    for page in PAGES:
+        left_open = {it for it, home in OPEN.items() if home != page.name}
+        whole = ordered([it for call in page.calls for it in cited(*call)], left_open)
+        new = [it for it in whole if (it.path, it.name) not in above and (it.title not in left_open or page is PAGES[0])]
+        above |= {(it.path, it.name) for it in new if it.title not in left_open}
+        found.append(Layer(page, whole, new, left_open))
+    return found
 
 
-def counts(whole, new):
-    return " | ".join(f"{it:,}" for it in (len(whole), lines_of(whole), len(new), lines_of(new)))
+def contract_of(crate, name):
+    """A call with its contract, and the place at which it is."""
+    call = parts.function(crate, name)
+    text = parts.text_of(call.file)
+    line = text.count("\n", 0, text.index(f"{call.signature}\n{call.contract}")) + 1
+    return textwrap.dedent(f"{call.signature}\n{call.contract}").removesuffix("{").rstrip(), f"{call.file}#L{line}"
+
+
+def table(heads, cells):
+    """A table of the pages."""
+    rows = [[*cells(it), *(f"{its:,}" for its in (len(it.whole), it.lines(it.whole), len(it.new), it.lines(it.new)))] for it in layers()]
+    heads = [*heads, "Definitions", "Lines", "Of these on no page above", "Lines"]
+    return "\n".join(f"| {' | '.join(it)} |" for it in [heads, ["---"] * len(heads), *rows]) + "\n"
 
 
 def how_much():
-    """How much each section of the page has, as a table for other pages."""
-    rows = (f"| [{title}](HEADLINE.md#{title.lower().replace(' ', '-')}) | {counts(whole, new)} |" for title, _, _, whole, new in sections())
-    return "\n".join(["| To believe | Definitions | Lines | Of these in no row above | Lines |", "|---|---|---|---|---|", *rows, ""])
+    """How much each page has, as a table for other pages."""
+    return table(["To believe", "Read"], lambda it: (it.page.title, "[HEADLINE.md](HEADLINE.md)" if it.page is PAGES[0] else f"`tools/headline.py --page {it.page.name}`"))
 
 
-def contract(crate, name):
-    """A call with its contract, as the page shows it."""
-    call = parts.function(crate, name)
-    text = parts.text_of(call.file)
-    at = text.index(f"{call.signature}\n{call.contract}")
-    shown_text = textwrap.dedent(f"{call.signature}\n{call.contract}").removesuffix("{").rstrip()
-    return f"[`{crate}`: `{name}`](../{call.file}#L{text.count(chr(10), 0, at) + 1})\n\n```rust\n{shown_text}\n```\n"
+def body(it, top):
+    """The contracts and the definitions of a page, with links from the folder that is so far below the top."""
+    contracts = [f"[`{crate}`: `{name}`]({top}{place})\n\n```rust\n{text}\n```\n" for crate, name in it.page.calls for text, place in [contract_of(crate, name)]]
+    shown = [f"[`{its.title}`]({top}{its.path}#L{its.line})\n\n```{'rust' if its.path.endswith('.rt') else ''}\n{it.text(its)}\n```\n" for its in it.new]
+    return "\n".join([f"{it.page.sentence} The contracts:\n", *contracts, "The definitions that they cite, and that no page above has:\n", *shown]).rstrip("\n") + "\n"
+
+
+def printed(it):
+    """A page that is made when it is asked for."""
+    return "\n".join([f"# {it.page.title}\n", f"The checksum of this page is {it.checksum()}; [HEADLINE.md]({PAGE}) has the same. {HOW}", body(it, "")])
 
 
 def made():
-    """The text of the page."""
-    rows, texts = [], []
-    for title, sentence, named, whole, new in sections():
-        rows.append(f"| [{title}](#{title.lower().replace(' ', '-')}) | {named} | {counts(whole, new)} |")
-        contracts = [contract(*call) for call in next(calls for its, _, calls in SECTIONS if its == title)]
-        texts.append("\n".join([f"## {title}\n", f"{sentence} The contracts:\n", *contracts, "The definitions that they cite, and that no section above has:\n", *map(shown, new)]))
-    head = "| Promise | Calls | Definitions | Lines | Of these in no row above | Lines |\n|---|---|---|---|---|---|"
-    return "\n".join([TITLE, head, *rows, "", *texts]).rstrip("\n") + "\n"
+    """The text of docs/HEADLINE.md."""
+    first = layers()[0]
+    count = f"{len(first.new)} definitions of {first.lines(first.new):,} lines, about an hour of reading"
+    rows = table(["Page", "Contracts of", "Checksum"], lambda it: (f"`{it.page.name}`", ", ".join(f"`{crate}`: `{name}`" for crate, name in it.page.calls), f"`{it.checksum()}`"))
+    return "\n".join([TITLE, rows, HOW, f"## {first.page.title}\n", f"{count[0].upper()}{count[1:]}.\n", body(first, "../")])
+
+
+def faults(there):
+    """How docs/HEADLINE.md differs from what would be made now, and what the pages do not find."""
+    kept = dict(re.findall(r"^\| `(\w+)` \| .*? \| `(\w+)` \|", there, re.M))
+    changed = [it.page.name for it in layers() if kept.get(it.page.name) != it.checksum()]
+    if there != made():
+        yield f"{PAGE}: it would be made otherwise now{', and so would the pages ' + ', '.join(changed) if changed else ''} (--mend)"
+    yield from missing()
+
+
+def main():
+    words = argparse.ArgumentParser(description=__doc__, formatter_class=argparse.RawDescriptionHelpFormatter)
+    words.add_argument("--page", choices=[it.name for it in PAGES])
+    name = words.parse_args().page
+    print(next(printed(it) for it in layers() if it.page.name == name) if name else how_much(), end="")
+
+
+if __name__ == "__main__":
+    sys.exit(main())

@@ -205,15 +205,30 @@ def sends(request, item):
     return request in item.words and bool(re.search(rf'^> {request}\b|"op":"{request}"', item.text, re.M))
 
 
-def tests_that(holds, row):
-    """The tests that use an item of which this holds, and those that the row names."""
-    having = {id(it) for crate in parts.crates() if crate.endswith("_tests") for it in parts.test_items(crate) if holds(it)}
-    return [it for it, items in parts.tests() if names_of(it) & set(row.has("tests")) or any(id(item) in having for item in items)]
+@functools.cache
+def users():
+    """The items of the crates of tests under each of their words, and the places of the tests that use an item by its id."""
+    by_word, by_item = {}, {}
+    for item in (it for crate in parts.crates() if crate.endswith("_tests") for it in parts.test_items(crate)):
+        for word in item.words:
+            by_word.setdefault(word, []).append(item)
+    for at, (_, items) in enumerate(parts.tests()):
+        for item in items:
+            by_item.setdefault(id(item), []).append(at)
+    return by_word, by_item
+
+
+def tests_that(holds, words, row):
+    """The tests that use an item with one of these words of which this holds, and those that the row names."""
+    by_word, by_item = users()
+    having = {at for word in words for item in by_word.get(word, []) if holds(item) for at in by_item.get(id(item), [])}
+    named = set(row.has("tests"))
+    return [it for at, (it, _) in enumerate(parts.tests()) if at in having or named and names_of(it) & named]
 
 
 def tests_of(call, row):
-    through = [parts.all_functions()[it] for it in row.has("through")]
-    return tests_that(lambda item: any(makes(it, item) for it in (call, *through)) or any(sends(it, item) for it in row.has("lines")), row)
+    calls, requests = [call, *(parts.all_functions()[it] for it in row.has("through"))], row.has("lines")
+    return tests_that(lambda item: any(makes(it, item) for it in calls) or any(sends(it, item) for it in requests), [*(it.name for it in calls), *requests], row)
 
 
 @functools.cache
@@ -318,7 +333,7 @@ def refused_row(row, gaps):
     enum, _, variant = row.names[0].partition(".")
     has = names_variant(enum, variant)
     edits = [it for it in parts.edits() if has.search(it.text) or f"{it.crate}: {it.name}" in row.has("edits")]
-    tests = tests_that(lambda item: variant in item.words and has.search(item.text), row)
+    tests = tests_that(lambda item: has.search(item.text), [variant], row)
     places = [place_of(it) for it in row.has("defined")] or parts.defining(enum, variant)
     for gap, found in zip((*GAPS[1:3], GAPS[4]), (edits, tests, places)):
         gaps[gap] += [] if found else row.names
