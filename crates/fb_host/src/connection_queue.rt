@@ -5,10 +5,12 @@ use crate::connection::Connection;
 use std::alloc::Global;
 use std::sync::{Condvar, Mutex, Wait};
 
-/// Connections for threads that wait for them. One is taken in only if a thread is free, so it never holds more than there are threads.
+/// Connections for threads that wait for them. One is taken in only if a thread is free, so it never holds more than there are threads. `freed` wakes who
+/// waits for a free thread.
 pub(crate) struct ConnectionQueue {
     state: Mutex<QueueState>,
     changed: Condvar,
+    freed: Condvar,
 }
 
 impl Drop for ConnectionQueue {
@@ -16,6 +18,7 @@ impl Drop for ConnectionQueue {
         let Self {
             state: _,
             changed: _,
+            freed: _,
         } = self;
     }
 }
@@ -62,6 +65,7 @@ impl ConnectionQueue {
         ConnectionQueue {
             state: Mutex::new(waiting),
             changed: Condvar::new(),
+            freed: Condvar::new(),
         }
     }
 
@@ -82,6 +86,13 @@ impl ConnectionQueue {
     /// A thread that had a connection is free again.
     pub(crate) fn add_idle<R: Wait>(&self, rt: &R) {
         self.state.lock(rt).add_idle();
+        self.freed.notify_all();
+    }
+
+    /// Waits until a thread is free.
+    pub(crate) fn wait_idle<R: Wait>(&self, rt: &R) {
+        let state = self.state.lock(rt);
+        drop(self.freed.wait_while(rt, state, |state| state.idle == 0));
     }
 
     /// Waits for a connection. None if no further one comes.

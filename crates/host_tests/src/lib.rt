@@ -4,6 +4,8 @@
 #[cfg(test)]
 mod admission;
 #[cfg(test)]
+mod crowds;
+#[cfg(test)]
 mod epochs;
 #[cfg(test)]
 mod peers;
