@@ -16,10 +16,13 @@ from bench61499.lsp.documents import Diagnostic, path_of
 from bench61499.lsp.fixes import Fix, fixes
 from bench61499.lsp.folding import folding_ranges
 from bench61499.lsp.highlight import TOKEN_MODIFIERS, TOKEN_TYPES, semantic_tokens
+from bench61499.lsp.hints import hints
 from bench61499.lsp.hover import described, type_of
 from bench61499.lsp.lenses import lenses
-from bench61499.lsp.navigation import Found, definitions, highlights, name_at, outline, references, units_named
+from bench61499.lsp.mapping import mappings
+from bench61499.lsp.navigation import Found, definitions, highlights, name_at, outline, references, symbols_named
 from bench61499.lsp.rename import CantRename, check_target, renamed
+from bench61499.lsp.selection import selection_ranges
 from bench61499.lsp.signature import signature
 from bench61499.lsp.snippets import SNIPPETS, label
 
@@ -49,6 +52,8 @@ CAPABILITIES = {
     },
     "foldingRangeProvider": True,
     "callHierarchyProvider": True,
+    "selectionRangeProvider": True,
+    "inlayHintProvider": True,
     "codeLensProvider": {"resolveProvider": False},
     "documentFormattingProvider": True,
     "documentRangeFormattingProvider": True,
@@ -76,7 +81,8 @@ class Answers:
         choices: Choices,
     ):
         self._plant, self._catch_up, self._shown, self._lacks, self._choices = plant, catch_up, shown, lacks, choices
-        self.has_snippets = self.lacks_lenses = False
+        self._lacking: set[str] = set()
+        self.has_snippets = False
 
     def answer(self, method: str, params: Any) -> Any:
         """Raises `CantAnswer`, `CantRename`, and `KeyError`, `TypeError` and the like where the parameters make no sense.
@@ -101,7 +107,7 @@ class Answers:
 
     def _answer(self, method: str, params: Any) -> Any:
         if method == "workspace/symbol":
-            return units_named(self._plant, params["query"])
+            return symbols_named(self._plant, params["query"])
         if method == "workspace/executeCommand":
             return self._do(params["command"], *params["arguments"])
         path = path_of(params["textDocument"]["uri"])
@@ -179,7 +185,8 @@ class Answers:
         if only and "quickfix" not in only:
             return []
         mended = [self._action(fix, it) for it in params["context"]["diagnostics"] for fix in self._fixes(text, it)]
-        return [*mended, *self._choices.actions(text.file, self._shown(text.file))]
+        mapped = [self._action(fix) for fix in mappings(self._plant, text, *self._span(text, params))] if self._plant.is_read() else []
+        return [*mended, *mapped, *self._choices.actions(text.file, self._shown(text.file))]
 
     def _do(self, command: str, uri: str) -> None:
         """Does what a code action names."""
@@ -189,24 +196,33 @@ class Answers:
     def _fixes(self, text: Text, shown: Diagnostic) -> Iterable[Fix]:
         return fixes(self._plant, text, str(shown.get("code")), *self._span(text, shown))
 
-    def _action(self, fix: Fix, shown: Diagnostic) -> Any:
+    def _action(self, fix: Fix, shown: Diagnostic | None = None) -> Any:
         changes = {fix.text.uri: [{"range": fix.text.range(fix.start, fix.end), "newText": fix.new}]}
-        return {"title": fix.title, "kind": "quickfix", "diagnostics": [shown], "edit": {"changes": changes}}
+        return {"title": fix.title, "kind": "quickfix", **({"diagnostics": [shown]} if shown else {}), "edit": {"changes": changes}}
 
     def _tokens(self, text: Text, params: Any) -> Any:
         start, end = self._span(text, params) if "range" in params else (0, len(text.places.encoded))
         return {"data": semantic_tokens(text, start, end)}
 
     def _lenses(self, text: Text, params: Any) -> Any:
-        """None as long as texts are to be read: then the editor is told to ask again."""
-        self.lacks_lenses |= not self._plant.is_read()
-        return lenses(self._plant, text) if self._plant.is_read() else []
+        return lenses(self._plant, text) if self._is_read("codeLens") else []
 
-    def lenses_are_due(self) -> bool:
-        """Whether lenses were asked for too early, and can be given now."""
-        is_due = self.lacks_lenses and self._plant.is_read()
-        self.lacks_lenses &= not is_due
-        return is_due
+    def _hints(self, text: Text, params: Any) -> Any:
+        return hints(self._plant, text, *self._span(text, params)) if self._is_read("inlayHint") else []
+
+    def _is_read(self, what: str) -> bool:
+        """Whether all texts are read; else the editor is told to ask again once they are."""
+        if not self._plant.is_read():
+            self._lacking.add(what)
+        return self._plant.is_read()
+
+    def due(self) -> set[str]:
+        """What was asked for too early, and can be given now."""
+        due, self._lacking = (self._lacking, set()) if self._plant.is_read() else (set(), self._lacking)
+        return due
+
+    def _selection(self, text: Text, params: Any) -> Any:
+        return selection_ranges(text, [self._place(text, it) for it in params["positions"]])
 
     def _folding(self, text: Text, params: Any) -> Any:
         return folding_ranges(text)
@@ -239,12 +255,14 @@ class Answers:
         "textDocument/semanticTokens/range": _tokens,
         "textDocument/foldingRange": _folding,
         "textDocument/codeLens": _lenses,
+        "textDocument/inlayHint": _hints,
+        "textDocument/selectionRange": _selection,
         "textDocument/formatting": _format,
         "textDocument/rangeFormatting": _format,
     }
     _OF_ONE_TEXT = frozenset(
         f"textDocument/{it}"
-        for it in ("documentSymbol", "semanticTokens/full", "semanticTokens/range", "foldingRange", "formatting", "rangeFormatting")
+        for it in ("documentSymbol", "semanticTokens/full", "semanticTokens/range", "foldingRange", "selectionRange", "formatting", "rangeFormatting")
     )
     """What is answered by the text alone, so that it needs no wait for the texts of a whole folder."""
     _ALL_OR_NOTHING = frozenset(["textDocument/prepareRename", "textDocument/rename"])

@@ -17,7 +17,7 @@ class Asking:
     """Requests to an editor. `capabilities` are what it has said that it can do."""
 
     def __init__(self, send: Callable[[Message], None]):
-        self._send = send
+        self.send = send
         self.capabilities: Any = None
         self._number = 0
         self._waiting: dict[Any, Then] = {}
@@ -33,7 +33,7 @@ class Asking:
         self._number += 1
         number = f"bench61499-{self._number}"
         self._waiting[number] = then
-        self._send({"id": number, "method": method, "params": params})
+        self.send({"id": number, "method": method, "params": params})
 
     def answered(self, message: Message) -> None:
         """Takes an answer; those to what was not asked here are passed over."""
@@ -45,7 +45,7 @@ class Asking:
 
     def tell(self, severity: int, words: str) -> None:
         """Shows words to the user."""
-        self._send(tell(severity, words))
+        self.send(tell(severity, words))
 
     def choose(self, words: str, choices: list[str], then: Callable[[str | None], None]) -> None:
         """Has the user choose; None is for no choice."""

@@ -169,6 +169,10 @@ class Checking:
         self._talk.open()
         self._sources.refresh()
 
+    def is_read(self) -> bool:
+        """Whether all files are taken in, and all texts read."""
+        return self._sources.is_read()
+
     def catch_up(self, end: float) -> bool:
         """Takes in the files that have changed, until a time and some in any case; tells whether that is all of them."""
         return self._sources.catch_up(end)

@@ -191,11 +191,11 @@ def added(text: Text, section: str, item: str, application: str = "") -> tuple[i
         head = [it for it in text.unit.declared if it.section == "APPLICATION" and it.key.name == name][int(number or 1) - 1]
     for begin, end in Nesting(its).pairs:
         if its[begin].upper == section and head.begin <= its[begin].start < head.last:
-            return _at_end(text, its[end].start, item)
+            return at_end(text, its[end].start, item)
     return _behind_head(text, head.begin, head.end, f"{section} {item} {ENDS[section]}")
 
 
-def _at_end(text: Text, place: int, item: str) -> tuple[int, int, str]:
+def at_end(text: Text, place: int, item: str) -> tuple[int, int, str]:
     """Before the word that ends a section: in a line of its own where that word has one."""
     indent = _indent(text, place)
     if indent is None:

@@ -47,3 +47,9 @@ def home_of(path: tuple[str, ...], homes: Mapping[str, str]) -> str | None:
     """The resource of the mapping with the longest path that leads to an instance."""
     found = (".".join(path[:length]) for length in range(len(path), 0, -1))
     return next((homes[it] for it in found if it in homes), None)
+
+
+def homes_below(path: tuple[str, ...], homes: Mapping[str, str]) -> list[str]:
+    """The resource of an instance; of a subapplication whose parts have mappings of their own, all of theirs."""
+    whole, front = home_of(path, homes), ".".join(path) + "."
+    return [*([whole] if whole else []), *(home for it, home in homes.items() if it.startswith(front))]

@@ -54,6 +54,10 @@ SYMBOL_KINDS = {
 }
 
 
+_LEAST_LETTERS, _MOST_NAMES = 2, 500
+"""Letters of a query for which other names than those of units are looked for, and so many of these at most."""
+
+
 @dataclass(frozen=True)
 class Found:
     """The name at a place: what it stands for, its span, and its declaration where it is one."""
@@ -129,10 +133,26 @@ def _symbol(text: Text, it: Declaration) -> dict[str, Any]:
     }
 
 
-def units_named(plant: Plant, query: str) -> Written:
-    """The units of the folder whose names have the letters of the query in their order; those that begin with it first."""
+def symbols_named(plant: Plant, query: str) -> Written:
+    """The units of the folder whose names have the letters of the query in their order, those that begin with it first; then ports, instances and other
+    names of units with all of the query, those that are it first."""
     wanted = query.upper()
     letters = re.compile(".*".join(map(re.escape, wanted)))
     found = [it for it in plant.texts() if it.head and letters.search(it.name)]
     found.sort(key=lambda it: (not it.name.startswith(wanted), wanted not in it.name, it.name))
-    return joined(f'{{"name":"{it.name}","kind":{SYMBOL_KINDS[it.kind]:d},"location":{it.head}}}' for it in found)
+    units = [f'{{"name":"{it.name}","kind":{SYMBOL_KINDS[it.kind]:d},"location":{it.head}}}' for it in found]
+    return joined([*units, *(_written_symbol(text, it) for text, it in _names(plant, wanted))])
+
+
+def _names(plant: Plant, wanted: str) -> list[tuple[Text, Declaration]]:
+    """What units declare with these letters in its name."""
+    if len(wanted) < _LEAST_LETTERS:
+        return []
+    found = [(text, it) for text in plant.texts_with(wanted) for it in text.unit.declared if it.key.space != TYPE and wanted in it.key.name]
+    found.sort(key=lambda it: (it[1].key.name != wanted, not it[1].key.name.startswith(wanted), it[1].key.name, it[0].name))
+    return found[:_MOST_NAMES]
+
+
+def _written_symbol(text: Text, it: Declaration) -> str:
+    (place,) = text.written_locations([it])
+    return f'{{"name":"{it.words}","kind":{SYMBOL_KINDS[it.section]:d},"containerName":"{it.key.owner}","location":{place}}}'

@@ -11,6 +11,7 @@ from bench61499.lsp import calls
 from bench61499.lsp.answers import CAPABILITIES, Answers, CantAnswer
 from bench61499.lsp.checking import Checking
 from bench61499.lsp.documents import path_of
+from bench61499.lsp.progress import Reading
 from bench61499.lsp.rename import CantRename
 from bench61499.lsp.rpc import (
     ERROR, INVALID_PARAMS, INVALID_REQUEST, METHOD_NOT_FOUND, NOT_INITIALIZED, REQUEST_CANCELLED, REQUEST_FAILED, Message, failure, tell,
@@ -33,6 +34,7 @@ class Server:
         self._checking = Checking(open_workbench, shared, send, wake)
         self._answers = Answers(self._checking.plant, self._checking.catch_up, self._checking.shown, self._checking.lacks, self._checking.choices)
         self._calls = calls.Calls(lambda: self._checking.plant, self._checking.values, lambda: self._checking.trouble, send)
+        self._reading = Reading(self._checking.asking)
         self._initialized = self._shut_down = self._can_register = False
         self._waiting: set[Any] = set()
         self._cancelled: set[Any] = set()
@@ -47,8 +49,10 @@ class Server:
         self._checking.step()
         self._calls.step()
         asking = self._checking.asking
-        if self._answers.lenses_are_due() and asking.can("workspace", "codeLens", "refreshSupport"):
-            asking.ask("workspace/codeLens/refresh", None, lambda *_: None)
+        for what in sorted(self._answers.due()):
+            if asking.can("workspace", what, "refreshSupport"):
+                asking.ask(f"workspace/{what}/refresh", None, lambda *_: None)
+        self._reading.step(*self._checking.plant.counts(), self._checking.is_read())
 
     def close(self) -> None:
         self._checking.close()
