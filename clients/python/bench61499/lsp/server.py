@@ -10,6 +10,7 @@ from bench61499.language.positions import edited
 from bench61499.lsp.answers import CAPABILITIES, Answers, CantAnswer
 from bench61499.lsp.checking import Checking
 from bench61499.lsp.documents import path_of
+from bench61499.lsp.edits import file_operations
 from bench61499.lsp.rename import CantRename
 from bench61499.lsp.rpc import (
     ERROR, INVALID_PARAMS, INVALID_REQUEST, METHOD_NOT_FOUND, NOT_INITIALIZED, REQUEST_CANCELLED, REQUEST_FAILED, Message, failure, tell,
@@ -122,6 +123,7 @@ class Server:
         if asking.can("textDocument", "publishDiagnostics", "relatedInformation"):
             self._checking.relate()
         self._answers.has_snippets = asking.can("textDocument", "completion", "completionItem", "snippetSupport")
+        self._answers.file_operations = file_operations(asking.capabilities)
         self._checking.watch([path for path in paths if os.path.isdir(path)])
         self._initialized = True
         return {"result": {"capabilities": CAPABILITIES, "serverInfo": {"name": "bench61499"}}}
