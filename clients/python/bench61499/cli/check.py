@@ -21,6 +21,8 @@ instance by which a type contains itself or leads to such a type, BLOCKED at the
 A unit that only its own faults block gets no further line"""
 REPLACE = """with --connect: put the files first that differ; they replace the server's texts, even what a colleague has not saved yet"""
 
+STRICT = """warnings of this client give status 1 too: types of values that are nowhere, and names in algorithms IN ST_FULL, which the workbench does not read"""
+
 
 @dataclass
 class Checked:
@@ -59,6 +61,7 @@ def main() -> int:
     except (Misuse, WorkbenchError) as error:
         return fail("check", error)
     found = checked.found()
+    found.is_strict = options.strict
     for line in output(found, options, checked.replaced):
         print(line)
     is_told = options.format == "human" and not options.quiet
@@ -72,6 +75,7 @@ def print_project(options: argparse.Namespace) -> int:
     from bench61499.cli.check_xml import check_project
 
     found, failed = check_project(options)
+    found.is_strict = options.strict
     for line in output(found, options, 0):
         print(line)
     return 2 if failed else int(found.is_faulty)
@@ -82,7 +86,7 @@ def read_options() -> argparse.Namespace:
         prog="check",
         description="Checks texts of IEC 61499 units. Each *.fb file is one unit, named by its declaration. With --connect it compares the files with the texts of the server, "
         "checks those that are the same, names the others, and changes nothing; without PATH it checks all units of the server, as files NAME.fb.",
-        epilog="The status is 0 if there are no faults; 1 if there are; 2 if a path is absent or unreadable, there is no *.fb file or more than 16,384, two files "
+        epilog="The status is 0 if there are no faults; 1 if there are, or warnings with --strict; 2 if a path is absent or unreadable, there is no *.fb file or more than 16,384, two files "
         "declare one unit, a file has more than 65,536 bytes or is not UTF-8, the server lacks a unit or has another text of it, somebody changed one meanwhile, "
         "no workbench answers, a result does not come within the patience, or the output can't be written.",
     )
@@ -95,6 +99,7 @@ def read_options() -> argparse.Namespace:
     reader.add_argument("--replace", action="store_true", help=REPLACE)
     reader.add_argument("--mirror", action="store_true", help="with --replace and folders: remove the server's units that no file has")
     reader.add_argument("--list-unchecked", action="store_true", help="print the algorithms that the workbench does not read, such as those IN ST_FULL, as notes; other forms than human always have them")
+    reader.add_argument("--strict", action="store_true", help=STRICT)
     form = reader.add_mutually_exclusive_group()
     form.add_argument("--format", choices=["human", *MACHINE_FORMATS], default="human", help="human (the default), or a form for programs")
     form.add_argument("--json", dest="format", action="store_const", const="json", help="the same as --format json")

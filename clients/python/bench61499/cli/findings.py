@@ -10,8 +10,6 @@ from bench61499 import Deploy, Fault, Key, Net, NoSuchKey, Places, Session, Ther
 from bench61499.cli.comparing import Difference, Judged
 from bench61499.language.copies import Originals
 from bench61499.language.explain import Explainer, Names
-from bench61499.language.missing_types import CODE as NO_SUCH_TYPE
-from bench61499.language.missing_types import missing_types, near_type
 from bench61499.language.plans import Reason, Reasons
 from bench61499.language.skipped import CODE, Head, skipped
 from bench61499.language.spelling import CODE as SPELLING
@@ -20,6 +18,7 @@ from bench61499.language.texts import Texts
 from bench61499.language.tokens import declared_kind
 from bench61499.language.unchecked import notes
 from bench61499.language.units import Unit
+from bench61499.language.warned import warned
 
 Level = Literal["error", "warning", "note"]
 KEYS: dict[str, Literal["net", "deploy"]] = {"SUBAPPLICATION": "net", "SYSTEM": "deploy"}
@@ -76,12 +75,14 @@ class Found:
     notes: list[Finding] = field(default_factory=list)
     reasons: list[Finding] = field(default_factory=list)
     warnings: list[Finding] = field(default_factory=list)
-    """Types of values that are nowhere, which are no faults by the language."""
+    """What this client warns of, which is no fault by the language: types of values that are nowhere, and names in algorithms that the workbench skips."""
     skipped: list[Finding] = field(default_factory=list)
     """The algorithms that the workbench does not read."""
     answers: Answers | None = None
     judged: Judged = Judged.FILES
     differences: Sequence[Difference] = ()
+    is_strict: bool = False
+    """Whether warnings count."""
 
     @property
     def unchecked(self) -> list[str]:
@@ -90,8 +91,8 @@ class Found:
 
     @property
     def is_faulty(self) -> bool:
-        """Whether there is anything that the status tells; notes are nothing of that kind."""
-        return bool(self.faults or self.reasons)
+        """Whether there is anything that the status tells; notes are nothing of that kind, and warnings only if they count."""
+        return bool(self.faults or self.reasons or self.is_strict and self.warnings)
 
     def all(self) -> list[Finding]:
         """By file: faults, then notes, warnings and reasons."""
@@ -123,17 +124,16 @@ def find(units: Sequence[Unit], faults: Mapping[str, tuple[Fault, ...]], answers
         if answers and (answer := answers.of(unit.name)):
             told = sorted(reasons.of(unit.name, unit.text, answer), key=lambda it: it.start)
             found.reasons += (_reason(by_name[it.unit], it) for it in told if it.unit in by_name)
-    found.warnings = list(_warnings(units, names, texts))
+    found.warnings = list(_warnings(units, names, texts, broken.__contains__))
     found.notes += _spellings(units, texts)
     found.skipped = [_skipped(unit, it) for unit in units for it in skipped(unit.text)]
     return _of_originals(found)
 
 
-def _warnings(units: Sequence[Unit], names: Names, texts: Texts) -> Iterator[Finding]:
-    near = near_type(texts.units("TYPE"))
+def _warnings(units: Sequence[Unit], names: Names, texts: Texts, is_broken: Callable[[str], bool]) -> Iterator[Finding]:
     for unit in units:
-        for it in missing_types(unit.text, names, near):
-            yield Finding(unit, NO_SUCH_TYPE, it.start, it.end, it.explanation, Places(unit.text), (it.start, it.end), "warning")
+        for it in warned(unit.text, unit.name, names, texts, is_broken):
+            yield Finding(unit, it.code, it.start, it.end, it.explanation, Places(unit.text), (it.start, it.end), "warning")
 
 
 def _spellings(units: Sequence[Unit], texts: Texts) -> Iterator[Finding]:

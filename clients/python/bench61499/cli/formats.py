@@ -15,9 +15,7 @@ from bench61499.cli.comparing import Difference, How, Judged
 from bench61499.cli.findings import Answers, Finding, Found
 from bench61499.cli.show import excerpt
 from bench61499.cli.version import VERSION
-from bench61499.language import codes, plans
-from bench61499.language.missing_types import CODE as NO_SUCH_TYPE
-from bench61499.language.missing_types import OF_CLIENT
+from bench61499.language import codes, plans, warned
 from bench61499.language.names import shown
 from bench61499.language.skipped import CODE
 from bench61499.language.spelling import CODE as SPELLING
@@ -35,7 +33,7 @@ Json = dict[str, object]
 def told(it: Finding) -> str:
     """The words for a finding; a note says that it is one."""
     if it.level == "warning":
-        return f"{it.explanation} {OF_CLIENT}"
+        return f"{it.explanation} {warned.whose(it.code)}"
     return it.explanation if it.level == "error" or it.code in (CODE, SPELLING) else f"{it.explanation} {NOT_CHECKED}"
 
 
@@ -163,13 +161,13 @@ def _escaped(words: str, more: str = "") -> str:
 def as_sarif(found: Found) -> str:
     own = {CODE: "an algorithm in a language that the workbench does not read"} if found.skipped else {}
     own |= {SPELLING: "a name is spelled in other capitals than its declaration"} if any(it.code == SPELLING for it in found.notes) else {}
-    own |= {NO_SUCH_TYPE: "the type of a value is nowhere"} if found.warnings else {}
+    own |= {code: warned.CODES[code] for code in sorted({it.code for it in found.warnings})}
     rules = {**codes.CODES, **plans.CODES, **own}
     places = {code: at for at, code in enumerate(rules)}
     driver = {
         "name": "bench61499",
         "semanticVersion": VERSION,
-        "rules": [{"id": code, "shortDescription": {"text": words}, "defaultConfiguration": {"level": {CODE: "note", SPELLING: "note", NO_SUCH_TYPE: "warning"}.get(code, "error")}} for code, words in rules.items()],
+        "rules": [{"id": code, "shortDescription": {"text": words}, "defaultConfiguration": {"level": _level(code)}} for code, words in rules.items()],
     }
     run = {
         "tool": {"driver": driver},
@@ -178,6 +176,10 @@ def as_sarif(found: Found) -> str:
         **({} if found.judged == Judged.FILES else {"invocations": [_invocation(found)], "properties": {"judged": found.judged}}),
     }
     return json.dumps({"$schema": _SCHEMA, "version": "2.1.0", "runs": [run]}, indent=2)
+
+
+def _level(code: str) -> str:
+    return "note" if code in (CODE, SPELLING) else "warning" if code in warned.CODES else "error"
 
 
 def _result(it: Finding, rules: dict[str, int]) -> Json:

@@ -1,14 +1,14 @@
 """The work of `exchange import`: files of XML become texts of units in a folder."""
 from __future__ import annotations
 
-from collections.abc import Callable, Iterator
+from collections.abc import Callable, Iterable, Iterator
 from pathlib import Path
 from typing import NamedTuple
 
 from bench61499 import TEXT_LIMIT
 from bench61499.exchange import names
 from bench61499.exchange.context import Context, Library
-from bench61499.exchange.exchanged import Unit, record, written
+from bench61499.exchange.exchanged import FULL, Unit, record, written
 from bench61499.exchange.folders import Target, Unwritable
 from bench61499.exchange.from_text import read_or_none
 from bench61499.exchange.from_xml import check_root, units
@@ -17,7 +17,7 @@ from bench61499.exchange.lowering import Lowering, made_from
 from bench61499.exchange.report import LEFT_OUT, NOTE, Report, Run, counted
 from bench61499.exchange.to_xml import file_name
 from bench61499.exchange.widening import conversions
-from bench61499.exchange.xmlfile import TOGETHER_LIMIT, Document, Unreadable, find_xml, read_xml
+from bench61499.exchange.xmlfile import TOGETHER_LIMIT, Document, Element, Unreadable, find_xml, read_xml
 from bench61499.language.declarations import type_of_data
 from bench61499.language.tokens import tokens
 
@@ -92,6 +92,7 @@ class Project:
             of_project = next((it for it in made if it.unit.kind == "SYSTEM"), made[0])
             of_project.unit.records.append(record("Missing", {"things": f"{without}"}))
         self._record_types(made, {names.spelled(it.root.get("Name")).upper() for it in documents if it.root.name == "DataType"} - {it.unit.name.upper() for it in made})
+        self._record_names(made, names_without_unit([it.root for it in documents]))
         types = {it.unit.name.upper(): it.unit for it in reversed(made)}
         for it in made:
             for conversion in conversions(it.unit, types):
@@ -103,6 +104,12 @@ class Project:
         for it in made if without_unit else ():
             used = {type_of_data(each.type) for its in it.unit.variables.values() for each in its}
             it.unit.records += [record("Elsewhere", {"type": name}) for name in sorted(used & without_unit)]
+
+    def _record_names(self, made: list[Made], known: frozenset[str]) -> None:
+        """Notes behind units which names in algorithms that are kept unchecked are those of functions, constants and values of the project."""
+        for it in made if known else ():
+            used = {token.upper for each in it.unit.algorithms if each.language == FULL for token in tokens(each.body) if token.kind == "word"}
+            it.unit.records += [record("Elsewhere", {"name": name}) for name in sorted(used & known)]
 
     def _record(self, it: Made, document: Document) -> None:
         """Notes behind a unit where its file was in the project, and how many things of it are lost."""
@@ -160,6 +167,14 @@ class Import(Run):
 
     def outcome(self) -> str:
         return f"{counted(len(self.reports), 'file')}, {counted(self._written, 'unit')} in {self._target.folder}"
+
+
+def names_without_unit(roots: Iterable[Element]) -> frozenset[str]:
+    """The names of functions, of global constants and of values of enumerations, in upper case."""
+    functions = {root.get("Name") for root in roots if root.name == "FunctionType"}
+    groups = [group for root in roots if root.name in ("GlobalConstants", "DataType") for group in root.children]
+    values = {it.get("Name") for group in groups if group.name in ("GlobalConstants", "EnumeratedType") for it in group.children}
+    return frozenset(it.upper() for it in functions | values if it)
 
 
 def place_in(file: Path, paths: list[Path]) -> str:

@@ -7,9 +7,14 @@ from dataclasses import dataclass, field
 from functools import cached_property
 from typing import NamedTuple
 
+from bench61499.language.full_body import Body
+
 TYPE, EVENT, VARIABLE, INSTANCE, STATE, ALGORITHM = "type", "event", "variable", "instance", "state", "algorithm"
 APPLICATION, DEVICE, RESOURCE = "application", "device", "resource"
 FIELD = "field"
+LOCAL = "variable of an algorithm"
+LOCALS = "VAR_TEMP"
+"""The section of the variables that an algorithm declares for itself, whatever word begins it."""
 DATA_TYPE = "data type"
 """The space of elementary types alone: another type of data is a unit."""
 SOURCE, DESTINATION = "source", "destination"
@@ -156,6 +161,17 @@ class Connection(NamedTuple):
     destination: tuple[Use, ...]
 
 
+class Doubt(NamedTuple):
+    """A name in an algorithm that the workbench skips, in upper case, of which its text does not tell whose it is: a member behind a point or of a
+    structure, or another one."""
+
+    name: str
+    start: int
+    end: int
+    algorithm: str
+    is_member: bool
+
+
 @dataclass(slots=True)
 class Declaration:
     """A declared name at `start` to `end`, in a declaration from `begin` to `last`.
@@ -186,6 +202,9 @@ class Unit:
     connections: list[Connection] = field(default_factory=list)
     wanted: list[Wanted] = field(default_factory=list)
     words: list[str] = field(default_factory=list)
+    bodies: list[Body] = field(default_factory=list)
+    """The algorithms that the workbench skips and that end."""
+    doubts: list[Doubt] = field(default_factory=list)
 
     @cached_property
     def first(self) -> dict[Key, Declaration]:

@@ -210,6 +210,10 @@ class Plant:
         self._read_those(word)
         return [it for file in self._names if (it := self._texts[file]).has([word])]
 
+    def skipping(self, names: Iterable[str]) -> set[Path]:
+        """The texts that were read, have algorithms that the workbench skips, and use one of these units: what clients tell of them can change."""
+        return {file for name in names for file in self._using.get(name, ()) if self._texts[file].unit.bodies}
+
     def declaring(self, name: str) -> list[Text]:
         """The texts that declare a unit: one, or more where the user has not seen to it yet."""
         return [self._texts[file] for file in sorted(self._declaring.get(name, ()), key=str)]
@@ -240,7 +244,8 @@ class Plant:
 
     def texts_of(self, key: Key) -> list[Text]:
         """The texts that may have a name: that of its unit, those that mention this one, and those with such a name deep in a path."""
-        self._read_those(key.name, *() if key.space in (INSTANCE, FIELD) else [key.unit])
+        name = key.name.rstrip("_") or key.name  # Algorithms may have it as a file did: Type for TYPE_.
+        self._read_those(name, *() if key.space in (INSTANCE, FIELD) else [key.unit])
         files = self._declaring.get(key.unit, set()) | self._using.get(key.unit, set()) | self._walking.get(key.name, set())
         return [self._texts[file] for file in sorted(files, key=str)]
 

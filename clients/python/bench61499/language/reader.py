@@ -12,6 +12,10 @@ from bench61499.language.declarations import (
     FIELD, INSTANCE, INTERFACE, KINDS, LEVELS, PARAMETERS, PARTS, RESOURCE, SOURCE, STATE, STATEMENTS, TYPE, VARIABLE, Connection, Declaration, Key,
     Step, Unit, Use, Walk, Wanted, is_elementary,
 )
+from bench61499.language.full_body import read_body
+from bench61499.language.full_names import find_names
+from bench61499.language.imported import imported
+from bench61499.language.skipped import FULL
 from bench61499.language.tokens import Token, is_name, spelled, tokens
 
 _BOUNDARIES = frozenset([*ENDS, *ENDS.values()])
@@ -68,7 +72,18 @@ class Reader:
         uses = unit.uses = [self._use(wanted, token, keys) for wanted, token in self._used]
         for space, scope, begin, middle, end in self._connected:
             unit.connections.append(Connection(space, scope, tuple(uses[begin:middle]), tuple(uses[middle:end])))
+        if unit.bodies:
+            self._add_bodies()
         return unit
+
+    def _add_bodies(self) -> None:
+        """Adds the names in the algorithms that the workbench skips."""
+        unit, found = self._unit, find_names(self._unit, imported(self._encoded.decode()))
+        unit.declared = sorted([*unit.declared, *found.declared], key=lambda it: it.start)
+        for it in found.declared:
+            unit.first.setdefault(it.key, it)
+        unit.uses = sorted([*unit.uses, *found.uses], key=lambda it: it.start)
+        unit.doubts = found.doubts
 
     # Tokens
 
@@ -398,13 +413,21 @@ class Reader:
             language = self._name(None)
             made.type = language.words if language else ""
         if made and made.type.upper() not in ("", "ST"):
-            self._over("END_ALGORITHM")
+            self._foreign(made)
         elif made:
             self._skip(":")
             self._references("")
         self._end_of_skipped()
         if made:
             made.last = self._tokens[self._at - 1].end
+
+    def _foreign(self, made: Declaration) -> None:
+        """An algorithm that the workbench skips; one without its end may be more than that."""
+        begin = self._tokens[self._at - 1].end
+        self._over(ENDS["ALGORITHM"])
+        if not self._is_over() and self._upper[self._at] == ENDS["ALGORITHM"]:
+            is_full = made.type.upper() == FULL
+            self._unit.bodies.append(read_body(made.words, self._encoded, begin, self._tokens[self._at].start, is_full))
 
     def _service(self) -> None:
         self._over("END_SERVICE")

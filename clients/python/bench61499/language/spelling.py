@@ -48,7 +48,7 @@ def _differing(text: str, around: Texts) -> Iterator[Differing]:
     for use in read(text).uses:
         used = encoded[use.start : use.end].decode()
         declared = _declared(use, around)
-        if declared and used not in declared:
+        if declared and used not in declared and used.upper() == declared[0].upper():
             yield Differing(use.start, use.end, used, declared[0])
 
 

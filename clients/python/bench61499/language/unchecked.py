@@ -6,7 +6,7 @@ from itertools import islice
 
 from bench61499 import Fault
 from bench61499.language.declarations import (
-    ADAPTER_SECTIONS, ALGORITHM, CONNECTION_SECTIONS, DATA_SECTIONS, DEVICE, ENDS, EVENT, EVENT_SECTIONS, FIELD, INSTANCE, KINDS, STATE, TYPE,
+    ADAPTER_SECTIONS, ALGORITHM, CONNECTION_SECTIONS, DATA_SECTIONS, DEVICE, ENDS, EVENT, EVENT_SECTIONS, FIELD, INSTANCE, KINDS, LOCAL, STATE, TYPE,
     TYPE_KINDS, VARIABLE, Connection, Declaration, Key, Unit, Use,
 )
 from bench61499.language.grammar import Stop, stops
@@ -80,8 +80,10 @@ class Judge:
         self._is_broken = is_broken
 
     def faults(self) -> Iterator[Fault]:
-        yield from (Fault("DUPLICATE", it.start, it.end) for it in self._unit.declared if self._unit.first[it.key] is not it)
+        yield from (Fault("DUPLICATE", it.start, it.end) for it in self._unit.declared if self._unit.first[it.key] is not it and it.key.space != LOCAL)
         for it in self._unit.uses:
+            if any(body.begin <= it.start < body.end for body in self._unit.bodies):
+                continue  # The workbench skips these.
             at = self._at.token_at(it.start)
             if code := self._code(it, at, self._at.section(at)):
                 yield Fault(code, it.start, self._end(it, at, code))

@@ -21,8 +21,8 @@ class Names:
         self._nearness = nearness
         self._known: dict[str, str | None] = {}
 
-    def __contains__(self, name: str) -> bool:
-        return name.upper() in self._names
+    def __contains__(self, name: object) -> bool:
+        return isinstance(name, str) and name.upper() in self._names
 
     def near(self, words: str) -> str | None:
         """The nearest name, as it is written, if any is near."""

@@ -14,6 +14,7 @@ from bench61499.lsp.choices import TITLES, Choices
 from bench61499.lsp.completion import ItemKind, candidates
 from bench61499.lsp.documents import Diagnostic, path_of
 from bench61499.lsp.fixes import Fix, fixes
+from bench61499.lsp.edits import workspace_edit
 from bench61499.lsp.folding import folding_ranges
 from bench61499.lsp.highlight import TOKEN_MODIFIERS, TOKEN_TYPES, semantic_tokens
 from bench61499.lsp.hints import hints
@@ -69,7 +70,7 @@ class Answers:
 
     `catch_up` takes in the files that have changed until a time, and tells whether that is all; `shown` gives what the editor shows of a file;
     `lacks` is told what was answered though not all was read; `choices` are what the user can do with texts that others have changed.
-    It `has_snippets` if the editor can fill in their places.
+    It `has_snippets` if the editor can fill in their places; `file_operations` are those that it can do, such as `rename`.
     """
 
     def __init__(
@@ -83,6 +84,7 @@ class Answers:
         self._plant, self._catch_up, self._shown, self._lacks, self._choices = plant, catch_up, shown, lacks, choices
         self._lacking: set[str] = set()
         self.has_snippets = False
+        self.file_operations: frozenset[str] = frozenset()
 
     def answer(self, method: str, params: Any) -> Any:
         """Raises `CantAnswer`, `CantRename`, and `KeyError`, `TypeError` and the like where the parameters make no sense.
@@ -194,11 +196,13 @@ class Answers:
             raise CantAnswer(why)
 
     def _fixes(self, text: Text, shown: Diagnostic) -> Iterable[Fix]:
-        return fixes(self._plant, text, str(shown.get("code")), *self._span(text, shown))
+        its = fixes(self._plant, text, str(shown.get("code")), *self._span(text, shown))
+        return (it for it in its if not it.creates or "create" in self.file_operations)
 
     def _action(self, fix: Fix, shown: Diagnostic | None = None) -> Any:
-        changes = {fix.text.uri: [{"range": fix.text.range(fix.start, fix.end), "newText": fix.new}]}
-        return {"title": fix.title, "kind": "quickfix", **({"diagnostics": [shown]} if shown else {}), "edit": {"changes": changes}}
+        edits = [self._edit(fix.text, it) for it in ((fix.start, fix.end, fix.new), *fix.more)]
+        edit = workspace_edit({fix.text.uri: edits}, (fix.text.file.with_name(fix.creates[0]), fix.creates[1]) if fix.creates else None)
+        return {"title": fix.title, "kind": "quickfix", **({"diagnostics": [shown]} if shown else {}), "edit": edit}
 
     def _tokens(self, text: Text, params: Any) -> Any:
         start, end = self._span(text, params) if "range" in params else (0, len(text.places.encoded))

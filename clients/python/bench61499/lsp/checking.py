@@ -278,7 +278,7 @@ class Checking:
         found = {unit: path for unit in news.units | news.faults if (path := self._sources.owners.get(unit))}
         for unit, path in found.items():
             self._offers.note(path, unit, self._pages.units[unit], self._wanted.texts.get(unit))
-        self._show(found.values())
+        self._show({*found.values(), *self.plant.skipping(news.units)})
 
     def _drop_passed(self) -> None:
         """What was asked for once and is done."""

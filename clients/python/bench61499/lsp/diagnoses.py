@@ -8,20 +8,24 @@ from bench61499.language.explain import Explainer, Names
 from bench61499.language.fitting import fits
 from bench61499.language.merging import MARKS
 from bench61499.language.positions import range_of
+from bench61499.language.full_checks import Doubtful
 from bench61499.language.skipped import CODE, skipped
 from bench61499.language.texts import Texts
+from bench61499.language.warned import whose as whose_warning
 from bench61499.language.wording import listed
 from bench61499.lsp.documents import Diagnostic
 from bench61499.lsp.rpc import ERROR, INFO, WARNING
 from bench61499.lsp.commits import Unit
 
+WORKBENCH, CLIENT = "bench61499", "bench61499 client"
+"""Whose a diagnostic is: the workbench's, or a warning of this client alone."""
 MOST_NAMED = 3
 """Units that one message names."""
 _SIZES = (86_400, "d"), (3_600, "h"), (60, "min")
 
 
-def diagnostic(places: Places, start: int, end: int, message: str, code: str | None = None, severity: int = ERROR) -> Diagnostic:
-    shown = {"range": range_of(places, start, end), "severity": severity, "source": "bench61499"}
+def diagnostic(places: Places, start: int, end: int, message: str, code: str | None = None, severity: int = ERROR, source: str = WORKBENCH) -> Diagnostic:
+    shown = {"range": range_of(places, start, end), "severity": severity, "source": source}
     return {**shown, **({"code": code} if code else {}), "message": message}
 
 
@@ -34,6 +38,12 @@ def remark(text: str, words: str) -> Diagnostic:
 def explained(text: str, faults: tuple[Fault, ...], names: Names, texts: Texts) -> list[Diagnostic]:
     """The faults of a text in the words of an engineer, and the algorithms in it that are not checked."""
     return [*_faults(text, faults, names, texts), *_skipped(text)]
+
+
+def warnings(text: str, its: Iterable[Doubtful]) -> list[Diagnostic]:
+    """What this client warns of."""
+    places = Places(text)
+    return [diagnostic(places, it.start, it.end, f"{it.explanation} {whose_warning(it.code)}", it.code, WARNING, CLIENT) for it in its]
 
 
 def _skipped(text: str) -> list[Diagnostic]:

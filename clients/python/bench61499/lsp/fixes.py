@@ -4,7 +4,7 @@ from __future__ import annotations
 from collections.abc import Iterator
 from dataclasses import dataclass
 
-from bench61499.language.declarations import CONNECTION_SECTIONS, ENDS, EVENT, INSTANCE, TYPE, TYPE_KINDS, VARIABLE, Key, Use, Wanted
+from bench61499.language.declarations import CONNECTION_SECTIONS, ENDS, EVENT, INSTANCE, KINDS, TYPE, TYPE_KINDS, VARIABLE, Key, Use, Wanted
 from bench61499.language.explain import Names
 from bench61499.language.grammar import first_stop
 from bench61499.language.nesting import Nesting
@@ -12,7 +12,10 @@ from bench61499.language.plant import Plant, Text
 from bench61499.language.reader import read
 from bench61499.language.skipped import FULL, heads
 from bench61499.language.tokens import Token, pieces, tokens
+from bench61499.language.warned import CODES as WARNINGS
+from bench61499.language.warned import warned
 from bench61499.lsp.completion import ACROSS, declared, port_sections
+from bench61499.lsp.conversion import Edit, conversion_at, mapping_of, new_name, rerouted
 from bench61499.lsp.hover import WHAT
 
 _MOST_TYPES = 5
@@ -26,13 +29,16 @@ _NAMES = frozenset(
 
 @dataclass(frozen=True)
 class Fix:
-    """What is offered: its title, and new words for a span of a text, in bytes."""
+    """What is offered: its title, and new words for a span of a text, in bytes. `more` are further ones in the same text; `creates` is the name and the text of
+    a file beside it."""
 
     title: str
     text: Text
     start: int
     end: int
     new: str
+    more: tuple[Edit, ...] = ()
+    creates: tuple[str, str] | None = None
 
 
 @dataclass(frozen=True)
@@ -62,6 +68,10 @@ def fixes(plant: Plant, text: Text, code: str, start: int, end: int) -> list[Fix
     """What would mend a fault at a span, the most probable first."""
     if code == "SYNTAX":
         return [*_symbols(text)] or [*_unread(text, start)]
+    if code in WARNINGS:
+        return [it for it in _meant(plant, text) if (it.start, it.end) == (start, end)]
+    if code == "DATA_TYPE":
+        return list(_converted(plant, text, start, end))
     wrong = _wrong(plant, text, start, end) if code in _NAMES else None
     if not wrong:
         return []
@@ -94,6 +104,28 @@ def _unread(text: Text, place: int) -> Iterator[Fix]:
             colon = text.places.encoded[it.language.end : place].lstrip()[:1] == b":"
             end = text.places.encoded.index(b":", it.language.end) + 1 if colon else it.language.end
             yield Fix(f"Keep {it.name} as IN {FULL}, not checked by the workbench", text, it.language.start, end, FULL)
+
+
+def _meant(plant: Plant, text: Text) -> Iterator[Fix]:
+    """The names that may be meant where this client warns of one."""
+    units = frozenset(name for kind in KINDS for name in plant.kinds(kind))
+    for it in warned(text.text, text.name, units, plant.known, lambda _: False):
+        if it.meant:
+            yield Fix(f"Change {text.places.words(it.start, it.end)} to {it.meant}", text, it.start, it.end, it.meant)
+
+
+def _converted(plant: Plant, text: Text, start: int, end: int) -> Iterator[Fix]:
+    """A block in between that converts the data."""
+    it = conversion_at(plant, text, start, end)
+    if not it:
+        return
+    name = new_name(text, it.connection.scope)
+    edits = rerouted(plant, text, it, name)
+    edits.append(added(text, "FBS", f"{name} : {it.type};", it.connection.scope))
+    if mapped := mapping_of(text, it, name):
+        edits.append(added(text, "MAPPINGS", mapped))
+    creates = None if plant.declaring(it.type) else (f"{it.type}.fb", it.type_text)
+    yield Fix(f"Put the block {it.type} in between", text, *edits[0], tuple(edits[1:]), creates)
 
 
 def _wrong(plant: Plant, text: Text, start: int, end: int) -> Wrong | None:

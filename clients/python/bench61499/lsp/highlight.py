@@ -5,7 +5,7 @@ from collections.abc import Iterator
 
 from bench61499 import Places
 from bench61499.language.declarations import (
-    ALGORITHM, APPLICATION, DATA_TYPE, DEVICE, EVENT, FIELD, INSTANCE, RESOURCE, STATE, TYPE, VARIABLE, Declaration, Unit,
+    ALGORITHM, APPLICATION, DATA_TYPE, DEVICE, EVENT, FIELD, INSTANCE, LOCAL, RESOURCE, STATE, TYPE, VARIABLE, Declaration, Unit,
 )
 from bench61499.language.plant import Text
 from bench61499.language.positions import position, units
@@ -23,6 +23,7 @@ _BY_SPACE = {
     TYPE: "class",
     EVENT: "event",
     VARIABLE: "variable",
+    LOCAL: "variable",
     INSTANCE: "property",
     STATE: "enumMember",
     ALGORITHM: "method",
@@ -68,7 +69,7 @@ def _spaces(unit: Unit) -> dict[int, str]:
     found: dict[int, str] = {}
     before = ""
     for it in sorted(unit.names(), key=lambda it: it.start):
-        found[it.start] = DATA_TYPE if it.key.space == TYPE and before in (VARIABLE, FIELD) else it.key.space
+        found[it.start] = DATA_TYPE if it.key.space == TYPE and before in (VARIABLE, FIELD, LOCAL) else it.key.space
         before = it.key.space if isinstance(it, Declaration) else before
     if unit.kind == "TYPE":
         found |= {it.start: _STRUCTURE for it in unit.declared[:1]}

@@ -4,7 +4,8 @@ from __future__ import annotations
 from collections.abc import Iterator
 
 from bench61499.language.declarations import (
-    ALGORITHM, FIELD, INSTANCE, INTERFACE, KINDS, STATE, TYPE, VARIABLE, Declaration, Key, Unit, is_elementary, type_of_data,
+    ALGORITHM, FIELD, INSTANCE, INTERFACE, KINDS, LOCAL, LOCALS, STATE, TYPE, VARIABLE, Declaration, Key, Unit, is_elementary,
+    type_of_data,
 )
 from bench61499.language.plant import Plant, Text
 from bench61499.language.tokens import Token, pieces
@@ -16,6 +17,7 @@ WHAT = {
     "VAR_INPUT": "data input",
     "VAR_OUTPUT": "data output",
     "VAR": "internal variable",
+    LOCALS: "variable of the algorithm",
     "STRUCT": "field",
     "PLUGS": "plug",
     "SOCKETS": "socket",
@@ -48,7 +50,7 @@ def type_of(plant: Plant, it: Declaration) -> Text | None:
     """The type of an instance, or the structure that a variable or a field is of."""
     name = it.type.upper() if it.key.space == INSTANCE else type_of_data(it.type)
     of = next(iter(plant.declaring(name)), None)
-    is_structure = of is not None and of.unit.kind == "TYPE" and it.key.space in (VARIABLE, FIELD) and not is_elementary(name)
+    is_structure = of is not None and of.unit.kind == "TYPE" and it.key.space in (VARIABLE, FIELD, LOCAL) and not is_elementary(name)
     return of if it.key.space == INSTANCE or is_structure else None
 
 
@@ -69,7 +71,7 @@ def spelled(it: Declaration) -> str:
     if it.companions:
         words += f" WITH {', '.join(it.companions)}"
     if it.value:
-        words += f" := {it.value}" if it.key.space in (VARIABLE, FIELD) else it.value
+        words += f" := {it.value}" if it.key.space in (VARIABLE, FIELD, LOCAL) else it.value
     return words
 
 
@@ -98,6 +100,8 @@ class Comments:
 
     def of(self, it: Declaration) -> list[str]:
         """The lines of the comments in the lines before a declaration, and behind it in its own line."""
+        if it.begin not in self._at:
+            return []  # An algorithm that the workbench skips can have other tokens.
         begin, behind = self._at[it.begin], self._behind(it)
         before = begin
         while before and self._pieces[before - 1].kind == "comment" and self._begins_line(before - 1):

@@ -7,7 +7,7 @@ from dataclasses import dataclass
 from enum import IntEnum
 from typing import Any
 
-from bench61499.language.declarations import APPLICATION, DEVICE, TYPE, Declaration, Key, Use
+from bench61499.language.declarations import ALGORITHM, APPLICATION, DEVICE, LOCALS, TYPE, Declaration, Key, Use
 from bench61499.language.plant import Plant, Text
 from bench61499.language.positions import Range
 from bench61499.language.written import Written, joined
@@ -41,6 +41,7 @@ SYMBOL_KINDS = {
     "VAR_INPUT": SymbolKind.PROPERTY,
     "VAR_OUTPUT": SymbolKind.PROPERTY,
     "VAR": SymbolKind.VARIABLE,
+    LOCALS: SymbolKind.VARIABLE,
     "STRUCT": SymbolKind.FIELD,
     "PLUGS": SymbolKind.INTERFACE,
     "SOCKETS": SymbolKind.INTERFACE,
@@ -117,7 +118,7 @@ def outline(text: Text) -> list[dict[str, Any]]:
             open_ones.pop()
         shown = _symbol(text, it)
         (open_ones[-1][1] if open_ones else tops).append(shown)
-        if it.key.space in (TYPE, APPLICATION, DEVICE):
+        if it.key.space in (TYPE, APPLICATION, DEVICE, ALGORITHM):
             open_ones.append((it, shown["children"]))
     return tops
 

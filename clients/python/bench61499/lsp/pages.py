@@ -2,14 +2,18 @@
 from __future__ import annotations
 
 import time
+from collections.abc import Mapping
+from functools import partial
+from itertools import zip_longest
 from pathlib import Path
 
 from bench61499 import TEXT_LIMIT, Places
 from bench61499.language.explain import Names
 from bench61499.language.merging import is_marked
 from bench61499.language.tokens import declaration
+from bench61499.language.warned import warned
 from bench61499.lsp.commits import Faults, News, Unit
-from bench61499.lsp.diagnoses import changed, conflicts, diagnostic, explained, marked, of_others, remark, whose
+from bench61499.lsp.diagnoses import changed, conflicts, diagnostic, explained, marked, of_others, remark, warnings, whose
 from bench61499.lsp.documents import Diagnostic, Document, Source
 from bench61499.lsp.related import related
 from bench61499.lsp.sources import Sources
@@ -81,7 +85,7 @@ class Pages:
             if it.text != text or faults is None:
                 return None
             self._others.pop(path, None)
-            self._found[path] = self._related(path, text, faults, explained(text, faults, names, texts))
+            self._found[path] = [*self._related(path, text, faults, explained(text, faults, names, texts)), *self._warnings(unit, text, faults)]
             return self._found[path]
         why = self._changed(path, unit, it) if self.gives_texts else whose(unit, it, text, faults or ())
         if not it.revision or path in self._found and is_open:
@@ -106,10 +110,20 @@ class Pages:
         if not its or its.text != text:
             return shown
         places = (related(self._sources.plant, its, fault.start, fault.end) for fault in faults)
-        return [{**it, **({"relatedInformation": more} if more else {})} for it, more in zip(shown, places)]
+        return [{**it, **({"relatedInformation": more} if more else {})} for it, more in zip_longest(shown, places)]
+
+    def _warnings(self, unit: str, text: str, faults: Faults) -> list[Diagnostic]:
+        """What this client warns of in a text whose faults are known."""
+        broken = partial(_is_broken, {**self.faults, unit: faults})
+        its = warned(text, unit, self._sources.owners, self._sources.plant.known, broken)
+        return warnings(text, its) if its else []
 
     def _double(self, text: str) -> Diagnostic:
         name = declaration(text)
         assert name, "only a name that is declared can be another's"
         owner = self._sources.owners[name.upper].name
         return diagnostic(Places(text), name.start, name.end, f"{owner} declares the unit {name.upper} too; a unit has one text")
+
+
+def _is_broken(faults: Mapping[str, Faults | None], unit: str) -> bool:
+    return any(it.code == "SYNTAX" for it in faults.get(unit) or ())

@@ -5,9 +5,11 @@ from typing import Any
 
 from bench61499 import CHANGES_LIMIT, NAME_LIMIT, TEXT_LIMIT
 from bench61499.language.declarations import INSTANCE, TYPE, VARIABLE, Key, is_elementary
+from bench61499.language.imported import places_of
 from bench61499.language.plant import Plant
 from bench61499.language.tokens import RESERVED, is_name, tokens
 from bench61499.lsp.navigation import Found, occurrences
+from bench61499.lsp.sureness import captured, in_doubt
 
 
 class CantRename(Exception):
@@ -27,6 +29,8 @@ def check_target(plant: Plant, found: Found | None) -> Found:
         raise CantRename(f"{key.unit} is declared by {_listed([it.file.name for it in texts])}; a unit has one text")
     if sum(it.key == key for it in texts[0].unit.declared) > 1:
         raise CantRename(f"{key.name} is declared more than once in {key.unit}; correct this first")
+    if where := in_doubt(plant, key):
+        raise CantRename(f"{key.name} may be used at {where}")
     return found
 
 
@@ -39,6 +43,8 @@ def renamed(plant: Plant, found: Found | None, name: str) -> dict[str, Any]:
     changes: dict[str, list[dict[str, Any]]] = {}
     for text, those in occurrences(plant, key, with_declaration=True):
         changes.setdefault(text.uri, []).extend({"range": text.name_range(it.start, it.end), "newText": name} for it in those)
+    for text in plant.declaring(key.unit) if key.space == VARIABLE else ():
+        changes[text.uri] += ({"range": text.range(*it), "newText": name} for it in places_of(text.places.encoded, key.name))
     _check_size(plant, key, name, changes)
     return {"changes": changes}
 
@@ -77,6 +83,8 @@ def _check_free(plant: Plant, key: Key, name: str) -> None:
         raise CantRename(f"{where} {taken.words} already")
     for text, _ in plant.uses(new):
         raise CantRename(f"{text.unit.name} uses the {key.space} {upper} already, though nothing declares it")
+    if place := captured(plant, key, upper):
+        raise CantRename(f"{name} is taken at {place}")
 
 
 def _check_members(plant: Plant, key: Key, name: str) -> None:

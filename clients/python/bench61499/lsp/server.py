@@ -11,6 +11,7 @@ from bench61499.lsp import calls
 from bench61499.lsp.answers import CAPABILITIES, Answers, CantAnswer
 from bench61499.lsp.checking import Checking
 from bench61499.lsp.documents import path_of
+from bench61499.lsp.edits import file_operations
 from bench61499.lsp.progress import Reading
 from bench61499.lsp.rename import CantRename
 from bench61499.lsp.rpc import (
@@ -134,6 +135,7 @@ class Server:
         if asking.can("textDocument", "publishDiagnostics", "relatedInformation"):
             self._checking.relate()
         self._answers.has_snippets = asking.can("textDocument", "completion", "completionItem", "snippetSupport")
+        self._answers.file_operations = file_operations(asking.capabilities)
         self._checking.watch([path for path in paths if os.path.isdir(path)])
         self._initialized = True
         return {"result": {"capabilities": CAPABILITIES, "serverInfo": {"name": "bench61499"}}}
