@@ -309,7 +309,7 @@ class ServeTest(Shared):
 
     def test_it_is_only_asked(self):
         self.write("a.fb", GOOD)
-        with serving(9) as port, Session.connect("127.0.0.1", port) as other:
+        with serving(19) as port, Session.connect("127.0.0.1", port) as other:
             ran = self.check(port)
             self.assertEqual((ran.returncode, ran.stdout), (2, f"0 units, no faults\n1 unit not checked\n{ASKED}"))
             self.assertEqual(ran.stderr, "check: not checked, as the workbench has no such unit: A; --replace puts them\n")
@@ -318,17 +318,30 @@ class ServeTest(Shared):
             self.assertEqual((ran.returncode, ran.stdout), (2, f"0 units, no faults\n1 unit not checked\n{ASKED}"))
             self.assertEqual(ran.stderr, "check: not checked, as the workbench has another text: A; --replace puts those of the files over it\n")
             self.write("a.fb", BAD)
-            ran = self.check(port, "--quiet")
+            ran = self.check(port, "--quiet", "--trust-server")
             printed = "a.fb:1:37: WITH_UNKNOWN: no data input X to go with this event\n"
             self.assertEqual((ran.returncode, ran.stdout, ran.stderr), (1, printed, f"check: {ASKED}"))
+            self.assertEqual(self.check(port, "--quiet").returncode, 2)
             self.assertEqual(json.loads(self.check(port, "--json").stdout)["judged"], "workbench, not compared")
             self.assertEqual(other.revision("A"), 1)
             other.commit([Put("A", 1, GOOD)])
             self.write("a.fb", GOOD)
-            ran = self.check(port)
+            ran = self.check(port, "--trust-server")
             self.assertEqual((ran.returncode, ran.stdout, ran.stderr), (0, f"1 unit, no faults\n{ASKED}", ""))
+            self.assert_no_form_is_green(port)
             ran = run("check", "--connect", f":{port}")
             self.assertEqual((ran.returncode, ran.stderr), (2, "check: the server does not tell which units it has, as it is no host or an older one\n"))
+
+    def assert_no_form_is_green(self, port: int) -> None:
+        """A text that could not be compared may be another one than that of the file."""
+        told = "check: not compared, as the workbench gives no texts back: A; --trust-server takes its texts for those of the files\n"
+        printed = {it: self.check(port, "--format", it) for it in ("human", "json", "github", "sarif", "junit")}
+        for it in printed.values():
+            self.assertEqual((it.returncode, it.stderr.removesuffix(f"check: {ASKED}")), (2, told))
+        self.assertEqual(json.loads(printed["json"].stdout)["unchecked"], ["A"])
+        self.assertIn("::warning file=a.fb,title=NOT_CHECKED::not checked: A may have another text", printed["github"].stdout)
+        self.assertFalse(json.loads(printed["sarif"].stdout)["runs"][0]["invocations"][0]["executionSuccessful"])
+        self.assertEqual(len(ElementTree.fromstring(printed["junit"].stdout).findall(".//skipped")), 1)
 
     def test_it_is_asked_for_pending_units_again(self):
         units = [f"U{at}" for at in range(40)]
@@ -337,14 +350,14 @@ class ServeTest(Shared):
         with serving(2) as port, Session.connect("127.0.0.1", port) as other:
             for batch in batches(Put(unit, 0, f"FUNCTION_BLOCK {unit} END_FUNCTION_BLOCK") for unit in units):
                 other.commit(batch)
-            self.assertEqual(self.check(port).stdout, f"40 units, no faults\n{ASKED}")
+            self.assertEqual(self.check(port, "--trust-server").stdout, f"40 units, no faults\n{ASKED}")
 
     def test_few_calls(self):
         """One for each unit; and to put what came by one commit, two for 16 units."""
         units = [f"U{at:02}" for at in range(64)]
         for unit in units:
             self.write(f"{unit}.fb", f"FUNCTION_BLOCK {unit} END_FUNCTION_BLOCK")
-        for words, most in ((), 64 + 4), (("--replace",), 8 + 128 + 3 * 64 + 8):
+        for words, most in (("--trust-server",), 64 + 4), (("--replace",), 8 + 128 + 3 * 64 + 8):
             with serving(3, "--history", str(HISTORY)) as port, Session.connect("127.0.0.1", port) as other:
                 for batch in batches(Put(unit, 0, f"FUNCTION_BLOCK {unit} END_FUNCTION_BLOCK") for unit in units):
                     other.commit(batch)

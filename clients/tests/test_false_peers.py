@@ -6,14 +6,16 @@ import socket
 import subprocess
 import threading
 import unittest
-from collections.abc import Callable, Iterator
+from collections.abc import Callable, Iterable, Iterator
 from contextlib import contextmanager, suppress
-from itertools import repeat
+from itertools import count, repeat
+from pathlib import Path
 from unittest.mock import patch
 
 from support import CLIENTS, GREETING, answering, hosting, workbench
 
-from bench61499 import BadReply, ConnectionEnded, NoAnswer, Session
+from bench61499 import BadReply, Change, ConnectionEnded, NoAnswer, NoResult, Session, StaleBase
+from bench61499.language.units import Misuse, Unit, commit_units
 from bench61499.session import REPLY_LIMIT
 
 WAIT = 20
@@ -65,6 +67,18 @@ class ServerTest(unittest.TestCase):
         page = b'{"at":1,"units":[["A",1]]}\n'
         with answering(GREETING, page, page, page) as port, Session.connect("127.0.0.1", port) as session:
             self.assertRaises(BadReply, session.units)
+
+    def test_who_is_refused_again_and_again_gives_up(self) -> None:
+        """Two that put one folder over another each, or a server that goes on to refuse."""
+        numbers = count(1)
+
+        class Refusing(Session):
+            def commit(self, changes: Iterable[Change]) -> int:
+                raise StaleBase({"refused": "StaleBase", "unit": "A", "current": next(numbers)})
+
+        with Refusing.script(workbench()) as session:
+            self.assertRaisesRegex(Misuse, "^A was changed by somebody else meanwhile$", commit_units, session, [Unit("A", Path("a.fb"), "")])
+            self.assertRaisesRegex(NoResult, "^others have changed A, B again and again$", session.present, ["A", "B"])
 
     def test_localhost_is_the_address_at_which_a_host_listens(self) -> None:
         """Another one, to which the name leads first, may be taken by any user of the machine; it would get the secret."""

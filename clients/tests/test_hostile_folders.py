@@ -10,7 +10,7 @@ from contextlib import contextmanager
 from unittest.mock import patch
 
 from exchanging import imported
-from support import CLIENTS, CONVEYOR, InFolder, run, workbench
+from support import CLIENTS, CONVEYOR, InFolder, locked, run, workbench
 
 from bench61499.exchange import imports
 from bench61499.exchange.xmlfile import find_xml
@@ -154,6 +154,29 @@ class LinksTest(HostileTest):
         (self.plant / "A.fbt").symlink_to("../elsewhere/A.fbt")
         ran = imported([self.plant], self.folder / "out")
         self.assertIn(f"{self.plant}/A.fbt: is a link that leads to no file of IEC 61499-2 in the folders that are named, so it is not read", ran.errors)
+
+
+class VanishedTest(HostileTest):
+    """A share that is not there, or a folder that can't be read, is no folder whose files were deleted: a language server would remove their units from the team's workbench."""
+
+    def test_units_of_a_folder_that_can_not_be_read_stay(self) -> None:
+        sources = Sources(self.fail)
+        sources.folders = [self.plant]
+
+        def units() -> int:
+            sources.refresh()
+            while not sources.catch_up(0):
+                pass
+            sources.settle()
+            return len(sources.units())
+
+        self.assertEqual(units(), 7)
+        with locked(self.plant):
+            self.assertEqual(units(), 7)
+        self.plant.rename(self.folder / "away")
+        self.assertEqual(units(), 7)
+        self.plant.mkdir()
+        self.assertEqual(units(), 0)
 
 
 class NamesTest(HostileTest):

@@ -43,6 +43,7 @@ Value = TypeVar("Value")
 _NO_REVISION = 2**64 - 1
 _TURNS = 100
 _THERE: dict[str, Any] = {}
+_MOST_REFUSALS = 1_000
 _GREETING_REQUEST = {"op": "deliver", "job": 1}
 _FIRST_PAUSE, _LONGEST_PAUSE = 0.01, 0.25
 _GREETING = 5.0
@@ -865,9 +866,12 @@ class Session:
         return found
 
     def _correct(self, known: dict[str, int], guessed: Container[str]) -> dict[str, int]:
-        """Of at most 16 units. The last change of the commit is refused whatever is there, so that none is ever made."""
+        """Of at most 16 units. The last change of the commit is refused whatever is there, so that none is ever made.
+
+        Each refusal tells of one unit, and of a further one only if others change them meanwhile.
+        """
         *front, last = known
-        while True:
+        for _ in range(_MOST_REFUSALS):
             changes: list[Change] = [Remove(unit, known[unit]) if known[unit] else Put(unit, 0, "") for unit in front]
             try:
                 self.commit([*changes, Remove(last, _NO_REVISION)])
@@ -877,6 +881,7 @@ class Session:
                 known |= {unit: current, **{it: current for it in behind if it in guessed}}
                 if unit == last:
                     return known
+        raise NoResult(f"others have changed {', '.join(known)} again and again")
 
     def ask(self, kind: Kind, unit: str) -> Any:
         """What `faults`, `net` or `deploy` give. Raises `NoSuchKey`."""

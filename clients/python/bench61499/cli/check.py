@@ -8,7 +8,7 @@ from pathlib import Path
 
 from bench61499 import Fault, Key, Session, WorkbenchError
 from bench61499.cli.command import Progress, add_patience, add_workbench, fail, open_session, persistently, program, read_path, tell
-from bench61499.cli.comparing import AGAIN, Difference, Judged, compare, last_common, only_there, remarks, replace
+from bench61499.cli.comparing import AGAIN, Difference, Judged, compare, last_common, not_compared, only_there, remarks, replace
 from bench61499.cli.findings import Answers, Found, answers_of, ask_plans, find, keys_of
 from bench61499.cli.formats import MACHINE_FORMATS, lines, summary
 from bench61499.cli.looking import ONLY_ASKED, look
@@ -87,7 +87,7 @@ def read_options() -> argparse.Namespace:
         description="Checks texts of IEC 61499 units. Each *.fb file is one unit, named by its declaration. With --connect it compares the files with the texts of the server, "
         "checks those that are the same, names the others, and changes nothing; without PATH it checks all units of the server, as files NAME.fb.",
         epilog="The status is 0 if there are no faults; 1 if there are, or warnings with --strict; 2 if a path is absent or unreadable, there is no *.fb file or more than 16,384, two files "
-        "declare one unit, a file has more than 65,536 bytes or is not UTF-8, the server lacks a unit or has another text of it, somebody changed one meanwhile, "
+        "declare one unit, a file has more than 65,536 bytes or is not UTF-8, the server lacks a unit, has another text of it or gives none back, somebody changed one meanwhile, "
         "no workbench answers, a result does not come within the patience, or the output can't be written.",
     )
     add_version(reader)
@@ -97,6 +97,7 @@ def read_options() -> argparse.Namespace:
     add_workbench(reader)
     add_patience(reader)
     reader.add_argument("--replace", action="store_true", help=REPLACE)
+    reader.add_argument("--trust-server", action="store_true", help="with --connect to a `serve`, which gives no texts back: take its texts for those of the files")
     reader.add_argument("--mirror", action="store_true", help="with --replace and folders: remove the server's units that no file has")
     reader.add_argument("--list-unchecked", action="store_true", help="print the algorithms that the workbench does not read, such as those IN ST_FULL, as notes; other forms than human always have them")
     reader.add_argument("--strict", action="store_true", help=STRICT)
@@ -125,7 +126,8 @@ def check(options: argparse.Namespace, units: list[Unit]) -> Checked:
             raise Misuse("the server does not tell which units it has, as it is no host or an older one")
         if options.connect and not options.replace:
             looked = look(session, units, lambda known: progress.show(f"asking about {len(units):,} units: {known:,} are known"))
-            checked = Checked(units, looked.faults, judged=Judged.NOT_COMPARED, differences=looked.differences)
+            unsure = [] if options.trust_server else not_compared(units, looked.differences)
+            checked = Checked(units, looked.faults, judged=Judged.NOT_COMPARED, differences=[*looked.differences, *unsure])
         else:
             checked = put_and_check(session, units, progress)
         if options.plans:

@@ -30,6 +30,7 @@ class How(StrEnum):
     CHANGED_THERE = "changed there"
     CHANGED_ON_BOTH_SIDES = "changed on both sides"
     DIFFERS = "differs"
+    NOT_COMPARED = "not compared"
     ONLY_THERE = "only there"
     REMOVED_HERE = "removed here"
 
@@ -49,6 +50,7 @@ _REMARKS = {
     How.CHANGED_THERE: "not checked, changed in the workbench: {}; --replace puts the texts of the files over it",
     How.CHANGED_ON_BOTH_SIDES: "not checked, changed here and in the workbench: {}; --replace puts the texts of the files over it",
     How.DIFFERS: "not checked, as the workbench has another text: {}; --replace puts those of the files over it",
+    How.NOT_COMPARED: "not compared, as the workbench gives no texts back: {}; --trust-server takes its texts for those of the files",
     How.ONLY_THERE: "the workbench has also units that no file has: {}",
     How.REMOVED_HERE: "the workbench still has units that were removed here: {}",
 }
@@ -66,6 +68,12 @@ class Difference:
 def compare(units: Iterable[Unit], there: Mapping[str, str], common: Mapping[str, str]) -> list[Difference]:
     """Of files and the texts of a workbench, those that differ; `common` are texts that both had once, as far as they are known."""
     return [Difference(it.name, it.file, _how(it.text, there.get(it.name), common.get(it.name))) for it in units if there.get(it.name) != it.text]
+
+
+def not_compared(units: Iterable[Unit], differing: Iterable[Difference]) -> list[Difference]:
+    """Of a workbench that gives no texts back, the units of which nothing else is known to differ."""
+    known = {it.unit for it in differing}
+    return [Difference(it.name, it.file, How.NOT_COMPARED) for it in units if it.name not in known]
 
 
 def only_there(units: Iterable[Unit], there: Iterable[str], common: Mapping[str, str]) -> list[Difference]:

@@ -26,7 +26,7 @@ NOT_CHECKED = "(not checked by the workbench: correct the SYNTAX fault first)"
 _NOT_IN_XML = re.compile("[^\t\n\r\x20-\ud7ff\ue000-\ufffd\U00010000-\U0010ffff]")
 _SCHEMA = "https://docs.oasis-open.org/sarif/sarif/v2.1.0/errata01/os/schemas/sarif-schema-2.1.0.json"
 _GITHUB_LEVELS = {"error": "error", "warning": "warning", "note": "notice"}
-_THERE = {How.ONLY_HERE: "is only here", How.DIFFERS: "has another text in the workbench"}
+_THERE = {How.ONLY_HERE: "is only here", How.DIFFERS: "has another text in the workbench", How.NOT_COMPARED: "may have another text in the workbench, which gives none back"}
 Json = dict[str, object]
 
 

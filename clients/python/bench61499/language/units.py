@@ -169,13 +169,19 @@ def commit_units(session: Session, units: list[Unit], progress: Callable[[int], 
 
 
 def _put_over(session: Session, batch: list[Put]) -> int:
-    """Puts units over what there is, and gives how many there were. Units mostly came by one commit, so the revision of one is tried for those behind it."""
+    """Puts units over what there is, and gives how many there were. Units mostly came by one commit, so the revision of one is tried for those behind it.
+
+    Raises `Misuse` where somebody changes one meanwhile: of two that put one folder over another without an end none would win.
+    """
     bases = dict.fromkeys((it.unit for it in batch), 0)
+    waiting = list(bases)
     while True:
         try:
             session.commit([replace(it, base=bases[it.unit]) for it in batch])
             return sum(base > 0 for base in bases.values())
         except StaleBase as refusal:
-            units = list(bases)
-            behind = units[units.index(refusal.unit) :]
-            bases |= {refusal.unit: refusal.current, **dict.fromkeys(behind, refusal.current)}
+            if refusal.unit not in waiting:
+                raise Misuse(f"{refusal.unit} was changed by somebody else meanwhile") from refusal
+            waiting = waiting[waiting.index(refusal.unit) :]
+            bases |= dict.fromkeys(waiting, refusal.current)
+            del waiting[0]

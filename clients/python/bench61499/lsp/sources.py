@@ -93,15 +93,19 @@ class Sources:
     def _changed_files(self) -> Iterator[Path | None]:
         """The files that have changed, of those in the folders, those beside open documents, and those that were known; None for each other one."""
         beside = {path.parent for path in self.documents if not any(path.is_relative_to(folder) for folder in self.folders)}
-        found = set()
+        found, unread = set[Path](), list[Path]()
         for file, stamp in chain(stamps_of(self.folders), stamps_of(beside, with_inner=False)):
             path = Path(file)
             if stamp:
                 found.add(path)
             elif can_be_unit(path.name) and path.is_symlink():
                 self._warn_of_link(path)
+            else:
+                unread.append(path)
             yield path if stamp and self._is_new(path, stamp) else None
         for path in (self._sources.keys() | self._changed.keys()) - found:
+            if any(map(path.is_relative_to, unread)):
+                continue  # Nobody knows whether it is there: it stays what it was.
             yield path if self._is_new(path, stamp_of(path)) else None
 
     def _warn_of_link(self, path: Path) -> None:
