@@ -391,6 +391,18 @@ class CommonTest(KeeperTest):
         first, second = ((one, other) if BELOW in other.kept() else (other, one))
         self.assertEqual([len(first.kept()), second.kept()], [1, [BELOW if second is other else ABOVE]])
 
+    def test_what_is_saved_just_after_it_was_written(self) -> None:
+        """Who touches a file that is still to be read, as it differs from what was written, never finds that it stays the same."""
+        one, other = self.both()
+        other.file("A.fb").write_text(BELOW)
+        one.file("A.fb").write_text(ABOVE)
+        self.catch_up(one)
+        until(lambda: other.team.version("A") == Version(2, ABOVE))
+        for _ in range(10):
+            other.keeper.look()
+            other.keeper.step()
+        self.assertEqual((other.texts(), self.team()), ({"A.fb": BOTH}, {"A": BOTH}))
+
     def test_a_unit_that_both_deleted(self) -> None:
         one, other = self.both()
         for it in (one, other):

@@ -99,8 +99,9 @@ class Keeper:
         if self._failed and time.monotonic() >= self._next_try:
             self._dirty |= self._failed
             self._failed = set()
-        units, self._dirty, self._team.units = self._dirty | self._team.units, set(), set()
-        return units - self._units.held.keys()
+        units, self._team.units = self._dirty | self._team.units, set()
+        self._dirty = {unit for unit in units if self._saved.is_unread(self._units.files.get(unit, ""))}
+        return units - self._units.held.keys() - self._dirty
 
     def _fail(self, unit: str, words: str) -> None:
         """Tells what could not be done; it is tried again."""
