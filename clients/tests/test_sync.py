@@ -5,10 +5,13 @@ import errno
 import io
 import itertools
 import os
+import shutil
 import sqlite3
 import unittest
+from collections.abc import Callable
 from contextlib import redirect_stderr, redirect_stdout
 from pathlib import Path
+from typing import Any
 from unittest.mock import patch
 
 from support import InFolder, hosting, run, serving, until
@@ -22,6 +25,7 @@ from bench61499.sync.deciding import Decision, Step, decide
 from bench61499.sync.files import Changed, Writer
 from bench61499.sync.incoming import Incoming
 from bench61499.sync.keeper import Keeper, Ways
+from bench61499.sync.outgoing import Outgoing
 from bench61499.sync.report import Report
 from bench61499.sync.saved import Saved
 from bench61499.sync.store import FileRevision, Store
@@ -387,6 +391,18 @@ class CommonTest(KeeperTest):
         first, second = ((one, other) if BELOW in other.kept() else (other, one))
         self.assertEqual([len(first.kept()), second.kept()], [1, [BELOW if second is other else ABOVE]])
 
+    def test_what_is_saved_just_after_it_was_written(self) -> None:
+        """Who touches a file that is still to be read, as it differs from what was written, never finds that it stays the same."""
+        one, other = self.both()
+        other.file("A.fb").write_text(BELOW)
+        one.file("A.fb").write_text(ABOVE)
+        self.catch_up(one)
+        until(lambda: other.team.version("A") == Version(2, ABOVE))
+        for _ in range(10):
+            other.keeper.look()
+            other.keeper.step()
+        self.assertEqual((other.texts(), self.team()), ({"A.fb": BOTH}, {"A": BOTH}))
+
     def test_a_unit_that_both_deleted(self) -> None:
         one, other = self.both()
         for it in (one, other):
@@ -617,6 +633,43 @@ class LostTest(KeeperTest):
         one = self.keeping("one")
         self.settle(one, other)
         self.assertEqual([one.texts(), other.texts(), self.team()], [{"A.fb": HOT}, {"A.fb": HOT}, {"A": HOT}])
+
+    def test_who_has_changed_nothing_gets_what_another_one_was_first_to_put(self) -> None:
+        """Also if he has met the workbench while it had nothing; it is no conflict."""
+        for mine, theirs, expected in ((A, HOT, HOT), (ABOVE, BELOW, BOTH)):
+            with self.subTest(mine):
+                one, other = self.both()
+                other.close()
+                one.file("A.fb").write_text(mine)
+                self.restart()
+                with patch.object(Outgoing, "send", self.overtaken(theirs)):
+                    self.settle(one)
+                self.assertEqual((one.texts(), self.team(), one.store.conflicts), ({"A.fb": expected}, {"A": expected}, {}))
+                one.close()
+                shutil.rmtree(one.folder)
+                shutil.rmtree(other.folder)
+                self.restart()
+
+    def overtaken(self, text: str) -> Callable[..., list[str]]:
+        """Sends a commit after somebody else has put a text of A where there was none."""
+        send = Outgoing.send
+
+        def late(outgoing: Outgoing, *words: Any) -> list[str]:
+            if not self.team():
+                self.session.commit([Put("A", 0, text)])
+            return send(outgoing, *words)
+
+        return late
+
+    def test_an_older_text_that_comes_first_does_not_win(self) -> None:
+        one, other = self.both()
+        one.file("A.fb").write_text(HOT)
+        self.settle(one, other)
+        other.close()
+        self.restart()
+        with patch.object(Outgoing, "send", self.overtaken(A)):
+            self.settle(one)
+        self.assertEqual((one.texts(), self.team(), one.store.conflicts), ({"A.fb": HOT}, {"A": HOT}, {}))
 
     def test_another_text_after_a_restart_is_merged_with_mine(self) -> None:
         one, _ = self.both()

@@ -144,6 +144,6 @@ def _common_of(state: Path, workbench: str) -> list[tuple[str, str]]:
         with closing(sqlite3.connect(f"{state.as_uri()}?mode=ro", uri=True, timeout=0)) as tables:
             if tables.execute("SELECT identity FROM workbench").fetchall() != [(workbench,)]:
                 return []
-            return tables.execute("SELECT unit, text FROM common").fetchall()
+            return tables.execute("SELECT unit, text FROM common WHERE revision > 0").fetchall()
     except sqlite3.Error:
         return []

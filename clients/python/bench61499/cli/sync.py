@@ -123,6 +123,6 @@ def keep(keeper: Keeper, saved: Saved, store: Store, team: Team, report: Report,
             report.say(f"{saved.root} is kept the same as {address} from now on: {keeper.count():,} units")
         if team.error:
             report.trouble(NAME, f"{team.error}; trying again")
-        else:
-            report.is_over(NAME)
+        elif report.is_over(NAME):
+            report.say("the host answers again")
         team.wait(max(0.0, next_look - time.monotonic()))

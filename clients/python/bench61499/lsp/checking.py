@@ -317,9 +317,9 @@ class Checking:
     # What is shown
 
     def _show(self, paths: Iterable[Path]) -> None:
-        """Shows what is known of files, and of open texts of which that is not shown yet."""
+        """Shows what is known of files, those first that are open, and of open texts of which that is not shown yet."""
         unsure = {path for path, it in self._sources.documents.items() if not it.is_published or self._is_double(path)}
-        for path in sorted({*paths, *unsure}):
+        for path in sorted({*paths, *unsure}, key=lambda it: (not self._is_open(it), str(it))):
             self._show_one(path)
 
     def _is_double(self, path: Path) -> bool:

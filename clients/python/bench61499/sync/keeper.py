@@ -3,7 +3,7 @@ from __future__ import annotations
 
 import time
 from collections.abc import Iterable, Mapping
-from dataclasses import dataclass
+from dataclasses import dataclass, replace
 
 from bench61499 import Change, Put, Remove, WorkbenchError
 from bench61499.language.merging import is_marked
@@ -21,6 +21,8 @@ FEW = 3
 """So many deleted files are removed from the workbench unasked; if there are more at once, the folder may be another one than it was."""
 AGAIN = 5.0
 """Seconds after which what failed is tried again."""
+NOT_HERE = 0
+"""The revision of a text that was common with another workbench, while this one has had no text of the unit."""
 MARKED = "has the marked lines of a conflict, and is not committed until they are gone"
 SENT = Step.PUT, Step.REMOVE
 
@@ -97,8 +99,9 @@ class Keeper:
         if self._failed and time.monotonic() >= self._next_try:
             self._dirty |= self._failed
             self._failed = set()
-        units, self._dirty, self._team.units = self._dirty | self._team.units, set(), set()
-        return units - self._units.held.keys()
+        units, self._team.units = self._dirty | self._team.units, set()
+        self._dirty = {unit for unit in units if self._saved.is_unread(self._units.files.get(unit, ""))}
+        return units - self._units.held.keys() - self._dirty
 
     def _fail(self, unit: str, words: str) -> None:
         """Tells what could not be done; it is tried again."""
@@ -124,7 +127,7 @@ class Keeper:
     def _compare(self, unit: str, version: Version) -> None:
         common = self._store.common.get(unit)
         if version.text is None:
-            self._store.found(unit, None)
+            self._store.found(unit, replace(common, revision=NOT_HERE) if common else None)
         elif self._store.was_former(unit, version.text) and not (common and common.text == version.text):
             self._store.found(unit, FileRevision(common.file if common else f"{unit}.fb", version.revision, version.text))
 
@@ -149,8 +152,14 @@ class Keeper:
             self._store.take_back([unit])
 
     def _decide(self, unit: str, version: Version) -> Decision:
+        return decide(self._here(unit), version.text, self._common(unit, version.text))
+
+    def _common(self, unit: str, there: str | None) -> str | None:
+        """The text that both had last. Another workbench that lacked the unit has none of it: where somebody has put one since, that one is newer, unless it is known to be older."""
         common = self._store.common.get(unit)
-        return decide(self._here(unit), version.text, common.text if common else None)
+        if common and common.revision == NOT_HERE and (there is None or there != common.text and self._store.was_former(unit, there)):
+            return there
+        return common.text if common else None
 
     def _here(self, unit: str) -> str | None:
         name = self._units.files.get(unit)

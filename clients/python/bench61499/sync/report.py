@@ -59,8 +59,9 @@ class Report:
             self._troubles[of] = words
             self._complain(words)
 
-    def is_over(self, of: str) -> None:
-        self._troubles.pop(of, None)
+    def is_over(self, of: str) -> bool:
+        """Tells that it can be done now, and whether it could not be done before."""
+        return self._troubles.pop(of, None) is not None
 
     def tell_problems(self, problems: Mapping[str, str]) -> None:
         """Tells of files that can be no unit."""

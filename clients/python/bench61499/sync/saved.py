@@ -40,6 +40,7 @@ class Saved:
         self._gone: dict[str, float] = {}
         self._locked: set[str] = set()
         self._has_unread = False
+        self._unread: set[str] = set()
 
     def look(self, at_once: bool = False) -> bool:
         """Reads what has changed and stays so, or all that has changed `at_once`, and tells whether there is anything new.
@@ -51,8 +52,9 @@ class Saved:
         is_same = stamps == self._seen and not self._has_unread
         before, self._seen, self._has_unread = self._seen, stamps, False
         new = [] if is_same else [name for name, stamp in stamps.items() if self._is_new(name, stamp)]
-        read = [name for name in new if (at_once or before.get(name) == stamps[name]) and self._read(name, stamps[name])]
-        self._has_unread = len(read) < len(new)
+        read = [name for name in new if (at_once or before.get(name) == stamps[name] or self._is_as_written(name)) and self._read(name, stamps[name])]
+        self._unread = set(new) - set(read)
+        self._has_unread = bool(self._unread)
         gone = [name for name in self._files if name not in stamps and self._is_deleted(name, at_once)]
         for name in gone:
             del self._files[name]
@@ -84,6 +86,11 @@ class Saved:
         self._files[name] = file
         return True
 
+    def _is_as_written(self, name: str) -> bool:
+        """Whether a file has what was written here, and nobody has written it since."""
+        known = self._files.get(name)
+        return known is not None and known.stamp == _UNREAD and read_file(self.root / name, _UNREAD) == known
+
     def _is_deleted(self, name: str, at_once: bool) -> bool:
         """Whether a file that is not there is deleted, and not only about to be saved, or in a folder that can't be read."""
         if any(Path(name).is_relative_to(folder) for folder in self._locked):
@@ -97,6 +104,10 @@ class Saved:
     def is_settled(self) -> bool:
         """Whether all files are read, and none was being written at the last look."""
         return not self._has_unread
+
+    def is_unread(self, name: str) -> bool:
+        """Whether a file has changed, and is read once it stays the same. Until then it is not to be touched, or it would not stay so."""
+        return name in self._unread
 
     def wrote(self, name: str, text: str | None) -> None:
         """Takes what was written here for the text of the file until it is read; None for a file that was taken away."""
