@@ -1,4 +1,5 @@
 """The kit's rt as a module, for the tools of this folder."""
+import functools
 import importlib.machinery
 import importlib.util
 import os
@@ -19,3 +20,10 @@ def load():
     sys.modules["rt"] = module
     loader.exec_module(module)
     return module
+
+
+def crate(folder, top):
+    """A crate of a repository as rt sees it. Its `stamp` is a sum of all that it is made from: its own files, the kit, and the crates below it, each summed once."""
+    rtlib = load().rtlib
+    rtlib.Crate.stamp = functools.cache(rtlib.Crate.stamp)
+    return rtlib.Crate(os.path.abspath(folder), os.path.abspath(top), {})

@@ -1,10 +1,12 @@
 """What build servers run: the hooks for pre-commit, and the workflow of the examples."""
 from __future__ import annotations
 
+import hashlib
 import json
 import os
 import shutil
 import subprocess
+import tarfile
 import unittest
 from importlib import import_module
 from importlib.util import find_spec
@@ -64,10 +66,25 @@ class HooksTest(ServerTest):
 class WorkflowTest(ServerTest):
     def steps(self) -> list[tuple[int, str]]:
         """Runs the steps that run programs of ours, as a runner does."""
-        workflow = yaml.safe_load((TOP / "examples" / "github-workflow.yml").read_text())
-        scripts = [it["run"] for it in workflow["jobs"]["check"]["steps"] if "run" in it and "curl" not in it["run"]]
+        scripts = self.scripts()[1:]
         self.assertEqual(len(scripts), 3)
         return [self.run_words("bash", "-e", "-c", it) for it in scripts]
+
+    def scripts(self) -> list[str]:
+        workflow = yaml.safe_load((TOP / "examples" / "github-workflow.yml").read_text())
+        return [it["run"] for it in workflow["jobs"]["check"]["steps"] if "run" in it]
+
+    @unittest.skipUnless(shutil.which("curl"), "curl is not installed")
+    def test_a_release_with_another_checksum_is_not_unpacked(self) -> None:
+        with tarfile.open(self.folder / "release.tar.gz", "w:gz") as tar:
+            tar.add(CLIENTS / "check", "bench61499/clients/check")
+        content = (self.folder / "release.tar.gz").read_bytes()
+        for sums, status in ((hashlib.sha256(content).hexdigest(), 0), ("0" * 64, 1)):
+            room = self.folder / f"room{status}"
+            room.mkdir()
+            words = {"RELEASE": (self.folder / "release.tar.gz").as_uri(), "SHA256": sums, "RUNNER_TEMP": str(room), "GITHUB_PATH": str(room / "path")}
+            ran = subprocess.run(["bash", "-e", "-c", self.scripts()[0]], env={**os.environ, **words}, capture_output=True, text=True, timeout=60)
+            self.assertEqual((ran.returncode, (room / "bench61499" / "clients" / "check").exists()), (status, not status), ran.stderr)
 
     def test_a_sound_plant(self) -> None:
         self.assertEqual(self.steps(), [(0, ""), (0, ""), (0, "")])

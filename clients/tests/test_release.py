@@ -7,8 +7,8 @@ import re
 import shlex
 import shutil
 import subprocess
+import sys
 import tarfile
-import textwrap
 import tomllib
 import unittest
 from functools import cache
@@ -81,6 +81,13 @@ class ReleaseTest(ReleasedTest):
         copied = re.search(r"^COPY (\S+) ", (root / "Dockerfile").read_text(), re.M)
         self.assertIn(copied[1], names)
 
+    def test_its_checksum_is_beside_it(self) -> None:
+        file = made(self.folder / "out")
+        ran = subprocess.run(["sha256sum", "--check", "--strict", "SHA256SUMS"], cwd=file.parent, capture_output=True, text=True)
+        self.assertEqual((ran.stdout, ran.returncode), (f"{file.name}: OK\n", 0), ran.stderr)
+        file.write_bytes(file.read_bytes() + b"\0")
+        self.assertNotEqual(subprocess.run(["sha256sum", "--check", "SHA256SUMS"], cwd=file.parent, capture_output=True).returncode, 0)
+
     def test_what_it_says_of_its_sources_and_proofs(self) -> None:
         root = self.unpacked()
         checked = subprocess.run(["sha256sum", "--check", "--quiet", root / "SOURCES.sha256"], cwd=TOP, capture_output=True, text=True)
@@ -95,8 +102,12 @@ class ReleaseTest(ReleasedTest):
         self.assertLess(report.index("  fb_text\n"), report.index("  fb_parse\n"))
 
 
+SUM = "import sys; sys.path.insert(0, 'tools'); import kit_rt; print(kit_rt.crate('crates/bench61499', '.').stamp())"
+
+
+@unittest.skipUnless(shutil.which("rt"), "the kit is not installed")
 class BuiltTest(InFolder):
-    """The built program of a repository, with and without what rt leaves beside a proved one."""
+    """The built program of a repository, with and without what rt leaves beside a proved one: a sum of the sources and one of the program."""
 
     def setUp(self) -> None:
         super().setUp()
@@ -105,8 +116,9 @@ class BuiltTest(InFolder):
         for file in PACKAGING.rglob("*"):
             if file.is_file():
                 self.copy(file, str(file.relative_to(TOP)))
-        self.copy(TOP / "crates.txt", "crates.txt")
+        self.write("crates.txt", "fb_text:\nbench61499: fb_text\n")
         self.copy(TOP / "crates" / "fb_text" / "src" / "lib.rt", "crates/fb_text/src/lib.rt")
+        self.copy(TOP / "crates" / "bench61499" / "src" / "main.rt", "crates/bench61499/src/main.rt")
         self.copy(Path(workbench()), "crates/bench61499/out/bench61499")
         self.built = self.folder / "crates" / "bench61499" / "out" / "bench61499"
         git = ["git", "-c", "user.name=A", "-c", "user.email=a@b"]
@@ -121,24 +133,41 @@ class BuiltTest(InFolder):
     def release(self) -> subprocess.CompletedProcess[str]:
         return subprocess.run([self.folder / "tools" / "release"], capture_output=True, text=True)
 
-    def stamp(self, content: bytes) -> None:
-        Path(f"{self.built}.stamp").write_bytes(b"0" * 64 + hashlib.sha256(content).hexdigest().encode())
+    def stamp(self, content: bytes) -> str:
+        """Leaves what rt leaves when it has proved a program; gives the sum of the sources."""
+        ran = subprocess.run([sys.executable, "-c", SUM], cwd=self.folder, capture_output=True, text=True, check=True)
+        Path(f"{self.built}.stamp").write_text(ran.stdout.strip() + hashlib.sha256(content).hexdigest())
+        return ran.stdout.strip()
 
     def test_a_proved_program_is_released_as_one(self) -> None:
-        self.stamp(self.built.read_bytes())
+        sources = self.stamp(self.built.read_bytes())
         ran = self.release()
         self.assertEqual(ran.returncode, 0, ran.stderr)
         with tarfile.open(ran.stdout.strip()) as tar:
             report = tar.extractfile("bench61499-1.0.0-x86_64-linux/PROVED.txt").read().decode()
         self.assertIn("proved    yes: rt proved these crates, and built this program of them, with ", report)
+        self.assertIn(f"\nproof     of the sources with rt's sum {sources}\n", report)
 
     def test_another_one_is_refused(self) -> None:
         self.refused()
         self.stamp(b"another program")
         self.refused()
+        Path(f"{self.built}.stamp").write_text("0" * 64 + hashlib.sha256(self.built.read_bytes()).hexdigest())
+        self.refused()
+
+    def test_times_of_files_prove_nothing(self) -> None:
+        """Another source that is older than the program, as `cp -p` and `tar x` make it, and one that is not there any more."""
         self.stamp(self.built.read_bytes())
-        later = self.built.stat().st_mtime + 10
-        os.utime(self.folder / "crates" / "fb_text" / "src" / "lib.rt", (later, later))
+        source = self.folder / "crates" / "fb_text" / "src" / "lib.rt"
+        content, later = source.read_bytes(), self.built.stat().st_mtime + 10
+        os.utime(source, (later, later))
+        self.assertEqual(self.release().returncode, 0)
+        source.write_bytes(content + b"\n")
+        os.utime(source, (1, 1))
+        self.refused()
+        source.write_bytes(content)
+        self.assertEqual(self.release().returncode, 0)
+        source.unlink()
         self.refused()
 
     def refused(self) -> None:
@@ -253,15 +282,21 @@ class WordsTest(InFolder):
 
     def test_the_unit_starts_a_server(self) -> None:
         unit = (PACKAGING / "bench61499.service").read_text()
-        program, *words = shlex.split(re.search(r"^ExecStart=(.*)", unit, re.M)[1])
+        secret = self.write("secret", f"{'a word' * 4}\n")
+        secret.chmod(0o600)
+        started = re.search(r"^ExecStart=(.*)", unit, re.M)[1].replace("${CREDENTIALS_DIRECTORY}/secret", str(secret))
+        self.assertIn("\nLoadCredential=secret:", unit)
+        program, *words = shlex.split(started)
         self.assertEqual((program, words.pop()), ("/usr/local/bin/bench61499", "$OPTIONS"))
         self.listens(words)
         example = re.search(r"such as: OPTIONS=(.*)", unit)[1]
         self.listens(words + example.split())
 
     def test_the_container_starts_a_server(self) -> None:
-        words = re.search(r"^CMD (.*)", (PACKAGING / "Dockerfile").read_text(), re.M)[1]
+        lines = (PACKAGING / "Dockerfile").read_text()
+        words = re.search(r"^CMD (.*)", lines, re.M)[1]
         self.listens([it.strip('"') for it in words.strip("[]").split(", ")])
+        self.assertIn("\nSTOPSIGNAL SIGKILL\n", lines)
 
     @unittest.skipUnless(shutil.which("systemd-analyze"), "systemd is not installed")
     def test_systemd_takes_the_unit(self) -> None:
@@ -269,15 +304,12 @@ class WordsTest(InFolder):
         self.assertEqual(faults_of_unit(ran.stderr), [])
 
     @unittest.skipUnless(shutil.which("systemd-analyze"), "systemd is not installed")
-    def test_systemd_takes_the_lines_for_a_secret(self) -> None:
-        unit = self.write("bench61499.service", (PACKAGING / "bench61499.service").read_bytes())
-        lines = re.search(r"^(?:    .*\n)+(?=\nIn a container)", (PACKAGING / "INSTALL.md").read_text(), re.M)[0]
-        self.write("bench61499.service.d/override.conf", textwrap.dedent(lines))
-        ran = subprocess.run(["systemd-analyze", "verify", unit], env={**os.environ, "SYSTEMD_UNIT_PATH": f"{self.folder}:"}, capture_output=True, text=True)
-        self.assertEqual(faults_of_unit(ran.stderr), [])
-        started = [it for it in textwrap.dedent(lines).splitlines() if it.startswith("ExecStart=/")]
-        secret = self.write("secret", "a word\n")
-        self.listens(shlex.split(started[0].replace("${CREDENTIALS_DIRECTORY}/secret", str(secret)))[1:-1])
+    def test_the_unit_gives_little_away(self) -> None:
+        """Its exposure is at most 2.0 of 10."""
+        words = ["systemd-analyze", "security", "--offline=true", "--threshold=20", PACKAGING / "bench61499.service"]
+        ran = subprocess.run(words, capture_output=True, text=True)
+        self.assertEqual(ran.returncode, 0, ran.stdout + ran.stderr)
+        self.assertIn("\nMemoryMax=", (PACKAGING / "bench61499.service").read_text())
 
 
 if __name__ == "__main__":
