@@ -2,7 +2,7 @@
 """Runs the built program with little memory, and then with more until it is enough, on commits of several large texts, one of them refused at its last change.
 
 Whatever memory there is, the output is a front of what ample memory gives, cut between two lines: no reply changes, and no commit is answered
-before it stands. Ends with status 1 where that is not so.
+before it. Ends with status 1 if that is not so.
 
     python3 examples/little_memory.py [PROGRAM]
 """

@@ -27,7 +27,7 @@ LONGEST_SHOWN = 1000
 
 
 def bounded():
-    """Ends this process once it has used so much of a processor: time alone would end it on a machine with other work."""
+    """Ends this process once it has used this number of seconds of a processor: time alone would end it on a machine with other work."""
     resource.setrlimit(resource.RLIMIT_CPU, (LONGEST, LONGEST + 1))
 
 

@@ -34,7 +34,7 @@ WRONG_WORDS = [["--units", "0"], ["--units", "16385"], ["--history", "0"], ["--h
 
 
 class Odd:
-    """Units with odd characters or deep nesting; each change makes some of them anew."""
+    """Units with odd characters or deep nesting; each change makes some of them again."""
     def __init__(self, rng, make):
         self.r, self.make = rng, make
 
@@ -135,7 +135,7 @@ class Conversation:
         self.say({"op": "ask", "kind": "deploy", "unit": "Y"})
 
     def many_jobs(self):
-        """So many takes that none is left, and deliveries of some."""
+        """Takes until nothing is left, and deliveries of some."""
         while len(self.session.jobs) < lines.MOST_JOBS and len(self.lines) < 250:
             self.r.choices([self.commit, self.take, self.deliver], [10, 80, 5])[0]()
         for _ in range(5):

@@ -166,7 +166,7 @@ STEP_SW = "SUBAPPLICATION SW FBS F:V; END_FBS END_SUBAPPLICATION"
 
 
 class Steps:
-    """A library that changes: what each change reaches, and the faults and nets behind it."""
+    """A library that changes: what each change reaches, and the faults and nets after it."""
     def __init__(self, number, **texts):
         self.number, self.lib = number, oracle.Library(texts, "structures")
 

@@ -46,7 +46,7 @@ RETURN AND OR XOR NOT MOD TRUE FALSE IN ON ST""".split()
 SYMS = [":=", "<=", ">=", "<>", "**", "->", "..", ";", ":", ",", ".", "(", ")", "[", "]", "=", "<", ">", "+", "-", "*",
         "/", "&"]
 STRUCTURE_UNITS = UNITS + ["R", "S", "T", "U", "ANY_S", "REAL"]
-# Names of types that never stand for a unit, and some that look like them.
+# Names of types that never mean a unit, and some that look like them.
 ELEMENTARY_NAMES = """BOOL SINT INT DINT LINT USINT UINT UDINT ULINT BYTE WORD DWORD LWORD ANY ANY_ ANY_BIT REAL LREAL TIME DATE TOD
 TIME_OF_DAY DT DATE_AND_TIME STRING WSTRING ANYX ANY1 CHAR LTIME""".split()
 STRUCTURE_WORDS = ["TYPE", "END_TYPE", "STRUCT", "END_STRUCT"]
@@ -116,7 +116,7 @@ class Gen:
         return self.r.choices(kinds, weights)[0]
 
     def changed(self, lib):
-        """A library with a unit or two put anew, put for the first time or taken away; the plans follow."""
+        """A library with a unit or two put again, put for the first time or removed; the plans follow."""
         lib = dict(lib)
         for _ in range(self.several(1, 2)):
             n = self.pick(list(lib)) if self.chance(0.75) else self.pick(self.units)
@@ -264,7 +264,7 @@ class Gen:
         return "".join(out)
 
     def fields(self, p):
-        """A structure behind its name."""
+        """A structure after its name."""
         items = self.vardecls([(n, t) for n, _, t in p["vars"]])
         return [":", "STRUCT"] + sum(items, []) + ["END_STRUCT"] + ([";"] if self.chance(0.5) else [])
 
@@ -629,7 +629,7 @@ class Gen:
         return [self.pick("+-"), n] if x < 0.5 else [n]
 
     def reference(self, cls=None):
-        """A reference (tokens) and its class; of class cls where one is there and chance will."""
+        """A reference (tokens) and its class; of class cls if there is one and chance decides so."""
         if self.structures:
             return self.path(cls)
         good = []
@@ -673,7 +673,7 @@ class Gen:
         return out, got
 
     def walk(self):
-        """Names and points with [] for subscripts, and the class at the end; Free behind something wrong."""
+        """Names and points with [] for subscripts, and the class at the end; Free after something wrong."""
         if self.scope and not self.bad(0.05):
             start, ty = self.one_with_fields(self.scope)
         else:
@@ -707,7 +707,7 @@ class Gen:
         return type_class(ty)
 
     def fields_of(self, ty):
-        """The fields behind a plain type or the elements of an array, by the plans."""
+        """The fields of a type that is no array, or of the elements of an array, by the plans."""
         if ty is None or len(ty) > 1 and ty[0] != "ARRAY":
             return None
         p = self.plan.get(ty[-1].upper())

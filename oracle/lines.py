@@ -23,7 +23,7 @@ DEEPEST = 127
 # ---------------------------------------------------------------- requests
 
 def whole(digits):
-    """A whole number that is written by digits alone; of others only that they are none."""
+    """A whole number that is written by digits alone; of others only that they are no such numbers."""
     return int(digits) if digits.isdigit() and len(digits) <= 20 else finite(digits)
 
 

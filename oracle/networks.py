@@ -27,7 +27,7 @@ def in_order(joined):
 
 
 def block_of(place):
-    """The path in front of the port's name."""
+    """The path before the port's name."""
     return place.rpartition(".")[0]
 
 
@@ -57,7 +57,7 @@ class Held:
         return block_of(place) in self.types
 
     def is_outer(self, place):
-        """A port of a block or an own port of the unit: no chain goes on there."""
+        """A port of a block or an own port of the unit: no chain continues there."""
         return is_own(place) or self.is_port_of_block(place)
 
     def chains(self):

@@ -125,7 +125,7 @@ ELEMENTARY = {"BOOL", "REAL", "LREAL", "TIME", "DATE", "TOD", "TIME_OF_DAY", "DT
 
 
 def is_elementary(up):
-    """Whether a name in the place of a value's type never stands for a unit."""
+    """Whether a name in the place of a value's type never means a unit."""
     return up in ELEMENTARY or class_of_name(up) == "Free"
 
 
@@ -370,7 +370,7 @@ class Parser:
         self.need_word(closing)
 
     def type(self):
-        """A type of a value: its class, that of its elements if it is an array, the name in it, and how that stands."""
+        """A type of a value: its class, that of its elements if it is an array, the name in it, and how it is written."""
         first, form = self.i, "plain"
         if self.word("ARRAY"):
             self.take()
@@ -657,7 +657,7 @@ class Parser:
         return None
 
     def otherwise(self, k, bodies):
-        """Adds the statements behind ELSE, and tells whether it stands there."""
+        """Adds the statements after ELSE; whether there is an ELSE."""
         if not self.word("ELSE"):
             return False
         self.take()
@@ -683,7 +683,7 @@ class Parser:
 
     # -- expressions
     def ref(self, k):
-        """Names with subscripts or without; before structures two names at most, and subscripts behind the last one alone."""
+        """Names with subscripts or without; before structures two names at most, and subscripts only after the last one."""
         steps = [self.step(k)]
         while self.sym(".") and (self.structures or len(steps) == 1 and steps[0].subs is None):
             self.take()
@@ -762,7 +762,7 @@ LARGEST = 4096
 
 
 class Library:
-    """Texts by upper-case names, and what is to be said of them at a level of the language."""
+    """Texts by upper-case names, and what must be reported of them at a level of the language."""
     def __init__(self, texts, level="plain"):
         assert level in LEVELS, level
         self.texts, self.level, self.judged = texts, level, {}
@@ -773,7 +773,7 @@ class Library:
         return None if text is None else read(text, self.level != "plain")
 
     def tree(self, name):
-        """The unit of a name, None where it is absent or broken."""
+        """The unit of a name, None if it is absent or broken."""
         r = self.read(name)
         return r[1] if r is not None and r[0] == "tree" else None
 
@@ -839,7 +839,7 @@ class Library:
         return known[u.name.up]
 
     def instances(self, u, path=""):
-        """The blocks and subapplication instances of a unit with their paths, what is in one behind it."""
+        """The blocks and subapplication instances of a unit with their paths, what is in one after it."""
         for prefix, net in [(path, u)] + [(a.name.up + ".", a) for a in u.apps]:
             for i in net.insts:
                 if i.role in ("fb", "sub"):
@@ -863,7 +863,7 @@ class Library:
 
 
 def reached(start, following):
-    """All names that one comes to from those of start."""
+    """All names that are reached from those of start."""
     seen, open_names = set(), list(start)
     while open_names:
         n = open_names.pop()
@@ -935,7 +935,7 @@ class Check:
             seen.add(n.up)
 
     def type_of(self, inst):
-        """The tree of an instance's type where it is usable, else None."""
+        """The tree of an instance's type if it is usable, else None."""
         t = self.lib.tree(inst.type.up)
         return t if t is not None and t.kind == WANTED[inst.role] else None
 
@@ -1001,7 +1001,7 @@ class Check:
                 used.update((a.names, b.names))
 
     def judge(self, sort, end, source, kind, ins):
-        """("ok", type) | (13,) | (14,) | (None,) where the end is not judged"""
+        """("ok", type) | (13,) | (14,) | (None,) if the end is not checked"""
         r, what = self.judge_end(sort, end, source, kind, ins)
         COUNT["end %s %s %s %s: %s" % (kind, sort, "from" if source else "to", what, r[0])] += 1
         return r
@@ -1183,7 +1183,7 @@ class Check:
         return ty.element if ty.form == "array" else "O"
 
     def base(self, r):
-        """What a reference begins with: its type, the subscripts behind it and the steps that follow. None with a fault, and
+        """What a reference begins with: its type, the subscripts after it and the steps that follow. None with a fault, and
         where it is not judged."""
         one, two = r.steps[0], r.steps[1] if len(r.steps) > 1 and r.steps[0].subs is None else None
         i = self.ins.get(one.name.up)
@@ -1208,7 +1208,7 @@ class Check:
         return var.type, subs, r.steps[used:]
 
     def fields(self, ty, subscripted):
-        """The fields behind a type, with subscripts or without: {} where there are none, None where it is not judged."""
+        """The fields after a type, with subscripts or without: {} if there are no fields, None if it is not checked."""
         form = ty.form
         if form == "array" and subscripted:
             form, subscripted = "plain", False

@@ -76,7 +76,7 @@ def content(name):
 
 
 def filled(text):
-    """A page with all its blocks made anew."""
+    """A page with all its blocks made again."""
 
     def one(block):
         new = content(block[3]) if block[2] == "made" else None

@@ -65,7 +65,7 @@ def files(pattern):
 
 
 def line_of(path, name):
-    """The line at which a file of code or of definitions defines the name, or else the first that has it. None where none has."""
+    """The line at which a file of code or of definitions defines the name, or else the first that has it. None if no line has it."""
     lines = text_of(path).split("\n")
     defines = re.compile(rf"\b(?:fn|struct|enum|trait|const|static|abbrev|unfoldable|record|data|def)\s+(?:pub\s+)?{re.escape(name)}\b")
     has = re.compile(rf"\b{re.escape(name)}\b")
@@ -90,7 +90,7 @@ USE = re.compile(r"(?:pub |ghost )?use ([\w.]+)\.\{(.*)\};?$")
 
 
 def head_at(lines, at, indent):
-    """Of the function that begins at a line: where its contract begins, the line behind it, and whether a body stands there."""
+    """Of the function that begins at a line: where its contract begins, the line after it, and whether a body is there."""
     clause = None
     for place in range(at, len(lines)):
         line = lines[place]
@@ -137,7 +137,7 @@ def imported(line, into):
 
 
 def function_at(lines, at, place):
-    """The function whose head stands at a line, and the line behind it. A place is its crate, file, owner, trait, imports and block."""
+    """The function whose head is at a line, and the line after it. A place is its crate, file, owner, trait, imports and block."""
     head = HEAD.match(lines[at])
     clause, behind, has_body = head_at(lines, at, head[1])
     end = end_of_body(lines, behind, head[1]) if has_body else behind
@@ -186,7 +186,7 @@ def laws():
 
 
 def trait_function(it):
-    """The function of the trait that this one meets, or None where no crate has it."""
+    """The function of the trait that this one meets, or None if no crate has it."""
     return all_functions().get(f"{it.trait}::{it.name}")
 
 
@@ -253,7 +253,7 @@ def definitions(crate):
 
 @functools.cache
 def home(module, name):
-    """The crate and the file in which the definition that a `ghost use` names stands, or None where it is none of the project's definitions."""
+    """The crate and the file in which the definition is that a `ghost use` names, or None if the project does not define it."""
     parts = module.split(".")
     if len(parts) < 4 or parts[2] != "specs" or "declared" in parts:
         return None

@@ -66,7 +66,7 @@ def crates():
 
 
 def longest_chain():
-    """The parts that wait for each other the longest, by the graph of now: each is a part and a crate."""
+    """The parts that wait for each other the longest, by the graph of crates.txt: each is a part and a crate."""
     took, best = {}, {}
     for it in last_run():
         if it["edit"] != WITHOUT:

@@ -200,7 +200,7 @@ def defined(path, name):
 
 
 def in_file(path, name):
-    """The definition that a name stands for in a file."""
+    """The definition that a name means in a file."""
     file = read(path)
     if name in file.items:
         return file.items[name]

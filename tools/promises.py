@@ -54,7 +54,7 @@ def edits_of(number):
 
 @functools.cache
 def below(number):
-    """All definitions on which a promise rests by the contracts of its calls and by its laws, but for those in words of their own."""
+    """All definitions on which a promise rests by the contracts of its calls and by its laws, but for those in other words."""
     said = [it for it in map(law, laws_of(number)) if it.crate != READERS]
     places = cited([*(parts.function(*it) for it in calls_of(number)), *said])
     found = (headline.in_file(f"crates/{crate}/specs/{file}.antt", name) for crate, file, name in places)
@@ -119,7 +119,7 @@ def points_of(number):
 
 
 def wrapped(text):
-    """A point of a list in lines that are not too long. (What stands between backquotes is one word.)"""
+    """A point of a list in lines that are not too long. (What is between backquotes is one word.)"""
     kept = re.sub(r"`[^`]*`", lambda it: it[0].replace(" ", "\0"), text)
     return textwrap.fill(kept, WIDTH, subsequent_indent="  ", break_long_words=False, break_on_hyphens=False).replace("\0", " ")
 

@@ -16,7 +16,7 @@ SEARCHED = ("crates/*/src/**/*.rt", "crates/*/specs/**/*.antt", "crates/*/proofs
 
 
 def expanded(pattern):
-    """The patterns that one with {a,b} stands for."""
+    """The patterns that one with {a,b} means."""
     found = re.search(r"\{([^{}]*)\}", pattern)
     return [pattern] if not found else [it for word in found[1].split(",") for it in expanded(pattern[: found.start()] + word + pattern[found.end() :])]
 
@@ -43,7 +43,7 @@ def spelled(variant):
 
 
 def recipes():
-    """Of each recipe its title, the words of its example, the variants of its enum, and its rows of patterns with what is to be done."""
+    """Of each recipe its title, the words of its example, the variants of its enum, and its rows of patterns with what to do."""
     for section in re.split(r"^## ", parts.text_of(PAGE), flags=re.M)[1:]:
         example = re.search(r"^Example: (.*?)\n\n", section, re.M | re.S)
         if example:

@@ -35,7 +35,7 @@ GAPS = ("No second form", "No wrong body", "No test", "No refused allocation", "
 
 @dataclass
 class Row:
-    """A line of the file of rows: its kind (promise, call, refused, limit or code), its crate, its names, and what stands behind each word."""
+    """A line of the file of rows: its kind (promise, call, refused, limit or code), its crate, its names, and what is after each word."""
 
     kind: str
     crate: str
@@ -163,7 +163,7 @@ def left_out():
 
 
 def definitions(places):
-    """Definitions as documents name them: a crate once, and its files and names behind it."""
+    """Definitions as documents name them: a crate once, and then its files and names."""
     by_crate = {}
     for crate, file, name in places:
         by_crate.setdefault(crate, dict.fromkeys([])).update({f"{file}.{name}": None})
@@ -245,7 +245,7 @@ def trials():
 
 
 def memory_of(call, row):
-    """Where each allocation of a call is refused in turn: a line where it wants no memory, and nothing where it is not tried."""
+    """Where each allocation of a call is refused in turn: a line if it needs no memory, and nothing if it is not tried."""
     is_maker = call.owner and f"-> {call.owner}" in call.signature
     if not parts.wants_memory(call) and (is_maker or "alloc: Global" not in call.signature):
         return "–"
@@ -452,7 +452,7 @@ def excused(gap):
 
 
 def faults_of_gaps():
-    """What has a gap of which no reason is told, and what is told to have one and has none."""
+    """What has a gap without a reason, and what has a reason for a gap and no gap."""
     for gap, names in made()[1].items():
         yield from (f"{ROWS}: {it} is told to have {gap.lower()}, and it has one" for it in sorted(excused(gap) - set(names)))
         yield from (f"{ROWS}: it is not told why {it} has {gap.lower()}" for it in sorted(set(names) - excused(gap)))

@@ -19,7 +19,7 @@ HERE = Path(__file__).resolve().parent
 FIRST = "test_board", "test_sync", "test_structures", "test_rules", "test_board_page", "test_team", "test_library", "test_lsp"
 """The files that take longest, and so begin first."""
 MOST = 5
-"""So many tests may be run once more."""
+"""The number of tests that may be run once more."""
 LIMIT = 900.0
 """Seconds in which a file has to end."""
 

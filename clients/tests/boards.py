@@ -19,7 +19,7 @@ PATIENCE = 150
 
 @contextmanager
 def board(*words: object, folder: Path | None = None, program: str | Path | None = None) -> Iterator[Address]:
-    """A board that runs, of a workbench of its own where the words do not say `--connect`. Ctrl-C ends it even if the tests run behind a shell, which lets
+    """A board that runs, of a workbench of its own where the words do not say `--connect`. Ctrl-C ends it even if the tests run in the background of a shell, which lets
     its programs ignore that."""
     own = [] if "--connect" in words else ["--program", str(program or workbench())]
     command = ["env", "--default-signal=INT", str(CLIENTS / "board"), *map(str, words), *own]
@@ -43,7 +43,7 @@ class Address:
         self.cookie = f"bench61499_{self.port}={self.token}"
 
     def request(self, path: str, method: str = "GET", body: bytes | None = None, **headers: str) -> tuple[int, str]:
-        """The status and the content of an answer to somebody who was let in. Underscores in names of headers stand for hyphens."""
+        """The status and the content of an answer to somebody who was admitted. Underscores in names of headers mean hyphens."""
         connection = HTTPConnection("127.0.0.1", self.port, timeout=PATIENCE)
         connection.request(method, path, body, {"Cookie": self.cookie, **{name.replace("_", "-"): value for name, value in headers.items()}})
         answer = connection.getresponse()
@@ -122,7 +122,7 @@ class Viewer:
         return self
 
     def settled(self, units: int) -> Viewer:
-        """Waits until so many units are there and none is pending."""
+        """Waits until this number of units are there and none is pending."""
         return self.until(lambda it: len(it.units) == units and not {"pending", "unknown"} & it.states())
 
     def states(self) -> set[str]:

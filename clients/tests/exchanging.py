@@ -25,7 +25,7 @@ OUT = "OUT"
 
 @dataclass(frozen=True)
 class Ran:
-    """What a run told and gave back."""
+    """What a run printed and gave back."""
 
     status: int
     lines: list[str]

@@ -57,7 +57,7 @@ def checked() -> tuple[Library, ...]:
 
 
 def at_tokens(text: str, faults: tuple[Fault, ...]) -> list[tuple[str, int, int]]:
-    """Faults with the numbers of the first token at them and of the first behind."""
+    """Faults with the numbers of the first token at them and of the first after them."""
     starts = [it.start for it in tokens(text)]
     return [(it.code, sum(start < it.start for start in starts), sum(start < it.end for start in starts)) for it in faults]
 

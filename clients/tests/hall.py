@@ -75,7 +75,7 @@ def _block(name: str) -> str:
 
 
 def _cell(name: str, blocks: list[str]) -> str:
-    """A chain of blocks; the first cell holds another one behind its blocks."""
+    """A chain of blocks; the first cell holds another one after its blocks."""
     chain = [f"S{at}" for at in range(len(blocks))]
     parts = "  FBS " + " ".join(f"{it} : {block};" for it, block in zip(chain, blocks)) + " END_FBS"
     if name == "CELL_A":

@@ -75,7 +75,7 @@ class _Making:
         )
 
     def _reference(self, block: str, depth: int) -> str:
-        """A reference that goes on where there is something to go on to, or now and then where there is nothing."""
+        """A reference that continues if something can follow, and now and then if nothing can."""
         words, owner, name = "", block, self._one_of(block, [*VARIABLES, *PLUGS])
         if name in PLUGS and name != "V0":
             words, owner, name = f"{name}.", "AD", self._one_of("AD", FIELDS)

@@ -172,7 +172,7 @@ class InFolder(TestCase):
         self.write(file, text.replace(old, new))
 
     def program(self, body: str) -> Path:
-        """A program that stands in for the workbench."""
+        """A program in the place of the workbench."""
         file = self.write("workbench", f"#!{sys.executable}\nimport sys\n{body}\n")
         file.chmod(0o755)
         return file

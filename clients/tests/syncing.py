@@ -78,7 +78,7 @@ class Person:
     """
 
     def __init__(self, syncing: Syncing, own: list[str], shared: list[str], is_below: bool, seed: int):
-        """`is_below` tells at which end of a text this person mostly adds lines."""
+        """`is_below` is at which end of a text this person mostly adds lines."""
         self.syncing, self._own, self._shared, self._is_below = syncing, own, shared, is_below
         self._name = syncing.folder.name
         self._chance = random.Random(seed)
@@ -204,7 +204,7 @@ class Play:
             it.end()
 
     def type(self, seconds: float, pause: float, host: Host | None = None, host_pause: float = 0) -> None:
-        """Both type for a while, and rest between two saves for `pause` in the mean. The `sync`s, and the host if one is given, are killed and started again."""
+        """Both type for a while, and rest between two saves for `pause` on average. The `sync`s, and the host if one is given, are killed and started again."""
         end = time.monotonic() + seconds
         typing = [threading.Thread(target=it.work, args=(lambda: time.monotonic() > end, pause)) for it in self.people]
         next_host = time.monotonic() + host_pause

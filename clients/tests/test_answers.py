@@ -1,4 +1,4 @@
-"""Questions at random places of random texts, most of them with faults: each is answered, and what is answered lies in a text."""
+"""Questions at random places of random texts, most of them with faults: each is answered, and what is answered is in a text."""
 import json
 import random
 import unittest

@@ -406,7 +406,7 @@ class SharedTest(BoardTest):
         self.assertRegex(viewer.ended, "^the history of the workbench is full: .*; it is asked again once a minute$")
 
     def test_calls_are_few(self) -> None:
-        """At most two in a second in the mean, whatever others do, and one where nothing changes."""
+        """At most two in a second on average, whatever others do, and one while nothing changes."""
         board, clock = Board("many", shared=True), [1000.0]
         with mock.patch("bench61499.board.watch.time.monotonic", lambda: clock[0]):
             watch = SharedWatch(board, self.engineer, None, [f"U{at}" for at in range(160)])
@@ -466,7 +466,7 @@ class SharedTest(BoardTest):
 
 
 class ReadsTest(BoardTest):
-    """A host that gives its units and texts, and tells what happens."""
+    """A host that gives its units and texts, and reports what happens."""
 
     def setUp(self) -> None:
         super().setUp()
@@ -528,7 +528,7 @@ class ReadsTest(BoardTest):
             self.assertEqual(viewer.changes[-1]["went"], change["came"])
 
     def test_a_fault_in_the_unit_of_somebody_else(self) -> None:
-        """It is told with the commit that brought it, although another one has come since."""
+        """It is reported with the commit that brought it, although another one has come since."""
         port, engineer = self.plant()
         other = self.engineer(port)
         at = self.start("--connect", f":{port}")
@@ -807,7 +807,7 @@ class StrangersTest(BoardTest):
         self.until(lambda: at.request("/")[0] == 200)
 
     def test_no_descriptor_is_left(self) -> None:
-        """The board pauses between tries to accept, and goes on once there are descriptors again."""
+        """The board pauses between tries to accept, and continues once there are descriptors again."""
         self.copy_conveyor()
         at = self.start(".")
         pid = at.process.pid

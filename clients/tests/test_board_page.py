@@ -17,7 +17,7 @@ from bench61499.board.server import NO_TOKEN
 SETTLED = "board.connected && count().pending === 0 && board.units.size === "
 PICTURE = os.environ.get("BENCH61499_BOARD_PICTURE")
 """Where the picture for the document is written, if anywhere; beside it the dark one."""
-# Keeps all that is said: what comes later takes its place in the page.
+# Keeps all that is announced: what comes later takes its place in the page.
 HEAR = """(() => {
   const said = document.getElementById("said");
   window.heard = [said.textContent];
@@ -64,7 +64,7 @@ class PageTest(BoardTest):
         self.browser.until(f"document.querySelector('{selector}')?.innerText.split(/\\s+/).filter(Boolean).join(' ') === {words!r}")
 
     def until_said(self, words: str) -> None:
-        """Waits until something is said to those who can't see the page, or was said since it was opened."""
+        """Waits until something is announced to those who can't see the page, or was announced since it was opened."""
         self.browser.until(f"heard.some((it) => it.includes({words!r}))")
 
 
@@ -254,7 +254,7 @@ class UnitsTest(PageTest):
             self.assertRegex(self.words("#changes"), r"^LAMP new, revision 1\n\d\d:\d\d:\d\d, another session\ncame\n")
 
     def test_a_host_that_gives_its_texts(self) -> None:
-        """A colleague's commit: the fault at its place in the text, and in the feed who brought it, and who mended it."""
+        """A colleague's commit: the fault at its place in the text, and in the feed who brought it, and who corrected it."""
         texts = {file.stem: file.read_text() for file in CONVEYOR.glob("*.fb")}
         with hosting() as port, Session.connect("127.0.0.1", port) as engineer:
             engineer.commit([Put(unit, 0, text) for unit, text in texts.items()])
@@ -317,7 +317,7 @@ class NetworkTest(PageTest):
         self.assertEqual(self.words("#unit"), "LIFTER")
 
     def test_a_chosen_block_is_seen_in_the_list(self) -> None:
-        """Also where what is told of it takes the room in which it was."""
+        """Also where what is shown of it takes the room in which it was."""
         self.browser.devtools("Emulation.setDeviceMetricsOverride", width=1280, height=420, deviceScaleFactor=1, mobile=False)
         self.see_network()
         self.browser.value("network.choose(network.blocks.find((it) => it.path === 'LINE.PANEL'), false)")
@@ -371,7 +371,7 @@ class NetworkTest(PageTest):
         self.assertEqual(self.browser.value("network.scale <= 1.25 && network.boxes.every((it) => network.isSeen(it))"), True)
 
     def test_by_mouse(self) -> None:
-        """It is moved by a drag, and what was under the mouse stays there where it is zoomed by the wheel."""
+        """It is moved by a drag, and what was under the mouse stays there when it is zoomed by the wheel."""
         self.see_network()
         x, y = self.block("LINE.SECOND.LIFT")
         self.browser.drag((x, y), (x - 40, y + 20), (x - 90, y + 50))

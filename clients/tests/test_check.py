@@ -35,7 +35,7 @@ class ConveyorTest(InFolder):
         self.write(f"{it['unit']}.fb", text)
         ran = self.check("--quiet")
         self.assertEqual(ran.returncode, 1, ran.stderr)
-        # The place is the last time that the words stand in what was put in.
+        # The place is the last time that the words occur in what was put in.
         new = text.index(it["new"])
         for words in it["at"]:
             at = text.rindex(words, new, new + len(it["new"])) if words in it["new"] else text.index(words)
@@ -173,7 +173,7 @@ class FilesTest(InFolder):
 
 
 class OutputTest(InFolder):
-    """What is printed where it can't be printed as it is."""
+    """What is printed in place of what can't be printed."""
 
     def setUp(self):
         super().setUp()
@@ -240,7 +240,7 @@ class TroubleTest(InFolder):
             self.refused("^check: A was changed by somebody else while it was checked; check again\n$", "--program", self.changing(change))
 
     def changing(self, change):
-        """A workbench in which somebody makes a change behind the first question."""
+        """A workbench in which somebody makes a change after the first question."""
         commit = f'{{"op":"commit","changes":[{change}]}}\n'
         return self.program(
             f"""
@@ -282,7 +282,7 @@ class TerminalTest(InFolder):
             while piece := os.read(terminal, 4096):
                 shown += piece
         except OSError:
-            pass  # So a terminal tells its end.
+            pass  # So a terminal reports its end.
         os.close(terminal)
         os.waitpid(child, 0)
         return shown.decode()

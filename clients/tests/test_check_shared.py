@@ -1,4 +1,4 @@
-"""check with a workbench that others use too: it is asked, and changed only where that is asked for."""
+"""check with a workbench that others use too: it is asked, and changed only if that is asked for."""
 from __future__ import annotations
 
 import argparse
@@ -127,7 +127,7 @@ class HostTest(Shared):
         self.assertEqual({it["unit"]: it["difference"] for it in made["differences"]}, {"HERE": "changed here", "THERE": "changed there"})
 
     def differences(self, workbench: str, common: dict[str, str]) -> dict[str, str]:
-        """What check tells of a folder that had these texts in common with a workbench."""
+        """What check prints of a folder that had these texts in common with a workbench."""
         state = self.folder / STATE
         state.parent.mkdir(exist_ok=True)
         state.unlink(missing_ok=True)
@@ -369,7 +369,7 @@ class ServeTest(Shared):
 
 
 class EntranceTest(Shared):
-    """How a client is let in."""
+    """How a client is admitted."""
 
     def test_a_secret(self):
         self.write("a.fb", GOOD)
@@ -396,7 +396,7 @@ class EntranceTest(Shared):
 
 
 class AgainTest(unittest.TestCase):
-    """A connection that ends, though it was let in."""
+    """A connection that ends, though it was admitted."""
 
     def run_with(self, errors: list[Exception], connect: object) -> tuple[str, str]:
         def act() -> str:

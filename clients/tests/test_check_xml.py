@@ -1,4 +1,4 @@
-"""`check --xml`: a project of XML is checked where it is, with places in its files."""
+"""`check --xml`: a project of XML is checked in its place, with places in its files."""
 from __future__ import annotations
 
 import json
@@ -27,7 +27,7 @@ class CheckXmlTest(InFolder):
         return found
 
     def spoil(self) -> list[str]:
-        """Puts a mistake into each of some files, and gives the lines that are to be printed."""
+        """Puts a mistake into each of some files, and gives the lines that must be printed."""
         found = []
         for file, old, new, shown, told in (
             (f"{PLANT}/PumpUnit.sub", 'Destination="Control.START"', 'Destination="Control.STRAT"', "Control.STRAT", "PORT_UNKNOWN: PumpControl has no event STRAT; did you mean START? (Connection START -> Control.STRAT)"),

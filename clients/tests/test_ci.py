@@ -40,7 +40,7 @@ class ServerTest(InFolder):
 
 class HooksTest(ServerTest):
     def run_hooks(self) -> dict[str, tuple[int, str]]:
-        """Runs each hook as pre-commit does: in the repository that is checked, with the files that have changed where it takes them."""
+        """Runs each hook as pre-commit does: in the repository that is checked, with the files that have changed if it takes them."""
         changed = sorted(str(it.relative_to(self.folder)) for it in self.plant.glob("*.fb"))
         hooks = yaml.safe_load((TOP / ".pre-commit-hooks.yaml").read_text())
         self.assertTrue(all(it["language"] == "script" and it["files"] == r"\.fb$" for it in hooks))

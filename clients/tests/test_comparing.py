@@ -516,7 +516,7 @@ class OffersTest(InFolder):
 
 
 class Named(Session):
-    """A session that tells the port of a host for the identity of its workbench. It may lose the replies to commits, some times."""
+    """A session that gives the port of a host for the identity of its workbench. It may lose the replies to commits, some times."""
 
     port = 0
     losses = 0

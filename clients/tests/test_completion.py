@@ -63,12 +63,12 @@ class CompletionTest(unittest.TestCase):
 
 
 def is_path(text: Text, use: Use) -> bool:
-    """Whether a point follows: the name behind it belongs to this one."""
+    """Whether a point follows: the name before it belongs to this one."""
     return text.text.encode()[use.end :].lstrip().startswith(b".")
 
 
 def other_names(plant: Plant, text: Text, use: Use, wanted: Wanted) -> list[str]:
-    """Names that are offered in the place of a used one, of the same section: instances too are offered where a port may stand, as their ports may."""
+    """Names that are offered in the place of a used one, of the same section: instances too are offered where a port may be, as their ports may."""
     its = plant.declaration(plant.key(use))
     if wanted.space == TYPE or not its:
         return []

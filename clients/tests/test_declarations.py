@@ -12,7 +12,7 @@ ENDS = {"PORT_UNKNOWN", "PORT_SIDE", "DATA_TYPE", "SECOND_SOURCE", "SECOND_ADAPT
 
 
 class FaultsTest(unittest.TestCase):
-    """The places of faults are places of what was read; and where the reader can tell faults alone, both find the same ones."""
+    """The places of faults are places of what was read; and if the reader can find the faults by itself, both find the same ones."""
 
     def each_unit(self):
         """The texts that are not broken: their library, name and text, and what was read."""
@@ -63,14 +63,14 @@ class FaultsTest(unittest.TestCase):
         self.assertGreater(count, 1000)
 
     def test_ends(self):
-        """What is judged of ends is judged of ends that were read, in sections of that sort."""
+        """What is checked of ends is checked of ends that were read, in sections of that sort."""
         for library, name, unit in self.each_unit():
             ends = {(end[0].start, end[-1].end) for it in unit.connections for end in (it.source, it.destination)}
             self.assertLessEqual(self.spans(library, name, *ENDS), ends, library.texts[name])
 
 
 class NetsTest(unittest.TestCase):
-    """The networks of the workbench, made anew of the instances, the connections and the ports that were read."""
+    """The networks of the workbench, made again of the instances, the connections and the ports that were read."""
 
     def test_networks(self):
         count = 0
@@ -150,7 +150,7 @@ class Network:
 
 class BrokenTest(unittest.TestCase):
     def check(self, text):
-        """Whatever the text is, it is read, and what is found stands there."""
+        """Whatever the text is, it is read, and what is found is there."""
         encoded, unit = text.encode(), read(text)
         for it in unit.declared:
             self.assertEqual(encoded[it.start : it.end].decode(), it.words)

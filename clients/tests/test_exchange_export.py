@@ -1,4 +1,4 @@
-"""Rules of the export: forms for each tool, names put back, what is told, and what is not written."""
+"""Rules of the export: forms for each tool, names put back, what is printed, and what is not written."""
 from __future__ import annotations
 
 import re
@@ -14,7 +14,7 @@ BLOCK = "FUNCTION_BLOCK F\n{}\nEND_FUNCTION_BLOCK\n"
 
 class ExportTest(ExchangeTest):
     def export(self, text: str, tool: str = "4diac") -> tuple[Ran, str]:
-        """What is told of a text, and the one file for it."""
+        """What is printed of a text, and the one file for it."""
         for it in (self.folder / "xml").glob("*"):
             it.unlink()
         self.write("F.fb", text)
@@ -26,7 +26,7 @@ class ExportTest(ExchangeTest):
         return ran, file.read_bytes().decode()
 
     def comes_back(self, text: str, tool: str = "4diac") -> str:
-        """The file for a text that comes back as it was, of which nothing is told."""
+        """The file for a text that comes back unchanged, of which nothing is printed."""
         ran, xml = self.export(text, tool)
         self.assertEqual((ran.lines, ran.status), (["1 unit, 1 file in xml: all whole"], 0))
         self.assertEqual(imported([self.folder / "xml"], self.lib, replace=True).errors, [])

@@ -17,7 +17,7 @@ BROKEN = ("S.Belt.Start", "M.EI2", "S.Load")
 
 
 def facts(root: ElementTree.Element) -> Counter[Fact]:
-    """Each attribute of each element, with the names of those around it. Groups are told apart by what they hold."""
+    """Each attribute of each element, with the names of those around it. Groups differ by what they hold."""
     found: Counter[Fact] = Counter()
 
     def walk(it: ElementTree.Element, around: tuple[str, ...]) -> None:
@@ -33,7 +33,7 @@ def facts(root: ElementTree.Element) -> Counter[Fact]:
 
 class KeptTest(ExchangeTest):
     def back(self, *, words: str = "", ending: str = "fbt") -> tuple[ElementTree.Element, ElementTree.Element, Ran]:
-        """A file, the one that export makes of its import, and what that tells."""
+        """A file, the one that export makes of its import, and what that prints."""
         self.write(f"in/F.{ending}", words)
         with at(self.folder):
             self.assertEqual(imported(["in"], Path("lib"), replace=True).errors, [])
@@ -42,7 +42,7 @@ class KeptTest(ExchangeTest):
         return ElementTree.fromstring(words), ElementTree.parse(self.folder / f"out/F.{ending}").getroot(), ran
 
     def comes_back(self, words: str, ending: str = "fbt") -> None:
-        """Nothing of a file is lost, and nothing is told of it."""
+        """Nothing of a file is lost, and nothing is printed of it."""
         before, after, ran = self.back(words=words, ending=ending)
         self.assertEqual(list(facts(before) - facts(after)), [])
         self.assertEqual((ran.lines, ran.status), (["1 unit, 1 file in out: all whole"], 0))

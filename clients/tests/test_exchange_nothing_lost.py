@@ -69,7 +69,7 @@ def with_marks(text: str) -> tuple[str, int]:
 
 class LostTest(ExchangeTest):
     def changed(self, file: Path, text: str) -> Ran:
-        """What is told of a sample where a file has another text."""
+        """What is printed of a sample where a file has another text."""
         shutil.rmtree(self.folder)
         shutil.copytree(file.parent, self.folder, ignore=shutil.ignore_patterns("*.fb", "*.fboot"))
         encoding = "iso-8859-1" if 'encoding="ISO-8859-1"' in text else "utf-8"

@@ -1,4 +1,4 @@
-"""The samples of the exchange: each XML file with its text, all that is told, and the faults that the workbench finds then."""
+"""The samples of the exchange: each XML file with its text, all that is printed, and the faults that the workbench finds then."""
 from __future__ import annotations
 
 import unittest

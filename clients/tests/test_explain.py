@@ -1,4 +1,4 @@
-"""The explanations that depend on what stands round a place."""
+"""The explanations that depend on what is round a place."""
 import unittest
 
 from support import TestCase

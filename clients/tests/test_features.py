@@ -57,7 +57,7 @@ class ConveyorTest(LspTest):
         return self.folder / f"{name}.fb"
 
     def at(self, name: str, words: str, behind: int = 0) -> dict:
-        """The position of words in a unit, or some characters behind their begin."""
+        """The position of words in a unit, or some characters after their begin."""
         text = self.file(name).read_text()
         return position(Places(text), len(text[: text.index(words) + behind].encode()))
 
@@ -89,7 +89,7 @@ class SignatureTest(ConveyorTest):
     """The parameters of an instance while they are written."""
 
     def signature(self, written: str) -> tuple[str, str] | None:
-        """The signature behind these words, in place of the parameters of BELT, and the parameter that comes now."""
+        """The signature after these words, in place of the parameters of BELT, and the parameter that comes now."""
         file = self.file("STATION")
         text = file.read_text()
         front = text[: text.index("(LIMIT := 80)")] + written
@@ -112,7 +112,7 @@ class SignatureTest(ConveyorTest):
 
 
 class LensTest(ConveyorTest):
-    """What stands above a unit, once the folder is read."""
+    """What is above a unit, once the folder is read."""
 
     def setUp(self) -> None:
         super().setUp()
@@ -357,7 +357,7 @@ of the yard
 
 class CompletionTest(ConveyorTest):
     def check(self, name, before, *expected, with_words=False):
-        """What may stand behind these words, which are the only ones of the unit from where they begin."""
+        """What may follow these words, which are the only ones of the unit from where they begin."""
         text = self.file(name).read_text()
         front = text[: text.index(before) + len(before)]
         self.server.change(self.file(name), front)

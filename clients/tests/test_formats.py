@@ -28,7 +28,7 @@ PLANT = {
 
 
 class CodesTest(unittest.TestCase):
-    """Each code of docs/LANGUAGE.md is known where codes are told."""
+    """Each code of docs/LANGUAGE.md is known where codes are shown."""
 
     def setUp(self) -> None:
         rows = CODE_ROW.findall((TOP / "docs" / "LANGUAGE.md").read_text())

@@ -14,7 +14,7 @@ from support import workbench
 TAKE = b'{"op":"take"}\n'
 NO_JOB = b'{"job":0}\n'
 BLOCK = "FUNCTION_BLOCK {name} END_FUNCTION_BLOCK"
-# A host waits for the end of a first line of up to so many bytes.
+# A host waits for the end of a first line of up to this number of bytes.
 LONGEST_HEAD = 8_192
 SECONDS = 60.0
 
@@ -37,7 +37,7 @@ class OneConnection(unittest.TestCase):
         self.addCleanup(self.lines.close)
 
     def closed(self) -> tuple[int, bytes, bytes]:
-        """The status of the host, and what it printed behind its address."""
+        """The status of the host, and what it printed after its address."""
         out, errors = self.host.communicate(timeout=2 * SECONDS)
         return self.host.returncode, out, errors
 

@@ -31,7 +31,7 @@ class LogTest(InFolder):
 
     @contextmanager
     def following(self, port: int, *words: object) -> Iterator[Path]:
-        """A log that goes on; gives the file with what it says."""
+        """A log that continues; gives the file with what it prints."""
         said = self.folder / "said"
         with open(said, "wb") as output:
             process = subprocess.Popen([CLIENTS / "log", "--connect", f":{port}", "--follow", *map(str, words)], stdout=output, stderr=subprocess.STDOUT)
@@ -42,7 +42,7 @@ class LogTest(InFolder):
             process.wait()
 
     def commit_each(self, session: Session, said: Path, commits: Iterable[list[Change]]) -> None:
-        """Commits one after the other, each once the former one was told."""
+        """Commits one after the other, each once the former one was printed."""
         for changes in commits:
             self.await_line(said, f"commit {session.commit(changes)} by session {session.status().session}: ")
 

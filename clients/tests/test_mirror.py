@@ -1,4 +1,4 @@
-"""A copy of a workbench that is kept up to date by what its host tells."""
+"""A copy of a workbench that is kept up to date by what its host reports."""
 from __future__ import annotations
 
 import random
@@ -30,7 +30,7 @@ class MirrorTest(unittest.TestCase):
         self.engineer = self.enterContext(Session.connect("127.0.0.1", self.port))
 
     def mirror(self, all_texts: bool = False, kinds: Iterable[Kind] = ("faults",)) -> Mirror:
-        """A mirror that has begun. It tells `self.news`, and its sessions are `self.sessions`."""
+        """A mirror that has begun. It reports to `self.news`, and its sessions are `self.sessions`."""
         self.news: list[News] = []
         self.sessions: list[Session] = []
 
@@ -171,7 +171,7 @@ class MirrorTest(unittest.TestCase):
             self.assertEqual(engineer.text("A").text, A)
 
     def test_a_history_that_was_missed(self):
-        """Only what really differs is told; a commit of which nothing is known is told as none."""
+        """Only what really differs is reported; a commit of which nothing is known is reported as none."""
         self.host("--history", "100")
         self.engineer.commit([Put("A", 0, A), Put("B", 0, A), Put("C", 0, A)])
         until(lambda: not self.engineer.status().pending)
@@ -202,7 +202,7 @@ class MirrorTest(unittest.TestCase):
         self.assertEqual(mirror.value("faults", "A"), FAULTS)
 
     def test_what_was_read_before_it_was_told(self):
-        """It is told all the same, from what was told before."""
+        """It is reported all the same, from what was reported before."""
         self.host()
         self.read_before_it_is_told([])
 
@@ -228,7 +228,7 @@ class MirrorTest(unittest.TestCase):
         self.assertEqual((changed.commit is None, changed.units), (bool(asked), (UnitChange("A", Version(1), Version(2, FAULTY)),)))
 
     def stopping(self, news: list[News], stopped: threading.Event, go_on: threading.Event, it: News) -> None:
-        """Takes news, and stops the mirror once all was read until it may go on."""
+        """Takes news, and stops the mirror once all was read until it may continue."""
         news.append(it)
         if isinstance(it, Loaded):
             stopped.set()
@@ -284,7 +284,7 @@ class MirrorTest(unittest.TestCase):
 
 
 class Follower:
-    """A mirror, and what it has told."""
+    """A mirror, and what it has reported."""
 
     def __init__(self, connect: Callable[[], Session], all_texts: bool):
         self.mirror = Mirror(connect, self.hear, all_texts=all_texts)
@@ -307,7 +307,7 @@ class Follower:
                 self.faults[unit] = value
 
     def follows(self, engineer: Session, texts: dict[str, str], revisions: dict[str, int]) -> bool:
-        """Whether nothing is being computed, and the mirror has the texts, faults and networks of the workbench, and has told so."""
+        """Whether nothing is being computed, and the mirror has the texts, faults and networks of the workbench, and has reported so."""
         if engineer.status().pending:
             return False
         held = self.mirror.versions()

@@ -15,7 +15,7 @@ class PlansTest(InFolder):
         self.copy_conveyor()
 
     def check(self, *words: str) -> list[str]:
-        """The lines that are told, and the counts."""
+        """The lines that are printed, and the counts."""
         ran = run("check", ".", *words, "--program", workbench(), folder=self.folder)
         self.assertEqual(ran.stderr, "")
         lines = [it for it in ran.stdout.splitlines() if not it.startswith(" ")]
@@ -72,7 +72,7 @@ class PlansTest(InFolder):
         self.assertEqual(self.check("--plans")[:4], expected)
 
     def test_units_in_the_way(self) -> None:
-        """A unit whose own faults are the only reason is told by these."""
+        """A unit whose own faults are the only reason is reported by these."""
         self.edit("FEEDER.fb", "DONE TO IDLE", "DONE TO IDEL")
         self.edit("PLANT.fb", "END_FBS", "LAST : CRANE; END_FBS")
         self.write("ALONE.fb", "SUBAPPLICATION ALONE FBS X : CRANE; END_FBS END_SUBAPPLICATION")
@@ -98,7 +98,7 @@ class PlansTest(InFolder):
         self.assertEqual(self.check("--plans")[0], "L1.fb:1:16: TOO_LARGE: L1 has no network: it has more than 4,096 instances")
 
     def test_a_workbench_with_other_texts(self) -> None:
-        """What it answers is told at the nearest place that the files have."""
+        """What it answers is shown at the nearest place that the files have."""
         for name, inner, of in (("A", "INNER", "B"), ("B", "BACK", "A")):
             self.write(f"{name}.fb", LOOP.format(name, inner, of))
         with serving(sessions=2) as port:

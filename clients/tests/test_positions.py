@@ -58,7 +58,7 @@ def units(text):
 
 
 def is_inside(text, at):
-    """Whether a place lies between CR and LF: no position is there."""
+    """Whether a place is between CR and LF: no position is there."""
     return [bytes(it) for it in units(text)[at - 1 : at + 1]] == [b"\r\0", b"\n\0"] if at else False
 
 

@@ -1,4 +1,4 @@
-"""Which workbench the clients start: a copy of the clients stands in a repository of its own."""
+"""Which workbench the clients start: a copy of the clients is in a repository of its own."""
 from __future__ import annotations
 
 import os

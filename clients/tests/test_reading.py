@@ -66,7 +66,7 @@ class PlantTest(unittest.TestCase):
         self.assertGreater(spared, 500)
 
     def test_no_time(self):
-        """Where there is no time, what is read already is found, and it is told that there is more."""
+        """Without time, what is read already is found, and it is reported that there is more."""
         block = "FUNCTION_BLOCK %s FBS X : A; END_FBS END_FUNCTION_BLOCK"
         plant = plant_of({name: block % name for name in ("B", "C", "D")})
         plant.until = PAST
@@ -144,7 +144,7 @@ class AnswersTest(InFolder):
         return told
 
     def test_a_search_before_all_is_there(self):
-        """It gives what is there. Once all is read the user is told that there may be more, once."""
+        """It gives what is there. Once all is read the user learns that there may be more, once."""
         self.assertEqual(len(self.units()), 1)
         self.assertEqual(len(self.units()), 2)
         self.read_all()
@@ -166,7 +166,7 @@ class AnswersTest(InFolder):
         self.assertEqual(self.uses(), 9)
 
     def test_no_rename_before_all_is_read(self):
-        """A rename is all or nothing, so it is refused where it could lack a use."""
+        """A rename is all or nothing, so it is refused if it could lack a use."""
         for method in ("prepareRename", "rename"):
             answer = self.ask(f"textDocument/{method}", newName="B2", **self.at(15))
             self.assertRegex(answer["error"]["message"], r"^the units of this folder are still being read, 0 of \d so far: try again in a moment$")

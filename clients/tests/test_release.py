@@ -1,4 +1,4 @@
-"""The release, unpacked where there is no kit, and its man page, completions, unit and Dockerfile against what the program takes."""
+"""The release, unpacked without a kit, and its man page, completions, unit and Dockerfile against what the program takes."""
 from __future__ import annotations
 
 import hashlib

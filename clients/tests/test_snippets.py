@@ -1,4 +1,4 @@
-"""Snippets: each is offered where it may stand, and spells what the workbench takes."""
+"""Snippets: each is offered at its places, and spells what the workbench takes."""
 from __future__ import annotations
 
 import unittest

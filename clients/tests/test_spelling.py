@@ -1,4 +1,4 @@
-"""Uses in other capitals than their declarations: check notes them, and export spells them as declared, as 4diac tells capitals apart."""
+"""Uses in other capitals than their declarations: check notes them, and export spells them as declared, as 4diac distinguishes capitals."""
 from __future__ import annotations
 
 import json

@@ -111,7 +111,7 @@ class ReaderTest(unittest.TestCase):
         self.assertEqual([type_of_data(it) for it in ("Tank", "STRING[8]", "ARRAY [0..1] OF Tank")], ["TANK", "STRING", "TANK"])
 
     def test_references(self):
-        """Each name of them, with what it stands for as far as the text tells."""
+        """Each name of them, with what it means as far as the text shows."""
         unit = read("FUNCTION_BLOCK V VAR X : S; Y : ARRAY [0..1] OF S; END_VAR ALGORITHM A IN ST: X.F := Y[X.G, Z[1]].H.I; END_ALGORITHM")
         found = {(it.key.unit, it.key.space, it.key.name, bool(it.walk)) for it in unit.uses if it.key.space in (VARIABLE, FIELD)}
         expected = {
@@ -149,7 +149,7 @@ class ReaderTest(unittest.TestCase):
                     self.assertEqual(encoded[use.start : use.end].decode().upper(), use.key.name)
 
     def test_a_path_that_is_very_long(self):
-        """It is read in time, and nothing is told of its names far behind."""
+        """It is read in time, and nothing is reported of its names far after it."""
         text = f"FUNCTION_BLOCK V VAR X : S; END_VAR ALGORITHM A IN ST: X{'.F' * 20_000} := 1; END_ALGORITHM"
         plant = plant_of({"V": text, "S": "TYPE S : STRUCT F : S; END_STRUCT END_TYPE"})
         found = [use for _, uses in plant.uses(Key("S", FIELD, "", "F")) for use in uses]
@@ -171,7 +171,7 @@ class PlantTest(unittest.TestCase):
 
 class MeaningTest(PlantTest):
     def key(self, words: str, behind: int) -> str:
-        """The owner and the name of what stands there, where something declares it."""
+        """The owner and the name of what is there, if something declares it."""
         key = self.found(words, behind).key
         return f"{key.unit} {key.space} {key.name}" if self.plant.declaration(key) else "nothing"
 
@@ -226,7 +226,7 @@ A tank.
 
 class CompletionTest(PlantTest):
     def offered(self, words: str, name: str = "PUMP") -> list[str]:
-        """What may stand behind words, which are put in the place of the last statements."""
+        """What may follow words, which are put in the place of the last statements."""
         text = TEXTS[name][: self.at("    T.LEVEL")] + words if name == "PUMP" else words
         self.plant.put(file_of(name), text + TEXTS[name][self.at("  END_ALGORITHM") :] if name == "PUMP" else text)
         self.plant.refresh()
@@ -384,7 +384,7 @@ class FixesTest(PlantTest):
 
 
 class NoFieldsTest(unittest.TestCase):
-    """The names behind points that are no fields. Each has a `!` before it."""
+    """The names after points that are no fields. Each has a `!` before it."""
 
     UNITS = {
         "S": "TYPE S : STRUCT F:INT; A:ARRAY[0..3] OF INT; G:U; Q:ARRAY[0..1] OF U; Y:ANY; END_STRUCT; END_TYPE",
@@ -525,7 +525,7 @@ class FaultsTest(OfWorkbenchTest):
 
 
 def unknown_members(plant: Plant, text: Text) -> Iterator[tuple[int, int]]:
-    """The names behind points that are no fields, of those that are judged."""
+    """The names after points that are no fields, of those that are checked."""
     its = list(tokens(text.text))
     at = {it.start: number for number, it in enumerate(its)}
     uses = {use.start: use for use in text.unit.uses}
@@ -542,7 +542,7 @@ def unknown_members(plant: Plant, text: Text) -> Iterator[tuple[int, int]]:
 
 
 def is_judged(plant: Plant, spelled: str, is_subscripted: bool) -> bool:
-    """Whether a name behind a variable of this type has to be a field."""
+    """Whether a name after a variable of this type has to be a field."""
     name, is_array = type_of_data(spelled), spelled.upper().startswith("ARRAY")
     if is_array and not is_subscripted or not is_array and "[" in spelled:
         return True
@@ -552,7 +552,7 @@ def is_judged(plant: Plant, spelled: str, is_subscripted: bool) -> bool:
 
 
 def is_broken(text: str) -> bool:
-    """Whether a text of the random libraries is: it breaks off."""
+    """Whether a text of the random libraries is: it is cut short."""
     return "END_" not in text
 
 

@@ -58,7 +58,7 @@ class DecidingTest(unittest.TestCase):
             self.assertEqual(decide(*texts), Decision(*expected), texts)
 
     def test_no_change_of_one_side_is_undone(self) -> None:
-        """Whatever the three texts are: what one side has changed alone comes out, and what both have changed is told or merged."""
+        """Whatever the three texts are: what one side has changed alone comes out, and what both have changed is reported or merged."""
         for here, there, common in itertools.product([None, A, HOT, BELOW], repeat=3):
             step, text = decide(here, there, common)
             if here == common:

@@ -87,7 +87,7 @@ class OthersTest(TeamTest):
             self.await_told(editor, "a.fb", [(1, words)])
 
     def test_the_same_text_from_somebody_else(self) -> None:
-        """Nobody can tell that it is the same, so nothing says that the text is not checked, and nothing that it is."""
+        """Nobody can know that it is the same, so nothing says that the text is not checked, and nothing that it is."""
         file = self.write("a.fb", GOOD)
         with serving(2) as port:
             other = self.session(port)
@@ -119,7 +119,7 @@ class OthersTest(TeamTest):
             self.assertEqual(other.revision("A"), 3)
 
     def test_many_texts_are_changed_by_somebody_else(self) -> None:
-        """One message tells of all that one look has found."""
+        """One message reports all that one look has found."""
         units = [f"U{at}" for at in range(5)]
         files = [self.write(f"{unit}.fb", f"FUNCTION_BLOCK {unit} END_FUNCTION_BLOCK") for unit in units]
         none: dict[str, list[str]] = {unit: [] for unit in units}

@@ -1,4 +1,4 @@
-"""What the clients tell of names without the workbench: the same as the workbench, and of broken texts no more than it tells of them once mended."""
+"""What the clients report of names without the workbench: the same as the workbench, and of broken texts no more than it reports of them once corrected."""
 from __future__ import annotations
 
 import random

@@ -1,4 +1,4 @@
-"""The extension for Visual Studio Code: its grammar against the tokens of the clients, and its code with stand-ins for the modules of the editor."""
+"""The extension for Visual Studio Code: its grammar against the tokens of the clients, and its code with substitutes for the modules of the editor."""
 from __future__ import annotations
 
 import importlib.util

@@ -30,7 +30,7 @@ def ask(unit):
 
 
 def requests_for(texts, breaks):
-    """The whole plant, the faults of each unit, and then each break with the unit's faults, mended again at once."""
+    """The whole plant, the faults of each unit, and then each break with the unit's faults, repaired at once."""
     work = {"op": "work", "turns": 100}
     yield {"op": "commit", "changes": [{"put": unit, "base": 0, "text": text} for unit, text in texts.items()]}
     yield work

@@ -1,5 +1,5 @@
 #!/usr/bin/env python3
-"""Asks what each resource of the plant is told, moves one block to the other controller, and asks again.
+"""Asks for the commands of each resource of the plant, moves one block to the other controller, and asks again.
 
     python3 examples/conveyor/moving.py              prints networks and plans; runs BENCH61499_PROGRAM script, or the one built here
     python3 examples/conveyor/moving.py --requests   prints the request lines alone

@@ -1,4 +1,4 @@
-"""What the tests share: the oracle's modules, and conversations in short."""
+"""What the tests share: the oracle's modules, and short forms of conversations."""
 import json
 import os
 import sys

@@ -108,7 +108,7 @@ class ConversationsTest(unittest.TestCase):
 
 
 class DefaultsTest(unittest.TestCase):
-    """The limits where no argument names them are too wide for a random conversation."""
+    """The limits that no argument names are too wide for a random conversation."""
     def same(self, lines):
         given = b"\n".join(lines)
         self.assertEqual(compare.by_oracle([], given), compare.by_program(program(), [], given))
@@ -123,7 +123,7 @@ class DefaultsTest(unittest.TestCase):
 
 
 class EndsTest(unittest.TestCase):
-    """How the program ends where no conversation leads, in the words of the document."""
+    """How the program ends as no conversation makes it, in the words of the document."""
     def end(self, words=(), given=b"", **streams):
         sent = {} if "stdin" in streams else {"input": given}
         done = subprocess.run([program(), "script", *words], **sent, **{"stdout": subprocess.PIPE, **streams}, stderr=subprocess.PIPE)

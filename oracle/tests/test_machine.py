@@ -16,7 +16,7 @@ class ReachTest(unittest.TestCase):
         return {"%s %s" % (kind, "".join(sorted(n for k, n in some if k == kind))) for kind in {k for k, _ in some}}
 
     def after(self, **texts):
-        """What is pending after these are put into a plant that was judged."""
+        """What is pending after these are put into a plant that was checked."""
         talk = Talk()
         talk.put(S=S, V=V, U=U, Y=Y)
         talk.say("work", turns=1000)

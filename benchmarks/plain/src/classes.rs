@@ -43,7 +43,7 @@ impl Class {
         }
     }
 
-    /// The class that both come to together, if there is one.
+    /// The class that both have together, if there is one.
     pub fn join(self, other: Class) -> Option<Class> {
         use Class::*;
         match (self, other) {
@@ -70,7 +70,7 @@ impl Class {
     }
 }
 
-/// Whether a value's type of this name never stands for a unit.
+/// Whether a value's type of this name never means a unit.
 pub fn is_elementary(name: &str) -> bool {
     const OTHERS: &str = "REAL LREAL TIME DATE TOD TIME_OF_DAY DT DATE_AND_TIME STRING WSTRING";
     Class::of_type(name) != Class::Other || OTHERS.split(' ').any(|other| other.eq_ignore_ascii_case(name))

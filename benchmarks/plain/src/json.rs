@@ -165,7 +165,7 @@ impl Reader<'_> {
         }
     }
 
-    /// The character that is written behind a backslash.
+    /// The character that is written after a backslash.
     fn escaped(&mut self) -> Option<char> {
         let letter = self.peek()?;
         self.at += 1;

@@ -155,7 +155,7 @@ impl Desk {
         Ok(format!("{{\"returned\":{was_out}}}"))
     }
 
-    /// Takes, runs and delivers at most so many jobs.
+    /// Takes, runs and delivers at most this number of jobs.
     fn work(&mut self, turns: u64) -> String {
         let mut accepted = 0;
         for _ in 0..turns {

@@ -43,14 +43,14 @@ struct Read {
     revision: Option<u64>,
 }
 
-/// A key with what its value depends on. The value is worked out where it is delivered, if all that was read is still there.
+/// A key with what its value depends on. The value is computed when it is delivered, if all that was read is still there.
 pub struct Job {
     pub key: Key,
     reads: Vec<Read>,
 }
 
 struct Entry {
-    /// The value, where it has been needed since one of the texts that decide it was changed.
+    /// The value, if it has been needed since one of the texts that decide it was changed.
     known: Option<Value>,
     is_pending: bool,
     is_out: bool,
@@ -245,7 +245,7 @@ impl Workbench {
         }
     }
 
-    /// Makes a pending entry in place of what there is, if there is such a key.
+    /// Makes a pending entry in place of the entry, if there is such a key.
     fn renew(&mut self, key: Key) {
         if self.has_key(key) {
             self.entries.insert(key, Entry::pending());
@@ -299,7 +299,7 @@ impl Workbench {
         Job { key, reads }
     }
 
-    /// Takes a key and delivers its value at once, so that all that it needs is still there. Tells whether there was one.
+    /// Takes a key and delivers its value at once, so that all that it needs is still there. Returns whether there was one.
     pub fn work(&mut self) -> Called<bool> {
         let Some(key) = self.take_key()? else {
             return Ok(false);
@@ -309,7 +309,7 @@ impl Workbench {
         Ok(true)
     }
 
-    /// Takes the result of a job. It is worked out from the present texts, since those that the job has read have to be the same.
+    /// Takes the result of a job. It is computed from the present texts, since those that the job has read have to be the same.
     pub fn deliver(&mut self, job: &Job) -> Called<Delivered> {
         self.history.check()?;
         let answer = self.delivery(job);
@@ -345,7 +345,7 @@ impl Workbench {
         self.library.get(read.name).map(|held| held.revision) == read.revision
     }
 
-    /// Takes a key's handed-out mark away, and tells whether it had one.
+    /// Takes a key's handed-out mark away, and returns whether it had one.
     pub fn give_back(&mut self, key: Key) -> Called<bool> {
         self.history.check()?;
         let place = self.place(key);

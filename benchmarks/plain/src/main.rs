@@ -54,7 +54,7 @@ fn run(desk: &mut Desk) -> Result<(), &'static str> {
     let mut line = Vec::new();
     loop {
         line.clear();
-        // Two bytes more than a line may have: its end, and one that tells that it is too long.
+        // Two bytes more than a line may have: its end, and one that shows that it is too long.
         let mut limited = input.by_ref().take(LONGEST_LINE as u64 + 2);
         let count = limited.read_until(b'\n', &mut line).map_err(|_| "read failed")?;
         let text = line.strip_suffix(b"\n").unwrap_or(&line);

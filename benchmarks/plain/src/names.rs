@@ -7,7 +7,7 @@ use std::rc::Rc;
 /// The most bytes of a name.
 pub const LONGEST_NAME: usize = 64;
 
-/// A name in upper case, by its number. Numbers begin at 1, so that no name takes no more room than a name.
+/// A name in upper case, by its number. Numbers begin at 1, so that an absent name takes the room of a name.
 #[derive(Clone, Copy, PartialEq, Eq, PartialOrd, Ord, Hash, Debug)]
 pub struct Symbol(NonZeroU32);
 

@@ -1,4 +1,4 @@
-//! The plan of a system: where its blocks stand, and the constants that are written to them. Its commands are made where they are shown.
+//! The plan of a system: where its blocks are, and the constants that are written to them. Its commands are made where they are shown.
 
 use crate::library::Library;
 use crate::names::{Names, Symbol};
@@ -67,7 +67,7 @@ struct Mapped {
 struct Node {
     /// The resource that the first mapping of the path names.
     home: Option<u32>,
-    /// Something stands there.
+    /// Something is there.
     is_met: bool,
 }
 
@@ -87,7 +87,7 @@ impl Mapped {
         mapped
     }
 
-    /// The node of a path, which is made where it is not there.
+    /// The node of a path, which is made if it is not there.
     fn node(&mut self, path: &[Symbol]) -> usize {
         let mut node = 0;
         for name in path {
@@ -102,7 +102,7 @@ impl Mapped {
 }
 
 impl Mapped {
-    /// Whether something stands at a path, which a mapping has.
+    /// Whether something is at a path, which a mapping has.
     fn is_met(&self, path: &[Symbol]) -> bool {
         let child = |node, name: &Symbol| self.children.get(&(node, *name)).copied();
         path.iter().try_fold(0, child).is_some_and(|node| self.nodes[node].is_met)
@@ -124,7 +124,7 @@ impl Mapped {
         Place { node, home }
     }
 
-    /// Goes on to a place of this name, which is there.
+    /// Continues at a place of this name, which is there.
     fn meet(&mut self, outer: Place, name: Symbol) -> Place {
         let node = outer.node.and_then(|node| self.children.get(&(node, name)).copied());
         let mut home = outer.home;
@@ -161,7 +161,7 @@ impl<'a> Planner<'a> {
         }
     }
 
-    /// Goes over all that stands in the system.
+    /// Goes over all that is in the system.
     fn applications(&mut self, unit: Symbol, system: &System, flat: &Flat) {
         for (item, application) in flat.items.iter().zip(&system.applications) {
             let place = self.mapped.meet(self.mapped.root(), item.name);
@@ -238,7 +238,7 @@ impl<'a> Planner<'a> {
         homeless.map(|number| shown.path(*number).to_string()).collect()
     }
 
-    /// The mapped paths at which nothing stands, in order, each once.
+    /// The mapped paths at which nothing is, in order, each once.
     fn astray(&self, system: &System, names: &Names) -> Vec<String> {
         let paths = system.mappings.iter().map(|mapping| &mapping.path);
         let mut found: Vec<String> = paths.filter(|path| !self.mapped.is_met(path)).map(|path| dotted(path, names)).collect();

@@ -138,7 +138,7 @@ fn add_plan(out: &mut String, plan: &Plan, names: &Names) {
     }
 }
 
-/// What is said of one resource, each list in its order.
+/// What is shown of one resource, each list in its order.
 #[derive(Clone, Default)]
 struct Told {
     blocks: Vec<u32>,

@@ -18,7 +18,7 @@ impl Span {
         }
     }
 
-    /// From where this one starts to where the other ends.
+    /// From the start of this one to the end of the other.
     pub fn through(self, last: Span) -> Span {
         Span {
             start: self.start,
@@ -80,7 +80,7 @@ fn comment_len(rest: &[u8]) -> Option<usize> {
     Some(close + 4)
 }
 
-/// The token that begins there, where neither a blank nor a comment does.
+/// The token that begins there, if neither a blank nor a comment does.
 fn token(text: &str, at: usize, quotes: &mut Quotes) -> (Kind, usize) {
     let rest = &text[at..];
     let bytes = rest.as_bytes();
@@ -109,7 +109,7 @@ fn is_word_byte(byte: u8) -> bool {
     byte.is_ascii_alphanumeric() || byte == b'_'
 }
 
-/// How many bytes at the front meet the condition.
+/// How many bytes at the start meet the condition.
 fn run(bytes: &[u8], meets: impl Fn(u8) -> bool) -> usize {
     bytes.iter().take_while(|b| meets(**b)).count()
 }
@@ -153,7 +153,7 @@ fn with_exponent(bytes: &[u8], len: usize) -> usize {
     }
 }
 
-/// What may stand in a typed literal beside letters, digits, `_`, `#` and points.
+/// What may be in a typed literal beside letters, digits, `_`, `#` and points.
 #[derive(Clone, Copy, PartialEq, Eq)]
 enum Typed {
     Plain,
@@ -201,7 +201,7 @@ fn belongs(bytes: &[u8], at: usize, typed: Typed) -> bool {
     }
 }
 
-/// Up to where no text that begins with one of both quotes is closed, so that a text of quotes that are never closed is not gone through again from each.
+/// Up to the place from which no text that begins with one of both quotes is closed, so that a text of quotes that are never closed is not gone through again from each.
 #[derive(Default)]
 struct Quotes {
     single: usize,
@@ -227,7 +227,7 @@ impl Quotes {
     }
 }
 
-/// How long the text is that begins with a quote, or else up to where none is closed that begins with such a quote.
+/// How long the text is that begins with a quote, or else up to the place from which no text is closed that begins with such a quote.
 fn quoted_len(rest: &str) -> Result<usize, usize> {
     let mut chars = rest.char_indices();
     let quote = chars.next().map(|(_, quote)| quote);

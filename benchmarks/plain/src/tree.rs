@@ -91,13 +91,13 @@ pub struct Variable {
     pub type_use: Type,
 }
 
-/// A type where it is used.
+/// A type at the place of its use.
 #[derive(Clone, Copy)]
 pub struct Type {
     pub class: Class,
     /// The class of the elements of an array.
     pub element: Option<Class>,
-    /// A length stands behind the name.
+    /// A length is after the name.
     pub has_length: bool,
     /// The name in it, unless that is elementary.
     pub mentioned: Option<Symbol>,
@@ -122,7 +122,7 @@ pub enum Constant {
 pub struct Network {
     pub instances: Vec<Instance>,
     pub connections: Vec<Connection>,
-    /// A section of blocks or connections stands there, an empty one too.
+    /// A section of blocks or connections is there, an empty one too.
     pub is_written: bool,
     instance_places: Places,
 }
@@ -132,7 +132,7 @@ impl Network {
         self.instance_places = first_places(self.instances.iter().map(|i| i.name.symbol));
     }
 
-    /// The place of the instance that the name stands for.
+    /// The place of the instance that the name means.
     pub fn place(&self, name: Symbol) -> Option<usize> {
         self.instance_places.get(&name).map(|place| *place as usize)
     }
@@ -202,7 +202,7 @@ pub struct Chart {
     pub states: Vec<State>,
     pub transitions: Vec<Transition>,
     pub algorithms: Vec<Algorithm>,
-    /// A section of states stands there, an empty one too.
+    /// A section of states is there, an empty one too.
     pub is_written: bool,
 }
 
@@ -230,7 +230,7 @@ pub struct Algorithm {
 }
 
 pub enum Statement {
-    /// `;`, `EXIT` and `RETURN`, of which nothing is judged.
+    /// `;`, `EXIT` and `RETURN`, of which nothing is checked.
     Plain,
     Assign {
         to: Reference,
@@ -258,14 +258,14 @@ pub enum Statement {
 
 pub struct Reference {
     pub name: Name,
-    /// Where the last name ends, or the subscripts behind it.
+    /// Where the last name ends, or the subscripts after it.
     pub end: u32,
-    /// What stands behind the first name.
+    /// What is after the first name.
     pub steps: Box<[Step]>,
 }
 
 pub enum Step {
-    /// One of the subscripts behind a name.
+    /// One of the subscripts after a name.
     Subscript(Expression),
     /// A further name.
     Member(Name),

@@ -131,7 +131,7 @@ impl<'a> Judge<'a> {
 #[derive(Clone, Copy)]
 struct Place {
     type_use: Type,
-    /// Subscripts stand behind the name.
+    /// Subscripts are after the name.
     is_subscripted: bool,
 }
 
@@ -164,7 +164,7 @@ impl<'a> Judge<'a> {
         class.unwrap_or(Class::Free)
     }
 
-    /// The class of what these steps lead to, or none where a name is unknown, which is reported, or not judged.
+    /// The class of what these steps lead to, or none where a name is unknown, which is reported, or not checked.
     fn followed(&mut self, mut place: Place, steps: &[Step]) -> Option<Class> {
         for step in steps {
             let Step::Member(name) = step else {
@@ -183,7 +183,7 @@ impl<'a> Judge<'a> {
         Some(place.class())
     }
 
-    /// What a reference begins with and the steps that follow, or none where that is unknown, which is reported, or not judged.
+    /// What a reference begins with and the steps that follow, or none if that is unknown, which is reported, or not checked.
     fn beginning<'r>(&mut self, reference: &'r Reference) -> Option<(Place, &'r [Step])> {
         let first = reference.name;
         let second = match reference.steps.first() {
@@ -206,7 +206,7 @@ impl<'a> Judge<'a> {
         }
     }
 
-    /// The field of this name of what stands before it.
+    /// The field of this name of what is before it.
     fn field(&self, place: Place, name: Symbol) -> Sought<&'a Variable> {
         let Type { class, element, .. } = place.type_use;
         let (class, is_plain) = match element {

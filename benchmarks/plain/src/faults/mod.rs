@@ -101,7 +101,7 @@ pub fn faults(name: Symbol, source: &Source, library: &Library) -> Vec<Fault> {
     faults
 }
 
-/// For each instance its type, where that is usable: present, not broken and of the wanted kind.
+/// For each instance its type, if that is usable: present, not broken and of the wanted kind.
 fn usable_types<'a>(network: &Network, library: &'a Library) -> Vec<Option<&'a Unit>> {
     let types = network.instances.iter().map(|instance| {
         let unit = library.unit(instance.type_name.symbol)?;
@@ -118,9 +118,9 @@ struct Judge<'a> {
     faults: Vec<Fault>,
 }
 
-/// What a name stands for that is sought in a type.
+/// What a name means that is sought in a type.
 enum Sought<T> {
-    /// The type is not usable, so the name is not judged.
+    /// The type is not usable, so the name is not checked.
     Unjudged,
     Unknown,
     Found(T),
@@ -160,7 +160,7 @@ impl<'a> Judge<'a> {
         role.is_adapter().then(|| (role, self.types[place]))
     }
 
-    /// What `p.X` stands for, p an own plug or socket.
+    /// What `p.X` means, p an own plug or socket.
     fn port<T>(&self, plug: Symbol, find: impl Fn(Role, &'a Unit) -> Option<T>) -> Sought<T> {
         match self.adapter(plug) {
             None => Sought::Unknown,
@@ -177,7 +177,7 @@ impl<'a> Judge<'a> {
         self.port(plug, |role, unit| Some((role, unit.interface.event(name)?)))
     }
 
-    /// Whether an end is an event of this side, or is not judged. Seen from the unit, the sides of a socket's type are turned round.
+    /// Whether an end is an event of this side, or is not checked. Seen from the unit, the sides of a socket's type are turned round.
     fn is_event(&self, end: &End, side: Side) -> bool {
         let Some(name) = end.second else {
             return self.unit.interface.event(end.first).is_some_and(|event| event.side == side);

@@ -6,7 +6,7 @@ use crate::names::Symbol;
 use crate::tree::{Connection, End, Instance, Network, Role, Side, Sort, Type, Unit, UnitKind};
 use std::collections::HashSet;
 
-/// What an end of a connection comes to.
+/// What an end of a connection means.
 enum Judged {
     /// A port of the right side.
     Port(Port),
@@ -38,7 +38,7 @@ struct Seen {
 }
 
 impl<'a> Judge<'a> {
-    /// Judges the network of the unit, or that of an application of a system.
+    /// Checks the network of the unit, or that of an application of a system.
     pub(super) fn network(&mut self, network: &Network, types: &[Option<&'a Unit>]) {
         self.duplicates(network.instances.iter().map(|instance| instance.name));
         for (instance, unit) in network.instances.iter().zip(types) {
@@ -81,7 +81,7 @@ impl<'a> Judge<'a> {
         }
     }
 
-    /// Judges two ports of the right sides.
+    /// Checks two ports of the right sides.
     fn joined(&mut self, connection: &Connection, from: Port, to: Port) {
         if !are_same(from, to) {
             self.report(Code::DataType, connection.destination.span);
@@ -158,7 +158,7 @@ fn adapter_of(network: &Network, name: Symbol, role: Role) -> Judged {
     }
 }
 
-/// The side that a port has where it is seen from outside.
+/// The side that a port has as it is seen from outside.
 fn outer_side(is_source: bool) -> Side {
     if is_source {
         Side::Output
@@ -185,7 +185,7 @@ impl<'a> Judge<'a> {
         if role.is_adapter() && (self.unit.kind != UnitKind::Block || sort == Sort::Adapter) {
             return UNKNOWN;
         }
-        // Inside the unit, a plug stands for the inputs of its type as sources, a socket for the outputs.
+        // Inside the unit, a plug means the inputs of its type as sources, a socket for the outputs.
         let side = outer_side(is_source != (role == Role::Plug));
         match scope.types[place] {
             None => Judged::Unjudged,

@@ -89,7 +89,7 @@ impl Workbench {
         }
     }
 
-    /// Composes the inner nets that are not known, and the net of the unit, which comes behind them.
+    /// Composes the inner nets that are not known, and the net of the unit, which comes after them.
     fn composed_in_order(&mut self, unit: Symbol, order: Vec<Symbol>) -> Net {
         let kind = Kind::Net;
         for inner in order.into_iter().take_while(|inner| *inner != unit) {
@@ -116,7 +116,7 @@ impl Workbench {
         flat.map_or(Net::TooLarge, |flat| Net::Flat(Rc::new(flat)))
     }
 
-    /// The flat network of a type, or none where it is too large, if one of both is known.
+    /// The flat network of a type, or none if it is too large, if one of both is known.
     fn inner(&self, name: Symbol) -> Option<Option<Rc<Flat>>> {
         match self.known(Kind::Net, name) {
             Some(Value::Net(net)) => match &**net {

@@ -25,11 +25,11 @@ pub struct Item {
     pub name: Symbol,
     /// The type of an instance. An application has that of its system.
     pub type_name: Symbol,
-    /// Where it is declared, among the instances of the network or the applications of the system.
+    /// The place of its declaration, among the instances of the network or the applications of the system.
     pub place: u32,
     /// The number of its first block.
     pub first: u32,
-    /// What stands in it, if it is no block.
+    /// What is in it, if it is no block.
     pub inner: Option<Rc<Flat>>,
 }
 
@@ -69,7 +69,7 @@ impl Spot {
 }
 
 impl Flat {
-    /// Adds an item, which holds so many instances.
+    /// Adds an item, which holds this number of instances.
     fn add(&mut self, name: Symbol, type_name: Symbol, place: usize, inner: Option<Rc<Flat>>) {
         let item = Item {
             name,
@@ -101,14 +101,14 @@ impl Flat {
 /// Composes flat networks of those of inner types.
 pub struct Composer<'a> {
     pub library: &'a Library,
-    /// The flat network of a subapplication type, or none where it is too large.
+    /// The flat network of a subapplication type, or none if it is too large.
     pub inner: &'a dyn Fn(Symbol) -> Option<Rc<Flat>>,
 }
 
 // ---- networks
 
 impl Composer<'_> {
-    /// The flat network of a subapplication or a system, or none where it is too large.
+    /// The flat network of a subapplication or a system, or none if it is too large.
     pub fn unit(&self, unit: &Unit) -> Option<Flat> {
         let mut flat = self.network(&unit.network)?;
         for (place, application) in unit.system.applications.iter().enumerate() {
@@ -146,7 +146,7 @@ impl Composer<'_> {
 
 // ---- connections
 
-/// The ports of blocks behind the ends of a connection.
+/// The ports of blocks at the ends of a connection.
 #[derive(Default)]
 struct Ends {
     froms: Vec<Spot>,
@@ -198,7 +198,7 @@ impl Composer<'_> {
     }
 }
 
-/// Finds the ports of blocks behind an end: none behind an own port.
+/// Finds the ports of blocks at an end: none at an own port.
 fn spots_behind(network: &Network, sort: Sort, end: &End, flat: &Flat, found: &mut Vec<Spot>) {
     found.clear();
     let (Some(port), Some(place)) = (end.second, network.place(end.first)) else {

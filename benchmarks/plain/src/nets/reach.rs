@@ -23,7 +23,7 @@ enum Step {
     Leave(Symbol),
 }
 
-/// The units and what they reach by parts, each after all of its parts, or none where one of them reaches itself. What the first unit reaches
+/// The units and what they reach by parts, each after all of its parts, or none if one of them reaches itself. What the first unit reaches
 /// comes first, up to that unit. Names that are done are passed over with all that they rest on, of which none reaches itself.
 pub fn inner_first(units: &[Symbol], library: &Library, is_done: impl Fn(Symbol) -> bool) -> Option<Vec<Symbol>> {
     let mut found = Vec::new();

@@ -6,7 +6,7 @@ use std::cmp::Ordering;
 
 /// A block as it is shown.
 struct Block {
-    /// Where its path stands in the text of all paths.
+    /// Where its path is in the text of all paths.
     start: usize,
     end: usize,
     type_name: Symbol,
@@ -58,7 +58,7 @@ impl<'a> Shown<'a> {
         self.blocks[number as usize].rank
     }
 
-    /// Adds the paths of all blocks of this network, which stands behind these names.
+    /// Adds the paths of all blocks of this network, which is after these names.
     fn add_paths(&mut self, flat: &Flat, front: &mut String) {
         for item in &flat.items {
             let len = front.len();

@@ -1,4 +1,4 @@
-//! From tokens to a tree, or to the first token that no unit goes on with.
+//! From tokens to a tree, or to the first token with which no unit continues.
 
 mod charts;
 mod sections;
@@ -187,7 +187,7 @@ impl Parser<'_> {
         Ok(unit)
     }
 
-    /// Reads a section of the unit, and tells whether there was one.
+    /// Reads a section of the unit, and returns whether there was one.
     fn section(&mut self, unit: &mut Unit) -> Parsed<bool> {
         let Some(Kind::Reserved(word)) = self.kind() else {
             return Ok(false);

@@ -57,7 +57,7 @@ impl Parser<'_> {
         Ok(names)
     }
 
-    /// The fields of a structure, behind its name.
+    /// The fields of a structure, after its name.
     pub(super) fn fields(&mut self, interface: &mut Interface) -> Parsed<()> {
         self.need_sign(Sign::Colon)?;
         self.need_word(Keyword::Struct)?;
@@ -261,7 +261,7 @@ impl Parser<'_> {
         }
         self.need_sign(Sign::Semicolon)?;
         if role != Role::Block {
-            // Those of plugs and sockets are read and not judged.
+            // Those of plugs and sockets are read and not checked.
             parameters.clear();
         }
         Ok(Instance {
@@ -272,7 +272,7 @@ impl Parser<'_> {
         })
     }
 
-    /// Parameters in parentheses, if they stand there.
+    /// Parameters in parentheses, if they are there.
     pub(super) fn parameters(&mut self) -> Parsed<Vec<(Name, Constant)>> {
         let mut found = Vec::new();
         if !self.eat_sign(Sign::Open) || self.eat_sign(Sign::Close) {

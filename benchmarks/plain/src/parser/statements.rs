@@ -169,7 +169,7 @@ impl Parser<'_> {
         self.need_word(Keyword::Until)?;
         let condition = self.expression(level)?;
         self.need_word(Keyword::EndRepeat)?;
-        // It is judged as a WHILE.
+        // It is checked as a WHILE.
         Ok(Statement::While { condition, body })
     }
 }
@@ -236,7 +236,7 @@ impl Parser<'_> {
         Ok(Reference { name, end, steps })
     }
 
-    /// Adds the subscripts behind a name, if they stand there. Then `end` becomes where they end.
+    /// Adds the subscripts after a name, if they are there. Then `end` becomes where they end.
     fn subscripts(&mut self, level: u32, steps: &mut Vec<Step>, end: &mut u32) -> Parsed<()> {
         if level < DEEPEST && self.eat_sign(Sign::OpenBracket) {
             steps.push(Step::Subscript(self.expression(level + 1)?));
@@ -249,7 +249,7 @@ impl Parser<'_> {
     }
 }
 
-/// One operand more: in the row on the left, where that is of the same strength, or in a new one.
+/// One operand more: in the row on the left, if that is of the same strength, or in a new one.
 fn with_operand(left: Expression, is_same: bool, operand: (Operator, Span, Expression)) -> Expression {
     match left {
         Expression::Row { first, mut rest } if is_same => {
