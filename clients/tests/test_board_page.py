@@ -294,7 +294,7 @@ class NetworkTest(PageTest):
     def block(self, path: str) -> tuple[float, float]:
         """Where the middle of a block is in the window."""
         x, y = self.browser.value(f"""(() => {{
-          const it = network.blocks.find((it) => it.path === {path!r}), at = network.canvas.getBoundingClientRect();
+          const it = network.shown.find((it) => it.path === {path!r}), at = network.canvas.getBoundingClientRect();
           return [at.left + network.x + (it.x + it.w / 2) * network.scale, at.top + network.y + (it.y + 10) * network.scale];
         }})()""")
         return x, y
@@ -354,6 +354,51 @@ class NetworkTest(PageTest):
         self.assertEqual(self.browser.value("network.way.wires.size"), 7)
         self.edit("STATION.fb", "SEEN TO BELT.SEEN;", "")
         self.browser.until("network.wires.length === 8 && network.way?.wires.size === 6")
+
+    def test_subapplications_open_and_close_by_a_click(self) -> None:
+        self.see_network()
+        shown = "network.shown.map((it) => it.path)"
+        self.assertEqual(self.browser.value("network.view.opened"), ["LINE.FIRST", "LINE.SECOND"])
+        self.browser.value("document.querySelector('[title=\"Close all subapplications\"]').click()")
+        self.browser.until(f"{shown}.length === 3")
+        self.assertEqual(self.browser.value(shown), ["LINE.FIRST", "LINE.SECOND", "LINE.PANEL"])
+        self.assertEqual(self.words(".row-tools .number"), "5 blocks")
+        self.browser.click(*self.block("LINE.FIRST"))
+        self.browser.until(f"{shown}.length === 4 && network.view.folds.length === 1")
+        self.assertEqual(self.browser.value("network.shown.map((it) => it.label)"), ["BELT", "LIFT", "LINE.SECOND", "LINE.PANEL"])
+        self.browser.until("(() => { const [[, , x, y]] = network.view.folds; return !network.planned && network.titleAt((x + 30) * network.scale + network.x, (y + 10) * network.scale + network.y); })()")
+        left, top = self.browser.value("(() => { const [[, , x, y]] = network.view.folds, { left, top } = network.canvas.getBoundingClientRect(); return [left + (x + 30) * network.scale + network.x, top + (y + 10) * network.scale + network.y]; })()")
+        self.browser.click(left, top)
+        self.browser.until(f"{shown}.length === 3")
+
+    def test_a_block_in_a_closed_subapplication_is_found_and_shown(self) -> None:
+        self.see_network()
+        self.browser.value("network.reopen('-')")
+        self.browser.until("network.shown.length === 3")
+        self.browser.press("b", *"second.lift", "Enter")
+        self.browser.until("network.chosen?.path === 'LINE.SECOND.LIFT'")
+        self.assertEqual(self.browser.value("network.view.opened"), ["LINE.SECOND"])
+        self.browser.value("network.trace('LINE.PANEL.VALUE', true)")
+        self.until_words("#way", "LINE.PANEL.VALUE is fed by 4 blocks, 2 resources, 3 cut links")
+        self.assertEqual(self.browser.value("[...network.way.blocks].map(([it, step]) => `${step} ${it.path}`)"), ["1 LINE.SECOND.LIFT", "2 LINE.SECOND.BELT", "3 LINE.FIRST"])
+        self.browser.value("network.canvas.focus()")
+        self.browser.press("Escape", "Escape", "Right")
+        self.browser.value("network.choose(network.shown.find((it) => it.inner), true)")
+        self.until_words(".block", "2 blocks")
+        self.browser.press("Enter")
+        self.browser.until("network.view.opened.length === 2")
+
+    def test_cut_links_of_a_small_picture_are_one_with_their_number(self) -> None:
+        self.see_network()
+        painted = """(() => {
+          const { context } = network, found = [];
+          network.scale = 0.2;
+          context.fillText = (words) => found.push(words);
+          network.paint();
+          delete context.fillText;
+          return found;
+        })()"""
+        self.assertEqual([it for it in self.browser.value(painted) if it.isdecimal()], ["2", "2"])
 
     def test_search_zoom_and_move(self) -> None:
         self.see_network()
@@ -416,7 +461,7 @@ class NetworkTest(PageTest):
           return [found.map(([words]) => words), Math.max(...found.map(([, right]) => right)) <= network.window.right];
         })()"""
         words, is_inside = self.browser.value(painted)
-        self.assertEqual(sorted(words), ["FIRST.BELT", "FIRST.LIFT", "NORTH.MOTION", "PANEL", "SECOND.BELT", "SECOND.LIFT", "SOUTH.MOTION", "SOUTH.SCREEN"])
+        self.assertEqual(sorted(it for it in words if not it.isdecimal() and "⊟" not in it), ["FIRST.BELT", "FIRST.LIFT", "NORTH.MOTION", "PANEL", "SECOND.BELT", "SECOND.LIFT", "SOUTH.MOTION", "SOUTH.SCREEN"])
         self.assertTrue(is_inside)
 
     def test_it_follows_changes(self) -> None:

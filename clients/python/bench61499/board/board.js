@@ -526,7 +526,8 @@ let network = null;
 async function refreshNetwork(still) {
   if (!isNewer("net", "deploy")) return note(renewing() ? "A change may reach it; it is being computed again." : network?.note ?? "");
   const { clientWidth, clientHeight } = $("panel");
-  const view = await ask("/net", { name: shown.unit, aspect: (Math.max(1, clientWidth - 240) / Math.max(1, clientHeight - 60)).toFixed(2) });
+  const open = network?.unit === shown.unit && network.canvas.isConnected ? network.wanted() : "auto";
+  const view = await ask("/net", { name: shown.unit, aspect: (Math.max(1, clientWidth - 240) / Math.max(1, clientHeight - 60)).toFixed(2), open });
   if (!still()) return;
   shown.serial = view.serial;
   if (view.state !== "flat") return say(...whyNot(view));
@@ -564,6 +565,13 @@ function nameShortly(blocks) {
   }
 }
 
+/** Where the line between the middles of two frames leaves the first one. */
+function edgeOf(one, other) {
+  const [x, y] = [one.x + one.w / 2, one.y + one.h / 2], [dx, dy] = [other.x + other.w / 2 - x, other.y + other.h / 2 - y];
+  const part = Math.min(dx ? one.w / 2 / Math.abs(dx) : Infinity, dy ? one.h / 2 / Math.abs(dy) : Infinity, 1);
+  return [x + dx * part, y + dy * part];
+}
+
 /** The picture of a network: it can be moved, zoomed and searched, and a block of it chosen. */
 class NetworkView {
   constructor(unit) {
@@ -574,6 +582,8 @@ class NetworkView {
     this.chosen = null;
     this.found = new Set();
     this.way = null;
+    this.open = null;
+    this.awaited = "";
     this.list = new LongList(
       make("div", { class: "list", id: "blocks", role: "listbox", tabindex: 0, "aria-label": "Blocks" }),
       fillBlock, (block) => this.choose(block, true),
@@ -589,37 +599,46 @@ class NetworkView {
     this.matches = make("span", { class: "dim number", role: "status" });
     this.told = make("p", { class: "way", role: "status", id: "way", hidden: "" });
     const button = (words, label, act) => make("button", { "aria-label": label, title: label, onclick: act }, words);
+    this.folding = [button("⊞", "Open all subapplications", () => this.reopen("all")), button("⊟", "Close all subapplications", () => this.reopen("-"))];
     const legend = make("span", { class: "legend", "aria-hidden": "true" }, ...["event", "data", "adapter", "cut"].map((it) => make("span", { class: it }, it)));
     return [
       make("div", { class: "row-tools" }, this.field, this.matches, button("−", "Smaller", () => this.zoom(1 / 1.3)), button("+", "Larger", () => this.zoom(1.3)),
-        button("Whole", "The whole network", () => this.fit()), legend),
+        button("Whole", "The whole network", () => this.fit()), ...this.folding, legend),
       make("div", { class: "network" }, make("div", { class: "picture" }, this.canvas, this.told), make("div", { class: "aside" }, this.list.box, this.about)),
     ];
   }
 
   take(view) {
     this.view = view;
-    this.boxes = view.boxes.map(([path, type, home, tag, x, y, w, h, rows], at) => ({ at, path, type, home, tag, x, y, w, h, rows: view.rows[rows], ends: [] }));
-    this.blocks = this.boxes.filter((it) => it.tag === null);
-    nameShortly(this.blocks);
-    this.wires = view.wires.map(([sort, a, aLeft, aRow, b, bLeft, bRow, label, cut, way]) => {
-      const from = this.end(this.boxes[a], aLeft, aRow), to = this.end(this.boxes[b], bLeft, bRow);
+    this.boxes = view.boxes.map(([path, type, home, tag, x, y, w, h, rows, inner], at) => ({ at, path, type, home, tag, x, y, w, h, rows: view.rows[rows], inner, ends: [] }));
+    this.shown = this.boxes.filter((it) => it.tag === null);
+    this.blocks = [...this.shown.filter((it) => !it.inner), ...view.hidden.map(([path, type, home, at]) => ({ path, type, home, hidden: this.boxes[at], ends: [] }))];
+    nameShortly(this.shown);
+    const frames = view.folds.map(([path]) => path).sort((one, other) => other.length - one.length);
+    const round = (path) => frames.find((frame) => path.startsWith(`${frame}.`));
+    for (const it of this.shown) it.label = round(it.path) ? it.path.slice(round(it.path).length + 1) : it.path;
+    for (const it of this.folding) it.hidden = !view.levels;
+    this.wires = view.wires.map(([sort, a, aLeft, aRow, b, bLeft, bRow, label, cut, way, count]) => {
+      const from = this.end(this.boxes[a], aLeft, aRow, sort), to = this.end(this.boxes[b], bLeft, bRow, sort);
       const reach = Math.max(40, Math.min(CURVE, Math.abs(to.x - from.x) / 2));
-      const wire = { sort, from, to, label, cut, way, reach: [from.x + (aLeft ? -reach : reach), to.x + (bLeft ? -reach : reach)], above: 0 };
+      const wire = { sort, from, to, label, cut, way, count, reach: [from.x + (aLeft ? -reach : reach), to.x + (bLeft ? -reach : reach)], above: 0 };
       this.boxes[a].ends.push(wire);
       if (a !== b) this.boxes[b].ends.push(wire);
       return wire;
     });
     this.spread();
-    this.chosen = this.chosen && this.blocks.find((it) => it.path === this.chosen.path) || null;
+    this.chosen = this.chosen && [...this.blocks, ...this.shown].find((it) => it.path === this.chosen.path && !it.hidden) || null;
+    if (this.awaited) this.arrive();
     if (!this.scale) requestAnimationFrame(() => this.fit());
     this.search();
     this.tell();
     if (this.way) this.trace(this.way.end, this.way.back);
   }
 
-  end(box, left, row) {
-    const y = row < 0 ? box.y + box.h / 2 : box.y + HEAD + ROW * row + ROW / 2;
+  /** Where a wire ends: at its port, or at the middle of a tag; at a closed subapplication each sort has a place of its own. */
+  end(box, left, row, sort) {
+    const middle = box.y + box.h / 2 + (box.inner ? { event: -8, data: 0, adapter: 8 }[sort] : 0);
+    const y = row < 0 ? middle : box.y + HEAD + ROW * row + ROW / 2;
     return { box, x: left ? box.x : box.x + box.w, y, port: row < 0 ? box.path : box.rows[row][left ? 1 : 2] };
   }
 
@@ -639,6 +658,63 @@ class NetworkView {
     });
   }
 
+  // Subapplications that are open or closed
+
+  /** Which are to be open, as the server is asked for them. */
+  wanted() {
+    const list = this.open === null ? "auto" : typeof this.open === "string" ? this.open : [...this.open].join(",") || "-";
+    return list.length > 30_000 ? "all" : list;
+  }
+
+  /** Shows the network with these open, and then a block or a frame. */
+  reopen(open, awaited = "") {
+    this.open = open;
+    this.awaited = awaited;
+    if (!awaited) this.touched = false;
+    shown.serial = 0;
+    refresh();
+  }
+
+  openOne(path) {
+    this.reopen(new Set([...this.view.opened, path]), path);
+  }
+
+  closeOne(path) {
+    this.reopen(new Set(this.view.opened.filter((it) => it !== path && !it.startsWith(`${path}.`))), path);
+  }
+
+  /** Opens all that a block is in, and chooses it. */
+  uncover(block) {
+    const names = block.path.split("."), fronts = names.map((_, at) => names.slice(0, at).join("."));
+    this.reopen(new Set([...this.view.opened, ...fronts.filter((it) => it === block.hidden.path || it.startsWith(`${block.hidden.path}.`))]), block.path);
+  }
+
+  /** Chooses what was opened or closed, or brings its frame into view. */
+  arrive() {
+    const box = this.shown.find((it) => it.path === this.awaited), frame = this.view.folds.find(([path]) => path === this.awaited);
+    this.awaited = "";
+    this.touched = true;
+    if (box) requestAnimationFrame(() => this.choose(box, true));
+    else if (frame) requestAnimationFrame(() => this.frame(frame));
+  }
+
+  /** Brings a frame into the picture, as large as there is room. */
+  frame([, , x, y, w, h]) {
+    const { clientWidth: width, clientHeight: height } = this.canvas;
+    this.touched = true;
+    this.scale = Math.max(this.least, Math.min((width - 40) / w, (height - 40) / h, 1));
+    this.x = (width - w * this.scale) / 2 - x * this.scale;
+    this.y = (height - h * this.scale) / 2 - y * this.scale;
+    this.draw();
+  }
+
+  /** The frame whose name is at a place of the canvas. */
+  titleAt(x, y) {
+    const [left, top] = [(x - this.x) / this.scale, (y - this.y) / this.scale];
+    const room = Math.max(40, 26 / this.scale);
+    return this.view.folds.findLast(([, , fx, fy, w, h]) => left >= fx && left <= fx + w && top >= fy && top <= fy + Math.min(room, h)) ?? null;
+  }
+
   // Moving
 
   listen() {
@@ -653,10 +729,10 @@ class NetworkView {
       this.move(dx, dy);
     });
     canvas.addEventListener("pointerup", (event) => {
-      if (grip && !grip.moved) this.choose(this.at(event.offsetX, event.offsetY), false);
+      if (grip && !grip.moved) this.click(event.offsetX, event.offsetY);
       grip = null;
     });
-    canvas.addEventListener("dblclick", () => this.chosen && go(this.chosen.type, "text"));
+    canvas.addEventListener("dblclick", () => this.chosen && !this.chosen.inner && go(this.chosen.type, "text"));
     canvas.addEventListener("wheel", (event) => {
       event.preventDefault();
       this.zoom(Math.exp(-event.deltaY / 500), event.offsetX, event.offsetY);
@@ -664,6 +740,14 @@ class NetworkView {
     canvas.addEventListener("keydown", (event) => this.key(event));
     new ResizeObserver(() => this.touched || !this.scale ? this.draw() : this.fit()).observe(canvas);
     matchMedia("(prefers-color-scheme: dark)").addEventListener("change", () => this.draw());
+  }
+
+  /** A click on a closed subapplication opens it, and one on the name of an open one closes it. */
+  click(x, y) {
+    const box = this.at(x, y), title = box ? null : this.titleAt(x, y);
+    if (box?.inner) this.openOne(box.path);
+    else if (title) this.closeOne(title[0]);
+    else this.choose(box, false);
   }
 
   move(dx, dy) {
@@ -709,7 +793,7 @@ class NetworkView {
 
   at(x, y) {
     const [left, top] = [(x - this.x) / this.scale, (y - this.y) / this.scale];
-    return this.blocks.findLast((it) => left >= it.x && left <= it.x + it.w && top >= it.y && top <= it.y + it.h) ?? null;
+    return this.shown.findLast((it) => left >= it.x && left <= it.x + it.w && top >= it.y && top <= it.y + it.h) ?? null;
   }
 
   key(event) {
@@ -723,21 +807,29 @@ class NetworkView {
     else if (event.key === "0") this.fit();
     else if (event.key === "Escape") this.choose(null, false);
     else if ((event.key === "[" || event.key === "]") && this.chosen) this.trace(this.chosen.path, event.key === "[");
+    else if (event.key === "Enter" && this.chosen?.inner) this.openOne(this.chosen.path);
     else if (event.key === "Enter" && this.chosen) go(this.chosen.type, "text");
+    else if (event.key === "Backspace" && this.chosen) this.closeRound(this.chosen);
     else if (event.key === "i" && this.chosen) this.declared();
     else return;
     event.preventDefault();
     event.stopPropagation();
   }
 
+  /** Closes the innermost frame round a block. */
+  closeRound(block) {
+    const frame = this.view.folds.findLast(([path]) => block.path.startsWith(`${path}.`));
+    if (frame) this.closeOne(frame[0]);
+  }
+
   /** The nearest block in a direction; the first one where none is chosen. */
   beside([across, down]) {
     const from = this.chosen;
-    if (!from) return this.blocks[0] ?? null;
+    if (!from) return this.shown[0] ?? null;
     const middle = (it) => [it.x + it.w / 2, it.y + it.h / 2];
     const [x, y] = middle(from);
     let best = from, least = Infinity;
-    for (const it of this.blocks) {
+    for (const it of this.shown) {
       const [dx, dy] = [middle(it)[0] - x, middle(it)[1] - y];
       const ahead = dx * across + dy * down, aside = Math.abs(dx * down) + Math.abs(dy * across);
       if (it !== from && ahead > 1 && ahead + 2 * aside < least) [best, least] = [it, ahead + 2 * aside];
@@ -764,6 +856,7 @@ class NetworkView {
 
   choose(block, reveal) {
     if (!block && this.way) return this.untrace();
+    if (block?.hidden) return this.uncover(block);
     this.chosen = block;
     if (block && reveal && (!this.isSeen(block) || this.scale < 0.4)) this.reveal(block);
     this.tell();  // It takes room of the list.
@@ -779,6 +872,8 @@ class NetworkView {
     const block = this.chosen;
     this.about.hidden = !block;
     if (!block) return;
+    if (block.inner) return this.about.replaceChildren(make("h3", { class: "mono" }, block.path), make("p", {}, block.type),
+      ...(block.home ? [make("p", {}, `On ${block.home}`)] : []), make("p", {}, link("Open it", () => this.openOne(block.path)), " · ", link("Where it is declared", () => this.declared())));
     const links = block.ends.slice(0, 60).map((wire) => this.linkItem(block, wire));
     if (block.ends.length > 60) links.push(make("li", { class: "dim" }, `and ${block.ends.length - 60} more`));
     this.about.replaceChildren(
@@ -794,10 +889,13 @@ class NetworkView {
   async trace(end, back) {
     const found = await ask("/trace", { name: this.unit, end, way: back ? "back" : "forth" });
     if (found.why) { this.untrace(); return note(`It can't be shown: ${found.why}.`); }
-    const boxes = new Map(this.boxes.map((it) => [it.path, it]));
-    const links = new Set(found.links.map((it) => it.join(" ")));
-    const blocks = new Map(found.blocks.map(([step, path]) => [boxes.get(path), step]).filter(([it]) => it));
-    this.way = { end: found.end, back, blocks, start: boxes.get(found.block), wires: new Set(this.wires.filter((it) => links.has(this.linkOf(it)))) };
+    const boxes = new Map([...this.boxes.map((it) => [it.path, it]), ...this.blocks.filter((it) => it.hidden).map((it) => [it.path, it.hidden])]);
+    const owner = (place) => [1, 2].map((cut) => boxes.get(place.split(".").slice(0, -cut).join("."))).find(Boolean) ?? boxes.get(place);
+    const links = new Set(found.links.flatMap(([sort, one, other]) => [`${sort} ${one} ${other}`, `${sort} #${owner(one)?.at} #${owner(other)?.at}`]));
+    const blocks = new Map();
+    for (const [step, path] of found.blocks) if (boxes.has(path) && !blocks.has(boxes.get(path))) blocks.set(boxes.get(path), step);
+    const isOn = (it) => links.has(it.from.box.inner || it.to.box.inner ? `${it.sort} #${it.from.box.at} #${it.to.box.at}` : this.linkOf(it));
+    this.way = { end: found.end, back, blocks, start: boxes.get(found.block), wires: new Set(this.wires.filter(isOn)) };
     const parts = [counted(found.blocks.length, "block"), ...(found.resources ? [counted(found.resources, "resource"), counted(found.cuts, "cut link")] : [])];
     const words = `${found.end} ${back ? "is fed by" : "leads to"} ${found.blocks.length || found.links.length ? parts.join(", ") : "nothing"}`;
     this.told.replaceChildren(make("span", {}, words), make("button", { "aria-label": "Show all blocks", title: "Show all blocks", onclick: () => this.untrace() }, "×"));
@@ -825,6 +923,8 @@ class NetworkView {
     const words = `${there.box.path}${there.box.tag === null ? `.${there.port}` : ""}`;
     const other = there.box.tag === null ? link(words, () => this.choose(there.box, true)) : words;
     const port = `${here.port}${wire.label ? `.${wire.label}` : ""}`, back = arrow === "←";
+    if (wire.count > 1 || there.box.inner) return make("li", {}, make("span", { class: `sort ${wire.sort}`, "aria-hidden": "true" }),
+      `${here.port} ${arrow} `, link(there.box.path, () => this.choose(there.box, true)), ` (${counted(wire.count, "link")}${wire.cut ? ", cut" : ""})`);
     const traced = make("button", { class: "link", title: back ? "What feeds it" : "Where it leads", onclick: () => this.trace(`${block.path}.${port}`, back) }, port);
     return make("li", {}, make("span", { class: `sort ${wire.sort}`, "aria-hidden": "true" }), make("span", { class: "unseen" }, `${wire.sort} `),
       traced, ` ${arrow} `, other, wire.cut ? " (cut)" : "");
@@ -860,7 +960,8 @@ class NetworkView {
     this.paintFrames();
     this.paintWires((wire) => !small || !wire.cut);
     this.paintBoxes();
-    this.paintWires((wire) => small && wire.cut);
+    this.paintWires((wire) => small && wire.cut && (!this.isBundled(wire) || this.way?.wires.has(wire)));
+    if (small) this.paintBundles();
     this.paintNames();
     for (const [box, step] of this.way?.blocks ?? []) this.paintStep(box, step);
   }
@@ -881,6 +982,16 @@ class NetworkView {
       context.fill();
       context.stroke();
     }
+    context.strokeStyle = this.colour("dim");
+    for (const [, , x, y, w, h] of this.view.folds) {
+      context.globalAlpha = 0.5;
+      context.fillStyle = this.colour("ground");
+      context.beginPath();
+      context.roundRect(x, y, w, h, 8);
+      context.fill();
+      context.stroke();
+    }
+    context.globalAlpha = 1;
   }
 
   /** The names of the frames, on top of all, never smaller than they can be read. */
@@ -889,6 +1000,8 @@ class NetworkView {
     context.font = `600 ${size}px ${this.colour("sans")}`;
     context.textBaseline = "middle";
     context.textAlign = "left";
+    for (const [, name, x, y, w] of this.view.folds) this.paintFoldName(`⊟ ${name}`, x, y, w);
+    context.font = `600 ${size}px ${this.colour("sans")}`;
     for (const [name, x, y] of this.view.frames) {
       const width = context.measureText(name).width + 12, left = this.nameLeft(x, width);
       context.fillStyle = this.colour("raised");
@@ -898,6 +1011,15 @@ class NetworkView {
       context.fillStyle = this.colour("dim");
       context.fillText(name, left + 6, y + 24);
     }
+  }
+
+  /** The name of an open subapplication, as large as there is room in its frame. */
+  paintFoldName(name, x, y, w) {
+    const { context } = this, size = Math.min(Math.max(12, 11 / this.scale), 28);
+    if (this.scale < 0.3) return;  // It would be under the name of the resource.
+    context.font = `600 ${size}px ${this.colour("sans")}`;
+    context.fillStyle = this.colour("accent");
+    context.fillText(name, x + 14, y + 24, w - 20);
   }
 
   /** Where the name of a frame begins: in its corner, or left of it where it would else be cut off at the edge of a picture that is seen whole. */
@@ -939,6 +1061,58 @@ class NetworkView {
     context.globalAlpha = 1;
   }
 
+  /** Whether a cut link leads between the frames of two resources, so that it is drawn with the others there as one. */
+  isBundled({ from, to }) {
+    return Boolean(from.box.home && to.box.home && from.box.home !== to.box.home);
+  }
+
+  /** The cut links between two resources as one line with their number, where they are too small to be told apart. */
+  paintBundles() {
+    const { context } = this, frames = new Map(this.view.frames.map(([name, x, y, w, h]) => [name, { x, y, w, h }]));
+    const counts = new Map();
+    for (const wire of this.wires.filter((it) => it.cut && this.isBundled(it))) {
+      const key = `${wire.from.box.home} ${wire.to.box.home}`;
+      counts.set(key, (counts.get(key) ?? 0) + wire.count);
+    }
+    context.globalAlpha = this.way ? 0.3 : 1;
+    for (const [key, count] of counts) {
+      const [one, other] = key.split(" ").map((name) => frames.get(name));
+      if (one && other) this.paintBundle(edgeOf(one, other), edgeOf(other, one), count, counts.has(key.split(" ").reverse().join(" ")));
+    }
+    context.globalAlpha = 1;
+  }
+
+  /** A thick line with an arrow and a number; of two that lead both ways each keeps to its right. */
+  paintBundle([x1, y1], [x2, y2], count, isDouble) {
+    const { context, scale } = this, long = Math.hypot(x2 - x1, y2 - y1) || 1, size = 12 / scale;
+    const [ux, uy] = [(x2 - x1) / long, (y2 - y1) / long], aside = isDouble ? 14 / scale : 0;
+    const at = (along) => [x1 + ux * along - uy * aside, y1 + uy * along + ux * aside];
+    context.strokeStyle = context.fillStyle = this.colour("dim");
+    context.lineWidth = Math.min(8, 2 + Math.log2(count)) / scale;
+    context.setLineDash([8 / scale, 5 / scale]);
+    context.beginPath();
+    context.moveTo(...at(0));
+    context.lineTo(...at(long - 10 / scale));
+    context.stroke();
+    context.setLineDash([]);
+    context.beginPath();
+    context.moveTo(...at(long));
+    const [bx, by] = at(long - 12 / scale);
+    context.lineTo(bx - uy * 7 / scale, by + ux * 7 / scale);
+    context.lineTo(bx + uy * 7 / scale, by - ux * 7 / scale);
+    context.fill();
+    context.font = `700 ${size}px ${this.colour("sans")}`;
+    const words = count.toLocaleString("en"), width = context.measureText(words).width + size, [mx, my] = at(long / 2);
+    context.fillStyle = this.colour("panel");
+    context.beginPath();
+    context.roundRect(mx - width / 2, my - size * 0.8, width, size * 1.6, size * 0.6);
+    context.fill();
+    context.fillStyle = this.colour("ink");
+    context.textAlign = "center";
+    context.textBaseline = "middle";
+    context.fillText(words, mx, my);
+  }
+
   paintPaths(wires) {
     const { context } = this, plain = this.scale < 0.12;
     context.beginPath();
@@ -950,7 +1124,7 @@ class NetworkView {
     context.stroke();
   }
 
-  paintArrow({ from, to, reach, label, way, above }) {
+  paintArrow({ from, to, reach, label, way, above, count }) {
     const { context } = this;
     if (way !== "none") {
       const end = way === "back" ? from : to, back = way === "back" ? reach[0] : reach[1];
@@ -960,6 +1134,12 @@ class NetworkView {
       context.lineTo(end.x + 8 * side, end.y - 3.5);
       context.lineTo(end.x + 8 * side, end.y + 3.5);
       context.fill();
+    }
+    if (count > 1) {
+      context.font = `700 ${Math.max(11, 9 / this.scale)}px ${this.colour("sans")}`;
+      context.textAlign = "center";
+      context.textBaseline = "bottom";
+      context.fillText(count.toLocaleString("en"), (from.x + to.x + 3 * (reach[0] + reach[1])) / 8, (from.y + to.y) / 2 - 2);
     }
     if (label && this.scale > 0.6) {
       context.font = `10px ${this.colour("sans")}`;
@@ -1001,7 +1181,7 @@ class NetworkView {
     context.textBaseline = "middle";
     context.fillStyle = this.colour("ink");
     context.font = `600 ${size}px ${this.colour("sans")}`;
-    context.fillText(box.short, box.x + box.w / 2, box.y + box.h / 2, box.w - 4);
+    context.fillText(box.inner ? `⊞ ${box.short}` : box.short, box.x + box.w / 2, box.y + box.h / 2, box.w - 4);
   }
 
   paintBlock(box) {
@@ -1045,7 +1225,7 @@ class NetworkView {
     context.textBaseline = "middle";
     context.fillStyle = this.colour("ink");
     context.font = `600 12px ${sans}`;
-    context.fillText(box.path, middle, box.y + 13, box.w - 12);
+    context.fillText(box.inner ? `⊞ ${box.label}` : box.label, middle, box.y + 13, box.w - 12);
     context.fillStyle = this.colour("dim");
     context.font = `11px ${sans}`;
     context.fillText(box.type, middle, box.y + 28, box.w - 12);
@@ -1179,7 +1359,7 @@ const KEYS = {
   "?": ["these keys", () => $("help").showModal()],
 };
 const LIST_KEYS = [["Enter", "in the search of units: the first match"], ["↑ ↓ Page Home End", "move in a list"], ["arrows", "in the picture: the next block that way; with Shift, move the picture"], ["+ − 0", "in the picture: larger, smaller, the whole"],
-  ["Enter", "in the picture: the text of the chosen block's type; in its search: the next match"], ["[ ]", "in the picture: what feeds the chosen block, where it leads; Esc ends that"], ["i", "in the picture: where the chosen block is declared"], ["Esc", "in the picture: choose none; in a search: empty it"]];
+  ["Enter", "in the picture: the text of the chosen block's type; in its search: the next match"], ["[ ]", "in the picture: what feeds the chosen block, where it leads; Esc ends that"], ["Enter Backspace", "in the picture: open the chosen subapplication, close the one round the chosen block"], ["i", "in the picture: where the chosen block is declared"], ["Esc", "in the picture: choose none; in a search: empty it"]];
 
 function showTab(tab) {
   const button = [...$("tabs").children].find((it) => it.dataset.tab === tab);

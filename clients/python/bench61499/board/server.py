@@ -24,6 +24,7 @@ from bench61499 import NAME_LIMIT
 from bench61499.board.state import Board, News
 from bench61499.board.traced import trace_view
 from bench61499.board.views import instance_view, net_view, plan_view, unit_view
+from bench61499.language.levels import AUTO
 
 HERE = Path(__file__).parent
 BODY_LIMIT = 1_024
@@ -233,9 +234,10 @@ class _Handler(BaseHTTPRequestHandler):
             self._send_json(unit_view(self.server.board, row))
 
     def _net(self, query: dict[str, str]) -> None:
-        (name, aspect), board = words(query, "name", "aspect"), self.server.board
+        opened, board = query.pop("open", AUTO), self.server.board
+        name, aspect = words(query, "name", "aspect")
         unit, wanted = unit_named(name), aspect_in(aspect)
-        self._send_json(net_view(board, unit, board.wish(("net", unit)), board.wish(("deploy", unit)), wanted))
+        self._send_json(net_view(board, unit, board.wish(("net", unit)), board.wish(("deploy", unit)), wanted, opened))
 
     def _plan(self, query: dict[str, str]) -> None:
         unit, board = unit_named(words(query, "name")[0]), self.server.board

@@ -13,6 +13,7 @@ from bench61499.board.state import Answer, Board, NoEntry, NotAnswered, Row, Val
 from bench61499.language.declarations import Unit
 from bench61499.language.explain import Explainer, Names
 from bench61499.language.fitting import fits as fits_in
+from bench61499.language.levels import AUTO
 from bench61499.language.picture import Picture
 from bench61499.language.reader import read
 from bench61499.language.skipped import skipped
@@ -168,14 +169,14 @@ def _class(token: Token) -> str:
 # A network
 
 
-def net_view(board: Board, unit: str, net: Answer, deploy: Answer, aspect: float) -> View:
-    """The network of a unit as a picture, for a window so many times as wide as it is tall, or why there is none.
+def net_view(board: Board, unit: str, net: Answer, deploy: Answer, aspect: float, opened: str = AUTO) -> View:
+    """The network of a unit as a picture, for a window so many times as wide as it is tall and with these subapplications open, or why there is none.
 
     It is not shown before it is known by which resources it is to be drawn.
     """
     plan = deploy.value if isinstance(deploy.value, (Plan, Faulty)) else None
     if isinstance(net.value, Flat) and deploy.value:
-        picture = Picture(unit, board.texts(), net.value, plan, aspect).view()
+        picture = Picture(unit, board.texts(), net.value, plan, aspect, opened).view()
         return {"unit": unit, "state": "flat", "current": net.current, "serial": max(net.serial, deploy.serial), **picture, "misplaced": _misplaced(plan)}
     return {"unit": unit, "current": net.current, "serial": max(net.serial, deploy.serial), **_no_net(board, net.value)}
 
